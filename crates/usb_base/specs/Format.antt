@@ -1,0 +1,81 @@
+-- A format: how its packets are spelled, which fields they may have, and the checks that find a wrong packet as
+-- soon as the bytes of the wrong field are there. What stands at the front of bytes follows from these.
+use Rattle.std.specs.Prelude.{◌≡◌, ℕ, ◌≤◌, ◌<◌, Bool, List, [], ◌∷◌, ◌++◌, length, take, Option, Some, None, nat_le, nat_lt, if◌then◌else◌, not, ◌&&◌}
+use Rattle.usb_base.specs.Number.{AreBytes}
+
+-- once the first `needed` bytes are there, a packet that fails the test is wrong at `place`
+pub record Check (R : Type 0) : Type 0 where
+  pub place : ℕ
+  pub needed : ℕ
+  pub passes : List ℕ → Bool
+  pub reason : R
+
+-- the first check, in their order, whose bytes are there and whose test fails
+abbrev pub wrong_at : {R : Type 0} → List (Check R) → List ℕ → Option (ℕ × R)
+wrong_at [] bytes = None
+wrong_at (c ∷ cs) bytes = if nat_le c.needed (length bytes) && not (c.passes bytes) then Some (c.place, c.reason) else wrong_at cs bytes
+
+pub record Format (P R : Type 0) : Type 1 where
+  pub checks : List (Check R)
+  -- how many bytes the packet has that begins so, as far as they tell
+  pub size : List ℕ → ℕ
+  -- the packet whose fields stand at their places
+  pub packet : List ℕ → P
+  -- the bytes of a packet, its fields in wire order
+  pub spelling : P → List ℕ
+  -- the ranges of a packet's fields
+  pub Fits : P → Type 0
+
+-- no check fails, and the first n bytes spell p
+pub record IsWhole {P R : Type 0} (f : Format P R) (bytes : List ℕ) (n : ℕ) (p : P) : Type 0 where
+  pub right : wrong_at f.checks bytes ≡ None
+  pub there : n ≤ length bytes
+  pub fits : f.Fits p
+  pub spelled : take n bytes ≡ f.spelling p
+
+-- no check fails, and no front of the bytes spells a packet
+pub record IsShort {P R : Type 0} (f : Format P R) (bytes : List ℕ) : Type 0 where
+  pub right : wrong_at f.checks bytes ≡ None
+  pub none : (n : ℕ) (p : P) → n ≤ length bytes → f.Fits p → take n bytes ≡ f.spelling p → ⊥
+
+-- what stands at the front of bytes: a packet of so many bytes, less than one, or a wrong place
+pub data Found (P R : Type 0) : Type 0 where
+  Whole : P → ℕ → Found P R
+  Short : Found P R
+  Wrong : ℕ → R → Found P R
+
+-- what was found is what stands there
+abbrev pub Stands : {P R : Type 0} → Format P R → List ℕ → Found P R → Type 0
+Stands f bytes (Whole p n) = IsWhole f bytes n p
+Stands f bytes Short = IsShort f bytes
+Stands f bytes (Wrong place reason) = wrong_at f.checks bytes ≡ Some (place, reason)
+
+-- the same as a computation: the first failed check, else short of the size, else the packet
+abbrev pub reading_by : {P R : Type 0} → Format P R → List ℕ → Option (ℕ × R) → Found P R
+reading_by f bytes None = if nat_lt (length bytes) (f.size bytes) then Short else Whole (f.packet bytes) (f.size bytes)
+reading_by f bytes (Some w) = Wrong w.0 w.1
+
+abbrev pub reading : {P R : Type 0} → Format P R → List ℕ → Found P R
+reading f bytes = reading_by f bytes (wrong_at f.checks bytes)
+
+-- ---- the laws of a format
+
+-- each check sees only the bytes that it needs, and needs as many as those before it
+abbrev pub AreSteady : {R : Type 0} → ℕ → List (Check R) → Type 0
+AreSteady n [] = Unit {0}
+AreSteady n (c ∷ cs) = (n ≤ c.needed) × ((bytes more : List ℕ) → c.needed ≤ length bytes → c.passes (bytes ++ more) ≡ c.passes bytes) × AreSteady c.needed cs
+
+pub record IsSound {P R : Type 0} (f : Format P R) : Type 0 where
+  -- what is read is spelled so, and fits
+  pub found : (bytes : List ℕ) → AreBytes bytes → wrong_at f.checks bytes ≡ None → f.size bytes ≤ length bytes → (f.spelling (f.packet bytes) ≡ take (f.size bytes) bytes) × f.Fits (f.packet bytes)
+  -- what is spelled so is read, whatever comes after it
+  pub right : (p : P) (more : List ℕ) → f.Fits p → wrong_at f.checks (f.spelling p ++ more) ≡ None
+  pub size : (p : P) (more : List ℕ) → f.Fits p → f.size (f.spelling p ++ more) ≡ length (f.spelling p)
+  pub packet : (p : P) (more : List ℕ) → f.Fits p → f.packet (f.spelling p ++ more) ≡ p
+  -- a packet has a byte at least
+  pub some : (bytes : List ℕ) → 0 < f.size bytes
+  pub steady : AreSteady 0 f.checks
+
+-- a format with one check more, before its own, which some of its packets pass
+abbrev pub with_check : {P R : Type 0} → Check R → (P → Type 0) → Format P R → Format P R
+with_check c Passes f = record f { checks = c ∷ f.checks; Fits = λ p. f.Fits p × Passes p }

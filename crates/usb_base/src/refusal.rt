@@ -1,0 +1,47 @@
+//! Refusals, and the line that tells one.
+
+ghost use Rattle.std.specs.Prelude.{◌≡◌, ◌++◌, IfOk, OnOk, OnErr, string_bytes};
+
+use crate::list::Bytes;
+use crate::memory::Memory;
+use crate::reason::Reason;
+use crate::side::Side;
+use std::alloc::Global;
+
+/// A side is refused: nothing of it is read from `place` on, which counts bytes from the first of that
+/// side's stream and stands still at `u64::MAX`. Some reasons keep two values.
+#[derive(Clone, Copy, Debug, PartialEq, Eq)]
+pub struct Refusal {
+    pub side: Side,
+    pub place: u64,
+    pub reason: Reason,
+    pub kept: Option<(u64, u64)>,
+}
+
+impl Refusal {
+    ghost use Rattle.usb_base.specs.Refusal.{refusal_line};
+
+    /// Appends the refusal's line, `! SIDE PLACE NUMBER NAME` with the kept values, and its LF.
+    pub fn line(&self, alloc: Global, out: &mut Bytes) -> Result<(), Memory>
+        ensures ok { OnOk result (out.new ≡ out.old ++ refusal_line self.now) }
+        ensures err { OnErr result (out.new ≡ out.old) }
+    {
+        let text = self.text(alloc)?;
+        out.append(text.as_bytes())
+    }
+
+    fn text(&self, alloc: Global) -> Result<String, Memory>
+        ensures { IfOk result (λ text. string_bytes text ≡ refusal_line self.now) }
+    {
+        let side = self.side.name();
+        let place = self.place;
+        let number = self.reason.number();
+        let name = self.reason.name();
+        match self.kept {
+            None => Ok(format!(in alloc; "! {side} {place} {number} {name}\n")?),
+            Some((first, second)) => {
+                Ok(format!(in alloc; "! {side} {place} {number} {name} {first} {second}\n")?)
+            }
+        }
+    }
+}
