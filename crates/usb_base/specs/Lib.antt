@@ -4,3 +4,4 @@ pub mod Split
 pub mod Items
 pub mod Reason
 pub mod Refusal
+pub mod Speed

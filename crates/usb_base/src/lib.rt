@@ -7,6 +7,7 @@ mod number;
 mod reason;
 mod refusal;
 mod side;
+mod speed;
 
 pub use list::{Bytes, List};
 pub use memory::Memory;
@@ -17,3 +18,4 @@ pub use number::{
 pub use reason::Reason;
 pub use refusal::Refusal;
 pub use side::Side;
+pub use speed::Speed;
