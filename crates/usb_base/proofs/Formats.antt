@@ -1,7 +1,7 @@
 -- Of any format: a sound one answers as the bytes do, and later bytes change neither what is whole nor what is wrong.
-use Rattle.std.proofs.Common.{◌≡◌, ℕ, ◌+◌, ◌<◌, ◌≤◌, Bool, true, false, cond, ltb, leb, List, [], ◌∷◌, ◌++◌, length, take, drop, Option, Some, None, refl, sym, ap, subst, ◌∙◌, append_assoc, arith}
+use Rattle.std.proofs.Common.{◌≡◌, ℕ, ◌<◌, ◌≤◌, Bool, true, false, cond, List, [], ◌∷◌, ◌++◌, length, take, drop, Option, Some, None, refl, sym, ap, subst, ◌∙◌, append_assoc, arith}
 use Rattle.std.specs.Prelude.{nat_le, nat_lt, not, ◌&&◌}
-use Rattle.std.proofs.lemmas.Bool.{ltb-true, ltb-false, le-ltb, leb-true, leb-false, le-leb, lt-leb}
+use Rattle.std.proofs.lemmas.Bool.{ltb-true, ltb-false, le-ltb, leb-true, leb-false, le-leb}
 use Rattle.std.proofs.lemmas.List.{take-append-drop, take_at, length-append, length-take}
 use Rattle.usb_base.specs.Number.{AreBytes}
 use Rattle.usb_base.specs.Format.{Check, wrong_at, Format, IsWhole, IsShort, Found, Whole, Short, Wrong, Stands, reading_by, reading, AreSteady, IsSound, with_check}
@@ -156,6 +156,9 @@ read_again f sound p more fits = whole_reading f sound (f.spelling p ++ more) (l
 -- a whole packet that is read is one
 pub read_whole : {P R : Type 0} (f : Format P R) → IsSound f → (b : List ℕ) (n : ℕ) (p : P) → AreBytes b → reading f b ≡ Whole p n → IsWhole f b n p
 read_whole f sound b n p bytes e = subst (Stands f b) e (stands f sound b bytes)
+
+pub read_short : {P R : Type 0} (f : Format P R) → IsSound f → (b : List ℕ) → AreBytes b → reading f b ≡ Short → IsShort f b
+read_short f sound b bytes e = subst (Stands f b) e (stands f sound b bytes)
 
 -- what is whole stays whole
 pub whole_more : {P R : Type 0} (f : Format P R) → IsSound f → (b more : List ℕ) (n : ℕ) (p : P) → AreBytes b → reading f b ≡ Whole p n → reading f (b ++ more) ≡ Whole p n

@@ -1,8 +1,8 @@
 -- Laws of splittings: one step of it, and bytes that come later keep the packets that were there.
-use Rattle.std.proofs.Common.{◌≡◌, ℕ, zero, suc, ◌+◌, ◌-◌, ◌≤◌, ◌<◌, List, [], ◌∷◌, ◌++◌, length, drop, Option, Some, None, refl, sym, ap, ◌∙◌, arith, append_assoc}
+use Rattle.std.proofs.Common.{◌≡◌, ℕ, zero, suc, ◌≤◌, ◌<◌, List, [], ◌∷◌, ◌++◌, length, drop, Option, Some, None, refl, sym, ap, ◌∙◌, arith, append_assoc}
 use Rattle.std.proofs.lemmas.List.{drop-append-le, length-drop}
 use Rattle.usb_base.specs.Number.{AreBytes}
-use Rattle.usb_base.specs.Format.{Format, Found, Whole, Short, Wrong, reading, IsSound}
+use Rattle.usb_base.specs.Format.{Format, Found, Whole, Short, Wrong, IsSound}
 use Rattle.usb_base.specs.Split.{Reader, Position, past, Splitting, reads, with_packets, go_on, split_by, split, further, further_by}
 use Rattle.usb_base.proofs.Numbers.{AreBytes-drop}
 use Rattle.usb_base.proofs.Formats.{whole_parts, wrong_parts, wrong_reading, wrong_more, whole_more}
@@ -61,8 +61,8 @@ split-more_by {S = S} {P = P} {R = R} r steady (suc n) a bytes more fits h (Whol
     let z = past r.next a p k in
     let rest = drop k bytes in
     let later : split r z (rest ++ more) ≡ further r (split r z rest) more =
-        split-more_by r steady n z rest more (AreBytes-drop k bytes fits) (omega (arith, length-drop k bytes)) (r.read z.state rest) refl
-        ∙ ap (λ (y : Splitting S P R). further r y more) (sym (split-is r steady z rest (r.read z.state rest) refl)) in
+    split-more_by r steady n z rest more (AreBytes-drop k bytes fits) (omega (arith, length-drop k bytes)) (r.read z.state rest) refl
+    ∙ ap (λ (y : Splitting S P R). further r y more) (sym (split-is r steady z rest (r.read z.state rest) refl)) in
     split-is r steady a (bytes ++ more) (Whole p k) (steady.whole a.state bytes more p k fits e)
     ∙ ap (λ (b : List ℕ). with_packets front (split r z b)) (drop-append-le k bytes more there)
     ∙ ap (with_packets front) later

@@ -1,8 +1,8 @@
 -- Parts of bytes and numbers at places: joined again, spelled again, read again, behind a front, and before what comes later.
-use Rattle.std.proofs.Common.{◌≡◌, ℕ, zero, suc, ◌+◌, ◌-◌, ◌^◌, ◌<◌, ◌≤◌, List, [], ◌∷◌, ◌++◌, length, get_or, take, drop, refl, sym, ap, ◌∙◌, arith, inl, inr}
-use Rattle.std.specs.Int.{Width, w16, w32, byte_len, from_be_bytes, from_le_bytes, bytes_high_first, bytes_low_first}
+use Rattle.std.proofs.Common.{◌≡◌, ℕ, zero, suc, ◌+◌, ◌-◌, ◌^◌, ◌<◌, ◌≤◌, List, ◌++◌, length, take, drop, refl, sym, ap, ◌∙◌, append_assoc, arith, inl, inr}
+use Rattle.std.specs.Int.{Width, w16, w32, byte_len, from_be_bytes, from_le_bytes, byte_at, bytes_high_first, bytes_low_first}
 use Rattle.std.proofs.lemmas.Bool.{cases_lt}
-use Rattle.std.proofs.lemmas.List.{take-append-le, drop-append-le, drop-drop, length-append, length-take, length-drop, get_or-drop, get_or-take, get_or_past, get_or_append_left, get_or-append-add, get_or-append_right}
+use Rattle.std.proofs.lemmas.List.{take_at, drop_at, take-append-le, drop-append-le, drop-drop, length-take, length-drop, get_or-drop, get_or-take, get_or_past, get_or_append_left, get_or-append-add, get_or-append_right}
 use Rattle.std.proofs.lemmas.Nat.{be_bytes_2, be_bytes_4, le_bytes_2, le_bytes_4, from_be_bytes-to_be_bytes_2, from_be_bytes-to_be_bytes_4, from_le_bytes-to_le_bytes_2, from_le_bytes-to_le_bytes_4}
 use Rattle.std.proofs.Math.Seq.{take-add, drop-append-add}
 use Rattle.usb_base.specs.Number.{be, le, part, be_at, le_at, AreBytes}
@@ -128,6 +128,29 @@ pub length-le : (w : Width) (n : ℕ) → length (le w n) ≡ byte_len w
 unfolding le
 length-le w n = length-low 0 (byte_len w) n
 
+byte_below : (k n : ℕ) → byte_at k n < 256
+byte_below zero n = omega arith
+byte_below (suc k) n = omega arith
+
+AreBytes-high : (k n : ℕ) → AreBytes (bytes_high_first k n)
+AreBytes-high zero n i = omega arith
+AreBytes-high (suc k) n zero = byte_below k n
+AreBytes-high (suc k) n (suc i) = AreBytes-high k n i
+
+AreBytes-low : (i k n : ℕ) → AreBytes (bytes_low_first i k n)
+AreBytes-low i zero n j = omega arith
+AreBytes-low i (suc k) n zero = byte_below i n
+AreBytes-low i (suc k) n (suc j) = AreBytes-low (suc i) k n j
+
+-- what spells a number is bytes
+pub AreBytes-be : (w : Width) (n : ℕ) → AreBytes (be w n)
+unfolding be
+AreBytes-be w n = AreBytes-high (byte_len w) n
+
+pub AreBytes-le : (w : Width) (n : ℕ) → AreBytes (le w n)
+unfolding le
+AreBytes-le w n = AreBytes-low 0 (byte_len w) n
+
 -- ---- behind a front
 
 pub part_skip : (p n : ℕ) (xs ys : List ℕ) → part (length xs + p) n (xs ++ ys) ≡ part p n ys
@@ -150,6 +173,30 @@ be_past w k p xs ys e = ap (λ (m : ℕ). be_at w (m + p) (xs ++ ys)) (sym e) �
 
 pub le_past : (w : Width) (k p : ℕ) (xs ys : List ℕ) → length xs ≡ k → le_at w (k + p) (xs ++ ys) ≡ le_at w p ys
 le_past w k p xs ys e = ap (λ (m : ℕ). le_at w (m + p) (xs ++ ys)) (sym e) ∙ le_skip w p xs ys
+
+be_here : (w : Width) (k : ℕ) (xs ys : List ℕ) → length xs ≡ k → be_at w k (xs ++ ys) ≡ be_at w 0 ys
+unfolding be_at
+be_here w k xs ys e = ap (λ (zs : List ℕ). from_be_bytes w (take (byte_len w) zs)) (drop_at xs ys k e)
+
+le_here : (w : Width) (k : ℕ) (xs ys : List ℕ) → length xs ≡ k → le_at w k (xs ++ ys) ≡ le_at w 0 ys
+unfolding le_at
+le_here w k xs ys e = ap (λ (zs : List ℕ). from_le_bytes w (take (byte_len w) zs)) (drop_at xs ys k e)
+
+-- a number or a part between a front of k bytes and what comes after
+pub part_found : (k n : ℕ) (xs ys more : List ℕ) → length xs ≡ k → length ys ≡ n → part k n (xs ++ ys ++ more) ≡ ys
+part_found k n xs ys more e f = ap (part k n) (append_assoc xs ys more) ∙ ap (take n) (drop_at xs (ys ++ more) k e) ∙ take_at ys more n f
+
+pub be_found_16 : (k n : ℕ) (xs more : List ℕ) → length xs ≡ k → n < 2 ^ 16 → be_at w16 k (xs ++ be w16 n ++ more) ≡ n
+be_found_16 k n xs more e fits = ap (be_at w16 k) (append_assoc xs (be w16 n) more) ∙ be_here w16 k xs (be w16 n ++ more) e ∙ be_at-be_16 n more fits
+
+pub be_found_32 : (k n : ℕ) (xs more : List ℕ) → length xs ≡ k → n < 2 ^ 32 → be_at w32 k (xs ++ be w32 n ++ more) ≡ n
+be_found_32 k n xs more e fits = ap (be_at w32 k) (append_assoc xs (be w32 n) more) ∙ be_here w32 k xs (be w32 n ++ more) e ∙ be_at-be_32 n more fits
+
+pub le_found_16 : (k n : ℕ) (xs more : List ℕ) → length xs ≡ k → n < 2 ^ 16 → le_at w16 k (xs ++ le w16 n ++ more) ≡ n
+le_found_16 k n xs more e fits = ap (le_at w16 k) (append_assoc xs (le w16 n) more) ∙ le_here w16 k xs (le w16 n ++ more) e ∙ le_at-le_16 n more fits
+
+pub le_found_32 : (k n : ℕ) (xs more : List ℕ) → length xs ≡ k → n < 2 ^ 32 → le_at w32 k (xs ++ le w32 n ++ more) ≡ n
+le_found_32 k n xs more e fits = ap (le_at w32 k) (append_assoc xs (le w32 n) more) ∙ le_here w32 k xs (le w32 n ++ more) e ∙ le_at-le_32 n more fits
 
 -- ---- bounds
 

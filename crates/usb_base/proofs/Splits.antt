@@ -1,12 +1,12 @@
 -- The splitting of a stream: what the computation gives is one, and there is no other.
-use Rattle.std.proofs.Common.{◌≡◌, ℕ, zero, suc, ◌+◌, ◌-◌, ◌≤◌, ◌<◌, List, [], ◌∷◌, ◌++◌, length, take, drop, Option, Some, None, refl, sym, ap, subst, ◌∙◌, arith}
+use Rattle.std.proofs.Common.{◌≡◌, ℕ, zero, suc, ◌+◌, ◌<◌, List, [], ◌∷◌, ◌++◌, length, drop, Option, Some, None, refl, sym, ap, subst, ◌∙◌, arith}
 use Rattle.std.proofs.lemmas.List.{drop_at, take-append-drop, length-drop, length-take}
 use Rattle.usb_base.specs.Number.{AreBytes}
-use Rattle.usb_base.specs.Format.{Format, IsWhole, IsShort, wrong_at, Found, Whole, Short, Wrong, Stands, reading, IsSound}
-use Rattle.usb_base.specs.Split.{Reader, Position, past, Splitting, Spells, Ends, IsSplitting, reads, with_packets, go_on, split}
+use Rattle.usb_base.specs.Format.{Format, IsWhole, IsShort, Found, Whole, Short, Wrong, Stands, reading, IsSound}
+use Rattle.usb_base.specs.Split.{Position, past, Splitting, Spells, Ends, IsSplitting, reads, with_packets, go_on, split}
 use Rattle.usb_base.proofs.Numbers.{AreBytes-drop, AreBytes-right}
 use Rattle.usb_base.proofs.Formats.{stands, read_whole, read_again, short_reading, wrong_parts, wrong_reading}
-use Rattle.usb_base.proofs.Laws.{IsSteady, reads_steady, split-is}
+use Rattle.usb_base.proofs.Laws.{reads_steady, split-is}
 
 -- ---- the computation gives a splitting
 
@@ -24,10 +24,10 @@ splitting_step {S = S} {P = P} {R = R} format next sound (suc n) a bytes fits le
     let long : k ≡ length ((format a.state).spelling p) = omega (arith, ap length w.spelled, length-take k bytes) in
     let begins : bytes ≡ (format a.state).spelling p ++ rest = sym (take-append-drop k bytes) ∙ ap (λ (y : List ℕ). y ++ rest) w.spelled in
     let later : IsSplitting format next z rest (split r z rest) =
-        subst (IsSplitting format next z rest) (sym (split-is r steady z rest (reading (format z.state) rest) refl))
-            (splitting_step format next sound n z rest (AreBytes-drop k bytes fits) (omega (arith, length-drop k bytes)) (reading (format z.state) rest) refl) in
+    subst (IsSplitting format next z rest) (sym (split-is r steady z rest (reading (format z.state) rest) refl))
+    (splitting_step format next sound n z rest (AreBytes-drop k bytes fits) (omega (arith, length-drop k bytes)) (reading (format z.state) rest) refl) in
     let spelled : Spells format next (past next a p (length ((format a.state).spelling p))) rest (split r z rest).packets (split r z rest).position later.left =
-        subst (λ (m : ℕ). Spells format next (past next a p m) rest (split r z rest).packets (split r z rest).position later.left) long later.spelled in
+    subst (λ (m : ℕ). Spells format next (past next a p m) rest (split r z rest).packets (split r z rest).position later.left) long later.spelled in
     record { left = later.left; spelled = (rest, refl, w.fits, begins, spelled); ends = later.ends }
 splitting_step format next sound (suc n) a bytes fits less Short e =
     let short : IsShort (format a.state) bytes = subst (Stands (format a.state) bytes) e (stands (format a.state) (sound a.state) bytes fits) in
@@ -40,7 +40,7 @@ pub is_splitting : {S P R : Type 0} (format : S → Format P R) (next : S → P 
 is_splitting format next sound a stream fits =
     let r = reads format next in
     subst (IsSplitting format next a stream) (sym (split-is r (reads_steady format next sound) a stream (reading (format a.state) stream) refl))
-        (splitting_step format next sound (suc (length stream)) a stream fits (omega arith) (reading (format a.state) stream) refl)
+    (splitting_step format next sound (suc (length stream)) a stream fits (omega arith) (reading (format a.state) stream) refl)
 
 -- ---- there is no other
 
@@ -68,7 +68,7 @@ one_by {S = S} {P = P} {R = R} format next sound a bytes fits (i ∷ is) z left 
     let more = spelled.0 in
     let after : Position S = past next a i.1 (length spelling) in
     let whole : reading (format a.state) bytes ≡ Whole i.1 (length spelling) =
-        ap (reading (format a.state)) spelled.3 ∙ read_again (format a.state) (sound a.state) i.1 more spelled.2 in
+    ap (reading (format a.state)) spelled.3 ∙ read_again (format a.state) (sound a.state) i.1 more spelled.2 in
     let cut : drop (length spelling) bytes ≡ more = ap (drop (length spelling)) spelled.3 ∙ drop_at spelling more (length spelling) refl in
     let fits' : AreBytes more = AreBytes-right spelling more (subst AreBytes spelled.3 fits) in
     let later : made is w z rest ≡ split r after more = one_by format next sound after more fits' is z left w rest spelled.4 ends in
