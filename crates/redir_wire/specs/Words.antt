@@ -1,0 +1,18 @@
+-- Lists of 32-bit words, little-endian.
+use Rattle.std.specs.Prelude.{ℕ, zero, suc, List, [], ◌∷◌, drop, flat_map, ◌<◌, ◌^◌}
+use Rattle.std.specs.Int.{w32}
+use Rattle.usb_base.specs.Number.{le, le_at}
+
+-- the bytes of words
+abbrev pub words : List ℕ → List ℕ
+words ns = flat_map (le w32) ns
+
+-- so many words at the front of bytes
+abbrev pub words_of : ℕ → List ℕ → List ℕ
+words_of zero bytes = []
+words_of (suc n) bytes = le_at w32 0 bytes ∷ words_of n (drop 4 bytes)
+
+-- each is a number of 32 bits
+abbrev pub AreWords : List ℕ → Type 0
+AreWords [] = Unit {0}
+AreWords (n ∷ ns) = (n < 2 ^ 32) × AreWords ns

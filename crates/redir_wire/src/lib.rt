@@ -1,0 +1,16 @@
+//! The packets of USB network redirection that a host sends before any transfer, read and written.
+#![tactic(auto)]
+
+mod laws;
+mod packet;
+mod read;
+#[cfg(test)]
+mod tests;
+mod write;
+
+pub use laws::{packets_sound, read_again};
+pub use packet::{
+    Connect, EpInfo, Header, Hello, InterfaceInfo, RedirControl, RedirRead, WireError, Words,
+};
+pub use read::read_redir;
+pub use write::write_control;
