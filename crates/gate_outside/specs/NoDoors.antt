@@ -1,0 +1,26 @@
+-- Doors that open nothing: each call that would open one counts as a fault of its side.
+use Rattle.std.specs.Prelude.{ℕ, false, None}
+use Rattle.usb_base.specs.declared.side.Side.{Side}
+use Rattle.usb_base.specs.declared.side.Side.TheVariants.{Client, Host}
+use Rattle.gate_outside.specs.Faults.{one_more}
+use Rattle.gate_outside.specs.Link.{Link, Door}
+
+pub record SideFaults : Type 0 where
+  pub client : ℕ
+  pub host : ℕ
+
+abbrev pub side_faults : SideFaults → Side → ℕ
+side_faults faults Client = faults.client
+side_faults faults Host = faults.host
+
+-- no link is up, and none tells anything but its faults
+abbrev pub no_link : SideFaults → Side → Link
+no_link faults side = record { up = false; turns = None; written = None; faults = side_faults faults side; idle = 0 }
+
+-- a call for this side failed
+abbrev pub failed_at : Side → SideFaults → SideFaults
+failed_at Client faults = record faults { client = one_more faults.client }
+failed_at Host faults = record faults { host = one_more faults.host }
+
+abbrev pub no_door : Door
+no_door = record { made = false; to_come = None }

@@ -1,0 +1,33 @@
+//! The outside of the program: where bytes come from and go to, and the sockets of both sides.
+//!
+//! Each trait counts its faults where they happen, so that a caller's contract can say of every refusal that
+//! the outside was the cause.
+#![tactic(auto)]
+
+mod copy;
+mod doors;
+mod fault;
+mod fault_plan;
+mod no_doors;
+mod sink;
+mod source;
+mod std_sink;
+mod std_source;
+mod text_sink;
+mod text_source;
+mod turn;
+
+pub use doors::Doors;
+pub use fault::Failed;
+pub use no_doors::NoDoors;
+pub use sink::{Sink, write_all};
+pub use source::Source;
+pub use std_sink::StdSink;
+pub use std_source::StdSource;
+pub use text_sink::TextSink;
+pub use text_source::TextSource;
+pub use turn::{Polled, Script, Turn};
+pub use usb_base::Side;
+
+#[cfg(test)]
+mod tests;

@@ -1,0 +1,42 @@
+//! Where bytes go to.
+
+ghost use Rattle.std.specs.Prelude.{◌<◌, ◌≤◌, List, ℕ, length, Option, OnOk, OnErr, IfOk};
+ghost use Rattle.std.specs.Io.{WritesAtMost};
+ghost use Rattle.std.specs.Io.KnownBytes.{WriteAppends, Appends};
+ghost use Rattle.gate_outside.specs.Faults.{HasCause};
+ghost use Rattle.gate_outside.specs.Front.{AppendsFront};
+
+use crate::fault::Failed;
+
+/// Takes bytes, each behind those before it.
+pub trait Sink {
+    /// The bytes it holds, where it tells them.
+    ghost held: { Self → Option (List ℕ) };
+
+    /// How often it has failed. The count stands still at `u64::MAX`.
+    ghost faults: { Self → ℕ };
+
+    /// Writes a front of `piece`, at least one byte of it, and returns how many. A call that fails writes none.
+    fn write(&mut self, piece: &[u8]) -> Result<usize, Failed>
+        requires { 0 < length piece.now }
+        ensures bound { WritesAtMost result piece.now }
+        ensures some { IfOk result (λ n. 0 < n) }
+        ensures bytes { WriteAppends (held self.old) (held self.new) result piece.now }
+        ensures cause { HasCause (faults self.old) (faults self.new) result };
+}
+
+/// Writes all of the bytes, or, where the sink fails, a front of them.
+pub fn write_all<K: Sink>(sink: &mut K, bytes: &[u8]) -> Result<(), Failed>
+    ensures ok { OnOk result (Appends (K.held sink.old) (K.held sink.new) bytes.now) }
+    ensures err { OnErr result (AppendsFront (K.held sink.old) (K.held sink.new) bytes.now) }
+    ensures cause { HasCause (K.faults sink.old) (K.faults sink.new) result }
+{
+    let mut done = 0;
+    while done < bytes.len() {
+        match sink.write(&bytes[done..]) {
+            Ok(n) => done += n,
+            Err(failed) => return Err(failed),
+        }
+    }
+    Ok(())
+}
