@@ -3,10 +3,10 @@ use Rattle.std.proofs.Common.{◌≡◌, ℕ, zero, suc, ◌+◌, ◌<◌, List,
 use Rattle.std.proofs.lemmas.List.{drop_at, take-append-drop, length-drop, length-take}
 use Rattle.usb_base.specs.Number.{AreBytes}
 use Rattle.usb_base.specs.Format.{Format, IsWhole, IsShort, Found, Whole, Short, Wrong, Stands, reading, IsSound}
-use Rattle.usb_base.specs.Split.{Position, past, Splitting, Spells, Ends, IsSplitting, reads, with_packets, go_on, split}
+use Rattle.usb_base.specs.Split.{Position, past, Splitting, Spells, Ends, IsSplitting, reads, with_packets, go_on, split, SplitsWell}
 use Rattle.usb_base.proofs.Numbers.{AreBytes-drop, AreBytes-right}
 use Rattle.usb_base.proofs.Formats.{stands, read_whole, read_again, short_reading, wrong_parts, wrong_reading}
-use Rattle.usb_base.proofs.Laws.{reads_steady, split-is}
+use Rattle.usb_base.proofs.Laws.{reads_steady, split-is, split-more}
 
 -- ---- the computation gives a splitting
 
@@ -80,7 +80,9 @@ pub one_splitting : {S P R : Type 0} (format : S → Format P R) (next : S → P
     (x : Splitting S P R) → IsSplitting format next a stream x → x ≡ split (reads format next) a stream
 one_splitting format next sound a stream fits x h = one_by format next sound a stream fits x.packets x.position h.left x.wrong x.rest h.spelled h.ends
 
--- any two are the same
-pub splittings_same : {S P R : Type 0} (format : S → Format P R) (next : S → P → S) → ((s : S) → IsSound (format s)) → (a : Position S) (stream : List ℕ) → AreBytes stream →
-    (x y : Splitting S P R) → IsSplitting format next a stream x → IsSplitting format next a stream y → x ≡ y
-splittings_same format next sound a stream fits x y h k = one_splitting format next sound a stream fits x h ∙ sym (one_splitting format next sound a stream fits y k)
+pub splits_well : {S P R : Type 0} (format : S → Format P R) (next : S → P → S) → ((s : S) → IsSound (format s)) → (start : Position S) → SplitsWell format next start
+splits_well format next sound start = record {
+  found = λ stream fits. is_splitting format next sound start stream fits;
+  only = λ stream x fits h. one_splitting format next sound start stream fits x h;
+  more = λ stream more fits. split-more (reads format next) (reads_steady format next sound) start stream more fits;
+}

@@ -7,7 +7,7 @@ use Rattle.usb_base.specs.Split.{Position, past, Splitting, split, with_packets,
 use Rattle.usb_base.specs.Items.{Stream, packets, wrongs, items, put, added}
 use Rattle.usb_base.proofs.Laws.{IsSteady, split-is, split-more}
 
-put-append : {I : Type 0} (over : List I → Bool) (h xs ys : List I) → put over h (xs ++ ys) ≡ put over (put over h xs) ys
+pub put-append : {I : Type 0} (over : List I → Bool) (h xs ys : List I) → put over h (xs ++ ys) ≡ put over (put over h xs) ys
 put-append over h [] ys = refl
 put-append over h (x ∷ xs) ys = put-append over (cond (over h) h (x ∷ h)) xs ys
 

@@ -1,5 +1,6 @@
 -- A stream of bytes, split into its packets with their places, the wrong place that ends it, and else the rest.
 use Rattle.std.specs.Prelude.{◌≡◌, ℕ, zero, suc, ◌+◌, List, [], ◌∷◌, ◌++◌, length, drop, Option, Some, None}
+use Rattle.usb_base.specs.Number.{AreBytes}
 use Rattle.usb_base.specs.Format.{Format, IsShort, wrong_at, Found, Whole, Short, Wrong, reading}
 
 -- how packets are read, where what was read decides how the next one is
@@ -68,3 +69,13 @@ further_by r x more (Some w) = x
 
 abbrev pub further : {S P R : Type 0} → Reader S P R → Splitting S P R → List ℕ → Splitting S P R
 further r x more = further_by r x more x.wrong
+
+-- ---- the laws of splitting
+
+pub record SplitsWell {S P R : Type 0} (format : S → Format P R) (next : S → P → S) (start : Position S) : Type 0 where
+  -- the stream is the spellings of its packets and then the rest, in which nothing is whole or wrong
+  pub found : (stream : List ℕ) → AreBytes stream → IsSplitting format next start stream (split (reads format next) start stream)
+  -- there is no other splitting
+  pub only : (stream : List ℕ) (x : Splitting S P R) → AreBytes stream → IsSplitting format next start stream x → x ≡ split (reads format next) start stream
+  -- splitting more bytes is going on from where the bytes left off
+  pub more : (stream more : List ℕ) → AreBytes stream → split (reads format next) start (stream ++ more) ≡ further (reads format next) (split (reads format next) start stream) more

@@ -1,0 +1,6 @@
+pub mod Heads
+pub mod Requests
+pub mod Rows
+pub mod Devices
+pub mod Replies
+pub mod Answers

@@ -1,0 +1,9 @@
+pub mod Spelling
+pub mod Ranges
+pub mod Rows
+pub mod Counted
+pub mod Devices
+pub mod Requests
+pub mod Replies
+pub mod Answers
+pub mod Begins

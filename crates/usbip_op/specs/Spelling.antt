@@ -1,0 +1,43 @@
+-- The bytes of list and import packets, fields in wire order ("usbip_protocol", OP_REQ_DEVLIST to OP_REP_IMPORT).
+use Rattle.std.specs.Prelude.{ℕ, ◌==◌, if◌then◌else◌, List, [], ◌∷◌, ◌++◌, length, Option, Some, None, flat_map}
+use Rattle.std.specs.Int.{w16, w32}
+use Rattle.usb_base.specs.Number.{be}
+use Rattle.usbip_op.specs.declared.packet.DeviceRow.{DeviceRow}
+use Rattle.usbip_op.specs.declared.packet.IfaceRow.{IfaceRow}
+use Rattle.usbip_op.specs.declared.packet.Listed.{Listed}
+use Rattle.usbip_op.specs.declared.packet.OpPacket.{OpPacket}
+use Rattle.usbip_op.specs.declared.packet.OpPacket.TheVariants.{ReqDevlist, ReqImport, RepDevlist, RepImport}
+
+-- version 1.1.1, the packet's code, its status
+abbrev pub head_bytes : ℕ → ℕ → List ℕ
+head_bytes code status = be w16 0x0111 ++ be w16 code ++ be w32 status
+
+abbrev pub numbers_bytes : DeviceRow → List ℕ
+numbers_bytes d = be w32 d.busnum ++ be w32 d.devnum ++ be w32 d.speed ++ be w16 d.vendor ++ be w16 d.product ++ be w16 d.version
+
+abbrev pub classes_bytes : DeviceRow → List ℕ
+classes_bytes d = d.class ∷ d.subclass ∷ d.protocol ∷ d.configuration ∷ d.configurations ∷ d.interfaces ∷ []
+
+-- the 312 bytes of a device
+abbrev pub device_bytes : DeviceRow → List ℕ
+device_bytes d = d.path ++ d.busid ++ numbers_bytes d ++ classes_bytes d
+
+abbrev pub interface_bytes : IfaceRow → List ℕ
+interface_bytes i = i.class ∷ i.subclass ∷ i.protocol ∷ i.pad ∷ []
+
+abbrev pub listed_bytes : Listed → List ℕ
+listed_bytes l = device_bytes l.device ++ flat_map interface_bytes l.interfaces
+
+abbrev pub imported_bytes : Option DeviceRow → List ℕ
+imported_bytes None = []
+imported_bytes (Some d) = device_bytes d
+
+-- with a status other than 0 a list reply ends after its head
+abbrev pub devices_bytes : ℕ → List Listed → List ℕ
+devices_bytes status devices = if status == 0 then be w32 (length devices) ++ flat_map listed_bytes devices else []
+
+abbrev pub spelling : OpPacket → List ℕ
+spelling (ReqDevlist status) = head_bytes 0x8005 status
+spelling (ReqImport status busid) = head_bytes 0x8003 status ++ busid
+spelling (RepDevlist status devices) = head_bytes 0x0005 status ++ devices_bytes status devices
+spelling (RepImport status device) = head_bytes 0x0003 status ++ imported_bytes device

@@ -1,0 +1,18 @@
+//! The list and import packets of USB/IP ("usbip_protocol", Linux kernel documentation, version 1.1.1) as
+//! bytes. All numbers are big-endian.
+#![tactic(auto)]
+
+mod packet;
+mod read;
+mod reply;
+#[cfg(test)]
+mod tests;
+mod write;
+
+pub use packet::{
+    DeviceRow, IfaceRow, IfaceRows, Listed, ListedRows, OpError, OpPacket, OpRead, OpWay,
+};
+pub use read::{
+    read_again, read_op, read_reply_again, read_request, replies_sound, requests_sound,
+};
+pub use write::write_op;

@@ -1,0 +1,93 @@
+//! The list and import packets of USB/IP, as plain data.
+
+use usb_base::{List, Reason};
+
+/// A device as a list or an import tells it, 312 bytes ("usbip_protocol", OP_REP_DEVLIST). The texts end at
+/// their first zero byte. The numbers are in the units of the protocol: `version` is bcdDevice, `speed` is 1
+/// (low), 2 (full), 3 (high) or 5 (super).
+#[derive(Clone, Copy, Debug, PartialEq, Eq)]
+pub struct DeviceRow {
+    pub path: [u8; 256],
+    pub busid: [u8; 32],
+    pub busnum: u32,
+    pub devnum: u32,
+    pub speed: u32,
+    pub vendor: u16,
+    pub product: u16,
+    pub version: u16,
+    pub class: u8,
+    pub subclass: u8,
+    pub protocol: u8,
+    pub configuration: u8,
+    pub configurations: u8,
+    pub interfaces: u8,
+}
+
+/// An interface as a list tells it, 4 bytes. Senders write `pad` as 0, readers keep any value.
+#[derive(Clone, Copy, Debug, PartialEq, Eq)]
+pub struct IfaceRow {
+    pub class: u8,
+    pub subclass: u8,
+    pub protocol: u8,
+    pub pad: u8,
+}
+
+/// The interfaces of a listed device, in wire order.
+pub type IfaceRows = List<IfaceRow>;
+
+/// A device in a list, with its interfaces: as many as `device.interfaces` says.
+#[derive(Debug, Drop)]
+pub struct Listed {
+    pub device: DeviceRow,
+    pub interfaces: IfaceRows,
+}
+
+/// The devices of a list, in wire order.
+pub type ListedRows = List<Listed>;
+
+/// A list or import packet. A reply with a status other than 0 tells no device.
+#[derive(Debug, Drop)]
+pub enum OpPacket {
+    /// Asks for the list of devices (OP_REQ_DEVLIST, 8 bytes). Any status is kept.
+    ReqDevlist {
+        status: u32,
+    },
+    /// Asks for a device (OP_REQ_IMPORT, 40 bytes). Any status is kept.
+    ReqImport {
+        status: u32,
+        busid: [u8; 32],
+    },
+    /// The list (OP_REP_DEVLIST), of at most 1,024 devices; with a status other than 0, 8 bytes.
+    RepDevlist {
+        status: u32,
+        devices: ListedRows,
+    },
+    /// The device (OP_REP_IMPORT, 320 bytes); with a status other than 0 none, and 8 bytes.
+    RepImport {
+        status: u32,
+        device: Option<DeviceRow>,
+    },
+}
+
+/// Which way packets go: requests to a server, or its replies.
+#[derive(Clone, Copy, Debug, PartialEq, Eq)]
+pub enum OpWay {
+    Request,
+    Reply,
+}
+
+/// What stands at the front of the bytes: a packet and how many bytes it has, or less than one.
+#[derive(Debug, Drop)]
+pub enum OpRead {
+    Whole(OpPacket, usize),
+    Short,
+}
+
+/// Why nothing was read.
+#[derive(Clone, Copy, Debug, PartialEq, Eq)]
+pub enum OpError {
+    /// The packet is wrong at this place, counted in bytes from its first.
+    Refused { place: usize, reason: Reason },
+    /// No memory was left for the devices of a list. The bytes may be read again.
+    Memory,
+}
