@@ -19,3 +19,6 @@ pub use reason::Reason;
 pub use refusal::Refusal;
 pub use side::Side;
 pub use speed::Speed;
+
+#[cfg(test)]
+mod tests;

@@ -1,0 +1,126 @@
+//! What no clause says: that calls succeed with memory, and the printed text.
+
+use crate::{
+    Bytes, List, Reason, Refusal, Side, Speed, be_u16_at, be_u32_at, le_u16_at, le_u32_at,
+    push_be_u16, push_be_u32, push_le_u16, push_le_u32,
+};
+use std::test::Fail;
+
+#[test]
+fn numbers_in_both_byte_orders(rt: HostRuntime) -> Result<(), Fail> {
+    let mut out = Bytes::new(rt.alloc());
+    push_be_u16(&mut out, 0x0111)?;
+    push_be_u32(&mut out, 0x8005_0001)?;
+    push_le_u16(&mut out, 0xFFF0)?;
+    push_le_u32(&mut out, 0x44)?;
+    let bytes = out.as_slice();
+    let wanted = [
+        0x01, 0x11, 0x80, 0x05, 0x00, 0x01, 0xF0, 0xFF, 0x44, 0, 0, 0,
+    ];
+    assert_eq!(rt; bytes, wanted.as_slice());
+    assert_eq!(rt; bytes.len(), 12);
+    assert_eq!(rt; be_u16_at(bytes, 0), 0x0111);
+    assert_eq!(rt; be_u32_at(bytes, 2), 0x8005_0001);
+    assert_eq!(rt; le_u16_at(bytes, 6), 0xFFF0);
+    assert_eq!(rt; le_u32_at(bytes, 8), 0x44);
+    Ok(())
+}
+
+#[test]
+fn lists_grow_and_shrink(rt: HostRuntime) -> Result<(), Fail> {
+    let mut list = List::new(rt.alloc());
+    assert!(rt; list.is_empty());
+    for item in 1..6 {
+        list.push(item)?;
+    }
+    assert_eq!(rt; list.len(), 5);
+    list.cut(4);
+    assert_eq!(rt; list.as_slice(), [1, 2, 3, 4].as_slice());
+    assert_eq!(rt; list.len(), 4);
+    list.skip(1);
+    assert_eq!(rt; list.as_slice(), [2, 3, 4].as_slice());
+    list.clear();
+    assert!(rt; list.is_empty());
+    Ok(())
+}
+
+#[test]
+fn refusal_lines(rt: HostRuntime) -> Result<(), Fail> {
+    let table = [
+        (
+            Side::Client,
+            0,
+            Reason::Version,
+            None,
+            "! client 0 1 Version\n",
+        ),
+        (
+            Side::Client,
+            80,
+            Reason::AlreadyImported,
+            None,
+            "! client 80 10 AlreadyImported\n",
+        ),
+        (
+            Side::Client,
+            72,
+            Reason::Packets,
+            None,
+            "! client 72 8 Packets\n",
+        ),
+        (
+            Side::Host,
+            0,
+            Reason::HelloFirst,
+            None,
+            "! host 0 20 HelloFirst\n",
+        ),
+        (
+            Side::Host,
+            482,
+            Reason::Mismatch,
+            Some((101, 100)),
+            "! host 482 28 Mismatch 101 100\n",
+        ),
+        (
+            Side::Host,
+            u64::MAX,
+            Reason::IdsSpent,
+            None,
+            "! host 18446744073709551615 29 IdsSpent\n",
+        ),
+    ];
+    for (side, place, reason, kept, wanted) in table {
+        let mut out = Bytes::new(rt.alloc());
+        Refusal {
+            side,
+            place,
+            reason,
+            kept,
+        }
+        .line(rt.alloc(), &mut out)?;
+        assert_eq!(rt; out.as_slice(), wanted.as_bytes());
+    }
+    Ok(())
+}
+
+#[test]
+fn reasons_and_speeds(rt: HostRuntime) {
+    let reasons = [
+        (Reason::OpCode, 2, "OpCode"),
+        (Reason::TooLong, 7, "TooLong"),
+        (Reason::NotBuilt, 12, "NotBuilt"),
+        (Reason::NotAgreed, 22, "NotAgreed"),
+        (Reason::Count, 25, "Count"),
+        (Reason::TooLong26, 26, "TooLong26"),
+        (Reason::Stray, 40, "Stray"),
+        (Reason::Length, 41, "Length"),
+    ];
+    for (reason, number, name) in reasons {
+        assert_eq!(rt; reason.number(), number);
+        assert_eq!(rt; reason.name(), name);
+    }
+    for (byte, number) in [(0, 1), (1, 2), (2, 3), (3, 5), (4, 0), (255, 0)] {
+        assert_eq!(rt; Speed::from_redir(byte).usbip(), number, "at {byte}");
+    }
+}
