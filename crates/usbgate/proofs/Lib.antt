@@ -1,0 +1,12 @@
+pub mod Firsts
+pub mod Held
+pub mod Moving
+pub mod Pieces
+pub mod Refusing
+pub mod Rows
+pub mod Sound
+pub mod Stopping
+pub mod Lines
+pub mod Events
+pub mod Stages
+pub mod Going

@@ -1,0 +1,6 @@
+use Rattle.std.proofs.Common.{refl}
+use Rattle.usbgate.proofs.Firsts.{stands-first}
+use Rattle.usbgate.proofs.inner.Inner.new.Goals as goal
+
+pub returns : goal.returns
+returns c = stands-first _ c.new.ensures c.new-2.ensures c.none.ensures refl

@@ -1,0 +1,62 @@
+-- What the host has told of its device: of each fact the last, since the device was last lost. It is lost with the
+-- host's end and with the host's wrong place.
+use Rattle.std.specs.Prelude.{ℕ, ◌==◌, if◌then◌else◌, List, [], ◌∷◌, Option, Some, None, unwrap_or}
+use Rattle.redir_wire.specs.declared.packet.Header.{Header}
+use Rattle.redir_wire.specs.declared.packet.RedirControl.{RedirControl}
+use Rattle.redir_wire.specs.declared.packet.RedirControl.TheVariants as control
+use Rattle.redir_wire.specs.declared.packet.Connect.{Connect}
+use Rattle.redir_wire.specs.declared.packet.InterfaceInfo.{InterfaceInfo}
+use Rattle.usbgate.specs.declared.facts.Facts.{Facts}
+use Rattle.usbgate.specs.Items.{Item, OfClient, OfHost, Told, HostWrong, HostLeft}
+
+-- the one, or the other where it is none
+abbrev pub or_else : {A : Type 0} → Option A → Option A → Option A
+or_else None b = b
+or_else (Some a) b = Some a
+
+-- the last that was told since the last loss, where `tells` says what a packet tells
+abbrev pub last_told : {A : Type 0} → (RedirControl → Option A) → List Item → Option A
+last_told tells [] = None
+last_told tells (OfClient i ∷ h) = last_told tells h
+last_told tells (OfHost (Told p) ∷ h) = or_else (tells p.1) (last_told tells h)
+last_told tells (OfHost (HostWrong place reason) ∷ h) = None
+last_told tells (OfHost HostLeft ∷ h) = None
+
+-- a device_connect tells that the device is there, and what it is
+abbrev pub connect_in : RedirControl → Option Connect
+connect_in (control.Hello hello) = None
+connect_in (control.Connect connect) = Some connect
+connect_in (control.InterfaceInfo info) = None
+connect_in (control.EpInfo info) = None
+connect_in (control.ConfigurationStatus status configuration) = None
+
+-- an interface_info tells its interfaces
+abbrev pub interfaces_in : RedirControl → Option InterfaceInfo
+interfaces_in (control.Hello hello) = None
+interfaces_in (control.Connect connect) = None
+interfaces_in (control.InterfaceInfo info) = Some info
+interfaces_in (control.EpInfo info) = None
+interfaces_in (control.ConfigurationStatus status configuration) = None
+
+-- a configuration_status with success (0) tells its configuration
+abbrev pub configuration_in : RedirControl → Option ℕ
+configuration_in (control.Hello hello) = None
+configuration_in (control.Connect connect) = None
+configuration_in (control.InterfaceInfo info) = None
+configuration_in (control.EpInfo info) = None
+configuration_in (control.ConfigurationStatus status configuration) = if status == 0 then Some configuration else None
+
+abbrev pub facts_of : List Item → Facts
+facts_of h = record { connect = last_told connect_in h; interfaces = last_told interfaces_in h; configuration = unwrap_or (last_told configuration_in h) 0 }
+
+-- the facts of no host
+abbrev pub no_facts : Facts
+no_facts = record { connect = None; interfaces = None; configuration = 0 }
+
+-- facts after a packet of the host
+abbrev pub after_told : Facts → RedirControl → Facts
+after_told f p = record {
+  connect = or_else (connect_in p) f.connect;
+  interfaces = or_else (interfaces_in p) f.interfaces;
+  configuration = unwrap_or (configuration_in p) f.configuration;
+}

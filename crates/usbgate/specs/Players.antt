@@ -1,0 +1,80 @@
+-- Where a player stands in a tape, of which a part has been read, and a part of whose text has been written.
+use Rattle.std.specs.Prelude.{◌≡◌, ℕ, ◌+◌, ◌≤◌, ◌<◌, false, List, [], ◌∷◌, ◌++◌, length, Option, Some, None}
+use Rattle.usbgate.specs.declared.player.Player.{Player}
+use Rattle.usbgate.specs.declared.status.Status.{Status}
+use Rattle.usbgate.specs.declared.status.Status.TheVariants.{BadTape}
+use Rattle.usbgate.specs.Tape.{lines_of}
+use Rattle.usbgate.specs.Text.{made_text, bad_line}
+use Rattle.usbgate.specs.Play.{Playing, start, tape_limit, line_of, Played, play_lines, replay_text, replay_status}
+use Rattle.usbgate.specs.Run.{EndsALine, EndsNoLine}
+use Rattle.usbgate.specs.Replays.{IsPlaying, GoesOn}
+
+abbrev pub with_text : List ℕ → Played → Played
+with_text text x = record x { text = text ++ x.text }
+
+-- Whole lines were read, which are good, and a part of the next one. However the tape goes on, its text begins with
+-- theirs.
+pub record Stage (p : Player) (read written : List ℕ) : Type 0 where
+  pub whole : List ℕ
+  pub text : List ℕ
+  pub at : Playing
+  pub read-is : read ≡ whole ++ p.pending
+  pub whole_lines : EndsALine whole
+  pub part_of_line : EndsNoLine p.pending
+  pub text-is : written ++ p.text ≡ made_text ++ text
+  pub plays : (later : List ℕ) → play_lines start (lines_of (whole ++ later)) ≡ with_text text (play_lines at (lines_of later))
+  pub playing : IsPlaying p.replay at
+
+-- a line is bad, however the tape goes on: its text ends here
+pub record Spoilt (status : Status) (p : Player) (read written : List ℕ) : Type 0 where
+  pub number : ℕ
+  pub status-is : status ≡ BadTape number
+  pub text : (later : List ℕ) → replay_text (read ++ later) ≡ written ++ p.text
+  pub outcome : (later : List ℕ) → replay_status (read ++ later) ≡ status
+
+abbrev pub Took : Option Status → Player → List ℕ → List ℕ → Type 0
+Took None p read written = Stage p read written
+Took (Some status) p read written = Spoilt status p read written
+
+-- the tape has come to its end, and so has its text
+pub record Finished (status : Status) (p : Player) (tape written : List ℕ) : Type 0 where
+  pub text : replay_text tape ≡ written ++ p.text
+  pub outcome : replay_status tape ≡ status
+
+-- the run ends: at the tape's end, where an empty piece comes, or at a bad line, however the tape goes on
+pub record Closes (status : Status) (p : Player) (piece read written : List ℕ) : Type 0 where
+  pub text : (later : List ℕ) → (piece ≡ [] → later ≡ []) → replay_text ((read ++ piece) ++ later) ≡ written ++ p.text
+  pub outcome : (later : List ℕ) → (piece ≡ [] → later ≡ []) → replay_status ((read ++ piece) ++ later) ≡ status
+  pub bad : (piece ≡ [] → ⊥) → (number : ℕ) × (status ≡ BadTape number)
+
+abbrev pub Stepped : Option Status → Player → List ℕ → List ℕ → List ℕ → Type 0
+Stepped None p piece read written = Stage p (read ++ piece) written
+Stepped (Some status) p piece read written = Closes status p piece read written
+
+-- every line of the tape was read, and is good
+pub record AllRead (p : Player) (tape written : List ℕ) : Type 0 where
+  pub text : List ℕ
+  pub at : Playing
+  pub text-is : written ++ p.text ≡ made_text ++ text
+  pub plays : play_lines start (lines_of tape) ≡ record { text = text; after = at; bad = false }
+  pub playing : IsPlaying p.replay at
+
+abbrev pub TookLast : Option Status → Player → List ℕ → List ℕ → Type 0
+TookLast None p tape written = AllRead p tape written
+TookLast (Some status) p tape written = Finished status p tape written
+
+-- ---- one line
+
+-- the line after s is bad, and its text is put behind the text
+pub record Spoils (status : Status) (s : Playing) (text_old text_new : List ℕ) : Type 0 where
+  pub status-is : status ≡ BadTape (s.number + 1)
+  pub text-is : text_new ≡ text_old ++ bad_line (s.number + 1)
+
+abbrev pub TookLine : Option Status → Playing → List ℕ → Player → Player → Type 0
+TookLine None s line old new = GoesOn (line_of s line) new.replay old.text new.text × (new.pending ≡ [])
+TookLine (Some status) s line old new = (line_of s line ≡ None) × Spoils status s old.text new.text
+
+-- a part of a line is kept, unless the line passes the limit
+abbrev pub Kept : Option Status → Playing → List ℕ → Player → Player → Type 0
+Kept None s part old new = new ≡ record old { pending = part }
+Kept (Some status) s part old new = (tape_limit < s.used + length part) × Spoils status s old.text new.text

@@ -1,0 +1,74 @@
+-- A tape: the lines of a text, and what each says. `c HEX` and `h HEX` are pieces of the client's and the host's
+-- stream, `c.` and `h.` their ends. Empty lines and those that begin with `#` are skipped.
+use Rattle.std.specs.Prelude.{ℕ, ◌==◌, ◌&&◌, Bool, true, false, not, if◌then◌else◌, List, [], ◌∷◌, Result, Ok, Err}
+use Rattle.std.specs.Io.BufRead.{strip_last}
+use Rattle.hex.specs.Hex.{decode_of}
+use Rattle.hex.specs.declared.error.FromHexError.{FromHexError}
+use Rattle.usbgate.specs.Events.{Event, ClientPiece, ClientEnd, HostPiece, HostEnd}
+
+-- one byte more in front of the first line
+abbrev pub before_first : ℕ → List (List ℕ) → List (List ℕ)
+before_first b [] = (b ∷ []) ∷ []
+before_first b (line ∷ lines) = (b ∷ line) ∷ lines
+
+-- a text cut behind each LF (10): each line has its LF, but for a last one that has none
+abbrev pub lines_of : List ℕ → List (List ℕ)
+lines_of [] = []
+lines_of (b ∷ bs) = if b == 10 then (10 ∷ []) ∷ lines_of bs else before_first b (lines_of bs)
+
+-- a line without its LF
+abbrev pub content : List ℕ → List ℕ
+content line = strip_last 10 line
+
+-- what a line says
+pub data Says : Type 0 where
+  Skip : Says
+  Happens : Event → Says
+  Bad : Says
+
+-- a piece has a byte at least: two hexadecimal digits, of either case
+abbrev pub piece_of : (List ℕ → Event) → Result (List ℕ) FromHexError → Says
+piece_of piece (Ok []) = Bad
+piece_of piece (Ok (b ∷ bs)) = Happens (piece (b ∷ bs))
+piece_of piece (Err e) = Bad
+
+-- a `.` and nothing more
+abbrev pub end_of : Event → List ℕ → Says
+end_of end [] = Happens end
+end_of end (b ∷ bs) = Bad
+
+-- what stands behind the letter of a side: a space (32) and a piece, or a `.` (46)
+abbrev pub of_side : (List ℕ → Event) → Event → List ℕ → Says
+of_side piece end [] = Bad
+of_side piece end (b ∷ bs) = if b == 32 then piece_of piece (decode_of bs) else if b == 46 then end_of end bs else Bad
+
+-- `#` is 35, `c` is 99, `h` is 104
+abbrev pub says : List ℕ → Says
+says [] = Skip
+says (b ∷ bs) =
+    if b == 35 then Skip
+    else if b == 99 then of_side ClientPiece ClientEnd bs
+    else if b == 104 then of_side HostPiece HostEnd bs
+    else Bad
+
+-- ---- nothing of a side comes after its end
+
+abbrev pub client_ended : List Event → Bool
+client_ended [] = false
+client_ended (ClientPiece b ∷ past) = client_ended past
+client_ended (ClientEnd ∷ past) = true
+client_ended (HostPiece b ∷ past) = client_ended past
+client_ended (HostEnd ∷ past) = client_ended past
+
+abbrev pub host_ended : List Event → Bool
+host_ended [] = false
+host_ended (ClientPiece b ∷ past) = host_ended past
+host_ended (ClientEnd ∷ past) = host_ended past
+host_ended (HostPiece b ∷ past) = host_ended past
+host_ended (HostEnd ∷ past) = true
+
+abbrev pub may_happen : List Event → Event → Bool
+may_happen past (ClientPiece b) = not (client_ended past)
+may_happen past ClientEnd = not (client_ended past)
+may_happen past (HostPiece b) = not (host_ended past)
+may_happen past HostEnd = not (host_ended past)

@@ -1,0 +1,29 @@
+//! The gateway between a USB/IP client and a usbredir host, and its runs over tapes.
+#![tactic(auto)]
+
+mod event;
+mod facts;
+mod gate;
+mod hello;
+mod inner;
+mod laws;
+mod note;
+mod packets;
+mod player;
+mod program;
+mod replay;
+mod reply;
+mod status;
+mod stream;
+mod tape;
+mod text;
+
+pub use event::Event;
+pub use gate::Gate;
+pub use laws::{client_splits_well, host_splits_well};
+pub use note::{Counts, Note, Notes};
+pub use program::run;
+pub use status::Status;
+
+#[cfg(test)]
+mod tests;

@@ -1,0 +1,110 @@
+//! A run of the program, over a tape and a sink.
+
+ghost use Rattle.std.specs.Prelude.{◌≡◌, ◌<◌, ◌⊎◌, List, [], ℕ, length, true, false};
+ghost use Rattle.gate_outside.specs.Faults.{Rose};
+ghost use Rattle.usb_base.specs.declared.side.Side.TheVariants.{Client, Host};
+ghost use Rattle.usbgate.specs.Play.{is_replay};
+ghost use Rattle.usbgate.specs.Run.{Ran, HasCauses, texts};
+ghost use Rattle.usbgate.specs.Players.{Stage};
+
+use crate::player::Player;
+use crate::status::Status;
+use crate::text::USAGE;
+use gate_outside::{Doors, Sink, Source, write_all};
+use std::alloc::Global;
+
+/// How many bytes of a tape are read at a time.
+const CHUNK: usize = 65_536;
+
+/// Does what the words say: `replay` alone puts the tape to a gate, and prints what that sends and tells.
+/// Other words print how they should be.
+pub fn run<S: Source, K: Sink, D: Doors>(
+    alloc: Global,
+    words: &[&str],
+    tape: &mut S,
+    out: &mut K,
+    doors: &mut D,
+) -> Status
+    requires client_down { (D.link doors.old Client).up ≡ false }
+    requires host_down { (D.link doors.old Host).up ≡ false }
+    ensures ran { Ran result (texts words.now) (S.left tape.old) (S.left tape.new) (K.held out.old) (K.held out.new) }
+    ensures usage { result ≡ Status.Usage → is_replay (texts words.now) ≡ false }
+    ensures no_command { is_replay (texts words.now) ≡ false → (result ≡ Status.Usage) ⊎ (result ≡ Status.WriteFault) }
+    ensures untouched { is_replay (texts words.now) ≡ false → tape.new ≡ tape.old }
+    ensures read_fault { result ≡ Status.ReadFault → Rose (S.faults tape.old) (S.faults tape.new) }
+    ensures write_fault { result ≡ Status.WriteFault → Rose (K.faults out.old) (K.faults out.new) }
+    ensures read_rose { S.faults tape.old < S.faults tape.new → result ≡ Status.ReadFault }
+    ensures write_rose { K.faults out.old < K.faults out.new → result ≡ Status.WriteFault }
+    ensures doors { doors.new ≡ doors.old }
+{
+    let _ = doors;
+    if says_replay(words) {
+        return replay(alloc, tape, out);
+    }
+    match write_all(out, USAGE) {
+        Ok(()) => Status::Usage,
+        Err(_) => Status::WriteFault,
+    }
+}
+
+/// Whether the words are the one word `replay`.
+fn says_replay(words: &[&str]) -> bool
+    ensures { result ≡ is_replay (texts words.now) }
+{
+    let [word] = words else {
+        return false;
+    };
+    *word == "replay"
+}
+
+/// Reads the tape to its end, and writes its text as it goes.
+fn replay<S: Source, K: Sink>(alloc: Global, tape: &mut S, out: &mut K) -> Status
+    ensures ran { (words : List (List ℕ)) → is_replay words ≡ true → Ran result words (S.left tape.old) (S.left tape.new) (K.held out.old) (K.held out.new) }
+    ensures causes { HasCauses result (S.faults tape.old) (S.faults tape.new) (K.faults out.old) (K.faults out.new) }
+{
+    let player = match Player::start(alloc) {
+        Ok(player) => player,
+        Err(_) => return Status::OutOfMemory,
+    };
+    let mut buf = match vec![in alloc; 0; CHUNK] {
+        Ok(buf) => buf,
+        Err(_) => return Status::OutOfMemory,
+    };
+    play(alloc, player, &mut buf, tape, out)
+}
+
+/// Puts the tape to the player, a buffer at a time. What text there is is written before each read.
+fn play<S: Source, K: Sink>(
+    alloc: Global,
+    mut player: Player,
+    buf: &mut [u8],
+    tape: &mut S,
+    out: &mut K,
+) -> Status
+    requires start { Stage player [] [] }
+    requires room { 0 < length buf.old }
+    ensures ran { (words : List (List ℕ)) → is_replay words ≡ true → Ran result words (S.left tape.old) (S.left tape.new) (K.held out.old) (K.held out.new) }
+    ensures causes { HasCauses result (S.faults tape.old) (S.faults tape.new) (K.faults out.old) (K.faults out.new) }
+{
+    for _ in 0..u64::MAX {
+        if let Err(_) = write_all(out, player.text.as_slice()) {
+            return Status::WriteFault;
+        }
+        player.text.clear();
+        let n = match tape.read(buf) {
+            Ok(n) => n,
+            Err(_) => return Status::ReadFault,
+        };
+        let ended = match player.step(alloc, &buf[..n]) {
+            Ok(ended) => ended,
+            Err(_) => return Status::OutOfMemory,
+        };
+        if let Some(status) = ended {
+            if let Err(_) = write_all(out, player.text.as_slice()) {
+                return Status::WriteFault;
+            }
+            return status;
+        }
+    }
+    Status::OutOfMemory
+}

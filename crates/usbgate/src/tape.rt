@@ -1,0 +1,97 @@
+//! The lines of a tape.
+
+ghost use Rattle.std.specs.Prelude.{◌≡◌, List, ℕ, IfOk, option_map};
+ghost use Rattle.usbgate.specs.Tape.{content, says, Happens, Bad, piece_of};
+ghost use Rattle.usbgate.specs.Events.{Event as PastEvent, event_of};
+ghost use Rattle.hex.specs.Hex.{decode_of};
+ghost use Rattle.usbgate.specs.Lines.{said, says_of};
+
+use crate::event::Event;
+use hex::FromHexError;
+use std::alloc::Global;
+use usb_base::Memory;
+
+/// What a line says: nothing, the next piece of a side's stream, which has a byte at least, or a side's end.
+#[derive(Debug, Drop)]
+pub enum TapeLine {
+    Skip,
+    Client(Vec<u8>),
+    ClientEnd,
+    Host(Vec<u8>),
+    HostEnd,
+}
+
+impl TapeLine {
+    /// The event that it says, if there is one.
+    pub fn event(&self) -> Option<Event<'_>>
+        ensures { said self.now ≡ says_of (option_map event_of result) }
+    {
+        match self {
+            TapeLine::Skip => None,
+            TapeLine::Client(piece) => Some(Event::ClientPiece(piece)),
+            TapeLine::ClientEnd => Some(Event::ClientEnd),
+            TapeLine::Host(piece) => Some(Event::HostPiece(piece)),
+            TapeLine::HostEnd => Some(Event::HostEnd),
+        }
+    }
+}
+
+/// Why a line says nothing.
+#[derive(Clone, Copy, Debug, PartialEq, Eq)]
+pub enum LineError {
+    /// It isn't in the tape's grammar, or has no place in the tape.
+    Bad,
+    Memory,
+}
+
+impl From<Memory> for LineError {
+    ghost use Rattle.usbgate.specs.declared.tape.LineError.TheVariants as line;
+
+    ghost from_gives = { λ _ e. e ≡ line.Memory };
+
+    fn from(_memory: Memory) -> Self {
+        LineError::Memory
+    }
+}
+
+/// A line without its LF.
+pub fn content(line: &[u8]) -> &[u8]
+    ensures { result.now ≡ content line.now }
+{
+    if line.ends_with(b"\n") {
+        return &line[..line.len() - 1];
+    }
+    line
+}
+
+/// Reads a line, which is given without its LF.
+pub fn read_line(alloc: Global, content: &[u8]) -> Result<TapeLine, LineError>
+    ensures ok { IfOk result (λ line. says content.now ≡ said line) }
+    ensures bad { result ≡ Err LineError.Bad → says content.now ≡ Bad }
+{
+    match content {
+        [] | [b'#', ..] => Ok(TapeLine::Skip),
+        [b'c', b'.'] => Ok(TapeLine::ClientEnd),
+        [b'c', b' ', digits @ ..] => Ok(TapeLine::Client(read_piece(alloc, digits)?)),
+        [b'h', b'.'] => Ok(TapeLine::HostEnd),
+        [b'h', b' ', digits @ ..] => Ok(TapeLine::Host(read_piece(alloc, digits)?)),
+        _ => Err(LineError::Bad),
+    }
+}
+
+/// Reads the hexadecimal digits of a piece.
+fn read_piece(alloc: Global, digits: &[u8]) -> Result<Vec<u8>, LineError>
+    ensures ok { IfOk result (λ piece. (happens : List ℕ → PastEvent) → piece_of happens (decode_of digits.now) ≡ Happens (happens piece.items)) }
+    ensures bad { result ≡ Err LineError.Bad → (happens : List ℕ → PastEvent) → piece_of happens (decode_of digits.now) ≡ Bad }
+{
+    match hex::decode(alloc, digits) {
+        Ok(piece) => {
+            if piece.is_empty() {
+                return Err(LineError::Bad);
+            }
+            Ok(piece)
+        }
+        Err(FromHexError::OutOfMemory) => Err(LineError::Memory),
+        Err(_) => Err(LineError::Bad),
+    }
+}
