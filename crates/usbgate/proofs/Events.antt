@@ -1,15 +1,15 @@
 -- What an event adds to a replay's text, and to what it keeps.
-use Rattle.std.proofs.Common.{◌≡◌, ℕ, Bool, true, false, ◌||◌, List, [], ◌∷◌, ◌++◌, length, drop, refl, sym, ap, subst, ◌∙◌}
+use Rattle.std.proofs.Common.{◌≡◌, ℕ, Bool, true, false, List, [], ◌∷◌, ◌++◌, length, drop, refl, sym, ap, ◌∙◌}
 use Rattle.std.proofs.lemmas.List.{append-nil, drop_at}
 use Rattle.usbgate.specs.declared.note.Note.{Note}
 use Rattle.usbgate.specs.declared.replay.Replay.{Replay}
 use Rattle.usbgate.specs.Events.{Event}
 use Rattle.usbgate.specs.Items.{Item, OfClient, OfHost, Asked, ClientWrong, ClientLeft, Told, HostWrong, HostLeft}
 use Rattle.usbgate.specs.History.{history}
-use Rattle.usbgate.specs.Output.{out_client, out_host, told_notes, notes_of}
+use Rattle.usbgate.specs.Output.{out_client, out_host, told_notes}
 use Rattle.usbgate.specs.Stands.{Gains, Takes}
 use Rattle.usbgate.specs.Tape.{client_ended, host_ended}
-use Rattle.usbgate.specs.Text.{gained, sent_text, event_text}
+use Rattle.usbgate.specs.Text.{gained, sent_text}
 use Rattle.usbgate.specs.Play.{has_refusal}
 use Rattle.usbgate.specs.Replays.{HasSeen, Sees}
 

@@ -1,5 +1,5 @@
 -- The gate to which nothing has happened.
-use Rattle.std.proofs.Common.{◌≡◌, ℕ, Bool, true, false, List, [], None, refl, sym, ap, ◌∙◌, arith}
+use Rattle.std.proofs.Common.{◌≡◌, Bool, true, false, [], None, refl, sym, ap, ◌∙◌, arith}
 use Rattle.std.proofs.lemmas.Bool.{true≢false}
 use Rattle.usb_base.specs.Number.{be_at, le_at}
 use Rattle.usb_base.specs.Split.{Splitting, split}
@@ -8,7 +8,7 @@ use Rattle.usbgate.specs.declared.inner.Inner.{Inner}
 use Rattle.usbgate.specs.declared.stream.Stream.{Stream}
 use Rattle.usbgate.specs.Items.{capped}
 use Rattle.usbgate.specs.Facts.{no_facts}
-use Rattle.usbgate.specs.Forms.{client_reader, client_start, host_reader, host_start}
+use Rattle.usbgate.specs.Forms.{client_start, host_start}
 use Rattle.usbgate.specs.History.{client_split, host_split}
 use Rattle.usbgate.specs.Stands.{Stands}
 

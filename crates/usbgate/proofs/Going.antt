@@ -12,8 +12,8 @@ use Rattle.usbgate.specs.declared.status.Status.TheVariants.{Done, Usage, Refuse
 use Rattle.usbgate.specs.History.{history}
 use Rattle.usbgate.specs.Tape.{lines_of}
 use Rattle.usbgate.specs.Text.{made_text, usage_line}
-use Rattle.usbgate.specs.Play.{start, Played as Playback, play_lines, has_refusal, status_of, replay_text, replay_status, is_replay, play, outcome}
-use Rattle.usbgate.specs.Run.{ReadInPart, WrittenInPart, Played, Ends, Ran, HasCauses}
+use Rattle.usbgate.specs.Play.{start, Played as Playback, play_lines, has_refusal, replay_text, replay_status, is_replay, play, outcome}
+use Rattle.usbgate.specs.Run.{WrittenInPart, Played, Ends, Ran, HasCauses}
 use Rattle.usbgate.specs.Players.{Stage, Closes}
 use Rattle.usbgate.proofs.Stages.{text_begins}
 

@@ -1,5 +1,5 @@
 -- What is kept of packets that aren't whole.
-use Rattle.std.proofs.Common.{◌≡◌, ℕ, ◌+◌, Bool, true, false, cond, List, [], length, refl, sym, ap, ◌∙◌}
+use Rattle.std.proofs.Common.{◌≡◌, ℕ, ◌+◌, Bool, true, false, cond, List, [], length, refl, ap, ◌∙◌}
 use Rattle.usbgate.specs.declared.inner.Inner.{Inner}
 use Rattle.usbgate.specs.Events.{Event}
 use Rattle.usbgate.specs.Items.{client_over, host_over}

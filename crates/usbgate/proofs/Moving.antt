@@ -1,23 +1,17 @@
 -- Outputs gain what they should, one item after another.
-use Rattle.std.proofs.Common.{◌≡◌, ℕ, ◌+◌, ◌-◌, ◌^◌, min, Bool, true, false, List, [], ◌∷◌, ◌++◌, Option, Some, None, refl, sym, ap, ◌∙◌, append_assoc, arith}
+use Rattle.std.proofs.Common.{◌≡◌, ℕ, ◌+◌, ◌-◌, ◌^◌, min, List, [], ◌∷◌, ◌++◌, Option, Some, None, refl, sym, ap, ◌∙◌, append_assoc, arith}
 use Rattle.std.specs.Prelude.{unwrap_or}
 use Rattle.std.specs.List.{flat_map}
 use Rattle.std.proofs.lemmas.List.{append-nil}
-use Rattle.usb_base.specs.declared.reason.Reason.{Reason}
-use Rattle.usb_base.specs.declared.refusal.Refusal.{Refusal}
-use Rattle.usb_base.specs.declared.side.Side.TheVariants.{Client, Host}
 use Rattle.usbip_op.specs.declared.packet.OpPacket.{OpPacket}
 use Rattle.usbip_op.specs.Spelling.{spelling}
 use Rattle.redir_wire.specs.declared.packet.Header.{Header}
-use Rattle.redir_wire.specs.declared.packet.Connect.{Connect}
-use Rattle.redir_wire.specs.declared.packet.InterfaceInfo.{InterfaceInfo}
 use Rattle.redir_wire.specs.declared.packet.RedirControl.{RedirControl}
 use Rattle.usbgate.specs.declared.inner.Inner.{Inner}
 use Rattle.usbgate.specs.declared.facts.Facts.{Facts}
 use Rattle.usbgate.specs.declared.note.Note.{Note}
-use Rattle.usbgate.specs.declared.note.Note.TheVariants.{Refused}
-use Rattle.usbgate.specs.Items.{Item, OfClient, OfHost, Asked, ClientWrong, ClientLeft, Told, HostWrong, HostLeft, client_over, host_over, capped}
-use Rattle.usbgate.specs.Facts.{or_else, last_told, connect_in, interfaces_in, configuration_in, facts_of, no_facts, after_told}
+use Rattle.usbgate.specs.Items.{Item, OfClient, OfHost, Asked, Told, capped}
+use Rattle.usbgate.specs.Facts.{or_else, last_told, connect_in, interfaces_in, configuration_in, facts_of, after_told}
 use Rattle.usbgate.specs.Output.{answers, to_client, notes_of, out_client, out_host, told_notes}
 use Rattle.usbgate.specs.Stands.{Knows, Gains, Sends}
 use Rattle.usbgate.specs.Steps.{Moves}

@@ -1,11 +1,10 @@
 -- An event more, at a side that is over and at one that isn't.
-use Rattle.std.proofs.Common.{◌≡◌, ℕ, ◌+◌, Bool, true, false, List, [], ◌∷◌, ◌++◌, Option, Some, None, refl, sym, ap, subst, ◌∙◌}
+use Rattle.std.proofs.Common.{◌≡◌, ℕ, Bool, true, false, List, [], ◌∷◌, ◌++◌, Option, refl, sym, ap, subst, ◌∙◌}
 use Rattle.std.proofs.lemmas.Bool.{true≢false}
 use Rattle.std.proofs.lemmas.List.{append-nil}
 use Rattle.usb_base.specs.Number.{AreBytes}
-use Rattle.usb_base.specs.Split.{Position, Splitting, split}
-use Rattle.usb_base.specs.Items.{Stream as SideStream, put, items, added}
-use Rattle.usb_base.specs.declared.reason.Reason.{Reason}
+use Rattle.usb_base.specs.Split.{Position, split}
+use Rattle.usb_base.specs.Items.{put, items}
 use Rattle.usb_base.specs.declared.refusal.Refusal.{Refusal}
 use Rattle.usb_base.proofs.Numbers.{AreBytes-append}
 use Rattle.usb_base.proofs.Taking.{Passes, put-over, passes-items, split-piece, added-is}
@@ -13,13 +12,13 @@ use Rattle.usbgate.specs.declared.inner.Inner.{Inner}
 use Rattle.usbgate.specs.declared.stream.Stream.{Stream}
 use Rattle.usbgate.specs.declared.note.Note.{Note}
 use Rattle.usbgate.specs.Forms.{client_reader, host_reader}
-use Rattle.usbgate.specs.Events.{Event, ClientPiece, ClientEnd, HostPiece, HostEnd, client_bytes, host_bytes}
-use Rattle.usbgate.specs.Items.{Item, OfClient, OfHost, ClientLeft, HostLeft, client_side, host_side, client_over, host_over}
-use Rattle.usbgate.specs.History.{history, client_split, host_split, brought, over_of}
-use Rattle.usbgate.specs.Stands.{Knows, IsAt, Keeps, Stands, Gains, Sends, Takes, Stops}
+use Rattle.usbgate.specs.Events.{Event, ClientPiece, HostPiece, client_bytes, host_bytes}
+use Rattle.usbgate.specs.Items.{Item, client_side, host_side, client_over, host_over}
+use Rattle.usbgate.specs.History.{history, client_split, host_split, brought}
+use Rattle.usbgate.specs.Stands.{Knows, IsAt, Keeps, Stands, Sends, Takes, Stops}
 use Rattle.usbgate.specs.Steps.{Took, Stopped, refusal_notes}
 use Rattle.usbgate.proofs.Sound.{client_steady, host_steady}
-use Rattle.usbgate.proofs.Moving.{Gains-none, sends-none, sends-item}
+use Rattle.usbgate.proofs.Moving.{Gains-none, sends-none}
 
 client_passes : Passes client_side host_over
 client_passes = record { packet = λ p h. refl; wrong = λ n why h. refl }

@@ -1,5 +1,5 @@
 -- What an event tells is its refusal, and that stands where the splitting has its wrong place.
-use Rattle.std.proofs.Common.{◌≡◌, ℕ, Bool, true, false, cond, List, [], ◌∷◌, ◌++◌, map, Option, Some, None, refl, sym, ap, ◌∙◌}
+use Rattle.std.proofs.Common.{◌≡◌, ℕ, Bool, true, false, cond, List, [], ◌∷◌, ◌++◌, Option, Some, None, refl, sym, ap, ◌∙◌}
 use Rattle.std.proofs.lemmas.List.{append-nil, append_cancel_left}
 use Rattle.usb_base.specs.Split.{Splitting, split}
 use Rattle.usb_base.specs.Items.{Stream, put, packets, wrongs, items}
@@ -14,8 +14,8 @@ use Rattle.usbgate.specs.declared.inner.Inner.{Inner}
 use Rattle.usbgate.specs.declared.note.Note.{Note}
 use Rattle.usbgate.specs.Forms.{client_reader, host_reader}
 use Rattle.usbgate.specs.Events.{Event, ClientPiece, ClientEnd, HostPiece, HostEnd, client_bytes, host_bytes}
-use Rattle.usbgate.specs.Items.{Item, OfClient, OfHost, Asked, Told, ClientLeft, HostLeft, client_over, host_over, client_side, host_side}
-use Rattle.usbgate.specs.History.{history, client_split, host_split, brought, over_of}
+use Rattle.usbgate.specs.Items.{Item, OfClient, OfHost, ClientLeft, HostLeft, client_over, host_over, client_side, host_side}
+use Rattle.usbgate.specs.History.{history, client_split, host_split, brought}
 use Rattle.usbgate.specs.Output.{notes_of, told_notes}
 use Rattle.usbgate.specs.Refusals.{refusal_at, refusals}
 use Rattle.usbgate.specs.Stands.{Stands, Takes}

@@ -4,12 +4,12 @@ use Rattle.std.proofs.lemmas.List.{append-nil, drop_more, take_min}
 use Rattle.usbip_op.specs.declared.packet.IfaceRow.{IfaceRow}
 use Rattle.usbgate.specs.Reply.{rows}
 
-pub length-rows : (n : ℕ) (cs ss ps : List ℕ) → length cs ≡ n → length ss ≡ n → length ps ≡ n → length (rows cs ss ps) ≡ n
-length-rows n [] ss ps a b c = a
-length-rows n (c ∷ cs) [] ps a b c' = absurd (omega arith)
-length-rows n (c ∷ cs) (s ∷ ss) [] a b c' = absurd (omega arith)
-length-rows n (c ∷ cs) (s ∷ ss) (p ∷ ps) a b c' =
-    let h = length-rows (length cs) cs ss ps refl (omega arith) (omega arith) in omega arith
+pub length-rows : (cs ss ps : List ℕ) (n : ℕ) → length cs ≡ n → length ss ≡ n → length ps ≡ n → length (rows cs ss ps) ≡ n
+length-rows [] ss ps n a b c = a
+length-rows (c ∷ cs) [] ps n a b c' = absurd (omega arith)
+length-rows (c ∷ cs) (s ∷ ss) [] n a b c' = absurd (omega arith)
+length-rows (c ∷ cs) (s ∷ ss) (p ∷ ps) n a b c' =
+    let h = length-rows cs ss ps (length cs) refl (omega arith) (omega arith) in omega arith
 
 -- one row, and the rows after it
 pub rows_more : (k : ℕ) (cs ss ps : List ℕ) → k < length cs → k < length ss → k < length ps →
@@ -34,6 +34,6 @@ pub rows_end : (k told count : ℕ) (done : List IfaceRow) (cs ss ps : List ℕ)
     done ++ take (count - k) (rows (drop k cs) (drop k ss) (drop k ps)) ≡ take count (rows cs ss ps) → done ≡ take told (rows cs ss ps)
 rows_end k told count done cs ss ps is past a b c e =
     let none : count - k ≡ 0 = omega arith in
-    let all = length-rows 32 cs ss ps a b c in
+    let all = length-rows cs ss ps 32 a b c in
     sym (append-nil done) ∙ ap (λ (n : ℕ). done ++ take n (rows (drop k cs) (drop k ss) (drop k ps))) (sym none) ∙ e
     ∙ ap (λ (n : ℕ). take n (rows cs ss ps)) (is ∙ ap (min told) (sym all)) ∙ take_min told (rows cs ss ps)

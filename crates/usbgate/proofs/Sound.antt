@@ -1,11 +1,10 @@
 -- The formats of both sides are sound.
-use Rattle.std.proofs.Common.{◌≡◌, ℕ, ◌+◌, ◌^◌, ◌<◌, ◌≤◌, Bool, true, false, List, [], ◌∷◌, ◌++◌, length, take, Some, None, refl, sym, ap, subst, ◌∙◌, append_assoc, arith, lit<}
+use Rattle.std.proofs.Common.{◌≡◌, ℕ, ◌≤◌, true, List, [], ◌++◌, length, take, None, refl, sym, ap, subst, ◌∙◌, arith, lit<}
 use Rattle.std.specs.Prelude.{◌==◌, ◌&&◌}
-use Rattle.std.specs.Int.{w16, w32}
+use Rattle.std.specs.Int.{w16}
 use Rattle.std.proofs.lemmas.Grind.{common_steps}
-use Rattle.usb_base.specs.Number.{be, be_at, AreBytes}
-use Rattle.usb_base.specs.Format.{Check, wrong_at, IsSound, Found, reading}
-use Rattle.usb_base.specs.declared.reason.Reason.{Reason}
+use Rattle.usb_base.specs.Number.{be_at, AreBytes}
+use Rattle.usb_base.specs.Format.{wrong_at, IsSound}
 use Rattle.usb_base.proofs.Numbers.{be_at-append_16}
 use Rattle.usb_base.proofs.Formats.{none_first, none_from}
 use Rattle.usb_base.proofs.Laws.{IsSteady, reads_steady}

@@ -9,9 +9,9 @@ use Rattle.usbgate.specs.Tape.{lines_of, content, says}
 use Rattle.usbgate.specs.Text.{made_text, bad_line}
 use Rattle.usbgate.specs.Play.{Playing, start, tape_limit, line_by, line_of, Played, on_line, play_lines, last_line, replay_text, status_of, replay_status}
 use Rattle.usbgate.specs.Run.{EndsALine, EndsNoLine}
-use Rattle.usbgate.specs.Replays.{IsPlaying, GoesOn}
+use Rattle.usbgate.specs.Replays.{GoesOn}
 use Rattle.usbgate.specs.Players.{with_text, Stage, Spoilt, Took, Finished, Closes, Stepped, AllRead, TookLast, Spoils, TookLine, Kept}
-use Rattle.usbgate.proofs.Lines.{EndsNoLine-append, EndsALine-append, EndsALine-line, lines_of-line, lines_of-last, First, first-part, line_end-some, line_end-none}
+use Rattle.usbgate.proofs.Lines.{EndsNoLine-append, EndsALine-append, EndsALine-line, lines_of-line, lines_of-last, first-part, line_end-some, line_end-none}
 
 -- ---- the tape's lines
 

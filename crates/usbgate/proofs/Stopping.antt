@@ -1,5 +1,5 @@
 -- Where memory ran out, and where a stream is at its end.
-use Rattle.std.proofs.Common.{◌≡◌, ℕ, ◌+◌, ◌-◌, ◌^◌, min, Bool, true, false, List, [], ◌∷◌, ◌++◌, length, take, drop, Some, None, Result, Ok, Err, IfOk, OnErr, refl, sym, ap, subst, ◌∙◌}
+use Rattle.std.proofs.Common.{◌≡◌, ℕ, true, false, List, [], ◌∷◌, Some, None, Result, Ok, Err, IfOk, OnErr, sym, ◌∙◌}
 use Rattle.std.proofs.lemmas.Bool.{true≢false}
 use Rattle.usb_base.specs.Split.{Position, Splitting, split}
 use Rattle.usb_base.specs.Items.{Stream as SideStream, put, packets, items}
@@ -10,7 +10,7 @@ use Rattle.usbgate.specs.declared.inner.Inner.{Inner}
 use Rattle.usbgate.specs.declared.stream.Stream.{Stream}
 use Rattle.usbgate.specs.declared.note.Note.TheVariants.{Refused}
 use Rattle.usbgate.specs.Items.{Item}
-use Rattle.usbgate.specs.Stands.{Knows, IsAt, Keeps, Sends}
+use Rattle.usbgate.specs.Stands.{Knows, IsAt, Sends}
 use Rattle.usbgate.specs.Steps.{Moves, Took, Stopped}
 
 pub on_err : {T E : Type 0} {P : Type 0} (r : Result T E) → P → OnErr r P

@@ -1,6 +1,5 @@
 -- What happens to the gateway, and the bytes of each side so far. Lists of events have the latest first.
 use Rattle.std.specs.Prelude.{ℕ, List, [], ◌∷◌, ◌++◌}
-use Rattle.usb_base.specs.Number.{AreBytes}
 use Rattle.usbgate.specs.declared.event.Event.{Event as RawEvent}
 use Rattle.usbgate.specs.declared.event.Event.TheVariants as raw
 

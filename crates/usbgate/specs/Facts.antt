@@ -1,7 +1,6 @@
 -- What the host has told of its device: of each fact the last, since the device was last lost. It is lost with the
 -- host's end and with the host's wrong place.
 use Rattle.std.specs.Prelude.{ℕ, ◌==◌, if◌then◌else◌, List, [], ◌∷◌, Option, Some, None, unwrap_or}
-use Rattle.redir_wire.specs.declared.packet.Header.{Header}
 use Rattle.redir_wire.specs.declared.packet.RedirControl.{RedirControl}
 use Rattle.redir_wire.specs.declared.packet.RedirControl.TheVariants as control
 use Rattle.redir_wire.specs.declared.packet.Connect.{Connect}

@@ -1,10 +1,10 @@
 -- How the streams of both sides are read: by the formats of their packets. What the gateway has no form for yet is
 -- refused as NotBuilt.
-use Rattle.std.specs.Prelude.{◌≡◌, ℕ, Bool, true, false, ◌==◌, ◌&&◌, List, [], ◌∷◌}
+use Rattle.std.specs.Prelude.{Bool, true, false, ◌==◌, ◌&&◌, [], ◌∷◌}
 use Rattle.std.specs.Int.{w16}
 use Rattle.usb_base.specs.Number.{be_at}
 use Rattle.usb_base.specs.Format.{Check, Format}
-use Rattle.usb_base.specs.Split.{Reader, Position, Splitting, reads}
+use Rattle.usb_base.specs.Split.{Reader, Position, reads}
 use Rattle.usb_base.specs.declared.reason.Reason.{Reason}
 use Rattle.usb_base.specs.declared.reason.Reason.TheVariants.{NotBuilt}
 use Rattle.usbip_op.specs.declared.packet.OpPacket.{OpPacket}

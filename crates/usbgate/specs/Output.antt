@@ -1,14 +1,11 @@
 -- What an item sends and tells, and all that a history has sent and told.
-use Rattle.std.specs.Prelude.{ℕ, List, [], ◌∷◌, ◌++◌, replicate, codes, Option, Some, None}
+use Rattle.std.specs.Prelude.{ℕ, List, [], ◌∷◌, ◌++◌, replicate, codes, None}
 use Rattle.std.specs.List.{flat_map}
 use Rattle.usb_base.specs.declared.side.Side.TheVariants.{Client, Host}
-use Rattle.usb_base.specs.declared.reason.Reason.{Reason}
-use Rattle.usb_base.specs.declared.refusal.Refusal.{Refusal}
 use Rattle.usbip_op.specs.declared.packet.OpPacket.{OpPacket}
 use Rattle.usbip_op.specs.declared.packet.OpPacket.TheVariants.{ReqDevlist, ReqImport, RepDevlist, RepImport}
 use Rattle.usbip_op.specs.Spelling.{spelling}
 use Rattle.redir_wire.specs.declared.packet.Header.{Header}
-use Rattle.redir_wire.specs.declared.packet.Hello.{Hello}
 use Rattle.redir_wire.specs.declared.packet.RedirControl.{RedirControl}
 use Rattle.redir_wire.specs.declared.packet.RedirControl.TheVariants as control
 use Rattle.redir_wire.specs.Spelling.{spelling as redir_spelling}
@@ -16,7 +13,7 @@ use Rattle.usbgate.specs.declared.facts.Facts.{Facts}
 use Rattle.usbgate.specs.declared.note.Note.{Note}
 use Rattle.usbgate.specs.declared.note.Note.TheVariants.{Refused}
 use Rattle.usbgate.specs.declared.note.Counts.{Counts}
-use Rattle.usbgate.specs.Items.{Item, ClientItem, OfClient, OfHost, Asked, ClientWrong, ClientLeft, HostItem, Told, HostWrong, HostLeft}
+use Rattle.usbgate.specs.Items.{Item, OfClient, OfHost, Asked, ClientWrong, ClientLeft, Told, HostWrong, HostLeft}
 use Rattle.usbgate.specs.Facts.{facts_of}
 use Rattle.usbgate.specs.Reply.{list_reply}
 

@@ -1,5 +1,5 @@
 -- What a run has read and written, by how it ends, over a tape and a sink that tell their bytes.
-use Rattle.std.specs.Prelude.{◌≡◌, ◌<◌, ℕ, Bool, true, List, [], ◌∷◌, ◌++◌, map, Option, Some}
+use Rattle.std.specs.Prelude.{◌≡◌, ◌<◌, ℕ, true, List, [], ◌∷◌, ◌++◌, map, Option, Some}
 use Rattle.std.specs.Borrow.{Bor}
 use Rattle.gate_outside.specs.Faults.{Rose}
 use Rattle.usbgate.specs.declared.status.Status.{Status}

@@ -1,12 +1,9 @@
 -- When a gate stands for a list of events, and what one event more makes of it.
-use Rattle.std.specs.Prelude.{◌≡◌, ℕ, Bool, true, false, if◌then◌else◌, List, [], ◌∷◌, ◌++◌, Option, Some, None}
+use Rattle.std.specs.Prelude.{◌≡◌, ℕ, true, false, List, [], ◌∷◌, ◌++◌, None}
 use Rattle.usb_base.specs.Number.{AreBytes}
 use Rattle.usb_base.specs.Split.{Position, Splitting}
-use Rattle.usb_base.specs.Items.{put, items}
+use Rattle.usb_base.specs.Items.{put}
 use Rattle.usb_base.specs.declared.reason.Reason.{Reason}
-use Rattle.usbip_op.specs.declared.packet.OpPacket.{OpPacket}
-use Rattle.redir_wire.specs.declared.packet.Header.{Header}
-use Rattle.redir_wire.specs.declared.packet.RedirControl.{RedirControl}
 use Rattle.usbgate.specs.declared.inner.Inner.{Inner}
 use Rattle.usbgate.specs.declared.stream.Stream.{Stream}
 use Rattle.usbgate.specs.declared.note.Note.{Note}

@@ -1,6 +1,6 @@
 -- What the gate's own steps do: a stream's packets are taken one after another.
-use Rattle.std.specs.Prelude.{◌≡◌, ℕ, Bool, true, false, List, [], ◌∷◌, ◌++◌, Option, Some, None}
-use Rattle.usb_base.specs.Split.{Position, Splitting}
+use Rattle.std.specs.Prelude.{◌≡◌, ℕ, true, false, List, [], ◌∷◌, ◌++◌, Option, Some, None}
+use Rattle.usb_base.specs.Split.{Splitting}
 use Rattle.usb_base.specs.Items.{Stream as SideStream, put, items}
 use Rattle.usb_base.specs.declared.reason.Reason.{Reason}
 use Rattle.usb_base.specs.declared.refusal.Refusal.{Refusal}
@@ -10,7 +10,7 @@ use Rattle.usbgate.specs.declared.note.Note.{Note}
 use Rattle.usbgate.specs.declared.note.Note.TheVariants.{Refused}
 use Rattle.usbgate.specs.Items.{Item}
 use Rattle.usbgate.specs.Output.{out_client, out_host}
-use Rattle.usbgate.specs.Stands.{Knows, IsAt, Keeps, Gains, Sends}
+use Rattle.usbgate.specs.Stands.{Knows, Keeps, Gains, Sends}
 
 abbrev pub refusal_notes : Option Refusal → List Note
 refusal_notes None = []

@@ -1,4 +1,4 @@
-use Rattle.std.proofs.Common.{◌∙◌, ◌≡◌, List, ◌++◌, length, take, drop, ◌-◌, ◌+◌, ap, sym, subst, arith}
+use Rattle.std.proofs.Common.{◌∙◌, List, ◌++◌, length, take, drop, ◌-◌, ◌+◌, ap, arith}
 use Rattle.std.proofs.lemmas.List.{length_push}
 use Rattle.usbip_op.specs.declared.packet.IfaceRow.{IfaceRow}
 use Rattle.usbgate.specs.Reply.{rows}

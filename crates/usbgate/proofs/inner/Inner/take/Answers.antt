@@ -1,4 +1,4 @@
-use Rattle.std.proofs.Common.{sym, ap, subst, ◌∙◌}
+use Rattle.std.proofs.Common.{sym, ap, subst}
 use Rattle.usbgate.specs.Events.{Event, event_of}
 use Rattle.usbgate.specs.Stands.{Takes}
 use Rattle.usbgate.proofs.Stopping.{if_ok}

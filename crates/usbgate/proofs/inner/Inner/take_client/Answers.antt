@@ -1,11 +1,9 @@
-use Rattle.std.proofs.Common.{◌≡◌, ℕ, List, ◌++◌, ap, sym, subst, refl, arith}
+use Rattle.std.proofs.Common.{ℕ, List, sym, subst, arith}
 use Rattle.usb_base.specs.Split.{Position, split}
-use Rattle.usb_base.specs.Number.{AreBytes}
-use Rattle.usbgate.specs.declared.note.Note.{Note}
-use Rattle.usbgate.specs.Events.{Event as PastEvent, ClientPiece}
+use Rattle.usbgate.specs.Events.{ClientPiece}
 use Rattle.usbgate.specs.Forms.{client_reader}
 use Rattle.usbgate.specs.Items.{Item, client_side}
-use Rattle.usbgate.specs.Stands.{Knows, IsAt, Stands, Takes, Stops}
+use Rattle.usbgate.specs.Stands.{Knows, IsAt, Takes}
 use Rattle.usbgate.specs.Steps.{Took, Stopped, refusal_notes}
 use Rattle.usbgate.proofs.Pieces.{client_piece-over, client_piece-going, client_stops, stops-all}
 use Rattle.usbgate.proofs.Stopping.{on_err, if_ok}

@@ -1,11 +1,9 @@
-use Rattle.std.proofs.Common.{◌≡◌, ℕ, List, ◌++◌, ap, sym, subst, refl, arith, Bool}
+use Rattle.std.proofs.Common.{ℕ, List, sym, subst, arith, Bool}
 use Rattle.usb_base.specs.Split.{Position, split}
-use Rattle.usb_base.specs.Number.{AreBytes}
-use Rattle.usbgate.specs.declared.note.Note.{Note}
-use Rattle.usbgate.specs.Events.{Event as PastEvent, HostPiece}
+use Rattle.usbgate.specs.Events.{HostPiece}
 use Rattle.usbgate.specs.Forms.{host_reader}
 use Rattle.usbgate.specs.Items.{Item, host_side}
-use Rattle.usbgate.specs.Stands.{Knows, IsAt, Stands, Takes, Stops}
+use Rattle.usbgate.specs.Stands.{Knows, IsAt, Takes}
 use Rattle.usbgate.specs.Steps.{Took, Stopped, refusal_notes}
 use Rattle.usbgate.proofs.Pieces.{host_piece-over, host_piece-going, host_stops, stops-all}
 use Rattle.usbgate.proofs.Stopping.{on_err, if_ok}

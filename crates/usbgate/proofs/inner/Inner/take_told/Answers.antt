@@ -1,7 +1,7 @@
-use Rattle.std.proofs.Common.{◌≡◌, ◌-◌, ◌+◌, ◌^◌, min, true, false, ◌++◌, ℕ, ◌∙◌, ap, subst, take, drop, arith, refl, sym, length, List, [], ◌∷◌, Some, None, Bool}
+use Rattle.std.proofs.Common.{◌≡◌, ◌-◌, ◌+◌, true, ℕ, ◌∙◌, ap, subst, take, drop, arith, refl, sym, length, List, [], ◌∷◌, Some, None, Bool}
 use Rattle.std.proofs.lemmas.List.{take_rest, drop-drop, length-drop, append-nil}
 use Rattle.usb_base.specs.Format.{Found, Whole, Short, Wrong, reading}
-use Rattle.usb_base.specs.Split.{Position, split}
+use Rattle.usb_base.specs.Split.{split}
 use Rattle.usb_base.specs.declared.side.Side.TheVariants.{Host}
 use Rattle.usb_base.specs.declared.refusal.Refusal.{Refusal}
 use Rattle.usb_base.proofs.Formats.{whole_parts}

@@ -1,7 +1,7 @@
-use Rattle.std.proofs.Common.{◌+◌, List, ℕ, ◌++◌, Option, subst, take}
+use Rattle.std.proofs.Common.{◌+◌, ◌++◌, Option, subst, take}
 use Rattle.std.proofs.lemmas.Result.{IfOk-weaker}
 use Rattle.usbgate.specs.declared.status.Status.{Status}
-use Rattle.usbgate.specs.Players.{Stage, Took}
+use Rattle.usbgate.specs.Players.{Took}
 use Rattle.usbgate.proofs.Stages.{step_within, took-step, took-rest, took-more}
 use Rattle.usbgate.proofs.player.Player.take.Goals as goal
 

@@ -1,4 +1,4 @@
-use Rattle.std.proofs.Common.{◌≡◌, rules, ◌∙◌}
+use Rattle.std.proofs.Common.{rules, ◌∙◌}
 use Rattle.usbgate.proofs.Events.{refused-some, refused-none}
 use Rattle.usbgate.proofs.replay.Replay.see_notes.Goals as goal
 

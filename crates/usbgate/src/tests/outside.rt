@@ -1,0 +1,111 @@
+//! Faults of the outside, the limit of a tape, and words that are no command.
+
+ghost use Rattle.std.specs.Prelude.{◌<◌};
+
+use super::{COUNTS, NO_DEVICE, expect_replay, push, push_made};
+use crate::{Status, run};
+use gate_outside::{NoDoors, TextSink, TextSource};
+use std::process::Abort;
+use std::test::Fail;
+use usb_base::Bytes;
+
+const USAGE: &str = "usage: usbgate COMMAND [options]\n";
+
+/// Runs a replay of one list request, where these calls of the source and the sink fail. Of its text so many
+/// bytes are printed.
+fn expect_fault(
+    rt: &(impl Abort + AllocGlobal),
+    pieces: (usize, usize),
+    room: usize,
+    fails: (&[u64], &[u64]),
+    printed: usize,
+    status: Status,
+) -> Result<(), Fail>
+    requires reads { 0 < pieces.0 }
+    requires writes { 0 < pieces.1 }
+{
+    let mut wanted = Bytes::new(rt.alloc());
+    push_made(&mut wanted)?;
+    push(&mut wanted, NO_DEVICE, 1)?;
+    push(&mut wanted, COUNTS, 1)?;
+    let mut source = TextSource::make(rt.alloc(), b"c 0111800500000000\n", pieces.0, fails.0)?;
+    let mut sink = TextSink::make(rt.alloc(), room, pieces.1, fails.1)?;
+    let ended = run(
+        rt.alloc(),
+        &["replay"],
+        &mut source,
+        &mut sink,
+        &mut NoDoors::new(),
+    );
+    assert_eq!(rt; ended, status);
+    assert!(rt; printed <= wanted.len());
+    assert_eq!(rt; sink.held(), &wanted.as_slice()[..printed]);
+    Ok(())
+}
+
+/// The hello's line has 163 bytes, the answer's 27 and the counts' 39.
+#[test]
+fn faults_of_the_outside(rt: HostRuntime) -> Result<(), Fail> {
+    expect_fault(&rt, (99, 99), 999, (&[0], &[]), 163, Status::ReadFault)?;
+    expect_fault(&rt, (10, 99), 999, (&[1], &[]), 163, Status::ReadFault)?;
+    expect_fault(&rt, (99, 99), 999, (&[1], &[]), 190, Status::ReadFault)?;
+    expect_fault(&rt, (99, 99), 999, (&[], &[0]), 0, Status::WriteFault)?;
+    expect_fault(&rt, (99, 99), 999, (&[], &[1]), 99, Status::WriteFault)?;
+    expect_fault(&rt, (99, 99), 0, (&[], &[]), 0, Status::WriteFault)?;
+    expect_fault(&rt, (99, 99), 170, (&[], &[]), 170, Status::WriteFault)?;
+    expect_fault(&rt, (99, 99), 190, (&[], &[]), 190, Status::WriteFault)?;
+    expect_fault(&rt, (1, 1), 229, (&[], &[]), 229, Status::Done)
+}
+
+#[test]
+fn a_tape_ends_at_its_limit(rt: HostRuntime) -> Result<(), Fail> {
+    let mut line = Bytes::new(rt.alloc());
+    push(&mut line, "#", 65_535)?;
+    push(&mut line, "\n", 1)?;
+    let mut tape = Bytes::new(rt.alloc());
+    for _ in 0..1023 {
+        tape.append(line.as_slice())?;
+    }
+    // The last of 1,024 lines, by its length with its LF.
+    for (length, last, status) in [
+        (65_535, COUNTS, Status::Done),
+        (65_536, COUNTS, Status::Done),
+        (65_537, "bad tape 1024\n", Status::BadTape(1024)),
+        (131_072, "bad tape 1024\n", Status::BadTape(1024)),
+    ] {
+        let before = tape.len();
+        push(&mut tape, "#", length - 1)?;
+        push(&mut tape, "\n", 1)?;
+        let mut wanted = Bytes::new(rt.alloc());
+        push_made(&mut wanted)?;
+        push(&mut wanted, last, 1)?;
+        expect_replay(&rt, tape.as_slice(), 65_536, wanted.as_slice(), status)?;
+        assert!(rt; before <= tape.len());
+        tape.cut(before);
+    }
+    Ok(())
+}
+
+#[test]
+fn words_that_are_no_command(rt: HostRuntime) -> Result<(), Fail> {
+    let table: [&[&str]; 4] = [&[], &["show"], &["replay", "replay"], &["replay "]];
+    for words in table {
+        let mut source = TextSource::make(rt.alloc(), b"x\n", 9, &[0])?;
+        let mut sink = TextSink::make(rt.alloc(), 99, 9, &[])?;
+        let ended = run(
+            rt.alloc(),
+            words,
+            &mut source,
+            &mut sink,
+            &mut NoDoors::new(),
+        );
+        assert_eq!(rt; ended, Status::Usage);
+        assert_eq!(rt; ended.code(), 1);
+        assert_eq!(rt; sink.held(), USAGE.as_bytes());
+    }
+    let mut source = TextSource::make(rt.alloc(), b"", 9, &[])?;
+    let mut sink = TextSink::make(rt.alloc(), 10, 99, &[])?;
+    let ended = run(rt.alloc(), &[], &mut source, &mut sink, &mut NoDoors::new());
+    assert_eq!(rt; ended, Status::WriteFault);
+    Ok(())
+}
