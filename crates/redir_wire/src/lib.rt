@@ -1,6 +1,8 @@
 //! The packets of USB network redirection that a host sends before any transfer, read and written.
 #![tactic(auto)]
 
+mod capability;
+mod kind;
 mod laws;
 mod packet;
 mod read;
@@ -8,9 +10,11 @@ mod read;
 mod tests;
 mod write;
 
+pub use capability::ANNOUNCED;
 pub use laws::{packets_sound, read_again};
 pub use packet::{
-    Connect, EpInfo, Header, Hello, InterfaceInfo, RedirControl, RedirRead, WireError, Words,
+    Connect, EpInfo, Header, Hello, InterfaceInfo, MAX_INTERFACES, RedirControl, RedirRead,
+    WireError, Words,
 };
 pub use read::read_redir;
 pub use write::write_control;

@@ -3,6 +3,9 @@
 
 use usb_base::{List, Reason};
 
+/// How many interfaces an interface_info may have.
+pub const MAX_INTERFACES: u32 = 32;
+
 /// Capability words, bit 0 of the first word being capability 0.
 pub type Words = List<u32>;
 

@@ -7,14 +7,14 @@ ghost use Rattle.redir_wire.specs.Packets.{host_packets, header_at, hello_at, co
 ghost use Rattle.redir_wire.specs.Answers.{Answers, IfRead, HadMemory};
 ghost use Rattle.redir_wire.specs.declared.packet.WireError.TheVariants.{Refused};
 
+use crate::capability::ANNOUNCED;
+use crate::kind::{CONFIGURATION_STATUS, DEVICE_CONNECT, EP_INFO, HELLO, INTERFACE_INFO};
 use crate::packet::{
-    Connect, EpInfo, Header, Hello, InterfaceInfo, RedirControl, RedirRead, WireError, Words,
+    Connect, EpInfo, Header, Hello, InterfaceInfo, MAX_INTERFACES, RedirControl, RedirRead,
+    WireError, Words,
 };
 use std::alloc::Global;
 use usb_base::{Memory, Reason, array_at, le_u16_at, le_u32_at};
-
-/// The capabilities that the gateway announces: 1, 3, 4, 5 and 6.
-const ANNOUNCED: u32 = 0x7A;
 
 /// Reads the packet at the front of what a host sent, where no capability is agreed: the first packet of
 /// its stream, which is a hello, or a later one. A packet is refused as soon as the bytes of what is wrong
@@ -71,11 +71,11 @@ fn read_later(bytes: &[u8]) -> Result<RedirRead, WireError>
     if !is_later_head(kind, length) {
         return Err(refused(0, Reason::NotBuilt));
     }
-    if kind == 4 {
+    if kind == INTERFACE_INFO {
         if bytes.len() < 16 {
             return Ok(RedirRead::Short);
         }
-        if le_u32_at(bytes, 12) > 32 {
+        if le_u32_at(bytes, 12) > MAX_INTERFACES {
             return Err(refused(12, Reason::Count));
         }
     }
@@ -95,13 +95,16 @@ fn refused(place: usize, reason: Reason) -> WireError
 fn is_hello_head(kind: u32, length: u32) -> bool
     ensures { result ≡ is_built true kind length }
 {
-    kind == 0 && length >= 64 && length <= 192 && length % 4 == 0
+    kind == HELLO && length >= 64 && length <= 192 && length % 4 == 0
 }
 
 fn is_later_head(kind: u32, length: u32) -> bool
     ensures { result ≡ is_built false kind length }
 {
-    matches!((kind, length), (1, 8) | (4, 132) | (5, 96) | (8, 2))
+    matches!(
+        (kind, length),
+        (DEVICE_CONNECT, 8) | (INTERFACE_INFO, 132) | (EP_INFO, 96) | (CONFIGURATION_STATUS, 2)
+    )
 }
 
 fn header_at(bytes: &[u8]) -> Header
@@ -143,9 +146,9 @@ fn later_by(kind: u32, bytes: &[u8]) -> RedirControl
     ensures { result ≡ later_by kind bytes.now }
 {
     match kind {
-        1 => RedirControl::Connect(connect_at(bytes)),
-        4 => RedirControl::InterfaceInfo(interface_info_at(bytes)),
-        5 => RedirControl::EpInfo(ep_info_at(bytes)),
+        DEVICE_CONNECT => RedirControl::Connect(connect_at(bytes)),
+        INTERFACE_INFO => RedirControl::InterfaceInfo(interface_info_at(bytes)),
+        EP_INFO => RedirControl::EpInfo(ep_info_at(bytes)),
         _ => RedirControl::ConfigurationStatus {
             status: bytes[12],
             configuration: bytes[13],

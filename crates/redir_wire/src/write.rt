@@ -6,6 +6,7 @@ ghost use Rattle.redir_wire.specs.Spelling.{spelling, header_of, hello as hello_
 ghost use Rattle.redir_wire.specs.Ranges.{Ranges};
 ghost use Rattle.redir_wire.specs.Begins.{Begins};
 
+use crate::kind::{CONFIGURATION_STATUS, DEVICE_CONNECT, EP_INFO, HELLO, INTERFACE_INFO};
 use crate::packet::{Connect, EpInfo, Hello, InterfaceInfo, RedirControl};
 use usb_base::{Bytes, Memory, push_le_u16, push_le_u32};
 
@@ -43,11 +44,11 @@ fn kind_of(packet: &RedirControl) -> u32
     ensures { result ≡ kind_of packet.now }
 {
     match packet {
-        RedirControl::Hello(_) => 0,
-        RedirControl::Connect(_) => 1,
-        RedirControl::InterfaceInfo(_) => 4,
-        RedirControl::EpInfo(_) => 5,
-        RedirControl::ConfigurationStatus { .. } => 8,
+        RedirControl::Hello(_) => HELLO,
+        RedirControl::Connect(_) => DEVICE_CONNECT,
+        RedirControl::InterfaceInfo(_) => INTERFACE_INFO,
+        RedirControl::EpInfo(_) => EP_INFO,
+        RedirControl::ConfigurationStatus { .. } => CONFIGURATION_STATUS,
     }
 }
 

@@ -29,17 +29,17 @@ impl Facts {
     }
 
     /// Takes in what a packet tells.
-    pub fn tell(&mut self, packet: &RedirControl)
-        ensures { self.new ≡ after_told self.old packet.now }
+    pub fn tell(&mut self, packet: RedirControl)
+        ensures { self.new ≡ after_told self.old packet }
     {
         match packet {
-            RedirControl::Connect(connect) => self.connect = Some(*connect),
-            RedirControl::InterfaceInfo(info) => self.interfaces = Some(*info),
+            RedirControl::Connect(connect) => self.connect = Some(connect),
+            RedirControl::InterfaceInfo(info) => self.interfaces = Some(info),
             RedirControl::ConfigurationStatus {
                 status: 0,
                 configuration,
             } => {
-                self.configuration = *configuration;
+                self.configuration = configuration;
             }
             RedirControl::ConfigurationStatus { .. }
             | RedirControl::Hello(_)

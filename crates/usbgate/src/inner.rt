@@ -190,7 +190,7 @@ impl Inner {
                 &self.host.rest.as_slice()[taken..],
             ) {
                 Ok(RedirRead::Whole(_header, packet, len)) => {
-                    self.facts.tell(&packet);
+                    self.facts.tell(packet);
                     taken += len;
                     self.host.state = false;
                     self.host.place = self.host.place.saturating_add(len as u64);

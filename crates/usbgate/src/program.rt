@@ -106,5 +106,6 @@ fn play<S: Source, K: Sink>(
             return status;
         }
     }
+    // It doesn't come here: the limit of a tape ends it long before.
     Status::OutOfMemory
 }

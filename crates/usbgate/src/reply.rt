@@ -8,7 +8,7 @@ ghost use Rattle.usbgate.specs.Reply.{padded, rows as rows_of, interface_rows, d
 ghost use Rattle.usbgate.specs.Output.{answers};
 
 use crate::facts::Facts;
-use redir_wire::{Connect, InterfaceInfo};
+use redir_wire::{Connect, InterfaceInfo, MAX_INTERFACES};
 use std::alloc::Global;
 use usb_base::{Bytes, Memory, Speed};
 use usbip_op::{DeviceRow, IfaceRow, IfaceRows, Listed, ListedRows, OpPacket, write_op};
@@ -29,7 +29,7 @@ fn counted_rows(alloc: Global, info: &InterfaceInfo) -> Result<IfaceRows, Memory
     ensures few { IfOk result (λ rows. length rows ≤ 32) }
 {
     let mut rows = IfaceRows::new(alloc);
-    let count = info.count.min(32) as usize;
+    let count = info.count.min(MAX_INTERFACES) as usize;
     for k in 0..count {
         rows.push(IfaceRow {
             class: info.class[k],

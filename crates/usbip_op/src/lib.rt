@@ -2,6 +2,7 @@
 //! bytes. All numbers are big-endian.
 #![tactic(auto)]
 
+mod code;
 mod packet;
 mod read;
 mod reply;
@@ -9,6 +10,7 @@ mod reply;
 mod tests;
 mod write;
 
+pub use code::{OP_REP_DEVLIST, OP_REP_IMPORT, OP_REQ_DEVLIST, OP_REQ_IMPORT, USBIP_VERSION};
 pub use packet::{
     DeviceRow, IfaceRow, IfaceRows, Listed, ListedRows, OpError, OpPacket, OpRead, OpWay,
 };

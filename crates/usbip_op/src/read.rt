@@ -9,6 +9,7 @@ ghost use Rattle.usbip_op.specs.Replies.{replies, packets_of};
 ghost use Rattle.usbip_op.specs.Answers.{found_of, IsMemory, Tells};
 ghost use Rattle.usbip_op.specs.declared.packet.OpPacket.{OpPacket as Packet};
 
+use crate::code::{OP_REQ_DEVLIST, OP_REQ_IMPORT, USBIP_VERSION};
 use crate::packet::{OpError, OpPacket, OpRead, OpWay};
 use crate::reply::read_reply;
 use std::alloc::Global;
@@ -64,7 +65,7 @@ fn request_at_front(bytes: &[u8]) -> Result<OpRead, OpError>
     if bytes.len() < 2 {
         return Ok(OpRead::Short);
     }
-    if be_u16_at(bytes, 0) != 0x0111 {
+    if be_u16_at(bytes, 0) != USBIP_VERSION {
         return Err(OpError::Refused {
             place: 0,
             reason: Reason::Version,
@@ -74,13 +75,13 @@ fn request_at_front(bytes: &[u8]) -> Result<OpRead, OpError>
         return Ok(OpRead::Short);
     }
     let code = be_u16_at(bytes, 2);
-    if code != 0x8005 && code != 0x8003 {
+    if code != OP_REQ_DEVLIST && code != OP_REQ_IMPORT {
         return Err(OpError::Refused {
             place: 2,
             reason: Reason::OpCode,
         });
     }
-    if code == 0x8005 {
+    if code == OP_REQ_DEVLIST {
         if bytes.len() < 8 {
             return Ok(OpRead::Short);
         }

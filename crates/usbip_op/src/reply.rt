@@ -10,11 +10,18 @@ ghost use Rattle.usbip_op.specs.Replies.{replies};
 ghost use Rattle.usbip_op.specs.Answers.{Tells};
 ghost use Rattle.usbip_op.specs.Counted.{IsCounted};
 
+use crate::code::{OP_REP_DEVLIST, OP_REP_IMPORT, USBIP_VERSION};
 use crate::packet::{
     DeviceRow, IfaceRow, IfaceRows, Listed, ListedRows, OpError, OpPacket, OpRead,
 };
 use std::alloc::Global;
 use usb_base::{List, Memory, Reason, array_at, be_u16_at, be_u32_at};
+
+/// How many devices a list may have.
+const MAX_DEVICES: u32 = 1024;
+
+/// How many bytes a device has, without its interfaces.
+const DEVICE_SIZE: usize = 312;
 
 /// Reads the reply at the front of the bytes.
 pub(crate) fn read_reply(alloc: Global, bytes: &[u8]) -> Result<OpRead, OpError>
@@ -23,7 +30,7 @@ pub(crate) fn read_reply(alloc: Global, bytes: &[u8]) -> Result<OpRead, OpError>
     if bytes.len() < 2 {
         return Ok(OpRead::Short);
     }
-    if be_u16_at(bytes, 0) != 0x0111 {
+    if be_u16_at(bytes, 0) != USBIP_VERSION {
         return Err(OpError::Refused {
             place: 0,
             reason: Reason::Version,
@@ -33,7 +40,7 @@ pub(crate) fn read_reply(alloc: Global, bytes: &[u8]) -> Result<OpRead, OpError>
         return Ok(OpRead::Short);
     }
     let code = be_u16_at(bytes, 2);
-    if code != 0x0005 && code != 0x0003 {
+    if code != OP_REP_DEVLIST && code != OP_REP_IMPORT {
         return Err(OpError::Refused {
             place: 2,
             reason: Reason::OpCode,
@@ -42,7 +49,7 @@ pub(crate) fn read_reply(alloc: Global, bytes: &[u8]) -> Result<OpRead, OpError>
     if bytes.len() < 8 {
         return Ok(OpRead::Short);
     }
-    if code == 0x0003 {
+    if code == OP_REP_IMPORT {
         return Ok(import_reply(bytes));
     }
     list_reply(alloc, bytes)
@@ -56,11 +63,11 @@ fn import_reply(bytes: &[u8]) -> OpRead
 {
     let status = be_u32_at(bytes, 4);
     if status == 0 {
-        if bytes.len() < 320 {
+        if bytes.len() < 8 + DEVICE_SIZE {
             return OpRead::Short;
         }
         let device = Some(device_at(behind(bytes, 8)));
-        return OpRead::Whole(OpPacket::RepImport { status, device }, 320);
+        return OpRead::Whole(OpPacket::RepImport { status, device }, 8 + DEVICE_SIZE);
     }
     let device = None;
     OpRead::Whole(OpPacket::RepImport { status, device }, 8)
@@ -81,7 +88,7 @@ fn list_reply(alloc: Global, bytes: &[u8]) -> Result<OpRead, OpError>
         return Ok(OpRead::Short);
     }
     let count = be_u32_at(bytes, 8);
-    if count > 1024 {
+    if count > MAX_DEVICES {
         return Err(OpError::Refused {
             place: 8,
             reason: Reason::Count,
@@ -108,10 +115,10 @@ fn listed_rows(
     let mut at = 0;
     for _ in 0..count {
         let rest = behind(bytes, at);
-        if rest.len() < 312 {
+        if rest.len() < DEVICE_SIZE {
             return Ok(None);
         }
-        let size = 312 + rest[311] as usize * 4;
+        let size = DEVICE_SIZE + rest[311] as usize * 4;
         if rest.len() < size {
             return Ok(None);
         }
@@ -127,7 +134,7 @@ fn listed_row(alloc: Global, bytes: &[u8]) -> Result<Listed, Memory>
     ensures { IfOk result (λ row. row ≡ listed_at bytes.now) }
 {
     let device = device_at(bytes);
-    let interfaces = interface_rows(alloc, device.interfaces, behind(bytes, 312))?;
+    let interfaces = interface_rows(alloc, device.interfaces, behind(bytes, DEVICE_SIZE))?;
     Ok(Listed { device, interfaces })
 }
 

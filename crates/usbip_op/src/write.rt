@@ -7,6 +7,7 @@ ghost use Rattle.usbip_op.specs.Spelling.{spelling, device_bytes, listed_bytes, 
 ghost use Rattle.usbip_op.specs.Ranges.{IsWritable};
 ghost use Rattle.usbip_op.specs.Begins.{Begins};
 
+use crate::code::{OP_REP_DEVLIST, OP_REP_IMPORT, OP_REQ_DEVLIST, OP_REQ_IMPORT, USBIP_VERSION};
 use crate::packet::{DeviceRow, IfaceRow, Listed, OpPacket};
 use usb_base::{Bytes, Memory, push_be_u16, push_be_u32};
 
@@ -32,14 +33,14 @@ fn push_packet(packet: &OpPacket, out: &mut Bytes) -> Result<(), Memory>
     ensures err { OnErr result (Begins out.old out.new) }
 {
     match packet {
-        OpPacket::ReqDevlist { status } => push_head(0x8005, *status, out),
+        OpPacket::ReqDevlist { status } => push_head(OP_REQ_DEVLIST, *status, out),
         OpPacket::ReqImport { status, busid } => {
-            push_head(0x8003, *status, out)?;
+            push_head(OP_REQ_IMPORT, *status, out)?;
             out.append(busid)?;
             Ok(())
         }
         OpPacket::RepDevlist { status, devices } => {
-            push_head(0x0005, *status, out)?;
+            push_head(OP_REP_DEVLIST, *status, out)?;
             if *status != 0 {
                 return Ok(());
             }
@@ -48,7 +49,7 @@ fn push_packet(packet: &OpPacket, out: &mut Bytes) -> Result<(), Memory>
             Ok(())
         }
         OpPacket::RepImport { status, device } => {
-            push_head(0x0003, *status, out)?;
+            push_head(OP_REP_IMPORT, *status, out)?;
             match device {
                 None => Ok(()),
                 Some(device) => push_device(device, out),
@@ -61,7 +62,7 @@ fn push_head(code: u16, status: u32, out: &mut Bytes) -> Result<(), Memory>
     ensures ok { OnOk result (out.new ≡ out.old ++ head_bytes code status) }
     ensures err { OnErr result (Begins out.old out.new) }
 {
-    push_be_u16(out, 0x0111)?;
+    push_be_u16(out, USBIP_VERSION)?;
     push_be_u16(out, code)?;
     push_be_u32(out, status)?;
     Ok(())

@@ -8,11 +8,11 @@ use Rattle.usbip_op.proofs.reply.listed_rows.Goals as goal
 abbrev IsCut : List ℕ → Type 0
 IsCut xs = length xs < 312 + byte_at 311 xs * 4
 
-pub returns-then-rest-lt312 : goal.returns-then-rest-lt312
-returns-then-rest-lt312 c =
+pub returns-then-rest-lt-DEVICE_SIZE : goal.returns-then-rest-lt-DEVICE_SIZE
+returns-then-rest-lt-DEVICE_SIZE c =
     let b = c.args.bytes.now in
     let l = c.loop in
-    let cut : IsCut c.behind-rest.result.now = omega (arith, c.if-rest-lt312.true) in
+    let cut : IsCut c.behind-rest.result.now = omega (arith, c.if-rest-lt-DEVICE_SIZE.true) in
     short_here listed_form c.args.count l.counter l.at (rows_size listed_form c.args.count b) b c.loop-test.true l.invariant.there (subst IsCut c.behind-rest.ensures cut) l.invariant.size_left
 
 pub returns-then-rest-size : goal.returns-then-rest-size

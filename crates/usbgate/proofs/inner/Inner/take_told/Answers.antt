@@ -39,27 +39,6 @@ pub returns-in-Err-Memory-clause-stopped : goal.returns-in-Err-Memory-clause-sto
 returns-in-Err-Memory-clause-stopped c = λ h at client host knows is.
     stopped-mid host_side c.packets.self client client host h _ (drop c.packets.taken c.packets.self.host.rest) (IsAt c.packets.self.host) (c.packets.invariant.moves h at client host knows is)
 
-pub packets-preserved-in-Ok-Whole : goal.packets-preserved-in-Ok-Whole
-packets-preserved-in-Ok-Whole c =
-    let rest = c.packets.self.host.rest in
-    let first = c.packets.self.host.state in
-    let p : Header × RedirControl = (c.in-Ok-Whole._header, c.in-Ok-Whole.packet) in
-    let read = read_of first c.as_slice.result.now rest c.packets.taken (Whole p c.in-Ok-Whole.len) c.as_slice.ensures (rw c.in-Ok-Whole.field-0-is at c.in-Ok-Whole.ensures.exact) in
-    record {
-      going = c.packets.invariant.going;
-      client = c.packets.invariant.client;
-      rest = c.packets.invariant.rest;
-      within = (let w = whole_parts (host_packets first) (drop c.packets.taken rest) p c.in-Ok-Whole.len read in omega (arith, w.1, w.2, length-drop c.packets.taken rest));
-      moves = λ h at client host knows is.
-          mid-whole host_side host_steady h _ (drop c.packets.taken rest) _ (IsAt c.packets.self.host) _ (Moves c.packets.self client client host host h) _ p c.in-Ok-Whole.len
-          (c.packets.invariant.moves h at client host knows is)
-          (λ a here. ap (λ (f : Bool). reading (host_packets f) (drop c.packets.taken rest)) (sym here.state) ∙ read)
-          (λ k m. sym m.knows.host ∙ c.packets.invariant.going)
-          (λ k m. moves-told c.packets.self _ client client host h k p m c.tell.ensures refl refl refl)
-          (λ a here. record { place = capped-past c.packets.self.host.place a.place c.in-Ok-Whole.len _ here.place c.saturating_add-self.ensures; state = refl })
-          (sym (drop-drop c.in-Ok-Whole.len c.packets.taken rest));
-    }
-
 pub packets-preserved : goal.packets-preserved
 packets-preserved c =
     let rest = c.packets.self.host.rest in
