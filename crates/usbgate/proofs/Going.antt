@@ -12,7 +12,7 @@ use Rattle.usbgate.specs.declared.status.Status.TheVariants.{Done, Usage, Refuse
 use Rattle.usbgate.specs.History.{history}
 use Rattle.usbgate.specs.Tape.{lines_of}
 use Rattle.usbgate.specs.Text.{made_text, usage_line}
-use Rattle.usbgate.specs.Play.{start, Played as Playback, play_lines, has_refusal, replay_text, replay_status, is_replay, play, outcome}
+use Rattle.usbgate.specs.Play.{start, tape_limit, Played as Playback, play_lines, has_refusal, replay_text, replay_status, is_replay, play, outcome}
 use Rattle.usbgate.specs.Run.{WrittenInPart, Played, Ends, Ran, HasCauses}
 use Rattle.usbgate.specs.Players.{Stage, Closes}
 use Rattle.usbgate.proofs.Stages.{text_begins}
@@ -69,6 +69,7 @@ goes-written left_old left held_old held new p text none g is a e = record {
     read-is = g.stage.read-is;
     whole_lines = g.stage.whole_lines;
     part_of_line = g.stage.part_of_line;
+    within = g.stage.within;
     text-is = ap (λ (l : List ℕ). (g.written ++ p.text) ++ l) e ∙ append-nil (g.written ++ p.text) ∙ g.stage.text-is;
     plays = g.stage.plays;
     playing = g.stage.playing;
@@ -123,10 +124,10 @@ pub ran-read : (left_old left new held_old held : Option (List ℕ)) (p : Player
 ran-read left_old left new held_old held p g none kept words is = λ tape text tape_told text_told.
     let t = left_told left_old new g.read tape (Consumes-kept left_old left new g.read g.consumed kept) tape_told in
     let s = g.stage in
-    let plays : (play_lines start (lines_of s.whole)).text ≡ s.text =
-    ap (λ (l : List ℕ). (play_lines start (lines_of l)).text) (sym (append-nil s.whole)) ∙ ap (λ (x : Playback). x.text) (s.plays []) ∙ append-nil s.text in
+    let plays : play_lines start (lines_of s.whole) ≡ record { text = s.text; after = s.at; bad = false } =
+    ap (λ (l : List ℕ). play_lines start (lines_of l)) (sym (append-nil s.whole)) ∙ s.plays [] ∙ ap (λ (l : List ℕ). record { text = l; after = s.at; bad = false }) (append-nil s.text) in
     let written : g.written ≡ made_text ++ (play_lines start (lines_of s.whole)).text =
-    sym (append-nil g.written) ∙ ap (λ (l : List ℕ). g.written ++ l) (sym none) ∙ s.text-is ∙ ap (λ (l : List ℕ). made_text ++ l) (sym plays) in (
+    sym (append-nil g.written) ∙ ap (λ (l : List ℕ). g.written ++ l) (sym none) ∙ s.text-is ∙ ap (λ (x : Playback). made_text ++ x.text) (sym plays) in (
       is,
       record {
         whole = s.whole;
@@ -135,6 +136,8 @@ ran-read left_old left new held_old held p g none kept words is = λ tape text t
         tape-is = t.2 ∙ ap (λ (l : List ℕ). l ++ t.0) s.read-is;
         whole_lines = s.whole_lines;
         part_of_line = s.part_of_line;
+        good = ap (λ (x : Playback). x.bad) plays;
+        within = subst (λ (x : Playback). x.after.used + length p.pending ≤ tape_limit) (sym plays) s.within;
         left-is = t.1;
         held-is = held_told held_old held g.written text g.wrote text_told
             ∙ ap (λ (l : List ℕ). Some l) (ap (λ (l : List ℕ). text ++ l) written ∙ sym (append_assoc text made_text (play_lines start (lines_of s.whole)).text));

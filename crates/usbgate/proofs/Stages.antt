@@ -69,6 +69,7 @@ stage-good {old = old} {read = read} {written = written} new piece front s (Some
       ∙ ap (λ (l : List ℕ). (s.whole ++ (old.pending ++ piece)) ++ l) (sym cleared);
   whole_lines = subst (λ (l : List ℕ). EndsALine (s.whole ++ l)) (sym line) (EndsALine-append s.whole front s.whole_lines (EndsALine-line front));
   part_of_line = subst EndsNoLine (sym cleared) tt;
+  within = omega (arith, h.1.used, ap (λ (l : List ℕ). length l) cleared);
   text-is = ap (λ (l : List ℕ). written ++ l) h.0 ∙ sym (append_assoc written old.text x.0) ∙ ap (λ (l : List ℕ). l ++ x.0) s.text-is ∙ append_assoc made_text s.text x.0;
   plays = λ later. ap (λ (l : List ℕ). play_lines start (lines_of l)) (append_assoc s.whole (old.pending ++ piece) later) ∙ s.plays ((old.pending ++ piece) ++ later)
       ∙ ap (λ (ls : List (List ℕ)). with_text s.text (play_lines s.at ls)) (whole_line (old.pending ++ piece) front later line part)
@@ -103,13 +104,14 @@ kept-spoilt new status piece s (b ∷ bs) is none past h =
 
 pub took-kept : {old : Player} {read written : List ℕ} (new : Player) (status : Option Status) (piece : List ℕ) (s : Stage old read written) → EndsNoLine piece
     → Kept status s.at (old.pending ++ piece) old new → Took status new (read ++ piece) written
-took-kept {old = old} {read = read} {written = written} new None piece s part h = subst (λ (p : Player). Stage p (read ++ piece) written) (sym h) (record {
+took-kept {old = old} {read = read} {written = written} new None piece s part h = subst (λ (p : Player). Stage p (read ++ piece) written) (sym h.0) (record {
   whole = s.whole;
   text = s.text;
   at = s.at;
   read-is = ap (λ (l : List ℕ). l ++ piece) s.read-is ∙ append_assoc s.whole old.pending piece;
   whole_lines = s.whole_lines;
   part_of_line = EndsNoLine-append old.pending piece s.part_of_line part;
+  within = h.1;
   text-is = s.text-is;
   plays = s.plays;
   playing = s.playing;

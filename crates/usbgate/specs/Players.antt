@@ -1,5 +1,5 @@
 -- Where a player stands in a tape, of which a part has been read, and a part of whose text has been written.
-use Rattle.std.specs.Prelude.{◌≡◌, ℕ, ◌+◌, ◌<◌, false, List, [], ◌++◌, length, Option, Some, None}
+use Rattle.std.specs.Prelude.{◌≡◌, ℕ, ◌+◌, ◌<◌, ◌≤◌, false, List, [], ◌++◌, length, Option, Some, None}
 use Rattle.usbgate.specs.declared.player.Player.{Player}
 use Rattle.usbgate.specs.declared.status.Status.{Status}
 use Rattle.usbgate.specs.declared.status.Status.TheVariants.{BadTape}
@@ -12,8 +12,8 @@ use Rattle.usbgate.specs.Replays.{IsPlaying, GoesOn}
 abbrev pub with_text : List ℕ → Played → Played
 with_text text x = record x { text = text ++ x.text }
 
--- Whole lines were read, which are good, and a part of the next one. However the tape goes on, its text begins with
--- theirs.
+-- Whole lines were read, which are good, and a part of the next one, which doesn't pass the limit. However the tape
+-- goes on, its text begins with theirs.
 pub record Stage (p : Player) (read written : List ℕ) : Type 0 where
   pub whole : List ℕ
   pub text : List ℕ
@@ -21,6 +21,7 @@ pub record Stage (p : Player) (read written : List ℕ) : Type 0 where
   pub read-is : read ≡ whole ++ p.pending
   pub whole_lines : EndsALine whole
   pub part_of_line : EndsNoLine p.pending
+  pub within : at.used + length p.pending ≤ tape_limit
   pub text-is : written ++ p.text ≡ made_text ++ text
   pub plays : (later : List ℕ) → play_lines start (lines_of (whole ++ later)) ≡ with_text text (play_lines at (lines_of later))
   pub playing : IsPlaying p.replay at
@@ -76,5 +77,5 @@ TookLine (Some status) s line old new = (line_of s line ≡ None) × Spoils stat
 
 -- a part of a line is kept, unless the line passes the limit
 abbrev pub Kept : Option Status → Playing → List ℕ → Player → Player → Type 0
-Kept None s part old new = new ≡ record old { pending = part }
+Kept None s part old new = (new ≡ record old { pending = part }) × (s.used + length part ≤ tape_limit)
 Kept (Some status) s part old new = (tape_limit < s.used + length part) × Spoils status s old.text new.text

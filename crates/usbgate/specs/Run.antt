@@ -1,12 +1,12 @@
 -- What a run has read and written, by how it ends, over a tape and a sink that tell their bytes.
-use Rattle.std.specs.Prelude.{◌≡◌, ◌<◌, ℕ, true, List, [], ◌∷◌, ◌++◌, map, Option, Some}
+use Rattle.std.specs.Prelude.{◌≡◌, ◌<◌, ◌≤◌, ℕ, ◌+◌, true, false, List, [], ◌∷◌, ◌++◌, length, map, Option, Some}
 use Rattle.std.specs.Borrow.{Bor}
 use Rattle.gate_outside.specs.Faults.{Rose}
 use Rattle.usbgate.specs.declared.status.Status.{Status}
 use Rattle.usbgate.specs.declared.status.Status.TheVariants.{Done, Usage, Refused, ReadFault, WriteFault, LinkFault, OutOfMemory, BadTape, Idle, Spent}
 use Rattle.usbgate.specs.Tape.{lines_of}
 use Rattle.usbgate.specs.Text.{made_text}
-use Rattle.usbgate.specs.Play.{start, play_lines, is_replay, play, outcome}
+use Rattle.usbgate.specs.Play.{start, tape_limit, play_lines, is_replay, play, outcome}
 
 -- it is empty, or its last byte is an LF
 abbrev pub EndsALine : List ℕ → Type 0
@@ -19,8 +19,8 @@ abbrev pub EndsNoLine : List ℕ → Type 0
 EndsNoLine [] = Unit {0}
 EndsNoLine (b ∷ bs) = (b ≡ 10 → ⊥) × EndsNoLine bs
 
--- Whole lines of the tape and a part of the next one were read, and the rest was not. The text of those lines is
--- written, and no last line.
+-- Whole lines of the tape and a part of the next one were read, and the rest was not. None of those lines is bad, and
+-- the part doesn't pass the tape's limit. The text of the lines is written, and no last line.
 pub record ReadInPart (tape text : List ℕ) (left held : Option (List ℕ)) : Type 0 where
   pub whole : List ℕ
   pub part : List ℕ
@@ -28,6 +28,8 @@ pub record ReadInPart (tape text : List ℕ) (left held : Option (List ℕ)) : T
   pub tape-is : tape ≡ whole ++ part ++ rest
   pub whole_lines : EndsALine whole
   pub part_of_line : EndsNoLine part
+  pub good : (play_lines start (lines_of whole)).bad ≡ false
+  pub within : (play_lines start (lines_of whole)).after.used + length part ≤ tape_limit
   pub left-is : left ≡ Some rest
   pub held-is : held ≡ Some (text ++ made_text ++ (play_lines start (lines_of whole)).text)
 
