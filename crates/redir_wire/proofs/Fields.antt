@@ -6,9 +6,9 @@ use Rattle.std.specs.Int.Bits.{bit_and}
 use Rattle.std.proofs.lemmas.Grind.{common_steps}
 use Rattle.std.proofs.Math.Seq.{drop-cons}
 use Rattle.usb_base.specs.Number.{le, le_at, byte_at, part, AreBytes}
-use Rattle.usb_base.specs.Format.{wrong_at}
+use Rattle.packet_stream.specs.Format.{wrong_at}
 use Rattle.usb_base.proofs.Numbers.{AreBytes-drop, length-part, then, join, le_spelled_16, le_spelled_32, le_at-below_16, le_at-below_32}
-use Rattle.usb_base.proofs.Formats.{none_first, none_later}
+use Rattle.packet_stream.proofs.Formats.{none_first, none_later}
 use Rattle.redir_wire.specs.declared.packet.RedirControl.{RedirControl}
 use Rattle.redir_wire.specs.declared.packet.RedirControl.TheVariants as controls
 use Rattle.redir_wire.specs.Words.{words_of}

@@ -3,9 +3,9 @@ use Rattle.std.proofs.Common.{◌≡◌, ℕ, ◌+◌, ◌≤◌, ◌<◌, Bool,
 use Rattle.std.specs.Int.{w32}
 use Rattle.std.proofs.lemmas.Grind.{common_steps}
 use Rattle.usb_base.specs.Number.{AreBytes, le_at}
-use Rattle.usb_base.specs.Format.{IsSound, Stands, reading, wrong_at}
+use Rattle.packet_stream.specs.Format.{IsSound, Stands, reading, wrong_at}
 use Rattle.usb_base.proofs.Numbers.{le_at-append_32}
-use Rattle.usb_base.proofs.Formats.{stands, none_from}
+use Rattle.packet_stream.proofs.Formats.{stands, none_from}
 use Rattle.redir_wire.specs.declared.packet.Header.{Header}
 use Rattle.redir_wire.specs.declared.packet.RedirControl.{RedirControl}
 use Rattle.redir_wire.specs.declared.packet.RedirRead.{RedirRead}

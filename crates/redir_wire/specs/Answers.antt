@@ -1,7 +1,7 @@
 -- What a reader's answer says of what stands at the front of bytes.
 use Rattle.std.specs.Prelude.{◌≡◌, ◌++◌, ℕ, Bool, List, length, Result, Ok, Err}
 use Rattle.usb_base.specs.declared.reason.Reason.{Reason}
-use Rattle.usb_base.specs.Format.{Found, Whole, Short, Wrong, IsSound, reading}
+use Rattle.packet_stream.specs.Format.{Found, Whole, Short, Wrong, IsSound, reading}
 use Rattle.redir_wire.specs.declared.packet.Header.{Header}
 use Rattle.redir_wire.specs.declared.packet.RedirControl.{RedirControl}
 use Rattle.redir_wire.specs.declared.packet.RedirRead.{RedirRead}

@@ -5,7 +5,7 @@ use Rattle.std.specs.Int.Bits.{bit_and}
 use Rattle.usb_base.specs.declared.reason.Reason.{Reason}
 use Rattle.usb_base.specs.declared.reason.Reason.TheVariants.{NotBuilt, Count}
 use Rattle.usb_base.specs.Number.{le_at, byte_at, part}
-use Rattle.usb_base.specs.Format.{Check, Format}
+use Rattle.packet_stream.specs.Format.{Check, Format}
 use Rattle.redir_wire.specs.declared.packet.Hello.{Hello}
 use Rattle.redir_wire.specs.declared.packet.Connect.{Connect}
 use Rattle.redir_wire.specs.declared.packet.InterfaceInfo.{InterfaceInfo}

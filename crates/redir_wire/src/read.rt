@@ -1,7 +1,7 @@
 //! Reads the packets of a usbredir host.
 
 ghost use Rattle.std.specs.Prelude.{◌≡◌, ◌+◌, ◌*◌, ◌≤◌, length, drop, true, false, IfOk};
-ghost use Rattle.usb_base.specs.Format.{Stands, reading};
+ghost use Rattle.packet_stream.specs.Format.{Stands, reading};
 ghost use Rattle.redir_wire.specs.Words.{words_of};
 ghost use Rattle.redir_wire.specs.Packets.{host_packets, header_at, hello_at, connect_at, interface_info_at, ep_info_at, later_by, later_length, is_built};
 ghost use Rattle.redir_wire.specs.Answers.{Answers, IfRead, HadMemory};

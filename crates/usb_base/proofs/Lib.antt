@@ -1,5 +1,2 @@
 pub mod Numbers
-pub mod Formats
-pub mod Laws
-pub mod Splits
-pub mod Taking
+pub mod Setups

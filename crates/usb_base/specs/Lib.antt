@@ -1,7 +1,7 @@
 pub mod Number
-pub mod Format
-pub mod Split
-pub mod Items
 pub mod Reason
 pub mod Refusal
 pub mod Speed
+pub mod Setup
+pub mod Endpoint
+pub mod Status

@@ -1,7 +1,7 @@
 -- The numbers and names of the reasons for a refusal.
 use Rattle.std.specs.Prelude.{ℕ, List, codes}
 use Rattle.usb_base.specs.declared.reason.Reason.{Reason}
-use Rattle.usb_base.specs.declared.reason.Reason.TheVariants.{Version, OpCode, Command, Device, Direction, Endpoint, TooLong, Packets, NotImported, AlreadyImported, DuplicateSeq, NotBuilt, HelloFirst, UnknownType, NotAgreed, WrongWay, BadLength, Count, TooLong26, DataLength, Mismatch, IdsSpent, Stray, Length}
+use Rattle.usb_base.specs.declared.reason.Reason.TheVariants.{Version, OpCode, Command, Device, Direction, Endpoint, TooLong, Packets, NotImported, AlreadyImported, DuplicateSeq, NotBuilt, HelloFirst, UnknownType, NotAgreed, WrongWay, BadLength, Count, TooLong26, DataLength, Mismatch, Stray, Length}
 
 abbrev pub number_of : Reason → ℕ
 number_of Version = 1
@@ -25,7 +25,6 @@ number_of Count = 25
 number_of TooLong26 = 26
 number_of DataLength = 27
 number_of Mismatch = 28
-number_of IdsSpent = 29
 number_of Stray = 40
 number_of Length = 41
 
@@ -51,6 +50,5 @@ name_of Count = codes "Count"
 name_of TooLong26 = codes "TooLong26"
 name_of DataLength = codes "DataLength"
 name_of Mismatch = codes "Mismatch"
-name_of IdsSpent = codes "IdsSpent"
 name_of Stray = codes "Stray"
 name_of Length = codes "Length"

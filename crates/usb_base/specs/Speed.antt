@@ -6,6 +6,13 @@ use Rattle.usb_base.specs.declared.speed.Speed.TheVariants.{Unknown, Low, Full, 
 abbrev pub speed_of : ℕ → Speed
 speed_of byte = if byte == 0 then Low else if byte == 1 then Full else if byte == 2 then High else if byte == 3 then Super else Unknown
 
+abbrev pub redir_speed : Speed → ℕ
+redir_speed Unknown = 255
+redir_speed Low = 0
+redir_speed Full = 1
+redir_speed High = 2
+redir_speed Super = 3
+
 abbrev pub usbip_speed : Speed → ℕ
 usbip_speed Unknown = 0
 usbip_speed Low = 1

@@ -1,14 +1,20 @@
-//! What every crate of the gateway speaks of: lists of bytes, the two sides, and refusals with their reasons.
+//! What every crate of the gateway speaks of: lists of bytes, the two sides, refusals with their reasons, and
+//! USB's own words: setups, endpoints, statuses and transfers.
 #![tactic(auto)]
 
+mod endpoint;
 mod list;
 mod memory;
 mod number;
 mod reason;
 mod refusal;
+mod setup;
 mod side;
 mod speed;
+mod status;
+mod transfer;
 
+pub use endpoint::{EpAddr, EpKind, EpRow, EpTable};
 pub use list::{Bytes, List};
 pub use memory::Memory;
 pub use number::{
@@ -17,8 +23,11 @@ pub use number::{
 };
 pub use reason::Reason;
 pub use refusal::Refusal;
+pub use setup::{Setup, setups_spell_again};
 pub use side::Side;
 pub use speed::Speed;
+pub use status::{UsbStatus, status_bytes_again};
+pub use transfer::{Outcome, StreamPacket, Transfer};
 
 #[cfg(test)]
 mod tests;

@@ -49,8 +49,6 @@ pub enum Reason {
     DataLength,
     /// An answer isn't that of its request.
     Mismatch,
-    /// No id is left.
-    IdsSpent,
     /// An answer has the number of no request.
     Stray,
     /// An answer is longer than its request asked for.
@@ -84,7 +82,6 @@ impl Reason {
             Reason::TooLong26 => 26,
             Reason::DataLength => 27,
             Reason::Mismatch => 28,
-            Reason::IdsSpent => 29,
             Reason::Stray => 40,
             Reason::Length => 41,
         }
@@ -116,7 +113,6 @@ impl Reason {
             Reason::TooLong26 => "TooLong26",
             Reason::DataLength => "DataLength",
             Reason::Mismatch => "Mismatch",
-            Reason::IdsSpent => "IdsSpent",
             Reason::Stray => "Stray",
             Reason::Length => "Length",
         }

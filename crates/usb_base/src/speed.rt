@@ -1,7 +1,7 @@
 //! Speeds of a device.
 
 ghost use Rattle.std.specs.Prelude.{◌≡◌};
-ghost use Rattle.usb_base.specs.Speed.{speed_of, usbip_speed};
+ghost use Rattle.usb_base.specs.Speed.{speed_of, redir_speed, usbip_speed};
 
 /// How fast a device is.
 #[derive(Clone, Copy, Debug, PartialEq, Eq)]
@@ -24,6 +24,19 @@ impl Speed {
             2 => Speed::High,
             3 => Speed::Super,
             _ => Speed::Unknown,
+        }
+    }
+
+    /// The byte that a usbredir device_connect has for it.
+    pub fn to_redir(self) -> u8
+        ensures { result ≡ redir_speed self }
+    {
+        match self {
+            Speed::Unknown => 255,
+            Speed::Low => 0,
+            Speed::Full => 1,
+            Speed::High => 2,
+            Speed::Super => 3,
         }
     }
 

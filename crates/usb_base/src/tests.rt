@@ -85,9 +85,9 @@ fn refusal_lines(rt: HostRuntime) -> Result<(), Fail> {
         (
             Side::Host,
             u64::MAX,
-            Reason::IdsSpent,
+            Reason::DataLength,
             None,
-            "! host 18446744073709551615 29 IdsSpent\n",
+            "! host 18446744073709551615 27 DataLength\n",
         ),
     ];
     for (side, place, reason, kept, wanted) in table {

@@ -2,7 +2,7 @@
 use Rattle.std.proofs.Common.{◌≡◌, Bool, true, false, [], None, refl, sym, ap, ◌∙◌, arith}
 use Rattle.std.proofs.lemmas.Bool.{true≢false}
 use Rattle.usb_base.specs.Number.{be_at, le_at}
-use Rattle.usb_base.specs.Split.{Splitting, split}
+use Rattle.packet_stream.specs.Split.{Splitting, split}
 use Rattle.usb_base.specs.declared.reason.Reason.{Reason}
 use Rattle.usbgate.specs.declared.inner.Inner.{Inner}
 use Rattle.usbgate.specs.declared.stream.Stream.{Stream}

@@ -3,11 +3,11 @@ use Rattle.std.proofs.Common.{◌≡◌, ℕ, Bool, true, false, List, [], ◌�
 use Rattle.std.proofs.lemmas.Bool.{true≢false}
 use Rattle.std.proofs.lemmas.List.{append-nil}
 use Rattle.usb_base.specs.Number.{AreBytes}
-use Rattle.usb_base.specs.Split.{Position, split}
-use Rattle.usb_base.specs.Items.{put, items}
+use Rattle.packet_stream.specs.Split.{Position, split}
+use Rattle.packet_stream.specs.Items.{put, items}
 use Rattle.usb_base.specs.declared.refusal.Refusal.{Refusal}
 use Rattle.usb_base.proofs.Numbers.{AreBytes-append}
-use Rattle.usb_base.proofs.Taking.{Passes, put-over, passes-items, split-piece, added-is}
+use Rattle.packet_stream.proofs.Taking.{Passes, put-over, passes-items, split-piece, added-is}
 use Rattle.usbgate.specs.declared.inner.Inner.{Inner}
 use Rattle.usbgate.specs.declared.stream.Stream.{Stream}
 use Rattle.usbgate.specs.declared.note.Note.{Note}

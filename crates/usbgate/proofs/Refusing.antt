@@ -1,12 +1,12 @@
 -- What an event tells is its refusal, and that stands where the splitting has its wrong place.
 use Rattle.std.proofs.Common.{◌≡◌, ℕ, Bool, true, false, cond, List, [], ◌∷◌, ◌++◌, Option, Some, None, refl, sym, ap, ◌∙◌}
 use Rattle.std.proofs.lemmas.List.{append-nil, append_cancel_left}
-use Rattle.usb_base.specs.Split.{Splitting, split}
-use Rattle.usb_base.specs.Items.{Stream, put, packets, wrongs, items}
+use Rattle.packet_stream.specs.Split.{Splitting, split}
+use Rattle.packet_stream.specs.Items.{Stream, put, packets, wrongs, items}
 use Rattle.usb_base.specs.declared.reason.Reason.{Reason}
 use Rattle.usb_base.specs.declared.side.Side.{Side}
 use Rattle.usb_base.specs.declared.side.Side.TheVariants.{Client, Host}
-use Rattle.usb_base.proofs.Taking.{put-over, put-append, split-piece, added-is}
+use Rattle.packet_stream.proofs.Taking.{put-over, put-append, split-piece, added-is}
 use Rattle.usbip_op.specs.declared.packet.OpPacket.{OpPacket}
 use Rattle.redir_wire.specs.declared.packet.Header.{Header}
 use Rattle.redir_wire.specs.declared.packet.RedirControl.{RedirControl}

@@ -4,10 +4,10 @@ use Rattle.std.specs.Prelude.{◌==◌, ◌&&◌}
 use Rattle.std.specs.Int.{w16}
 use Rattle.std.proofs.lemmas.Grind.{common_steps}
 use Rattle.usb_base.specs.Number.{be_at, AreBytes}
-use Rattle.usb_base.specs.Format.{wrong_at, IsSound}
+use Rattle.packet_stream.specs.Format.{wrong_at, IsSound}
 use Rattle.usb_base.proofs.Numbers.{be_at-append_16}
-use Rattle.usb_base.proofs.Formats.{none_first, none_from}
-use Rattle.usb_base.proofs.Laws.{IsSteady, reads_steady}
+use Rattle.packet_stream.proofs.Formats.{none_first, none_from}
+use Rattle.packet_stream.proofs.Laws.{IsSteady, reads_steady}
 use Rattle.usbip_op.specs.declared.packet.OpPacket.{OpPacket}
 use Rattle.usbip_op.specs.declared.packet.OpPacket.TheVariants.{ReqDevlist, ReqImport, RepDevlist, RepImport}
 use Rattle.usbip_op.specs.Spelling.{spelling}

@@ -1,11 +1,11 @@
 -- Where memory ran out, and where a stream is at its end.
 use Rattle.std.proofs.Common.{◌≡◌, ℕ, true, false, List, [], ◌∷◌, Some, None, Result, Ok, Err, IfOk, OnErr, sym, ◌∙◌}
 use Rattle.std.proofs.lemmas.Bool.{true≢false}
-use Rattle.usb_base.specs.Split.{Position, Splitting, split}
-use Rattle.usb_base.specs.Items.{Stream as SideStream, put, packets, items}
+use Rattle.packet_stream.specs.Split.{Position, Splitting, split}
+use Rattle.packet_stream.specs.Items.{Stream as SideStream, put, packets, items}
 use Rattle.usb_base.specs.declared.reason.Reason.{Reason}
 use Rattle.usb_base.specs.declared.refusal.Refusal.{Refusal}
-use Rattle.usb_base.proofs.Taking.{Mid, mid-front, Rests}
+use Rattle.packet_stream.proofs.Taking.{Mid, mid-front, Rests}
 use Rattle.usbgate.specs.declared.inner.Inner.{Inner}
 use Rattle.usbgate.specs.declared.stream.Stream.{Stream}
 use Rattle.usbgate.specs.declared.note.Note.TheVariants.{Refused}

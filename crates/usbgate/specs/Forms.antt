@@ -3,8 +3,8 @@
 use Rattle.std.specs.Prelude.{Bool, true, false, ◌==◌, ◌&&◌, [], ◌∷◌}
 use Rattle.std.specs.Int.{w16}
 use Rattle.usb_base.specs.Number.{be_at}
-use Rattle.usb_base.specs.Format.{Check, Format}
-use Rattle.usb_base.specs.Split.{Reader, Position, reads}
+use Rattle.packet_stream.specs.Format.{Check, Format}
+use Rattle.packet_stream.specs.Split.{Reader, Position, reads}
 use Rattle.usb_base.specs.declared.reason.Reason.{Reason}
 use Rattle.usb_base.specs.declared.reason.Reason.TheVariants.{NotBuilt}
 use Rattle.usbip_op.specs.declared.packet.OpPacket.{OpPacket}

@@ -1,8 +1,8 @@
 -- The history of a list of events: the items in the order in which packets become whole, the latest first. What a
 -- side brings after it is over is left out.
 use Rattle.std.specs.Prelude.{ℕ, ◌+◌, Bool, if◌then◌else◌, List, [], ◌∷◌, length}
-use Rattle.usb_base.specs.Split.{Splitting, split}
-use Rattle.usb_base.specs.Items.{put, added}
+use Rattle.packet_stream.specs.Split.{Splitting, split}
+use Rattle.packet_stream.specs.Items.{put, added}
 use Rattle.usb_base.specs.declared.reason.Reason.{Reason}
 use Rattle.usbip_op.specs.declared.packet.OpPacket.{OpPacket}
 use Rattle.redir_wire.specs.declared.packet.Header.{Header}

@@ -1,7 +1,7 @@
 -- The items of a history: a packet that has become whole, a wrong place, or the end of a side. Lists of items have
 -- the latest first.
 use Rattle.std.specs.Prelude.{ℕ, ◌-◌, ◌^◌, min, Bool, true, false, List, [], ◌∷◌}
-use Rattle.usb_base.specs.Items.{Stream}
+use Rattle.packet_stream.specs.Items.{Stream}
 use Rattle.usb_base.specs.declared.reason.Reason.{Reason}
 use Rattle.usbip_op.specs.declared.packet.OpPacket.{OpPacket}
 use Rattle.redir_wire.specs.declared.packet.Header.{Header}

@@ -1,8 +1,8 @@
 -- When a gate stands for a list of events, and what one event more makes of it.
 use Rattle.std.specs.Prelude.{◌≡◌, ℕ, true, false, List, [], ◌∷◌, ◌++◌, None}
 use Rattle.usb_base.specs.Number.{AreBytes}
-use Rattle.usb_base.specs.Split.{Position, Splitting}
-use Rattle.usb_base.specs.Items.{put}
+use Rattle.packet_stream.specs.Split.{Position, Splitting}
+use Rattle.packet_stream.specs.Items.{put}
 use Rattle.usb_base.specs.declared.reason.Reason.{Reason}
 use Rattle.usbgate.specs.declared.inner.Inner.{Inner}
 use Rattle.usbgate.specs.declared.stream.Stream.{Stream}

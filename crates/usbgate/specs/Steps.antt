@@ -1,7 +1,7 @@
 -- What the gate's own steps do: a stream's packets are taken one after another.
 use Rattle.std.specs.Prelude.{◌≡◌, ℕ, true, false, List, [], ◌∷◌, ◌++◌, Option, Some, None}
-use Rattle.usb_base.specs.Split.{Splitting}
-use Rattle.usb_base.specs.Items.{Stream as SideStream, put, items}
+use Rattle.packet_stream.specs.Split.{Splitting}
+use Rattle.packet_stream.specs.Items.{Stream as SideStream, put, items}
 use Rattle.usb_base.specs.declared.reason.Reason.{Reason}
 use Rattle.usb_base.specs.declared.refusal.Refusal.{Refusal}
 use Rattle.usbgate.specs.declared.inner.Inner.{Inner}

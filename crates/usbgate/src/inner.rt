@@ -1,7 +1,7 @@
 //! What the gate keeps, and how an event changes it.
 
 ghost use Rattle.std.specs.Prelude.{◌≡◌, ◌+◌, true, [], List, ℕ, Bool, false, OnOk, OnErr, IfOk};
-ghost use Rattle.usb_base.specs.Split.{Position, split};
+ghost use Rattle.packet_stream.specs.Split.{Position, split};
 ghost use Rattle.usbgate.specs.Forms.{client_reader, host_reader};
 ghost use Rattle.usbgate.specs.Events.{Event as PastEvent, ClientPiece, ClientEnd, HostPiece, HostEnd, event_of};
 ghost use Rattle.usbgate.specs.Items.{Item, client_side, host_side, capped};

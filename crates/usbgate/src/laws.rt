@@ -1,6 +1,6 @@
 //! Laws of the streams of both sides, as contracts of functions that do nothing.
 
-ghost use Rattle.usb_base.specs.Split.{SplitsWell};
+ghost use Rattle.packet_stream.specs.Split.{SplitsWell};
 ghost use Rattle.usbgate.specs.Forms.{client_format, client_next, client_start, host_format, host_next, host_start};
 
 /// A law: the client's stream is the spellings of its packets, and then a rest in which nothing is whole or

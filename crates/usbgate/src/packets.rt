@@ -1,7 +1,7 @@
 //! What stands at the front of the client's bytes.
 
 ghost use Rattle.std.specs.Prelude.{◌≡◌};
-ghost use Rattle.usb_base.specs.Format.{reading};
+ghost use Rattle.packet_stream.specs.Format.{reading};
 ghost use Rattle.usbip_op.specs.Answers.{found_of};
 ghost use Rattle.usbgate.specs.Forms.{client_packets};
 

@@ -3,10 +3,10 @@ use Rattle.std.proofs.Common.{◌≡◌, ℕ, ◌^◌, ◌<◌, ◌≤◌, ◌==
 use Rattle.std.proofs.lemmas.Grind.{common_steps}
 use Rattle.std.specs.Int.{w16, w32}
 use Rattle.usb_base.specs.Number.{be, be_at, part, AreBytes}
-use Rattle.usb_base.specs.Format.{Check, wrong_at, AreSteady}
+use Rattle.packet_stream.specs.Format.{Check, wrong_at, AreSteady}
 use Rattle.usb_base.specs.declared.reason.Reason.{Reason}
 use Rattle.usb_base.proofs.Numbers.{then, be_spelled_16, be_spelled_32, be_at-be_16, be_at-be_32, length-be, be_past, be_at-append_16}
-use Rattle.usb_base.proofs.Formats.{none_from}
+use Rattle.packet_stream.proofs.Formats.{none_from}
 use Rattle.usbip_op.specs.Spelling.{head_bytes}
 use Rattle.usbip_op.specs.Requests.{version_check, code_check}
 

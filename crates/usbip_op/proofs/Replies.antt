@@ -6,9 +6,9 @@ use Rattle.std.proofs.lemmas.Grind.{common_steps}
 use Rattle.std.proofs.lemmas.Bool.{leb-true, le-leb}
 use Rattle.std.proofs.lemmas.List.{drop_at, append-nil, length-drop}
 use Rattle.usb_base.specs.Number.{be, be_at, part, AreBytes}
-use Rattle.usb_base.specs.Format.{IsSound, wrong_at}
+use Rattle.packet_stream.specs.Format.{IsSound, wrong_at}
 use Rattle.usb_base.proofs.Numbers.{AreBytes-drop, then, join, length-be, be_spelled_32, be_found_32, be_at-append_16, be_at-append_32, be_at-below_32}
-use Rattle.usb_base.proofs.Formats.{none_first, none_later, none_from}
+use Rattle.packet_stream.proofs.Formats.{none_first, none_later, none_from}
 use Rattle.usbip_op.specs.declared.packet.DeviceRow.{DeviceRow}
 use Rattle.usbip_op.specs.declared.packet.Listed.{Listed}
 use Rattle.usbip_op.specs.declared.packet.OpPacket.{OpPacket}

@@ -3,9 +3,9 @@ use Rattle.std.proofs.Common.{◌≡◌, ℕ, ◌≤◌, ◌==◌, ◌||◌, ◌
 use Rattle.std.specs.Int.{w16}
 use Rattle.std.proofs.lemmas.List.{take_at}
 use Rattle.usb_base.specs.Number.{be_at, part, AreBytes}
-use Rattle.usb_base.specs.Format.{IsSound, wrong_at}
+use Rattle.packet_stream.specs.Format.{IsSound, wrong_at}
 use Rattle.usb_base.proofs.Numbers.{then, length-part, part_past, be_at-below_32}
-use Rattle.usb_base.proofs.Formats.{none_first, none_later}
+use Rattle.packet_stream.proofs.Formats.{none_first, none_later}
 use Rattle.usbip_op.specs.declared.packet.OpPacket.{OpPacket}
 use Rattle.usbip_op.specs.declared.packet.OpPacket.TheVariants.{ReqDevlist, ReqImport, RepDevlist, RepImport}
 use Rattle.usbip_op.specs.Spelling.{spelling, head_bytes}

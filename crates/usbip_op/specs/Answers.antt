@@ -1,6 +1,6 @@
 -- What reading answers, as what it found.
 use Rattle.std.specs.Prelude.{Result, Ok, Err}
-use Rattle.usb_base.specs.Format.{Found, Whole, Short, Wrong}
+use Rattle.packet_stream.specs.Format.{Found, Whole, Short, Wrong}
 use Rattle.usb_base.specs.declared.reason.Reason.{Reason}
 use Rattle.usbip_op.specs.declared.packet.OpPacket.{OpPacket}
 use Rattle.usbip_op.specs.declared.packet.OpRead.{OpRead}

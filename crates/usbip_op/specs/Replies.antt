@@ -2,7 +2,7 @@
 use Rattle.std.specs.Prelude.{ℕ, ◌+◌, ◌==◌, ◌&&◌, ◌||◌, not, nat_le, if◌then◌else◌, List, [], ◌∷◌, drop, Some, None}
 use Rattle.std.specs.Int.{w16, w32}
 use Rattle.usb_base.specs.Number.{be_at}
-use Rattle.usb_base.specs.Format.{Check, Format}
+use Rattle.packet_stream.specs.Format.{Check, Format}
 use Rattle.usb_base.specs.declared.reason.Reason.{Reason}
 use Rattle.usb_base.specs.declared.reason.Reason.TheVariants.{Count}
 use Rattle.usbip_op.specs.declared.packet.OpPacket.{OpPacket}

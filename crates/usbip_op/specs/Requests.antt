@@ -2,7 +2,7 @@
 use Rattle.std.specs.Prelude.{ℕ, ◌==◌, ◌||◌, if◌then◌else◌, List, [], ◌∷◌}
 use Rattle.std.specs.Int.{w16, w32}
 use Rattle.usb_base.specs.Number.{be_at, part}
-use Rattle.usb_base.specs.Format.{Check, Format}
+use Rattle.packet_stream.specs.Format.{Check, Format}
 use Rattle.usb_base.specs.declared.reason.Reason.{Reason}
 use Rattle.usb_base.specs.declared.reason.Reason.TheVariants.{Version, OpCode}
 use Rattle.usbip_op.specs.declared.packet.OpPacket.{OpPacket}

@@ -1,7 +1,7 @@
 //! Packets read.
 
 ghost use Rattle.std.specs.Prelude.{◌≡◌, ◌++◌, ℕ, List, length};
-ghost use Rattle.usb_base.specs.Format.{IsSound, Stands, reading, Whole as FoundWhole};
+ghost use Rattle.packet_stream.specs.Format.{IsSound, Stands, reading, Whole as FoundWhole};
 ghost use Rattle.usbip_op.specs.Spelling.{spelling};
 ghost use Rattle.usbip_op.specs.Ranges.{IsRequest, IsReply};
 ghost use Rattle.usbip_op.specs.Requests.{requests};

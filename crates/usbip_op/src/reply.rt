@@ -2,7 +2,7 @@
 
 ghost use Rattle.std.specs.Prelude.{◌≡◌, ◌+◌, ◌*◌, ◌≤◌, ◌<◌, length, drop, IfOk, Option, Some, None};
 ghost use Rattle.usb_base.specs.Number.{byte_at, be_at};
-ghost use Rattle.usb_base.specs.Format.{reading};
+ghost use Rattle.packet_stream.specs.Format.{reading};
 ghost use Rattle.std.specs.Int.{w16, w32};
 ghost use Rattle.usbip_op.specs.Rows.{rows_at, rows_size};
 ghost use Rattle.usbip_op.specs.Devices.{device_at, interface_at, interface_form, listed_at, listed_form};

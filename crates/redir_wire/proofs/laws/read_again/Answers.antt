@@ -1,4 +1,4 @@
-use Rattle.usb_base.proofs.Formats.{read_again}
+use Rattle.packet_stream.proofs.Formats.{read_again}
 use Rattle.redir_wire.specs.Packets.{host_packets}
 use Rattle.redir_wire.proofs.Sound.{sound}
 use Rattle.redir_wire.proofs.laws.read_again.Goals as goal

@@ -1,7 +1,7 @@
 use Rattle.std.proofs.Common.{Bool, true, false, sym, subst, arith}
 use Rattle.redir_wire.specs.Answers.{IfRead}
 use Rattle.redir_wire.specs.Packets.{host_packets}
-use Rattle.usb_base.specs.Format.{Stands}
+use Rattle.packet_stream.specs.Format.{Stands}
 use Rattle.redir_wire.proofs.Sound.{stands_there}
 use Rattle.redir_wire.proofs.read.read_redir.Goals as goal
 

@@ -1,4 +1,4 @@
-use Rattle.usb_base.proofs.Splits.{splits_well}
+use Rattle.packet_stream.proofs.Splits.{splits_well}
 use Rattle.redir_wire.proofs.Sound.{sound}
 use Rattle.usbgate.specs.Forms.{host_format, host_next, host_start}
 use Rattle.usbgate.proofs.laws.host_splits_well.Goals as goal

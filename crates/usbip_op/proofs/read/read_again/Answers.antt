@@ -1,4 +1,4 @@
-use Rattle.usb_base.proofs.Formats.{read_again}
+use Rattle.packet_stream.proofs.Formats.{read_again}
 use Rattle.usbip_op.specs.Requests.{requests}
 use Rattle.usbip_op.proofs.Requests.{requests_sound}
 use Rattle.usbip_op.proofs.read.read_again.Goals as goal

@@ -1,6 +1,6 @@
 use Rattle.std.proofs.Common.{◌≡◌, subst, sym, arith}
-use Rattle.usb_base.specs.Format.{Stands, Found, reading}
-use Rattle.usb_base.proofs.Formats.{stands}
+use Rattle.packet_stream.specs.Format.{Stands, Found, reading}
+use Rattle.packet_stream.proofs.Formats.{stands}
 use Rattle.usb_base.specs.declared.reason.Reason.{Reason}
 use Rattle.usbip_op.specs.declared.packet.OpPacket.{OpPacket}
 use Rattle.usbip_op.specs.declared.packet.OpWay.{OpWay}

@@ -1,6 +1,6 @@
 use Rattle.std.proofs.Common.{subst, sym, arith}
-use Rattle.usb_base.specs.Format.{Stands}
-use Rattle.usb_base.proofs.Formats.{stands}
+use Rattle.packet_stream.specs.Format.{Stands}
+use Rattle.packet_stream.proofs.Formats.{stands}
 use Rattle.usbip_op.specs.Requests.{requests}
 use Rattle.usbip_op.proofs.Requests.{requests_sound}
 use Rattle.usbip_op.proofs.read.read_request.Goals as goal

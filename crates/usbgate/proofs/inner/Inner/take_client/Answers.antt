@@ -1,5 +1,5 @@
 use Rattle.std.proofs.Common.{ℕ, List, sym, subst, arith}
-use Rattle.usb_base.specs.Split.{Position, split}
+use Rattle.packet_stream.specs.Split.{Position, split}
 use Rattle.usbgate.specs.Events.{ClientPiece}
 use Rattle.usbgate.specs.Forms.{client_reader}
 use Rattle.usbgate.specs.Items.{Item, client_side}

@@ -1,5 +1,5 @@
 use Rattle.std.proofs.Common.{ℕ, List, sym, subst, arith, Bool}
-use Rattle.usb_base.specs.Split.{Position, split}
+use Rattle.packet_stream.specs.Split.{Position, split}
 use Rattle.usbgate.specs.Events.{HostPiece}
 use Rattle.usbgate.specs.Forms.{host_reader}
 use Rattle.usbgate.specs.Items.{Item, host_side}

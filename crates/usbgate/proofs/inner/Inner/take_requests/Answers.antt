@@ -1,11 +1,11 @@
 use Rattle.std.proofs.Common.{◌≡◌, ◌-◌, ◌+◌, true, ℕ, ◌∙◌, ap, subst, take, drop, arith, refl, sym, length, List, [], ◌∷◌, Some, None}
 use Rattle.std.proofs.lemmas.List.{take_rest, drop-drop, length-drop, append-nil}
-use Rattle.usb_base.specs.Format.{Found, Whole, Short, Wrong, reading}
-use Rattle.usb_base.specs.Split.{split}
+use Rattle.packet_stream.specs.Format.{Found, Whole, Short, Wrong, reading}
+use Rattle.packet_stream.specs.Split.{split}
 use Rattle.usb_base.specs.declared.side.Side.TheVariants.{Client}
 use Rattle.usb_base.specs.declared.refusal.Refusal.{Refusal}
-use Rattle.usb_base.proofs.Formats.{whole_parts}
-use Rattle.usb_base.proofs.Taking.{mid-init, mid-whole, mid-short, mid-wrong}
+use Rattle.packet_stream.proofs.Formats.{whole_parts}
+use Rattle.packet_stream.proofs.Taking.{mid-init, mid-whole, mid-short, mid-wrong}
 use Rattle.usbgate.specs.declared.inner.Inner.{Inner}
 use Rattle.usbgate.specs.declared.note.Note.{Note}
 use Rattle.usbgate.specs.declared.note.Note.TheVariants.{Refused}

@@ -1,6 +1,6 @@
 use Rattle.std.proofs.Common.{◌≡◌, ◌-◌, ◌≤◌, ℕ, List, length, drop, false}
-use Rattle.usb_base.specs.Split.{Position, split}
-use Rattle.usb_base.proofs.Taking.{Mid}
+use Rattle.packet_stream.specs.Split.{Position, split}
+use Rattle.packet_stream.proofs.Taking.{Mid}
 use Rattle.usbgate.specs.Forms.{client_reader}
 use Rattle.usbgate.specs.Items.{Item, client_side}
 use Rattle.usbgate.specs.Stands.{Knows, IsAt}

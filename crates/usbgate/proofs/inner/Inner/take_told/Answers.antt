@@ -1,11 +1,11 @@
 use Rattle.std.proofs.Common.{◌≡◌, ◌-◌, ◌+◌, true, ℕ, ◌∙◌, ap, subst, take, drop, arith, refl, sym, length, List, [], ◌∷◌, Some, None, Bool}
 use Rattle.std.proofs.lemmas.List.{take_rest, drop-drop, length-drop, append-nil}
-use Rattle.usb_base.specs.Format.{Found, Whole, Short, Wrong, reading}
-use Rattle.usb_base.specs.Split.{split}
+use Rattle.packet_stream.specs.Format.{Found, Whole, Short, Wrong, reading}
+use Rattle.packet_stream.specs.Split.{split}
 use Rattle.usb_base.specs.declared.side.Side.TheVariants.{Host}
 use Rattle.usb_base.specs.declared.refusal.Refusal.{Refusal}
-use Rattle.usb_base.proofs.Formats.{whole_parts}
-use Rattle.usb_base.proofs.Taking.{mid-init, mid-whole, mid-short, mid-wrong}
+use Rattle.packet_stream.proofs.Formats.{whole_parts}
+use Rattle.packet_stream.proofs.Taking.{mid-init, mid-whole, mid-short, mid-wrong}
 use Rattle.redir_wire.specs.declared.packet.Header.{Header}
 use Rattle.redir_wire.specs.declared.packet.RedirControl.{RedirControl}
 use Rattle.redir_wire.specs.Packets.{host_packets}

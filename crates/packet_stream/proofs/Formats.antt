@@ -4,7 +4,14 @@ use Rattle.std.specs.Prelude.{nat_le, nat_lt, not, ◌&&◌}
 use Rattle.std.proofs.lemmas.Bool.{ltb-true, ltb-false, le-ltb, leb-true, leb-false, le-leb}
 use Rattle.std.proofs.lemmas.List.{take-append-drop, take_at, length-append, length-take}
 use Rattle.usb_base.specs.Number.{AreBytes}
-use Rattle.usb_base.specs.Format.{Check, wrong_at, Format, IsWhole, IsShort, Found, Whole, Short, Wrong, Stands, reading_by, reading, AreSteady, IsSound, with_check}
+use Rattle.packet_stream.specs.Format.{Check, wrong_at, Format, IsWhole, IsShort, Found, Whole, Short, Wrong, Stands, reading_by, reading, StaysWrong, IsSound, with_check}
+
+-- ---- checks that stay as they are
+
+-- each check sees only the bytes that it needs, and needs as many as those before it
+abbrev pub AreSteady : {R : Type 0} → ℕ → List (Check R) → Type 0
+AreSteady n [] = Unit {0}
+AreSteady n (c ∷ cs) = (n ≤ c.needed) × ((bytes more : List ℕ) → c.needed ≤ length bytes → c.passes (bytes ++ more) ≡ c.passes bytes) × AreSteady c.needed cs
 
 -- ---- one check and those after it
 
@@ -58,6 +65,10 @@ pub wrong_more : {R : Type 0} (cs : List (Check R)) (n : ℕ) (b more : List ℕ
 wrong_more [] n b more w steady e = absurd cc
 wrong_more (c ∷ cs) n b more w steady e =
     wrong_step c cs b more w (nat_le c.needed (length b)) refl (omega arith, steady.1, steady.2) (wrong_more cs c.needed b more w steady.2) e
+
+-- steady checks stay wrong
+pub stays_wrong : {R : Type 0} (cs : List (Check R)) (n : ℕ) → AreSteady n cs → StaysWrong cs
+stays_wrong cs n steady b more w e = wrong_more cs n b more w steady e
 
 -- ---- what reading tells
 
@@ -182,5 +193,5 @@ with_check-sound f sound c Passes steady later spelled read = record {
   size = λ p more fits. sound.size p more fits.0;
   packet = λ p more fits. sound.packet p more fits.0;
   some = sound.some;
-  steady = (omega arith, steady, later);
+  steady = stays_wrong (c ∷ f.checks) 0 (omega arith, steady, later);
 }

@@ -2,10 +2,10 @@
 use Rattle.std.proofs.Common.{◌≡◌, ℕ, zero, suc, ◌≤◌, ◌<◌, List, [], ◌∷◌, ◌++◌, length, drop, Option, Some, None, refl, sym, ap, ◌∙◌, arith, append_assoc}
 use Rattle.std.proofs.lemmas.List.{drop-append-le, length-drop}
 use Rattle.usb_base.specs.Number.{AreBytes}
-use Rattle.usb_base.specs.Format.{Format, Found, Whole, Short, Wrong, IsSound}
-use Rattle.usb_base.specs.Split.{Reader, Position, past, Splitting, reads, with_packets, go_on, split_by, split, further, further_by}
+use Rattle.packet_stream.specs.Format.{Format, Found, Whole, Short, Wrong, IsSound}
+use Rattle.packet_stream.specs.Split.{Reader, Position, past, Splitting, reads, with_packets, go_on, split_by, split, further, further_by}
 use Rattle.usb_base.proofs.Numbers.{AreBytes-drop}
-use Rattle.usb_base.proofs.Formats.{whole_parts, wrong_parts, wrong_reading, wrong_more, whole_more}
+use Rattle.packet_stream.proofs.Formats.{whole_parts, wrong_parts, wrong_reading, whole_more}
 
 -- what has been read stays as it was read, whatever comes after it
 pub record IsSteady {S P R : Type 0} (r : Reader S P R) : Type 0 where
@@ -20,7 +20,7 @@ reads_steady format next sound = record {
   some = λ s b p n e. let h = whole_parts (format s) b p n e in let some = (sound s).some b in omega arith;
   there = λ s b p n e. let h = whole_parts (format s) b p n e in omega arith;
   whole = λ s b more p n bytes e. whole_more (format s) (sound s) b more n p bytes e;
-  wrong = λ s b more at why e. wrong_reading (format s) (b ++ more) (at, why) (wrong_more (format s).checks 0 b more (at, why) (sound s).steady (wrong_parts (format s) b at why e));
+  wrong = λ s b more at why e. wrong_reading (format s) (b ++ more) (at, why) ((sound s).steady b more (at, why) (wrong_parts (format s) b at why e));
 }
 
 -- more steps than bytes change nothing

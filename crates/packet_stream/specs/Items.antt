@@ -1,6 +1,6 @@
 -- The items that the streams of several sides bring.
 use Rattle.std.specs.Prelude.{ℕ, Bool, if◌then◌else◌, List, [], ◌∷◌, ◌++◌, length, map, drop, Option, Some, None}
-use Rattle.usb_base.specs.Split.{Reader, Position, Splitting, split}
+use Rattle.packet_stream.specs.Split.{Reader, Position, Splitting, split}
 
 -- a side: how its stream is read, what its packets and its wrong place are among the items, and when it is over
 pub record Stream (S P R I : Type 0) : Type 0 where

@@ -60,10 +60,9 @@ reading f bytes = reading_by f bytes (wrong_at f.checks bytes)
 
 -- ---- the laws of a format
 
--- each check sees only the bytes that it needs, and needs as many as those before it
-abbrev pub AreSteady : {R : Type 0} → ℕ → List (Check R) → Type 0
-AreSteady n [] = Unit {0}
-AreSteady n (c ∷ cs) = (n ≤ c.needed) × ((bytes more : List ℕ) → c.needed ≤ length bytes → c.passes (bytes ++ more) ≡ c.passes bytes) × AreSteady c.needed cs
+-- what is wrong stays wrong, whatever comes after it
+abbrev pub StaysWrong : {R : Type 0} → List (Check R) → Type 0
+StaysWrong {R = R} cs = (bytes more : List ℕ) (w : ℕ × R) → wrong_at cs bytes ≡ Some w → wrong_at cs (bytes ++ more) ≡ Some w
 
 pub record IsSound {P R : Type 0} (f : Format P R) : Type 0 where
   -- what is read is spelled so, and fits
@@ -74,7 +73,7 @@ pub record IsSound {P R : Type 0} (f : Format P R) : Type 0 where
   pub packet : (p : P) (more : List ℕ) → f.Fits p → f.packet (f.spelling p ++ more) ≡ p
   -- a packet has a byte at least
   pub some : (bytes : List ℕ) → 0 < f.size bytes
-  pub steady : AreSteady 0 f.checks
+  pub steady : StaysWrong f.checks
 
 -- a format with one check more, before its own, which some of its packets pass
 abbrev pub with_check : {P R : Type 0} → Check R → (P → Type 0) → Format P R → Format P R

@@ -2,10 +2,10 @@
 use Rattle.std.proofs.Common.{◌≡◌, ℕ, ◌+◌, Bool, true, false, cond, List, [], ◌∷◌, ◌++◌, length, drop, Option, Some, None, refl, sym, ap, subst, ◌∙◌, append_assoc}
 use Rattle.std.proofs.lemmas.List.{append-nil, map-append, drop_at}
 use Rattle.usb_base.specs.Number.{AreBytes}
-use Rattle.usb_base.specs.Format.{Whole, Short, Wrong}
-use Rattle.usb_base.specs.Split.{Position, past, Splitting, split, with_packets, further_by}
-use Rattle.usb_base.specs.Items.{Stream, packets, wrongs, items, put, added}
-use Rattle.usb_base.proofs.Laws.{IsSteady, split-is, split-more}
+use Rattle.packet_stream.specs.Format.{Whole, Short, Wrong}
+use Rattle.packet_stream.specs.Split.{Position, past, Splitting, split, with_packets, further_by}
+use Rattle.packet_stream.specs.Items.{Stream, packets, wrongs, items, put, added}
+use Rattle.packet_stream.proofs.Laws.{IsSteady, split-is, split-more}
 
 pub put-append : {I : Type 0} (over : List I → Bool) (h xs ys : List I) → put over h (xs ++ ys) ≡ put over (put over h xs) ys
 put-append over h [] ys = refl

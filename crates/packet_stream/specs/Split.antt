@@ -1,7 +1,7 @@
 -- A stream of bytes, split into its packets with their places, the wrong place that ends it, and else the rest.
 use Rattle.std.specs.Prelude.{◌≡◌, ℕ, zero, suc, ◌+◌, List, [], ◌∷◌, ◌++◌, length, drop, Option, Some, None}
 use Rattle.usb_base.specs.Number.{AreBytes}
-use Rattle.usb_base.specs.Format.{Format, IsShort, wrong_at, Found, Whole, Short, Wrong, reading}
+use Rattle.packet_stream.specs.Format.{Format, IsShort, wrong_at, Found, Whole, Short, Wrong, reading}
 
 -- how packets are read, where what was read decides how the next one is
 pub record Reader (S P R : Type 0) : Type 0 where

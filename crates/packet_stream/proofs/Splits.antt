@@ -2,11 +2,11 @@
 use Rattle.std.proofs.Common.{◌≡◌, ℕ, zero, suc, ◌+◌, ◌<◌, List, [], ◌∷◌, ◌++◌, length, drop, Option, Some, None, refl, sym, ap, subst, ◌∙◌, arith}
 use Rattle.std.proofs.lemmas.List.{drop_at, take-append-drop, length-drop, length-take}
 use Rattle.usb_base.specs.Number.{AreBytes}
-use Rattle.usb_base.specs.Format.{Format, IsWhole, IsShort, Found, Whole, Short, Wrong, Stands, reading, IsSound}
-use Rattle.usb_base.specs.Split.{Position, past, Splitting, Spells, Ends, IsSplitting, reads, with_packets, go_on, split, SplitsWell}
+use Rattle.packet_stream.specs.Format.{Format, IsWhole, IsShort, Found, Whole, Short, Wrong, Stands, reading, IsSound}
+use Rattle.packet_stream.specs.Split.{Position, past, Splitting, Spells, Ends, IsSplitting, reads, with_packets, go_on, split, SplitsWell}
 use Rattle.usb_base.proofs.Numbers.{AreBytes-drop, AreBytes-right}
-use Rattle.usb_base.proofs.Formats.{stands, read_whole, read_again, short_reading, wrong_parts, wrong_reading}
-use Rattle.usb_base.proofs.Laws.{reads_steady, split-is, split-more}
+use Rattle.packet_stream.proofs.Formats.{stands, read_whole, read_again, short_reading, wrong_parts, wrong_reading}
+use Rattle.packet_stream.proofs.Laws.{reads_steady, split-is, split-more}
 
 -- ---- the computation gives a splitting
 

@@ -1,0 +1,5 @@
+pub mod Formats
+pub mod Joins
+pub mod Laws
+pub mod Splits
+pub mod Taking

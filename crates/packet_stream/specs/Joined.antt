@@ -1,0 +1,37 @@
+-- Two formats joined to one: a test of the first bytes says by which of them a packet is read.
+use Rattle.std.specs.Prelude.{ℕ, Bool, not, ◌||◌, if◌then◌else◌, List, [], ◌∷◌, ◌++◌, ◌⊎◌}
+use Rattle.std.proofs.Common.{inl, inr}
+use Rattle.packet_stream.specs.Format.{Check, Format}
+
+-- the checks are made only where the test holds
+abbrev pub guarded : {R : Type 0} → (List ℕ → Bool) → List (Check R) → List (Check R)
+guarded test [] = []
+guarded test (c ∷ cs) = record c { passes = λ b. not (test b) || c.passes b } ∷ guarded test cs
+
+abbrev pub joined_spelling : {P Q R : Type 0} → Format P R → Format Q R → P ⊎ Q → List ℕ
+joined_spelling f g (inl p) = f.spelling p
+joined_spelling f g (inr q) = g.spelling q
+
+abbrev pub JoinedFits : {P Q R : Type 0} → Format P R → Format Q R → P ⊎ Q → Type 0
+JoinedFits f g (inl p) = f.Fits p
+JoinedFits f g (inr q) = g.Fits q
+
+-- a packet is one of f where the test holds, and else one of g
+abbrev pub joined : {P Q R : Type 0} → (List ℕ → Bool) → Format P R → Format Q R → Format (P ⊎ Q) R
+joined test f g = record {
+  checks = guarded test f.checks ++ guarded (λ b. not (test b)) g.checks;
+  size = λ b. if test b then f.size b else g.size b;
+  packet = λ b. if test b then inl (f.packet b) else inr (g.packet b);
+  spelling = joined_spelling f g;
+  Fits = JoinedFits f g;
+}
+
+-- the same packets under other names
+abbrev pub renamed : {P X R : Type 0} → (P → X) → (X → P) → Format P R → Format X R
+renamed to from f = record {
+  checks = f.checks;
+  size = f.size;
+  packet = λ b. to (f.packet b);
+  spelling = λ x. f.spelling (from x);
+  Fits = λ x. f.Fits (from x);
+}

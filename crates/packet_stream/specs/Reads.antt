@@ -1,0 +1,35 @@
+-- What the answer of a reader tells.
+use Rattle.std.specs.Prelude.{◌≡◌, Bool, true, Result, Ok, Err, Option, Some, None}
+use Rattle.usb_base.specs.declared.reason.Reason.{Reason}
+use Rattle.packet_stream.specs.Format.{Found, Whole, Short, Wrong}
+use Rattle.packet_stream.specs.declared.read.Read.{Read}
+use Rattle.packet_stream.specs.declared.read.Read.TheVariants as read
+use Rattle.packet_stream.specs.declared.read.ReadError.{ReadError}
+use Rattle.packet_stream.specs.declared.read.ReadError.TheVariants as error
+
+-- what was found, and nothing where memory was wanting
+abbrev pub told : {P : Type 0} → Result (Read P) ReadError → Option (Found P Reason)
+told (Ok (read.Whole p n)) = Some (Whole p n)
+told (Ok read.Short) = Some Short
+told (Err (error.Refused place reason)) = Some (Wrong place reason)
+told (Err error.Memory) = None
+
+-- P holds of what was found, unless memory was wanting
+abbrev pub IfTold : {P : Type 0} → Result (Read P) ReadError → (Found P Reason → Type 0) → Type 0
+IfTold (Ok (read.Whole p n)) Holds = Holds (Whole p n)
+IfTold (Ok read.Short) Holds = Holds Short
+IfTold (Err (error.Refused place reason)) Holds = Holds (Wrong place reason)
+IfTold (Err error.Memory) Holds = Unit {0}
+
+-- a whole packet is found that takes memory
+abbrev pub WantsMemory : {P : Type 0} → (P → Bool) → Found P Reason → Type 0
+WantsMemory takes (Whole p n) = takes p ≡ true
+WantsMemory takes Short = ⊥
+WantsMemory takes (Wrong place reason) = ⊥
+
+-- the answer is what was found; memory is wanting only where a whole packet takes some
+abbrev pub Answers : {P : Type 0} → (P → Bool) → Result (Read P) ReadError → Found P Reason → Type 0
+Answers takes (Ok (read.Whole p n)) found = found ≡ Whole p n
+Answers takes (Ok read.Short) found = found ≡ Short
+Answers takes (Err (error.Refused place reason)) found = found ≡ Wrong place reason
+Answers takes (Err error.Memory) found = WantsMemory takes found

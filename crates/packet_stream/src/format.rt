@@ -1,0 +1,37 @@
+//! A family of packet formats, where what was read decides how the next packet is read.
+
+ghost use Rattle.std.specs.Prelude.{◌≡◌, Bool};
+ghost use Rattle.usb_base.specs.declared.reason.Reason.{Reason as Why};
+ghost use Rattle.packet_stream.specs.Format.{Format, IsSound, reading};
+ghost use Rattle.packet_stream.specs.Reads.{Answers};
+
+use crate::read::{Read, ReadError};
+use std::alloc::Global;
+
+/// How the packets of a stream are read, where those that came decide how the next one is.
+pub trait PacketFormat {
+    /// What decides how the next packet is read.
+    type State: Drop;
+
+    type Packet: Drop;
+
+    ghost format: { Self.State → Format Self.Packet Why };
+
+    ghost after: { Self.State → Self.Packet → Self.State };
+
+    ghost takes_memory: { Self.Packet → Bool };
+
+    /// Reads the packet at the front of the bytes. Memory is wanting only for a whole packet that takes some.
+    fn read(
+        alloc: Global,
+        state: &Self::State,
+        bytes: &[u8],
+    ) -> Result<Read<Self::Packet>, ReadError>
+        ensures { Answers takes_memory result (reading (format state.now) bytes.now) };
+
+    /// The state after a packet.
+    fn next(state: &mut Self::State, packet: &Self::Packet)
+        ensures { state.new ≡ after state.old packet.now };
+
+    ghost sound: { (s : Self.State) → IsSound (format s) };
+}

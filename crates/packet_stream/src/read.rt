@@ -1,0 +1,32 @@
+//! What a reader of packets answers.
+
+use usb_base::{Memory, Reason};
+
+/// What stands at the front of bytes, where nothing is wrong.
+#[derive(Debug, Drop)]
+pub enum Read<P> {
+    /// A packet, and how many bytes it has.
+    Whole(P, usize),
+    /// Less than a packet.
+    Short,
+}
+
+/// Why no packet is read.
+#[derive(Clone, Copy, Debug, PartialEq, Eq)]
+pub enum ReadError {
+    /// The packet is wrong at this place, counted in bytes from its first.
+    Refused { place: u64, reason: Reason },
+    /// No memory was left for the packet, which is whole. Its bytes may be read again.
+    Memory,
+}
+
+impl From<Memory> for ReadError {
+    ghost use Rattle.std.specs.Prelude.{◌≡◌};
+    ghost use Rattle.packet_stream.specs.declared.read.ReadError.TheVariants.{Memory as OutOfMemory};
+
+    ghost from_gives = { λ _ error. error ≡ OutOfMemory };
+
+    fn from(_memory: Memory) -> Self {
+        ReadError::Memory
+    }
+}

@@ -1,0 +1,32 @@
+-- Endpoints: which bytes are addresses, their places in a table, and the table (USB 2.0, 9.6.6).
+use Rattle.std.specs.Prelude.{ℕ, ◌-◌, ◌%◌, ◌<◌, ◌==◌, nat_lt, not, Bool, if◌then◌else◌, replicate, List, get_or}
+use Rattle.usb_base.specs.declared.endpoint.EpKind.{EpKind}
+use Rattle.usb_base.specs.declared.endpoint.EpKind.TheVariants.{Control, Iso, Bulk, Interrupt, Invalid}
+use Rattle.usb_base.specs.declared.endpoint.EpRow.{EpRow}
+use Rattle.usb_base.specs.declared.endpoint.EpTable.{EpTable}
+
+-- bits 4 to 6 are all 0: the byte is n or 128 + n, with n below 16
+abbrev pub IsEndpoint : ℕ → Type 0
+IsEndpoint byte = byte % 128 < 16
+
+-- bit 7 says that data go from the device to the host
+abbrev pub is_in_endpoint : ℕ → Bool
+is_in_endpoint byte = not (nat_lt byte 128)
+
+-- n for OUT endpoint n, and 16 + n for IN endpoint n, whose byte is 128 + n
+abbrev pub endpoint_index : ℕ → ℕ
+endpoint_index byte = if nat_lt byte 128 then byte else byte - 112
+
+-- the byte that a usbredir ep_info has
+abbrev pub kind_of_byte : ℕ → EpKind
+kind_of_byte byte = if byte == 0 then Control else if byte == 1 then Iso else if byte == 2 then Bulk else if byte == 3 then Interrupt else Invalid
+
+abbrev pub no_endpoint : EpRow
+no_endpoint = record { kind = Invalid; interval = 0; interface = 0; max_packet = 0 }
+
+abbrev pub no_endpoints : EpTable
+no_endpoints = record { rows = replicate 32 no_endpoint }
+
+-- the row of an endpoint's address
+abbrev pub row_of : EpTable → ℕ → EpRow
+row_of t ep = get_or t.rows (endpoint_index ep) no_endpoint

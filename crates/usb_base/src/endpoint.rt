@@ -1,0 +1,134 @@
+//! Endpoints: their addresses, their kinds, and the table of a device's 32 (USB 2.0, 9.6.6).
+
+ghost use Rattle.std.specs.Prelude.{◌≡◌, ◌<◌, ◌↔◌, IsSome, IfSome};
+ghost use Rattle.usb_base.specs.Endpoint.{IsEndpoint, endpoint_index, is_in_endpoint, kind_of_byte, no_endpoints, row_of};
+
+use std::marker::Model;
+
+/// The address of an endpoint: the number in bits 0 to 3, and in bit 7 whether it is an IN endpoint, from
+/// the device to the host. Contracts see it as its byte.
+#[derive(Clone, Copy, Debug, PartialEq, Eq)]
+pub struct EpAddr {
+    byte: u8,
+}
+
+impl Model for EpAddr {
+    ghost use Rattle.std.specs.Prelude.{ℕ};
+    ghost use Rattle.usb_base.specs.Endpoint.{IsEndpoint};
+
+    ghost Value = { ℕ };
+
+    ghost view = { λ ep. ep.byte };
+
+    ghost invariant = { λ ep. IsEndpoint ep.byte };
+
+    ghost inverse = { λ n. record { byte = n } };
+}
+
+impl EpAddr {
+    /// The address of this byte, if its bits 4 to 6 are all 0.
+    pub fn new(byte: u8) -> Option<EpAddr>
+        ensures is_some { IsSome result ↔ IsEndpoint byte }
+        ensures byte { IfSome result (λ ep. ep ≡ byte) }
+    {
+        if byte % 0x80 < 0x10 {
+            Some(EpAddr { byte })
+        } else {
+            None
+        }
+    }
+
+    /// Its byte, as descriptors and packets have it.
+    pub fn byte(self) -> u8
+        ensures value { result ≡ self }
+        ensures in_range { IsEndpoint result }
+    {
+        self.byte
+    }
+
+    /// Its place in a table of endpoints: n for OUT endpoint n, and 16 + n for IN endpoint n.
+    pub fn index(self) -> usize
+        ensures value { result ≡ endpoint_index self }
+        ensures in_range { result < 32 }
+    {
+        if self.byte < 0x80 {
+            self.byte as usize
+        } else {
+            (self.byte - 0x70) as usize
+        }
+    }
+
+    /// Whether data go from the device to the host.
+    pub fn is_in(self) -> bool
+        ensures { result ≡ is_in_endpoint self }
+    {
+        self.byte >= 0x80
+    }
+}
+
+/// What an endpoint's transfers are (USB 2.0, 5.4).
+#[derive(Clone, Copy, Debug, PartialEq, Eq)]
+pub enum EpKind {
+    Control,
+    Iso,
+    Bulk,
+    Interrupt,
+    /// There is no such endpoint.
+    Invalid,
+}
+
+impl EpKind {
+    /// The kind that a usbredir ep_info tells: 0 control, 1 isochronous, 2 bulk, 3 interrupt, any other none.
+    pub fn from_byte(byte: u8) -> EpKind
+        ensures { result ≡ kind_of_byte byte }
+    {
+        match byte {
+            0 => EpKind::Control,
+            1 => EpKind::Iso,
+            2 => EpKind::Bulk,
+            3 => EpKind::Interrupt,
+            _ => EpKind::Invalid,
+        }
+    }
+}
+
+/// What is known of one endpoint.
+#[derive(Clone, Copy, Debug, PartialEq, Eq)]
+pub struct EpRow {
+    pub kind: EpKind,
+    /// The polling interval, as the endpoint's descriptor has it.
+    pub interval: u8,
+    /// The number of the interface that it belongs to.
+    pub interface: u8,
+    /// The largest packet, in bytes.
+    pub max_packet: u16,
+}
+
+/// A device's endpoints by their index: places 0 to 15 are those to the device, 16 to 31 those from it.
+#[derive(Clone, Copy, Debug, PartialEq, Eq)]
+pub struct EpTable {
+    pub rows: [EpRow; 32],
+}
+
+impl EpTable {
+    /// The table with no endpoint.
+    pub fn none() -> EpTable
+        ensures { result ≡ no_endpoints }
+    {
+        EpTable {
+            rows: [EpRow {
+                kind: EpKind::Invalid,
+                interval: 0,
+                interface: 0,
+                max_packet: 0,
+            }; 32],
+        }
+    }
+
+    /// The row of an endpoint.
+    pub fn row(&self, ep: EpAddr) -> EpRow
+        ensures { result ≡ row_of self.now ep }
+    {
+        self.rows[ep.index()]
+    }
+}
