@@ -1,7 +1,8 @@
 -- Two formats joined to one, and a format under other names: sound where they are.
-use Rattle.std.proofs.Common.{◌≡◌, ℕ, ◌<◌, ◌≤◌, Bool, true, false, cond, List, [], ◌∷◌, ◌++◌, ◌⊎◌, inl, inr, length, take, Option, Some, None, refl, sym, ap, ◌∙◌, arith}
+use Rattle.std.proofs.Common.{◌≡◌, ℕ, ◌<◌, ◌≤◌, Bool, true, false, cond, List, [], ◌∷◌, ◌++◌, ◌⊎◌, inl, inr, length, take, Option, Some, None, refl, sym, ap, subst, ◌∙◌, arith}
 use Rattle.std.specs.Prelude.{nat_le, nat_lt, not, ◌&&◌, ◌||◌}
 use Rattle.std.proofs.lemmas.Bool.{cases_lt}
+use Rattle.std.proofs.lemmas.List.{append-nil}
 use Rattle.usb_base.specs.Number.{AreBytes}
 use Rattle.packet_stream.specs.Format.{Check, wrong_at, Format, Found, Whole, Short, Wrong, reading_by, reading, StaysWrong, IsSound}
 use Rattle.packet_stream.specs.Joined.{guarded, joined_spelling, JoinedFits, joined, renamed}
@@ -12,10 +13,131 @@ Waits n cs = (b : List ℕ) → length b < n → wrong_at cs b ≡ None
 
 -- ---- guarded checks
 
+off_step : {W : Type 0} (t p : Bool) (x : W) (now : Option W) → cond (t && not (true || p)) (Some x) now ≡ now
+off_step true p x now = refl
+off_step false p x now = refl
+
 pub guarded-off : {R : Type 0} (test : List ℕ → Bool) (cs ds : List (Check R)) (b : List ℕ) → test b ≡ false → wrong_at (guarded test cs ++ ds) b ≡ wrong_at ds b
 guarded-off test [] ds b e = refl
-guarded-off test (c ∷ cs) ds b e = ?
+guarded-off test (c ∷ cs) ds b e = rw e (off_step (nat_le c.needed (length b)) (c.passes b) (c.place, c.reason) (wrong_at (guarded test cs ++ ds) b) ∙ guarded-off test cs ds b e)
 
-pub guarded-on : {R : Type 0} (test : List ℕ → Bool) (cs : List (Check R)) (b : List ℕ) (ds : List (Check R)) → test b ≡ true → wrong_at ds b ≡ None → wrong_at (guarded test cs ++ ds) b ≡ wrong_at cs b
-guarded-on test [] b ds e none = none
-guarded-on test (c ∷ cs) b ds e none = ?
+pub guarded-on : {R : Type 0} (test : List ℕ → Bool) (cs ds : List (Check R)) (b : List ℕ) → test b ≡ true → wrong_at ds b ≡ None → wrong_at (guarded test cs ++ ds) b ≡ wrong_at cs b
+guarded-on test [] ds b e none = none
+guarded-on {R = R} test (c ∷ cs) ds b e none = rw e (ap (λ (y : Option (ℕ × R)). cond (nat_le c.needed (length b) && not (c.passes b)) (Some (c.place, c.reason)) y) (guarded-on test cs ds b e none))
+
+none_guarded : {R : Type 0} (test : List ℕ → Bool) (cs : List (Check R)) (b : List ℕ) → test b ≡ false → wrong_at (guarded test cs) b ≡ None
+none_guarded test cs b e = ap (λ ds. wrong_at ds b) (sym (append-nil (guarded test cs))) ∙ guarded-off test cs [] b e
+
+all_guarded : {R : Type 0} (test : List ℕ → Bool) (cs : List (Check R)) (b : List ℕ) → test b ≡ true → wrong_at (guarded test cs) b ≡ wrong_at cs b
+all_guarded test cs b e = ap (λ ds. wrong_at ds b) (sym (append-nil (guarded test cs))) ∙ guarded-on test cs [] b e refl
+
+-- ---- the joined format
+
+-- its checks are those of the one or the other
+pub joined-left : {P Q R : Type 0} (test : List ℕ → Bool) (f : Format P R) (g : Format Q R) (b : List ℕ) → test b ≡ true → wrong_at (joined test f g).checks b ≡ wrong_at f.checks b
+joined-left test f g b e = guarded-on test f.checks (guarded (λ x. not (test x)) g.checks) b e (none_guarded (λ x. not (test x)) g.checks b (ap not e))
+
+pub joined-right : {P Q R : Type 0} (test : List ℕ → Bool) (f : Format P R) (g : Format Q R) (b : List ℕ) → test b ≡ false → wrong_at (joined test f g).checks b ≡ wrong_at g.checks b
+joined-right test f g b e = guarded-off test f.checks (guarded (λ x. not (test x)) g.checks) b e ∙ all_guarded (λ x. not (test x)) g.checks b (ap not e)
+
+-- what is found of the one, as found of both
+abbrev pub found_as : {P X R : Type 0} → (P → X) → Found P R → Found X R
+found_as to (Whole p n) = Whole (to p) n
+found_as to Short = Short
+found_as to (Wrong place reason) = Wrong place reason
+
+found_by_length : {P X R : Type 0} (to : P → X) (p : P) (n : ℕ) (t : Bool) → ◌≡◌ {A = Found X R} (cond t Short (Whole (to p) n)) (found_as to (cond t Short (Whole p n)))
+found_by_length to p n true = refl
+found_by_length to p n false = refl
+
+reading_as : {P X R : Type 0} (to : P → X) (f : Format P R) (b : List ℕ) (h : Format X R) → h.size b ≡ f.size b → h.packet b ≡ to (f.packet b) → (w : Option (ℕ × R)) → reading_by h b w ≡ found_as to (reading_by f b w)
+reading_as {P = P} {X = X} {R = R} to f b h size packet None = rw (size, packet) (found_by_length to (f.packet b) (f.size b) (nat_lt (length b) (f.size b)))
+reading_as to f b h size packet (Some w) = refl
+
+-- reading is reading the one or the other
+pub reading-left : {P Q R : Type 0} (test : List ℕ → Bool) (f : Format P R) (g : Format Q R) (b : List ℕ) → test b ≡ true → reading (joined test f g) b ≡ found_as inl (reading f b)
+reading-left test f g b e =
+    ap (reading_by (joined test f g) b) (joined-left test f g b e) ∙ reading_as inl f b (joined test f g) (rw e refl) (rw e refl) (wrong_at f.checks b)
+
+pub reading-right : {P Q R : Type 0} (test : List ℕ → Bool) (f : Format P R) (g : Format Q R) (b : List ℕ) → test b ≡ false → reading (joined test f g) b ≡ found_as inr (reading g b)
+reading-right test f g b e =
+    ap (reading_by (joined test f g) b) (joined-right test f g b e) ∙ reading_as inr g b (joined test f g) (rw e refl) (rw e refl) (wrong_at g.checks b)
+
+pub reading-renamed : {P X R : Type 0} (to : P → X) (from : X → P) (f : Format P R) (b : List ℕ) → reading (renamed to from f) b ≡ found_as to (reading f b)
+reading-renamed to from f b = reading_as to f b (renamed to from f) refl refl (wrong_at f.checks b)
+
+-- what joining asks of the test and of both formats: the test sees n bytes, no check is made before they are there, and the
+-- packets of f pass it and those of g don't
+pub record IsJoin {P Q R : Type 0} (n : ℕ) (test : List ℕ → Bool) (f : Format P R) (g : Format Q R) : Type 0 where
+  pub sees : (b more : List ℕ) → n ≤ length b → test (b ++ more) ≡ test b
+  pub left_waits : Waits n f.checks
+  pub right_waits : Waits n g.checks
+  pub left : (p : P) (more : List ℕ) → f.Fits p → test (f.spelling p ++ more) ≡ true
+  pub right : (q : Q) (more : List ℕ) → g.Fits q → test (g.spelling q ++ more) ≡ false
+
+joined_waits : {P Q R : Type 0} (n : ℕ) (test : List ℕ → Bool) (f : Format P R) (g : Format Q R) → IsJoin n test f g → (b : List ℕ) → length b < n → (t : Bool) → test b ≡ t → wrong_at (joined test f g).checks b ≡ None
+joined_waits n test f g join b less true e = joined-left test f g b e ∙ join.left_waits b less
+joined_waits n test f g join b less false e = joined-right test f g b e ∙ join.right_waits b less
+
+stays_by : {P Q R : Type 0} (n : ℕ) (test : List ℕ → Bool) (f : Format P R) (g : Format Q R) → IsSound f → IsSound g → IsJoin n test f g → (b more : List ℕ) (w : ℕ × R) → n ≤ length b → (t : Bool) → test b ≡ t →
+    wrong_at (joined test f g).checks b ≡ Some w → wrong_at (joined test f g).checks (b ++ more) ≡ Some w
+stays_by n test f g sf sg join b more w there true e h =
+    joined-left test f g (b ++ more) (join.sees b more there ∙ e) ∙ sf.steady b more w (sym (joined-left test f g b e) ∙ h)
+stays_by n test f g sf sg join b more w there false e h =
+    joined-right test f g (b ++ more) (join.sees b more there ∙ e) ∙ sg.steady b more w (sym (joined-right test f g b e) ∙ h)
+
+abbrev FoundAt : {P R : Type 0} → Format P R → List ℕ → Type 0
+FoundAt f b = (f.spelling (f.packet b) ≡ take (f.size b) b) × f.Fits (f.packet b)
+
+found_by : {P Q R : Type 0} (test : List ℕ → Bool) (f : Format P R) (g : Format Q R) → IsSound f → IsSound g → (b : List ℕ) → AreBytes b → (t : Bool) → test b ≡ t →
+    wrong_at (joined test f g).checks b ≡ None → (joined test f g).size b ≤ length b → FoundAt (joined test f g) b
+found_by test f g sf sg b are true e none there = rw e (sf.found b are (sym (joined-left test f g b e) ∙ none) (rw e at there))
+found_by test f g sf sg b are false e none there = rw e (sg.found b are (sym (joined-right test f g b e) ∙ none) (rw e at there))
+
+some_by : {P Q R : Type 0} (test : List ℕ → Bool) (f : Format P R) (g : Format Q R) → IsSound f → IsSound g → (b : List ℕ) (t : Bool) → 0 < cond t (f.size b) (g.size b)
+some_by test f g sf sg b true = sf.some b
+some_by test f g sf sg b false = sg.some b
+
+right_of : {P Q R : Type 0} (n : ℕ) (test : List ℕ → Bool) (f : Format P R) (g : Format Q R) → IsSound f → IsSound g → IsJoin n test f g → (x : P ⊎ Q) (more : List ℕ) → JoinedFits f g x →
+    wrong_at (joined test f g).checks (joined_spelling f g x ++ more) ≡ None
+right_of n test f g sf sg join (inl p) more fits = joined-left test f g (f.spelling p ++ more) (join.left p more fits) ∙ sf.right p more fits
+right_of n test f g sf sg join (inr q) more fits = joined-right test f g (g.spelling q ++ more) (join.right q more fits) ∙ sg.right q more fits
+
+size_of : {P Q R : Type 0} (n : ℕ) (test : List ℕ → Bool) (f : Format P R) (g : Format Q R) → IsSound f → IsSound g → IsJoin n test f g → (x : P ⊎ Q) (more : List ℕ) → JoinedFits f g x →
+    (joined test f g).size (joined_spelling f g x ++ more) ≡ length (joined_spelling f g x)
+size_of n test f g sf sg join (inl p) more fits = rw (join.left p more fits) (sf.size p more fits)
+size_of n test f g sf sg join (inr q) more fits = rw (join.right q more fits) (sg.size q more fits)
+
+packet_of : {P Q R : Type 0} (n : ℕ) (test : List ℕ → Bool) (f : Format P R) (g : Format Q R) → IsSound f → IsSound g → IsJoin n test f g → (x : P ⊎ Q) (more : List ℕ) → JoinedFits f g x →
+    (joined test f g).packet (joined_spelling f g x ++ more) ≡ x
+packet_of {P = P} {Q = Q} n test f g sf sg join (inl p) more fits = rw (join.left p more fits) (ap {B = P ⊎ Q} (λ (y : P). inl y) (sf.packet p more fits))
+packet_of {P = P} {Q = Q} n test f g sf sg join (inr q) more fits = rw (join.right q more fits) (ap {B = P ⊎ Q} (λ (y : Q). inr y) (sg.packet q more fits))
+
+stays : {P Q R : Type 0} (n : ℕ) (test : List ℕ → Bool) (f : Format P R) (g : Format Q R) → IsSound f → IsSound g → IsJoin n test f g → StaysWrong (joined test f g).checks
+stays n test f g sf sg join b more w e =
+    elim (cases_lt (length b) n) [
+      | inl less ↦ let none = joined_waits n test f g join b less (test b) refl in absurd cc
+      | inr there ↦ stays_by n test f g sf sg join b more w there (test b) refl e
+    ]
+
+-- the joined format is sound
+pub joined_sound : {P Q R : Type 0} (n : ℕ) (test : List ℕ → Bool) (f : Format P R) (g : Format Q R) → IsSound f → IsSound g → IsJoin n test f g → IsSound (joined test f g)
+joined_sound n test f g sf sg join = record {
+  found = λ b are none there. found_by test f g sf sg b are (test b) refl none there;
+  right = right_of n test f g sf sg join;
+  size = size_of n test f g sf sg join;
+  packet = packet_of n test f g sf sg join;
+  some = λ b. some_by test f g sf sg b (test b);
+  steady = stays n test f g sf sg join;
+}
+
+-- a format under other names is sound, where the names are as good
+pub renamed_sound : {P X R : Type 0} (to : P → X) (from : X → P) (f : Format P R) → ((p : P) → from (to p) ≡ p) → ((x : X) → to (from x) ≡ x) → IsSound f → IsSound (renamed to from f)
+renamed_sound {P = P} {X = X} to from f back forth sf = record {
+  found = λ b are none there. let h = sf.found b are none there in (ap f.spelling (back (f.packet b)) ∙ h.0, subst f.Fits (sym (back (f.packet b))) h.1);
+  right = λ x more fits. sf.right (from x) more fits;
+  size = λ x more fits. sf.size (from x) more fits;
+  packet = λ x more fits. ap to (sf.packet (from x) more fits) ∙ forth x;
+  some = sf.some;
+  steady = sf.steady;
+}
