@@ -2,9 +2,8 @@
 use Rattle.std.proofs.Common.{◌≡◌, ℕ, ◌≤◌, List, [], ◌∷◌, ◌++◌, length, take, refl, sym, ap, ◌∙◌, append_assoc, arith}
 use Rattle.std.proofs.lemmas.List.{take_all, append-nil, length-append}
 use Rattle.std.specs.Int.{w16}
-use Rattle.usb_base.specs.Number.{le, le_at, byte_at, part, AreBytes}
-use Rattle.usb_base.specs.Setup.{setup_at, setup_bytes, IsSetup, SpellsRead, ReadsSpelled}
-use Rattle.usb_base.specs.declared.setup.Setup.{Setup}
+use Rattle.usb_base.specs.Number.{le, le_at, byte_at}
+use Rattle.usb_base.specs.Setup.{SpellsRead, ReadsSpelled}
 use Rattle.usb_base.proofs.Numbers.{then, le_spelled_16, le_found_16, length-le}
 
 first_two : (b : List ℕ) → 2 ≤ length b → byte_at 0 b ∷ byte_at 1 b ∷ [] ≡ take 2 b

@@ -1,5 +1,5 @@
 -- Endpoints: which bytes are addresses, their places in a table, and the table (USB 2.0, 9.6.6).
-use Rattle.std.specs.Prelude.{ℕ, ◌-◌, ◌%◌, ◌<◌, ◌==◌, nat_lt, not, Bool, if◌then◌else◌, replicate, List, get_or}
+use Rattle.std.specs.Prelude.{ℕ, ◌-◌, ◌%◌, ◌<◌, ◌==◌, nat_lt, not, Bool, if◌then◌else◌, replicate, get_or}
 use Rattle.usb_base.specs.declared.endpoint.EpKind.{EpKind}
 use Rattle.usb_base.specs.declared.endpoint.EpKind.TheVariants.{Control, Iso, Bulk, Interrupt, Invalid}
 use Rattle.usb_base.specs.declared.endpoint.EpRow.{EpRow}

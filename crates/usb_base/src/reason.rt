@@ -3,8 +3,8 @@
 ghost use Rattle.std.specs.Prelude.{◌≡◌};
 ghost use Rattle.usb_base.specs.Reason.{number_of, name_of};
 
-/// Why a side is refused. Reasons below 20 are the client's, those from 20 to 39 the host's, and the others
-/// those of a USB/IP server.
+/// Why a side is refused. The reasons up to `DuplicateSeq` are the client's, `NotBuilt` is both sides', those
+/// from `HelloFirst` to `Mismatch` are the host's, and the last two those of a USB/IP server.
 #[derive(Clone, Copy, Debug, PartialEq, Eq)]
 pub enum Reason {
     /// The packet's first two bytes are no USB/IP version 1.1.1, and no URB packet.
