@@ -1,0 +1,98 @@
+-- `position`, `find` and `without_first` together.
+use Rattle.std.proofs.Common.{◌≡◌, ℕ, suc, ◌+◌, ◌<◌, ◌≤◌, Bool, true, false, cond, not, ltb, List, [], ◌∷◌, length, set, Some, None, is_some, ◌||◌, refl, ap, sym, ◌∙◌, arith, inl, inr}
+use Rattle.std.specs.List.{find, position, position_or_len, remove, slice_get, list_any}
+use Rattle.std.proofs.lemmas.Bool.{ltb-true, ltb-false, lt-ltb, cases_Bool}
+use Rattle.std.proofs.lemmas.Grind.{common_steps}
+use Rattle.std.proofs.lemmas.List.Folds.{find_at}
+use Rattle.unlink_race.specs.Firsts.{without_first, change_first}
+
+remove_front : {X : Type 0} (x : X) (xs : List X) (n : ℕ) → remove (x ∷ xs) (1 + n) ≡ x ∷ remove xs n
+remove_front x xs n = let e : 1 + n ≡ suc n = omega arith in ap (remove (x ∷ xs)) e
+
+-- what stands at the first place that passes, and what is left without it
+pub remove_first : {X : Type 0} (p : X → Bool) (xs : List X) → remove xs (position_or_len p xs) ≡ without_first p xs
+remove_first p [] = refl
+remove_first {X = X} p (x ∷ xs) =
+    elim (p x) as (λ (b : Bool). remove {X = X} (x ∷ xs) (cond (not b) (1 + position_or_len p xs) 0) ≡ cond b xs (x ∷ without_first p xs)) [
+      | true ↦ refl
+      | false ↦ remove_front x xs (position_or_len p xs) ∙ ap (λ ys. x ∷ ys) (remove_first p xs)
+    ]
+
+pub position_found : {X : Type 0} (p : X → Bool) (xs : List X) (i : ℕ) → position p xs ≡ Some i → (i ≡ position_or_len p xs) × (i < length xs)
+position_found p xs i is =
+    let n = position_or_len p xs in
+    elim (cases_Bool (ltb n (length xs))) [
+      | inl there ↦
+          let e : Some n ≡ Some i = sym (ap (λ b. cond b (Some n) None) there) ∙ is in
+          let same : i ≡ n = cc in
+          (same, rw same (ltb-true n (length xs) there))
+      | inr past ↦
+          let e : None ≡ Some i = sym (ap (λ b. cond b (Some n) None) past) ∙ is in
+          absurd (cc)
+    ]
+
+pub position_past : {X : Type 0} (p : X → Bool) (xs : List X) → position p xs ≡ None → length xs ≤ position_or_len p xs
+position_past p xs is =
+    let n = position_or_len p xs in
+    elim (cases_Bool (ltb n (length xs))) [
+      | inl there ↦
+          let e : Some n ≡ None = sym (ap (λ b. cond b (Some n) None) there) ∙ is in
+          absurd (cc)
+      | inr past ↦ ltb-false n (length xs) past
+    ]
+
+pub find_past : {X : Type 0} (p : X → Bool) (xs : List X) → length xs ≤ position_or_len p xs → (find p xs ≡ None) × (without_first p xs ≡ xs)
+find_past p [] past = (refl, refl)
+find_past {X = X} p (x ∷ xs) past =
+    elim (p x) as (λ (b : Bool). length (x ∷ xs) ≤ cond (not b) (1 + position_or_len p xs) 0 → (cond b (Some x) (find p xs) ≡ None) × (cond b xs (x ∷ without_first p xs) ≡ x ∷ xs)) [
+      | true ↦ λ h. absurd (omega arith)
+      | false ↦ λ h. let r = find_past p xs (omega arith) in (r.0, ap (λ ys. x ∷ ys) r.1)
+    ] past
+
+-- what stands at the place that `position` gives is what `find` gives, and the rest is the list without it
+pub took_first : {X : Type 0} (p : X → Bool) (xs : List X) (i : ℕ) → position p xs ≡ Some i → (slice_get xs i ≡ find p xs) × (remove xs i ≡ without_first p xs)
+took_first p xs i is =
+    let at = position_found p xs i is in
+    (ap (slice_get xs) at.0 ∙ sym (find_at p xs), ap (remove xs) at.0 ∙ remove_first p xs)
+
+pub took_none : {X : Type 0} (p : X → Bool) (xs : List X) → position p xs ≡ None → (None ≡ find p xs) × (xs ≡ without_first p xs)
+took_none p xs is = let r = find_past p xs (position_past p xs is) in (sym r.0, sym r.1)
+
+-- a place is found where an element passes
+pub is_some-position : {X : Type 0} (p : X → Bool) (xs : List X) → is_some (position p xs) ≡ list_any p xs
+is_some-position p xs = is_some-cond _ _ ∙ within p xs
+  where
+    is_some-cond : (b : Bool) (n : ℕ) → is_some (cond b (Some n) None) ≡ b
+    is_some-cond true n = refl
+    is_some-cond false n = refl
+
+    within : {X : Type 0} (p : X → Bool) (xs : List X) → ltb (position_or_len p xs) (length xs) ≡ list_any p xs
+    within p [] = refl
+    within p (x ∷ xs) =
+        elim (p x) as (λ (b : Bool). ltb (cond (not b) (1 + position_or_len p xs) 0) (length (x ∷ xs)) ≡ (b || list_any p xs)) [
+          | true ↦ lt-ltb _ _ (omega arith)
+          | false ↦ ltb-suc (position_or_len p xs) (length xs) ∙ within p xs
+        ]
+      where
+        ltb-suc : (a b : ℕ) → ltb (1 + a) (suc b) ≡ ltb a b
+        ltb-suc a b = grind (arith, common_steps)
+
+set_front : {X : Type 0} (x y : X) (xs : List X) (n : ℕ) → set (x ∷ xs) (1 + n) y ≡ x ∷ set xs n y
+set_front x y xs n = let e : 1 + n ≡ suc n = omega arith in ap (λ m. set (x ∷ xs) m y) e
+
+get_front : {X : Type 0} (x : X) (xs : List X) (n : ℕ) → slice_get (x ∷ xs) (1 + n) ≡ slice_get xs n
+get_front x xs n = let e : 1 + n ≡ suc n = omega arith in ap (slice_get (x ∷ xs)) e
+
+pub changed_first : {X : Type 0} (p : X → Bool) (f : X → X) (xs : List X) (i : ℕ) (x : X) → position p xs ≡ Some i → slice_get xs i ≡ Some x → set xs i (f x) ≡ change_first p f xs
+changed_first {X = X} p f xs i x is read =
+    let at = position_found p xs i is in
+    let there : slice_get xs (position_or_len p xs) ≡ Some x = ap (slice_get xs) (sym at.0) ∙ read in
+    ap (λ k. set xs k (f x)) at.0 ∙ within xs there
+  where
+    within : (ys : List X) → slice_get ys (position_or_len p ys) ≡ Some x → set ys (position_or_len p ys) (f x) ≡ change_first p f ys
+    within [] h = refl
+    within (y ∷ ys) h =
+        elim (p y) as (λ (b : Bool). slice_get (y ∷ ys) (cond (not b) (1 + position_or_len p ys) 0) ≡ Some x → set (y ∷ ys) (cond (not b) (1 + position_or_len p ys) 0) (f x) ≡ cond b (f y ∷ ys) (y ∷ change_first p f ys)) [
+          | true ↦ λ g. let e : Some y ≡ Some x = g in let same : y ≡ x = cc in ap (λ z. f z ∷ ys) (sym same)
+          | false ↦ λ g. set_front y (f x) ys (position_or_len p ys) ∙ ap (λ zs. y ∷ zs) (within ys (sym (get_front y ys (position_or_len p ys)) ∙ g))
+        ] h

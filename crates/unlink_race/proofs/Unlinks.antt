@@ -1,0 +1,13 @@
+-- What an unlink is told and leaves, where a request has the number and isn't being unlinked.
+use Rattle.std.proofs.Common.{◌≡◌, ℕ, List, Option, Some, None, ap, ◌∙◌}
+use Rattle.unlink_race.specs.declared.live.Live.{Live}
+use Rattle.unlink_race.specs.declared.live.LiveKind.{LiveKind}
+use Rattle.unlink_race.specs.Unlinking.{told_of, told_live, told_first, left_by, left_live, left_first}
+
+pub told_at : (found : Option Live) (live : Live) (kind : LiveKind) → found ≡ Some live → live.unlinker ≡ None → live.kind ≡ kind → told_of found ≡ told_first kind live
+told_at found live kind is free of_kind =
+    ap told_of is ∙ ap (λ o. told_live o live) free ∙ ap (λ k. told_first k live) of_kind
+
+pub left_at : (target by : ℕ) (lives : List Live) (found : Option Live) (live : Live) (kind : LiveKind) → found ≡ Some live → live.unlinker ≡ None → live.kind ≡ kind → left_by target by found lives ≡ left_first target by kind lives
+left_at target by lives found live kind is free of_kind =
+    ap (λ o. left_by target by o lives) is ∙ ap (λ o. left_live target by o live.kind lives) free ∙ ap (λ k. left_first target by k lives) of_kind

@@ -1,0 +1,3 @@
+-- What only private functions cite: how the table holds its list.
+pub mod Listed
+pub mod Sound

@@ -1,0 +1,16 @@
+-- A list that is kept as rows: each row has a key, and a table has an entry at the key.
+use Rattle.std.specs.Prelude.{◌≢◌, ℕ, List, [], ◌∷◌, Option, ⊤, IsSome, filter_map}
+
+-- no row has this key
+abbrev pub Absent : {R : Type 0} → (R → ℕ) → ℕ → List R → Type 0
+Absent key k [] = ⊤
+Absent key k (r ∷ rs) = (key r ≢ k) × Absent key k rs
+
+-- each row's key has an entry, and no two rows have one key
+abbrev pub Kept : {R X : Type 0} → (R → ℕ) → (ℕ → Option X) → List R → Type 0
+Kept key table [] = ⊤
+Kept key table (r ∷ rs) = IsSome (table (key r)) × Absent key (key r) rs × Kept key table rs
+
+-- the entries in the rows' order
+abbrev pub listed : {R X : Type 0} → (R → ℕ) → (ℕ → Option X) → List R → List X
+listed key table rows = filter_map (λ r. table (key r)) rows

@@ -1,0 +1,7 @@
+pub mod Firsts
+pub mod Tests
+pub mod Requests
+pub mod Accepting
+pub mod Unlinking
+pub mod Endings
+pub mod Inner

@@ -1,0 +1,19 @@
+-- What `Lives` is seen as: the requests of the present client, and those that a former client left with the
+-- host, each in order of acceptance. A client comes only once nothing is left of the former.
+use Rattle.std.specs.Prelude.{◌≡◌, ◌⊎◌, List, [], filter}
+use Rattle.unlink_race.specs.declared.live.Live.{Live}
+use Rattle.unlink_race.specs.Tests.{goes_by_id}
+
+pub record Requests : Type 0 where
+  pub live : List Live
+  pub abandoned : List Live
+
+abbrev pub no_requests : Requests
+no_requests = record { live = []; abandoned = [] }
+
+abbrev pub OneIsEmpty : Requests → Type 0
+OneIsEmpty r = (r.live ≡ []) ⊎ (r.abandoned ≡ [])
+
+-- the client goes: the host still has the requests that went by id, and those that waited for a stream are no more
+abbrev pub left_behind : Requests → Requests
+left_behind r = record { live = []; abandoned = filter goes_by_id r.live }

@@ -1,0 +1,42 @@
+-- What is asked of a request in flight.
+use Rattle.std.specs.Prelude.{ℕ, Bool, true, false, not, ◌&&◌, ◌==◌}
+use Rattle.control_route.specs.Changes.{touches, is_change as is_change_route}
+use Rattle.control_route.specs.declared.route.Route.{Route}
+use Rattle.unlink_race.specs.declared.live.Live.{Live}
+use Rattle.unlink_race.specs.declared.live.LiveKind.{LiveKind}
+use Rattle.unlink_race.specs.declared.live.LiveKind.TheVariants.{Wire, Routed, Stream}
+
+-- it waits for packets of a stream
+abbrev pub is_stream : LiveKind → Bool
+is_stream (Wire ep) = false
+is_stream (Routed route) = false
+is_stream (Stream ep interface) = true
+
+-- for those of this endpoint's
+abbrev pub waits_at : ℕ → LiveKind → Bool
+waits_at at (Wire ep) = false
+waits_at at (Routed route) = false
+waits_at at (Stream ep interface) = ep == at
+
+-- for those of a stream that ends once the route is carried out
+abbrev pub is_touched_by : Route → LiveKind → Bool
+is_touched_by by (Wire ep) = false
+is_touched_by by (Routed route) = false
+is_touched_by by (Stream ep interface) = touches by interface
+
+-- it changes the device's interfaces
+abbrev pub is_change : LiveKind → Bool
+is_change (Wire ep) = false
+is_change (Routed route) = is_change_route route
+is_change (Stream ep interface) = false
+
+abbrev pub has_number : ℕ → Live → Bool
+has_number seqnum live = live.seqnum == seqnum
+
+-- an answer with its id ends it: it is a wire or a route request
+abbrev pub goes_by_id : Live → Bool
+goes_by_id live = not (is_stream live.kind)
+
+-- the id of a stream request is none
+abbrev pub has_id : ℕ → Live → Bool
+has_id id live = goes_by_id live && (live.id == id)

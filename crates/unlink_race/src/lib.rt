@@ -1,0 +1,16 @@
+//! The requests of a client that are in flight: which there are, which of them is being unlinked, and what an
+//! answer ends.
+#![tactic(auto)]
+
+mod ending;
+mod live;
+mod lives;
+mod table;
+#[cfg(test)]
+mod tests;
+mod unlink;
+
+pub use ending::{Ending, ending_of};
+pub use live::{Live, LiveKind};
+pub use lives::{Lives, NotAccepted};
+pub use unlink::UnlinkTold;

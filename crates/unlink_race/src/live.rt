@@ -1,0 +1,80 @@
+//! A request in flight.
+
+ghost use Rattle.std.specs.Prelude.{◌≡◌};
+ghost use Rattle.unlink_race.specs.Tests.{is_stream, waits_at, is_touched_by, is_change};
+
+use control_route::Route;
+use usb_base::EpAddr;
+use usbip_urb::Descs;
+
+/// What a request waits for.
+#[derive(Clone, Copy, Debug, PartialEq, Eq)]
+pub enum LiveKind {
+    /// The host's answer with its id: it went as a packet with the transfer.
+    Wire { ep: EpAddr },
+    /// The host's status with its id: it went as packets of its own, by its route.
+    Routed(Route),
+    /// Packets of an endpoint's stream. The interface is the one that the stream went up with.
+    Stream { ep: EpAddr, interface: u8 },
+}
+
+impl LiveKind {
+    /// Whether it waits for packets of a stream, and not for an answer with its id.
+    pub fn is_stream(&self) -> bool
+        ensures { result ≡ is_stream self.now }
+    {
+        matches!(self, LiveKind::Stream { .. })
+    }
+
+    /// Whether it waits for packets of this endpoint's stream.
+    pub fn waits_at(&self, ep: EpAddr) -> bool
+        ensures { result ≡ waits_at ep self.now }
+    {
+        match self {
+            LiveKind::Stream { ep: its, .. } => its.byte() == ep.byte(),
+            _ => false,
+        }
+    }
+
+    /// Whether it waits for packets of a stream that ends once this route is carried out.
+    pub fn is_touched_by(&self, route: &Route) -> bool
+        ensures { result ≡ is_touched_by route.now self.now }
+    {
+        match self {
+            LiveKind::Stream { interface, .. } => control_route::touches(route, *interface),
+            _ => false,
+        }
+    }
+
+    /// Whether it changes the device's interfaces.
+    pub fn is_change(&self) -> bool
+        ensures { result ≡ is_change self.now }
+    {
+        match self {
+            LiveKind::Routed(route) => control_route::is_change(route),
+            _ => false,
+        }
+    }
+}
+
+/// A request in flight: a submit that was accepted and hasn't ended.
+#[derive(Debug, Drop)]
+pub struct Live {
+    /// The submit's number, which its answer has.
+    pub seqnum: u32,
+    /// The id of the packet whose answer ends it; 0 for one that waits for a stream.
+    pub id: u64,
+    pub kind: LiveKind,
+    /// Whether data go from the device to the client.
+    pub is_in: bool,
+    /// How many bytes are asked for or sent (transfer_buffer_length of the submit).
+    pub wanted: u32,
+    /// transfer_flags of the submit.
+    pub flags: u32,
+    /// number_of_packets of the submit, which its answer echoes.
+    pub packets: u32,
+    /// Its isochronous packets, in wire order.
+    pub descs: Descs,
+    /// The number of the unlink that asks for it back.
+    pub unlinker: Option<u32>,
+}

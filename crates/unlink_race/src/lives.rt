@@ -1,0 +1,241 @@
+//! The requests in flight.
+
+ghost use Rattle.std.specs.Prelude.{◌≡◌, ◌≤◌, ◌||◌, [], ◌∷◌, ◌++◌, length, drop, slice_get, option_copied, IfOk, OnOk, OnErr};
+ghost use Rattle.std.specs.List.{find, list_any};
+ghost use Rattle.std.specs.Result.{result_err};
+ghost use Rattle.unlink_race.specs.Firsts.{without_first};
+ghost use Rattle.unlink_race.specs.Tests.{has_number, has_id, waits_at, is_touched_by, is_change};
+ghost use Rattle.unlink_race.specs.Requests.{no_requests, left_behind, OneIsEmpty};
+ghost use Rattle.unlink_race.specs.Accepting.{refusal_of};
+ghost use Rattle.unlink_race.specs.Unlinking.{told_of, left_by};
+
+use crate::live::Live;
+use crate::table::{ROOM, Table};
+use crate::unlink::{UnlinkTold, unlink};
+use control_route::Route;
+use std::alloc::Global;
+use std::marker::Model;
+use usb_base::{EpAddr, Memory};
+
+/// Why a submit isn't accepted.
+#[derive(Clone, Copy, Debug, PartialEq, Eq)]
+pub enum NotAccepted {
+    /// 4,096 requests are live.
+    Full,
+    /// A request with this number is live.
+    SeqInFlight(u32),
+}
+
+/// A client's requests in flight, or those that a former client left with the host; contracts see both lists, in
+/// order of acceptance, of which one is always empty. All memory is taken by `make`.
+#[derive(Drop)]
+pub struct Lives {
+    table: Table,
+    // the client that sent them has gone: they are abandoned
+    client_gone: bool,
+}
+
+impl Model for Lives {
+    ghost use Rattle.unlink_race.specs.Requests.{Requests};
+    ghost use Rattle.unlink_race.specs.Inner.Sound.{requests_of};
+
+    ghost Value = { Requests };
+
+    ghost view = { λ l. requests_of l.client_gone l.table };
+}
+
+impl Lives {
+    /// No request, and the room for 4,096.
+    pub fn make(alloc: Global) -> Result<Self, Memory>
+        ensures { IfOk result (λ lives. lives ≡ no_requests) }
+    {
+        Ok(Lives {
+            table: Table::make(alloc)?,
+            client_gone: false,
+        })
+    }
+
+    /// How many are live.
+    pub fn len(&self) -> usize
+        ensures len { result ≡ length self.now.live }
+        ensures bound { result ≤ 4096 }
+    {
+        if self.client_gone {
+            0
+        } else {
+            self.table.len()
+        }
+    }
+
+    /// How many are abandoned.
+    pub fn abandoned(&self) -> usize
+        ensures len { result ≡ length self.now.abandoned }
+        ensures bound { result ≤ 4096 }
+        ensures one_is_empty { OneIsEmpty self.now }
+    {
+        if self.client_gone {
+            self.table.len()
+        } else {
+            0
+        }
+    }
+
+    /// Whether one with this number is live.
+    pub fn has(&self, seqnum: u32) -> bool
+        ensures { result ≡ list_any (has_number seqnum) self.now.live }
+    {
+        !self.client_gone && self.table.has_number(seqnum)
+    }
+
+    /// Whether an id is that of a wire or route request, live or abandoned.
+    pub fn holds_id(&self, id: u64) -> bool
+        ensures { result ≡ (list_any (has_id id) self.now.live || list_any (has_id id) self.now.abandoned) }
+    {
+        self.table.has_id(id)
+    }
+
+    /// Whether a change of the device's interfaces is live.
+    pub fn change_waits(&self) -> bool
+        ensures { result ≡ list_any (λ live. is_change live.kind) self.now.live }
+    {
+        !self.client_gone && self.table.has_change()
+    }
+
+    /// Takes a request in, as the last. One whose number is live is turned away, and then any where 4,096 are
+    /// live; what is turned away is dropped.
+    pub fn accept(&mut self, live: Live) -> Result<(), NotAccepted>
+        requires { self.old.abandoned ≡ [] }
+        ensures answer { result_err result ≡ refusal_of self.old.live live }
+        ensures ok { OnOk result (self.new ≡ record self.old { live = self.old.live ++ live ∷ [] }) }
+        ensures err { OnErr result (self.new ≡ self.old) }
+    {
+        if self.table.has_number(live.seqnum) {
+            return Err(NotAccepted::SeqInFlight(live.seqnum));
+        }
+        if self.table.len() == ROOM {
+            return Err(NotAccepted::Full);
+        }
+        self.client_gone = false;
+        self.table.push(live);
+        Ok(())
+    }
+
+    /// An unlink of the request with the number `target`; `by` is the unlink's own. It takes out a stream request,
+    /// and marks any other: the first unlink is kept.
+    pub fn unlink(&mut self, target: u32, by: u32) -> UnlinkTold
+        ensures told { result ≡ told_of (find (has_number target) self.old.live) }
+        ensures left { self.new ≡ record self.old { live = left_by target by (find (has_number target) self.old.live) self.old.live } }
+    {
+        if self.client_gone {
+            return UnlinkTold::NotLive;
+        }
+        unlink(&mut self.table, target, by)
+    }
+
+    /// The live wire or route request with an id.
+    pub fn find(&self, id: u64) -> Option<&Live>
+        ensures { option_copied result ≡ find (has_id id) self.now.live }
+    {
+        if self.client_gone {
+            return None;
+        }
+        self.table.get(self.table.place_of_id(id))
+    }
+
+    /// Takes it out.
+    pub fn finish(&mut self, id: u64) -> Option<Live>
+        ensures found { result ≡ find (has_id id) self.old.live }
+        ensures rest { self.new ≡ record self.old { live = without_first (has_id id) self.old.live } }
+    {
+        if self.client_gone {
+            return None;
+        }
+        let place = self.table.place_of_id(id);
+        self.table.take(place)
+    }
+
+    /// The earliest request that waits for the stream of an endpoint.
+    pub fn front(&self, ep: EpAddr) -> Option<&Live>
+        ensures { option_copied result ≡ find (λ live. waits_at ep live.kind) self.now.live }
+    {
+        if self.client_gone {
+            return None;
+        }
+        self.table.get(self.table.place_waiting(ep))
+    }
+
+    /// Takes it out.
+    pub fn finish_front(&mut self, ep: EpAddr) -> Option<Live>
+        ensures found { result ≡ find (λ live. waits_at ep live.kind) self.old.live }
+        ensures rest { self.new ≡ record self.old { live = without_first (λ live. waits_at ep live.kind) self.old.live } }
+    {
+        if self.client_gone {
+            return None;
+        }
+        let place = self.table.place_waiting(ep);
+        self.table.take(place)
+    }
+
+    /// Takes out the earliest request that waits for a stream whose interface the route touches.
+    pub fn take_touched(&mut self, route: &Route) -> Option<Live>
+        ensures found { result ≡ find (λ live. is_touched_by route.now live.kind) self.old.live }
+        ensures rest { self.new ≡ record self.old { live = without_first (λ live. is_touched_by route.now live.kind) self.old.live } }
+    {
+        if self.client_gone {
+            return None;
+        }
+        let place = self.table.place_touched(route);
+        self.table.take(place)
+    }
+
+    /// Takes out the earliest of all that are live.
+    pub fn take_first(&mut self) -> Option<Live>
+        ensures found { result ≡ slice_get self.old.live 0 }
+        ensures rest { self.new ≡ record self.old { live = drop 1 self.old.live } }
+    {
+        if self.client_gone || self.table.len() == 0 {
+            return None;
+        }
+        Some(self.table.remove(0))
+    }
+
+    /// The client goes: its wire and route requests are abandoned, and its stream requests dropped.
+    pub fn abandon(&mut self)
+        requires { self.old.abandoned ≡ [] }
+        ensures { self.new ≡ left_behind self.old }
+    {
+        self.table.drop_streams();
+        self.client_gone = true;
+    }
+
+    /// The abandoned request with an id.
+    pub fn find_abandoned(&self, id: u64) -> Option<&Live>
+        ensures { option_copied result ≡ find (has_id id) self.now.abandoned }
+    {
+        if !self.client_gone {
+            return None;
+        }
+        self.table.get(self.table.place_of_id(id))
+    }
+
+    /// Takes it out.
+    pub fn finish_abandoned(&mut self, id: u64) -> Option<Live>
+        ensures found { result ≡ find (has_id id) self.old.abandoned }
+        ensures rest { self.new ≡ record self.old { abandoned = without_first (has_id id) self.old.abandoned } }
+    {
+        if !self.client_gone {
+            return None;
+        }
+        let place = self.table.place_of_id(id);
+        self.table.take(place)
+    }
+
+    /// Drops the abandoned requests: the host that had them is lost.
+    pub fn forget_abandoned(&mut self)
+        ensures { self.new ≡ record self.old { abandoned = [] } }
+    {
+        if self.client_gone {
+            self.table.clear();
+        }
+    }
+}
