@@ -1,4 +1,5 @@
 pub mod Formats
+pub mod Told
 pub mod Joins
 pub mod Laws
 pub mod Splits
