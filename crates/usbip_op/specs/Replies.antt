@@ -1,4 +1,4 @@
--- The replies of a host before a device is imported ("usbip_protocol", OP_REP_DEVLIST and OP_REP_IMPORT).
+-- The replies of a server before a device is imported ("usbip_protocol", OP_REP_DEVLIST and OP_REP_IMPORT).
 use Rattle.std.specs.Prelude.{ℕ, ◌+◌, ◌==◌, ◌&&◌, ◌||◌, not, nat_le, if◌then◌else◌, List, [], ◌∷◌, drop, Some, None}
 use Rattle.std.specs.Int.{w16, w32}
 use Rattle.usb_base.specs.Number.{be_at}
