@@ -2,8 +2,24 @@
 //! submits, unlinks and their answers. All numbers are big-endian.
 #![tactic(auto)]
 
+mod answer;
+mod buffer;
+mod check;
+mod code;
+mod field;
 mod packet;
+mod request;
+mod write;
 
+pub use answer::{answers_sound, read_ret, read_ret_again, ret_seqnum};
+pub use buffer::{laid, part, total};
+pub use code::{
+    EXPORTED_DEVID, MAX_ENDPOINT, MAX_LENGTH, MAX_PACKET_LENGTH, MAX_PACKETS, NO_PACKETS,
+    USBIP_CMD_SUBMIT, USBIP_CMD_UNLINK, USBIP_DIR_IN, USBIP_DIR_OUT, USBIP_RET_SUBMIT,
+    USBIP_RET_UNLINK,
+};
 pub use packet::{
     Descs, Head, IsoDesc, RetSubmit, RetUnlink, Submit, Unlink, UrbError, UrbPacket, UrbRead,
 };
+pub use request::{read_urb, read_urb_again, requests_sound};
+pub use write::write_urb;
