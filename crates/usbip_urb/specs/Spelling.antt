@@ -1,5 +1,5 @@
 -- The bytes of URB packets, fields in wire order ("usbip_protocol", USBIP_CMD_SUBMIT to USBIP_RET_UNLINK).
-use Rattle.std.specs.Prelude.{ℕ, List, [], ◌∷◌, ◌++◌, length, flat_map}
+use Rattle.std.specs.Prelude.{ℕ, List, [], ◌∷◌, ◌++◌, flat_map}
 use Rattle.std.specs.Int.{w32, cast_unsigned}
 use Rattle.usb_base.specs.Number.{be}
 use Rattle.usbip_urb.specs.declared.packet.IsoDesc.{IsoDesc}

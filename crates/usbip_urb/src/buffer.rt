@@ -1,6 +1,7 @@
 //! Isochronous packets over their transfer buffer.
 
-ghost use Rattle.std.specs.Prelude.{◌≡◌, ◌≤◌, ◌<◌, length, IsTrue};
+ghost use Rattle.std.specs.Prelude.{◌≡◌, ◌+◌, ◌≤◌, ◌<◌, length, IsTrue};
+ghost use Rattle.usb_base.specs.Number.{part as part_of};
 ghost use Rattle.usbip_urb.specs.Buffers.{laid, stretch, total};
 
 use crate::code::MAX_PACKET_LENGTH;
@@ -29,8 +30,14 @@ pub fn part<'a>(descs: &Descs, body: &'a [u8], k: usize) -> &'a [u8]
     ensures { result.now ≡ stretch descs.now body.now k }
 {
     let desc = &descs.as_slice()[k];
-    let start = desc.offset as usize;
-    &body[start..start + desc.length as usize]
+    piece_at(body, desc.offset as usize, desc.length as usize)
+}
+
+fn piece_at(bytes: &[u8], start: usize, size: usize) -> &[u8]
+    requires { start + size ≤ length bytes.now }
+    ensures { result.now ≡ part_of start size bytes.now }
+{
+    &bytes[start..start + size]
 }
 
 /// How many bytes were moved in all: the sum of the actual lengths.
