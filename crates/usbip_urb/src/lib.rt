@@ -9,6 +9,8 @@ mod code;
 mod field;
 mod packet;
 mod request;
+#[cfg(test)]
+mod tests;
 mod write;
 
 pub use answer::{answers_sound, read_ret, read_ret_again, ret_seqnum};
