@@ -25,7 +25,7 @@ use Rattle.usbip_urb.specs.Checks.{command_check, size_checks, has_command, answ
 use Rattle.usbip_urb.specs.Answers.{answer_size_by, answer_by, answers}
 use Rattle.usbip_urb.proofs.Words.{words_at, words_spelled, words_below, length-words, word_in}
 use Rattle.usbip_urb.proofs.Descriptors.{signed_again, signed_fits}
-use Rattle.usbip_urb.proofs.Tails.{tail_found, tail_again}
+use Rattle.usbip_urb.proofs.Payloads.{payload_found, payload_again}
 use Rattle.usbip_urb.proofs.Limits.{IsWithinLimits, limits_right, limits_found, limits_steady}
 
 -- ---- the checks, as what they say of the fields
@@ -79,21 +79,21 @@ submit_found is_in b are right is there =
     let front : ret_submit_words r ≡ words_at 10 0 b =
     ap (λ (n : ℕ). ret_submit ∷ be_at w32 4 b ∷ be_at w32 8 b ∷ be_at w32 12 b ∷ be_at w32 16 b ∷ n ∷ words_at 4 24 b) (signed_again (be_at w32 20 b) below)
     ∙ ap (λ (n : ℕ). n ∷ words_at 9 4 b) (sym is) in
-    let tail = tail_found is_in b (words (ret_submit_words r)) are there (ap words front ∙ words_spelled 10 0 b are (omega (arith, there))) in
+    let payload = payload_found is_in b (words (ret_submit_words r)) are there (ap words front ∙ words_spelled 10 0 b are (omega (arith, there))) in
     let within = right.limits is in (
-      tail.spelled,
+      payload.spelled,
       (
         record {
           few_bytes = within.few_bytes;
           few_packets = within.few_packets;
-          body = tail.body;
-          descs = tail.descs;
+          body = payload.body;
+          descs = payload.descs;
         },
         record {
           words = All-same IsWord (ret_submit_words r) (words_at 10 0 b) front (words_below 10 0 b are);
           status = signed_fits (be_at w32 20 b) below;
-          tail = tail.eight;
-          descs = tail.fits;
+          tail = payload.eight;
+          descs = payload.fits;
         },
       ),
     )
@@ -159,7 +159,7 @@ submit_again is_in r x more e fits =
     let errors : be_at w32 36 x ≡ r.errors = word_in 9 ws rest x is ok (omega arith) in
     let body_long : length r.body ≡ body_size is_in (be_at w32 24 x) = rw actual fits.0.body in
     let counted : length r.descs ≡ count_of (be_at w32 32 x) = rw packets fits.0.descs in
-    let tail = tail_again is_in x (words ws) r.tail r.body r.descs more e (length-words ws) fits.1.tail body_long counted fits.1.descs in
+    let payload = payload_again is_in x (words ws) r.tail r.body r.descs more e (length-words ws) fits.1.tail body_long counted fits.1.descs in
     let packet : ret_submit_at is_in x ≡ r = λ t. record {
       head = record { seqnum = seqnum t; devid = devid t; direction = direction t; ep = ep t };
       status = status t;
@@ -167,16 +167,16 @@ submit_again is_in r x more e fits =
       start_frame = start_frame t;
       packets = packets t;
       errors = errors t;
-      tail = tail.is_eight t;
-      body = tail.is_body t;
-      descs = tail.is_descs t;
+      tail = payload.is_eight t;
+      body = payload.is_body t;
+      descs = payload.is_descs t;
     } in
     record {
       right = record {
         command = inl command;
         limits = λ _. record { few_bytes = rw actual fits.0.few_bytes; few_packets = rw packets fits.0.few_packets };
       };
-      size = ap (λ (n : ℕ). answer_size_by is_in n x) command ∙ tail.size;
+      size = ap (λ (n : ℕ). answer_size_by is_in n x) command ∙ payload.size;
       packet = ap (λ (n : ℕ). answer_by is_in n x) command ∙ ap urb.RetSubmit packet;
     }
 

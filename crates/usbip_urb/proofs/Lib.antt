@@ -1,8 +1,9 @@
 pub mod Words
 pub mod Descriptors
-pub mod Tails
+pub mod Payloads
 pub mod Limits
 pub mod Requests
 pub mod Answers
 pub mod Told
+pub mod Wanting
 pub mod Buffers

@@ -23,7 +23,7 @@ use Rattle.usbip_urb.specs.Ranges.{IsWord, IsRequest}
 use Rattle.usbip_urb.specs.Checks.{version_check, command_check, device_check, direction_check, endpoint_check, size_checks, has_command, request_checks}
 use Rattle.usbip_urb.specs.Requests.{request_size_by, request_by, requests}
 use Rattle.usbip_urb.proofs.Words.{words_at, words_spelled, words_below, length-words, word_in}
-use Rattle.usbip_urb.proofs.Tails.{tail_found, tail_again}
+use Rattle.usbip_urb.proofs.Payloads.{payload_found, payload_again}
 use Rattle.usbip_urb.proofs.Limits.{IsWithinLimits, limits_right, limits_found, limits_steady}
 
 -- ---- the checks, as what they say of the fields
@@ -121,22 +121,22 @@ submit_found b are right is there =
     let s = submit_at b in
     let out = is_out (be_at w32 12 b) in
     let front : submit_words s ≡ words_at 10 0 b = ap (λ (n : ℕ). n ∷ words_at 9 4 b) (sym is) in
-    let tail = tail_found out b (words (submit_words s)) are there (ap words front ∙ words_spelled 10 0 b are (omega (arith, there))) in
+    let payload = payload_found out b (words (submit_words s)) are there (ap words front ∙ words_spelled 10 0 b are (omega (arith, there))) in
     let within = right.limits is in (
-      tail.spelled,
+      payload.spelled,
       (
         record {
           head = record { direction = right.direction; endpoint = right.endpoint };
           few_bytes = within.few_bytes;
           few_packets = within.few_packets;
-          body = tail.body;
-          descs = tail.descs;
+          body = payload.body;
+          descs = payload.descs;
         },
         right.device,
         record {
           words = All-same IsWord (submit_words s) (words_at 10 0 b) front (words_below 10 0 b are);
-          setup = tail.eight;
-          descs = tail.fits;
+          setup = payload.eight;
+          descs = payload.fits;
         },
       ),
     )
@@ -210,7 +210,7 @@ submit_again s x more e fits =
     let interval : be_at w32 36 x ≡ s.interval = word_in 9 ws rest x is ok (omega arith) in
     let body_long : length s.body ≡ body_size (is_out (be_at w32 12 x)) (be_at w32 24 x) = rw (direction, asked) fits.0.body in
     let counted : length s.descs ≡ count_of (be_at w32 32 x) = rw packets fits.0.descs in
-    let tail = tail_again (is_out (be_at w32 12 x)) x (words ws) s.setup s.body s.descs more e (length-words ws) fits.2.setup body_long counted fits.2.descs in
+    let payload = payload_again (is_out (be_at w32 12 x)) x (words ws) s.setup s.body s.descs more e (length-words ws) fits.2.setup body_long counted fits.2.descs in
     let packet : submit_at x ≡ s = λ t. record {
       head = record { seqnum = seqnum t; devid = devid t; direction = direction t; ep = ep t };
       flags = flags t;
@@ -218,9 +218,9 @@ submit_again s x more e fits =
       start_frame = start_frame t;
       packets = packets t;
       interval = interval t;
-      setup = tail.is_eight t;
-      body = tail.is_body t;
-      descs = tail.is_descs t;
+      setup = payload.is_eight t;
+      body = payload.is_body t;
+      descs = payload.is_descs t;
     } in
     record {
       right = record {
@@ -231,7 +231,7 @@ submit_again s x more e fits =
         endpoint = rw ep fits.0.head.endpoint;
         limits = λ _. record { few_bytes = rw asked fits.0.few_bytes; few_packets = rw packets fits.0.few_packets };
       };
-      size = ap (λ (n : ℕ). request_size_by n x) command ∙ tail.size;
+      size = ap (λ (n : ℕ). request_size_by n x) command ∙ payload.size;
       packet = ap (λ (n : ℕ). request_by n x) command ∙ ap urb.Submit packet;
     }
 

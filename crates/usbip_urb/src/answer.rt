@@ -1,26 +1,24 @@
 //! Answers read.
 
-ghost use Rattle.std.specs.Prelude.{◌≡◌, ◌++◌, ◌≤◌, ℕ, Bool, None, List, length, IsTrue, IfOk, OnErr};
+ghost use Rattle.std.specs.Prelude.{◌≡◌, ◌++◌, ◌≤◌, ℕ, Bool, None, List, length};
 ghost use Rattle.std.specs.Int.{w32};
 ghost use Rattle.usb_base.specs.Number.{be_at};
 ghost use Rattle.packet_stream.specs.Format.{IsSound, Stands, reading, reading_by, Whole as FoundWhole};
 ghost use Rattle.packet_stream.specs.Reads.{Answers, IfTold};
 ghost use Rattle.usbip_urb.specs.declared.packet.UrbPacket.{UrbPacket as Packet};
-ghost use Rattle.usbip_urb.specs.declared.packet.UrbPacket.TheVariants.{RetSubmit as RetSubmitPacket};
 ghost use Rattle.usbip_urb.specs.Codes.{ret_submit};
-ghost use Rattle.usbip_urb.specs.Sizes.{whole_size};
-ghost use Rattle.usbip_urb.specs.Fields.{ret_submit_at};
 ghost use Rattle.usbip_urb.specs.Spelling.{spelling};
 ghost use Rattle.usbip_urb.specs.Ranges.{IsAnswer};
 ghost use Rattle.usbip_urb.specs.Answers.{answers, seqnum_of};
 ghost use Rattle.usbip_urb.specs.Heap.{takes_memory};
 
 use crate::check::wrong_answer;
-use crate::code::{DESC_SIZE, HEAD_SIZE, USBIP_RET_SUBMIT};
-use crate::field::{copied, desc_count, descs_at, descs_place, head_at, ret_unlink_at};
+use crate::code::{HEAD_SIZE, USBIP_RET_SUBMIT};
+use crate::field::{head_at, ret_unlink_at};
 use crate::packet::{RetSubmit, UrbError, UrbPacket, UrbRead};
+use crate::payload::{copied, payload_of, read_descs};
 use std::alloc::Global;
-use usb_base::{Memory, array_at, be_u32_at};
+use usb_base::{array_at, be_u32_at};
 
 /// A law: what is read as an answer is spelled so, and what is spelled so is read.
 pub fn answers_sound()
@@ -74,24 +72,12 @@ fn read_ret_submit(alloc: Global, is_in: bool, bytes: &[u8]) -> Result<UrbRead, 
     requires head { 48 ≤ length bytes.now }
     ensures { Answers takes_memory result (reading_by (answers is_in) bytes.now None) }
 {
-    let size = descs_place(is_in, bytes) + desc_count(bytes) * DESC_SIZE;
-    if bytes.len() < size {
+    let Some(payload) = payload_of(is_in, bytes) else {
         return Ok(UrbRead::Short);
-    }
-    let answer = ret_submit_at(alloc, is_in, bytes)?;
-    Ok(UrbRead::Whole(UrbPacket::RetSubmit(answer), size))
-}
-
-fn ret_submit_at(alloc: Global, is_in: bool, bytes: &[u8]) -> Result<RetSubmit, Memory>
-    requires { whole_size is_in bytes.now ≤ length bytes.now }
-    ensures ok { IfOk result (λ answer. answer ≡ ret_submit_at is_in bytes.now) }
-    ensures err { OnErr result (IsTrue (takes_memory (RetSubmitPacket (ret_submit_at is_in bytes.now)))) }
-{
-    let place = descs_place(is_in, bytes);
-    let count = desc_count(bytes);
-    let body = copied(alloc, &bytes[HEAD_SIZE..place])?;
-    let descs = descs_at(alloc, count, &bytes[place..place + count * DESC_SIZE])?;
-    Ok(RetSubmit {
+    };
+    let body = copied(alloc, payload.body)?;
+    let descs = read_descs(alloc, payload.descs)?;
+    let answer = RetSubmit {
         head: head_at(bytes),
         status: be_u32_at(bytes, 20).cast_signed(),
         actual: be_u32_at(bytes, 24),
@@ -101,5 +87,6 @@ fn ret_submit_at(alloc: Global, is_in: bool, bytes: &[u8]) -> Result<RetSubmit, 
         tail: array_at(bytes, 40),
         body,
         descs,
-    })
+    };
+    Ok(UrbRead::Whole(UrbPacket::RetSubmit(answer), payload.size))
 }

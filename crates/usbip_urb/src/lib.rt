@@ -8,6 +8,7 @@ mod check;
 mod code;
 mod field;
 mod packet;
+mod payload;
 mod request;
 #[cfg(test)]
 mod tests;

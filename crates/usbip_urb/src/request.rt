@@ -1,26 +1,24 @@
 //! Requests read.
 
-ghost use Rattle.std.specs.Prelude.{◌≡◌, ◌++◌, ◌≤◌, ℕ, None, List, length, IsTrue, IfOk, OnErr};
+ghost use Rattle.std.specs.Prelude.{◌≡◌, ◌++◌, ◌≤◌, ℕ, None, List, length};
 ghost use Rattle.std.specs.Int.{w32};
 ghost use Rattle.usb_base.specs.Number.{be_at};
 ghost use Rattle.packet_stream.specs.Format.{IsSound, Stands, reading, reading_by, Whole as FoundWhole};
 ghost use Rattle.packet_stream.specs.Reads.{Answers, IfTold};
 ghost use Rattle.usbip_urb.specs.declared.packet.UrbPacket.{UrbPacket as Packet};
-ghost use Rattle.usbip_urb.specs.declared.packet.UrbPacket.TheVariants.{Submit as SubmitPacket};
 ghost use Rattle.usbip_urb.specs.Codes.{cmd_submit};
-ghost use Rattle.usbip_urb.specs.Sizes.{is_out, whole_size};
-ghost use Rattle.usbip_urb.specs.Fields.{submit_at};
 ghost use Rattle.usbip_urb.specs.Spelling.{spelling};
 ghost use Rattle.usbip_urb.specs.Ranges.{IsRequest};
 ghost use Rattle.usbip_urb.specs.Requests.{requests};
 ghost use Rattle.usbip_urb.specs.Heap.{takes_memory};
 
 use crate::check::wrong_request;
-use crate::code::{DESC_SIZE, HEAD_SIZE, USBIP_CMD_SUBMIT, USBIP_DIR_OUT};
-use crate::field::{copied, desc_count, descs_at, descs_place, head_at, unlink_at};
+use crate::code::{HEAD_SIZE, USBIP_CMD_SUBMIT, USBIP_DIR_OUT};
+use crate::field::{head_at, unlink_at};
 use crate::packet::{Submit, UrbError, UrbPacket, UrbRead};
+use crate::payload::{copied, payload_of, read_descs};
 use std::alloc::Global;
-use usb_base::{Memory, array_at, be_u32_at};
+use usb_base::{array_at, be_u32_at};
 
 /// A law: what is read as a request is spelled so, and what is spelled so is read.
 pub fn requests_sound()
@@ -65,25 +63,12 @@ fn read_submit(alloc: Global, bytes: &[u8]) -> Result<UrbRead, UrbError>
     ensures { Answers takes_memory result (reading_by requests bytes.now None) }
 {
     let is_out = be_u32_at(bytes, 12) == USBIP_DIR_OUT;
-    let size = descs_place(is_out, bytes) + desc_count(bytes) * DESC_SIZE;
-    if bytes.len() < size {
+    let Some(payload) = payload_of(is_out, bytes) else {
         return Ok(UrbRead::Short);
-    }
-    let submit = submit_at(alloc, bytes)?;
-    Ok(UrbRead::Whole(UrbPacket::Submit(submit), size))
-}
-
-fn submit_at(alloc: Global, bytes: &[u8]) -> Result<Submit, Memory>
-    requires { whole_size (is_out (be_at w32 12 bytes.now)) bytes.now ≤ length bytes.now }
-    ensures ok { IfOk result (λ submit. submit ≡ submit_at bytes.now) }
-    ensures err { OnErr result (IsTrue (takes_memory (SubmitPacket (submit_at bytes.now)))) }
-{
-    let is_out = be_u32_at(bytes, 12) == USBIP_DIR_OUT;
-    let place = descs_place(is_out, bytes);
-    let count = desc_count(bytes);
-    let body = copied(alloc, &bytes[HEAD_SIZE..place])?;
-    let descs = descs_at(alloc, count, &bytes[place..place + count * DESC_SIZE])?;
-    Ok(Submit {
+    };
+    let body = copied(alloc, payload.body)?;
+    let descs = read_descs(alloc, payload.descs)?;
+    let submit = Submit {
         head: head_at(bytes),
         flags: be_u32_at(bytes, 20),
         length: be_u32_at(bytes, 24),
@@ -93,5 +78,6 @@ fn submit_at(alloc: Global, bytes: &[u8]) -> Result<Submit, Memory>
         setup: array_at(bytes, 40),
         body,
         descs,
-    })
+    };
+    Ok(UrbRead::Whole(UrbPacket::Submit(submit), payload.size))
 }

@@ -13,15 +13,15 @@ use Rattle.usbip_urb.proofs.Descriptors.{descs_found, descs_counted, descs_long,
 
 -- ---- what is read is spelled so
 
-pub record IsFoundTail (has_body : Bool) (b front : List ℕ) : Type 0 where
+pub record IsFoundPayload (has_body : Bool) (b front : List ℕ) : Type 0 where
   pub spelled : front ++ part 40 8 b ++ body_at has_body b ++ descs_bytes (descs_behind has_body b) ≡ take (whole_size has_body b) b
   pub eight : length (part 40 8 b) ≡ 8
   pub body : length (body_at has_body b) ≡ body_size has_body (be_at w32 24 b)
   pub descs : length (descs_behind has_body b) ≡ count_of (be_at w32 32 b)
   pub fits : All DescFits (descs_behind has_body b)
 
-pub tail_found : (has_body : Bool) (b front : List ℕ) → AreBytes b → whole_size has_body b ≤ length b → front ≡ take 40 b → IsFoundTail has_body b front
-tail_found has_body b front are there e =
+pub payload_found : (has_body : Bool) (b front : List ℕ) → AreBytes b → whole_size has_body b ≤ length b → front ≡ take 40 b → IsFoundPayload has_body b front
+payload_found has_body b front are there e =
     let n = body_size has_body (be_at w32 24 b) in
     let count = count_of (be_at w32 32 b) in
     let place = descs_place has_body b in
@@ -38,16 +38,16 @@ tail_found has_body b front are there e =
 
 -- ---- what is spelled so is read
 
-pub record IsReadTail (has_body : Bool) (x front eight body : List ℕ) (descs : List IsoDesc) : Type 0 where
+pub record IsReadPayload (has_body : Bool) (x front eight body : List ℕ) (descs : List IsoDesc) : Type 0 where
   pub is_eight : part 40 8 x ≡ eight
   pub is_body : body_at has_body x ≡ body
   pub is_descs : descs_behind has_body x ≡ descs
   pub size : whole_size has_body x ≡ length (front ++ eight ++ body ++ descs_bytes descs)
 
-pub tail_again : (has_body : Bool) (x front eight body : List ℕ) (descs : List IsoDesc) (more : List ℕ) → x ≡ front ++ eight ++ body ++ descs_bytes descs ++ more →
+pub payload_again : (has_body : Bool) (x front eight body : List ℕ) (descs : List IsoDesc) (more : List ℕ) → x ≡ front ++ eight ++ body ++ descs_bytes descs ++ more →
     length front ≡ 40 → length eight ≡ 8 → length body ≡ body_size has_body (be_at w32 24 x) → length descs ≡ count_of (be_at w32 32 x) → All DescFits descs →
-    IsReadTail has_body x front eight body descs
-tail_again has_body x front eight body descs more e front_long eight_long body_long counted fits =
+    IsReadPayload has_body x front eight body descs
+payload_again has_body x front eight body descs more e front_long eight_long body_long counted fits =
     let n = body_size has_body (be_at w32 24 x) in
     let count = count_of (be_at w32 32 x) in
     let last = descs_bytes descs in

@@ -1,12 +1,13 @@
-use Rattle.std.proofs.Common.{◌≡◌, ◌+◌, ◌<◌, ◌++◌, ◌∷◌, [], length, length-append, arith, ◌∙◌}
+use Rattle.std.proofs.Common.{◌≡◌, ◌+◌, ◌/◌, ◌<◌, ◌++◌, ◌∷◌, [], length, length-append, arith, ◌∙◌}
 use Rattle.std.specs.Slice.Iter.{chunks_exact_rest}
 use Rattle.usbip_urb.specs.Fields.{descs_at}
 use Rattle.usbip_urb.proofs.Descriptors.{descs_further}
-use Rattle.usbip_urb.proofs.field.descs_at.Goals as goal
+use Rattle.usbip_urb.proofs.payload.read_descs.Goals as goal
 
 pub loop-desc-preserved : goal.loop-desc-preserved
 loop-desc-preserved c =
-    let n = c.args.count in
+    let b = c.args.bytes.now in
+    let n = length b / 16 in
     let l = c.loop-desc in
     let x = c.in-Some.desc.now in
     let before = chunks_exact_rest l.desc-iterator in
@@ -17,8 +18,7 @@ loop-desc-preserved c =
     let both : length before ≡ length x + length rest = rw (h.1.0) (length-append x rest) in
     let less : length l.yielded < n = omega (arith, l.invariant.rest, both, long) in
     record {
-      left = rw (c.in_ok-push.ensures.ok, c.desc_at.ensures) (descs_further n (length l.yielded) (length (l.yielded ++ c.in-Some.desc ∷ [])) x rest before l.descs (descs_at n c.args.bytes.now) less next long h.1.0 l.invariant.left);
-      rest = omega (arith, l.invariant.rest, both, long, next, less);
+      left = rw (c.in_ok-push.ensures.ok, c.desc_at.ensures) (descs_further n (length l.yielded) (length (l.yielded ++ c.in-Some.desc ∷ [])) x rest before l.descs (descs_at n b) less next long h.1.0 l.invariant.left);
+      rest = omega (arith, l.invariant.rest, both, long, next);
       size = h.0 ∙ l.invariant.size;
-      few = omega (arith, next, less);
     }
