@@ -4,7 +4,7 @@ use Rattle.std.specs.Prelude.{nat_le, nat_lt, not, ◌&&◌}
 use Rattle.std.proofs.lemmas.Bool.{ltb-true, ltb-false, le-ltb, leb-true, leb-false, le-leb}
 use Rattle.std.proofs.lemmas.List.{take-append-drop, take_at, length-append, length-take}
 use Rattle.usb_base.specs.Number.{AreBytes}
-use Rattle.packet_stream.specs.Format.{Check, wrong_at, Format, IsWhole, IsShort, Found, Whole, Short, Wrong, Stands, reading_by, reading, StaysWrong, IsSound, with_check}
+use Rattle.packet_stream.specs.Format.{Check, wrong_at, Format, IsWhole, IsShort, Found, Whole, Short, Wrong, Stands, reading_by, reading, StaysWrong, IsSound}
 
 -- ---- checks that stay as they are
 
@@ -178,20 +178,3 @@ whole_more f sound b more n p bytes e =
     let long : length (f.spelling p) ≡ n = ap length (sym w.spelled) ∙ omega (arith, length-take n b, w.there) in
     let again : f.spelling p ++ (drop n b ++ more) ≡ b ++ more = sym (append_assoc (f.spelling p) (drop n b) more) ∙ ap (λ (x : List ℕ). x ++ more) (begins f b n p w.spelled) in
     sym (ap (reading f) again) ∙ read_again f sound p (drop n b ++ more) w.fits ∙ ap (Whole p) long
-
--- ---- one check more
-
-pub with_check-sound : {P R : Type 0} (f : Format P R) → IsSound f → (c : Check R) (Passes : P → Type 0) →
-    ((b more : List ℕ) → c.needed ≤ length b → c.passes (b ++ more) ≡ c.passes b) →
-    AreSteady c.needed f.checks →
-    ((p : P) (more : List ℕ) → f.Fits p → Passes p → c.passes (f.spelling p ++ more) ≡ true) →
-    ((b : List ℕ) → AreBytes b → wrong_at (c ∷ f.checks) b ≡ None → f.size b ≤ length b → Passes (f.packet b)) →
-    IsSound (with_check c Passes f)
-with_check-sound f sound c Passes steady later spelled read = record {
-  found = λ b bytes right there. let h = sound.found b bytes (none_later c f.checks b right) there in (h.0, (h.1, read b bytes right there));
-  right = λ p more fits. none_from c f.checks (f.spelling p ++ more) (λ _. spelled p more fits.0 fits.1) (sound.right p more fits.0);
-  size = λ p more fits. sound.size p more fits.0;
-  packet = λ p more fits. sound.packet p more fits.0;
-  some = sound.some;
-  steady = stays_wrong (c ∷ f.checks) 0 (omega arith, steady, later);
-}

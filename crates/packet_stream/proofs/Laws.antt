@@ -45,7 +45,8 @@ unfolding split
 split-is r steady a bytes x e =
     rw e (go_on-same r steady a bytes (λ z rest. split_by r (length bytes) z rest) (λ z rest. split_by r (suc (length rest)) z rest) (λ z rest less. split_by-fuel r steady (length bytes) (suc (length rest)) z rest less (omega arith)) x e)
 
-further-with : {S P R : Type 0} (r : Reader S P R) (front : List (ℕ × P)) (x : Splitting S P R) (more : List ℕ) (w : Option (ℕ × R)) →
+-- going on from packets and a splitting is going on from that splitting
+pub further-with : {S P R : Type 0} (r : Reader S P R) (front : List (ℕ × P)) (x : Splitting S P R) (more : List ℕ) (w : Option (ℕ × R)) →
     further_by r (with_packets front x) more w ≡ with_packets front (further_by r x more w)
 further-with {P = P} r front x more None =
     ap (λ (l : List (ℕ × P)). record (split r x.position (x.rest ++ more)) { packets = l }) (append_assoc front x.packets (split r x.position (x.rest ++ more)).packets)

@@ -4,7 +4,7 @@ use Rattle.std.proofs.lemmas.List.{append-nil, map-append, drop_at}
 use Rattle.usb_base.specs.Number.{AreBytes}
 use Rattle.packet_stream.specs.Format.{Whole, Short, Wrong}
 use Rattle.packet_stream.specs.Split.{Position, past, Splitting, split, with_packets, further_by}
-use Rattle.packet_stream.specs.Items.{Stream, packets, wrongs, items, put, added}
+use Rattle.packet_stream.specs.Items.{SideStream, packets, wrongs, items, put, added}
 use Rattle.packet_stream.proofs.Laws.{IsSteady, split-is, split-more}
 
 pub put-append : {I : Type 0} (over : List I → Bool) (h xs ys : List I) → put over h (xs ++ ys) ≡ put over (put over h xs) ys
@@ -18,26 +18,26 @@ put-over over h (x ∷ xs) e = ap (λ (b : Bool). put over (cond b h (x ∷ h)) 
 put-one : {I : Type 0} (over : List I → Bool) (h : List I) (x : I) → over h ≡ false → put over h (x ∷ []) ≡ x ∷ h
 put-one over h x e = ap (λ (b : Bool). cond b h (x ∷ h)) e
 
-items-with : {S P R I : Type 0} (s : Stream S P R I) (front : List (ℕ × P)) (x : Splitting S P R) → items s (with_packets front x) ≡ packets s front ++ items s x
+items-with : {S P R I : Type 0} (s : SideStream S P R I) (front : List (ℕ × P)) (x : Splitting S P R) → items s (with_packets front x) ≡ packets s front ++ items s x
 items-with {P = P} {I = I} s front x =
     ap (λ (l : List I). l ++ wrongs s x.wrong) (map-append (λ (i : ℕ × P). s.packet i.1) front x.packets) ∙ append_assoc (packets s front) (packets s x.packets) (wrongs s x.wrong)
 
-with_packets-twice : {S P R : Type 0} (front more : List (ℕ × P)) (y : Splitting S P R) → with_packets front (with_packets more y) ≡ with_packets (front ++ more) y
+pub with_packets-twice : {S P R : Type 0} (front more : List (ℕ × P)) (y : Splitting S P R) → with_packets front (with_packets more y) ≡ with_packets (front ++ more) y
 with_packets-twice {P = P} front more y = ap (λ (l : List (ℕ × P)). record y { packets = l }) (sym (append_assoc front more y.packets))
 
 -- of x some packets are taken, and what is left is what the rest is: At says of a position that it is kept, Inv of items that they are kept
-pub record Mid {S P R I : Type 0} (s : Stream S P R I) (h : List I) (x : Splitting S P R) (rest : List ℕ) (At : Position S → Type 0) (Inv : List I → Type 0) : Type 0 where
+pub record Mid {S P R I : Type 0} (s : SideStream S P R I) (h : List I) (x : Splitting S P R) (rest : List ℕ) (At : Position S → Type 0) (Inv : List I → Type 0) : Type 0 where
   pub front : List (ℕ × P)
   pub at : Position S
   pub parts : x ≡ with_packets front (split s.reader at rest)
   pub here : At at
   pub inv : Inv (put s.over h (packets s front))
 
-pub mid-init : {S P R I : Type 0} (s : Stream S P R I) (h : List I) (at : Position S) (rest : List ℕ) (At : Position S → Type 0) (Inv : List I → Type 0) → At at → Inv h →
+pub mid-init : {S P R I : Type 0} (s : SideStream S P R I) (h : List I) (at : Position S) (rest : List ℕ) (At : Position S → Type 0) (Inv : List I → Type 0) → At at → Inv h →
     Mid s h (split s.reader at rest) rest At Inv
 mid-init s h at rest At Inv here inv = record { front = []; at = at; parts = refl; here = here; inv = inv }
 
-pub mid-whole : {S P R I : Type 0} (s : Stream S P R I) → IsSteady s.reader → (h : List I) (x : Splitting S P R) (rest rest' : List ℕ) (At At' : Position S → Type 0) (Inv Inv' : List I → Type 0) (p : P) (n : ℕ) →
+pub mid-whole : {S P R I : Type 0} (s : SideStream S P R I) → IsSteady s.reader → (h : List I) (x : Splitting S P R) (rest rest' : List ℕ) (At At' : Position S → Type 0) (Inv Inv' : List I → Type 0) (p : P) (n : ℕ) →
     Mid s h x rest At Inv →
     ((a : Position S) → At a → s.reader.read a.state rest ≡ Whole p n) →
     ((k : List I) → Inv k → s.over k ≡ false) →
@@ -63,7 +63,7 @@ mid-whole {S = S} {P = P} {R = R} {I = I} s steady h x rest rest' At At' Inv Inv
       inv = subst Inv' (sym more) (step k m.inv);
     }
 
-ends : {S P R I : Type 0} (s : Stream S P R I) (h : List I) (x : Splitting S P R) (front : List (ℕ × P)) (y : Splitting S P R) → x ≡ with_packets front y →
+ends : {S P R I : Type 0} (s : SideStream S P R I) (h : List I) (x : Splitting S P R) (front : List (ℕ × P)) (y : Splitting S P R) → x ≡ with_packets front y →
     put s.over h (items s x) ≡ put s.over (put s.over h (packets s front)) (items s y)
 ends {S = S} {P = P} {R = R} s h x front y e =
     ap (λ (w : Splitting S P R). put s.over h (items s w)) e ∙ ap (put s.over h) (items-with s front y) ∙ put-append s.over h (packets s front) (items s y)
@@ -74,7 +74,7 @@ pub record Rests {S P R : Type 0} (x : Splitting S P R) (rest : List ℕ) (At : 
   pub rest-is : x.rest ≡ rest
   pub here : At x.position
 
-pub mid-short : {S P R I : Type 0} (s : Stream S P R I) → IsSteady s.reader → (h : List I) (x : Splitting S P R) (rest : List ℕ) (At : Position S → Type 0) (Inv : List I → Type 0) →
+pub mid-short : {S P R I : Type 0} (s : SideStream S P R I) → IsSteady s.reader → (h : List I) (x : Splitting S P R) (rest : List ℕ) (At : Position S → Type 0) (Inv : List I → Type 0) →
     Mid s h x rest At Inv →
     ((a : Position S) → At a → s.reader.read a.state rest ≡ Short) →
     Inv (put s.over h (items s x)) × Rests x rest At
@@ -85,7 +85,7 @@ mid-short {S = S} {P = P} {R = R} s steady h x rest At Inv m read =
       record { right = ap (λ (w : Splitting S P R). w.wrong) is; rest-is = ap (λ (w : Splitting S P R). w.rest) is; here = subst (λ (w : Splitting S P R). At w.position) (sym is) m.here },
     )
 
-pub mid-wrong : {S P R I : Type 0} (s : Stream S P R I) → IsSteady s.reader → (h : List I) (x : Splitting S P R) (rest : List ℕ) (At : Position S → Type 0) (Inv Inv' : List I → Type 0) (place : ℕ) (why : R) →
+pub mid-wrong : {S P R I : Type 0} (s : SideStream S P R I) → IsSteady s.reader → (h : List I) (x : Splitting S P R) (rest : List ℕ) (At : Position S → Type 0) (Inv Inv' : List I → Type 0) (place : ℕ) (why : R) →
     Mid s h x rest At Inv →
     ((a : Position S) → At a → s.reader.read a.state rest ≡ Wrong place why) →
     ((k : List I) → Inv k → s.over k ≡ false) →
@@ -99,12 +99,12 @@ mid-wrong {S = S} {P = P} {R = R} s steady h x rest At Inv Inv' place why m read
     subst Inv' (sym (ends s h x m.front y is ∙ put-one s.over k i (going k m.inv))) (step m.at m.here k m.inv)
 
 -- what a piece makes of the splitting, and which items it adds
-pub split-piece : {S P R I : Type 0} (s : Stream S P R I) → IsSteady s.reader → (stream piece : List ℕ) → AreBytes stream → (split s.reader s.start stream).wrong ≡ None →
+pub split-piece : {S P R I : Type 0} (s : SideStream S P R I) → IsSteady s.reader → (stream piece : List ℕ) → AreBytes stream → (split s.reader s.start stream).wrong ≡ None →
     split s.reader s.start (stream ++ piece) ≡ with_packets (split s.reader s.start stream).packets (split s.reader (split s.reader s.start stream).position ((split s.reader s.start stream).rest ++ piece))
 split-piece s steady stream piece fits right =
     split-more s.reader steady s.start stream piece fits ∙ ap (further_by s.reader (split s.reader s.start stream) piece) right
 
-pub added-is : {S P R I : Type 0} (s : Stream S P R I) → IsSteady s.reader → (stream piece : List ℕ) → AreBytes stream → (split s.reader s.start stream).wrong ≡ None →
+pub added-is : {S P R I : Type 0} (s : SideStream S P R I) → IsSteady s.reader → (stream piece : List ℕ) → AreBytes stream → (split s.reader s.start stream).wrong ≡ None →
     added s stream piece ≡ items s (split s.reader (split s.reader s.start stream).position ((split s.reader s.start stream).rest ++ piece))
 added-is {S = S} {P = P} {R = R} s steady stream piece fits right =
     let x = split s.reader s.start stream in
@@ -115,7 +115,7 @@ added-is {S = S} {P = P} {R = R} s steady stream piece fits right =
     ∙ drop_at (packets s x.packets) (items s y) (length (items s x)) (ap length (sym first))
 
 -- a test that none of a stream's items changes
-pub record Passes {S P R I : Type 0} (s : Stream S P R I) (f : List I → Bool) : Type 0 where
+pub record Passes {S P R I : Type 0} (s : SideStream S P R I) (f : List I → Bool) : Type 0 where
   pub packet : (p : P) (h : List I) → f (s.packet p ∷ h) ≡ f h
   pub wrong : (n : ℕ) (why : R) (h : List I) → f (s.wrong n why ∷ h) ≡ f h
 
@@ -123,22 +123,22 @@ either : {I : Type 0} (f : List I → Bool) (b : Bool) (h : List I) (i : I) → 
 either f true h i e = refl
 either f false h i e = e
 
-passes-wrongs : {S P R I : Type 0} (s : Stream S P R I) (f : List I → Bool) → Passes s f → (h : List I) (w : Option (ℕ × R)) → f (put s.over h (wrongs s w)) ≡ f h
+passes-wrongs : {S P R I : Type 0} (s : SideStream S P R I) (f : List I → Bool) → Passes s f → (h : List I) (w : Option (ℕ × R)) → f (put s.over h (wrongs s w)) ≡ f h
 passes-wrongs s f passes h None = refl
 passes-wrongs s f passes h (Some w) = either f (s.over h) h (s.wrong w.0 w.1) (passes.wrong w.0 w.1 h)
 
-passes-packets : {S P R I : Type 0} (s : Stream S P R I) (f : List I → Bool) → Passes s f → (h : List I) (found : List (ℕ × P)) → f (put s.over h (packets s found)) ≡ f h
+passes-packets : {S P R I : Type 0} (s : SideStream S P R I) (f : List I → Bool) → Passes s f → (h : List I) (found : List (ℕ × P)) → f (put s.over h (packets s found)) ≡ f h
 passes-packets s f passes h [] = refl
 passes-packets s f passes h (i ∷ found) =
     passes-packets s f passes (cond (s.over h) h (s.packet i.1 ∷ h)) found ∙ either f (s.over h) h (s.packet i.1) (passes.packet i.1 h)
 
-pub passes-items : {S P R I : Type 0} (s : Stream S P R I) (f : List I → Bool) → Passes s f → (h : List I) (x : Splitting S P R) → f (put s.over h (items s x)) ≡ f h
+pub passes-items : {S P R I : Type 0} (s : SideStream S P R I) (f : List I → Bool) → Passes s f → (h : List I) (x : Splitting S P R) → f (put s.over h (items s x)) ≡ f h
 passes-items s f passes h x =
     ap f (put-append s.over h (packets s x.packets) (wrongs s x.wrong))
     ∙ passes-wrongs s f passes (put s.over h (packets s x.packets)) x.wrong
     ∙ passes-packets s f passes h x.packets
 
 -- what was taken is a front of the items
-pub mid-front : {S P R I : Type 0} (s : Stream S P R I) (h : List I) (x : Splitting S P R) (rest : List ℕ) (At : Position S → Type 0) (Inv : List I → Type 0) → (m : Mid s h x rest At Inv) →
+pub mid-front : {S P R I : Type 0} (s : SideStream S P R I) (h : List I) (x : Splitting S P R) (rest : List ℕ) (At : Position S → Type 0) (Inv : List I → Type 0) → (m : Mid s h x rest At Inv) →
     items s x ≡ packets s m.front ++ items s (split s.reader m.at rest)
 mid-front {S = S} {P = P} {R = R} s h x rest At Inv m = ap (items s) m.parts ∙ items-with s m.front (split s.reader m.at rest)

@@ -74,7 +74,3 @@ pub record IsSound {P R : Type 0} (f : Format P R) : Type 0 where
   -- a packet has a byte at least
   pub some : (bytes : List ℕ) → 0 < f.size bytes
   pub steady : StaysWrong f.checks
-
--- a format with one check more, before its own, which some of its packets pass
-abbrev pub with_check : {P R : Type 0} → Check R → (P → Type 0) → Format P R → Format P R
-with_check c Passes f = record f { checks = c ∷ f.checks; Fits = λ p. f.Fits p × Passes p }

@@ -4,6 +4,13 @@
 
 mod format;
 mod read;
+mod splitting;
+mod stream;
 
 pub use format::PacketFormat;
 pub use read::{Read, ReadError};
+pub use splitting::splits_well;
+pub use stream::Stream;
+
+#[cfg(test)]
+mod tests;

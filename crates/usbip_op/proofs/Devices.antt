@@ -1,5 +1,6 @@
 -- Devices and interfaces, spelled again and read again.
-use Rattle.std.proofs.Common.{◌≡◌, ℕ, zero, suc, ◌+◌, ◌*◌, ◌<◌, ◌≤◌, List, [], ◌∷◌, ◌++◌, length, take, drop, refl, sym, ap, ◌∙◌, append_assoc, arith, length-append, length-drop, drop-cons, flat_map}
+use Rattle.std.proofs.Common.{◌≡◌, ℕ, zero, suc, ◌+◌, ◌*◌, ◌<◌, ◌≤◌, List, [], ◌∷◌, ◌++◌, length, take, drop, refl, sym, ap, ◌∙◌, append_assoc, arith, length-append, length-drop, drop-cons, flat_map, map}
+use Rattle.std.specs.Simd.{first_chunks}
 use Rattle.std.specs.Int.{w16, w32}
 use Rattle.std.proofs.lemmas.List.{take_at, drop_at, get_or-append-add}
 use Rattle.usb_base.specs.Number.{be, be_at, byte_at, part, AreBytes}
@@ -10,7 +11,7 @@ use Rattle.usbip_op.specs.declared.packet.Listed.{Listed}
 use Rattle.usbip_op.specs.Spelling.{device_bytes, numbers_bytes, classes_bytes, interface_bytes, listed_bytes}
 use Rattle.usbip_op.specs.Ranges.{IsDevice, IsListed}
 use Rattle.usbip_op.specs.Rows.{IsSoundRow, rows_at, rows_size}
-use Rattle.usbip_op.specs.Devices.{device_at, interface_form, listed_at, listed_form}
+use Rattle.usbip_op.specs.Devices.{device_at, interface_at, interface_form, listed_at, listed_form}
 use Rattle.usbip_op.proofs.Rows.{rows_found, rows_again}
 
 -- ---- single bytes
@@ -142,6 +143,22 @@ interface_sound = record {
   size = λ x more fits. refl;
   row = λ x more fits. refl;
 }
+
+-- an interface is read of its own four bytes
+interface_front : (b : List ℕ) → interface_at (take 4 b) ≡ interface_at b
+interface_front [] = refl
+interface_front (w ∷ []) = refl
+interface_front (w ∷ x ∷ []) = refl
+interface_front (w ∷ x ∷ y ∷ []) = refl
+interface_front (w ∷ x ∷ y ∷ z ∷ bs) = refl
+
+-- pieces of four bytes are interfaces
+pub chunks_rows : (n k : ℕ) (b : List ℕ) → n ≤ k → map interface_at (take n (first_chunks 4 k b)) ≡ rows_at interface_form n b
+chunks_rows zero k b le = refl
+chunks_rows (suc n) zero b le = absurd (omega arith)
+chunks_rows (suc n) (suc k) b le =
+    ap (λ (i : IfaceRow). i ∷ map interface_at (take n (first_chunks 4 k (drop 4 b)))) (interface_front b)
+    ∙ ap (λ (is : List IfaceRow). interface_at b ∷ is) (chunks_rows n k (drop 4 b) (omega arith))
 
 pub interfaces_size : (n : ℕ) (b : List ℕ) → rows_size interface_form n b ≡ n * 4
 interfaces_size zero b = refl

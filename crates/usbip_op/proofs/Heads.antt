@@ -3,10 +3,10 @@ use Rattle.std.proofs.Common.{◌≡◌, ℕ, ◌^◌, ◌<◌, ◌≤◌, ◌==
 use Rattle.std.proofs.lemmas.Grind.{common_steps}
 use Rattle.std.specs.Int.{w16, w32}
 use Rattle.usb_base.specs.Number.{be, be_at, part, AreBytes}
-use Rattle.packet_stream.specs.Format.{Check, wrong_at, AreSteady}
+use Rattle.packet_stream.specs.Format.{Check, wrong_at, StaysWrong}
 use Rattle.usb_base.specs.declared.reason.Reason.{Reason}
 use Rattle.usb_base.proofs.Numbers.{then, be_spelled_16, be_spelled_32, be_at-be_16, be_at-be_32, length-be, be_past, be_at-append_16}
-use Rattle.packet_stream.proofs.Formats.{none_from}
+use Rattle.packet_stream.proofs.Formats.{none_from, AreSteady, stays_wrong}
 use Rattle.usbip_op.specs.Spelling.{head_bytes}
 use Rattle.usbip_op.specs.Requests.{version_check, code_check}
 
@@ -47,8 +47,8 @@ pub is_code : (list import code : ℕ) → ((code == list) || (code == import)) 
 is_code list import code e = grind (arith, common_steps)
 
 -- the checks of both ways see only the bytes that they need
-pub head_steady : (list import : ℕ) (more : List (Check Reason)) → AreSteady 4 more → AreSteady 0 (version_check ∷ code_check list import ∷ more)
-head_steady list import more later = (
+pub head_steady : (list import : ℕ) (more : List (Check Reason)) → AreSteady 4 more → StaysWrong (version_check ∷ code_check list import ∷ more)
+head_steady list import more later = stays_wrong (version_check ∷ code_check list import ∷ more) 0 (
   omega arith,
   λ b rest h. ap (λ (n : ℕ). n == 0x0111) (be_at-append_16 0 b rest h),
   (

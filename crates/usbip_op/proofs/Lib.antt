@@ -1,6 +1,7 @@
+pub mod Fitting
 pub mod Heads
 pub mod Requests
 pub mod Rows
 pub mod Devices
 pub mod Replies
-pub mod Answers
+pub mod Packets

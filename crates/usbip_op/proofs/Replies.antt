@@ -1,12 +1,12 @@
 -- What is read as a reply is spelled so, and what is spelled so is read.
-use Rattle.std.proofs.Common.{◌≡◌, ℕ, zero, suc, ◌+◌, ◌^◌, ◌<◌, ◌≤◌, ◌==◌, ◌||◌, ◌⊎◌, inl, inr, Bool, true, false, List, [], ◌∷◌, ◌++◌, length, take, drop, refl, sym, ap, subst, ◌∙◌, append_assoc, arith, Option, Some, None, length-append, cond, flat_map}
+use Rattle.std.proofs.Common.{◌≡◌, ℕ, zero, suc, ◌+◌, ◌^◌, ◌<◌, ◌≤◌, ◌==◌, ◌||◌, ◌⊎◌, inl, inr, Bool, true, false, List, [], ◌∷◌, ◌++◌, length, take, drop, refl, sym, ap, subst, ◌∙◌, append_assoc, arith, Option, Some, None, length-append, cond, flat_map, rules}
 use Rattle.std.specs.Prelude.{nat_le, not, ◌&&◌}
 use Rattle.std.specs.Int.{w16, w32}
 use Rattle.std.proofs.lemmas.Grind.{common_steps}
 use Rattle.std.proofs.lemmas.Bool.{leb-true, le-leb}
 use Rattle.std.proofs.lemmas.List.{drop_at, append-nil, length-drop}
 use Rattle.usb_base.specs.Number.{be, be_at, part, AreBytes}
-use Rattle.packet_stream.specs.Format.{IsSound, wrong_at}
+use Rattle.packet_stream.specs.Format.{IsSound, Whole, wrong_at, reading}
 use Rattle.usb_base.proofs.Numbers.{AreBytes-drop, then, join, length-be, be_spelled_32, be_found_32, be_at-append_16, be_at-append_32, be_at-below_32}
 use Rattle.packet_stream.proofs.Formats.{none_first, none_later, none_from}
 use Rattle.usbip_op.specs.declared.packet.DeviceRow.{DeviceRow}
@@ -14,7 +14,7 @@ use Rattle.usbip_op.specs.declared.packet.Listed.{Listed}
 use Rattle.usbip_op.specs.declared.packet.OpPacket.{OpPacket}
 use Rattle.usbip_op.specs.declared.packet.OpPacket.TheVariants.{ReqDevlist, ReqImport, RepDevlist, RepImport}
 use Rattle.usbip_op.specs.Spelling.{spelling, head_bytes, device_bytes, listed_bytes, devices_bytes}
-use Rattle.usbip_op.specs.Ranges.{IsReply, IsListReply, IsImportReply}
+use Rattle.usbip_op.proofs.Fitting.{IsReply, IsListReply, IsImportReply, reply_fits, fits_reply}
 use Rattle.usbip_op.specs.Rows.{rows_size, rows_at}
 use Rattle.usbip_op.specs.Devices.{device_at, listed_form}
 use Rattle.usbip_op.specs.Requests.{version_check, code_check}
@@ -123,6 +123,11 @@ found b are none there =
     let few = none_first count_check [] b (none_later (code_check 0x0005 0x0003) (count_check ∷ []) b later) in
     found_at b (be_at w16 2 b) are version refl few there code
 
+-- an import reply that is all there
+pub import_whole : (b : List ℕ) (status : ℕ) (d : DeviceRow) → be_at w16 0 b ≡ 0x0111 → be_at w16 2 b ≡ 0x0003 → status ≡ be_at w32 4 b → status ≡ 0 → 320 ≤ length b → d ≡ device_at (drop 8 b) →
+    Whole (RepImport status (Some d)) 320 ≡ reading replies b
+import_whole b status d version code told none there device = search rules
+
 -- ---- what is spelled so is read
 
 record IsAgain (p : OpPacket) (x : List ℕ) : Type 0 where
@@ -219,10 +224,10 @@ count_steady b more there =
 
 pub replies_sound : IsSound replies
 replies_sound = record {
-  found = found;
-  right = right;
-  size = λ p more fits. (again p more fits).size;
-  packet = λ p more fits. (again p more fits).packet;
+  found = λ b are none there. let h = found b are none there in (h.0, fits_reply (reply_by (be_at w16 2 b) (be_at w32 4 b) b) h.1);
+  right = λ p more fits. right p more (reply_fits p fits);
+  size = λ p more fits. (again p more (reply_fits p fits)).size;
+  packet = λ p more fits. (again p more (reply_fits p fits)).packet;
   some = λ b. let h = least (be_at w32 4 b == 0) (be_at w16 2 b == 0x0005) (rows_size listed_form (be_at w32 8 b) (drop 12 b)) in omega (arith, h);
   steady = head_steady 0x0005 0x0003 (count_check ∷ []) (omega arith, count_steady, tt);
 }

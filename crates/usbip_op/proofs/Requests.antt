@@ -9,7 +9,7 @@ use Rattle.packet_stream.proofs.Formats.{none_first, none_later}
 use Rattle.usbip_op.specs.declared.packet.OpPacket.{OpPacket}
 use Rattle.usbip_op.specs.declared.packet.OpPacket.TheVariants.{ReqDevlist, ReqImport, RepDevlist, RepImport}
 use Rattle.usbip_op.specs.Spelling.{spelling, head_bytes}
-use Rattle.usbip_op.specs.Ranges.{IsRequest}
+use Rattle.usbip_op.proofs.Fitting.{IsRequest, request_fits, fits_request}
 use Rattle.usbip_op.specs.Requests.{requests, request_checks, request_by, request_size_by, version_check, code_check}
 use Rattle.usbip_op.proofs.Heads.{head_spelled, length-head, version_again, code_again, status_again, head_right, head_steady, is_version, is_code}
 
@@ -73,10 +73,10 @@ found b are none there =
 
 pub requests_sound : IsSound requests
 requests_sound = record {
-  found = found;
-  right = right;
-  size = size;
-  packet = packet;
+  found = λ b are none there. let h = found b are none there in (h.0, fits_request (request_by (be_at w16 2 b) b) h.1);
+  right = λ p more fits. right p more (request_fits p fits);
+  size = λ p more fits. size p more (request_fits p fits);
+  packet = λ p more fits. packet p more (request_fits p fits);
   some = λ b. let h = some_by (be_at w16 2 b == 0x8005) in omega arith;
   steady = head_steady 0x8005 0x8003 [] tt;
 }

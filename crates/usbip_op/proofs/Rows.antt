@@ -14,13 +14,25 @@ rows_next f n m b e = ap (λ (k : ℕ). rows_at f k b) e
 size_next : {X : Type 0} (f : RowForm X) (n m : ℕ) (b : List ℕ) → n ≡ suc m → rows_size f n b ≡ f.size b + rows_size f m (drop (f.size b) b)
 size_next f n m b e = ap (λ (k : ℕ). rows_size f k b) e
 
-pub rows_further : {X : Type 0} (f : RowForm X) (n i at : ℕ) (b : List ℕ) (rows all : List X) → i < n → all ≡ rows ++ rows_at f (n - i) (drop at b) →
-    all ≡ (rows ++ f.row (drop at b) ∷ []) ++ rows_at f (n - (i + 1)) (drop (at + f.size (drop at b)) b)
-rows_further f n i at b rows all lt e =
+pub rows_further : {X : Type 0} (f : RowForm X) (n i : ℕ) (b : List ℕ) (rows all : List X) (row : X) → i < n → row ≡ f.row b → all ≡ rows ++ rows_at f (n - i) b →
+    all ≡ (rows ++ row ∷ []) ++ rows_at f (n - (i + 1)) (drop (f.size b) b)
+rows_further f n i b rows all row lt is e =
     let left : n - i ≡ suc (n - (i + 1)) = omega arith in
-    let step : rows_at f (n - i) (drop at b) ≡ f.row (drop at b) ∷ rows_at f (n - (i + 1)) (drop (f.size (drop at b)) (drop at b)) = rows_next f (n - i) (n - (i + 1)) (drop at b) left in
-    let rest : drop (f.size (drop at b)) (drop at b) ≡ drop (at + f.size (drop at b)) b = drop-drop (f.size (drop at b)) at b in
-    e ∙ ap (λ (xs : List _). rows ++ xs) (step ∙ ap (λ (d : List ℕ). f.row (drop at b) ∷ rows_at f (n - (i + 1)) d) rest) ∙ sym (append_assoc rows (f.row (drop at b) ∷ []) (rows_at f (n - (i + 1)) (drop (at + f.size (drop at b)) b)))
+    let later = rows_at f (n - (i + 1)) (drop (f.size b) b) in
+    e ∙ ap (λ (xs : List _). rows ++ xs) (rows_next f (n - i) (n - (i + 1)) b left ∙ ap (λ (x : _). x ∷ later) (sym is)) ∙ sym (append_assoc rows (row ∷ []) later)
+
+-- where the rows are all there, the first is, and those behind it
+pub first_there : {X : Type 0} (f : RowForm X) (n i : ℕ) (b : List ℕ) → i < n → rows_size f (n - i) b ≤ length b → f.size b ≤ length b
+first_there f n i b lt there =
+    let left : n - i ≡ suc (n - (i + 1)) = omega arith in
+    let step = size_next f (n - i) (n - (i + 1)) b left in
+    omega (arith, step, there)
+
+pub later_there : {X : Type 0} (f : RowForm X) (n i : ℕ) (b : List ℕ) → i < n → rows_size f (n - i) b ≤ length b → rows_size f (n - (i + 1)) (drop (f.size b) b) ≤ length (drop (f.size b) b)
+later_there f n i b lt there =
+    let left : n - i ≡ suc (n - (i + 1)) = omega arith in
+    let step = size_next f (n - i) (n - (i + 1)) b left in
+    omega (arith, step, there, length-drop (f.size b) b)
 
 pub size_further : {X : Type 0} (f : RowForm X) (n i at total : ℕ) (b : List ℕ) → i < n → total ≡ at + rows_size f (n - i) (drop at b) →
     total ≡ (at + f.size (drop at b)) + rows_size f (n - (i + 1)) (drop (at + f.size (drop at b)) b)

@@ -1,9 +1,7 @@
 pub mod Spelling
 pub mod Ranges
 pub mod Rows
-pub mod Counted
 pub mod Devices
 pub mod Requests
 pub mod Replies
-pub mod Answers
-pub mod Begins
+pub mod Packets

@@ -1,11 +1,36 @@
 -- Which fields packets may have.
 use Rattle.std.specs.Prelude.{◌≡◌, ◌≢◌, ◌↔◌, ℕ, ◌≤◌, ◌<◌, ◌^◌, List, [], length, Option, Some, None, IsSome, All}
+use Rattle.usbip_op.specs.declared.code.TheConstants.{MAX_DEVICES}
 use Rattle.usbip_op.specs.declared.packet.DeviceRow.{DeviceRow}
 use Rattle.usbip_op.specs.declared.packet.Listed.{Listed}
 use Rattle.usbip_op.specs.declared.packet.OpPacket.{OpPacket}
 use Rattle.usbip_op.specs.declared.packet.OpPacket.TheVariants.{ReqDevlist, ReqImport, RepDevlist, RepImport}
+use Rattle.usbip_op.specs.declared.packet.OpWay.{OpWay}
+use Rattle.usbip_op.specs.declared.packet.OpWay.TheVariants.{Request, Reply}
 
--- ---- what a sender keeps to, beside the ranges that the types of the code have
+-- ---- the ranges that the types of the code have
+
+pub record IsDevice (d : DeviceRow) : Type 0 where
+  pub path_length : length d.path ≡ 256
+  pub busid_length : length d.busid ≡ 32
+  pub busnum_fits : d.busnum < 2 ^ 32
+  pub devnum_fits : d.devnum < 2 ^ 32
+  pub speed_fits : d.speed < 2 ^ 32
+  pub vendor_fits : d.vendor < 2 ^ 16
+  pub product_fits : d.product < 2 ^ 16
+  pub version_fits : d.version < 2 ^ 16
+
+abbrev pub IsDeviceIn : Option DeviceRow → Type 0
+IsDeviceIn None = Unit {0}
+IsDeviceIn (Some d) = IsDevice d
+
+abbrev pub IsInRange : OpPacket → Type 0
+IsInRange (ReqDevlist status) = status < 2 ^ 32
+IsInRange (ReqImport status busid) = (status < 2 ^ 32) × (length busid ≡ 32)
+IsInRange (RepDevlist status devices) = (status < 2 ^ 32) × All (λ l. IsDevice l.device) devices
+IsInRange (RepImport status device) = (status < 2 ^ 32) × IsDeviceIn device
+
+-- ---- what a sender keeps to beside them
 
 -- a device is followed by as many interfaces as it says
 abbrev pub HasItsInterfaces : Listed → Type 0
@@ -13,7 +38,7 @@ HasItsInterfaces l = l.device.interfaces ≡ length l.interfaces
 
 -- a list has at most 1,024 devices, and with a status other than 0 none
 pub record IsWritableList (status : ℕ) (devices : List Listed) : Type 0 where
-  pub few : length devices ≤ 1024
+  pub few : length devices ≤ MAX_DEVICES
   pub none : status ≢ 0 → devices ≡ []
   pub counted : All HasItsInterfaces devices
 
@@ -27,43 +52,18 @@ IsWritable (ReqImport status busid) = Unit {0}
 IsWritable (RepDevlist status devices) = IsWritableList status devices
 IsWritable (RepImport status device) = IsWritableImport status device
 
--- ---- requests, with the ranges of their fields
+-- ---- which way a packet goes
 
-abbrev pub IsRequest : OpPacket → Type 0
-IsRequest (ReqDevlist status) = status < 2 ^ 32
-IsRequest (ReqImport status busid) = (status < 2 ^ 32) × (length busid ≡ 32)
-IsRequest (RepDevlist status devices) = ⊥
-IsRequest (RepImport status device) = ⊥
+abbrev pub way_of : OpPacket → OpWay
+way_of (ReqDevlist status) = Request
+way_of (ReqImport status busid) = Request
+way_of (RepDevlist status devices) = Reply
+way_of (RepImport status device) = Reply
 
--- ---- replies, with the ranges of their fields
+-- a packet that goes this way, in the ranges of its types, which a sender may write
+abbrev pub IsPacket : OpWay → OpPacket → Type 0
+IsPacket way p = (way_of p ≡ way) × IsInRange p × IsWritable p
 
-pub record IsDevice (d : DeviceRow) : Type 0 where
-  pub path_length : length d.path ≡ 256
-  pub busid_length : length d.busid ≡ 32
-  pub busnum_fits : d.busnum < 2 ^ 32
-  pub devnum_fits : d.devnum < 2 ^ 32
-  pub speed_fits : d.speed < 2 ^ 32
-  pub vendor_fits : d.vendor < 2 ^ 16
-  pub product_fits : d.product < 2 ^ 16
-  pub version_fits : d.version < 2 ^ 16
-
+-- a device as it stands in a list
 abbrev pub IsListed : Listed → Type 0
 IsListed l = IsDevice l.device × HasItsInterfaces l
-
--- a list has at most 1,024 devices, and with a status other than 0 none
-pub record IsListReply (status : ℕ) (devices : List Listed) : Type 0 where
-  pub status_fits : status < 2 ^ 32
-  pub few : length devices ≤ 1024
-  pub none : status ≢ 0 → devices ≡ []
-  pub each : All IsListed devices
-
--- an import tells a device exactly where its status is 0
-abbrev pub IsImportReply : ℕ → Option DeviceRow → Type 0
-IsImportReply status None = (status < 2 ^ 32) × (status ≢ 0)
-IsImportReply status (Some d) = (status ≡ 0) × IsDevice d
-
-abbrev pub IsReply : OpPacket → Type 0
-IsReply (ReqDevlist status) = ⊥
-IsReply (ReqImport status busid) = ⊥
-IsReply (RepDevlist status devices) = IsListReply status devices
-IsReply (RepImport status device) = IsImportReply status device

@@ -5,28 +5,28 @@ use Rattle.usb_base.specs.Number.{be_at}
 use Rattle.packet_stream.specs.Format.{Check, Format}
 use Rattle.usb_base.specs.declared.reason.Reason.{Reason}
 use Rattle.usb_base.specs.declared.reason.Reason.TheVariants.{Count}
+use Rattle.usbip_op.specs.declared.code.TheConstants.{OP_REP_DEVLIST, OP_REP_IMPORT, MAX_DEVICES}
 use Rattle.usbip_op.specs.declared.packet.OpPacket.{OpPacket}
 use Rattle.usbip_op.specs.declared.packet.OpPacket.TheVariants.{RepDevlist, RepImport}
-use Rattle.usbip_op.specs.declared.packet.OpWay.{OpWay}
-use Rattle.usbip_op.specs.declared.packet.OpWay.TheVariants.{Request, Reply}
 use Rattle.usbip_op.specs.Rows.{rows_size, rows_at}
 use Rattle.usbip_op.specs.Devices.{device_at, listed_form}
+use Rattle.usbip_op.specs.declared.packet.OpWay.TheVariants.{Reply}
 use Rattle.usbip_op.specs.Spelling.{spelling}
-use Rattle.usbip_op.specs.Ranges.{IsReply}
-use Rattle.usbip_op.specs.Requests.{version_check, code_check, requests}
+use Rattle.usbip_op.specs.Ranges.{IsPacket}
+use Rattle.usbip_op.specs.Requests.{version_check, code_check}
 
 -- a list reply with status 0 has at most 1,024 devices
 abbrev pub count_check : Check Reason
-count_check = record { place = 8; needed = 12; passes = λ b. not ((be_at w16 2 b == 0x0005) && (be_at w32 4 b == 0)) || nat_le (be_at w32 8 b) 1024; reason = Count }
+count_check = record { place = 8; needed = 12; passes = λ b. not ((be_at w16 2 b == OP_REP_DEVLIST) && (be_at w32 4 b == 0)) || nat_le (be_at w32 8 b) MAX_DEVICES; reason = Count }
 
 abbrev pub reply_checks : List (Check Reason)
-reply_checks = version_check ∷ code_check 0x0005 0x0003 ∷ count_check ∷ []
+reply_checks = version_check ∷ code_check OP_REP_DEVLIST OP_REP_IMPORT ∷ count_check ∷ []
 
 -- with a status other than 0 a reply ends after its head
 abbrev pub reply_size_by : ℕ → ℕ → List ℕ → ℕ
 reply_size_by code status b =
     if not (status == 0) then 8
-    else if code == 0x0005 then 12 + rows_size listed_form (be_at w32 8 b) (drop 12 b)
+    else if code == OP_REP_DEVLIST then 12 + rows_size listed_form (be_at w32 8 b) (drop 12 b)
     else 320
 
 abbrev pub list_reply_by : ℕ → List ℕ → OpPacket
@@ -36,7 +36,7 @@ abbrev pub import_reply_by : ℕ → List ℕ → OpPacket
 import_reply_by status b = RepImport status (if status == 0 then Some (device_at (drop 8 b)) else None)
 
 abbrev pub reply_by : ℕ → ℕ → List ℕ → OpPacket
-reply_by code status b = if code == 0x0005 then list_reply_by status b else import_reply_by status b
+reply_by code status b = if code == OP_REP_DEVLIST then list_reply_by status b else import_reply_by status b
 
 abbrev pub replies : Format OpPacket Reason
 replies = record {
@@ -44,10 +44,5 @@ replies = record {
   size = λ b. reply_size_by (be_at w16 2 b) (be_at w32 4 b) b;
   packet = λ b. reply_by (be_at w16 2 b) (be_at w32 4 b) b;
   spelling = spelling;
-  Fits = IsReply;
+  Fits = IsPacket Reply;
 }
-
--- the packets that go one way
-abbrev pub packets_of : OpWay → Format OpPacket Reason
-packets_of Request = requests
-packets_of Reply = replies

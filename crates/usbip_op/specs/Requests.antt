@@ -5,27 +5,29 @@ use Rattle.usb_base.specs.Number.{be_at, part}
 use Rattle.packet_stream.specs.Format.{Check, Format}
 use Rattle.usb_base.specs.declared.reason.Reason.{Reason}
 use Rattle.usb_base.specs.declared.reason.Reason.TheVariants.{Version, OpCode}
+use Rattle.usbip_op.specs.declared.code.TheConstants.{OP_REQ_DEVLIST, OP_REQ_IMPORT, USBIP_VERSION}
 use Rattle.usbip_op.specs.declared.packet.OpPacket.{OpPacket}
 use Rattle.usbip_op.specs.declared.packet.OpPacket.TheVariants.{ReqDevlist, ReqImport}
+use Rattle.usbip_op.specs.declared.packet.OpWay.TheVariants.{Request}
 use Rattle.usbip_op.specs.Spelling.{spelling}
-use Rattle.usbip_op.specs.Ranges.{IsRequest}
+use Rattle.usbip_op.specs.Ranges.{IsPacket}
 
 -- the first two bytes are version 1.1.1
 abbrev pub version_check : Check Reason
-version_check = record { place = 0; needed = 2; passes = λ b. be_at w16 0 b == 0x0111; reason = Version }
+version_check = record { place = 0; needed = 2; passes = λ b. be_at w16 0 b == USBIP_VERSION; reason = Version }
 
 -- the next two are one of two codes
 abbrev pub code_check : ℕ → ℕ → Check Reason
 code_check list import = record { place = 2; needed = 4; passes = λ b. (be_at w16 2 b == list) || (be_at w16 2 b == import); reason = OpCode }
 
 abbrev pub request_checks : List (Check Reason)
-request_checks = version_check ∷ code_check 0x8005 0x8003 ∷ []
+request_checks = version_check ∷ code_check OP_REQ_DEVLIST OP_REQ_IMPORT ∷ []
 
 abbrev pub request_size_by : ℕ → ℕ
-request_size_by code = if code == 0x8005 then 8 else 40
+request_size_by code = if code == OP_REQ_DEVLIST then 8 else 40
 
 abbrev pub request_by : ℕ → List ℕ → OpPacket
-request_by code b = if code == 0x8005 then ReqDevlist (be_at w32 4 b) else ReqImport (be_at w32 4 b) (part 8 32 b)
+request_by code b = if code == OP_REQ_DEVLIST then ReqDevlist (be_at w32 4 b) else ReqImport (be_at w32 4 b) (part 8 32 b)
 
 abbrev pub requests : Format OpPacket Reason
 requests = record {
@@ -33,5 +35,5 @@ requests = record {
   size = λ b. request_size_by (be_at w16 2 b);
   packet = λ b. request_by (be_at w16 2 b) b;
   spelling = spelling;
-  Fits = IsRequest;
+  Fits = IsPacket Request;
 }

@@ -1,5 +1,5 @@
 -- Counted lists, whose rows each tell their own size.
-use Rattle.std.specs.Prelude.{◌≡◌, ℕ, zero, suc, ◌+◌, ◌≤◌, List, [], ◌∷◌, ◌++◌, length, take, drop}
+use Rattle.std.specs.Prelude.{◌≡◌, ℕ, zero, suc, ◌+◌, ◌≤◌, ◌<◌, List, [], ◌∷◌, ◌++◌, length, take, drop, Option, Some, None}
 use Rattle.usb_base.specs.Number.{AreBytes}
 
 pub record RowForm (X : Type 0) : Type 1 where
@@ -21,6 +21,11 @@ rows_size f (suc n) bytes = f.size bytes + rows_size f n (drop (f.size bytes) by
 abbrev pub rows_at : {X : Type 0} → RowForm X → ℕ → List ℕ → List X
 rows_at f zero bytes = []
 rows_at f (suc n) bytes = f.row bytes ∷ rows_at f n (drop (f.size bytes) bytes)
+
+-- how many bytes the n rows have, or None where they are not all there
+abbrev pub IsRowsSize : {X : Type 0} → RowForm X → ℕ → List ℕ → Option ℕ → Type 0
+IsRowsSize f n bytes None = length bytes < rows_size f n bytes
+IsRowsSize f n bytes (Some size) = (size ≡ rows_size f n bytes) × (size ≤ length bytes)
 
 -- ---- the laws of a row
 

@@ -2,6 +2,7 @@
 use Rattle.std.specs.Prelude.{ℕ, ◌==◌, if◌then◌else◌, List, [], ◌∷◌, ◌++◌, length, Option, Some, None, flat_map}
 use Rattle.std.specs.Int.{w16, w32}
 use Rattle.usb_base.specs.Number.{be}
+use Rattle.usbip_op.specs.declared.code.TheConstants.{OP_REP_DEVLIST, OP_REP_IMPORT, OP_REQ_DEVLIST, OP_REQ_IMPORT, USBIP_VERSION}
 use Rattle.usbip_op.specs.declared.packet.DeviceRow.{DeviceRow}
 use Rattle.usbip_op.specs.declared.packet.IfaceRow.{IfaceRow}
 use Rattle.usbip_op.specs.declared.packet.Listed.{Listed}
@@ -10,7 +11,7 @@ use Rattle.usbip_op.specs.declared.packet.OpPacket.TheVariants.{ReqDevlist, ReqI
 
 -- version 1.1.1, the packet's code, its status
 abbrev pub head_bytes : ℕ → ℕ → List ℕ
-head_bytes code status = be w16 0x0111 ++ be w16 code ++ be w32 status
+head_bytes code status = be w16 USBIP_VERSION ++ be w16 code ++ be w32 status
 
 abbrev pub numbers_bytes : DeviceRow → List ℕ
 numbers_bytes d = be w32 d.busnum ++ be w32 d.devnum ++ be w32 d.speed ++ be w16 d.vendor ++ be w16 d.product ++ be w16 d.version
@@ -37,7 +38,7 @@ abbrev pub devices_bytes : ℕ → List Listed → List ℕ
 devices_bytes status devices = if status == 0 then be w32 (length devices) ++ flat_map listed_bytes devices else []
 
 abbrev pub spelling : OpPacket → List ℕ
-spelling (ReqDevlist status) = head_bytes 0x8005 status
-spelling (ReqImport status busid) = head_bytes 0x8003 status ++ busid
-spelling (RepDevlist status devices) = head_bytes 0x0005 status ++ devices_bytes status devices
-spelling (RepImport status device) = head_bytes 0x0003 status ++ imported_bytes device
+spelling (ReqDevlist status) = head_bytes OP_REQ_DEVLIST status
+spelling (ReqImport status busid) = head_bytes OP_REQ_IMPORT status ++ busid
+spelling (RepDevlist status devices) = head_bytes OP_REP_DEVLIST status ++ devices_bytes status devices
+spelling (RepImport status device) = head_bytes OP_REP_IMPORT status ++ imported_bytes device

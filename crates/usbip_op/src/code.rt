@@ -1,4 +1,5 @@
-//! What the first four bytes of a packet say: the version, and then what the packet is.
+//! What the first four bytes of a packet say: the version, and then what the packet is; and what a list is kept
+//! to.
 
 /// The protocol's version 1.1.1.
 pub const USBIP_VERSION: u16 = 0x0111;
@@ -11,3 +12,6 @@ pub const OP_REP_DEVLIST: u16 = 0x0005;
 pub const OP_REQ_IMPORT: u16 = 0x8003;
 /// Answers whether the device may be used.
 pub const OP_REP_IMPORT: u16 = 0x0003;
+
+/// How many devices a list may have.
+pub const MAX_DEVICES: u32 = 1024;

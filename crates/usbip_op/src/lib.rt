@@ -10,11 +10,11 @@ mod reply;
 mod tests;
 mod write;
 
-pub use code::{OP_REP_DEVLIST, OP_REP_IMPORT, OP_REQ_DEVLIST, OP_REQ_IMPORT, USBIP_VERSION};
+pub use code::{
+    MAX_DEVICES, OP_REP_DEVLIST, OP_REP_IMPORT, OP_REQ_DEVLIST, OP_REQ_IMPORT, USBIP_VERSION,
+};
 pub use packet::{
     DeviceRow, IfaceRow, IfaceRows, Listed, ListedRows, OpError, OpPacket, OpRead, OpWay,
 };
-pub use read::{
-    read_again, read_op, read_reply_again, read_request, replies_sound, requests_sound,
-};
-pub use write::write_op;
+pub use read::{packets_sound, read_op, read_request};
+pub use write::{write_op, written_again};

@@ -1,6 +1,7 @@
 //! The list and import packets of USB/IP, as plain data.
 
-use usb_base::{List, Reason};
+use packet_stream::{Read, ReadError};
+use usb_base::List;
 
 /// A device as a list or an import tells it, 312 bytes ("usbip_protocol", OP_REP_DEVLIST). The texts end at
 /// their first zero byte. The numbers are in the units of the protocol: `version` is bcdDevice, `speed` is 1
@@ -76,18 +77,8 @@ pub enum OpWay {
     Reply,
 }
 
-/// What stands at the front of the bytes: a packet and how many bytes it has, or less than one.
-#[derive(Debug, Drop)]
-pub enum OpRead {
-    Whole(OpPacket, usize),
-    Short,
-}
+/// What is read of the front of bytes.
+pub type OpRead = Read<OpPacket>;
 
-/// Why nothing was read.
-#[derive(Clone, Copy, Debug, PartialEq, Eq)]
-pub enum OpError {
-    /// The packet is wrong at this place, counted in bytes from its first.
-    Refused { place: usize, reason: Reason },
-    /// No memory was left for the devices of a list. The bytes may be read again.
-    Memory,
-}
+/// Why nothing is read: the packet is wrong, or no memory was left for the rows of a whole list.
+pub type OpError = ReadError;

@@ -1,31 +1,32 @@
 //! Replies read.
 
-ghost use Rattle.std.specs.Prelude.{◌≡◌, ◌+◌, ◌*◌, ◌≤◌, ◌<◌, length, drop, IfOk, Option, Some, None};
+ghost use Rattle.std.specs.Prelude.{◌≡◌, ◌+◌, ◌*◌, ◌≤◌, ◌<◌, length, drop, map, OnErr, IfOk, Option, Some, None};
 ghost use Rattle.usb_base.specs.Number.{byte_at, be_at};
 ghost use Rattle.packet_stream.specs.Format.{reading};
 ghost use Rattle.std.specs.Int.{w16, w32};
-ghost use Rattle.usbip_op.specs.Rows.{rows_at, rows_size};
-ghost use Rattle.usbip_op.specs.Devices.{device_at, interface_at, interface_form, listed_at, listed_form};
+ghost use Rattle.usbip_op.specs.Rows.{rows_at, rows_size, IsRowsSize};
+ghost use Rattle.usbip_op.specs.Devices.{device_at, interface_at, listed_at, listed_form};
 ghost use Rattle.usbip_op.specs.Replies.{replies};
-ghost use Rattle.usbip_op.specs.Answers.{Tells};
-ghost use Rattle.usbip_op.specs.Counted.{IsCounted};
+ghost use Rattle.packet_stream.specs.Reads.{told, Answers};
+ghost use Rattle.usbip_op.specs.Packets.{takes_memory};
+ghost use Rattle.usbip_op.specs.declared.code.TheConstants.{USBIP_VERSION as version, OP_REP_DEVLIST as list_code, OP_REP_IMPORT as import_code};
 
-use crate::code::{OP_REP_DEVLIST, OP_REP_IMPORT, USBIP_VERSION};
+use crate::code::{MAX_DEVICES, OP_REP_DEVLIST, OP_REP_IMPORT, USBIP_VERSION};
 use crate::packet::{
     DeviceRow, IfaceRow, IfaceRows, Listed, ListedRows, OpError, OpPacket, OpRead,
 };
 use std::alloc::Global;
 use usb_base::{List, Memory, Reason, array_at, be_u16_at, be_u32_at};
 
-/// How many devices a list may have.
-const MAX_DEVICES: u32 = 1024;
-
 /// How many bytes a device has, without its interfaces.
 const DEVICE_SIZE: usize = 312;
 
+/// How many bytes an interface has.
+const INTERFACE_SIZE: usize = 4;
+
 /// Reads the reply at the front of the bytes.
 pub(crate) fn read_reply(alloc: Global, bytes: &[u8]) -> Result<OpRead, OpError>
-    ensures { Tells (λ found. found ≡ reading replies bytes.now) result }
+    ensures { Answers takes_memory result (reading replies bytes.now) }
 {
     if bytes.len() < 2 {
         return Ok(OpRead::Short);
@@ -56,17 +57,18 @@ pub(crate) fn read_reply(alloc: Global, bytes: &[u8]) -> Result<OpRead, OpError>
 }
 
 fn import_reply(bytes: &[u8]) -> OpRead
-    requires version { be_at w16 0 bytes.now ≡ 0x0111 }
-    requires code { be_at w16 2 bytes.now ≡ 0x0003 }
+    requires version { be_at w16 0 bytes.now ≡ version }
+    requires code { be_at w16 2 bytes.now ≡ import_code }
     requires head { 8 ≤ length bytes.now }
-    ensures { Tells (λ found. found ≡ reading replies bytes.now) (Ok result) }
+    ensures { told (Ok result) ≡ Some (reading replies bytes.now) }
 {
     let status = be_u32_at(bytes, 4);
     if status == 0 {
         if bytes.len() < 8 + DEVICE_SIZE {
             return OpRead::Short;
         }
-        let device = Some(device_at(behind(bytes, 8)));
+        let (_, row) = bytes.split_at(8);
+        let device = Some(device_at(row));
         return OpRead::Whole(OpPacket::RepImport { status, device }, 8 + DEVICE_SIZE);
     }
     let device = None;
@@ -74,10 +76,10 @@ fn import_reply(bytes: &[u8]) -> OpRead
 }
 
 fn list_reply(alloc: Global, bytes: &[u8]) -> Result<OpRead, OpError>
-    requires version { be_at w16 0 bytes.now ≡ 0x0111 }
-    requires code { be_at w16 2 bytes.now ≡ 0x0005 }
+    requires version { be_at w16 0 bytes.now ≡ version }
+    requires code { be_at w16 2 bytes.now ≡ list_code }
     requires head { 8 ≤ length bytes.now }
-    ensures { Tells (λ found. found ≡ reading replies bytes.now) result }
+    ensures { Answers takes_memory result (reading replies bytes.now) }
 {
     let status = be_u32_at(bytes, 4);
     if status != 0 {
@@ -94,79 +96,74 @@ fn list_reply(alloc: Global, bytes: &[u8]) -> Result<OpRead, OpError>
             reason: Reason::Count,
         });
     }
-    match listed_rows(alloc, count, behind(bytes, 12)) {
-        Ok(Some((devices, size))) => {
-            Ok(OpRead::Whole(OpPacket::RepDevlist { status, devices }, 12 + size))
-        }
-        Ok(None) => Ok(OpRead::Short),
-        Err(Memory) => Err(OpError::Memory),
-    }
+    let (_, rows) = bytes.split_at(12);
+    let Some(size) = rows_size(count, rows) else {
+        return Ok(OpRead::Short);
+    };
+    let devices = listed_rows(alloc, count, rows)?;
+    Ok(OpRead::Whole(OpPacket::RepDevlist { status, devices }, 12 + size))
 }
 
-// The devices at the front and how many bytes they have, or None where they are not all there.
-fn listed_rows(
-    alloc: Global,
-    count: u32,
-    bytes: &[u8],
-) -> Result<Option<(ListedRows, usize)>, Memory>
-    ensures { IfOk result (IsCounted listed_form count bytes.now) }
+/// How many bytes so many devices have with their interfaces, or none where they are not all there.
+fn rows_size(count: u32, bytes: &[u8]) -> Option<usize>
+    ensures { IsRowsSize listed_form count bytes.now result }
 {
-    let mut rows = List::new(alloc);
-    let mut at = 0;
+    let mut size = 0;
     for _ in 0..count {
-        let rest = behind(bytes, at);
-        if rest.len() < DEVICE_SIZE {
-            return Ok(None);
+        let (_, row) = bytes.split_at(size);
+        if row.len() < DEVICE_SIZE {
+            return None;
         }
-        let size = DEVICE_SIZE + rest[311] as usize * 4;
-        if rest.len() < size {
-            return Ok(None);
+        let row_size = DEVICE_SIZE + row[311] as usize * INTERFACE_SIZE;
+        if row.len() < row_size {
+            return None;
         }
-        rows.push(listed_row(alloc, rest)?)?;
-        at += size;
+        size += row_size;
     }
-    Ok(Some((rows, at)))
+    Some(size)
 }
 
-fn listed_row(alloc: Global, bytes: &[u8]) -> Result<Listed, Memory>
-    requires long { 312 ≤ length bytes.now }
-    requires whole { 312 + byte_at 311 bytes.now * 4 ≤ length bytes.now }
-    ensures { IfOk result (λ row. row ≡ listed_at bytes.now) }
-{
-    let device = device_at(bytes);
-    let interfaces = interface_rows(alloc, device.interfaces, behind(bytes, DEVICE_SIZE))?;
-    Ok(Listed { device, interfaces })
-}
-
-fn interface_rows(alloc: Global, count: u8, bytes: &[u8]) -> Result<IfaceRows, Memory>
-    requires { count * 4 ≤ length bytes.now }
-    ensures { IfOk result (λ rows. rows ≡ rows_at interface_form count bytes.now) }
+/// The devices at the front, which are all there.
+fn listed_rows(alloc: Global, count: u32, bytes: &[u8]) -> Result<ListedRows, Memory>
+    requires { rows_size listed_form count bytes.now ≤ length bytes.now }
+    ensures ok { IfOk result (λ rows. rows ≡ rows_at listed_form count bytes.now) }
+    ensures err { OnErr result (0 < count) }
 {
     let mut rows = List::new(alloc);
-    for index in 0..count {
-        rows.push(interface_at(behind(bytes, index as usize * 4)))?;
+    let mut rest = bytes;
+    for _ in 0..count {
+        let row = listed_row(alloc, rest)?;
+        let size = DEVICE_SIZE + row.device.interfaces as usize * INTERFACE_SIZE;
+        rows.push(row)?;
+        (_, rest) = rest.split_at(size);
     }
     Ok(rows)
 }
 
-// The bytes from a place on.
-fn behind(bytes: &[u8], place: usize) -> &[u8]
-    requires { place ≤ length bytes.now }
-    ensures { result.now ≡ drop place bytes.now }
+fn listed_row(alloc: Global, bytes: &[u8]) -> Result<Listed, Memory>
+    requires { 312 + byte_at 311 bytes.now * 4 ≤ length bytes.now }
+    ensures { IfOk result (λ row. row ≡ listed_at bytes.now) }
 {
-    &bytes[place..]
+    let (_, behind) = bytes.split_at(DEVICE_SIZE);
+    let device = device_at(bytes);
+    let (interfaces, _) = behind.as_chunks::<INTERFACE_SIZE>();
+    let interfaces = interface_rows(alloc, &interfaces[..device.interfaces as usize])?;
+    Ok(Listed { device, interfaces })
 }
 
-fn interface_at(bytes: &[u8]) -> IfaceRow
-    requires { 4 ≤ length bytes.now }
-    ensures { result ≡ interface_at bytes.now }
+fn interface_rows(alloc: Global, chunks: &[[u8; INTERFACE_SIZE]]) -> Result<IfaceRows, Memory>
+    ensures { IfOk result (λ rows. rows ≡ map interface_at chunks.now) }
 {
-    IfaceRow {
-        class: bytes[0],
-        subclass: bytes[1],
-        protocol: bytes[2],
-        pad: bytes[3],
+    let mut rows = List::new(alloc);
+    for [class, subclass, protocol, pad] in chunks {
+        rows.push(IfaceRow {
+            class: *class,
+            subclass: *subclass,
+            protocol: *protocol,
+            pad: *pad,
+        })?;
     }
+    Ok(rows)
 }
 
 fn device_at(bytes: &[u8]) -> DeviceRow

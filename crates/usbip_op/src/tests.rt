@@ -2,9 +2,10 @@
 
 ghost use Rattle.std.specs.Prelude.{◌≡◌};
 
-use crate::packet::{DeviceRow, IfaceRow, Listed, ListedRows, OpError, OpPacket, OpRead, OpWay};
-use crate::read::{read_op, read_request};
-use crate::write::write_op;
+use crate::{
+    DeviceRow, IfaceRow, Listed, ListedRows, OpError, OpPacket, OpRead, OpWay, packets_sound,
+    read_op, read_request, write_op, written_again,
+};
 use std::alloc::Global;
 use std::test::Fail;
 use usb_base::{Bytes, List, Memory, Reason};
@@ -16,12 +17,12 @@ const IMPORT_REQUEST: [u8; 40] = [
     0, 0, 0, 0, 0, 0, 0, 0, 0, 0, 0, 0, 0, 0, 0,
 ];
 
-// What follows the two texts of the example device.
+/// What follows the two texts of the example device.
 const DEVICE_NUMBERS: [u8; 24] = [
     0, 0, 0, 1, 0, 0, 0, 2, 0, 0, 0, 3, 0xff, 0xf0, 0, 2, 0, 0, 0, 0, 0, 1, 1, 1,
 ];
 
-// A text at the front of N bytes that are else 0.
+/// A text at the front of N bytes that are else 0.
 fn text<const N: usize>(front: &[u8]) -> [u8; N] {
     let mut field = [0; N];
     for (place, byte) in field.iter_mut().zip(front) {
@@ -51,7 +52,7 @@ fn example_device() -> DeviceRow
     }
 }
 
-// The 312 bytes of the example device.
+/// The 312 bytes of the example device.
 fn append_device(out: &mut Bytes) -> Result<(), Memory> {
     out.append(b"/usbredir/1-1")?;
     out.append(&[0; 243])?;
@@ -122,6 +123,8 @@ fn writes_replies(rt: HostRuntime) -> Result<(), Fail> {
     append_device(&mut want)?;
     want.append(&[0xff, 0, 0, 0])?;
     assert_eq!(rt; out.as_slice(), want.as_slice());
+    written_again();
+    packets_sound();
     Ok(())
 }
 

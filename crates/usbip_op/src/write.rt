@@ -1,21 +1,29 @@
 //! Packets written.
 
-ghost use Rattle.std.specs.Prelude.{◌≡◌, ◌++◌, OnOk, OnErr, flat_map};
+ghost use Rattle.std.specs.Prelude.{◌≡◌, ◌++◌, ℕ, List, length, flat_map};
 ghost use Rattle.std.specs.Int.{w16, w32};
 ghost use Rattle.usb_base.specs.Number.{be};
 ghost use Rattle.usbip_op.specs.Spelling.{spelling, device_bytes, listed_bytes, interface_bytes, numbers_bytes, classes_bytes, head_bytes};
-ghost use Rattle.usbip_op.specs.Ranges.{IsWritable};
-ghost use Rattle.usbip_op.specs.Begins.{Begins};
+ghost use Rattle.usbip_op.specs.Ranges.{IsInRange, IsWritable, way_of};
+ghost use Rattle.packet_stream.specs.Format.{reading, Whole};
+ghost use Rattle.usbip_op.specs.Packets.{packets_of};
+ghost use Rattle.usbip_op.specs.declared.packet.OpPacket.{OpPacket as Packet};
+ghost use Rattle.packet_stream.specs.Writes.{Appends, AppendsSome};
 
 use crate::code::{OP_REP_DEVLIST, OP_REP_IMPORT, OP_REQ_DEVLIST, OP_REQ_IMPORT, USBIP_VERSION};
 use crate::packet::{DeviceRow, IfaceRow, Listed, OpPacket};
 use usb_base::{Bytes, Memory, push_be_u16, push_be_u32};
 
+/// A law: what a sender writes is read as that packet again, whatever comes after it.
+pub fn written_again()
+    ensures { (p : Packet) (more : List ℕ) → IsInRange p → IsWritable p
+        → reading (packets_of (way_of p)) (spelling p ++ more) ≡ Whole p (length (spelling p)) }
+{}
+
 /// Appends a packet. For want of memory the bytes stay as they were.
 pub fn write_op(packet: &OpPacket, out: &mut Bytes) -> Result<(), Memory>
     requires { IsWritable packet.now }
-    ensures ok { OnOk result (out.new ≡ out.old ++ spelling packet.now) }
-    ensures err { OnErr result (out.new ≡ out.old) }
+    ensures { Appends result out.old out.new (spelling packet.now) }
 {
     let before = out.len();
     match push_packet(packet, out) {
@@ -29,8 +37,7 @@ pub fn write_op(packet: &OpPacket, out: &mut Bytes) -> Result<(), Memory>
 
 fn push_packet(packet: &OpPacket, out: &mut Bytes) -> Result<(), Memory>
     requires { IsWritable packet.now }
-    ensures ok { OnOk result (out.new ≡ out.old ++ spelling packet.now) }
-    ensures err { OnErr result (Begins out.old out.new) }
+    ensures { AppendsSome result out.old out.new (spelling packet.now) }
 {
     match packet {
         OpPacket::ReqDevlist { status } => push_head(OP_REQ_DEVLIST, *status, out),
@@ -59,8 +66,7 @@ fn push_packet(packet: &OpPacket, out: &mut Bytes) -> Result<(), Memory>
 }
 
 fn push_head(code: u16, status: u32, out: &mut Bytes) -> Result<(), Memory>
-    ensures ok { OnOk result (out.new ≡ out.old ++ head_bytes code status) }
-    ensures err { OnErr result (Begins out.old out.new) }
+    ensures { AppendsSome result out.old out.new (head_bytes code status) }
 {
     push_be_u16(out, USBIP_VERSION)?;
     push_be_u16(out, code)?;
@@ -69,8 +75,7 @@ fn push_head(code: u16, status: u32, out: &mut Bytes) -> Result<(), Memory>
 }
 
 fn push_devices(devices: &[Listed], out: &mut Bytes) -> Result<(), Memory>
-    ensures ok { OnOk result (out.new ≡ out.old ++ flat_map listed_bytes devices.now) }
-    ensures err { OnErr result (Begins out.old out.new) }
+    ensures { AppendsSome result out.old out.new (flat_map listed_bytes devices.now) }
 {
     for listed in devices {
         push_device(&listed.device, out)?;
@@ -80,8 +85,7 @@ fn push_devices(devices: &[Listed], out: &mut Bytes) -> Result<(), Memory>
 }
 
 fn push_interfaces(interfaces: &[IfaceRow], out: &mut Bytes) -> Result<(), Memory>
-    ensures ok { OnOk result (out.new ≡ out.old ++ flat_map interface_bytes interfaces.now) }
-    ensures err { OnErr result (Begins out.old out.new) }
+    ensures { AppendsSome result out.old out.new (flat_map interface_bytes interfaces.now) }
 {
     for interface in interfaces {
         out.append(&[
@@ -95,8 +99,7 @@ fn push_interfaces(interfaces: &[IfaceRow], out: &mut Bytes) -> Result<(), Memor
 }
 
 fn push_device(device: &DeviceRow, out: &mut Bytes) -> Result<(), Memory>
-    ensures ok { OnOk result (out.new ≡ out.old ++ device_bytes device.now) }
-    ensures err { OnErr result (Begins out.old out.new) }
+    ensures { AppendsSome result out.old out.new (device_bytes device.now) }
 {
     out.append(&device.path)?;
     out.append(&device.busid)?;
@@ -106,8 +109,7 @@ fn push_device(device: &DeviceRow, out: &mut Bytes) -> Result<(), Memory>
 }
 
 fn push_numbers(device: &DeviceRow, out: &mut Bytes) -> Result<(), Memory>
-    ensures ok { OnOk result (out.new ≡ out.old ++ numbers_bytes device.now) }
-    ensures err { OnErr result (Begins out.old out.new) }
+    ensures { AppendsSome result out.old out.new (numbers_bytes device.now) }
 {
     push_be_u32(out, device.busnum)?;
     push_be_u32(out, device.devnum)?;
@@ -119,8 +121,7 @@ fn push_numbers(device: &DeviceRow, out: &mut Bytes) -> Result<(), Memory>
 }
 
 fn push_classes(device: &DeviceRow, out: &mut Bytes) -> Result<(), Memory>
-    ensures ok { OnOk result (out.new ≡ out.old ++ classes_bytes device.now) }
-    ensures err { OnErr result (Begins out.old out.new) }
+    ensures { AppendsSome result out.old out.new (classes_bytes device.now) }
 {
     out.append(&[
         device.class,

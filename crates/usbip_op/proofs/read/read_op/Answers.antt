@@ -1,18 +1,12 @@
-use Rattle.std.proofs.Common.{◌≡◌, subst, sym, arith}
-use Rattle.packet_stream.specs.Format.{Stands, Found, reading}
-use Rattle.packet_stream.proofs.Formats.{stands}
-use Rattle.usb_base.specs.declared.reason.Reason.{Reason}
-use Rattle.usbip_op.specs.declared.packet.OpPacket.{OpPacket}
-use Rattle.usbip_op.specs.declared.packet.OpWay.{OpWay}
-use Rattle.usbip_op.specs.Answers.{Tells}
-use Rattle.usbip_op.specs.Replies.{replies, packets_of}
-use Rattle.usbip_op.proofs.Answers.{tells_weaker}
+use Rattle.std.proofs.Common.{arith}
+use Rattle.packet_stream.proofs.Told.{told_answers, answers_stands}
+use Rattle.usbip_op.specs.Replies.{replies}
+use Rattle.usbip_op.specs.Packets.{takes_memory}
 use Rattle.usbip_op.proofs.Replies.{replies_sound}
 use Rattle.usbip_op.proofs.read.read_op.Goals as goal
 
 pub returns-in-Reply-clause-stands : goal.returns-in-Reply-clause-stands
-returns-in-Reply-clause-stands c =
-    let b = c.args.bytes.now in
-    let there = stands replies replies_sound b (λ i. omega (arith, c.type_inv.bytes i)) in
-    let told = tells_weaker (λ (x : Found OpPacket Reason). x ≡ reading replies b) (λ (x : Found OpPacket Reason). Stands replies b x) (λ x e. subst (Stands replies b) (sym e) there) c.read_reply.result c.read_reply.ensures in
-    subst (λ (w : OpWay). Tells (Stands (packets_of w) b) c.read_reply.result) (sym c.in-Reply.is) told
+returns-in-Reply-clause-stands c = rw c.in-Reply.is (answers_stands takes_memory replies replies_sound c.args.bytes.now (λ i. omega (arith, c.type_inv.bytes i)) c.read_reply.result c.read_reply.ensures)
+
+pub returns-in-Request-clause-exact : goal.returns-in-Request-clause-exact
+returns-in-Request-clause-exact c = rw c.in-Request.is (told_answers takes_memory c.read_request.result _ c.read_request.ensures.exact)

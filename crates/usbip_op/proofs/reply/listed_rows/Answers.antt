@@ -1,36 +1,28 @@
-use Rattle.std.proofs.Common.{◌≡◌, ◌<◌, ◌≤◌, ◌+◌, ◌*◌, ℕ, List, length, drop, subst, ap, ◌∙◌, arith, length-drop}
+use Rattle.std.proofs.Common.{◌≡◌, ◌≤◌, ◌+◌, ◌*◌, ap, length, drop, ◌∙◌}
 use Rattle.usb_base.specs.Number.{byte_at}
-use Rattle.usbip_op.specs.Devices.{listed_form, listed_at}
-use Rattle.usbip_op.specs.Rows.{rows_at, rows_size}
-use Rattle.usbip_op.proofs.Rows.{rows_further, size_further, short_here}
+use Rattle.usbip_op.specs.declared.packet.Listed.{Listed}
+use Rattle.usbip_op.specs.Devices.{listed_form}
+use Rattle.usbip_op.specs.Rows.{rows_at}
+use Rattle.usbip_op.proofs.Rows.{rows_further, first_there, later_there}
 use Rattle.usbip_op.proofs.reply.listed_rows.Goals as goal
 
-abbrev IsCut : List ℕ → Type 0
-IsCut xs = length xs < 312 + byte_at 311 xs * 4
+pub listed_row-requires : goal.listed_row-requires
+listed_row-requires c = first_there listed_form c.args.count c.loop.counter c.loop.rest.now c.loop-test.true c.loop.invariant.there
 
-pub returns-then-rest-lt-DEVICE_SIZE : goal.returns-then-rest-lt-DEVICE_SIZE
-returns-then-rest-lt-DEVICE_SIZE c =
-    let b = c.args.bytes.now in
-    let l = c.loop in
-    let cut : IsCut c.behind-rest.result.now = omega (arith, c.if-rest-lt-DEVICE_SIZE.true) in
-    short_here listed_form c.args.count l.counter l.at (rows_size listed_form c.args.count b) b c.loop-test.true l.invariant.there (subst IsCut c.behind-rest.ensures cut) l.invariant.size_left
-
-pub returns-then-rest-size : goal.returns-then-rest-size
-returns-then-rest-size c =
-    let b = c.args.bytes.now in
-    let l = c.loop in
-    short_here listed_form c.args.count l.counter l.at (rows_size listed_form c.args.count b) b c.loop-test.true l.invariant.there (subst IsCut c.behind-rest.ensures c.if-rest-size.true) l.invariant.size_left
+pub split_at-requires : goal.split_at-requires
+split_at-requires c =
+    let b = c.loop.rest.now in
+    let first : 312 + byte_at 311 b * 4 ≤ length b = first_there listed_form c.args.count c.loop.counter b c.loop-test.true c.loop.invariant.there in
+    rw (ap (λ (l : Listed). l.device.interfaces) c.in_ok-row.ensures) first
 
 pub loop-preserved : goal.loop-preserved
 loop-preserved c =
-    let b = c.args.bytes.now in
-    let l = c.loop in
+    let b = c.loop.rest.now in
     let n = c.args.count in
-    let e = c.behind-rest.ensures in
-    let row : c.in_ok-listed_row.field-0 ≡ listed_at (drop l.at b) = c.in_ok-listed_row.ensures ∙ ap listed_at e in
-    let whole : 312 + byte_at 311 (drop l.at b) * 4 ≤ length (drop l.at b) = subst (λ (xs : List ℕ). 312 + byte_at 311 xs * 4 ≤ length xs) e c.if-rest-size.false in
+    let i = c.loop.counter in
+    let rest : c.split_at.result.1.now ≡ drop (312 + byte_at 311 b * 4) b =
+    c.split_at.ensures.back ∙ ap (λ (l : Listed). drop (312 + l.device.interfaces * 4) b) c.in_ok-row.ensures in
     record {
-      rows_left = rw (c.in_ok-push.ensures.ok, row, e) (rows_further listed_form n l.counter l.at b l.rows (rows_at listed_form n b) c.loop-test.true l.invariant.rows_left);
-      size_left = rw e (size_further listed_form n l.counter l.at (rows_size listed_form n b) b c.loop-test.true l.invariant.size_left);
-      there = rw e (omega (arith, length-drop l.at b, whole, l.invariant.there));
+      left = rw (c.in_ok-push.ensures.ok, rest) (rows_further listed_form n i b c.loop.rows (rows_at listed_form n c.args.bytes.now) c.in_ok-row.row c.loop-test.true c.in_ok-row.ensures c.loop.invariant.left);
+      there = rw rest (later_there listed_form n i b c.loop-test.true c.loop.invariant.there);
     }

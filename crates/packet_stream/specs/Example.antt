@@ -1,0 +1,3 @@
+-- A format of two packets, for the tests.
+pub mod Tells
+pub mod Sound
