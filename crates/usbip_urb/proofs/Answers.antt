@@ -16,7 +16,7 @@ use Rattle.usbip_urb.specs.declared.packet.RetSubmit.{RetSubmit}
 use Rattle.usbip_urb.specs.declared.packet.RetUnlink.{RetUnlink}
 use Rattle.usbip_urb.specs.declared.packet.UrbPacket.{UrbPacket}
 use Rattle.usbip_urb.specs.declared.packet.UrbPacket.TheVariants as urb
-use Rattle.usbip_urb.specs.Codes.{ret_submit, ret_unlink}
+use Rattle.usbip_urb.specs.declared.code.TheConstants.{USBIP_RET_SUBMIT, USBIP_RET_UNLINK}
 use Rattle.usbip_urb.specs.Spelling.{words, ret_submit_words, ret_unlink_words, descs_bytes, spelling}
 use Rattle.usbip_urb.specs.Sizes.{body_size, count_of}
 use Rattle.usbip_urb.specs.Fields.{ret_submit_at, ret_unlink_at}
@@ -31,40 +31,40 @@ use Rattle.usbip_urb.proofs.Limits.{IsWithinLimits, limits_right, limits_found, 
 -- ---- the checks, as what they say of the fields
 
 record IsRight (b : List ℕ) : Type 0 where
-  command : (be_at w32 0 b ≡ ret_submit) ⊎ (be_at w32 0 b ≡ ret_unlink)
-  limits : be_at w32 0 b ≡ ret_submit → IsWithinLimits b
+  command : (be_at w32 0 b ≡ USBIP_RET_SUBMIT) ⊎ (be_at w32 0 b ≡ USBIP_RET_UNLINK)
+  limits : be_at w32 0 b ≡ USBIP_RET_SUBMIT → IsWithinLimits b
 
 abbrev limits_on : List (Check Reason)
-limits_on = guarded (has_command ret_submit) size_checks
+limits_on = guarded (has_command USBIP_RET_SUBMIT) size_checks
 
 abbrev any_command : Check Reason
-any_command = command_check ret_submit ret_unlink
+any_command = command_check USBIP_RET_SUBMIT USBIP_RET_UNLINK
 
-is_command : (n : ℕ) → (n ≡ ret_submit) ⊎ (n ≡ ret_unlink) → ((n == ret_submit) || (n == ret_unlink)) ≡ true
-is_command n (inl e) = ap (λ (k : ℕ). (k == ret_submit) || (k == ret_unlink)) e
-is_command n (inr e) = ap (λ (k : ℕ). (k == ret_submit) || (k == ret_unlink)) e
+is_command : (n : ℕ) → (n ≡ USBIP_RET_SUBMIT) ⊎ (n ≡ USBIP_RET_UNLINK) → ((n == USBIP_RET_SUBMIT) || (n == USBIP_RET_UNLINK)) ≡ true
+is_command n (inl e) = ap (λ (k : ℕ). (k == USBIP_RET_SUBMIT) || (k == USBIP_RET_UNLINK)) e
+is_command n (inr e) = ap (λ (k : ℕ). (k == USBIP_RET_SUBMIT) || (k == USBIP_RET_UNLINK)) e
 
-command_is : (n : ℕ) → ((n == ret_submit) || (n == ret_unlink)) ≡ true → (n ≡ ret_submit) ⊎ (n ≡ ret_unlink)
-command_is n e = elim (or_cases (n == ret_submit) (n == ret_unlink) e) [
-  | inl h ↦ inl (eqb-true n ret_submit h)
-  | inr h ↦ inr (eqb-true n ret_unlink h)
+command_is : (n : ℕ) → ((n == USBIP_RET_SUBMIT) || (n == USBIP_RET_UNLINK)) ≡ true → (n ≡ USBIP_RET_SUBMIT) ⊎ (n ≡ USBIP_RET_UNLINK)
+command_is n e = elim (or_cases (n == USBIP_RET_SUBMIT) (n == USBIP_RET_UNLINK) e) [
+  | inl h ↦ inl (eqb-true n USBIP_RET_SUBMIT h)
+  | inr h ↦ inr (eqb-true n USBIP_RET_UNLINK h)
 ]
 
 none_wrong : (b : List ℕ) → IsRight b → wrong_at answer_checks b ≡ None
-none_wrong b h = none_from any_command limits_on b (λ _. is_command (be_at w32 0 b) h.command) (limits_right ret_submit b h.limits)
+none_wrong b h = none_from any_command limits_on b (λ _. is_command (be_at w32 0 b) h.command) (limits_right USBIP_RET_SUBMIT b h.limits)
 
 is_right : (b : List ℕ) → wrong_at answer_checks b ≡ None → 48 ≤ length b → IsRight b
 is_right b none there = record {
   command = command_is (be_at w32 0 b) (none_first any_command limits_on b none (omega arith));
-  limits = λ e. limits_found ret_submit b (none_later any_command limits_on b none) (omega arith) e;
+  limits = λ e. limits_found USBIP_RET_SUBMIT b (none_later any_command limits_on b none) (omega arith) e;
 }
 
 -- each sees only the bytes that it needs
 answers_steady : AreSteady 4 answer_checks
 answers_steady = (
   omega arith,
-  λ b more h. ap (λ (n : ℕ). (n == ret_submit) || (n == ret_unlink)) (be_at-append_32 0 b more h),
-  limits_steady ret_submit 4 (omega arith),
+  λ b more h. ap (λ (n : ℕ). (n == USBIP_RET_SUBMIT) || (n == USBIP_RET_UNLINK)) (be_at-append_32 0 b more h),
+  limits_steady USBIP_RET_SUBMIT 4 (omega arith),
 )
 
 -- ---- what is read is spelled so
@@ -72,12 +72,12 @@ answers_steady = (
 abbrev IsFound : Bool → List ℕ → ℕ → Type 0
 IsFound is_in b command = (spelling (answer_by is_in command b) ≡ take (answer_size_by is_in command b) b) × IsAnswer is_in (answer_by is_in command b)
 
-submit_found : (is_in : Bool) (b : List ℕ) → AreBytes b → IsRight b → be_at w32 0 b ≡ ret_submit → answer_size_by is_in ret_submit b ≤ length b → IsFound is_in b ret_submit
+submit_found : (is_in : Bool) (b : List ℕ) → AreBytes b → IsRight b → be_at w32 0 b ≡ USBIP_RET_SUBMIT → answer_size_by is_in USBIP_RET_SUBMIT b ≤ length b → IsFound is_in b USBIP_RET_SUBMIT
 submit_found is_in b are right is there =
     let r = ret_submit_at is_in b in
     let below = be_at-below_32 20 b are in
     let front : ret_submit_words r ≡ words_at 10 0 b =
-    ap (λ (n : ℕ). ret_submit ∷ be_at w32 4 b ∷ be_at w32 8 b ∷ be_at w32 12 b ∷ be_at w32 16 b ∷ n ∷ words_at 4 24 b) (signed_again (be_at w32 20 b) below)
+    ap (λ (n : ℕ). USBIP_RET_SUBMIT ∷ be_at w32 4 b ∷ be_at w32 8 b ∷ be_at w32 12 b ∷ be_at w32 16 b ∷ n ∷ words_at 4 24 b) (signed_again (be_at w32 20 b) below)
     ∙ ap (λ (n : ℕ). n ∷ words_at 9 4 b) (sym is) in
     let payload = payload_found is_in b (words (ret_submit_words r)) are there (ap words front ∙ words_spelled 10 0 b are (omega (arith, there))) in
     let within = right.limits is in (
@@ -98,12 +98,12 @@ submit_found is_in b are right is there =
       ),
     )
 
-unlink_found : (is_in : Bool) (b : List ℕ) → AreBytes b → be_at w32 0 b ≡ ret_unlink → 48 ≤ length b → IsFound is_in b ret_unlink
+unlink_found : (is_in : Bool) (b : List ℕ) → AreBytes b → be_at w32 0 b ≡ USBIP_RET_UNLINK → 48 ≤ length b → IsFound is_in b USBIP_RET_UNLINK
 unlink_found is_in b are is there =
     let r = ret_unlink_at b in
     let below = be_at-below_32 20 b are in
     let front : ret_unlink_words r ≡ words_at 6 0 b =
-    ap (λ (n : ℕ). ret_unlink ∷ be_at w32 4 b ∷ be_at w32 8 b ∷ be_at w32 12 b ∷ be_at w32 16 b ∷ n ∷ []) (signed_again (be_at w32 20 b) below)
+    ap (λ (n : ℕ). USBIP_RET_UNLINK ∷ be_at w32 4 b ∷ be_at w32 8 b ∷ be_at w32 12 b ∷ be_at w32 16 b ∷ n ∷ []) (signed_again (be_at w32 20 b) below)
     ∙ ap (λ (n : ℕ). n ∷ words_at 5 4 b) (sym is) in (
       then 24 24 b _ _ (ap words front ∙ words_spelled 6 0 b are (omega arith)) refl,
       record {
@@ -113,7 +113,7 @@ unlink_found is_in b are is there =
       },
     )
 
-found_by : (is_in : Bool) (b : List ℕ) (command : ℕ) → AreBytes b → IsRight b → be_at w32 0 b ≡ command → answer_size_by is_in command b ≤ length b → (command ≡ ret_submit) ⊎ (command ≡ ret_unlink) → IsFound is_in b command
+found_by : (is_in : Bool) (b : List ℕ) (command : ℕ) → AreBytes b → IsRight b → be_at w32 0 b ≡ command → answer_size_by is_in command b ≤ length b → (command ≡ USBIP_RET_SUBMIT) ⊎ (command ≡ USBIP_RET_UNLINK) → IsFound is_in b command
 found_by is_in b command are right is there (inl e) =
     subst (IsFound is_in b) (sym e) (submit_found is_in b are right (is ∙ e) (subst (λ (k : ℕ). answer_size_by is_in k b ≤ length b) e there))
 found_by is_in b command are right is there (inr e) =
@@ -124,7 +124,7 @@ least true n m = omega arith
 least false n m = omega arith
 
 long_enough : (is_in : Bool) (b : List ℕ) → 48 ≤ answer_size_by is_in (be_at w32 0 b) b
-long_enough is_in b = least (be_at w32 0 b == ret_submit) (body_size is_in (be_at w32 24 b)) (count_of (be_at w32 32 b) * 16)
+long_enough is_in b = least (be_at w32 0 b == USBIP_RET_SUBMIT) (body_size is_in (be_at w32 24 b)) (count_of (be_at w32 32 b) * 16)
 
 found : (is_in : Bool) (b : List ℕ) → AreBytes b → wrong_at answer_checks b ≡ None → answer_size_by is_in (be_at w32 0 b) b ≤ length b → IsFound is_in b (be_at w32 0 b)
 found is_in b are none there =
@@ -146,7 +146,7 @@ submit_again is_in r x more e fits =
     let rest = r.tail ++ (r.body ++ (last ++ more)) in
     let is : x ≡ words ws ++ rest = e ∙ simp append_assoc refl in
     let ok = fits.1.words in
-    let command : be_at w32 0 x ≡ ret_submit = word_in 0 ws rest x is ok (omega arith) in
+    let command : be_at w32 0 x ≡ USBIP_RET_SUBMIT = word_in 0 ws rest x is ok (omega arith) in
     let seqnum : be_at w32 4 x ≡ r.head.seqnum = word_in 1 ws rest x is ok (omega arith) in
     let devid : be_at w32 8 x ≡ r.head.devid = word_in 2 ws rest x is ok (omega arith) in
     let direction : be_at w32 12 x ≡ r.head.direction = word_in 3 ws rest x is ok (omega arith) in
@@ -186,7 +186,7 @@ unlink_again is_in r x more e fits =
     let rest = r.pad ++ more in
     let is : x ≡ words ws ++ rest = e ∙ append_assoc (words ws) r.pad more in
     let ok = fits.words in
-    let command : be_at w32 0 x ≡ ret_unlink = word_in 0 ws rest x is ok (omega arith) in
+    let command : be_at w32 0 x ≡ USBIP_RET_UNLINK = word_in 0 ws rest x is ok (omega arith) in
     let seqnum : be_at w32 4 x ≡ r.head.seqnum = word_in 1 ws rest x is ok (omega arith) in
     let devid : be_at w32 8 x ≡ r.head.devid = word_in 2 ws rest x is ok (omega arith) in
     let direction : be_at w32 12 x ≡ r.head.direction = word_in 3 ws rest x is ok (omega arith) in

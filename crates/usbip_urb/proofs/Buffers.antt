@@ -4,7 +4,7 @@ use Rattle.std.specs.Prelude.{nat_le, ◌&&◌}
 use Rattle.std.proofs.lemmas.Bool.{leb-true, and_parts}
 use Rattle.usb_base.specs.Number.{part}
 use Rattle.usbip_urb.specs.declared.packet.IsoDesc.{IsoDesc}
-use Rattle.usbip_urb.specs.Codes.{max_packet_length}
+use Rattle.usbip_urb.specs.declared.code.TheConstants.{MAX_PACKET_LENGTH}
 use Rattle.usbip_urb.specs.Buffers.{laid_from, stretch}
 
 record IsLaid (place : ℕ) (d : IsoDesc) (ds : List IsoDesc) (size : ℕ) : Type 0 where
@@ -13,8 +13,8 @@ record IsLaid (place : ℕ) (d : IsoDesc) (ds : List IsoDesc) (size : ℕ) : Typ
 
 is_laid : (place : ℕ) (d : IsoDesc) (ds : List IsoDesc) (size : ℕ) → laid_from place (d ∷ ds) size ≡ true → IsLaid place d ds size
 is_laid place d ds size e =
-    let first = and_parts (nat_le d.length max_packet_length && nat_le place d.offset) (laid_from (d.offset + d.length) ds size) e in
-    let second = and_parts (nat_le d.length max_packet_length) (nat_le place d.offset) first.0 in
+    let first = and_parts (nat_le d.length MAX_PACKET_LENGTH && nat_le place d.offset) (laid_from (d.offset + d.length) ds size) e in
+    let second = and_parts (nat_le d.length MAX_PACKET_LENGTH) (nat_le place d.offset) first.0 in
     record { behind = leb-true place d.offset second.1; later = first.1 }
 
 -- what is laid from a place on has the place within the buffer

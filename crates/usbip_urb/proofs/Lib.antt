@@ -4,6 +4,5 @@ pub mod Payloads
 pub mod Limits
 pub mod Requests
 pub mod Answers
-pub mod Told
 pub mod Wanting
 pub mod Buffers

@@ -15,7 +15,7 @@ use Rattle.usbip_urb.specs.declared.packet.Submit.{Submit}
 use Rattle.usbip_urb.specs.declared.packet.Unlink.{Unlink}
 use Rattle.usbip_urb.specs.declared.packet.UrbPacket.{UrbPacket}
 use Rattle.usbip_urb.specs.declared.packet.UrbPacket.TheVariants as urb
-use Rattle.usbip_urb.specs.Codes.{cmd_submit, cmd_unlink, exported_devid, max_endpoint}
+use Rattle.usbip_urb.specs.declared.code.TheConstants.{EXPORTED_DEVID, MAX_ENDPOINT, USBIP_CMD_SUBMIT, USBIP_CMD_UNLINK}
 use Rattle.usbip_urb.specs.Spelling.{words, submit_words, unlink_words, descs_bytes, spelling}
 use Rattle.usbip_urb.specs.Sizes.{is_out, body_size, count_of}
 use Rattle.usbip_urb.specs.Fields.{submit_at, unlink_at}
@@ -30,15 +30,15 @@ use Rattle.usbip_urb.proofs.Limits.{IsWithinLimits, limits_right, limits_found, 
 
 record IsRight (b : List ℕ) : Type 0 where
   version : be_at w16 0 b ≡ 0
-  command : (be_at w32 0 b ≡ cmd_submit) ⊎ (be_at w32 0 b ≡ cmd_unlink)
-  device : be_at w32 8 b ≡ exported_devid
+  command : (be_at w32 0 b ≡ USBIP_CMD_SUBMIT) ⊎ (be_at w32 0 b ≡ USBIP_CMD_UNLINK)
+  device : be_at w32 8 b ≡ EXPORTED_DEVID
   direction : be_at w32 12 b ≤ 1
-  endpoint : be_at w32 16 b ≤ max_endpoint
-  limits : be_at w32 0 b ≡ cmd_submit → IsWithinLimits b
+  endpoint : be_at w32 16 b ≤ MAX_ENDPOINT
+  limits : be_at w32 0 b ≡ USBIP_CMD_SUBMIT → IsWithinLimits b
 
 -- the checks from each on
 abbrev limits_on : List (Check Reason)
-limits_on = guarded (has_command cmd_submit) size_checks
+limits_on = guarded (has_command USBIP_CMD_SUBMIT) size_checks
 
 abbrev endpoint_on : List (Check Reason)
 endpoint_on = endpoint_check ∷ limits_on
@@ -50,26 +50,26 @@ abbrev device_on : List (Check Reason)
 device_on = device_check ∷ direction_on
 
 abbrev any_command : Check Reason
-any_command = command_check cmd_submit cmd_unlink
+any_command = command_check USBIP_CMD_SUBMIT USBIP_CMD_UNLINK
 
-is_command : (n : ℕ) → (n ≡ cmd_submit) ⊎ (n ≡ cmd_unlink) → ((n == cmd_submit) || (n == cmd_unlink)) ≡ true
-is_command n (inl e) = ap (λ (k : ℕ). (k == cmd_submit) || (k == cmd_unlink)) e
-is_command n (inr e) = ap (λ (k : ℕ). (k == cmd_submit) || (k == cmd_unlink)) e
+is_command : (n : ℕ) → (n ≡ USBIP_CMD_SUBMIT) ⊎ (n ≡ USBIP_CMD_UNLINK) → ((n == USBIP_CMD_SUBMIT) || (n == USBIP_CMD_UNLINK)) ≡ true
+is_command n (inl e) = ap (λ (k : ℕ). (k == USBIP_CMD_SUBMIT) || (k == USBIP_CMD_UNLINK)) e
+is_command n (inr e) = ap (λ (k : ℕ). (k == USBIP_CMD_SUBMIT) || (k == USBIP_CMD_UNLINK)) e
 
-command_is : (n : ℕ) → ((n == cmd_submit) || (n == cmd_unlink)) ≡ true → (n ≡ cmd_submit) ⊎ (n ≡ cmd_unlink)
-command_is n e = elim (or_cases (n == cmd_submit) (n == cmd_unlink) e) [
-  | inl h ↦ inl (eqb-true n cmd_submit h)
-  | inr h ↦ inr (eqb-true n cmd_unlink h)
+command_is : (n : ℕ) → ((n == USBIP_CMD_SUBMIT) || (n == USBIP_CMD_UNLINK)) ≡ true → (n ≡ USBIP_CMD_SUBMIT) ⊎ (n ≡ USBIP_CMD_UNLINK)
+command_is n e = elim (or_cases (n == USBIP_CMD_SUBMIT) (n == USBIP_CMD_UNLINK) e) [
+  | inl h ↦ inl (eqb-true n USBIP_CMD_SUBMIT h)
+  | inr h ↦ inr (eqb-true n USBIP_CMD_UNLINK h)
 ]
 
 none_wrong : (b : List ℕ) → IsRight b → wrong_at request_checks b ≡ None
 none_wrong b h =
     none_from version_check (any_command ∷ device_on) b (λ _. eq-eqb (be_at w16 0 b) 0 h.version)
     (none_from any_command device_on b (λ _. is_command (be_at w32 0 b) h.command)
-    (none_from device_check direction_on b (λ _. eq-eqb (be_at w32 8 b) exported_devid h.device)
+    (none_from device_check direction_on b (λ _. eq-eqb (be_at w32 8 b) EXPORTED_DEVID h.device)
     (none_from direction_check endpoint_on b (λ _. le-leb (be_at w32 12 b) 1 h.direction)
-    (none_from endpoint_check limits_on b (λ _. le-leb (be_at w32 16 b) max_endpoint h.endpoint)
-    (limits_right cmd_submit b h.limits)))))
+    (none_from endpoint_check limits_on b (λ _. le-leb (be_at w32 16 b) MAX_ENDPOINT h.endpoint)
+    (limits_right USBIP_CMD_SUBMIT b h.limits)))))
 
 is_right : (b : List ℕ) → wrong_at request_checks b ≡ None → 48 ≤ length b → IsRight b
 is_right b none there =
@@ -81,10 +81,10 @@ is_right b none there =
     record {
       version = eqb-true (be_at w16 0 b) 0 (none_first version_check (any_command ∷ device_on) b none (omega arith));
       command = command_is (be_at w32 0 b) (none_first any_command device_on b command (omega arith));
-      device = eqb-true (be_at w32 8 b) exported_devid (none_first device_check direction_on b device (omega arith));
+      device = eqb-true (be_at w32 8 b) EXPORTED_DEVID (none_first device_check direction_on b device (omega arith));
       direction = leb-true (be_at w32 12 b) 1 (none_first direction_check endpoint_on b direction (omega arith));
-      endpoint = leb-true (be_at w32 16 b) max_endpoint (none_first endpoint_check limits_on b endpoint (omega arith));
-      limits = λ e. limits_found cmd_submit b limits (omega arith) e;
+      endpoint = leb-true (be_at w32 16 b) MAX_ENDPOINT (none_first endpoint_check limits_on b endpoint (omega arith));
+      limits = λ e. limits_found USBIP_CMD_SUBMIT b limits (omega arith) e;
     }
 
 -- each sees only the bytes that it needs
@@ -94,17 +94,17 @@ requests_steady = (
   λ b more h. ap (λ (n : ℕ). n == 0) (be_at-append_16 0 b more h),
   (
     omega arith,
-    λ b more h. ap (λ (n : ℕ). (n == cmd_submit) || (n == cmd_unlink)) (be_at-append_32 0 b more h),
+    λ b more h. ap (λ (n : ℕ). (n == USBIP_CMD_SUBMIT) || (n == USBIP_CMD_UNLINK)) (be_at-append_32 0 b more h),
     (
       omega arith,
-      λ b more h. ap (λ (n : ℕ). n == exported_devid) (be_at-append_32 8 b more h),
+      λ b more h. ap (λ (n : ℕ). n == EXPORTED_DEVID) (be_at-append_32 8 b more h),
       (
         omega arith,
         λ b more h. ap (λ (n : ℕ). nat_le n 1) (be_at-append_32 12 b more h),
         (
           omega arith,
-          λ b more h. ap (λ (n : ℕ). nat_le n max_endpoint) (be_at-append_32 16 b more h),
-          limits_steady cmd_submit 20 (omega arith),
+          λ b more h. ap (λ (n : ℕ). nat_le n MAX_ENDPOINT) (be_at-append_32 16 b more h),
+          limits_steady USBIP_CMD_SUBMIT 20 (omega arith),
         ),
       ),
     ),
@@ -116,7 +116,7 @@ requests_steady = (
 abbrev IsFound : List ℕ → ℕ → Type 0
 IsFound b command = (spelling (request_by command b) ≡ take (request_size_by command b) b) × IsRequest (request_by command b)
 
-submit_found : (b : List ℕ) → AreBytes b → IsRight b → be_at w32 0 b ≡ cmd_submit → request_size_by cmd_submit b ≤ length b → IsFound b cmd_submit
+submit_found : (b : List ℕ) → AreBytes b → IsRight b → be_at w32 0 b ≡ USBIP_CMD_SUBMIT → request_size_by USBIP_CMD_SUBMIT b ≤ length b → IsFound b USBIP_CMD_SUBMIT
 submit_found b are right is there =
     let s = submit_at b in
     let out = is_out (be_at w32 12 b) in
@@ -141,7 +141,7 @@ submit_found b are right is there =
       ),
     )
 
-unlink_found : (b : List ℕ) → AreBytes b → IsRight b → be_at w32 0 b ≡ cmd_unlink → 48 ≤ length b → IsFound b cmd_unlink
+unlink_found : (b : List ℕ) → AreBytes b → IsRight b → be_at w32 0 b ≡ USBIP_CMD_UNLINK → 48 ≤ length b → IsFound b USBIP_CMD_UNLINK
 unlink_found b are right is there =
     let u = unlink_at b in
     let front : unlink_words u ≡ words_at 6 0 b = ap (λ (n : ℕ). n ∷ words_at 5 4 b) (sym is) in (
@@ -156,7 +156,7 @@ unlink_found b are right is there =
       ),
     )
 
-found_by : (b : List ℕ) (command : ℕ) → AreBytes b → IsRight b → be_at w32 0 b ≡ command → request_size_by command b ≤ length b → (command ≡ cmd_submit) ⊎ (command ≡ cmd_unlink) → IsFound b command
+found_by : (b : List ℕ) (command : ℕ) → AreBytes b → IsRight b → be_at w32 0 b ≡ command → request_size_by command b ≤ length b → (command ≡ USBIP_CMD_SUBMIT) ⊎ (command ≡ USBIP_CMD_UNLINK) → IsFound b command
 found_by b command are right is there (inl e) =
     subst (IsFound b) (sym e) (submit_found b are right (is ∙ e) (subst (λ (k : ℕ). request_size_by k b ≤ length b) e there))
 found_by b command are right is there (inr e) =
@@ -167,7 +167,7 @@ least true n m = omega arith
 least false n m = omega arith
 
 long_enough : (b : List ℕ) → 48 ≤ request_size_by (be_at w32 0 b) b
-long_enough b = least (be_at w32 0 b == cmd_submit) (body_size (is_out (be_at w32 12 b)) (be_at w32 24 b)) (count_of (be_at w32 32 b) * 16)
+long_enough b = least (be_at w32 0 b == USBIP_CMD_SUBMIT) (body_size (is_out (be_at w32 12 b)) (be_at w32 24 b)) (count_of (be_at w32 32 b) * 16)
 
 found : (b : List ℕ) → AreBytes b → wrong_at request_checks b ≡ None → request_size_by (be_at w32 0 b) b ≤ length b → IsFound b (be_at w32 0 b)
 found b are none there =
@@ -198,7 +198,7 @@ submit_again s x more e fits =
     let rest = s.setup ++ (s.body ++ (last ++ more)) in
     let is : x ≡ words ws ++ rest = e ∙ simp append_assoc refl in
     let ok = fits.2.words in
-    let command : be_at w32 0 x ≡ cmd_submit = word_in 0 ws rest x is ok (omega arith) in
+    let command : be_at w32 0 x ≡ USBIP_CMD_SUBMIT = word_in 0 ws rest x is ok (omega arith) in
     let seqnum : be_at w32 4 x ≡ s.head.seqnum = word_in 1 ws rest x is ok (omega arith) in
     let devid : be_at w32 8 x ≡ s.head.devid = word_in 2 ws rest x is ok (omega arith) in
     let direction : be_at w32 12 x ≡ s.head.direction = word_in 3 ws rest x is ok (omega arith) in
@@ -241,7 +241,7 @@ unlink_again u x more e fits =
     let rest = u.pad ++ more in
     let is : x ≡ words ws ++ rest = e ∙ append_assoc (words ws) u.pad more in
     let ok = fits.2.words in
-    let command : be_at w32 0 x ≡ cmd_unlink = word_in 0 ws rest x is ok (omega arith) in
+    let command : be_at w32 0 x ≡ USBIP_CMD_UNLINK = word_in 0 ws rest x is ok (omega arith) in
     let seqnum : be_at w32 4 x ≡ u.head.seqnum = word_in 1 ws rest x is ok (omega arith) in
     let devid : be_at w32 8 x ≡ u.head.devid = word_in 2 ws rest x is ok (omega arith) in
     let direction : be_at w32 12 x ≡ u.head.direction = word_in 3 ws rest x is ok (omega arith) in

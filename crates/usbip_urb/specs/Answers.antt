@@ -6,7 +6,7 @@ use Rattle.usb_base.specs.declared.reason.Reason.{Reason}
 use Rattle.packet_stream.specs.Format.{Format}
 use Rattle.usbip_urb.specs.declared.packet.UrbPacket.{UrbPacket}
 use Rattle.usbip_urb.specs.declared.packet.UrbPacket.TheVariants as urb
-use Rattle.usbip_urb.specs.Codes.{ret_submit, head_size}
+use Rattle.usbip_urb.specs.declared.code.TheConstants.{HEAD_SIZE, USBIP_RET_SUBMIT}
 use Rattle.usbip_urb.specs.Sizes.{whole_size}
 use Rattle.usbip_urb.specs.Fields.{ret_submit_at, ret_unlink_at}
 use Rattle.usbip_urb.specs.Spelling.{spelling}
@@ -14,10 +14,10 @@ use Rattle.usbip_urb.specs.Ranges.{IsAnswer}
 use Rattle.usbip_urb.specs.Checks.{answer_checks}
 
 abbrev pub answer_size_by : Bool → ℕ → List ℕ → ℕ
-answer_size_by is_in command b = if command == ret_submit then whole_size is_in b else head_size
+answer_size_by is_in command b = if command == USBIP_RET_SUBMIT then whole_size is_in b else HEAD_SIZE
 
 abbrev pub answer_by : Bool → ℕ → List ℕ → UrbPacket
-answer_by is_in command b = if command == ret_submit then urb.RetSubmit (ret_submit_at is_in b) else urb.RetUnlink (ret_unlink_at b)
+answer_by is_in command b = if command == USBIP_RET_SUBMIT then urb.RetSubmit (ret_submit_at is_in b) else urb.RetUnlink (ret_unlink_at b)
 
 -- those of an IN request where is_in, and else those of an OUT request
 abbrev pub answers : Bool → Format UrbPacket Reason

@@ -2,13 +2,13 @@
 use Rattle.std.specs.Prelude.{ℕ, zero, suc, ◌+◌, ◌&&◌, nat_le, Bool, List, [], ◌∷◌, map, sum}
 use Rattle.usb_base.specs.Number.{part}
 use Rattle.usbip_urb.specs.declared.packet.IsoDesc.{IsoDesc}
-use Rattle.usbip_urb.specs.Codes.{max_packet_length}
+use Rattle.usbip_urb.specs.declared.code.TheConstants.{MAX_PACKET_LENGTH}
 
 -- from a place on, each descriptor is short enough and begins at or after the end of the one before it, and the
 -- last ends within the buffer
 abbrev pub laid_from : ℕ → List IsoDesc → ℕ → Bool
 laid_from place [] length = nat_le place length
-laid_from place (d ∷ ds) length = nat_le d.length max_packet_length && nat_le place d.offset && laid_from (d.offset + d.length) ds length
+laid_from place (d ∷ ds) length = nat_le d.length MAX_PACKET_LENGTH && nat_le place d.offset && laid_from (d.offset + d.length) ds length
 
 abbrev pub laid : List IsoDesc → ℕ → Bool
 laid ds length = laid_from 0 ds length

@@ -6,7 +6,7 @@ use Rattle.usb_base.specs.declared.reason.Reason.{Reason}
 use Rattle.usb_base.specs.declared.reason.Reason.TheVariants.{Version, Command, Device, Direction, Endpoint, TooLong, Packets}
 use Rattle.packet_stream.specs.Format.{Check}
 use Rattle.packet_stream.specs.Joined.{guarded}
-use Rattle.usbip_urb.specs.Codes.{cmd_submit, cmd_unlink, ret_submit, ret_unlink, exported_devid, max_endpoint, max_length}
+use Rattle.usbip_urb.specs.declared.code.TheConstants.{EXPORTED_DEVID, MAX_ENDPOINT, MAX_LENGTH, USBIP_CMD_SUBMIT, USBIP_CMD_UNLINK, USBIP_DIR_IN, USBIP_RET_SUBMIT, USBIP_RET_UNLINK}
 use Rattle.usbip_urb.specs.Ranges.{is_packet_count}
 
 -- the first two bytes of a URB packet are 0, and those of a list or import packet its version
@@ -18,17 +18,17 @@ abbrev pub command_check : ℕ → ℕ → Check Reason
 command_check submit unlink = record { place = 0; needed = 4; passes = λ b. (be_at w32 0 b == submit) || (be_at w32 0 b == unlink); reason = Command }
 
 abbrev pub device_check : Check Reason
-device_check = record { place = 8; needed = 12; passes = λ b. be_at w32 8 b == exported_devid; reason = Device }
+device_check = record { place = 8; needed = 12; passes = λ b. be_at w32 8 b == EXPORTED_DEVID; reason = Device }
 
 abbrev pub direction_check : Check Reason
-direction_check = record { place = 12; needed = 16; passes = λ b. nat_le (be_at w32 12 b) 1; reason = Direction }
+direction_check = record { place = 12; needed = 16; passes = λ b. nat_le (be_at w32 12 b) USBIP_DIR_IN; reason = Direction }
 
 abbrev pub endpoint_check : Check Reason
-endpoint_check = record { place = 16; needed = 20; passes = λ b. nat_le (be_at w32 16 b) max_endpoint; reason = Endpoint }
+endpoint_check = record { place = 16; needed = 20; passes = λ b. nat_le (be_at w32 16 b) MAX_ENDPOINT; reason = Endpoint }
 
 -- transfer_buffer_length of a request, actual_length of an answer
 abbrev pub length_check : Check Reason
-length_check = record { place = 24; needed = 28; passes = λ b. nat_le (be_at w32 24 b) max_length; reason = TooLong }
+length_check = record { place = 24; needed = 28; passes = λ b. nat_le (be_at w32 24 b) MAX_LENGTH; reason = TooLong }
 
 abbrev pub packets_check : Check Reason
 packets_check = record { place = 32; needed = 36; passes = λ b. is_packet_count (be_at w32 32 b); reason = Packets }
@@ -42,8 +42,8 @@ has_command command b = be_at w32 0 b == command
 
 abbrev pub request_checks : List (Check Reason)
 request_checks =
-    version_check ∷ command_check cmd_submit cmd_unlink ∷ device_check ∷ direction_check ∷ endpoint_check
-    ∷ guarded (has_command cmd_submit) size_checks
+    version_check ∷ command_check USBIP_CMD_SUBMIT USBIP_CMD_UNLINK ∷ device_check ∷ direction_check ∷ endpoint_check
+    ∷ guarded (has_command USBIP_CMD_SUBMIT) size_checks
 
 abbrev pub answer_checks : List (Check Reason)
-answer_checks = command_check ret_submit ret_unlink ∷ guarded (has_command ret_submit) size_checks
+answer_checks = command_check USBIP_RET_SUBMIT USBIP_RET_UNLINK ∷ guarded (has_command USBIP_RET_SUBMIT) size_checks

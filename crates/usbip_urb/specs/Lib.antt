@@ -1,4 +1,3 @@
-pub mod Codes
 pub mod Spelling
 pub mod Sizes
 pub mod Fields
@@ -8,4 +7,3 @@ pub mod Requests
 pub mod Answers
 pub mod Heap
 pub mod Buffers
-pub mod Inner

@@ -10,7 +10,7 @@ use Rattle.usbip_urb.specs.declared.packet.Unlink.{Unlink}
 use Rattle.usbip_urb.specs.declared.packet.RetUnlink.{RetUnlink}
 use Rattle.usbip_urb.specs.declared.packet.UrbPacket.{UrbPacket}
 use Rattle.usbip_urb.specs.declared.packet.UrbPacket.TheVariants as urb
-use Rattle.usbip_urb.specs.Codes.{no_packets, setup_size, pad_size, exported_devid, max_endpoint, max_length, max_packets}
+use Rattle.usbip_urb.specs.declared.code.TheConstants.{EXPORTED_DEVID, MAX_ENDPOINT, MAX_LENGTH, MAX_PACKETS, NO_PACKETS, USBIP_DIR_IN}
 use Rattle.usbip_urb.specs.Sizes.{is_out, body_size, count_of}
 use Rattle.usbip_urb.specs.Spelling.{submit_words, ret_submit_words, unlink_words, ret_unlink_words, desc_words}
 
@@ -18,23 +18,23 @@ use Rattle.usbip_urb.specs.Spelling.{submit_words, ret_submit_words, unlink_word
 
 -- number_of_packets is a count of descriptors, or means none
 abbrev pub is_packet_count : ℕ → Bool
-is_packet_count packets = nat_le packets max_packets || (packets == no_packets)
+is_packet_count packets = nat_le packets MAX_PACKETS || (packets == NO_PACKETS)
 
 pub record IsRequestHead (h : Head) : Type 0 where
-  pub direction : h.direction ≤ 1
-  pub endpoint : h.ep ≤ max_endpoint
+  pub direction : h.direction ≤ USBIP_DIR_IN
+  pub endpoint : h.ep ≤ MAX_ENDPOINT
 
 -- a submit has a body exactly where its direction is OUT
 pub record IsSubmit (s : Submit) : Type 0 where
   pub head : IsRequestHead s.head
-  pub few_bytes : s.length ≤ max_length
+  pub few_bytes : s.length ≤ MAX_LENGTH
   pub few_packets : IsTrue (is_packet_count s.packets)
   pub body : length s.body ≡ body_size (is_out s.head.direction) s.length
   pub descs : length s.descs ≡ count_of s.packets
 
 -- its answer has one exactly where it was IN
 pub record IsRetSubmit (is_in : Bool) (r : RetSubmit) : Type 0 where
-  pub few_bytes : r.actual ≤ max_length
+  pub few_bytes : r.actual ≤ MAX_LENGTH
   pub few_packets : IsTrue (is_packet_count r.packets)
   pub body : length r.body ≡ body_size is_in r.actual
   pub descs : length r.descs ≡ count_of r.packets
@@ -57,30 +57,30 @@ pub record DescFits (d : IsoDesc) : Type 0 where
 
 pub record SubmitFits (s : Submit) : Type 0 where
   pub words : All IsWord (submit_words s)
-  pub setup : length s.setup ≡ setup_size
+  pub setup : length s.setup ≡ 8
   pub descs : All DescFits s.descs
 
 pub record RetSubmitFits (r : RetSubmit) : Type 0 where
   pub words : All IsWord (ret_submit_words r)
   pub status : FitsSigned w32 r.status
-  pub tail : length r.tail ≡ setup_size
+  pub tail : length r.tail ≡ 8
   pub descs : All DescFits r.descs
 
 pub record UnlinkFits (u : Unlink) : Type 0 where
   pub words : All IsWord (unlink_words u)
-  pub pad : length u.pad ≡ pad_size
+  pub pad : length u.pad ≡ 24
 
 pub record RetUnlinkFits (r : RetUnlink) : Type 0 where
   pub words : All IsWord (ret_unlink_words r)
   pub status : FitsSigned w32 r.status
-  pub pad : length r.pad ≡ pad_size
+  pub pad : length r.pad ≡ 24
 
 -- ---- what a reader finds
 
 -- requests, all to the one device
 abbrev pub IsRequest : UrbPacket → Type 0
-IsRequest (urb.Submit s) = IsSubmit s × (s.head.devid ≡ exported_devid) × SubmitFits s
-IsRequest (urb.Unlink u) = IsRequestHead u.head × (u.head.devid ≡ exported_devid) × UnlinkFits u
+IsRequest (urb.Submit s) = IsSubmit s × (s.head.devid ≡ EXPORTED_DEVID) × SubmitFits s
+IsRequest (urb.Unlink u) = IsRequestHead u.head × (u.head.devid ≡ EXPORTED_DEVID) × UnlinkFits u
 IsRequest (urb.RetSubmit r) = ⊥
 IsRequest (urb.RetUnlink r) = ⊥
 

@@ -6,7 +6,7 @@ use Rattle.usb_base.specs.declared.reason.Reason.{Reason}
 use Rattle.packet_stream.specs.Format.{Format}
 use Rattle.usbip_urb.specs.declared.packet.UrbPacket.{UrbPacket}
 use Rattle.usbip_urb.specs.declared.packet.UrbPacket.TheVariants as urb
-use Rattle.usbip_urb.specs.Codes.{cmd_submit, head_size}
+use Rattle.usbip_urb.specs.declared.code.TheConstants.{HEAD_SIZE, USBIP_CMD_SUBMIT}
 use Rattle.usbip_urb.specs.Sizes.{is_out, whole_size}
 use Rattle.usbip_urb.specs.Fields.{submit_at, unlink_at}
 use Rattle.usbip_urb.specs.Spelling.{spelling}
@@ -14,10 +14,10 @@ use Rattle.usbip_urb.specs.Ranges.{IsRequest}
 use Rattle.usbip_urb.specs.Checks.{request_checks}
 
 abbrev pub request_size_by : ℕ → List ℕ → ℕ
-request_size_by command b = if command == cmd_submit then whole_size (is_out (be_at w32 12 b)) b else head_size
+request_size_by command b = if command == USBIP_CMD_SUBMIT then whole_size (is_out (be_at w32 12 b)) b else HEAD_SIZE
 
 abbrev pub request_by : ℕ → List ℕ → UrbPacket
-request_by command b = if command == cmd_submit then urb.Submit (submit_at b) else urb.Unlink (unlink_at b)
+request_by command b = if command == USBIP_CMD_SUBMIT then urb.Submit (submit_at b) else urb.Unlink (unlink_at b)
 
 abbrev pub requests : Format UrbPacket Reason
 requests = record {

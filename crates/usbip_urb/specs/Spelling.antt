@@ -9,25 +9,25 @@ use Rattle.usbip_urb.specs.declared.packet.Unlink.{Unlink}
 use Rattle.usbip_urb.specs.declared.packet.RetUnlink.{RetUnlink}
 use Rattle.usbip_urb.specs.declared.packet.UrbPacket.{UrbPacket}
 use Rattle.usbip_urb.specs.declared.packet.UrbPacket.TheVariants as urb
-use Rattle.usbip_urb.specs.Codes.{cmd_submit, cmd_unlink, ret_submit, ret_unlink}
+use Rattle.usbip_urb.specs.declared.code.TheConstants.{USBIP_CMD_SUBMIT, USBIP_CMD_UNLINK, USBIP_RET_SUBMIT, USBIP_RET_UNLINK}
 
 -- ---- the numbers that a packet begins with; a status stands in two's complement
 
 abbrev pub submit_words : Submit → List ℕ
 submit_words s =
-    cmd_submit ∷ s.head.seqnum ∷ s.head.devid ∷ s.head.direction ∷ s.head.ep
+    USBIP_CMD_SUBMIT ∷ s.head.seqnum ∷ s.head.devid ∷ s.head.direction ∷ s.head.ep
     ∷ s.flags ∷ s.length ∷ s.start_frame ∷ s.packets ∷ s.interval ∷ []
 
 abbrev pub ret_submit_words : RetSubmit → List ℕ
 ret_submit_words r =
-    ret_submit ∷ r.head.seqnum ∷ r.head.devid ∷ r.head.direction ∷ r.head.ep
+    USBIP_RET_SUBMIT ∷ r.head.seqnum ∷ r.head.devid ∷ r.head.direction ∷ r.head.ep
     ∷ cast_unsigned w32 r.status ∷ r.actual ∷ r.start_frame ∷ r.packets ∷ r.errors ∷ []
 
 abbrev pub unlink_words : Unlink → List ℕ
-unlink_words u = cmd_unlink ∷ u.head.seqnum ∷ u.head.devid ∷ u.head.direction ∷ u.head.ep ∷ u.target ∷ []
+unlink_words u = USBIP_CMD_UNLINK ∷ u.head.seqnum ∷ u.head.devid ∷ u.head.direction ∷ u.head.ep ∷ u.target ∷ []
 
 abbrev pub ret_unlink_words : RetUnlink → List ℕ
-ret_unlink_words r = ret_unlink ∷ r.head.seqnum ∷ r.head.devid ∷ r.head.direction ∷ r.head.ep ∷ cast_unsigned w32 r.status ∷ []
+ret_unlink_words r = USBIP_RET_UNLINK ∷ r.head.seqnum ∷ r.head.devid ∷ r.head.direction ∷ r.head.ep ∷ cast_unsigned w32 r.status ∷ []
 
 abbrev pub desc_words : IsoDesc → List ℕ
 desc_words d = d.offset ∷ d.length ∷ d.actual ∷ cast_unsigned w32 d.status ∷ []

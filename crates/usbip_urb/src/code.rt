@@ -30,6 +30,6 @@ pub const MAX_PACKETS: u32 = 1024;
 pub const MAX_PACKET_LENGTH: u32 = 65_535;
 
 /// How many bytes a packet has up to its body.
-pub(crate) const HEAD_SIZE: usize = 48;
+pub const HEAD_SIZE: usize = 48;
 /// How many bytes a descriptor has.
-pub(crate) const DESC_SIZE: usize = 16;
+pub const DESC_SIZE: usize = 16;

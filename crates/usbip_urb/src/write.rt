@@ -1,7 +1,6 @@
 //! Packets written.
 
-ghost use Rattle.std.specs.Prelude.{◌≡◌, ◌++◌, OnOk, OnErr};
-ghost use Rattle.usbip_urb.specs.Inner.Begins.{Begins};
+ghost use Rattle.packet_stream.specs.Writes.{Appends, AppendsSome};
 ghost use Rattle.usbip_urb.specs.declared.packet.UrbPacket.TheVariants.{Submit as SubmitPacket, RetSubmit as RetSubmitPacket, Unlink as UnlinkPacket, RetUnlink as RetUnlinkPacket};
 ghost use Rattle.usbip_urb.specs.Spelling.{spelling, words, descs_bytes};
 ghost use Rattle.usbip_urb.specs.Ranges.{IsWritable};
@@ -13,8 +12,7 @@ use usb_base::{Bytes, Memory, push_be_u32};
 /// Appends a packet. For want of memory the bytes stay as they were.
 pub fn write_urb(packet: &UrbPacket, out: &mut Bytes) -> Result<(), Memory>
     requires { IsWritable packet.now }
-    ensures ok { OnOk result (out.new ≡ out.old ++ spelling packet.now) }
-    ensures err { OnErr result (out.new ≡ out.old) }
+    ensures { Appends result out.old out.new (spelling packet.now) }
 {
     let before = out.len();
     match push_packet(packet, out) {
@@ -27,8 +25,7 @@ pub fn write_urb(packet: &UrbPacket, out: &mut Bytes) -> Result<(), Memory>
 }
 
 fn push_packet(packet: &UrbPacket, out: &mut Bytes) -> Result<(), Memory>
-    ensures ok { OnOk result (out.new ≡ out.old ++ spelling packet.now) }
-    ensures err { OnErr result (Begins out.old out.new) }
+    ensures { AppendsSome result out.old out.new (spelling packet.now) }
 {
     match packet {
         UrbPacket::Submit(submit) => push_submit(submit, out),
@@ -39,8 +36,7 @@ fn push_packet(packet: &UrbPacket, out: &mut Bytes) -> Result<(), Memory>
 }
 
 fn push_submit(submit: &Submit, out: &mut Bytes) -> Result<(), Memory>
-    ensures ok { OnOk result (out.new ≡ out.old ++ spelling (SubmitPacket submit.now)) }
-    ensures err { OnErr result (Begins out.old out.new) }
+    ensures { AppendsSome result out.old out.new (spelling (SubmitPacket submit.now)) }
 {
     let head = &submit.head;
     push_words(
@@ -65,8 +61,7 @@ fn push_submit(submit: &Submit, out: &mut Bytes) -> Result<(), Memory>
 }
 
 fn push_ret_submit(answer: &RetSubmit, out: &mut Bytes) -> Result<(), Memory>
-    ensures ok { OnOk result (out.new ≡ out.old ++ spelling (RetSubmitPacket answer.now)) }
-    ensures err { OnErr result (Begins out.old out.new) }
+    ensures { AppendsSome result out.old out.new (spelling (RetSubmitPacket answer.now)) }
 {
     let head = &answer.head;
     push_words(
@@ -91,8 +86,7 @@ fn push_ret_submit(answer: &RetSubmit, out: &mut Bytes) -> Result<(), Memory>
 }
 
 fn push_unlink(unlink: &Unlink, out: &mut Bytes) -> Result<(), Memory>
-    ensures ok { OnOk result (out.new ≡ out.old ++ spelling (UnlinkPacket unlink.now)) }
-    ensures err { OnErr result (Begins out.old out.new) }
+    ensures { AppendsSome result out.old out.new (spelling (UnlinkPacket unlink.now)) }
 {
     let head = &unlink.head;
     push_words(
@@ -111,8 +105,7 @@ fn push_unlink(unlink: &Unlink, out: &mut Bytes) -> Result<(), Memory>
 }
 
 fn push_ret_unlink(answer: &RetUnlink, out: &mut Bytes) -> Result<(), Memory>
-    ensures ok { OnOk result (out.new ≡ out.old ++ spelling (RetUnlinkPacket answer.now)) }
-    ensures err { OnErr result (Begins out.old out.new) }
+    ensures { AppendsSome result out.old out.new (spelling (RetUnlinkPacket answer.now)) }
 {
     let head = &answer.head;
     push_words(
@@ -132,8 +125,7 @@ fn push_ret_unlink(answer: &RetUnlink, out: &mut Bytes) -> Result<(), Memory>
 
 // Each number in four bytes.
 fn push_words(numbers: &[u32], out: &mut Bytes) -> Result<(), Memory>
-    ensures ok { OnOk result (out.new ≡ out.old ++ words numbers.now) }
-    ensures err { OnErr result (Begins out.old out.new) }
+    ensures { AppendsSome result out.old out.new (words numbers.now) }
 {
     for number in numbers {
         push_be_u32(out, *number)?;
@@ -142,8 +134,7 @@ fn push_words(numbers: &[u32], out: &mut Bytes) -> Result<(), Memory>
 }
 
 fn push_descs(descs: &[IsoDesc], out: &mut Bytes) -> Result<(), Memory>
-    ensures ok { OnOk result (out.new ≡ out.old ++ descs_bytes descs.now) }
-    ensures err { OnErr result (Begins out.old out.new) }
+    ensures { AppendsSome result out.old out.new (descs_bytes descs.now) }
 {
     for desc in descs {
         push_words(

@@ -1,2 +1,0 @@
--- What private functions alone speak of.
-pub mod Begins
