@@ -6,3 +6,4 @@ pub mod Requests
 pub mod Answers
 pub mod Wanting
 pub mod Buffers
+pub mod ClientPackets

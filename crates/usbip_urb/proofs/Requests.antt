@@ -37,19 +37,19 @@ record IsRight (b : List ℕ) : Type 0 where
   limits : be_at w32 0 b ≡ USBIP_CMD_SUBMIT → IsWithinLimits b
 
 -- the checks from each on
-abbrev limits_on : List (Check Reason)
+abbrev pub limits_on : List (Check Reason)
 limits_on = guarded (has_command USBIP_CMD_SUBMIT) size_checks
 
-abbrev endpoint_on : List (Check Reason)
+abbrev pub endpoint_on : List (Check Reason)
 endpoint_on = endpoint_check ∷ limits_on
 
-abbrev direction_on : List (Check Reason)
+abbrev pub direction_on : List (Check Reason)
 direction_on = direction_check ∷ endpoint_on
 
-abbrev device_on : List (Check Reason)
+abbrev pub device_on : List (Check Reason)
 device_on = device_check ∷ direction_on
 
-abbrev any_command : Check Reason
+abbrev pub any_command : Check Reason
 any_command = command_check USBIP_CMD_SUBMIT USBIP_CMD_UNLINK
 
 is_command : (n : ℕ) → (n ≡ USBIP_CMD_SUBMIT) ⊎ (n ≡ USBIP_CMD_UNLINK) → ((n == USBIP_CMD_SUBMIT) || (n == USBIP_CMD_UNLINK)) ≡ true
@@ -166,7 +166,7 @@ least : (t : Bool) (n m : ℕ) → 48 ≤ cond t (48 + n + m) 48
 least true n m = omega arith
 least false n m = omega arith
 
-long_enough : (b : List ℕ) → 48 ≤ request_size_by (be_at w32 0 b) b
+pub long_enough : (b : List ℕ) → 48 ≤ request_size_by (be_at w32 0 b) b
 long_enough b = least (be_at w32 0 b == USBIP_CMD_SUBMIT) (body_size (is_out (be_at w32 12 b)) (be_at w32 24 b)) (count_of (be_at w32 32 b) * 16)
 
 found : (b : List ℕ) → AreBytes b → wrong_at request_checks b ≡ None → request_size_by (be_at w32 0 b) b ≤ length b → IsFound b (be_at w32 0 b)

@@ -7,3 +7,4 @@ pub mod Requests
 pub mod Answers
 pub mod Heap
 pub mod Buffers
+pub mod ClientPackets
