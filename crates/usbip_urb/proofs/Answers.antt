@@ -23,10 +23,10 @@ use Rattle.usbip_urb.specs.Fields.{ret_submit_at, ret_unlink_at}
 use Rattle.usbip_urb.specs.Ranges.{IsWord, IsAnswer}
 use Rattle.usbip_urb.specs.Checks.{command_check, size_checks, has_command, answer_checks}
 use Rattle.usbip_urb.specs.Answers.{answer_size_by, answer_by, answers}
-use Rattle.usbip_urb.proofs.Words.{words_at, words_spelled, words_below, length-words, word_in}
-use Rattle.usbip_urb.proofs.Descriptors.{signed_again, signed_fits}
-use Rattle.usbip_urb.proofs.Payloads.{payload_found, payload_again}
-use Rattle.usbip_urb.proofs.Limits.{IsWithinLimits, limits_right, limits_found, limits_steady}
+use Rattle.usbip_urb.specs.Sound.Words.{words_at, words_spelled, words_below, length-words, word_in}
+use Rattle.usbip_urb.specs.Sound.Descriptors.{signed_again, signed_fits}
+use Rattle.usbip_urb.specs.Sound.Payloads.{payload_found, payload_again}
+use Rattle.usbip_urb.specs.Sound.Limits.{IsWithinLimits, limits_right, limits_found, limits_steady}
 
 -- ---- the checks, as what they say of the fields
 

@@ -14,7 +14,7 @@ use Rattle.packet_stream.specs.Format.{Format, reading_by}
 use Rattle.packet_stream.specs.Reads.{Answers}
 use Rattle.usbip_urb.specs.Sizes.{count_of, descs_place, descs_size, whole_size}
 use Rattle.usbip_urb.specs.Fields.{body_at, descs_behind}
-use Rattle.usbip_urb.proofs.Descriptors.{descs_counted}
+use Rattle.usbip_urb.specs.Sound.Descriptors.{descs_counted}
 
 pub wanting : {P : Type 0} (takes : P → Bool) (r : Result (Read P) ReadError) (f : Format P Reason) (b : List ℕ) → IsErrAnd r (λ (e : ReadError). e ≡ error.Memory) → f.size b ≤ length b → takes (f.packet b) ≡ true →
     Answers takes r (reading_by f b None)

@@ -8,3 +8,4 @@ pub mod Answers
 pub mod Heap
 pub mod Buffers
 pub mod ClientPackets
+pub mod Sound

@@ -7,10 +7,11 @@ ghost use Rattle.packet_stream.specs.Format.{IsSound, Stands, reading, Whole as 
 ghost use Rattle.packet_stream.specs.Reads.{Answers, IfTold};
 ghost use Rattle.usbip_urb.specs.declared.client.ClientPacket.{ClientPacket as Packet};
 ghost use Rattle.usbip_urb.specs.ClientPackets.{is_op, client_packets, client_spelling, IsClientPacket, takes_memory};
+ghost use Rattle.usbip_urb.specs.Sound.ClientPackets.{client_packets_sound};
 
 use crate::packet::UrbPacket;
 use crate::request::read_urb;
-use packet_stream::{Read, ReadError};
+use packet_stream::{PacketFormat, Read, ReadError};
 use std::alloc::Global;
 use usb_base::be_u16_at;
 use usbip_op::{OpPacket, USBIP_VERSION, read_request};
@@ -74,4 +75,28 @@ fn urb_at_front(alloc: Global, bytes: &[u8]) -> Result<Read<ClientPacket>, ReadE
         Read::Whole(packet, size) => Ok(Read::Whole(ClientPacket::Urb(packet), size)),
         Read::Short => Ok(Read::Short),
     }
+}
+
+/// How all that a client sends is read: what came before decides nothing.
+#[derive(Clone, Copy, Debug, PartialEq, Eq)]
+pub struct ClientFormat;
+
+impl PacketFormat for ClientFormat {
+    type State = ();
+
+    type Packet = ClientPacket;
+
+    ghost format = { λ state. client_packets };
+
+    ghost after = { λ state packet. state };
+
+    ghost takes_memory = { takes_memory };
+
+    fn read(alloc: Global, _state: &(), bytes: &[u8]) -> Result<Read<ClientPacket>, ReadError> {
+        read_client(alloc, bytes)
+    }
+
+    fn next(_state: &mut (), _packet: &ClientPacket) {}
+
+    ghost sound = { λ state. client_packets_sound };
 }

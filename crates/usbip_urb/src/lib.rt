@@ -17,7 +17,9 @@ mod write;
 
 pub use answer::{answers_sound, read_ret, read_ret_again, ret_seqnum};
 pub use buffer::{laid, part, total};
-pub use client::{ClientPacket, client_packets_sound, read_client, read_client_again};
+pub use client::{
+    ClientFormat, ClientPacket, client_packets_sound, read_client, read_client_again,
+};
 pub use code::{
     DESC_SIZE, EXPORTED_DEVID, HEAD_SIZE, MAX_ENDPOINT, MAX_LENGTH, MAX_PACKET_LENGTH, MAX_PACKETS,
     NO_PACKETS, USBIP_CMD_SUBMIT, USBIP_CMD_UNLINK, USBIP_DIR_IN, USBIP_DIR_OUT, USBIP_RET_SUBMIT,

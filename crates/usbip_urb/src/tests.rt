@@ -2,6 +2,7 @@
 
 mod answers;
 mod buffers;
+mod client;
 mod requests;
 mod written;
 

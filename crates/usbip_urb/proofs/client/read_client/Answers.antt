@@ -1,7 +1,7 @@
 use Rattle.std.proofs.Common.{arith}
 use Rattle.packet_stream.proofs.Told.{answers_stands}
 use Rattle.usbip_urb.specs.ClientPackets.{client_packets, takes_memory}
-use Rattle.usbip_urb.proofs.ClientPackets.{client_packets_sound}
+use Rattle.usbip_urb.specs.Sound.ClientPackets.{client_packets_sound}
 use Rattle.usbip_urb.proofs.client.read_client.Goals as goal
 
 pub returns-clause-stands : goal.returns-clause-stands

@@ -1,7 +1,7 @@
 use Rattle.std.proofs.Common.{◌≡◌, ◌+◌, ◌/◌, ◌<◌, ◌++◌, ◌∷◌, [], length, length-append, arith, ◌∙◌}
 use Rattle.std.specs.Slice.Iter.{chunks_exact_rest}
 use Rattle.usbip_urb.specs.Fields.{descs_at}
-use Rattle.usbip_urb.proofs.Descriptors.{descs_further}
+use Rattle.usbip_urb.specs.Sound.Descriptors.{descs_further}
 use Rattle.usbip_urb.proofs.payload.read_descs.Goals as goal
 
 pub loop-desc-preserved : goal.loop-desc-preserved

@@ -22,9 +22,9 @@ use Rattle.usbip_urb.specs.Fields.{submit_at, unlink_at}
 use Rattle.usbip_urb.specs.Ranges.{IsWord, IsRequest}
 use Rattle.usbip_urb.specs.Checks.{version_check, command_check, device_check, direction_check, endpoint_check, size_checks, has_command, request_checks}
 use Rattle.usbip_urb.specs.Requests.{request_size_by, request_by, requests}
-use Rattle.usbip_urb.proofs.Words.{words_at, words_spelled, words_below, length-words, word_in}
-use Rattle.usbip_urb.proofs.Payloads.{payload_found, payload_again}
-use Rattle.usbip_urb.proofs.Limits.{IsWithinLimits, limits_right, limits_found, limits_steady}
+use Rattle.usbip_urb.specs.Sound.Words.{words_at, words_spelled, words_below, length-words, word_in}
+use Rattle.usbip_urb.specs.Sound.Payloads.{payload_found, payload_again}
+use Rattle.usbip_urb.specs.Sound.Limits.{IsWithinLimits, limits_right, limits_found, limits_steady}
 
 -- ---- the checks, as what they say of the fields
 

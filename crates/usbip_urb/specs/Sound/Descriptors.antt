@@ -12,7 +12,7 @@ use Rattle.usbip_urb.specs.declared.packet.IsoDesc.{IsoDesc}
 use Rattle.usbip_urb.specs.Spelling.{words, desc_words, desc_bytes, descs_bytes}
 use Rattle.usbip_urb.specs.Fields.{desc_at, descs_at}
 use Rattle.usbip_urb.specs.Ranges.{IsWord, DescFits}
-use Rattle.usbip_urb.proofs.Words.{words_at, words_spelled, words_below, length-words, word_in}
+use Rattle.usbip_urb.specs.Sound.Words.{words_at, words_spelled, words_below, length-words, word_in}
 
 -- ---- one descriptor further
 

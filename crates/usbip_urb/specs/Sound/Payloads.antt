@@ -9,7 +9,7 @@ use Rattle.usbip_urb.specs.Spelling.{descs_bytes}
 use Rattle.usbip_urb.specs.Sizes.{body_size, count_of, descs_place, whole_size}
 use Rattle.usbip_urb.specs.Fields.{descs_at, body_at, descs_behind}
 use Rattle.usbip_urb.specs.Ranges.{DescFits}
-use Rattle.usbip_urb.proofs.Descriptors.{descs_found, descs_counted, descs_long, descs_again}
+use Rattle.usbip_urb.specs.Sound.Descriptors.{descs_found, descs_counted, descs_long, descs_again}
 
 -- ---- what is read is spelled so
 
