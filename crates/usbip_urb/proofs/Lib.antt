@@ -1,0 +1,4 @@
+pub mod Answers
+pub mod Wanting
+pub mod Buffers
+pub mod ClientPackets

@@ -1,0 +1,11 @@
+pub mod Spelling
+pub mod Sizes
+pub mod Fields
+pub mod Ranges
+pub mod Checks
+pub mod Requests
+pub mod Answers
+pub mod Heap
+pub mod Buffers
+pub mod ClientPackets
+pub mod Sound

@@ -2,8 +2,31 @@
 //! submits, unlinks and their answers. All numbers are big-endian.
 #![tactic(auto)]
 
+mod answer;
+mod buffer;
+mod check;
+mod client;
+mod code;
+mod field;
 mod packet;
+mod payload;
+mod request;
+#[cfg(test)]
+mod tests;
+mod write;
 
+pub use answer::{answers_sound, read_ret, read_ret_again, ret_seqnum};
+pub use buffer::{laid, part, total};
+pub use client::{
+    ClientFormat, ClientPacket, client_packets_sound, read_client, read_client_again,
+};
+pub use code::{
+    DESC_SIZE, EXPORTED_DEVID, HEAD_SIZE, MAX_ENDPOINT, MAX_LENGTH, MAX_PACKET_LENGTH, MAX_PACKETS,
+    NO_PACKETS, USBIP_CMD_SUBMIT, USBIP_CMD_UNLINK, USBIP_DIR_IN, USBIP_DIR_OUT, USBIP_RET_SUBMIT,
+    USBIP_RET_UNLINK,
+};
 pub use packet::{
     Descs, Head, IsoDesc, RetSubmit, RetUnlink, Submit, Unlink, UrbError, UrbPacket, UrbRead,
 };
+pub use request::{read_urb, read_urb_again, requests_sound};
+pub use write::write_urb;

@@ -1,0 +1,102 @@
+//! All that a client sends: list and import requests, and URB requests, told apart by their first two bytes.
+
+ghost use Rattle.std.specs.Prelude.{◌≡◌, ◌==◌, ◌≤◌, ◌++◌, ℕ, List, true, false, length};
+ghost use Rattle.std.specs.Int.{w16};
+ghost use Rattle.usb_base.specs.Number.{be_at};
+ghost use Rattle.packet_stream.specs.Format.{IsSound, Stands, reading, Whole as FoundWhole};
+ghost use Rattle.packet_stream.specs.Reads.{Answers, IfTold};
+ghost use Rattle.usbip_urb.specs.declared.client.ClientPacket.{ClientPacket as Packet};
+ghost use Rattle.usbip_urb.specs.ClientPackets.{is_op, client_packets, client_spelling, IsClientPacket, takes_memory};
+ghost use Rattle.usbip_urb.specs.Sound.ClientPackets.{client_packets_sound};
+
+use crate::packet::UrbPacket;
+use crate::request::read_urb;
+use packet_stream::{PacketFormat, Read, ReadError};
+use std::alloc::Global;
+use usb_base::be_u16_at;
+use usbip_op::{OpPacket, USBIP_VERSION, read_request};
+
+/// What a client sends.
+#[derive(Debug, Drop)]
+pub enum ClientPacket {
+    /// A list or an import request.
+    Op(OpPacket),
+    /// A URB request.
+    Urb(UrbPacket),
+}
+
+/// A law: what is read as a client's packet is spelled so, and what is spelled so is read.
+pub fn client_packets_sound()
+    ensures { IsSound client_packets }
+{}
+
+/// A law: the bytes of a client's packet are read as that packet again, whatever comes after them.
+pub fn read_client_again()
+    ensures { (p : Packet) (more : List ℕ) → IsClientPacket p → reading client_packets (client_spelling p ++ more) ≡ FoundWhole p (length (client_spelling p)) }
+{}
+
+/// Reads the packet at the front of a client's bytes: where the first two are the version it is a list or import
+/// request, as `read_request` of `usbip_op` reads it, and else a URB request, as `read_urb` does. So it is refused as
+/// `Version` at place 0 where they are neither 01 11 nor 00 00. Memory is wanting only for a body or descriptors.
+pub fn read_client(alloc: Global, bytes: &[u8]) -> Result<Read<ClientPacket>, ReadError>
+    ensures stands { IfTold result (Stands client_packets bytes.now) }
+    ensures exact { Answers takes_memory result (reading client_packets bytes.now) }
+{
+    packet_at_front(alloc, bytes)
+}
+
+fn packet_at_front(alloc: Global, bytes: &[u8]) -> Result<Read<ClientPacket>, ReadError>
+    ensures { Answers takes_memory result (reading client_packets bytes.now) }
+{
+    if bytes.len() < 2 {
+        return Ok(Read::Short);
+    }
+    if be_u16_at(bytes, 0) == USBIP_VERSION {
+        return op_at_front(bytes);
+    }
+    urb_at_front(alloc, bytes)
+}
+
+fn op_at_front(bytes: &[u8]) -> Result<Read<ClientPacket>, ReadError>
+    requires { is_op bytes.now ≡ true }
+    ensures { Answers takes_memory result (reading client_packets bytes.now) }
+{
+    match read_request(bytes)? {
+        Read::Whole(packet, size) => Ok(Read::Whole(ClientPacket::Op(packet), size)),
+        Read::Short => Ok(Read::Short),
+    }
+}
+
+fn urb_at_front(alloc: Global, bytes: &[u8]) -> Result<Read<ClientPacket>, ReadError>
+    requires { is_op bytes.now ≡ false }
+    ensures { Answers takes_memory result (reading client_packets bytes.now) }
+{
+    match read_urb(alloc, bytes)? {
+        Read::Whole(packet, size) => Ok(Read::Whole(ClientPacket::Urb(packet), size)),
+        Read::Short => Ok(Read::Short),
+    }
+}
+
+/// How all that a client sends is read: what came before decides nothing.
+#[derive(Clone, Copy, Debug, PartialEq, Eq)]
+pub struct ClientFormat;
+
+impl PacketFormat for ClientFormat {
+    type State = ();
+
+    type Packet = ClientPacket;
+
+    ghost format = { λ state. client_packets };
+
+    ghost after = { λ state packet. state };
+
+    ghost takes_memory = { takes_memory };
+
+    fn read(alloc: Global, _state: &(), bytes: &[u8]) -> Result<Read<ClientPacket>, ReadError> {
+        read_client(alloc, bytes)
+    }
+
+    fn next(_state: &mut (), _packet: &ClientPacket) {}
+
+    ghost sound = { λ state. client_packets_sound };
+}

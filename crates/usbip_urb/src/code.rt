@@ -1,0 +1,35 @@
+//! The protocol's numbers by their names ("usbip_protocol", USBIP_CMD_SUBMIT to USBIP_RET_UNLINK), and the limits
+//! that this gateway sets.
+
+/// Asks for a transfer.
+pub const USBIP_CMD_SUBMIT: u32 = 1;
+/// Asks to take back a submit.
+pub const USBIP_CMD_UNLINK: u32 = 2;
+/// Answers a submit.
+pub const USBIP_RET_SUBMIT: u32 = 3;
+/// Answers an unlink.
+pub const USBIP_RET_UNLINK: u32 = 4;
+
+/// The direction of a transfer to the device.
+pub const USBIP_DIR_OUT: u32 = 0;
+/// The direction of a transfer from the device.
+pub const USBIP_DIR_IN: u32 = 1;
+
+/// A number_of_packets that means none, as 0 does.
+pub const NO_PACKETS: u32 = 0xFFFF_FFFF;
+
+/// The devid of the one device that this gateway exports: bus 1, device 2.
+pub const EXPORTED_DEVID: u32 = 0x0001_0002;
+/// The greatest endpoint number.
+pub const MAX_ENDPOINT: u32 = 15;
+/// The longest transfer, in bytes: 16 MiB.
+pub const MAX_LENGTH: u32 = 16_777_216;
+/// The most isochronous packets of a transfer.
+pub const MAX_PACKETS: u32 = 1024;
+/// The longest isochronous packet, in bytes.
+pub const MAX_PACKET_LENGTH: u32 = 65_535;
+
+/// How many bytes a packet has up to its body.
+pub const HEAD_SIZE: usize = 48;
+/// How many bytes a descriptor has.
+pub const DESC_SIZE: usize = 16;

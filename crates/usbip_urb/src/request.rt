@@ -1,0 +1,83 @@
+//! Requests read.
+
+ghost use Rattle.std.specs.Prelude.{◌≡◌, ◌++◌, ◌≤◌, ℕ, None, List, length};
+ghost use Rattle.std.specs.Int.{w32};
+ghost use Rattle.usb_base.specs.Number.{be_at};
+ghost use Rattle.packet_stream.specs.Format.{IsSound, Stands, reading, reading_by, Whole as FoundWhole};
+ghost use Rattle.packet_stream.specs.Reads.{Answers, IfTold};
+ghost use Rattle.usbip_urb.specs.declared.packet.UrbPacket.{UrbPacket as Packet};
+ghost use Rattle.usbip_urb.specs.declared.code.TheConstants.{USBIP_CMD_SUBMIT};
+ghost use Rattle.usbip_urb.specs.Spelling.{spelling};
+ghost use Rattle.usbip_urb.specs.Ranges.{IsRequest};
+ghost use Rattle.usbip_urb.specs.Requests.{requests};
+ghost use Rattle.usbip_urb.specs.Heap.{takes_memory};
+
+use crate::check::wrong_request;
+use crate::code::{HEAD_SIZE, USBIP_CMD_SUBMIT, USBIP_DIR_OUT};
+use crate::field::{head_at, unlink_at};
+use crate::packet::{Submit, UrbError, UrbPacket, UrbRead};
+use crate::payload::{copied, payload_of, read_descs};
+use std::alloc::Global;
+use usb_base::{array_at, be_u32_at};
+
+/// A law: what is read as a request is spelled so, and what is spelled so is read.
+pub fn requests_sound()
+    ensures { IsSound requests }
+{}
+
+/// A law: the bytes of a request are read as that request again, whatever comes after them.
+pub fn read_urb_again()
+    ensures { (p : Packet) (more : List ℕ) → IsRequest p → reading requests (spelling p ++ more) ≡ FoundWhole p (length (spelling p)) }
+{}
+
+/// Reads the request at the front of the bytes: a submit or an unlink. Bytes after it don't matter. It is refused
+/// as soon as the bytes of a wrong field are there, in this order: `Version` at place 0 (two bytes), `Command` at
+/// 0, `Device` at 8, `Direction` at 12, `Endpoint` at 16, and in a submit `TooLong` at 24 and `Packets` at 32. A
+/// packet that isn't whole costs its first 48 bytes at most. Memory is wanting only for a body or descriptors.
+pub fn read_urb(alloc: Global, bytes: &[u8]) -> Result<UrbRead, UrbError>
+    ensures stands { IfTold result (Stands requests bytes.now) }
+    ensures exact { Answers takes_memory result (reading requests bytes.now) }
+{
+    request_at_front(alloc, bytes)
+}
+
+fn request_at_front(alloc: Global, bytes: &[u8]) -> Result<UrbRead, UrbError>
+    ensures { Answers takes_memory result (reading requests bytes.now) }
+{
+    if let Some((place, reason)) = wrong_request(bytes) {
+        return Err(UrbError::Refused { place, reason });
+    }
+    if bytes.len() < HEAD_SIZE {
+        return Ok(UrbRead::Short);
+    }
+    if be_u32_at(bytes, 0) == USBIP_CMD_SUBMIT {
+        return read_submit(alloc, bytes);
+    }
+    let unlink = unlink_at(bytes);
+    Ok(UrbRead::Whole(UrbPacket::Unlink(unlink), HEAD_SIZE))
+}
+
+fn read_submit(alloc: Global, bytes: &[u8]) -> Result<UrbRead, UrbError>
+    requires submit { be_at w32 0 bytes.now ≡ USBIP_CMD_SUBMIT }
+    requires head { 48 ≤ length bytes.now }
+    ensures { Answers takes_memory result (reading_by requests bytes.now None) }
+{
+    let is_out = be_u32_at(bytes, 12) == USBIP_DIR_OUT;
+    let Some(payload) = payload_of(is_out, bytes) else {
+        return Ok(UrbRead::Short);
+    };
+    let body = copied(alloc, payload.body)?;
+    let descs = read_descs(alloc, payload.descs)?;
+    let submit = Submit {
+        head: head_at(bytes),
+        flags: be_u32_at(bytes, 20),
+        length: be_u32_at(bytes, 24),
+        start_frame: be_u32_at(bytes, 28),
+        packets: be_u32_at(bytes, 32),
+        interval: be_u32_at(bytes, 36),
+        setup: array_at(bytes, 40),
+        body,
+        descs,
+    };
+    Ok(UrbRead::Whole(UrbPacket::Submit(submit), payload.size))
+}
