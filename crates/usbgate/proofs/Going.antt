@@ -13,7 +13,7 @@ use Rattle.usbgate.specs.History.{history}
 use Rattle.usbgate.specs.Tape.{lines_of}
 use Rattle.usbgate.specs.Text.{made_text, usage_line}
 use Rattle.usbgate.specs.Play.{start, tape_limit, Played as Playback, play_lines, has_refusal, replay_text, replay_status, is_replay, play, outcome}
-use Rattle.usbgate.specs.Run.{WrittenInPart, Played, Ends, Ran, HasCauses}
+use Rattle.usbgate.specs.Run.{WrittenInPart, Played, Ends, Ran, OpensNoLink, HasCauses}
 use Rattle.usbgate.specs.Players.{Stage, Closes}
 use Rattle.usbgate.proofs.Stages.{text_begins}
 
@@ -69,6 +69,7 @@ goes-written left_old left held_old held new p text none g is a e = record {
     read-is = g.stage.read-is;
     whole_lines = g.stage.whole_lines;
     part_of_line = g.stage.part_of_line;
+    used-is = g.stage.used-is;
     within = g.stage.within;
     text-is = ap (λ (l : List ℕ). (g.written ++ p.text) ++ l) e ∙ append-nil (g.written ++ p.text) ∙ g.stage.text-is;
     plays = g.stage.plays;
@@ -240,13 +241,26 @@ write-usage e = cc
 write-read : {A : Type 0} → WriteFault ≡ ReadFault → A
 write-read e = cc
 
+quiet-no_links : (status : Status) → is_quiet status ≡ true → OpensNoLink status
+quiet-no_links Done quiet = tt
+quiet-no_links Usage quiet = tt
+quiet-no_links Refused quiet = tt
+quiet-no_links ReadFault quiet = tt
+quiet-no_links WriteFault quiet = tt
+quiet-no_links (LinkFault side) quiet = false-true quiet
+quiet-no_links OutOfMemory quiet = tt
+quiet-no_links (BadTape number) quiet = tt
+quiet-no_links Idle quiet = false-true quiet
+quiet-no_links Spent quiet = false-true quiet
+
 pub causes-none : (status : Status) (a b x y : ℕ) → is_quiet status ≡ true → b ≡ a → y ≡ x → HasCauses status a b x y
 causes-none status a b x y quiet tape out = record {
   usage = λ e. false-true (sym (ap is_quiet e) ∙ quiet);
   read_fault = λ e. false-true (sym (ap is_quiet e) ∙ quiet);
   write_fault = λ e. false-true (sym (ap is_quiet e) ∙ quiet);
-  read_rose = λ lt. absurd (omega arith);
-  write_rose = λ lt. absurd (omega arith);
+  reads_stand = λ ne. tape;
+  writes_stand = λ ne. out;
+  no_links = quiet-no_links status quiet;
 }
 
 pub causes-read : (a b x y : ℕ) → Rose a b → y ≡ x → HasCauses ReadFault a b x y
@@ -254,8 +268,9 @@ causes-read a b x y rose out = record {
   usage = λ e. read-usage e;
   read_fault = λ e. rose;
   write_fault = λ e. read-write e;
-  read_rose = λ lt. refl;
-  write_rose = λ lt. absurd (omega arith);
+  reads_stand = λ ne. absurd (ne refl);
+  writes_stand = λ ne. out;
+  no_links = tt;
 }
 
 pub causes-write : (a b x y : ℕ) → b ≡ a → Rose x y → HasCauses WriteFault a b x y
@@ -263,8 +278,9 @@ causes-write a b x y tape rose = record {
   usage = λ e. write-usage e;
   read_fault = λ e. write-read e;
   write_fault = λ e. rose;
-  read_rose = λ lt. absurd (omega arith);
-  write_rose = λ lt. refl;
+  reads_stand = λ ne. tape;
+  writes_stand = λ ne. absurd (ne refl);
+  no_links = tt;
 }
 
 -- ---- a read
@@ -286,14 +302,16 @@ pub record OfUsage (status : Status) (out_old out_new : ℕ) : Type 0 where
   pub no_command : (status ≡ Usage) ⊎ (status ≡ WriteFault)
   pub read_fault : status ≡ ReadFault → ⊥
   pub write_fault : status ≡ WriteFault → Rose out_old out_new
-  pub write_rose : out_old < out_new → status ≡ WriteFault
+  pub writes_stand : (status ≡ WriteFault → ⊥) → out_new ≡ out_old
+  pub no_links : OpensNoLink status
 
 pub usage-written : (x y : ℕ) → y ≡ x → OfUsage Usage x y
 usage-written x y same = record {
   no_command = inl refl;
   read_fault = λ e. usage-read e;
   write_fault = λ e. usage-write e;
-  write_rose = λ lt. absurd (omega arith);
+  writes_stand = λ ne. same;
+  no_links = tt;
 }
 
 pub usage-failed : (x y : ℕ) → Rose x y → OfUsage WriteFault x y
@@ -301,7 +319,8 @@ usage-failed x y rose = record {
   no_command = inr refl;
   read_fault = λ e. write-read e;
   write_fault = λ e. rose;
-  write_rose = λ lt. refl;
+  writes_stand = λ ne. absurd (ne refl);
+  no_links = tt;
 }
 
 play-usage : (words : List (List ℕ)) (tape : List ℕ) → is_replay words ≡ false → play words tape ≡ usage_line

@@ -2,10 +2,11 @@
 use Rattle.std.proofs.Common.{◌≡◌, ℕ, ◌+◌, ◌-◌, ◌<◌, ◌≤◌, Bool, true, false, cond, List, [], ◌∷◌, ◌++◌, length, take, drop, nat_eq, nat_lt, position, Option, Some, None, refl, sym, ap, subst, ◌∙◌, append_assoc, arith}
 use Rattle.std.proofs.lemmas.List.{append-nil, length-append, length-drop, take-append-drop, take_rest}
 use Rattle.std.proofs.lemmas.Bool.{lt-ltb}
+use Rattle.std.proofs.lemmas.Option.{none-some, same_Some}
 use Rattle.std.proofs.Math.Seq.{take-add}
 use Rattle.usbgate.specs.declared.player.Player.{Player}
 use Rattle.usbgate.specs.declared.status.Status.{Status}
-use Rattle.usbgate.specs.Tape.{lines_of, content, says}
+use Rattle.usbgate.specs.Tape.{lines_of, content, Says, Skip, Happens, Bad, says, may_happen}
 use Rattle.usbgate.specs.Text.{made_text, bad_line}
 use Rattle.usbgate.specs.Play.{Playing, start, tape_limit, line_by, line_of, Played, on_line, play_lines, last_line, replay_text, status_of, replay_status}
 use Rattle.usbgate.specs.Run.{EndsALine, EndsNoLine}
@@ -58,6 +59,23 @@ spoilt-by {old = old} {read = read} {written = written} new status piece s line 
       outcome = λ later. ap status_of (plays later) ∙ sym h.status-is;
     }
 
+-- the bytes of a good line are counted
+happens-used : (may : Bool) (a : List ℕ × Playing) (x : List ℕ × Playing) → cond may (Some a) None ≡ Some x → x.1.used ≡ a.1.used
+happens-used true a x e = ap (λ (y : List ℕ × Playing). y.1.used) (sym (same_Some _ _ e))
+happens-used false a x e = absurd (none-some x e)
+
+line_by-used : (s : Playing) (line : List ℕ) (said : Says) (x : List ℕ × Playing) → line_by s line said ≡ Some x → x.1.used ≡ s.used + length line
+line_by-used s line Skip x e = ap (λ (y : List ℕ × Playing). y.1.used) (sym (same_Some _ _ e))
+line_by-used s line (Happens e) x is = happens-used (may_happen s.past e) _ x is
+line_by-used s line Bad x e = absurd (none-some x e)
+
+within-used : (past : Bool) (s : Playing) (line : List ℕ) (x : List ℕ × Playing) → cond past None (line_by s line (says (content line))) ≡ Some x → x.1.used ≡ s.used + length line
+within-used true s line x e = absurd (none-some x e)
+within-used false s line x e = line_by-used s line (says (content line)) x e
+
+line_of-used : (s : Playing) (line : List ℕ) (x : List ℕ × Playing) → line_of s line ≡ Some x → x.1.used ≡ s.used + length line
+line_of-used s line x e = within-used (nat_lt tape_limit (s.used + length line)) s line x e
+
 stage-good : {old : Player} {read written : List ℕ} (new : Player) (piece front : List ℕ) (s : Stage old read written) (o : Option (List ℕ × Playing)) → old.pending ++ piece ≡ front ++ 10 ∷ []
     → EndsNoLine front → line_of s.at (old.pending ++ piece) ≡ o → GoesOn o new.replay old.text new.text → new.pending ≡ [] → Stage new (read ++ piece) written
 stage-good new piece front s None line part e h cleared = absurd h
@@ -69,6 +87,7 @@ stage-good {old = old} {read = read} {written = written} new piece front s (Some
       ∙ ap (λ (l : List ℕ). (s.whole ++ (old.pending ++ piece)) ++ l) (sym cleared);
   whole_lines = subst (λ (l : List ℕ). EndsALine (s.whole ++ l)) (sym line) (EndsALine-append s.whole front s.whole_lines (EndsALine-line front));
   part_of_line = subst EndsNoLine (sym cleared) tt;
+  used-is = line_of-used s.at (old.pending ++ piece) x e ∙ omega (arith, s.used-is, length-append s.whole (old.pending ++ piece));
   within = omega (arith, h.1.used, ap (λ (l : List ℕ). length l) cleared);
   text-is = ap (λ (l : List ℕ). written ++ l) h.0 ∙ sym (append_assoc written old.text x.0) ∙ ap (λ (l : List ℕ). l ++ x.0) s.text-is ∙ append_assoc made_text s.text x.0;
   plays = λ later. ap (λ (l : List ℕ). play_lines start (lines_of l)) (append_assoc s.whole (old.pending ++ piece) later) ∙ s.plays ((old.pending ++ piece) ++ later)
@@ -111,6 +130,7 @@ took-kept {old = old} {read = read} {written = written} new None piece s part h 
   read-is = ap (λ (l : List ℕ). l ++ piece) s.read-is ∙ append_assoc s.whole old.pending piece;
   whole_lines = s.whole_lines;
   part_of_line = EndsNoLine-append old.pending piece s.part_of_line part;
+  used-is = s.used-is;
   within = h.1;
   text-is = s.text-is;
   plays = s.plays;
@@ -218,6 +238,20 @@ took-rest {old = old} {written = written} read new status piece from s e h =
     subst (λ (l : List ℕ). Took status new l written) (append_assoc read (take from piece) (drop from piece) ∙ ap (λ (l : List ℕ). read ++ l) (take-append-drop from piece))
     (took-kept new status (drop from piece) s none (subst (λ (l : List ℕ). Kept status s.at (old.pending ++ l) old new) (take_rest piece from) h))
 
+-- ---- what may still come
+
+-- how many bytes the tape may still have
+abbrev pub room : Player → ℕ
+room p = p.replay.left - length p.pending
+
+pub room-is : {p : Player} {read written : List ℕ} → Stage p read written → room p + length read ≡ tape_limit
+room-is {p = p} s = let used : s.at.used + p.replay.left ≡ tape_limit = s.playing.used in omega (arith, s.used-is, s.within, ap (λ (l : List ℕ). length l) s.read-is, length-append s.whole p.pending)
+
+-- a piece takes of it
+pub room-falls : {p q : Player} {read written told : List ℕ} (piece : List ℕ) → Stage p read written → Stage q (read ++ piece) told → (piece ≡ [] → ⊥) → room q < room p
+room-falls [] s t some = absurd (some refl)
+room-falls {p = p} {q = q} {read = read} (b ∷ bs) s t some = omega (arith, room-is s, room-is t, length-append read (b ∷ bs))
+
 -- ---- a step
 
 pub closes-end : (status : Status) (p : Player) (piece read written : List ℕ) → piece ≡ [] → Finished status p read written → Closes status p piece read written
@@ -230,9 +264,9 @@ closes-end status p piece read written e f =
       bad = λ some. absurd (some e);
     }
 
-pub stepped-take : (status : Option Status) (p : Player) (piece read written : List ℕ) → Took status p (read ++ piece) written → Stepped status p piece read written
-stepped-take None p piece read written s = s
-stepped-take (Some status) p piece read written s = record {
+pub stepped-take : (status : Option Status) (p : Player) (piece read written : List ℕ) → (piece ≡ [] → ⊥) → Took status p (read ++ piece) written → Stepped status p piece read written
+stepped-take None p piece read written some s = (some, s)
+stepped-take (Some status) p piece read written some s = record {
   text = λ later none. s.text later;
   outcome = λ later none. s.outcome later;
   bad = λ some. (s.number, s.status-is);

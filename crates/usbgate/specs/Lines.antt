@@ -1,5 +1,6 @@
 -- What the code reads in a line, as the definitions say it.
-use Rattle.std.specs.Prelude.{Option, Some, None}
+use Rattle.std.specs.Prelude.{ℕ, Bool, true, false, List, [], ◌∷◌, Option, Some, None, Result, Ok, Err}
+use Rattle.hex.specs.declared.error.FromHexError.{FromHexError}
 use Rattle.usbgate.specs.declared.tape.TapeLine.{TapeLine}
 use Rattle.usbgate.specs.declared.tape.TapeLine.TheVariants as line
 use Rattle.usbgate.specs.Events.{Event, ClientPiece, ClientEnd, HostPiece, HostEnd}
@@ -11,6 +12,12 @@ said (line.Client piece) = Happens (ClientPiece piece.items)
 said line.ClientEnd = Happens ClientEnd
 said (line.Host piece) = Happens (HostPiece piece.items)
 said line.HostEnd = Happens HostEnd
+
+-- a byte at least was decoded
+abbrev pub has_bytes : Result (List ℕ) FromHexError → Bool
+has_bytes (Ok []) = false
+has_bytes (Ok (b ∷ bs)) = true
+has_bytes (Err e) = false
 
 abbrev pub says_of : Option Event → Says
 says_of None = Skip

@@ -1,5 +1,5 @@
 -- Where a player stands in a tape, of which a part has been read, and a part of whose text has been written.
-use Rattle.std.specs.Prelude.{◌≡◌, ℕ, ◌+◌, ◌<◌, ◌≤◌, false, List, [], ◌++◌, length, Option, Some, None}
+use Rattle.std.specs.Prelude.{◌≡◌, ◌≢◌, ℕ, ◌+◌, ◌<◌, ◌≤◌, false, List, [], ◌++◌, length, Option, Some, None}
 use Rattle.usbgate.specs.declared.player.Player.{Player}
 use Rattle.usbgate.specs.declared.status.Status.{Status}
 use Rattle.usbgate.specs.declared.status.Status.TheVariants.{BadTape}
@@ -21,6 +21,7 @@ pub record Stage (p : Player) (read written : List ℕ) : Type 0 where
   pub read-is : read ≡ whole ++ p.pending
   pub whole_lines : EndsALine whole
   pub part_of_line : EndsNoLine p.pending
+  pub used-is : at.used ≡ length whole
   pub within : at.used + length p.pending ≤ tape_limit
   pub text-is : written ++ p.text ≡ made_text ++ text
   pub plays : (later : List ℕ) → play_lines start (lines_of (whole ++ later)) ≡ with_text text (play_lines at (lines_of later))
@@ -49,7 +50,7 @@ pub record Closes (status : Status) (p : Player) (piece read written : List ℕ)
   pub bad : (piece ≡ [] → ⊥) → (number : ℕ) × (status ≡ BadTape number)
 
 abbrev pub Stepped : Option Status → Player → List ℕ → List ℕ → List ℕ → Type 0
-Stepped None p piece read written = Stage p (read ++ piece) written
+Stepped None p piece read written = (piece ≢ []) × Stage p (read ++ piece) written
 Stepped (Some status) p piece read written = Closes status p piece read written
 
 -- every line of the tape was read, and is good

@@ -1,5 +1,5 @@
 -- What a run has read and written, by how it ends, over a tape and a sink that tell their bytes.
-use Rattle.std.specs.Prelude.{◌≡◌, ◌<◌, ◌≤◌, ℕ, ◌+◌, true, false, List, [], ◌∷◌, ◌++◌, length, map, Option, Some}
+use Rattle.std.specs.Prelude.{◌≡◌, ◌≢◌, ◌≤◌, ℕ, ◌+◌, true, false, List, [], ◌∷◌, ◌++◌, length, map, Option, Some}
 use Rattle.std.specs.Borrow.{Bor}
 use Rattle.gate_outside.specs.Faults.{Rose}
 use Rattle.usbgate.specs.declared.status.Status.{Status}
@@ -62,13 +62,27 @@ abbrev pub Ran : Status → List (List ℕ) → Option (List ℕ) → Option (Li
 Ran status words left_old left_new held_old held_new =
     (tape text : List ℕ) → left_old ≡ Some tape → held_old ≡ Some text → Ends status words tape text left_new held_new
 
+-- how a command can end that opens no link
+abbrev pub OpensNoLink : Status → Type 0
+OpensNoLink Done = Unit {0}
+OpensNoLink Usage = Unit {0}
+OpensNoLink Refused = Unit {0}
+OpensNoLink ReadFault = Unit {0}
+OpensNoLink WriteFault = Unit {0}
+OpensNoLink (LinkFault side) = ⊥
+OpensNoLink OutOfMemory = Unit {0}
+OpensNoLink (BadTape number) = Unit {0}
+OpensNoLink Idle = ⊥
+OpensNoLink Spent = ⊥
+
 -- a replay ends in a fault of its tape or its sink exactly where the count of its faults rose
 pub record HasCauses (status : Status) (tape_old tape_new out_old out_new : ℕ) : Type 0 where
   pub usage : status ≡ Usage → ⊥
   pub read_fault : status ≡ ReadFault → Rose tape_old tape_new
   pub write_fault : status ≡ WriteFault → Rose out_old out_new
-  pub read_rose : tape_old < tape_new → status ≡ ReadFault
-  pub write_rose : out_old < out_new → status ≡ WriteFault
+  pub reads_stand : status ≢ ReadFault → tape_new ≡ tape_old
+  pub writes_stand : status ≢ WriteFault → out_new ≡ out_old
+  pub no_links : OpensNoLink status
 
 -- the words as texts
 abbrev pub texts : List (Bor (List ℕ)) → List (List ℕ)

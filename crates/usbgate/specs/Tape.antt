@@ -26,6 +26,21 @@ pub data Says : Type 0 where
   Happens : Event → Says
   Bad : Says
 
+-- the line brings bytes, for which memory is needed
+abbrev pub IsPiece : Says → Type 0
+IsPiece Skip = ⊥
+IsPiece (Happens (ClientPiece b)) = Unit {0}
+IsPiece (Happens ClientEnd) = ⊥
+IsPiece (Happens (HostPiece b)) = Unit {0}
+IsPiece (Happens HostEnd) = ⊥
+IsPiece Bad = ⊥
+
+-- an event stands on the line
+abbrev pub IsEvent : Says → Type 0
+IsEvent Skip = ⊥
+IsEvent (Happens e) = Unit {0}
+IsEvent Bad = ⊥
+
 -- a piece has a byte at least: two hexadecimal digits, of either case
 abbrev pub piece_of : (List ℕ → Event) → Result (List ℕ) FromHexError → Says
 piece_of piece (Ok []) = Bad

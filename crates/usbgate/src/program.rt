@@ -1,10 +1,10 @@
 //! A run of the program, over a tape and a sink.
 
-ghost use Rattle.std.specs.Prelude.{◌≡◌, ◌<◌, ◌⊎◌, List, [], ℕ, length, true, false};
+ghost use Rattle.std.specs.Prelude.{◌≡◌, ◌≢◌, ◌<◌, ◌⊎◌, List, [], ℕ, length, true, false};
 ghost use Rattle.gate_outside.specs.Faults.{Rose};
 ghost use Rattle.usb_base.specs.declared.side.Side.TheVariants.{Client, Host};
 ghost use Rattle.usbgate.specs.Play.{is_replay};
-ghost use Rattle.usbgate.specs.Run.{Ran, HasCauses, texts};
+ghost use Rattle.usbgate.specs.Run.{Ran, OpensNoLink, HasCauses, texts};
 ghost use Rattle.usbgate.specs.Players.{Stage};
 
 use crate::player::Player;
@@ -33,8 +33,9 @@ pub fn run<S: Source, K: Sink, D: Doors>(
     ensures untouched { is_replay (texts words.now) ≡ false → tape.new ≡ tape.old }
     ensures read_fault { result ≡ Status.ReadFault → Rose (S.faults tape.old) (S.faults tape.new) }
     ensures write_fault { result ≡ Status.WriteFault → Rose (K.faults out.old) (K.faults out.new) }
-    ensures read_rose { S.faults tape.old < S.faults tape.new → result ≡ Status.ReadFault }
-    ensures write_rose { K.faults out.old < K.faults out.new → result ≡ Status.WriteFault }
+    ensures reads_stand { result ≢ Status.ReadFault → S.faults tape.new ≡ S.faults tape.old }
+    ensures writes_stand { result ≢ Status.WriteFault → K.faults out.new ≡ K.faults out.old }
+    ensures no_links { OpensNoLink result }
     ensures doors { doors.new ≡ doors.old }
 {
     let _ = doors;
@@ -86,7 +87,7 @@ fn play<S: Source, K: Sink>(
     ensures ran { (words : List (List ℕ)) → is_replay words ≡ true → Ran result words (S.left tape.old) (S.left tape.new) (K.held out.old) (K.held out.new) }
     ensures causes { HasCauses result (S.faults tape.old) (S.faults tape.new) (K.faults out.old) (K.faults out.new) }
 {
-    for _ in 0..u64::MAX {
+    loop {
         if let Err(_) = write_all(out, player.text.as_slice()) {
             return Status::WriteFault;
         }
@@ -106,6 +107,4 @@ fn play<S: Source, K: Sink>(
             return status;
         }
     }
-    // It doesn't come here: the limit of a tape ends it long before.
-    Status::OutOfMemory
 }

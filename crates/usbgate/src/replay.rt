@@ -5,7 +5,7 @@ ghost use Rattle.usbgate.specs.Events.{Event as PastEvent, event_of};
 ghost use Rattle.usbgate.specs.Items.{Item};
 ghost use Rattle.usbgate.specs.History.{history};
 ghost use Rattle.usbgate.specs.Output.{counts_of, told_notes};
-ghost use Rattle.usbgate.specs.Tape.{client_ended, host_ended, may_happen};
+ghost use Rattle.usbgate.specs.Tape.{client_ended, host_ended, may_happen, content as content_of, says, IsEvent};
 ghost use Rattle.usbgate.specs.Text.{made_text, sent_text, counts_line};
 ghost use Rattle.usbgate.specs.Play.{Playing, start, tape_limit, line_of, has_refusal};
 ghost use Rattle.usbgate.specs.Replays.{HasSeen, IsPlaying, Sees, GoesOn};
@@ -67,6 +67,7 @@ impl Replay {
         ensures goes { OnOk result ((s : Playing) → IsPlaying self.old s → GoesOn (line_of s line.now) self.new text.old text.new) }
         ensures bad { result ≡ Err LineError.Bad → (s : Playing) → IsPlaying self.old s → line_of s line.now ≡ None }
         ensures same { result ≡ Err LineError.Bad → (self.new ≡ self.old) × (text.new ≡ text.old) }
+        ensures memory { result ≡ Err LineError.Memory → IsEvent (says (content_of line.now)) }
     {
         let len = line.len() as u64;
         if len > self.left {

@@ -1,4 +1,4 @@
-use Rattle.std.proofs.Common.{◌∙◌, sym, refl, arith}
+use Rattle.std.proofs.Common.{◌∙◌, sym, refl}
 use Rattle.usbgate.specs.Run.{texts}
 use Rattle.usbgate.proofs.Going.{false-true, usage-written, usage-failed, ran-usage, ran-usage_failed}
 use Rattle.usbgate.proofs.program.run.Goals as goal
@@ -23,11 +23,14 @@ returns-then-says_replay-clause-read_fault g c = c.replay.ensures.causes.read_fa
 pub returns-then-says_replay-clause-write_fault : goal.returns-then-says_replay-clause-write_fault
 returns-then-says_replay-clause-write_fault g c = c.replay.ensures.causes.write_fault
 
-pub returns-then-says_replay-clause-read_rose : goal.returns-then-says_replay-clause-read_rose
-returns-then-says_replay-clause-read_rose g c = c.replay.ensures.causes.read_rose
+pub returns-then-says_replay-clause-reads_stand : goal.returns-then-says_replay-clause-reads_stand
+returns-then-says_replay-clause-reads_stand g c = c.replay.ensures.causes.reads_stand
 
-pub returns-then-says_replay-clause-write_rose : goal.returns-then-says_replay-clause-write_rose
-returns-then-says_replay-clause-write_rose g c = c.replay.ensures.causes.write_rose
+pub returns-then-says_replay-clause-writes_stand : goal.returns-then-says_replay-clause-writes_stand
+returns-then-says_replay-clause-writes_stand g c = c.replay.ensures.causes.writes_stand
+
+pub returns-then-says_replay-clause-no_links : goal.returns-then-says_replay-clause-no_links
+returns-then-says_replay-clause-no_links g c = c.replay.ensures.causes.no_links
 
 pub returns-then-says_replay-clause-doors : goal.returns-then-says_replay-clause-doors
 returns-then-says_replay-clause-doors g c = refl
@@ -52,11 +55,14 @@ returns-in-Ok-clause-read_fault g c = λ e. absurd ((usage-written (g.K.Sink.fau
 pub returns-in-Ok-clause-write_fault : goal.returns-in-Ok-clause-write_fault
 returns-in-Ok-clause-write_fault g c = (usage-written (g.K.Sink.faults c.args.out.now) (g.K.Sink.faults c.write_all.new.sink) c.in-Ok.ensures.cause.stands).write_fault
 
-pub returns-in-Ok-clause-read_rose : goal.returns-in-Ok-clause-read_rose
-returns-in-Ok-clause-read_rose g c = λ lt. absurd (omega arith)
+pub returns-in-Ok-clause-reads_stand : goal.returns-in-Ok-clause-reads_stand
+returns-in-Ok-clause-reads_stand g c = λ ne. refl
 
-pub returns-in-Ok-clause-write_rose : goal.returns-in-Ok-clause-write_rose
-returns-in-Ok-clause-write_rose g c = (usage-written (g.K.Sink.faults c.args.out.now) (g.K.Sink.faults c.write_all.new.sink) c.in-Ok.ensures.cause.stands).write_rose
+pub returns-in-Ok-clause-writes_stand : goal.returns-in-Ok-clause-writes_stand
+returns-in-Ok-clause-writes_stand g c = (usage-written (g.K.Sink.faults c.args.out.now) (g.K.Sink.faults c.write_all.new.sink) c.in-Ok.ensures.cause.stands).writes_stand
+
+pub returns-in-Ok-clause-no_links : goal.returns-in-Ok-clause-no_links
+returns-in-Ok-clause-no_links g c = (usage-written (g.K.Sink.faults c.args.out.now) (g.K.Sink.faults c.write_all.new.sink) c.in-Ok.ensures.cause.stands).no_links
 
 pub returns-in-Ok-clause-doors : goal.returns-in-Ok-clause-doors
 returns-in-Ok-clause-doors g c = refl
@@ -81,11 +87,14 @@ returns-in-Err-clause-read_fault g c = λ e. absurd ((usage-failed (g.K.Sink.fau
 pub returns-in-Err-clause-write_fault : goal.returns-in-Err-clause-write_fault
 returns-in-Err-clause-write_fault g c = (usage-failed (g.K.Sink.faults c.args.out.now) (g.K.Sink.faults c.write_all.new.sink) c.in-Err.ensures.cause.failed).write_fault
 
-pub returns-in-Err-clause-read_rose : goal.returns-in-Err-clause-read_rose
-returns-in-Err-clause-read_rose g c = λ lt. absurd (omega arith)
+pub returns-in-Err-clause-reads_stand : goal.returns-in-Err-clause-reads_stand
+returns-in-Err-clause-reads_stand g c = λ ne. refl
 
-pub returns-in-Err-clause-write_rose : goal.returns-in-Err-clause-write_rose
-returns-in-Err-clause-write_rose g c = (usage-failed (g.K.Sink.faults c.args.out.now) (g.K.Sink.faults c.write_all.new.sink) c.in-Err.ensures.cause.failed).write_rose
+pub returns-in-Err-clause-writes_stand : goal.returns-in-Err-clause-writes_stand
+returns-in-Err-clause-writes_stand g c = (usage-failed (g.K.Sink.faults c.args.out.now) (g.K.Sink.faults c.write_all.new.sink) c.in-Err.ensures.cause.failed).writes_stand
+
+pub returns-in-Err-clause-no_links : goal.returns-in-Err-clause-no_links
+returns-in-Err-clause-no_links g c = (usage-failed (g.K.Sink.faults c.args.out.now) (g.K.Sink.faults c.write_all.new.sink) c.in-Err.ensures.cause.failed).no_links
 
 pub returns-in-Err-clause-doors : goal.returns-in-Err-clause-doors
 returns-in-Err-clause-doors g c = refl

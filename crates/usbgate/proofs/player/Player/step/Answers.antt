@@ -9,4 +9,4 @@ returns-then-is_empty c = λ read written s.
     closes-end c.in_ok-end.field-0 c.end.new.self c.args.piece.now read written (nil_from_length c.args.piece.now (search rules)) (c.in_ok-end.ensures read written s)
 
 pub returns : goal.returns
-returns c = IfOk-weaker c.take.result _ _ (λ status took read written s. stepped-take status c.take.new.self c.args.piece.now read written (took read written s)) c.take.ensures
+returns c = IfOk-weaker c.take.result _ _ (λ status took read written s. stepped-take status c.take.new.self c.args.piece.now read written (λ none. search rules) (took read written s)) c.take.ensures
