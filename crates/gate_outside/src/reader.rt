@@ -13,7 +13,7 @@ pub trait Reader {
     ghost use Rattle.gate_outside.specs.declared.fault.Failed.{Failed as Fault};
 
     /// The bytes left, where it tells them.
-    ghost left: { Self → Option (List ℕ) };
+    ghost remaining: { Self → Option (List ℕ) };
 
     /// What one call does: the reader before it, the buffer after it, the answer, and the reader after it.
     ghost read_gives: { Self → List ℕ → Result ℕ Fault → Self → Type 0 };
@@ -22,14 +22,14 @@ pub trait Reader {
     /// call among them.
     fn read_once(&mut self, buf: &mut [u8]) -> Result<usize, Failed>
         ensures bound { ReadsAtMost result buf.new }
-        ensures bytes { ReadConsumes (left self.old) (left self.new) result buf.new }
+        ensures bytes { ReadConsumes (remaining self.old) (remaining self.new) result buf.new }
         ensures gives { read_gives self.old buf.new result self.new };
 }
 
 impl<R: Read> Reader for R {
     ghost use Rattle.gate_outside.specs.Std.{Reads};
 
-    ghost left = { λ reader. R.remaining reader };
+    ghost remaining = { λ reader. R.remaining reader };
 
     ghost read_gives = { λ old buf answer new. Reads (R.remaining old) (R.remaining new) answer buf };
 

@@ -33,7 +33,7 @@ impl<W: Writer> StdSink<W> {
 impl<W: Writer> Sink for StdSink<W> {
     ghost use Rattle.gate_outside.specs.Std.{output_writer, output_faults, Passes};
 
-    ghost held = { λ sink. W.held (output_writer sink) };
+    ghost contents = { λ sink. W.contents (output_writer sink) };
 
     ghost faults = { λ sink. output_faults sink };
 
@@ -41,7 +41,7 @@ impl<W: Writer> Sink for StdSink<W> {
         requires { 0 < length piece.now }
         ensures bound { WritesAtMost result piece.now }
         ensures some { IfOk result (λ n. 0 < n) }
-        ensures bytes { WriteAppends (W.held (output_writer self.old)) (W.held (output_writer self.new)) result piece.now }
+        ensures bytes { WriteAppends (W.contents (output_writer self.old)) (W.contents (output_writer self.new)) result piece.now }
         ensures cause { HasCause (output_faults self.old) (output_faults self.new) result }
         ensures gives { Passes (λ answer. W.write_gives (output_writer self.old) piece.now answer (output_writer self.new)) result }
     {

@@ -33,14 +33,14 @@ impl<R: Reader> StdSource<R> {
 impl<R: Reader> Source for StdSource<R> {
     ghost use Rattle.gate_outside.specs.Std.{input_reader, input_faults};
 
-    ghost left = { λ source. R.left (input_reader source) };
+    ghost remaining = { λ source. R.remaining (input_reader source) };
 
     ghost faults = { λ source. input_faults source };
 
     fn read(&mut self, buf: &mut [u8]) -> Result<usize, Failed>
         requires { 0 < length buf.old }
         ensures bound { ReadsAtMost result buf.new }
-        ensures bytes { ReadConsumes (R.left (input_reader self.old)) (R.left (input_reader self.new)) result buf.new }
+        ensures bytes { ReadConsumes (R.remaining (input_reader self.old)) (R.remaining (input_reader self.new)) result buf.new }
         ensures cause { HasCause (input_faults self.old) (input_faults self.new) result }
         ensures gives { R.read_gives (input_reader self.old) buf.new result (input_reader self.new) }
     {

@@ -13,7 +13,7 @@ pub trait Writer {
     ghost use Rattle.gate_outside.specs.declared.fault.Failed.{Failed as Fault};
 
     /// The bytes it holds, where it tells them.
-    ghost held: { Self → Option (List ℕ) };
+    ghost contents: { Self → Option (List ℕ) };
 
     /// What one call does: the writer before it, the piece, the answer, and the writer after it.
     ghost write_gives: { Self → List ℕ → Result ℕ Fault → Self → Type 0 };
@@ -22,14 +22,14 @@ pub trait Writer {
     /// among them.
     fn write_once(&mut self, piece: &[u8]) -> Result<usize, Failed>
         ensures bound { WritesAtMost result piece.now }
-        ensures bytes { WriteAppends (held self.old) (held self.new) result piece.now }
+        ensures bytes { WriteAppends (contents self.old) (contents self.new) result piece.now }
         ensures gives { write_gives self.old piece.now result self.new };
 }
 
 impl<W: Write> Writer for W {
     ghost use Rattle.gate_outside.specs.Std.{Writes};
 
-    ghost held = { λ writer. W.contents writer };
+    ghost contents = { λ writer. W.contents writer };
 
     ghost write_gives = { λ old piece answer new. Writes (W.contents old) (W.contents new) answer piece };
 

@@ -6,7 +6,7 @@ use Rattle.std.proofs.lemmas.List.Sums.{AllPass-from_list_all, list_all-from_All
 use Rattle.hex.specs.Hex.{decode_of, is_hex_digit}
 use Rattle.hex.specs.declared.error.FromHexError.{FromHexError}
 use Rattle.hex.proofs.HexLemmas.{decode_of-odd, decode_of-ok, decode_of-digits}
-use Rattle.usbgate.specs.Lines.{has_bytes}
+use Rattle.usbgate.specs.inner.Line.{has_bytes}
 
 -- in a range of digits, of upper or of lower case
 classes : (digit upper lower : Bool) (u l d : ℕ) → ((digit || upper) || lower) ≡ is_some (cond upper (Some u) (cond lower (Some l) (cond digit (Some d) None)))

@@ -4,7 +4,7 @@ ghost use Rattle.std.specs.Prelude.{◌≡◌, List, ℕ, true, IfOk, option_map
 ghost use Rattle.usbgate.specs.Tape.{content, says, Happens, Bad, IsPiece, piece_of};
 ghost use Rattle.usbgate.specs.Events.{Event as PastEvent, event_of};
 ghost use Rattle.hex.specs.Hex.{decode_of};
-ghost use Rattle.usbgate.specs.Lines.{said, says_of, has_bytes};
+ghost use Rattle.usbgate.specs.inner.Line.{said, says_of, has_bytes};
 
 use crate::event::Event;
 use std::alloc::Global;

@@ -1,12 +1,12 @@
 use Rattle.std.proofs.Common.{◌∙◌, sym, refl}
-use Rattle.usbgate.specs.Run.{texts}
+use Rattle.usbgate.specs.Words.{texts}
 use Rattle.usbgate.proofs.Going.{false-true, usage-written, usage-failed, ran-usage, ran-usage_failed}
 use Rattle.usbgate.proofs.program.run.Goals as goal
 
 -- ---- a replay
 
-pub returns-then-says_replay-clause-ran : goal.returns-then-says_replay-clause-ran
-returns-then-says_replay-clause-ran g c = c.replay.ensures.ran (texts c.args.words.now) (sym c.says_replay.ensures ∙ c.if-says_replay.true)
+pub returns-then-says_replay-clause-leaves : goal.returns-then-says_replay-clause-leaves
+returns-then-says_replay-clause-leaves g c = c.replay.ensures.leaves (texts c.args.words.now) (sym c.says_replay.ensures ∙ c.if-says_replay.true)
 
 pub returns-then-says_replay-clause-usage : goal.returns-then-says_replay-clause-usage
 returns-then-says_replay-clause-usage g c = λ e. absurd (c.replay.ensures.causes.usage e)
@@ -37,8 +37,8 @@ returns-then-says_replay-clause-doors g c = refl
 
 -- ---- the usage line is written
 
-pub returns-in-Ok-clause-ran : goal.returns-in-Ok-clause-ran
-returns-in-Ok-clause-ran g c = ran-usage (g.S.Source.left c.args.tape.now) (g.K.Sink.held c.args.out.now) (g.K.Sink.held c.write_all.new.sink) (texts c.args.words.now) (sym c.says_replay.ensures ∙ c.if-says_replay.false) c.in-Ok.ensures.ok
+pub returns-in-Ok-clause-leaves : goal.returns-in-Ok-clause-leaves
+returns-in-Ok-clause-leaves g c = ran-usage (g.S.Source.remaining c.args.tape.now) (g.K.Sink.contents c.args.out.now) (g.K.Sink.contents c.write_all.new.sink) (texts c.args.words.now) (sym c.says_replay.ensures ∙ c.if-says_replay.false) c.in-Ok.ensures.ok
 
 pub returns-in-Ok-clause-usage : goal.returns-in-Ok-clause-usage
 returns-in-Ok-clause-usage g c = λ e. sym c.says_replay.ensures ∙ c.if-says_replay.false
@@ -69,8 +69,8 @@ returns-in-Ok-clause-doors g c = refl
 
 -- ---- it can't be written
 
-pub returns-in-Err-clause-ran : goal.returns-in-Err-clause-ran
-returns-in-Err-clause-ran g c = ran-usage_failed (g.S.Source.left c.args.tape.now) (g.K.Sink.held c.args.out.now) (g.K.Sink.held c.write_all.new.sink) (texts c.args.words.now) (sym c.says_replay.ensures ∙ c.if-says_replay.false) c.in-Err.ensures.err
+pub returns-in-Err-clause-leaves : goal.returns-in-Err-clause-leaves
+returns-in-Err-clause-leaves g c = ran-usage_failed (g.S.Source.remaining c.args.tape.now) (g.K.Sink.contents c.args.out.now) (g.K.Sink.contents c.write_all.new.sink) (texts c.args.words.now) (sym c.says_replay.ensures ∙ c.if-says_replay.false) c.in-Err.ensures.err
 
 pub returns-in-Err-clause-usage : goal.returns-in-Err-clause-usage
 returns-in-Err-clause-usage g c = λ e. sym c.says_replay.ensures ∙ c.if-says_replay.false

@@ -3,7 +3,6 @@ use Rattle.std.specs.Char.{is_ascii_hexdigit}
 use Rattle.std.proofs.lemmas.Iterator.{YieldsList-from_slice}
 use Rattle.std.proofs.lemmas.Iterator.Search.{all_from_yields_List}
 use Rattle.std.proofs.lemmas.List.{nil_from_length}
-use Rattle.std.proofs.lemmas.Bool.Decides.{nat_tests}
 use Rattle.usbgate.proofs.Digits.{digits-even, digits-odd, digits-empty}
 use Rattle.usbgate.proofs.tape.are_digits.Goals as goal
 use Rattle.usbgate.proofs.tape.are_digits.Goals.{then-is_empty-via-then-is_empty, then-is_empty-via-else-is_empty+then-digits-ne0}

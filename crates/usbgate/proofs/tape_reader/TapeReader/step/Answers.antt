@@ -2,7 +2,7 @@ use Rattle.std.proofs.Common.{rules}
 use Rattle.std.proofs.lemmas.List.{nil_from_length}
 use Rattle.std.proofs.lemmas.Result.{IfOk-weaker}
 use Rattle.usbgate.proofs.Stages.{closes-end, stepped-take}
-use Rattle.usbgate.proofs.player.Player.step.Goals as goal
+use Rattle.usbgate.proofs.tape_reader.TapeReader.step.Goals as goal
 
 pub returns-then-is_empty : goal.returns-then-is_empty
 returns-then-is_empty c = λ read written s.

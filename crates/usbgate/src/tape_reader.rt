@@ -1,9 +1,8 @@
-//! A tape, read piece by piece.
+//! A tape that comes in pieces, read line by line.
 
 ghost use Rattle.std.specs.Prelude.{◌≡◌, ◌++◌, ◌<◌, ◌==◌, [], List, ℕ, length, IfOk, OnOk, position};
-ghost use Rattle.usbgate.specs.Play.{Playing, line_of};
-ghost use Rattle.usbgate.specs.Replays.{IsPlaying, GoesOn};
-ghost use Rattle.usbgate.specs.Players.{Stage, Took, Stepped, Finished, AllRead, TookLast, Spoils, TookLine, Kept};
+ghost use Rattle.usbgate.specs.inner.Replay.{ReplayProgress, replay_line, HasRead, GoesOn};
+ghost use Rattle.usbgate.specs.inner.TapeReader.{Stage, Took, Stepped, Finished, AllRead, TookLast, Spoils, TookLine, Kept};
 
 use crate::replay::Replay;
 use crate::status::Status;
@@ -12,9 +11,9 @@ use crate::text::push_bad;
 use std::alloc::Global;
 use usb_base::{Bytes, Memory};
 
-/// A replay of a tape that comes in pieces.
+/// Reads a tape line by line, and keeps the text of what it read.
 #[derive(Debug, Drop)]
-pub struct Player {
+pub struct TapeReader {
     pub replay: Replay,
     /// What has come of the line that isn't whole.
     pub pending: Bytes,
@@ -22,14 +21,14 @@ pub struct Player {
     pub text: Bytes,
 }
 
-impl Player {
-    /// The player to which nothing of its tape has come.
-    pub fn start(alloc: Global) -> Result<Player, Memory>
-        ensures { IfOk result (λ player. Stage player [] []) }
+impl TapeReader {
+    /// The reader to which nothing of its tape has come.
+    pub fn start(alloc: Global) -> Result<TapeReader, Memory>
+        ensures { IfOk result (λ reader. Stage reader [] []) }
     {
         let mut text = Bytes::new(alloc);
         let replay = Replay::start(alloc, &mut text)?;
-        Ok(Player {
+        Ok(TapeReader {
             replay,
             pending: Bytes::new(alloc),
             text,
@@ -55,7 +54,7 @@ impl Player {
         let mut from = 0;
         while let Some(len) = line_end(&piece[from..]) {
             let end = from + len + 1;
-            if let Some(status) = self.line(alloc, &piece[from..end])? {
+            if let Some(status) = self.end_line(alloc, &piece[from..end])? {
                 return Ok(Some(status));
             }
             from = end;
@@ -80,7 +79,7 @@ impl Player {
         if self.pending.is_empty() {
             return Ok(None);
         }
-        self.line(alloc, b"")
+        self.end_line(alloc, b"")
     }
 
     /// Appends the counts.
@@ -95,11 +94,11 @@ impl Player {
     }
 
     /// Reads the line that ends with these bytes.
-    fn line(&mut self, alloc: Global, last: &[u8]) -> Result<Option<Status>, Memory>
+    fn end_line(&mut self, alloc: Global, last: &[u8]) -> Result<Option<Status>, Memory>
         requires { 0 < length (self.old.pending ++ last.now) }
-        ensures { IfOk result (λ status. (s : Playing) → IsPlaying self.old.replay s → TookLine status s (self.old.pending ++ last.now) self.old self.new) }
+        ensures { IfOk result (λ status. (p : ReplayProgress) → HasRead self.old.replay p → TookLine status p (self.old.pending ++ last.now) self.old self.new) }
     {
-        match self.play_line(alloc, last) {
+        match self.put_line(alloc, last) {
             Ok(()) => {
                 self.pending.clear();
                 Ok(None)
@@ -110,24 +109,24 @@ impl Player {
     }
 
     /// Puts the line that ends with these bytes to the gate.
-    fn play_line(&mut self, alloc: Global, last: &[u8]) -> Result<(), LineError>
+    fn put_line(&mut self, alloc: Global, last: &[u8]) -> Result<(), LineError>
         requires { 0 < length (self.old.pending ++ last.now) }
-        ensures goes { OnOk result ((s : Playing) → IsPlaying self.old.replay s
-            → GoesOn (line_of s (self.old.pending ++ last.now)) self.new.replay self.old.text self.new.text) }
-        ensures bad { result ≡ Err LineError.Bad → (s : Playing) → IsPlaying self.old.replay s → line_of s (self.old.pending ++ last.now) ≡ None }
+        ensures goes { OnOk result ((s : ReplayProgress) → HasRead self.old.replay s
+            → GoesOn (replay_line s (self.old.pending ++ last.now)) self.new.replay self.old.text self.new.text) }
+        ensures bad { result ≡ Err LineError.Bad → (s : ReplayProgress) → HasRead self.old.replay s → replay_line s (self.old.pending ++ last.now) ≡ None }
         ensures same { result ≡ Err LineError.Bad → (self.new.replay ≡ self.old.replay) × (self.new.text ≡ self.old.text) }
     {
         if self.pending.is_empty() {
-            return self.replay.line(alloc, last, &mut self.text);
+            return self.replay.take_line(alloc, last, &mut self.text);
         }
         self.pending.append(last)?;
         self.replay
-            .line(alloc, self.pending.as_slice(), &mut self.text)
+            .take_line(alloc, self.pending.as_slice(), &mut self.text)
     }
 
     /// Keeps a part of a line, unless the line passes the limit.
     fn keep(&mut self, alloc: Global, part: &[u8]) -> Result<Option<Status>, Memory>
-        ensures { IfOk result (λ status. (s : Playing) → IsPlaying self.old.replay s → Kept status s (self.old.pending ++ part.now) self.old self.new) }
+        ensures { IfOk result (λ status. (s : ReplayProgress) → HasRead self.old.replay s → Kept status s (self.old.pending ++ part.now) self.old self.new) }
     {
         self.pending.append(part)?;
         if self.replay.has_room(self.pending.len()) {
@@ -138,9 +137,9 @@ impl Player {
 
     /// Appends that the next line is bad.
     fn spoil(&mut self, alloc: Global) -> Result<Status, Memory>
-        ensures { IfOk result (λ status. (s : Playing) → IsPlaying self.old.replay s → Spoils status s self.old.text self.new.text) }
+        ensures { IfOk result (λ status. (s : ReplayProgress) → HasRead self.old.replay s → Spoils status s self.old.text self.new.text) }
     {
-        let number = self.replay.number().saturating_add(1);
+        let number = self.replay.lines().saturating_add(1);
         push_bad(alloc, number, &mut self.text)?;
         Ok(Status::BadTape(number))
     }

@@ -1,6 +1,6 @@
 use Rattle.std.proofs.Common.{◌≤◌, ◌-◌, ◌++◌, List, ℕ, length, take}
-use Rattle.usbgate.specs.Players.{Stage}
-use Rattle.usbgate.proofs.player.Player.take.Given as goal
+use Rattle.usbgate.specs.inner.TapeReader.{Stage}
+use Rattle.usbgate.proofs.tape_reader.TapeReader.take.Given as goal
 
 abbrev pub invariant-loop-len : goal.invariant-loop-len
 invariant-loop-len l = record {
