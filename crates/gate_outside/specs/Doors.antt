@@ -5,14 +5,12 @@ use Rattle.gate_outside.specs.declared.turn.Turn.{Turn}
 use Rattle.gate_outside.specs.declared.turn.Turn.TheVariants.{Piece, Wait, Fail}
 use Rattle.gate_outside.specs.declared.turn.Polled.{Polled}
 use Rattle.gate_outside.specs.declared.turn.Polled.TheVariants.{Took, NotYet, Ended, Failed}
-use Rattle.gate_outside.specs.Faults.{Rose, one_more}
+use Rattle.gate_outside.specs.Faults.{one_more}
 use Rattle.gate_outside.specs.Link.{Link, Door}
 
--- a call failed: the side's count rose, and nothing else changed
-pub record Fails (old new : Link) : Type 0 where
-  pub later : old.faults ≤ new.faults
-  pub rose : Rose old.faults new.faults
-  pub same : new ≡ record old { faults = new.faults }
+-- one fault more
+abbrev pub faulted : Link → Link
+faulted link = record link { faults = one_more link.faults }
 
 abbrev pub opened : Link → Link
 opened link = record link { up = true }
@@ -26,24 +24,24 @@ idled link = record link { idle = one_more link.idle }
 -- the host's link comes up
 abbrev pub Dials : {T E : Type 0} → Result T E → Link → Link → Type 0
 Dials (Ok _) old new = new ≡ opened old
-Dials (Err _) old new = Fails old new
+Dials (Err _) old new = new ≡ faulted old
 
 -- the door is made
 abbrev pub Listens : {T E : Type 0} → Result T E → Door → Door → Link → Link → Type 0
 Listens (Ok _) door door_new old new = (door_new ≡ record door { made = true }) × (new ≡ old)
-Listens (Err _) door door_new old new = (door_new ≡ door) × Fails old new
+Listens (Err _) door door_new old new = (door_new ≡ door) × (new ≡ faulted old)
 
 -- the client comes, once where that is told, or hasn't come yet
 abbrev pub Accepts : {E : Type 0} → Result Bool E → Door → Door → Link → Link → Type 0
 Accepts (Ok true) door door_new old new =
     (new ≡ opened old) × IfSome door.to_come (λ b. b ≡ true) × (door_new ≡ record door { to_come = option_map (λ _. false) door.to_come })
 Accepts (Ok false) door door_new old new = (new ≡ idled old) × IfSome door.to_come (λ b. b ≡ false) × (door_new ≡ door)
-Accepts (Err _) door door_new old new = (door_new ≡ door) × Fails old new
+Accepts (Err _) door door_new old new = (door_new ≡ door) × (new ≡ faulted old)
 
 -- a front of the piece, at least one byte of it, is written
 abbrev pub Writes : {E : Type 0} → Result ℕ E → List ℕ → Link → Link → Type 0
 Writes (Ok n) piece old new = (0 < n) × (n ≤ length piece) × (new ≡ record old { written = append_known old.written (take n piece) })
-Writes (Err _) piece old new = Fails old new
+Writes (Err _) piece old new = new ≡ faulted old
 
 -- `Took n` has n from 1 to the buffer's length
 abbrev pub TookWithin : Polled → List ℕ → Type 0
@@ -80,10 +78,8 @@ FailTaken old new = (turns : List Turn) × (rest : List Turn) × (old ≡ Some t
 
 -- a poll failed: the side's count rose, and a `Fail` may be taken
 pub record PollFails (old new : Link) : Type 0 where
-  pub later : old.faults ≤ new.faults
-  pub rose : Rose old.faults new.faults
   pub turns : (new.turns ≡ old.turns) ⊎ FailTaken old.turns new.turns
-  pub same : new ≡ record old { turns = new.turns; faults = new.faults }
+  pub same : new ≡ record (faulted old) { turns = new.turns }
 
 -- what a poll does to the link, apart from what it gives
 abbrev pub PollMoves : Polled → Link → Link → Type 0

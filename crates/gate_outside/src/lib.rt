@@ -9,6 +9,7 @@ mod doors;
 mod fault;
 mod fault_plan;
 mod no_doors;
+mod reader;
 mod sink;
 mod source;
 mod std_sink;
@@ -16,10 +17,12 @@ mod std_source;
 mod text_sink;
 mod text_source;
 mod turn;
+mod writer;
 
 pub use doors::Doors;
 pub use fault::Failed;
 pub use no_doors::NoDoors;
+pub use reader::Reader;
 pub use sink::{Sink, write_all};
 pub use source::Source;
 pub use std_sink::StdSink;
@@ -28,6 +31,7 @@ pub use text_sink::TextSink;
 pub use text_source::TextSource;
 pub use turn::{Polled, Script, Turn};
 pub use usb_base::Side;
+pub use writer::Writer;
 
 #[cfg(test)]
 mod tests;

@@ -11,7 +11,7 @@ use crate::fault::Failed;
 /// Takes bytes, each behind those before it.
 pub trait Sink {
     /// The bytes it holds, where it tells them.
-    ghost held: { Self → Option (List ℕ) };
+    ghost contents: { Self → Option (List ℕ) };
 
     /// How often it has failed. The count stands still at `u64::MAX`.
     ghost faults: { Self → ℕ };
@@ -21,14 +21,14 @@ pub trait Sink {
         requires { 0 < length piece.now }
         ensures bound { WritesAtMost result piece.now }
         ensures some { IfOk result (λ n. 0 < n) }
-        ensures bytes { WriteAppends (held self.old) (held self.new) result piece.now }
+        ensures bytes { WriteAppends (contents self.old) (contents self.new) result piece.now }
         ensures cause { HasCause (faults self.old) (faults self.new) result };
 }
 
 /// Writes all of the bytes, or, where the sink fails, a front of them.
 pub fn write_all<K: Sink>(sink: &mut K, bytes: &[u8]) -> Result<(), Failed>
-    ensures ok { OnOk result (Appends (K.held sink.old) (K.held sink.new) bytes.now) }
-    ensures err { OnErr result (AppendsFront (K.held sink.old) (K.held sink.new) bytes.now) }
+    ensures ok { OnOk result (Appends (K.contents sink.old) (K.contents sink.new) bytes.now) }
+    ensures err { OnErr result (AppendsFront (K.contents sink.old) (K.contents sink.new) bytes.now) }
     ensures cause { HasCause (K.faults sink.old) (K.faults sink.new) result }
 {
     let mut done = 0;

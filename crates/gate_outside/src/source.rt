@@ -10,7 +10,7 @@ use crate::fault::Failed;
 /// Bytes that are read from front to end.
 pub trait Source {
     /// The bytes left, where it tells them.
-    ghost left: { Self → Option (List ℕ) };
+    ghost remaining: { Self → Option (List ℕ) };
 
     /// How often it has failed. The count stands still at `u64::MAX`.
     ghost faults: { Self → ℕ };
@@ -20,6 +20,6 @@ pub trait Source {
     fn read(&mut self, buf: &mut [u8]) -> Result<usize, Failed>
         requires { 0 < length buf.old }
         ensures bound { ReadsAtMost result buf.new }
-        ensures bytes { ReadConsumes (left self.old) (left self.new) result buf.new }
+        ensures bytes { ReadConsumes (remaining self.old) (remaining self.new) result buf.new }
         ensures cause { HasCause (faults self.old) (faults self.new) result };
 }

@@ -5,6 +5,8 @@ ghost use Rattle.std.specs.Prelude.{◌<◌};
 use super::{
     Doors, Failed, NoDoors, Sink, Source, StdSink, StdSource, TextSink, TextSource, write_all,
 };
+use std::io;
+use std::io::{Read, Write};
 use std::process::Abort;
 use std::test::Fail;
 
@@ -69,16 +71,64 @@ fn a_sink_holds_what_it_took(rt: HostRuntime) -> Result<(), Fail> {
     expect_held(&rt, 4, 3, &[], b"abcd")
 }
 
+/// Reads and writes, but fails at the first call.
+#[derive(Drop)]
+struct FirstFails<T> {
+    inner: T,
+    failed: bool,
+}
+
+impl<T> FirstFails<T> {
+    fn first(&mut self) -> io::Result<()> {
+        if self.failed {
+            return Ok(());
+        }
+        self.failed = true;
+        Err(io::Error::from(io::ErrorKind::Interrupted))
+    }
+}
+
+impl<T: Read> Read for FirstFails<T> {
+    fn read(&mut self, buf: &mut [u8]) -> io::Result<usize> {
+        self.first()?;
+        self.inner.read(buf)
+    }
+}
+
+impl<T: Write> Write for FirstFails<T> {
+    fn write(&mut self, piece: &[u8]) -> io::Result<usize> {
+        self.first()?;
+        self.inner.write(piece)
+    }
+
+    fn flush(&mut self) -> io::Result<()> {
+        self.inner.flush()
+    }
+}
+
 #[test]
 fn readers_and_writers_of_std(rt: HostRuntime) -> Result<(), Fail> {
-    let mut source = StdSource::new("abc".as_bytes());
+    let mut source = StdSource::new(FirstFails {
+        inner: "abc".as_bytes(),
+        failed: false,
+    });
     let mut buf = [0; 2];
+    assert_eq!(rt; source.read(&mut buf), Err(Failed));
     assert_eq!(rt; source.read(&mut buf), Ok(2));
+    assert_eq!(rt; &buf, b"ab");
+    assert_eq!(rt; source.read(&mut buf), Ok(1));
+    assert_eq!(rt; source.read(&mut buf), Ok(0));
     let mut room = [0; 3];
-    let mut sink = StdSink::new(&mut room[..]);
-    assert_eq!(rt; write_all(&mut sink, &buf), Ok(()));
+    let mut sink = StdSink::new(FirstFails {
+        inner: &mut room[..],
+        failed: false,
+    });
+    assert_eq!(rt; sink.write(b"ab"), Err(Failed));
+    assert_eq!(rt; write_all(&mut sink, b"ab"), Ok(()));
     assert_eq!(rt; sink.write(b"cd"), Ok(1));
     assert_eq!(rt; sink.write(b"d"), Err(Failed));
+    drop(sink);
+    assert_eq!(rt; &room, b"abc");
     Ok(())
 }
 

@@ -67,7 +67,7 @@ impl Sink for TextSink {
     ghost use Rattle.std.specs.Prelude.{Some};
     ghost use Rattle.gate_outside.specs.Text.{RoomWrites};
 
-    ghost held = { λ sink. Some sink.held };
+    ghost contents = { λ sink. Some sink.held };
 
     ghost faults = { λ sink. sink.plan.faults };
 

@@ -64,7 +64,7 @@ impl Source for TextSource {
     ghost use Rattle.std.specs.Prelude.{Some};
     ghost use Rattle.gate_outside.specs.Text.{TextReads};
 
-    ghost left = { λ source. Some source.left };
+    ghost remaining = { λ source. Some source.left };
 
     ghost faults = { λ source. source.plan.faults };
 

@@ -10,8 +10,8 @@ use Rattle.usbgate.specs.Output.{out_client, out_host, told_notes}
 use Rattle.usbgate.specs.Stands.{Gains, Takes}
 use Rattle.usbgate.specs.Tape.{client_ended, host_ended}
 use Rattle.usbgate.specs.Text.{gained, sent_text}
-use Rattle.usbgate.specs.Play.{has_refusal}
-use Rattle.usbgate.specs.Replays.{HasSeen, Sees}
+use Rattle.usbgate.specs.Replay.{has_refusal}
+use Rattle.usbgate.specs.inner.Replay.{HasSeen, Sees}
 
 -- ---- each note is a refusal
 

@@ -6,6 +6,7 @@ pub mod Refusing
 pub mod Rows
 pub mod Sound
 pub mod Stopping
+pub mod Digits
 pub mod Lines
 pub mod Events
 pub mod Stages

@@ -8,16 +8,16 @@ use Rattle.std.proofs.Math.Seq.{take-suc}
 use Rattle.std.proofs.lemmas.Bool.{eqb-true, ltb-false, false_from_ne_true}
 use Rattle.std.specs.List.{position_or_len}
 use Rattle.usbgate.specs.Tape.{before_first, lines_of}
-use Rattle.usbgate.specs.Run.{EndsALine, EndsNoLine}
+use Rattle.usbgate.specs.Run.{EndsALine, HasNoLF}
 
 -- ---- LFs
 
 not_lf : (b : ℕ) → (b ≡ 10 → ⊥) → nat_eq b 10 ≡ false
 not_lf b ne = false_from_ne_true (nat_eq b 10) (λ e. ne (eqb-true b 10 e))
 
-pub EndsNoLine-append : (xs ys : List ℕ) → EndsNoLine xs → EndsNoLine ys → EndsNoLine (xs ++ ys)
-EndsNoLine-append [] ys p q = q
-EndsNoLine-append (x ∷ xs) ys p q = (p.0, EndsNoLine-append xs ys p.1 q)
+pub HasNoLF-append : (xs ys : List ℕ) → HasNoLF xs → HasNoLF ys → HasNoLF (xs ++ ys)
+HasNoLF-append [] ys p q = q
+HasNoLF-append (x ∷ xs) ys p q = (p.0, HasNoLF-append xs ys p.1 q)
 
 pub EndsALine-append : (whole line : List ℕ) → EndsALine whole → EndsALine (line ++ 10 ∷ []) → EndsALine (whole ++ (line ++ 10 ∷ []))
 EndsALine-append [] line p q = q
@@ -32,13 +32,13 @@ EndsALine-line (b ∷ c ∷ bs) = EndsALine-line (c ∷ bs)
 
 -- ---- the first line
 
-pub lines_of-line : (part rest : List ℕ) → EndsNoLine part → lines_of (part ++ 10 ∷ rest) ≡ (part ++ 10 ∷ []) ∷ lines_of rest
+pub lines_of-line : (part rest : List ℕ) → HasNoLF part → lines_of (part ++ 10 ∷ rest) ≡ (part ++ 10 ∷ []) ∷ lines_of rest
 lines_of-line [] rest p = refl
 lines_of-line (b ∷ bs) rest p =
     ap (λ (t : Bool). cond t ((10 ∷ []) ∷ lines_of (bs ++ 10 ∷ rest)) (before_first b (lines_of (bs ++ 10 ∷ rest)))) (not_lf b p.0)
     ∙ ap (before_first b) (lines_of-line bs rest p.1)
 
-pub lines_of-last : (b : ℕ) (bs : List ℕ) → EndsNoLine (b ∷ bs) → lines_of (b ∷ bs) ≡ (b ∷ bs) ∷ []
+pub lines_of-last : (b : ℕ) (bs : List ℕ) → HasNoLF (b ∷ bs) → lines_of (b ∷ bs) ≡ (b ∷ bs) ∷ []
 lines_of-last b [] p = ap (λ (t : Bool). cond t ((10 ∷ []) ∷ []) ((b ∷ []) ∷ [])) (not_lf b p.0)
 lines_of-last b (c ∷ bs) p =
     ap (λ (t : Bool). cond t ((10 ∷ []) ∷ lines_of (c ∷ bs)) (before_first b (lines_of (c ∷ bs)))) (not_lf b p.0) ∙ ap (before_first b) (lines_of-last c bs p.1)
@@ -54,7 +54,7 @@ first_of b [] = ([], [], refl)
 first_of b (line ∷ lines) = (line, lines, refl)
 
 -- it begins with all that has come of it
-pub first-part : (b : ℕ) (bs later : List ℕ) → EndsNoLine (b ∷ bs) → First ((b ∷ bs) ++ later) (b ∷ bs)
+pub first-part : (b : ℕ) (bs later : List ℕ) → HasNoLF (b ∷ bs) → First ((b ∷ bs) ++ later) (b ∷ bs)
 first-part b [] later p =
     let f = first_of b (lines_of later) in
     record {
@@ -72,7 +72,7 @@ first-part b (c ∷ bs) later p =
 
 -- ---- where the first LF is
 
-no_lf : (xs : List ℕ) → ((k : ℕ) → k < length xs → nat_eq (get_or xs k 0) 10 ≡ false) → EndsNoLine xs
+no_lf : (xs : List ℕ) → ((k : ℕ) → k < length xs → nat_eq (get_or xs k 0) 10 ≡ false) → HasNoLF xs
 no_lf [] h = tt
 no_lf (x ∷ xs) h =
     let none : nat_eq x 10 ≡ false = h 0 (omega arith) in (
@@ -80,7 +80,7 @@ no_lf (x ∷ xs) h =
       no_lf xs (λ k lt. h (suc k) (omega arith)),
     )
 
-pub line_end-some : (xs : List ℕ) (i : ℕ) → position (λ b. nat_eq b 10) xs ≡ Some i → (i < length xs) × EndsNoLine (take i xs) × (take (i + 1) xs ≡ take i xs ++ 10 ∷ [])
+pub line_end-some : (xs : List ℕ) (i : ℕ) → position (λ b. nat_eq b 10) xs ≡ Some i → (i < length xs) × HasNoLF (take i xs) × (take (i + 1) xs ≡ take i xs ++ 10 ∷ [])
 line_end-some xs i e =
     let at = position-Some (λ b. nat_eq b 10) xs i 0 e in (
       at.0,
@@ -96,7 +96,7 @@ not-true : (t : Bool) → not t ≡ true → t ≡ false
 not-true true e = sym e
 not-true false e = refl
 
-pub line_end-none : (xs : List ℕ) → position (λ b. nat_eq b 10) xs ≡ None → EndsNoLine xs
+pub line_end-none : (xs : List ℕ) → position (λ b. nat_eq b 10) xs ≡ None → HasNoLF xs
 line_end-none xs e =
     let all = none_found xs (position_or_len (λ b. nat_eq b 10) xs) _ refl e in
     no_lf xs (λ k lt. let below : k < position_or_len (λ b. nat_eq b 10) xs = omega arith in not-true _ (prefix_len_passes (λ b. not (nat_eq b 10)) xs k 0 below))

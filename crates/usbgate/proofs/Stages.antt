@@ -1,17 +1,20 @@
--- A player takes its tape piece by piece, and however the tape goes on, its text begins with what was told.
-use Rattle.std.proofs.Common.{◌≡◌, ℕ, ◌+◌, ◌-◌, ◌<◌, ◌≤◌, Bool, true, false, cond, List, [], ◌∷◌, ◌++◌, length, take, drop, nat_eq, nat_lt, position, Option, Some, None, refl, sym, ap, subst, ◌∙◌, append_assoc, arith}
+-- A reader takes its tape piece by piece, and however the tape goes on, its text begins with what was told.
+use Rattle.std.proofs.Common.{◌≡◌, ℕ, ◌+◌, ◌-◌, ◌<◌, ◌≤◌, Bool, true, false, cond, List, [], ◌∷◌, ◌++◌, length, take, drop, nat_eq, nat_lt, position, option_map, Option, Some, None, refl, sym, ap, subst, ◌∙◌, append_assoc, arith}
 use Rattle.std.proofs.lemmas.List.{append-nil, length-append, length-drop, take-append-drop, take_rest}
 use Rattle.std.proofs.lemmas.Bool.{lt-ltb}
+use Rattle.std.proofs.lemmas.Option.{none-some, same_Some}
 use Rattle.std.proofs.Math.Seq.{take-add}
-use Rattle.usbgate.specs.declared.player.Player.{Player}
+use Rattle.usbgate.specs.declared.tape_reader.TapeReader.{TapeReader}
 use Rattle.usbgate.specs.declared.status.Status.{Status}
 use Rattle.usbgate.specs.Tape.{lines_of, content, says}
 use Rattle.usbgate.specs.Text.{made_text, bad_line}
-use Rattle.usbgate.specs.Play.{Playing, start, tape_limit, line_by, line_of, Played, on_line, play_lines, last_line, replay_text, status_of, replay_status}
-use Rattle.usbgate.specs.Run.{EndsALine, EndsNoLine}
-use Rattle.usbgate.specs.Replays.{GoesOn}
-use Rattle.usbgate.specs.Players.{with_text, Stage, Spoilt, Took, Finished, Closes, Stepped, AllRead, TookLast, Spoils, TookLine, Kept}
-use Rattle.usbgate.proofs.Lines.{EndsNoLine-append, EndsALine-append, EndsALine-line, lines_of-line, lines_of-last, first-part, line_end-some, line_end-none}
+use Rattle.usbgate.specs.Events.{Event}
+use Rattle.usbgate.specs.Command.{tape_limit, one_further, on_line}
+use Rattle.usbgate.specs.Replay.{on_saying}
+use Rattle.usbgate.specs.Run.{EndsALine, HasNoLF}
+use Rattle.usbgate.specs.inner.Replay.{ReplayProgress, ReplayReading, replay_begin, replay_line, replay_lines, replay_last, replay_text, replay_end, replay_status, GoesOn}
+use Rattle.usbgate.specs.inner.TapeReader.{with_text, Stage, Spoilt, Took, Finished, Closes, Stepped, AllRead, TookLast, Spoils, TookLine, Kept}
+use Rattle.usbgate.proofs.Lines.{HasNoLF-append, EndsALine-append, EndsALine-line, lines_of-line, lines_of-last, first-part, line_end-some, line_end-none}
 
 -- ---- the tape's lines
 
@@ -21,24 +24,24 @@ cut whole pending read piece later e =
     append_assoc read piece later ∙ ap (λ (l : List ℕ). l ++ (piece ++ later)) e ∙ append_assoc whole pending (piece ++ later)
     ∙ ap (λ (l : List ℕ). whole ++ l) (sym (append_assoc pending piece later))
 
-whole_line : (line front later : List ℕ) → line ≡ front ++ 10 ∷ [] → EndsNoLine front → lines_of (line ++ later) ≡ line ∷ lines_of later
+whole_line : (line front later : List ℕ) → line ≡ front ++ 10 ∷ [] → HasNoLF front → lines_of (line ++ later) ≡ line ∷ lines_of later
 whole_line line front later e p =
     ap (λ (l : List ℕ). lines_of (l ++ later)) e ∙ ap lines_of (append_assoc front (10 ∷ []) later) ∙ lines_of-line front later p ∙ ap (λ (l : List ℕ). l ∷ lines_of later) (sym e)
 
 -- the text of the lines that come after those that were read
-plays-next : {p : Player} {read written : List ℕ} (s : Stage p read written) (piece later line : List ℕ) (others : List (List ℕ)) (o : Option (List ℕ × Playing))
-    → lines_of ((p.pending ++ piece) ++ later) ≡ line ∷ others → line_of s.at line ≡ o
-    → play_lines start (lines_of ((read ++ piece) ++ later)) ≡ with_text s.text (on_line s.at (λ z. play_lines z others) o)
+plays-next : {p : TapeReader} {read written : List ℕ} (s : Stage p read written) (piece later line : List ℕ) (others : List (List ℕ)) (o : Option (List ℕ × ReplayProgress))
+    → lines_of ((p.pending ++ piece) ++ later) ≡ line ∷ others → replay_line s.at line ≡ o
+    → replay_lines replay_begin (lines_of ((read ++ piece) ++ later)) ≡ with_text s.text (on_line s.at (λ z. replay_lines z others) o)
 plays-next {p = p} {read = read} s piece later line others o first e =
-    ap (λ (l : List ℕ). play_lines start (lines_of l)) (cut s.whole p.pending read piece later s.read-is) ∙ s.plays ((p.pending ++ piece) ++ later)
-    ∙ ap (λ (ls : List (List ℕ)). with_text s.text (play_lines s.at ls)) first ∙ ap (λ (x : Option (List ℕ × Playing)). with_text s.text (on_line s.at (λ z. play_lines z others) x)) e
+    ap (λ (l : List ℕ). replay_lines replay_begin (lines_of l)) (cut s.whole p.pending read piece later s.read-is) ∙ s.reads ((p.pending ++ piece) ++ later)
+    ∙ ap (λ (ls : List (List ℕ)). with_text s.text (replay_lines s.at ls)) first ∙ ap (λ (x : Option (List ℕ × ReplayProgress)). with_text s.text (on_line s.at (λ z. replay_lines z others) x)) e
 
-with_text-twice : (s t : List ℕ) (x : Played) → with_text s (with_text t x) ≡ with_text (s ++ t) x
+with_text-twice : (s t : List ℕ) (x : ReplayReading) → with_text s (with_text t x) ≡ with_text (s ++ t) x
 with_text-twice s t x = ap (λ (l : List ℕ). record x { text = l }) (sym (append_assoc s t x.text))
 
 -- ---- a line
 
-abbrev bad_play : (s : Playing) → Played
+abbrev bad_play : (s : ReplayProgress) → ReplayReading
 bad_play s = record { text = []; after = s; bad = true }
 
 -- what is written behind the text of good lines
@@ -46,20 +49,33 @@ ends_text : (written old new told text back : List ℕ) → written ++ old ≡ t
 ends_text written old new told text back is more =
     ap (λ (l : List ℕ). (told ++ l) ++ back) (append-nil text) ∙ ap (λ (l : List ℕ). l ++ back) (sym is) ∙ append_assoc written old back ∙ ap (λ (l : List ℕ). written ++ l) (sym more)
 
-spoilt-by : {old : Player} {read written : List ℕ} (new : Player) (status : Status) (piece : List ℕ) (s : Stage old read written) (line : List ℕ → List ℕ) (others : List ℕ → List (List ℕ))
-    → ((later : List ℕ) → lines_of ((old.pending ++ piece) ++ later) ≡ line later ∷ others later) → ((later : List ℕ) → line_of s.at (line later) ≡ None)
+spoilt-by : {old : TapeReader} {read written : List ℕ} (new : TapeReader) (status : Status) (piece : List ℕ) (s : Stage old read written) (line : List ℕ → List ℕ) (others : List ℕ → List (List ℕ))
+    → ((later : List ℕ) → lines_of ((old.pending ++ piece) ++ later) ≡ line later ∷ others later) → ((later : List ℕ) → replay_line s.at (line later) ≡ None)
     → Spoils status s.at old.text new.text → Spoilt status new (read ++ piece) written
 spoilt-by {old = old} {read = read} {written = written} new status piece s line others first bad h =
-    let plays : (later : List ℕ) → play_lines start (lines_of ((read ++ piece) ++ later)) ≡ with_text s.text (bad_play s.at) = λ later. plays-next s piece later (line later) (others later) None (first later) (bad later) in
+    let plays : (later : List ℕ) → replay_lines replay_begin (lines_of ((read ++ piece) ++ later)) ≡ with_text s.text (bad_play s.at) = λ later. plays-next s piece later (line later) (others later) None (first later) (bad later) in
     record {
-      number = s.at.number + 1;
+      number = s.at.lines + 1;
       status-is = h.status-is;
-      text = λ later. ap (λ (x : Played). made_text ++ x.text ++ last_line x) (plays later) ∙ ends_text written old.text new.text made_text s.text (bad_line (s.at.number + 1)) s.text-is h.text-is;
-      outcome = λ later. ap status_of (plays later) ∙ sym h.status-is;
+      text = λ later. ap (λ (x : ReplayReading). made_text ++ x.text ++ replay_last x) (plays later) ∙ ends_text written old.text new.text made_text s.text (bad_line (s.at.lines + 1)) s.text-is h.text-is;
+      outcome = λ later. ap replay_end (plays later) ∙ sym h.status-is;
     }
 
-stage-good : {old : Player} {read written : List ℕ} (new : Player) (piece front : List ℕ) (s : Stage old read written) (o : Option (List ℕ × Playing)) → old.pending ++ piece ≡ front ++ 10 ∷ []
-    → EndsNoLine front → line_of s.at (old.pending ++ piece) ≡ o → GoesOn o new.replay old.text new.text → new.pending ≡ [] → Stage new (read ++ piece) written
+-- the bytes of a good line are counted
+further-bytes : (s : ReplayProgress) (line : List ℕ) (o : Option (List ℕ × List Event)) (x : List ℕ × ReplayProgress) → option_map (one_further s line) o ≡ Some x → x.1.bytes ≡ s.bytes + length line
+further-bytes s line None x e = absurd (none-some x e)
+further-bytes s line (Some y) x e = ap (λ (z : List ℕ × ReplayProgress). z.1.bytes) (sym (same_Some _ _ e))
+
+line-bytes : (past : Bool) (s : ReplayProgress) (line : List ℕ) (x : List ℕ × ReplayProgress) → cond past None (option_map (one_further s line) (on_saying s.kept (says (content line)))) ≡ Some x
+    → x.1.bytes ≡ s.bytes + length line
+line-bytes true s line x e = absurd (none-some x e)
+line-bytes false s line x e = further-bytes s line (on_saying s.kept (says (content line))) x e
+
+replay_line-bytes : (s : ReplayProgress) (line : List ℕ) (x : List ℕ × ReplayProgress) → replay_line s line ≡ Some x → x.1.bytes ≡ s.bytes + length line
+replay_line-bytes s line x e = line-bytes (nat_lt tape_limit (s.bytes + length line)) s line x e
+
+stage-good : {old : TapeReader} {read written : List ℕ} (new : TapeReader) (piece front : List ℕ) (s : Stage old read written) (o : Option (List ℕ × ReplayProgress)) → old.pending ++ piece ≡ front ++ 10 ∷ []
+    → HasNoLF front → replay_line s.at (old.pending ++ piece) ≡ o → GoesOn o new.replay old.text new.text → new.pending ≡ [] → Stage new (read ++ piece) written
 stage-good new piece front s None line part e h cleared = absurd h
 stage-good {old = old} {read = read} {written = written} new piece front s (Some x) line part e h cleared = record {
   whole = s.whole ++ (old.pending ++ piece);
@@ -68,58 +84,60 @@ stage-good {old = old} {read = read} {written = written} new piece front s (Some
   read-is = ap (λ (l : List ℕ). l ++ piece) s.read-is ∙ append_assoc s.whole old.pending piece ∙ sym (append-nil (s.whole ++ (old.pending ++ piece)))
       ∙ ap (λ (l : List ℕ). (s.whole ++ (old.pending ++ piece)) ++ l) (sym cleared);
   whole_lines = subst (λ (l : List ℕ). EndsALine (s.whole ++ l)) (sym line) (EndsALine-append s.whole front s.whole_lines (EndsALine-line front));
-  part_of_line = subst EndsNoLine (sym cleared) tt;
-  within = omega (arith, h.1.used, ap (λ (l : List ℕ). length l) cleared);
+  part_of_line = subst HasNoLF (sym cleared) tt;
+  bytes-is = replay_line-bytes s.at (old.pending ++ piece) x e ∙ omega (arith, s.bytes-is, length-append s.whole (old.pending ++ piece));
+  within = omega (arith, h.1.bytes, ap (λ (l : List ℕ). length l) cleared);
   text-is = ap (λ (l : List ℕ). written ++ l) h.0 ∙ sym (append_assoc written old.text x.0) ∙ ap (λ (l : List ℕ). l ++ x.0) s.text-is ∙ append_assoc made_text s.text x.0;
-  plays = λ later. ap (λ (l : List ℕ). play_lines start (lines_of l)) (append_assoc s.whole (old.pending ++ piece) later) ∙ s.plays ((old.pending ++ piece) ++ later)
-      ∙ ap (λ (ls : List (List ℕ)). with_text s.text (play_lines s.at ls)) (whole_line (old.pending ++ piece) front later line part)
-      ∙ ap (λ (y : Option (List ℕ × Playing)). with_text s.text (on_line s.at (λ z. play_lines z (lines_of later)) y)) e ∙ with_text-twice s.text x.0 (play_lines x.1 (lines_of later));
-  playing = h.1;
+  reads = λ later. ap (λ (l : List ℕ). replay_lines replay_begin (lines_of l)) (append_assoc s.whole (old.pending ++ piece) later) ∙ s.reads ((old.pending ++ piece) ++ later)
+      ∙ ap (λ (ls : List (List ℕ)). with_text s.text (replay_lines s.at ls)) (whole_line (old.pending ++ piece) front later line part)
+      ∙ ap (λ (y : Option (List ℕ × ReplayProgress)). with_text s.text (on_line s.at (λ z. replay_lines z (lines_of later)) y)) e ∙ with_text-twice s.text x.0 (replay_lines x.1 (lines_of later));
+  has_read = h.1;
 }
 
 -- the line is whole
-pub took-line : {old : Player} {read written : List ℕ} (new : Player) (status : Option Status) (piece front : List ℕ) (s : Stage old read written) → piece ≡ front ++ 10 ∷ [] → EndsNoLine front
+pub took-line : {old : TapeReader} {read written : List ℕ} (new : TapeReader) (status : Option Status) (piece front : List ℕ) (s : Stage old read written) → piece ≡ front ++ 10 ∷ [] → HasNoLF front
     → TookLine status s.at (old.pending ++ piece) old new → Took status new (read ++ piece) written
 took-line {old = old} new None piece front s is part h =
     stage-good new piece (old.pending ++ front) s _ (ap (λ (l : List ℕ). old.pending ++ l) is ∙ sym (append_assoc old.pending front (10 ∷ [])))
-    (EndsNoLine-append old.pending front s.part_of_line part) refl h.0 h.1
+    (HasNoLF-append old.pending front s.part_of_line part) refl h.0 h.1
 took-line {old = old} new (Some status) piece front s is part h =
     spoilt-by new status piece s (λ later. old.pending ++ piece) (λ later. lines_of later)
     (λ later. whole_line (old.pending ++ piece) (old.pending ++ front) later (ap (λ (l : List ℕ). old.pending ++ l) is ∙ sym (append_assoc old.pending front (10 ∷ [])))
-    (EndsNoLine-append old.pending front s.part_of_line part)) (λ later. h.0) h.1
+    (HasNoLF-append old.pending front s.part_of_line part)) (λ later. h.0) h.1
 
 -- ---- a part of a line
 
-past_limit : (s : Playing) (line more : List ℕ) → tape_limit < s.used + length line → line_of s (line ++ more) ≡ None
+past_limit : (s : ReplayProgress) (line more : List ℕ) → tape_limit < s.bytes + length line → replay_line s (line ++ more) ≡ None
 past_limit s line more past =
-    let over : nat_lt tape_limit (s.used + length (line ++ more)) ≡ true = lt-ltb tape_limit (s.used + length (line ++ more)) (omega (arith, length-append line more)) in
-    ap (λ (t : Bool). cond t None (line_by s (line ++ more) (says (content (line ++ more))))) over
+    let over : nat_lt tape_limit (s.bytes + length (line ++ more)) ≡ true = lt-ltb tape_limit (s.bytes + length (line ++ more)) (omega (arith, length-append line more)) in
+    ap (λ (t : Bool). cond t None (option_map (one_further s (line ++ more)) (on_saying s.kept (says (content (line ++ more)))))) over
 
-kept-spoilt : {old : Player} {read written : List ℕ} (new : Player) (status : Status) (piece : List ℕ) (s : Stage old read written) (part : List ℕ) → old.pending ++ piece ≡ part → EndsNoLine part
-    → tape_limit < s.at.used + length part → Spoils status s.at old.text new.text → Spoilt status new (read ++ piece) written
-kept-spoilt {old = old} new status piece s [] is none past h = let room : s.at.used + old.replay.left ≡ tape_limit = s.playing.used in absurd (omega arith)
+kept-spoilt : {old : TapeReader} {read written : List ℕ} (new : TapeReader) (status : Status) (piece : List ℕ) (s : Stage old read written) (part : List ℕ) → old.pending ++ piece ≡ part → HasNoLF part
+    → tape_limit < s.at.bytes + length part → Spoils status s.at old.text new.text → Spoilt status new (read ++ piece) written
+kept-spoilt {old = old} new status piece s [] is none past h = let room_of : s.at.bytes + old.replay.room ≡ tape_limit = s.has_read.bytes in absurd (omega arith)
 kept-spoilt new status piece s (b ∷ bs) is none past h =
     spoilt-by new status piece s (λ later. (b ∷ bs) ++ (first-part b bs later none).more) (λ later. (first-part b bs later none).others)
     (λ later. ap (λ (l : List ℕ). lines_of (l ++ later)) is ∙ (first-part b bs later none).is) (λ later. past_limit s.at (b ∷ bs) (first-part b bs later none).more past) h
 
-pub took-kept : {old : Player} {read written : List ℕ} (new : Player) (status : Option Status) (piece : List ℕ) (s : Stage old read written) → EndsNoLine piece
+pub took-kept : {old : TapeReader} {read written : List ℕ} (new : TapeReader) (status : Option Status) (piece : List ℕ) (s : Stage old read written) → HasNoLF piece
     → Kept status s.at (old.pending ++ piece) old new → Took status new (read ++ piece) written
-took-kept {old = old} {read = read} {written = written} new None piece s part h = subst (λ (p : Player). Stage p (read ++ piece) written) (sym h.0) (record {
+took-kept {old = old} {read = read} {written = written} new None piece s part h = subst (λ (p : TapeReader). Stage p (read ++ piece) written) (sym h.0) (record {
   whole = s.whole;
   text = s.text;
   at = s.at;
   read-is = ap (λ (l : List ℕ). l ++ piece) s.read-is ∙ append_assoc s.whole old.pending piece;
   whole_lines = s.whole_lines;
-  part_of_line = EndsNoLine-append old.pending piece s.part_of_line part;
+  part_of_line = HasNoLF-append old.pending piece s.part_of_line part;
+  bytes-is = s.bytes-is;
   within = h.1;
   text-is = s.text-is;
-  plays = s.plays;
-  playing = s.playing;
+  reads = s.reads;
+  has_read = s.has_read;
 })
-took-kept {old = old} new (Some status) piece s part h = kept-spoilt new status piece s (old.pending ++ piece) refl (EndsNoLine-append old.pending piece s.part_of_line part) h.0 h.1
+took-kept {old = old} new (Some status) piece s part h = kept-spoilt new status piece s (old.pending ++ piece) refl (HasNoLF-append old.pending piece s.part_of_line part) h.0 h.1
 
 -- what is spoilt stays so
-pub took-more : (p : Player) (status : Status) (read written piece : List ℕ) (n : ℕ) → Spoilt status p (read ++ take n piece) written → Spoilt status p (read ++ piece) written
+pub took-more : (p : TapeReader) (status : Status) (read written piece : List ℕ) (n : ℕ) → Spoilt status p (read ++ take n piece) written → Spoilt status p (read ++ piece) written
 took-more p status read written piece n s =
     let more : (later : List ℕ) → (read ++ piece) ++ later ≡ (read ++ take n piece) ++ (drop n piece ++ later) =
     λ later. ap (λ (l : List ℕ). (read ++ l) ++ later) (sym (take-append-drop n piece)) ∙ ap (λ (l : List ℕ). l ++ later) (sym (append_assoc read (take n piece) (drop n piece)))
@@ -133,36 +151,36 @@ took-more p status read written piece n s =
 
 -- ---- the end
 
-pub last-none : {old : Player} {read written : List ℕ} → Stage old read written → old.pending ≡ [] → AllRead old read written
+pub last-none : {old : TapeReader} {read written : List ℕ} → Stage old read written → old.pending ≡ [] → AllRead old read written
 last-none {old = old} {read = read} s none = record {
   text = s.text;
   at = s.at;
   text-is = s.text-is;
-  plays = ap (λ (l : List ℕ). play_lines start (lines_of l)) (s.read-is ∙ ap (λ (l : List ℕ). s.whole ++ l) none) ∙ s.plays [] ∙ ap (λ (l : List ℕ). record { text = l; after = s.at; bad = false }) (append-nil s.text);
-  playing = s.playing;
+  reads = ap (λ (l : List ℕ). replay_lines replay_begin (lines_of l)) (s.read-is ∙ ap (λ (l : List ℕ). s.whole ++ l) none) ∙ s.reads [] ∙ ap (λ (l : List ℕ). record { text = l; after = s.at; bad = false }) (append-nil s.text);
+  has_read = s.has_read;
 }
 
 -- the last line has no LF
-plays-last : {p : Player} {read written : List ℕ} (s : Stage p read written) (o : Option (List ℕ × Playing)) (line : List ℕ) → p.pending ≡ line → (line ≡ [] → ⊥) → line_of s.at line ≡ o
-    → play_lines start (lines_of read) ≡ with_text s.text (on_line s.at (λ z. play_lines z []) o)
+plays-last : {p : TapeReader} {read written : List ℕ} (s : Stage p read written) (o : Option (List ℕ × ReplayProgress)) (line : List ℕ) → p.pending ≡ line → (line ≡ [] → ⊥) → replay_line s.at line ≡ o
+    → replay_lines replay_begin (lines_of read) ≡ with_text s.text (on_line s.at (λ z. replay_lines z []) o)
 plays-last s o [] is some e = absurd (some refl)
 plays-last {p = p} {read = read} s o (b ∷ bs) is some e =
-    ap (λ (l : List ℕ). play_lines start (lines_of l)) (s.read-is ∙ ap (λ (l : List ℕ). s.whole ++ l) is) ∙ s.plays (b ∷ bs)
-    ∙ ap (λ (ls : List (List ℕ)). with_text s.text (play_lines s.at ls)) (lines_of-last b bs (subst EndsNoLine is s.part_of_line))
-    ∙ ap (λ (x : Option (List ℕ × Playing)). with_text s.text (on_line s.at (λ z. play_lines z []) x)) e
+    ap (λ (l : List ℕ). replay_lines replay_begin (lines_of l)) (s.read-is ∙ ap (λ (l : List ℕ). s.whole ++ l) is) ∙ s.reads (b ∷ bs)
+    ∙ ap (λ (ls : List (List ℕ)). with_text s.text (replay_lines s.at ls)) (lines_of-last b bs (subst HasNoLF is s.part_of_line))
+    ∙ ap (λ (x : Option (List ℕ × ReplayProgress)). with_text s.text (on_line s.at (λ z. replay_lines z []) x)) e
 
-last-good : {old : Player} {read written : List ℕ} (new : Player) (s : Stage old read written) (o : Option (List ℕ × Playing)) → (old.pending ≡ [] → ⊥) → line_of s.at old.pending ≡ o
+last-good : {old : TapeReader} {read written : List ℕ} (new : TapeReader) (s : Stage old read written) (o : Option (List ℕ × ReplayProgress)) → (old.pending ≡ [] → ⊥) → replay_line s.at old.pending ≡ o
     → GoesOn o new.replay old.text new.text → AllRead new read written
 last-good new s None some e h = absurd h
 last-good {old = old} {read = read} {written = written} new s (Some x) some e h = record {
   text = s.text ++ x.0;
   at = x.1;
   text-is = ap (λ (l : List ℕ). written ++ l) h.0 ∙ sym (append_assoc written old.text x.0) ∙ ap (λ (l : List ℕ). l ++ x.0) s.text-is ∙ append_assoc made_text s.text x.0;
-  plays = plays-last s (Some x) old.pending refl some e ∙ ap (λ (l : List ℕ). record { text = s.text ++ l; after = x.1; bad = false }) (append-nil x.0);
-  playing = h.1;
+  reads = plays-last s (Some x) old.pending refl some e ∙ ap (λ (l : List ℕ). record { text = s.text ++ l; after = x.1; bad = false }) (append-nil x.0);
+  has_read = h.1;
 }
 
-pub took-last : {old : Player} {read written : List ℕ} (new : Player) (status : Option Status) (s : Stage old read written) → (old.pending ≡ [] → ⊥)
+pub took-last : {old : TapeReader} {read written : List ℕ} (new : TapeReader) (status : Option Status) (s : Stage old read written) → (old.pending ≡ [] → ⊥)
     → TookLine status s.at (old.pending ++ []) old new → TookLast status new read written
 took-last {old = old} new None s some h =
     let now = subst (λ (l : List ℕ). TookLine None s.at l old new) (append-nil old.pending) h in last-good new s _ some refl now.0
@@ -170,22 +188,22 @@ took-last {old = old} {written = written} new (Some status) s some h =
     let now = subst (λ (l : List ℕ). TookLine (Some status) s.at l old new) (append-nil old.pending) h in
     let plays = plays-last s None old.pending refl some now.0 in
     record {
-      text = ap (λ (x : Played). made_text ++ x.text ++ last_line x) plays ∙ ends_text written old.text new.text made_text s.text (bad_line (s.at.number + 1)) s.text-is now.1.text-is;
-      outcome = ap status_of plays ∙ sym now.1.status-is;
+      text = ap (λ (x : ReplayReading). made_text ++ x.text ++ replay_last x) plays ∙ ends_text written old.text new.text made_text s.text (bad_line (s.at.lines + 1)) s.text-is now.1.text-is;
+      outcome = ap replay_end plays ∙ sym now.1.status-is;
     }
 
 -- ---- a front of the text
 
 -- however the tape goes on, its text begins with what was told
-pub text_begins : {p : Player} {read written : List ℕ} → Stage p read written → (later : List ℕ) → (back : List ℕ) × (replay_text (read ++ later) ≡ (written ++ p.text) ++ back)
+pub text_begins : {p : TapeReader} {read written : List ℕ} → Stage p read written → (later : List ℕ) → (back : List ℕ) × (replay_text (read ++ later) ≡ (written ++ p.text) ++ back)
 text_begins {p = p} {read = read} {written = written} s later =
-    let y = play_lines s.at (lines_of (p.pending ++ later)) in
-    let plays : play_lines start (lines_of (read ++ later)) ≡ with_text s.text y =
-    ap (λ (l : List ℕ). play_lines start (lines_of (l ++ later))) s.read-is ∙ ap (λ (l : List ℕ). play_lines start (lines_of l)) (append_assoc s.whole p.pending later) ∙ s.plays (p.pending ++ later) in
-    let back = y.text ++ last_line (with_text s.text y) in (
+    let y = replay_lines s.at (lines_of (p.pending ++ later)) in
+    let plays : replay_lines replay_begin (lines_of (read ++ later)) ≡ with_text s.text y =
+    ap (λ (l : List ℕ). replay_lines replay_begin (lines_of (l ++ later))) s.read-is ∙ ap (λ (l : List ℕ). replay_lines replay_begin (lines_of l)) (append_assoc s.whole p.pending later) ∙ s.reads (p.pending ++ later) in
+    let back = y.text ++ replay_last (with_text s.text y) in (
       back,
-      ap (λ (x : Played). made_text ++ x.text ++ last_line x) plays ∙ ap (λ (l : List ℕ). l ++ last_line (with_text s.text y)) (sym (append_assoc made_text s.text y.text))
-          ∙ append_assoc (made_text ++ s.text) y.text (last_line (with_text s.text y)) ∙ ap (λ (l : List ℕ). l ++ back) (sym s.text-is),
+      ap (λ (x : ReplayReading). made_text ++ x.text ++ replay_last x) plays ∙ ap (λ (l : List ℕ). l ++ replay_last (with_text s.text y)) (sym (append_assoc made_text s.text y.text))
+          ∙ append_assoc (made_text ++ s.text) y.text (replay_last (with_text s.text y)) ∙ ap (λ (l : List ℕ). l ++ back) (sym s.text-is),
     )
 
 -- ---- a piece
@@ -197,7 +215,7 @@ step_within piece from len within e =
     omega (arith, length-drop from piece)
 
 -- the next line of a piece
-pub took-step : {old : Player} {written : List ℕ} (read : List ℕ) (new : Player) (status : Option Status) (piece : List ℕ) (from len : ℕ) (s : Stage old (read ++ take from piece) written)
+pub took-step : {old : TapeReader} {written : List ℕ} (read : List ℕ) (new : TapeReader) (status : Option Status) (piece : List ℕ) (from len : ℕ) (s : Stage old (read ++ take from piece) written)
     → Some len ≡ position (λ b. nat_eq b 10) (take (length piece - from) (drop from piece))
     → TookLine status s.at (old.pending ++ take (from + len + 1 - from) (drop from piece)) old new → Took status new (read ++ take (from + len + 1) piece) written
 took-step {old = old} {written = written} read new status piece from len s e h =
@@ -210,7 +228,7 @@ took-step {old = old} {written = written} read new status piece from len s e h =
     (subst (λ (n : ℕ). TookLine status s.at (old.pending ++ take n (drop from piece)) old new) more h))
 
 -- what comes after the last LF of a piece
-pub took-rest : {old : Player} {written : List ℕ} (read : List ℕ) (new : Player) (status : Option Status) (piece : List ℕ) (from : ℕ) (s : Stage old (read ++ take from piece) written)
+pub took-rest : {old : TapeReader} {written : List ℕ} (read : List ℕ) (new : TapeReader) (status : Option Status) (piece : List ℕ) (from : ℕ) (s : Stage old (read ++ take from piece) written)
     → None ≡ position (λ b. nat_eq b 10) (take (length piece - from) (drop from piece))
     → Kept status s.at (old.pending ++ take (length piece - from) (drop from piece)) old new → Took status new (read ++ piece) written
 took-rest {old = old} {written = written} read new status piece from s e h =
@@ -218,9 +236,23 @@ took-rest {old = old} {written = written} read new status piece from s e h =
     subst (λ (l : List ℕ). Took status new l written) (append_assoc read (take from piece) (drop from piece) ∙ ap (λ (l : List ℕ). read ++ l) (take-append-drop from piece))
     (took-kept new status (drop from piece) s none (subst (λ (l : List ℕ). Kept status s.at (old.pending ++ l) old new) (take_rest piece from) h))
 
+-- ---- what may still come
+
+-- how many bytes the tape may still have
+abbrev pub room_of : TapeReader → ℕ
+room_of p = p.replay.room - length p.pending
+
+pub room-is : {p : TapeReader} {read written : List ℕ} → Stage p read written → room_of p + length read ≡ tape_limit
+room-is {p = p} s = let used : s.at.bytes + p.replay.room ≡ tape_limit = s.has_read.bytes in omega (arith, s.bytes-is, s.within, ap (λ (l : List ℕ). length l) s.read-is, length-append s.whole p.pending)
+
+-- a piece takes of it
+pub room-falls : {p q : TapeReader} {read written told : List ℕ} (piece : List ℕ) → Stage p read written → Stage q (read ++ piece) told → (piece ≡ [] → ⊥) → room_of q < room_of p
+room-falls [] s t some = absurd (some refl)
+room-falls {p = p} {q = q} {read = read} (b ∷ bs) s t some = omega (arith, room-is s, room-is t, length-append read (b ∷ bs))
+
 -- ---- a step
 
-pub closes-end : (status : Status) (p : Player) (piece read written : List ℕ) → piece ≡ [] → Finished status p read written → Closes status p piece read written
+pub closes-end : (status : Status) (p : TapeReader) (piece read written : List ℕ) → piece ≡ [] → Finished status p read written → Closes status p piece read written
 closes-end status p piece read written e f =
     let whole : (later : List ℕ) → later ≡ [] → (read ++ piece) ++ later ≡ read =
     λ later none. ap (λ (l : List ℕ). (read ++ l) ++ later) e ∙ ap (λ (l : List ℕ). (read ++ []) ++ l) none ∙ append-nil (read ++ []) ∙ append-nil read in
@@ -230,9 +262,9 @@ closes-end status p piece read written e f =
       bad = λ some. absurd (some e);
     }
 
-pub stepped-take : (status : Option Status) (p : Player) (piece read written : List ℕ) → Took status p (read ++ piece) written → Stepped status p piece read written
-stepped-take None p piece read written s = s
-stepped-take (Some status) p piece read written s = record {
+pub stepped-take : (status : Option Status) (p : TapeReader) (piece read written : List ℕ) → (piece ≡ [] → ⊥) → Took status p (read ++ piece) written → Stepped status p piece read written
+stepped-take None p piece read written some s = (some, s)
+stepped-take (Some status) p piece read written some s = record {
   text = λ later none. s.text later;
   outcome = λ later none. s.outcome later;
   bad = λ some. (s.number, s.status-is);

@@ -9,10 +9,10 @@ pub mod Refusals
 pub mod Stands
 pub mod Steps
 pub mod Tape
-pub mod Lines
 pub mod Text
-pub mod Play
+pub mod Command
+pub mod Replay
+pub mod Words
 pub mod Run
-pub mod Replays
-pub mod Players
 pub mod Code
+pub mod inner

@@ -6,25 +6,62 @@ use Rattle.hex.specs.Hex.{decode_of}
 use Rattle.hex.specs.declared.error.FromHexError.{FromHexError}
 use Rattle.usbgate.specs.Events.{Event, ClientPiece, ClientEnd, HostPiece, HostEnd}
 
+-- ---- the bytes with a meaning, by ASCII
+
+abbrev pub LF : ℕ
+LF = 10
+
+abbrev pub SPACE : ℕ
+SPACE = 32
+
+abbrev pub HASH : ℕ
+HASH = 35
+
+abbrev pub DOT : ℕ
+DOT = 46
+
+abbrev pub LETTER_C : ℕ
+LETTER_C = 99
+
+abbrev pub LETTER_H : ℕ
+LETTER_H = 104
+
+-- ---- lines
+
 -- one byte more in front of the first line
 abbrev pub before_first : ℕ → List (List ℕ) → List (List ℕ)
 before_first b [] = (b ∷ []) ∷ []
 before_first b (line ∷ lines) = (b ∷ line) ∷ lines
 
--- a text cut behind each LF (10): each line has its LF, but for a last one that has none
+-- a text cut behind each LF: each line has its LF, but for a last one that has none
 abbrev pub lines_of : List ℕ → List (List ℕ)
 lines_of [] = []
-lines_of (b ∷ bs) = if b == 10 then (10 ∷ []) ∷ lines_of bs else before_first b (lines_of bs)
+lines_of (b ∷ bs) = if b == LF then (LF ∷ []) ∷ lines_of bs else before_first b (lines_of bs)
 
 -- a line without its LF
 abbrev pub content : List ℕ → List ℕ
-content line = strip_last 10 line
+content line = strip_last LF line
 
 -- what a line says
 pub data Says : Type 0 where
   Skip : Says
   Happens : Event → Says
   Bad : Says
+
+-- the line brings bytes, for which memory is needed
+abbrev pub IsPiece : Says → Type 0
+IsPiece Skip = ⊥
+IsPiece (Happens (ClientPiece b)) = Unit {0}
+IsPiece (Happens ClientEnd) = ⊥
+IsPiece (Happens (HostPiece b)) = Unit {0}
+IsPiece (Happens HostEnd) = ⊥
+IsPiece Bad = ⊥
+
+-- an event stands on the line
+abbrev pub IsEvent : Says → Type 0
+IsEvent Skip = ⊥
+IsEvent (Happens e) = Unit {0}
+IsEvent Bad = ⊥
 
 -- a piece has a byte at least: two hexadecimal digits, of either case
 abbrev pub piece_of : (List ℕ → Event) → Result (List ℕ) FromHexError → Says
@@ -37,18 +74,17 @@ abbrev pub end_of : Event → List ℕ → Says
 end_of end [] = Happens end
 end_of end (b ∷ bs) = Bad
 
--- what stands behind the letter of a side: a space (32) and a piece, or a `.` (46)
+-- what stands behind the letter of a side: a space and a piece, or a `.`
 abbrev pub of_side : (List ℕ → Event) → Event → List ℕ → Says
 of_side piece end [] = Bad
-of_side piece end (b ∷ bs) = if b == 32 then piece_of piece (decode_of bs) else if b == 46 then end_of end bs else Bad
+of_side piece end (b ∷ bs) = if b == SPACE then piece_of piece (decode_of bs) else if b == DOT then end_of end bs else Bad
 
--- `#` is 35, `c` is 99, `h` is 104
 abbrev pub says : List ℕ → Says
 says [] = Skip
 says (b ∷ bs) =
-    if b == 35 then Skip
-    else if b == 99 then of_side ClientPiece ClientEnd bs
-    else if b == 104 then of_side HostPiece HostEnd bs
+    if b == HASH then Skip
+    else if b == LETTER_C then of_side ClientPiece ClientEnd bs
+    else if b == LETTER_H then of_side HostPiece HostEnd bs
     else Bad
 
 -- ---- nothing of a side comes after its end

@@ -9,13 +9,13 @@ mod inner;
 mod laws;
 mod note;
 mod packets;
-mod player;
 mod program;
 mod replay;
 mod reply;
 mod status;
 mod stream;
 mod tape;
+mod tape_reader;
 mod text;
 
 pub use event::Event;

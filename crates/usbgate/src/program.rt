@@ -1,14 +1,15 @@
 //! A run of the program, over a tape and a sink.
 
-ghost use Rattle.std.specs.Prelude.{◌≡◌, ◌<◌, ◌⊎◌, List, [], ℕ, length, true, false};
+ghost use Rattle.std.specs.Prelude.{◌≡◌, ◌≢◌, ◌<◌, ◌⊎◌, List, [], ℕ, length, true, false};
 ghost use Rattle.gate_outside.specs.Faults.{Rose};
 ghost use Rattle.usb_base.specs.declared.side.Side.TheVariants.{Client, Host};
-ghost use Rattle.usbgate.specs.Play.{is_replay};
-ghost use Rattle.usbgate.specs.Run.{Ran, HasCauses, texts};
-ghost use Rattle.usbgate.specs.Players.{Stage};
+ghost use Rattle.usbgate.specs.Run.{Leaves, OpensNoLink};
+ghost use Rattle.usbgate.specs.Words.{is_replay, texts};
+ghost use Rattle.usbgate.specs.inner.Causes.{HasCauses};
+ghost use Rattle.usbgate.specs.inner.TapeReader.{Stage};
 
-use crate::player::Player;
 use crate::status::Status;
+use crate::tape_reader::TapeReader;
 use crate::text::USAGE;
 use gate_outside::{Doors, Sink, Source, write_all};
 use std::alloc::Global;
@@ -27,14 +28,15 @@ pub fn run<S: Source, K: Sink, D: Doors>(
 ) -> Status
     requires client_down { (D.link doors.old Client).up ≡ false }
     requires host_down { (D.link doors.old Host).up ≡ false }
-    ensures ran { Ran result (texts words.now) (S.left tape.old) (S.left tape.new) (K.held out.old) (K.held out.new) }
+    ensures leaves { Leaves result (texts words.now) (S.remaining tape.old) (S.remaining tape.new) (K.contents out.old) (K.contents out.new) }
     ensures usage { result ≡ Status.Usage → is_replay (texts words.now) ≡ false }
     ensures no_command { is_replay (texts words.now) ≡ false → (result ≡ Status.Usage) ⊎ (result ≡ Status.WriteFault) }
     ensures untouched { is_replay (texts words.now) ≡ false → tape.new ≡ tape.old }
     ensures read_fault { result ≡ Status.ReadFault → Rose (S.faults tape.old) (S.faults tape.new) }
     ensures write_fault { result ≡ Status.WriteFault → Rose (K.faults out.old) (K.faults out.new) }
-    ensures read_rose { S.faults tape.old < S.faults tape.new → result ≡ Status.ReadFault }
-    ensures write_rose { K.faults out.old < K.faults out.new → result ≡ Status.WriteFault }
+    ensures reads_stand { result ≢ Status.ReadFault → S.faults tape.new ≡ S.faults tape.old }
+    ensures writes_stand { result ≢ Status.WriteFault → K.faults out.new ≡ K.faults out.old }
+    ensures no_links { OpensNoLink result }
     ensures doors { doors.new ≡ doors.old }
 {
     let _ = doors;
@@ -59,53 +61,51 @@ fn says_replay(words: &[&str]) -> bool
 
 /// Reads the tape to its end, and writes its text as it goes.
 fn replay<S: Source, K: Sink>(alloc: Global, tape: &mut S, out: &mut K) -> Status
-    ensures ran { (words : List (List ℕ)) → is_replay words ≡ true → Ran result words (S.left tape.old) (S.left tape.new) (K.held out.old) (K.held out.new) }
+    ensures leaves { (words : List (List ℕ)) → is_replay words ≡ true → Leaves result words (S.remaining tape.old) (S.remaining tape.new) (K.contents out.old) (K.contents out.new) }
     ensures causes { HasCauses result (S.faults tape.old) (S.faults tape.new) (K.faults out.old) (K.faults out.new) }
 {
-    let player = match Player::start(alloc) {
-        Ok(player) => player,
+    let reader = match TapeReader::start(alloc) {
+        Ok(reader) => reader,
         Err(_) => return Status::OutOfMemory,
     };
     let mut buf = match vec![in alloc; 0; CHUNK] {
         Ok(buf) => buf,
         Err(_) => return Status::OutOfMemory,
     };
-    play(alloc, player, &mut buf, tape, out)
+    read_pieces(alloc, reader, &mut buf, tape, out)
 }
 
-/// Puts the tape to the player, a buffer at a time. What text there is is written before each read.
-fn play<S: Source, K: Sink>(
+/// Reads the tape a buffer at a time. What text there is is written before each read.
+fn read_pieces<S: Source, K: Sink>(
     alloc: Global,
-    mut player: Player,
+    mut reader: TapeReader,
     buf: &mut [u8],
     tape: &mut S,
     out: &mut K,
 ) -> Status
-    requires start { Stage player [] [] }
+    requires start { Stage reader [] [] }
     requires room { 0 < length buf.old }
-    ensures ran { (words : List (List ℕ)) → is_replay words ≡ true → Ran result words (S.left tape.old) (S.left tape.new) (K.held out.old) (K.held out.new) }
+    ensures leaves { (words : List (List ℕ)) → is_replay words ≡ true → Leaves result words (S.remaining tape.old) (S.remaining tape.new) (K.contents out.old) (K.contents out.new) }
     ensures causes { HasCauses result (S.faults tape.old) (S.faults tape.new) (K.faults out.old) (K.faults out.new) }
 {
-    for _ in 0..u64::MAX {
-        if let Err(_) = write_all(out, player.text.as_slice()) {
+    loop {
+        if let Err(_) = write_all(out, reader.text.as_slice()) {
             return Status::WriteFault;
         }
-        player.text.clear();
+        reader.text.clear();
         let n = match tape.read(buf) {
             Ok(n) => n,
             Err(_) => return Status::ReadFault,
         };
-        let ended = match player.step(alloc, &buf[..n]) {
+        let ended = match reader.step(alloc, &buf[..n]) {
             Ok(ended) => ended,
             Err(_) => return Status::OutOfMemory,
         };
         if let Some(status) = ended {
-            if let Err(_) = write_all(out, player.text.as_slice()) {
+            if let Err(_) = write_all(out, reader.text.as_slice()) {
                 return Status::WriteFault;
             }
             return status;
         }
     }
-    // It doesn't come here: the limit of a tape ends it long before.
-    Status::OutOfMemory
 }

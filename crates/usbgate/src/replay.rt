@@ -5,10 +5,11 @@ ghost use Rattle.usbgate.specs.Events.{Event as PastEvent, event_of};
 ghost use Rattle.usbgate.specs.Items.{Item};
 ghost use Rattle.usbgate.specs.History.{history};
 ghost use Rattle.usbgate.specs.Output.{counts_of, told_notes};
-ghost use Rattle.usbgate.specs.Tape.{client_ended, host_ended, may_happen};
+ghost use Rattle.usbgate.specs.Tape.{client_ended, host_ended, may_happen, content as content_of, says, IsEvent};
 ghost use Rattle.usbgate.specs.Text.{made_text, sent_text, counts_line};
-ghost use Rattle.usbgate.specs.Play.{Playing, start, tape_limit, line_of, has_refusal};
-ghost use Rattle.usbgate.specs.Replays.{HasSeen, IsPlaying, Sees, GoesOn};
+ghost use Rattle.usbgate.specs.Command.{tape_limit};
+ghost use Rattle.usbgate.specs.Replay.{has_refusal};
+ghost use Rattle.usbgate.specs.inner.Replay.{ReplayProgress, replay_begin, replay_line, HasSeen, HasRead, Sees, GoesOn};
 
 use crate::event::Event;
 use crate::gate::Gate;
@@ -30,9 +31,9 @@ pub struct Replay {
     /// What the event at hand sends to the host.
     to_host: Bytes,
     /// How many lines have been read.
-    number: u64,
+    lines: u64,
     /// How many bytes the tape may still have.
-    left: u64,
+    room: u64,
     client_ended: bool,
     host_ended: bool,
     /// A side was refused.
@@ -42,7 +43,7 @@ pub struct Replay {
 impl Replay {
     /// The replay of which no line has been read. It appends the line of what the gate's making sends.
     pub fn start(alloc: Global, text: &mut Bytes) -> Result<Replay, Memory>
-        ensures start { IfOk result (λ replay. IsPlaying replay start) }
+        ensures start { IfOk result (λ replay. HasRead replay replay_begin) }
         ensures text { OnOk result (text.new ≡ text.old ++ made_text) }
     {
         let mut to_host = Bytes::new(alloc);
@@ -53,8 +54,8 @@ impl Replay {
             gate,
             to_client: Bytes::new(alloc),
             to_host,
-            number: 0,
-            left: TAPE_LIMIT,
+            lines: 0,
+            room: TAPE_LIMIT,
             client_ended: false,
             host_ended: false,
             refused: false,
@@ -62,14 +63,20 @@ impl Replay {
     }
 
     /// Reads the next line, which may have its LF, and appends its text. A bad line changes nothing.
-    pub fn line(&mut self, alloc: Global, line: &[u8], text: &mut Bytes) -> Result<(), LineError>
+    pub fn take_line(
+        &mut self,
+        alloc: Global,
+        line: &[u8],
+        text: &mut Bytes,
+    ) -> Result<(), LineError>
         requires { 0 < length line.now }
-        ensures goes { OnOk result ((s : Playing) → IsPlaying self.old s → GoesOn (line_of s line.now) self.new text.old text.new) }
-        ensures bad { result ≡ Err LineError.Bad → (s : Playing) → IsPlaying self.old s → line_of s line.now ≡ None }
+        ensures goes { OnOk result ((s : ReplayProgress) → HasRead self.old s → GoesOn (replay_line s line.now) self.new text.old text.new) }
+        ensures bad { result ≡ Err LineError.Bad → (s : ReplayProgress) → HasRead self.old s → replay_line s line.now ≡ None }
         ensures same { result ≡ Err LineError.Bad → (self.new ≡ self.old) × (text.new ≡ text.old) }
+        ensures memory { result ≡ Err LineError.Memory → IsEvent (says (content_of line.now)) }
     {
         let len = line.len() as u64;
-        if len > self.left {
+        if len > self.room {
             return Err(LineError::Bad);
         }
         let said = read_line(alloc, content(line))?;
@@ -79,8 +86,8 @@ impl Replay {
             }
             self.see(alloc, event, text)?;
         }
-        self.left -= len;
-        self.number = self.number.saturating_add(1);
+        self.room -= len;
+        self.lines = self.lines.saturating_add(1);
         Ok(())
     }
 
@@ -97,8 +104,8 @@ impl Replay {
     /// Puts the event to the gate, and appends what it sends and tells.
     fn see(&mut self, alloc: Global, event: Event, text: &mut Bytes) -> Result<(), Memory>
         ensures sees { OnOk result ((past : List PastEvent) → HasSeen self.old past → Sees self.new past (event_of event.entry) text.old text.new) }
-        ensures number { self.new.number ≡ self.old.number }
-        ensures left { self.new.left ≡ self.old.left }
+        ensures lines { self.new.lines ≡ self.old.lines }
+        ensures room { self.new.room ≡ self.old.room }
     {
         let notes = self
             .gate
@@ -144,29 +151,29 @@ impl Replay {
     }
 
     /// How many lines have been read.
-    pub fn number(&self) -> u64
-        ensures { (s : Playing) → IsPlaying self.now s → result ≡ s.number }
+    pub fn lines(&self) -> u64
+        ensures { (s : ReplayProgress) → HasRead self.now s → result ≡ s.lines }
     {
-        self.number
+        self.lines
     }
 
     /// Whether the tape may still have so many bytes.
     pub fn has_room(&self, len: usize) -> bool
-        ensures { (s : Playing) → IsPlaying self.now s → IsTrue result ↔ (s.used + len ≤ tape_limit) }
+        ensures { (s : ReplayProgress) → HasRead self.now s → IsTrue result ↔ (s.bytes + len ≤ tape_limit) }
     {
-        len as u64 <= self.left
+        len as u64 <= self.room
     }
 
     /// Whether a side was refused.
     pub fn has_refused(&self) -> bool
-        ensures { (s : Playing) → IsPlaying self.now s → result ≡ has_refusal (history s.past) }
+        ensures { (s : ReplayProgress) → HasRead self.now s → result ≡ has_refusal (history s.kept) }
     {
         self.refused
     }
 
     /// Appends the line of the counts.
     pub fn counts(&self, alloc: Global, text: &mut Bytes) -> Result<(), Memory>
-        ensures { OnOk result ((s : Playing) → IsPlaying self.now s → text.new ≡ text.old ++ counts_line (counts_of (history s.past))) }
+        ensures { OnOk result ((s : ReplayProgress) → HasRead self.now s → text.new ≡ text.old ++ counts_line (counts_of (history s.kept))) }
     {
         push_counts(alloc, &self.gate.counts(), text)
     }

@@ -1,13 +1,12 @@
 //! The lines of a tape.
 
-ghost use Rattle.std.specs.Prelude.{◌≡◌, List, ℕ, IfOk, option_map};
-ghost use Rattle.usbgate.specs.Tape.{content, says, Happens, Bad, piece_of};
+ghost use Rattle.std.specs.Prelude.{◌≡◌, List, ℕ, true, IfOk, option_map};
+ghost use Rattle.usbgate.specs.Tape.{content, says, Happens, Bad, IsPiece, piece_of};
 ghost use Rattle.usbgate.specs.Events.{Event as PastEvent, event_of};
 ghost use Rattle.hex.specs.Hex.{decode_of};
-ghost use Rattle.usbgate.specs.Lines.{said, says_of};
+ghost use Rattle.usbgate.specs.inner.Line.{said, says_of, has_bytes};
 
 use crate::event::Event;
-use hex::FromHexError;
 use std::alloc::Global;
 use usb_base::Memory;
 
@@ -64,10 +63,11 @@ pub fn content(line: &[u8]) -> &[u8]
     line
 }
 
-/// Reads a line, which is given without its LF.
+/// Reads a line, which is given without its LF. It wants memory for the bytes of a piece alone.
 pub fn read_line(alloc: Global, content: &[u8]) -> Result<TapeLine, LineError>
     ensures ok { IfOk result (λ line. says content.now ≡ said line) }
     ensures bad { result ≡ Err LineError.Bad → says content.now ≡ Bad }
+    ensures memory { result ≡ Err LineError.Memory → IsPiece (says content.now) }
 {
     match content {
         [] | [b'#', ..] => Ok(TapeLine::Skip),
@@ -79,19 +79,24 @@ pub fn read_line(alloc: Global, content: &[u8]) -> Result<TapeLine, LineError>
     }
 }
 
-/// Reads the hexadecimal digits of a piece.
+/// Reads the hexadecimal digits of a piece. That they are such is seen before memory is taken.
 fn read_piece(alloc: Global, digits: &[u8]) -> Result<Vec<u8>, LineError>
     ensures ok { IfOk result (λ piece. (happens : List ℕ → PastEvent) → piece_of happens (decode_of digits.now) ≡ Happens (happens piece.items)) }
     ensures bad { result ≡ Err LineError.Bad → (happens : List ℕ → PastEvent) → piece_of happens (decode_of digits.now) ≡ Bad }
+    ensures memory { result ≡ Err LineError.Memory → has_bytes (decode_of digits.now) ≡ true }
 {
-    match hex::decode(alloc, digits) {
-        Ok(piece) => {
-            if piece.is_empty() {
-                return Err(LineError::Bad);
-            }
-            Ok(piece)
-        }
-        Err(FromHexError::OutOfMemory) => Err(LineError::Memory),
-        Err(_) => Err(LineError::Bad),
+    if !are_digits(digits) {
+        return Err(LineError::Bad);
     }
+    hex::decode(alloc, digits).map_err(|_| LineError::Memory)
+}
+
+/// Whether these are the digits of a byte at least.
+fn are_digits(digits: &[u8]) -> bool
+    ensures { result ≡ has_bytes (decode_of digits.now) }
+{
+    if digits.is_empty() || digits.len() % 2 != 0 {
+        return false;
+    }
+    digits.iter().all(|digit| digit.is_ascii_hexdigit())
 }

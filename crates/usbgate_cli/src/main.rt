@@ -2,7 +2,13 @@
 //! run's exit code.
 #![tactic(auto)]
 
+ghost use Rattle.std.specs.Prelude.{◌≡◌, IfOk, drop, map, string_bytes};
+ghost use Rattle.std.specs.Process.{exit_status};
+ghost use Rattle.usbgate.specs.Code.{code_of};
+ghost use Rattle.usbgate.specs.Words.{texts};
+
 use gate_outside::{NoDoors, StdSink, StdSource};
+use std::alloc::Global;
 use std::process::ExitCode;
 use std::rt::Env;
 use std::{env, io};
@@ -10,37 +16,49 @@ use usb_base::Memory;
 use usbgate::{Status, run};
 
 fn main(rt: HostRuntime) -> ExitCode {
-    let status = match words(&rt) {
-        Ok(words) => run_words(&rt, &words),
-        Err(Memory) => Status::OutOfMemory,
-    };
+    exit_code(run_args(&rt))
+}
+
+/// What tells the system how the run ended.
+fn exit_code(status: Status) -> ExitCode
+    ensures { exit_status result ≡ code_of status }
+{
     ExitCode::from(status.code())
 }
 
-/// The words behind the program's name. Where one isn't UTF-8 there are none, and none are no command.
-fn words(rt: &(impl Env + AllocGlobal)) -> Result<Vec<String>, Memory> {
-    let mut words = Vec::new(rt.alloc());
-    match env::args(rt) {
-        Ok(args) => {
-            for word in args.skip(1) {
-                words.push(word)?;
-            }
-        }
-        Err(error) if error.kind() == io::ErrorKind::OutOfMemory => return Err(Memory),
-        Err(_) => {}
-    }
-    Ok(words)
-}
-
-/// Runs the command over the standard streams.
-fn run_words(rt: &(impl Input + Print + AllocGlobal), words: &[String]) -> Status {
-    let mut texts = Vec::new(rt.alloc());
-    for word in words {
-        if texts.push(word.as_str()).is_err() {
-            return Status::OutOfMemory;
-        }
-    }
+/// Runs the command that the arguments name over the standard streams.
+fn run_args(rt: &(impl Env + Input + Print + AllocGlobal)) -> Status {
+    let args = match args(rt) {
+        Ok(args) => args,
+        Err(Memory) => return Status::OutOfMemory,
+    };
+    let words = match words_behind_the_name(rt.alloc(), &args) {
+        Ok(words) => words,
+        Err(Memory) => return Status::OutOfMemory,
+    };
     let mut tape = StdSource::new(rt.reader());
     let mut out = StdSink::new(io::writer(rt));
-    run(rt.alloc(), &texts, &mut tape, &mut out, &mut NoDoors::new())
+    run(rt.alloc(), &words, &mut tape, &mut out, &mut NoDoors::new())
+}
+
+/// The program's name and its words. Where one isn't UTF-8 there are none, and none are no command.
+fn args(rt: &(impl Env + AllocGlobal)) -> Result<Vec<String>, Memory> {
+    match env::args(rt) {
+        Ok(args) => Ok(args.collect(rt.alloc())?),
+        Err(error) if error.kind() == io::ErrorKind::OutOfMemory => Err(Memory),
+        Err(_) => Ok(Vec::new(rt.alloc())),
+    }
+}
+
+/// All words behind the program's name, in order.
+fn words_behind_the_name(alloc: Global, args: &[String]) -> Result<Vec<&str>, Memory>
+    ensures { IfOk result (λ words. texts words.items ≡ drop 1 (map string_bytes args.now)) }
+{
+    let mut words = Vec::new(alloc);
+    if let [_, others @ ..] = args {
+        for arg in others {
+            words.push(arg.as_str())?;
+        }
+    }
+    Ok(words)
 }

@@ -57,6 +57,18 @@ fn faults_of_the_outside(rt: HostRuntime) -> Result<(), Fail> {
     expect_fault(&rt, (1, 1), 229, (&[], &[]), 229, Status::Done)
 }
 
+/// 5,700 reads of one byte.
+#[test]
+fn a_tape_may_come_byte_by_byte(rt: HostRuntime) -> Result<(), Fail> {
+    let mut tape = Bytes::new(rt.alloc());
+    push(&mut tape, "c 0111800500000000\n", 300)?;
+    let mut wanted = Bytes::new(rt.alloc());
+    push_made(&mut wanted)?;
+    push(&mut wanted, NO_DEVICE, 300)?;
+    push(&mut wanted, COUNTS, 1)?;
+    expect_replay(&rt, tape.as_slice(), 1, wanted.as_slice(), Status::Done)
+}
+
 #[test]
 fn a_tape_ends_at_its_limit(rt: HostRuntime) -> Result<(), Fail> {
     let mut line = Bytes::new(rt.alloc());
@@ -68,10 +80,8 @@ fn a_tape_ends_at_its_limit(rt: HostRuntime) -> Result<(), Fail> {
     }
     // The last of 1,024 lines, by its length with its LF.
     for (length, last, status) in [
-        (65_535, COUNTS, Status::Done),
         (65_536, COUNTS, Status::Done),
         (65_537, "bad tape 1024\n", Status::BadTape(1024)),
-        (131_072, "bad tape 1024\n", Status::BadTape(1024)),
     ] {
         let before = tape.len();
         push(&mut tape, "#", length - 1)?;

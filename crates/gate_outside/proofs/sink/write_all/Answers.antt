@@ -10,11 +10,11 @@ loop-done-preserved g c =
     let bytes = c.args.bytes.now in
     let done = c.loop-done.done in
     let n = c.in-Ok.n in
-    let held : List ℕ → Type 0 = Appends (g.K.Sink.held c.loop-done.sink) (g.K.Sink.held c.write.new.self) in
+    let held : List ℕ → Type 0 = Appends (g.K.Sink.contents c.loop-done.sink) (g.K.Sink.contents c.write.new.self) in
     record {
       within = omega (arith, c.in-Ok.ensures.bound, length-take (length bytes - done) (drop done bytes), length-drop done bytes);
-      wrote = subst (Appends (g.K.Sink.held c.args.sink.now) (g.K.Sink.held c.write.new.self)) (sym (take-add done n bytes))
-          (Appends-trans (g.K.Sink.held c.args.sink.now) (g.K.Sink.held c.loop-done.sink) (g.K.Sink.held c.write.new.self) (take done bytes) (take n (drop done bytes)) c.loop-done.invariant.wrote
+      wrote = subst (Appends (g.K.Sink.contents c.args.sink.now) (g.K.Sink.contents c.write.new.self)) (sym (take-add done n bytes))
+          (Appends-trans (g.K.Sink.contents c.args.sink.now) (g.K.Sink.contents c.loop-done.sink) (g.K.Sink.contents c.write.new.self) (take done bytes) (take n (drop done bytes)) c.loop-done.invariant.wrote
           (subst (λ (l : List ℕ). held (take n l)) (take_rest bytes done) c.in-Ok.ensures.bytes));
       stands = c.in-Ok.ensures.cause.stands ∙ c.loop-done.invariant.stands;
     }
@@ -24,5 +24,5 @@ returns-in-Err-clause-err g c = record {
   front = take c.loop-done.done c.args.bytes.now;
   back = drop c.loop-done.done c.args.bytes.now;
   parts = sym (take-append-drop c.loop-done.done c.args.bytes.now);
-  appends = Appends-kept (g.K.Sink.held c.args.sink.now) (g.K.Sink.held c.loop-done.sink) (g.K.Sink.held c.write.new.self) _ c.loop-done.invariant.wrote c.in-Err.ensures.bytes;
+  appends = Appends-kept (g.K.Sink.contents c.args.sink.now) (g.K.Sink.contents c.loop-done.sink) (g.K.Sink.contents c.write.new.self) _ c.loop-done.invariant.wrote c.in-Err.ensures.bytes;
 }

@@ -5,7 +5,7 @@ use Rattle.gate_outside.proofs.sink.write_all.Given as goal
 abbrev pub invariant-loop-done : goal.invariant-loop-done
 invariant-loop-done g l = record {
   within : l.done ≤ length l.bytes;
-  wrote : Appends (g.K.Sink.held l.initial.sink) (g.K.Sink.held l.sink) (take l.done l.bytes);
+  wrote : Appends (g.K.Sink.contents l.initial.sink) (g.K.Sink.contents l.sink) (take l.done l.bytes);
   stands : g.K.Sink.faults l.sink ≡ g.K.Sink.faults l.initial.sink;
 }
 

@@ -1,0 +1,12 @@
+use Rattle.std.proofs.Common.{◌≤◌, ◌-◌, ◌++◌, List, ℕ, length, take}
+use Rattle.usbgate.specs.inner.TapeReader.{Stage}
+use Rattle.usbgate.proofs.tape_reader.TapeReader.take.Given as goal
+
+abbrev pub invariant-loop-len : goal.invariant-loop-len
+invariant-loop-len l = record {
+  within : l.from ≤ length l.piece;
+  stage : (read written : List ℕ) → Stage l.initial.self read written → Stage l.self (read ++ take l.from l.piece) written;
+}
+
+abbrev pub decreases-loop-len : goal.decreases-loop-len
+decreases-loop-len l = length l.piece - l.from
