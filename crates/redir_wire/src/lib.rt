@@ -2,23 +2,16 @@
 #![tactic(auto)]
 
 mod capability;
-mod ep_table;
 mod header;
 mod kind;
-mod laws;
 mod packet;
-mod read;
-mod write;
 
 pub use capability::{
     ANNOUNCED, CONNECT_VERSION, DISCONNECT_ACK, MAX_PACKET_SIZE, WIDE_BULK_LENGTH, WIDE_IDS,
 };
 pub use header::{MAX_LENGTH, read_header};
 pub use kind::{DataKind, Kind, More, PlainKind, Row, Tail, is_left_out};
-pub use laws::{plain_sound, read_again};
 pub use packet::{
     Caps, Connect, EpInfo, Header, HeaderRead, Hello, InterfaceInfo, MAX_INTERFACES, RedirControl,
     Way, WireError, Words,
 };
-pub use read::read_control;
-pub use write::{push_header, write_control};
