@@ -1,5 +1,5 @@
 -- The fields of a packet that moves no data, in wire order, numbers little-endian ("Control packets").
-use Rattle.std.specs.Prelude.{ℕ, ◌==◌, Bool, true, false, List, [], ◌∷◌, ◌++◌, length}
+use Rattle.std.specs.Prelude.{ℕ, ◌+◌, ◌*◌, ◌==◌, Bool, true, false, List, [], ◌∷◌, ◌++◌, length}
 use Rattle.std.specs.Int.{w16, w32}
 use Rattle.usb_base.specs.Number.{le}
 use Rattle.redir_wire.specs.declared.packet.Caps.{Caps}
@@ -13,7 +13,7 @@ use Rattle.redir_wire.specs.declared.packet.RedirControl.TheVariants as controls
 use Rattle.redir_wire.specs.declared.kind.PlainKind.{PlainKind}
 use Rattle.redir_wire.specs.declared.kind.PlainKind.TheVariants as plain
 use Rattle.redir_wire.specs.Capability.{has}
-use Rattle.redir_wire.specs.Table.{plain_row}
+use Rattle.redir_wire.specs.Table.{plain_row, fixed_length}
 use Rattle.redir_wire.specs.Words.{words, halves}
 
 abbrev pub kind_of : RedirControl → PlainKind
@@ -80,9 +80,18 @@ fields caps controls.DisconnectAck = []
 abbrev pub number_of : RedirControl → ℕ
 number_of p = (plain_row (kind_of p)).number
 
+-- how many bytes a hello has behind its text
+abbrev pub words_length : RedirControl → ℕ
+words_length (controls.Hello h) = length h.words * 4
+words_length _ = 0
+
+-- how many bytes follow the header
+abbrev pub length_of : Caps → RedirControl → ℕ
+length_of caps p = fixed_length caps (plain_row (kind_of p)) + words_length p
+
 -- the packet's header with this id
 abbrev pub header_of : ℕ → Caps → RedirControl → Header
-header_of id caps p = record { kind = number_of p; length = length (fields caps p); id = id }
+header_of id caps p = record { kind = number_of p; length = length_of caps p; id = id }
 
 -- a hello is the first packet of its stream, and no other is
 abbrev pub is_hello : RedirControl → Bool

@@ -9,7 +9,7 @@ ghost use Rattle.redir_wire.specs.Header.{headers, header_at, head_size, is_wide
 ghost use Rattle.redir_wire.specs.Reads.{never};
 
 use crate::capability::WIDE_IDS;
-use crate::kind::{Kind, is_left_out};
+use crate::kind::{HELLO, Kind, is_left_out};
 use crate::packet::{Caps, Header, HeaderRead, Way};
 use packet_stream::{Read, ReadError};
 use usb_base::{Reason, array_at, le_u32_at};
@@ -27,7 +27,7 @@ pub fn read_header(first: bool, caps: Caps, way: Way, bytes: &[u8]) -> HeaderRea
         return Ok(Read::Short);
     }
     let number = le_u32_at(bytes, 0);
-    if first != (number == 0) {
+    if first != (number == HELLO) {
         return refused(0, Reason::HelloFirst);
     }
     if is_left_out(number) {

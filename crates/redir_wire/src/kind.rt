@@ -6,6 +6,11 @@ ghost use Rattle.redir_wire.specs.Table.{row, plain_row, data_row, row_of, plain
 use crate::capability::{CONNECT_VERSION, DISCONNECT_ACK, MAX_PACKET_SIZE, WIDE_BULK_LENGTH};
 use crate::packet::{Caps, Way};
 
+/// The number of `usb_redir_hello`.
+pub(crate) const HELLO: u32 = 0;
+/// The number of `usb_redir_interface_info`.
+pub(crate) const INTERFACE_INFO: u32 = 4;
+
 /// The types of packets that move no data of a transfer ("Control packets").
 #[derive(Clone, Copy, Debug, PartialEq, Eq)]
 pub enum PlainKind {
@@ -116,11 +121,23 @@ impl PlainKind {
     {
         match self {
             PlainKind::Hello => both_ways(0, 64, Tail::Words),
-            PlainKind::Connect => Row { more: Some(More { capability: CONNECT_VERSION, bytes: 2 }), ..to_guest(1, 8) },
+            PlainKind::Connect => Row {
+                more: Some(More {
+                    capability: CONNECT_VERSION,
+                    bytes: 2,
+                }),
+                ..to_guest(1, 8)
+            },
             PlainKind::Disconnect => to_guest(2, 0),
             PlainKind::Reset => to_host(3, 0),
             PlainKind::InterfaceInfo => to_guest(4, 132),
-            PlainKind::EpInfo => Row { more: Some(More { capability: MAX_PACKET_SIZE, bytes: 64 }), ..to_guest(5, 96) },
+            PlainKind::EpInfo => Row {
+                more: Some(More {
+                    capability: MAX_PACKET_SIZE,
+                    bytes: 64,
+                }),
+                ..to_guest(5, 96)
+            },
             PlainKind::SetConfiguration => to_host(6, 1),
             PlainKind::GetConfiguration => to_host(7, 0),
             PlainKind::ConfigurationStatus => to_guest(8, 2),
@@ -134,7 +151,10 @@ impl PlainKind {
             PlainKind::StopInterrupt => to_host(16, 1),
             PlainKind::InterruptStatus => to_guest(17, 2),
             PlainKind::Cancel => to_host(21, 0),
-            PlainKind::DisconnectAck => Row { wanted: Some(DISCONNECT_ACK), ..to_host(24, 0) },
+            PlainKind::DisconnectAck => Row {
+                wanted: Some(DISCONNECT_ACK),
+                ..to_host(24, 0)
+            },
         }
     }
 }
@@ -161,7 +181,13 @@ impl DataKind {
     {
         match self {
             DataKind::Control => both_ways(100, 10, Tail::Data),
-            DataKind::Bulk => Row { more: Some(More { capability: WIDE_BULK_LENGTH, bytes: 2 }), ..both_ways(101, 8, Tail::Data) },
+            DataKind::Bulk => Row {
+                more: Some(More {
+                    capability: WIDE_BULK_LENGTH,
+                    bytes: 2,
+                }),
+                ..both_ways(101, 8, Tail::Data)
+            },
             DataKind::Iso => both_ways(102, 4, Tail::Data),
             DataKind::Interrupt => both_ways(103, 4, Tail::Data),
         }

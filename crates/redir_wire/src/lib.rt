@@ -2,9 +2,12 @@
 #![tactic(auto)]
 
 mod capability;
+mod ep_table;
 mod header;
 mod kind;
 mod packet;
+mod read;
+mod write;
 
 pub use capability::{
     ANNOUNCED, CONNECT_VERSION, DISCONNECT_ACK, MAX_PACKET_SIZE, WIDE_BULK_LENGTH, WIDE_IDS,
@@ -15,3 +18,5 @@ pub use packet::{
     Caps, Connect, EpInfo, Header, HeaderRead, Hello, InterfaceInfo, MAX_INTERFACES, RedirControl,
     Way, WireError, Words,
 };
+pub use read::read_control;
+pub use write::{push_header, write_control};

@@ -1,0 +1,194 @@
+//! Reads what stands behind a header.
+
+ghost use Rattle.std.specs.Prelude.{◌≡◌, ◌+◌, ◌*◌, ◌≤◌, ◌&&◌, not, nat_le, length, drop, true, IfOk, OnErr, ◌<◌};
+ghost use Rattle.packet_stream.specs.Format.{reading};
+ghost use Rattle.redir_wire.specs.Table.{plain_row, has_length};
+ghost use Rattle.redir_wire.specs.inner.Sent.{sent_bytes};
+ghost use Rattle.redir_wire.specs.Words.{words_of};
+ghost use Rattle.redir_wire.specs.Places.{hello_at, connect_at, interface_info_at, ep_info_at, fields_at, max_packet_at};
+ghost use Rattle.redir_wire.specs.Bodies.{behind};
+ghost use Rattle.redir_wire.specs.Plain.{controls, count_check, is_plain, takes_memory};
+ghost use Rattle.redir_wire.specs.Header.{is_its_length};
+ghost use Rattle.redir_wire.specs.Reads.{AnswersBehind};
+
+use crate::capability::{CONNECT_VERSION, MAX_PACKET_SIZE};
+use crate::kind::{INTERFACE_INFO, PlainKind};
+use crate::packet::{
+    Caps, Connect, EpInfo, Header, Hello, InterfaceInfo, MAX_INTERFACES, RedirControl, WireError,
+    Words,
+};
+use packet_stream::ReadError;
+use std::alloc::Global;
+use usb_base::{Memory, Reason, array_at, le_u16_at, le_u32_at};
+
+/// Reads the packet whose header this is, from the bytes behind it, as far as they have come: None where fewer than
+/// the header announces are there. An interface_info with more than 32 interfaces is refused as soon as their
+/// number is there, by `Count` at place 0 of these bytes. Only the words of a hello take memory.
+pub fn read_control(
+    alloc: Global,
+    head: &Header,
+    caps: Caps,
+    bytes: &[u8],
+) -> Result<Option<RedirControl>, WireError>
+    requires plain { is_plain head.now.kind ≡ true }
+    requires its_length { is_its_length caps head.now.kind head.now.length ≡ true }
+    ensures { AnswersBehind head.now takes_memory result (reading (behind (controls caps) head.now) bytes.now) }
+{
+    let Some(kind) = PlainKind::numbered(head.kind) else {
+        unreachable!()
+    };
+    if has_too_many(head, bytes) {
+        let (place, reason) = (0, Reason::Count);
+        return Err(ReadError::Refused { place, reason });
+    }
+    if bytes.len() < head.length as usize {
+        return Ok(None);
+    }
+    let control = control_at(alloc, kind, caps, head.length, bytes)?;
+    Ok(Some(control))
+}
+
+/// Whether an interface_info tells more interfaces than there may be.
+fn has_too_many(head: &Header, bytes: &[u8]) -> bool
+    ensures { result ≡ (nat_le 4 (length bytes.now) && not (count_check.passes head.now bytes.now)) }
+{
+    head.kind == INTERFACE_INFO && bytes.len() >= 4 && le_u32_at(bytes, 0) > MAX_INTERFACES
+}
+
+fn control_at(
+    alloc: Global,
+    kind: PlainKind,
+    caps: Caps,
+    size: u32,
+    bytes: &[u8],
+) -> Result<RedirControl, Memory>
+    requires its_length { has_length caps (plain_row kind) size ≡ true }
+    requires there { size ≤ length bytes.now }
+    ensures ok { IfOk result (λ control. control ≡ fields_at caps size kind bytes.now) }
+    ensures err { OnErr result (takes_memory (fields_at caps size kind bytes.now) ≡ true) }
+{
+    Ok(match kind {
+        PlainKind::Hello => RedirControl::Hello(hello_at(alloc, bytes, (size as usize - 64) / 4)?),
+        PlainKind::Connect => RedirControl::Connect(connect_at(caps.has(CONNECT_VERSION), bytes)),
+        PlainKind::Disconnect => RedirControl::Disconnect,
+        PlainKind::Reset => RedirControl::Reset,
+        PlainKind::InterfaceInfo => RedirControl::InterfaceInfo(interface_info_at(bytes)),
+        PlainKind::EpInfo => RedirControl::EpInfo(ep_info_at(caps.has(MAX_PACKET_SIZE), bytes)),
+        PlainKind::SetConfiguration => RedirControl::SetConfiguration {
+            configuration: bytes[0],
+        },
+        PlainKind::GetConfiguration => RedirControl::GetConfiguration,
+        PlainKind::ConfigurationStatus => RedirControl::ConfigurationStatus {
+            status: bytes[0],
+            configuration: bytes[1],
+        },
+        PlainKind::SetAlt => RedirControl::SetAlt {
+            interface: bytes[0],
+            alt: bytes[1],
+        },
+        PlainKind::GetAlt => RedirControl::GetAlt {
+            interface: bytes[0],
+        },
+        PlainKind::AltStatus => RedirControl::AltStatus {
+            status: bytes[0],
+            interface: bytes[1],
+            alt: bytes[2],
+        },
+        PlainKind::StartIso => RedirControl::StartIso {
+            endpoint: bytes[0],
+            pkts_per_urb: bytes[1],
+            no_urbs: bytes[2],
+        },
+        PlainKind::StopIso => RedirControl::StopIso { endpoint: bytes[0] },
+        PlainKind::IsoStatus => RedirControl::IsoStatus {
+            status: bytes[0],
+            endpoint: bytes[1],
+        },
+        PlainKind::StartInterrupt => RedirControl::StartInterrupt { endpoint: bytes[0] },
+        PlainKind::StopInterrupt => RedirControl::StopInterrupt { endpoint: bytes[0] },
+        PlainKind::InterruptStatus => RedirControl::InterruptStatus {
+            status: bytes[0],
+            endpoint: bytes[1],
+        },
+        PlainKind::Cancel => RedirControl::Cancel,
+        PlainKind::DisconnectAck => RedirControl::DisconnectAck,
+    })
+}
+
+fn hello_at(alloc: Global, bytes: &[u8], count: usize) -> Result<Hello, Memory>
+    requires { 64 + count * 4 ≤ length bytes.now }
+    ensures ok { IfOk result (λ hello. hello ≡ hello_at count bytes.now) }
+    ensures err { OnErr result (0 < count) }
+{
+    let words = words_of(alloc, &bytes[64..], count)?;
+    Ok(Hello {
+        version: array_at(bytes, 0),
+        words,
+    })
+}
+
+#[tactic(auto, using(crate::proofs::Words::words_of_next))]
+fn words_of(alloc: Global, bytes: &[u8], count: usize) -> Result<Words, Memory>
+    requires { count * 4 ≤ length bytes.now }
+    ensures ok { IfOk result (λ words. words ≡ words_of count bytes.now) }
+    ensures err { OnErr result (0 < count) }
+{
+    let mut words = Words::new(alloc);
+    for i in 0..count {
+        words.push(le_u32_at(bytes, i * 4))?;
+    }
+    Ok(words)
+}
+
+fn connect_at(sent: bool, bytes: &[u8]) -> Connect
+    requires { 8 + sent_bytes sent 2 ≤ length bytes.now }
+    ensures { result ≡ connect_at sent bytes.now }
+{
+    let version = if sent { le_u16_at(bytes, 8) } else { 0 };
+    Connect {
+        speed: bytes[0],
+        class: bytes[1],
+        subclass: bytes[2],
+        protocol: bytes[3],
+        vendor: le_u16_at(bytes, 4),
+        product: le_u16_at(bytes, 6),
+        version,
+    }
+}
+
+fn interface_info_at(bytes: &[u8]) -> InterfaceInfo
+    requires { 132 ≤ length bytes.now }
+    ensures { result ≡ interface_info_at bytes.now }
+{
+    InterfaceInfo {
+        count: le_u32_at(bytes, 0),
+        interface: array_at(bytes, 4),
+        class: array_at(bytes, 36),
+        subclass: array_at(bytes, 68),
+        protocol: array_at(bytes, 100),
+    }
+}
+
+fn ep_info_at(sent: bool, bytes: &[u8]) -> EpInfo
+    requires { 96 + sent_bytes sent 64 ≤ length bytes.now }
+    ensures { result ≡ ep_info_at sent bytes.now }
+{
+    let max_packet = if sent { max_packet_at(bytes) } else { [0; 32] };
+    EpInfo {
+        kinds: array_at(bytes, 0),
+        interval: array_at(bytes, 32),
+        interface: array_at(bytes, 64),
+        max_packet,
+    }
+}
+
+fn max_packet_at(bytes: &[u8]) -> [u16; 32]
+    requires { 160 ≤ length bytes.now }
+    ensures { result ≡ max_packet_at true bytes.now }
+{
+    let mut sizes = [0; 32];
+    for i in 0..32 {
+        sizes[i] = le_u16_at(bytes, 96 + i * 2);
+    }
+    sizes
+}
