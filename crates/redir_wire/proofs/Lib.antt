@@ -2,3 +2,8 @@ pub mod Words
 pub mod Lengths
 pub mod Behind
 pub mod EpTable
+pub mod Headers
+pub mod Packets
+pub mod Numbers
+pub mod Controls
+pub mod Plain

@@ -1,5 +1,5 @@
 -- Words read, spelled again and read again.
-use Rattle.std.proofs.Common.{◌≡◌, ℕ, zero, suc, ◌+◌, ◌*◌, ◌<◌, ◌≤◌, List, [], ◌∷◌, ◌++◌, length, take, drop, set, refl, sym, ap, ◌∙◌, arith, add-one}
+use Rattle.std.proofs.Common.{◌≡◌, ℕ, zero, suc, ◌+◌, ◌*◌, ◌<◌, ◌≤◌, List, [], ◌∷◌, ◌++◌, length, take, drop, set, replicate, refl, sym, ap, ◌∙◌, arith, add-one}
 use Rattle.std.specs.Int.{w16, w32, from_le_bytes}
 use Rattle.std.proofs.lemmas.List.{drop-drop, length-append, length-drop}
 use Rattle.std.proofs.lemmas.Grind.{take-set_at}
@@ -93,3 +93,7 @@ next_half b hs place n half is less told =
     let here : half ≡ le_at w16 (n * 2) (drop place b) =
     is ∙ ap (λ (x : List ℕ). from_le_bytes w16 (take 2 x)) (ap (λ (m : ℕ). drop m b) (omega arith) ∙ sym (drop-drop (n * 2) place b)) in
     take-set_at hs n (n + 1) half refl less ∙ (λ i. told i ++ here i ∷ []) ∙ sym (halves_of_next n (drop place b)) ∙ ap (λ (m : ℕ). halves_of m (drop place b)) (sym (add-one n))
+
+pub zeros_fit : (n : ℕ) → AreHalves (replicate n 0)
+zeros_fit zero = tt
+zeros_fit (suc n) = (omega arith, zeros_fit n)

@@ -5,6 +5,7 @@ mod capability;
 mod ep_table;
 mod header;
 mod kind;
+mod laws;
 mod packet;
 mod read;
 mod write;
@@ -14,6 +15,7 @@ pub use capability::{
 };
 pub use header::{MAX_LENGTH, read_header};
 pub use kind::{DataKind, Kind, More, PlainKind, Row, Tail, is_left_out};
+pub use laws::{plain_sound, read_again};
 pub use packet::{
     Caps, Connect, EpInfo, Header, HeaderRead, Hello, InterfaceInfo, MAX_INTERFACES, RedirControl,
     Way, WireError, Words,
