@@ -1,12 +1,12 @@
 -- Headers: spelled again where they stand, read again where they are spelled, and the same whatever comes later.
-use Rattle.std.proofs.Common.{◌≡◌, ℕ, ◌+◌, ◌^◌, ◌<◌, ◌≤◌, Bool, true, false, List, [], ◌∷◌, ◌++◌, length, take, drop, refl, sym, ap, ◌∙◌, append_assoc, arith}
+use Rattle.std.proofs.Common.{◌≡◌, ℕ, ◌+◌, ◌^◌, ◌<◌, ◌≤◌, Bool, true, false, List, ◌++◌, length, take, drop, refl, ap, arith}
 use Rattle.std.specs.Int.{w32, w64, from_le_bytes}
-use Rattle.std.proofs.lemmas.List.{drop_at, length-append}
+use Rattle.std.proofs.lemmas.List.{drop_at}
 use Rattle.std.proofs.lemmas.Nat.{le_bytes_8, from_le_bytes-to_le_bytes_4, from_le_bytes-to_le_bytes_8}
 use Rattle.usb_base.specs.Number.{le, le_at, part, AreBytes}
-use Rattle.usb_base.proofs.Numbers.{then, length-part, AreBytes-part, part-append, length-le, le_spelled_32, le_at-append_32, le_at-below_32}
+use Rattle.usb_base.proofs.Numbers.{then, length-part, AreBytes-part, part-append, le_spelled_32, le_at-append_32, le_at-below_32}
 use Rattle.redir_wire.specs.declared.packet.Header.{Header}
-use Rattle.redir_wire.specs.Header.{head_size, head_bytes, id_bytes, id_at, header_at, IdFits}
+use Rattle.redir_wire.specs.Header.{head_size, head_bytes, id_at, header_at, IdFits}
 
 -- ---- numbers of 64 bits
 

@@ -1,9 +1,7 @@
 -- How many bytes a packet's fields have.
-use Rattle.std.proofs.Common.{◌≡◌, ℕ, ◌+◌, ◌*◌, ◌≤◌, Bool, true, false, List, [], ◌∷◌, ◌++◌, length, arith, refl, cond, ◌∙◌}
+use Rattle.std.proofs.Common.{◌≡◌, ◌+◌, Bool, true, false, [], ◌++◌, length, arith, refl, cond, ◌∙◌}
 use Rattle.std.proofs.lemmas.List.{length-append}
-use Rattle.std.specs.Int.{w16, w32}
 use Rattle.usb_base.specs.Number.{le}
-use Rattle.usb_base.proofs.Numbers.{length-le}
 use Rattle.redir_wire.specs.declared.packet.Caps.{Caps}
 use Rattle.redir_wire.specs.declared.packet.Connect.{Connect}
 use Rattle.redir_wire.specs.declared.packet.InterfaceInfo.{InterfaceInfo}
@@ -11,10 +9,9 @@ use Rattle.redir_wire.specs.declared.packet.EpInfo.{EpInfo}
 use Rattle.redir_wire.specs.declared.packet.RedirControl.{RedirControl}
 use Rattle.redir_wire.specs.declared.packet.RedirControl.TheVariants as controls
 use Rattle.redir_wire.specs.Capability.{has}
-use Rattle.redir_wire.specs.Table.{plain_row, fixed_length}
 use Rattle.redir_wire.specs.Words.{words, halves}
-use Rattle.redir_wire.specs.Spelling.{kind_of, length_of, fields, connect, interface_info, ep_info}
-use Rattle.redir_wire.specs.Ranges.{Ranges, InterfaceRanges, EpRanges, IsWritable}
+use Rattle.redir_wire.specs.Spelling.{length_of, fields, connect, interface_info, ep_info}
+use Rattle.redir_wire.specs.Ranges.{Ranges, InterfaceRanges, EpRanges}
 use Rattle.redir_wire.proofs.Words.{length-words, length-halves}
 
 length_connect : (sent : Bool) (c : Connect) → length (connect sent c) ≡ 8 + cond sent 2 0

@@ -2,8 +2,12 @@ pub mod Words
 pub mod Lengths
 pub mod Behind
 pub mod EpTable
+pub mod Checks
 pub mod Headers
+pub mod Heads
 pub mod Packets
+pub mod Past
 pub mod Numbers
 pub mod Controls
 pub mod Plain
+pub mod Told

@@ -1,22 +1,24 @@
 -- Packets of a header and a body are sound, where the bodies are.
-use Rattle.std.proofs.Common.{◌≡◌, ℕ, ◌+◌, ◌-◌, ◌^◌, ◌<◌, ◌≤◌, Bool, true, false, cond, List, [], ◌∷◌, ◌++◌, length, take, drop, Option, Some, None, refl, sym, ap, subst, ◌∙◌, append_assoc, arith, length-drop}
-use Rattle.std.specs.Prelude.{nat_le, nat_lt, not, ◌&&◌}
+use Rattle.std.proofs.Common.{◌≡◌, ℕ, ◌+◌, ◌-◌, ◌<◌, ◌≤◌, Bool, true, false, cond, List, [], ◌∷◌, ◌++◌, length, take, drop, Option, Some, None, refl, sym, ap, ◌∙◌, append_assoc, arith, length-drop}
+use Rattle.std.specs.Prelude.{nat_le, not, ◌&&◌}
 use Rattle.std.specs.Option.{option_map}
 use Rattle.std.specs.Int.{w32}
-use Rattle.std.proofs.lemmas.Bool.{le-leb, leb-true, cases_lt, le-ltb}
+use Rattle.std.proofs.lemmas.Bool.{le-ltb}
 use Rattle.std.proofs.lemmas.Grind.{common_steps}
 use Rattle.std.proofs.lemmas.List.{length-append, length-take, drop-append-le}
 use Rattle.usb_base.specs.Number.{le_at, AreBytes}
 use Rattle.usb_base.specs.declared.reason.Reason.{Reason}
-use Rattle.usb_base.proofs.Numbers.{AreBytes-drop, then, le_at-append_32, le_at-below_32}
+use Rattle.usb_base.proofs.Numbers.{AreBytes-drop, then, le_at-append_32}
 use Rattle.packet_stream.specs.Format.{Check, wrong_at, IsSound}
-use Rattle.packet_stream.proofs.Formats.{AreSteady, none_first, none_later, none_from, stays_wrong}
+use Rattle.packet_stream.proofs.Formats.{AreSteady, stays_wrong}
 use Rattle.redir_wire.specs.declared.packet.Caps.{Caps}
 use Rattle.redir_wire.specs.declared.packet.Way.{Way}
 use Rattle.redir_wire.specs.declared.packet.Header.{Header}
-use Rattle.redir_wire.specs.Header.{is_wide, head_size, head_bytes, id_at, header_at, head_checks, IsHeader, is_in_turn, is_known, is_agreed, is_on_its_way, is_in_limit, is_its_length}
+use Rattle.redir_wire.specs.Header.{is_wide, head_size, head_bytes, header_at, head_checks, IsHeader}
 use Rattle.redir_wire.specs.Bodies.{BodyCheck, Bodies, with_header, behind_head, own_check, size, IsPacket, packets}
-use Rattle.redir_wire.proofs.Headers.{size_least, length_head, head_spelled, id_fits, kind_there, length_there, header_there, behind_there, header_more}
+use Rattle.redir_wire.proofs.Checks.{passed, none_passed}
+use Rattle.redir_wire.proofs.Heads.{header_passed, passes, heads_steady, limit_below}
+use Rattle.redir_wire.proofs.Headers.{size_least, length_head, head_spelled, kind_there, length_there, header_there, behind_there, header_more}
 
 -- ---- what bodies owe
 
@@ -37,20 +39,6 @@ pub record AreBodies {P : Type 0} (f : Bodies P) (first : Bool) (caps : Caps) (w
   pub right : (p : Header × P) (more : List ℕ) → IsPacket f first caps way p → wrong_at (with_header p.0 f.checks) (f.spelling p.1 ++ more) ≡ None
   pub fields : (p : Header × P) (more : List ℕ) → IsPacket f first caps way p → f.fields p.0 (f.spelling p.1 ++ more) ≡ p.1
   pub owned : (p : P) → f.owns (f.number p) ≡ true
-
--- ---- checks that pass
-
-abbrev Passed : {R : Type 0} → List (Check R) → List ℕ → Type 0
-Passed [] b = Unit {0}
-Passed (c ∷ cs) b = (c.needed ≤ length b → c.passes b ≡ true) × Passed cs b
-
-passed : {R : Type 0} (cs ds : List (Check R)) (b : List ℕ) → wrong_at (cs ++ ds) b ≡ None → Passed cs b × (wrong_at ds b ≡ None)
-passed [] ds b e = (tt, e)
-passed (c ∷ cs) ds b e = let later = passed cs ds b (none_later c (cs ++ ds) b e) in ((λ there. none_first c (cs ++ ds) b e there, later.0), later.1)
-
-none_passed : {R : Type 0} (cs ds : List (Check R)) (b : List ℕ) → Passed cs b → wrong_at ds b ≡ None → wrong_at (cs ++ ds) b ≡ None
-none_passed [] ds b p e = e
-none_passed (c ∷ cs) ds b p e = none_from c (cs ++ ds) b p.0 (none_passed cs ds b p.1 e)
 
 -- ---- checks behind a header
 
@@ -81,25 +69,8 @@ none_of f (Some w) e = absurd cc
 
 -- ---- what is found
 
-abbrev headed : {P : Type 0} → Bodies P → Bool → Caps → Way → List (Check Reason)
+abbrev pub headed : {P : Type 0} → Bodies P → Bool → Caps → Way → List (Check Reason)
 headed f first caps way = own_check f ∷ head_checks first caps way
-
--- the checks of a whole header say that it is one
-header_passed : {P : Type 0} (f : Bodies P) (first : Bool) (caps : Caps) (way : Way) (b : List ℕ) → AreBytes b → 8 ≤ length b → Passed (headed f first caps way) b →
-    (f.owns (le_at w32 0 b) ≡ true) × IsHeader first caps way (header_at (is_wide first caps) b)
-header_passed f first caps way b are there p = (
-  p.0 (omega arith),
-  record {
-    in_turn = p.1.0 (omega arith);
-    known = p.1.1.0 (omega arith);
-    agreed = p.1.1.1.0 (omega arith);
-    on_its_way = p.1.1.1.1.0 (omega arith);
-    in_limit = p.1.1.1.1.1.0 (omega arith);
-    its_length = p.1.1.1.1.1.1.0 (omega arith);
-    kind_fits = le_at-below_32 0 b are;
-    id_fits = id_fits (is_wide first caps) b are;
-  },
-)
 
 size_long : (wide : Bool) (b : List ℕ) → size wide b ≤ length b → (head_size wide + le_at w32 4 b ≤ length b) × (size wide b ≡ head_size wide + le_at w32 4 b)
 size_long wide b there = let least = size_least wide in (grind (arith, common_steps), grind (arith, common_steps))
@@ -113,15 +84,16 @@ found_there f first caps way bodies b are right there =
     let k = head_size wide in
     let least = size_least wide in
     let checks = passed (headed f first caps way) (behind_head wide f.checks) b right in
-    let header = header_passed f first caps way b are (omega arith) checks.0 in
+    let own = checks.0.0 (omega arith) in
+    let header = header_passed first caps way b are (omega arith) checks.0.1 in
     let h = header_at wide b in
     let rest = drop k b in
     let none = none_of (past_head wide) (wrong_at (with_header h f.checks) rest) (sym (wrong_behind wide f.checks b (omega arith)) ∙ checks.1) in
     let left : h.length ≤ length rest = omega (arith, length-drop k b) in
-    let body = bodies.found h rest (AreBytes-drop k b are) header.1 header.0 none left in
+    let body = bodies.found h rest (AreBytes-drop k b are) header own none left in
     let enough : length (f.spelling (f.fields h rest)) ≡ h.length = ap length body.spelled ∙ omega (arith, length-take h.length rest) in (
       then k h.length b _ _ (head_spelled wide b are (omega arith)) body.spelled,
-      record { header = header.1; kind = body.kind; length_is = sym enough; fits = body.fits },
+      record { header = header; kind = body.kind; length_is = sym enough; fits = body.fits },
     )
 
 found : {P : Type 0} (f : Bodies P) (first : Bool) (caps : Caps) (way : Way) → AreBodies f first caps way → (b : List ℕ) → AreBytes b → wrong_at (packets f first caps way).checks b ≡ None →
@@ -133,9 +105,6 @@ found f first caps way bodies b are right there =
     (h.0 ∙ ap (λ (n : ℕ). take n b) (sym long.1), h.1)
 
 -- ---- what is spelled
-
-limit_below : (n : ℕ) → is_in_limit n ≡ true → n < 2 ^ 32
-limit_below n e = let h = leb-true n 16777280 e in omega arith
 
 -- a packet's header and what follows it, and then more
 assoc : {P : Type 0} (f : Bodies P) (wide : Bool) (p : Header × P) (more : List ℕ) → (head_bytes wide p.0 ++ f.spelling p.1) ++ more ≡ head_bytes wide p.0 ++ (f.spelling p.1 ++ more)
@@ -169,28 +138,11 @@ right f first caps way bodies p more is =
     let wide = is_wide first caps in
     let b = (head_bytes wide p.0 ++ f.spelling p.1) ++ more in
     let s = spelled f first caps way p more is in
-    let h = is.header in
     let long : head_size wide ≤ length b = omega (arith, length-append (head_bytes wide p.0 ++ f.spelling p.1) more, length-append (head_bytes wide p.0) (f.spelling p.1), length_head wide p.0) in
     let body = bodies.right p more is in
     let none : wrong_at (behind_head wide f.checks) b ≡ None =
     wrong_behind wide f.checks b long ∙ ap (option_map (past_head wide)) ((λ i. wrong_at (with_header (s.header i) f.checks) (s.behind i)) ∙ body) in
-    none_passed (headed f first caps way) (behind_head wide f.checks) b (
-      λ _. ap f.owns (s.kind ∙ is.kind) ∙ bodies.owned p.1,
-      (
-        λ _. ap (is_in_turn first) s.kind ∙ h.in_turn,
-        (
-          λ _. ap is_known s.kind ∙ h.known,
-          (
-            λ _. ap (is_agreed caps) s.kind ∙ h.agreed,
-            (
-              λ _. ap (is_on_its_way way) s.kind ∙ h.on_its_way,
-              (λ _. ap is_in_limit s.size ∙ h.in_limit, (λ _. (λ i. is_its_length caps (s.kind i) (s.size i)) ∙ h.its_length, tt)),
-            ),
-          ),
-        ),
-      ),
-    )
-    none
+    none_passed (headed f first caps way) (behind_head wide f.checks) b (λ _. ap f.owns (s.kind ∙ is.kind) ∙ bodies.owned p.1, passes first caps way p.0 b is.header s.kind s.size) none
 
 size_by : (wide : Bool) (n m : ℕ) (b : List ℕ) → 8 ≤ length b → le_at w32 4 b ≡ n → head_size wide + n ≡ m → size wide b ≡ m
 size_by wide n m b long e f = rw (le-ltb (length b) 8 long, e) f
@@ -215,7 +167,7 @@ packet_there f first caps way bodies p more is =
 
 -- ---- what stays as it is
 
-behind_steady : (wide : Bool) (cs : List BodyCheck) (n m : ℕ) → AreSteadyBehind n cs → m ≤ head_size wide + n → AreSteady m (behind_head wide cs)
+pub behind_steady : (wide : Bool) (cs : List BodyCheck) (n m : ℕ) → AreSteadyBehind n cs → m ≤ head_size wide + n → AreSteady m (behind_head wide cs)
 behind_steady wide [] n m steady le = tt
 behind_steady wide (c ∷ cs) n m steady le =
     let k = head_size wide in
@@ -227,39 +179,14 @@ behind_steady wide (c ∷ cs) n m steady le =
 size_some : (wide : Bool) (b : List ℕ) → 0 < size wide b
 size_some wide b = let least = size_least wide in grind (arith, common_steps)
 
-kind_more : (b more : List ℕ) → 4 ≤ length b → le_at w32 0 (b ++ more) ≡ le_at w32 0 b
-kind_more b more there = le_at-append_32 0 b more there
-
 steady : {P : Type 0} (f : Bodies P) (first : Bool) (caps : Caps) (way : Way) → AreSteadyBehind 0 f.checks → AreSteady 0 (packets f first caps way).checks
-steady f first caps way bodies = (
-  omega arith,
-  λ b more there. ap f.owns (kind_more b more there),
-  (
-    omega arith,
-    λ b more there. ap (is_in_turn first) (kind_more b more there),
-    (
+steady f first caps way bodies =
+    let wide = is_wide first caps in
+    let least = size_least wide in (
       omega arith,
-      λ b more there. ap is_known (kind_more b more there),
-      (
-        omega arith,
-        λ b more there. ap (is_agreed caps) (kind_more b more there),
-        (
-          omega arith,
-          λ b more there. ap (is_on_its_way way) (kind_more b more there),
-          (
-            omega arith,
-            λ b more there. ap is_in_limit (le_at-append_32 4 b more there),
-            (
-              omega arith,
-              λ b more there. (λ i. is_its_length caps (kind_more b more (omega arith) i) (le_at-append_32 4 b more there i)),
-              behind_steady (is_wide first caps) f.checks 0 8 bodies (let least = size_least (is_wide first caps) in omega arith),
-            ),
-          ),
-        ),
-      ),
-    ),
-  ),
-)
+      λ b more there. ap f.owns (le_at-append_32 0 b more there),
+      heads_steady first caps way (behind_head wide f.checks) 4 (omega arith) (behind_steady wide f.checks 0 8 bodies (omega arith)),
+    )
 
 pub packets_sound : {P : Type 0} (f : Bodies P) (first : Bool) (caps : Caps) (way : Way) → AreBodies f first caps way → IsSound (packets f first caps way)
 packets_sound f first caps way bodies = record {

@@ -1,5 +1,5 @@
 -- The header of a packet ("usb_redir_header"), and the checks that it is one.
-use Rattle.std.specs.Prelude.{◌≡◌, ℕ, ◌<◌, ◌^◌, Bool, true, false, ◌==◌, ◌&&◌, ◌||◌, not, if◌then◌else◌, nat_le, List, [], ◌∷◌, ◌++◌, length, Option, is_some}
+use Rattle.std.specs.Prelude.{◌≡◌, ℕ, ◌<◌, ◌^◌, Bool, true, false, ◌==◌, ◌&&◌, ◌||◌, not, if◌then◌else◌, nat_le, List, [], ◌∷◌, ◌++◌, length, is_some}
 use Rattle.std.specs.Int.{w32, w64}
 use Rattle.std.specs.Option.{option_map_or}
 use Rattle.usb_base.specs.declared.reason.Reason.{Reason}

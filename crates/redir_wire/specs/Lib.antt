@@ -9,5 +9,6 @@ pub mod Places
 pub mod Plain
 pub mod EpTable
 pub mod Written
+pub mod Past
 pub mod Reads
 pub mod inner

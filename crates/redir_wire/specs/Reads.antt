@@ -1,5 +1,5 @@
 -- What the answer of the body's reader tells.
-use Rattle.std.specs.Prelude.{◌≡◌, ℕ, Bool, false, Result, Ok, Err, Option, Some, None}
+use Rattle.std.specs.Prelude.{◌≡◌, Bool, false, Result, Ok, Err, Option, Some, None}
 use Rattle.usb_base.specs.declared.reason.Reason.{Reason}
 use Rattle.packet_stream.specs.Format.{Found, Whole, Short, Wrong}
 use Rattle.packet_stream.specs.Reads.{WantsMemory}

@@ -3,8 +3,8 @@
 ghost use Rattle.std.specs.Prelude.{◌≡◌, ◌+◌, ◌≤◌, length};
 ghost use Rattle.std.specs.Int.{w32, w64};
 ghost use Rattle.usb_base.specs.Number.{le_at};
-ghost use Rattle.packet_stream.specs.Format.{reading};
-ghost use Rattle.packet_stream.specs.Reads.{Answers};
+ghost use Rattle.packet_stream.specs.Format.{Stands, reading};
+ghost use Rattle.packet_stream.specs.Reads.{Answers, IfTold};
 ghost use Rattle.redir_wire.specs.Header.{headers, header_at, head_size, is_wide};
 ghost use Rattle.redir_wire.specs.Reads.{never};
 
@@ -22,6 +22,13 @@ pub const MAX_LENGTH: u32 = 16_777_280;
 /// `HelloFirst`, `UnknownType`, `NotAgreed` and `WrongWay` at place 0, `TooLong26` and `BadLength` at place 4.
 pub fn read_header(first: bool, caps: Caps, way: Way, bytes: &[u8]) -> HeaderRead
     ensures exact { Answers never result (reading (headers first caps way) bytes.now) }
+    ensures stands { IfTold result (Stands (headers first caps way) bytes.now) }
+{
+    header_at_front(first, caps, way, bytes)
+}
+
+fn header_at_front(first: bool, caps: Caps, way: Way, bytes: &[u8]) -> HeaderRead
+    ensures { Answers never result (reading (headers first caps way) bytes.now) }
 {
     if bytes.len() < 4 {
         return Ok(Read::Short);

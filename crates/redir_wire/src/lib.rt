@@ -15,7 +15,7 @@ pub use capability::{
 };
 pub use header::{MAX_LENGTH, read_header};
 pub use kind::{DataKind, Kind, More, PlainKind, Row, Tail, is_left_out};
-pub use laws::{plain_sound, read_again};
+pub use laws::{headers_sound, plain_sound, read_again, read_by_parts};
 pub use packet::{
     Caps, Connect, EpInfo, Header, HeaderRead, Hello, InterfaceInfo, MAX_INTERFACES, RedirControl,
     Way, WireError, Words,

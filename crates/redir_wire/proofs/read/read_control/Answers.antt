@@ -1,5 +1,5 @@
-use Rattle.std.proofs.Common.{◌≡◌, take, sym, ◌∙◌}
-use Rattle.redir_wire.proofs.Behind.{behind_wrong, behind_short, behind_whole, length_by, is_numbered}
+use Rattle.std.proofs.Common.{sym, ◌∙◌}
+use Rattle.redir_wire.proofs.Behind.{is_numbered}
 use Rattle.redir_wire.proofs.read.read_control.Goals as goal
 
 pub unreachable-requires : goal.unreachable-requires
