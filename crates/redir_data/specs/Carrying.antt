@@ -1,5 +1,5 @@
 -- The packets that move data.
-use Rattle.std.specs.Prelude.{ℕ, ◌+◌, ◌==◌, ◌||◌, not, Bool, List, [], ◌∷◌}
+use Rattle.std.specs.Prelude.{ℕ, ◌+◌, ◌==◌, ◌||◌, not, Bool, List, [], ◌∷◌, length}
 use Rattle.usb_base.specs.declared.reason.Reason.{Reason}
 use Rattle.usb_base.specs.declared.reason.Reason.TheVariants.{DataLength}
 use Rattle.usb_base.specs.Number.{byte_at}
@@ -13,7 +13,7 @@ use Rattle.redir_wire.specs.Table.{data_row}
 use Rattle.redir_wire.specs.Bodies.{BodyCheck, Bodies, packets}
 use Rattle.redir_wire.specs.Plain.{is_plain}
 use Rattle.redir_data.specs.declared.packet.RedirData.{RedirData}
-use Rattle.redir_data.specs.Spelling.{data_count, fields, number_of}
+use Rattle.redir_data.specs.Spelling.{data_count, body_of, fields, number_of}
 use Rattle.redir_data.specs.Ranges.{IsData}
 use Rattle.redir_data.specs.Places.{fixed, length_place, told_length, data_at}
 
@@ -38,3 +38,7 @@ transfers caps way = record {
 
 abbrev pub carrying : Bool → Caps → Way → Format (Header × RedirData) Reason
 carrying first caps way = packets (transfers caps way) first caps way
+
+-- data take memory
+abbrev pub has_data : RedirData → Bool
+has_data d = not (length (body_of d) == 0)

@@ -5,3 +5,5 @@ pub mod Carrying
 pub mod Packets
 pub mod Streams
 pub mod Written
+pub mod inner
+pub mod sound

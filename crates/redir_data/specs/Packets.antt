@@ -1,5 +1,5 @@
 -- All packets of a stream: those that move no data, whose numbers are below 100, and those that move some.
-use Rattle.std.specs.Prelude.{ℕ, ◌==◌, not, Bool, false, List, length, ◌⊎◌}
+use Rattle.std.specs.Prelude.{ℕ, Bool, List, ◌⊎◌}
 use Rattle.std.proofs.Common.{inl, inr}
 use Rattle.std.specs.Int.{w32}
 use Rattle.usb_base.specs.declared.reason.Reason.{Reason}
@@ -15,8 +15,7 @@ use Rattle.redir_wire.specs.Plain as wire
 use Rattle.redir_data.specs.declared.packet.RedirData.{RedirData}
 use Rattle.redir_data.specs.declared.packet.RedirPacket.{RedirPacket}
 use Rattle.redir_data.specs.declared.packet.RedirPacket.TheVariants.{Plain, Carrying}
-use Rattle.redir_data.specs.Spelling.{body_of}
-use Rattle.redir_data.specs.Carrying.{carrying}
+use Rattle.redir_data.specs.Carrying.{carrying, has_data}
 
 abbrev pub begins_plain : List ℕ → Bool
 begins_plain b = is_plain (le_at w32 0 b)
@@ -36,4 +35,4 @@ redir_packets first caps way = renamed to_packet from_packet (joined begins_plai
 -- only data, and the words of a hello, take memory
 abbrev pub takes_memory : Header × RedirPacket → Bool
 takes_memory (h, Plain p) = wire.takes_memory p
-takes_memory (h, Carrying p) = not (length (body_of p) == 0)
+takes_memory (h, Carrying p) = has_data p

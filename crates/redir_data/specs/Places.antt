@@ -34,14 +34,16 @@ told_length caps kinds.Bulk b = bulk_length (has caps 6) b
 told_length caps kinds.Iso b = le_at w16 2 b
 told_length caps kinds.Interrupt b = le_at w16 2 b
 
--- the fields, and as data all that is left of so many bytes
+-- the fields with this length, and these data
+abbrev pub fields_with : DataKind → List ℕ → ℕ → List ℕ → RedirData
+fields_with kinds.Control b told body = moving.Control (byte_at 0 b) (byte_at 1 b) (byte_at 2 b) (byte_at 3 b) (le_at w16 4 b) (le_at w16 6 b) told body
+fields_with kinds.Bulk b told body = moving.Bulk (byte_at 0 b) (byte_at 1 b) told (le_at w32 4 b) body
+fields_with kinds.Iso b told body = moving.Iso (byte_at 0 b) (byte_at 1 b) told body
+fields_with kinds.Interrupt b told body = moving.Interrupt (byte_at 0 b) (byte_at 1 b) told body
+
+-- all that is left of so many bytes is data
 abbrev pub fields_at : Caps → ℕ → DataKind → List ℕ → RedirData
-fields_at caps size kinds.Control b =
-    moving.Control (byte_at 0 b) (byte_at 1 b) (byte_at 2 b) (byte_at 3 b) (le_at w16 4 b) (le_at w16 6 b) (le_at w16 8 b) (part 10 (size - 10) b)
-fields_at caps size kinds.Bulk b =
-    moving.Bulk (byte_at 0 b) (byte_at 1 b) (bulk_length (has caps 6) b) (le_at w32 4 b) (part (fixed caps kinds.Bulk) (size - fixed caps kinds.Bulk) b)
-fields_at caps size kinds.Iso b = moving.Iso (byte_at 0 b) (byte_at 1 b) (le_at w16 2 b) (part 4 (size - 4) b)
-fields_at caps size kinds.Interrupt b = moving.Interrupt (byte_at 0 b) (byte_at 1 b) (le_at w16 2 b) (part 4 (size - 4) b)
+fields_at caps size kind b = fields_with kind b (told_length caps kind b) (part (fixed caps kind) (size - fixed caps kind) b)
 
 -- no header that passes its checks has another number than a type's
 abbrev pub data_at : Caps → Header → List ℕ → RedirData

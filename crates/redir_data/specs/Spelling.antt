@@ -1,5 +1,5 @@
 -- The fields of a packet that moves data, in wire order, numbers little-endian, and its data behind them ("Data packets").
-use Rattle.std.specs.Prelude.{ℕ, ◌/◌, ◌%◌, Bool, not, if◌then◌else◌, List, [], ◌∷◌, ◌++◌, length}
+use Rattle.std.specs.Prelude.{ℕ, ◌+◌, ◌/◌, ◌%◌, Bool, not, if◌then◌else◌, List, [], ◌∷◌, ◌++◌, length}
 use Rattle.std.specs.Int.{w16, w32}
 use Rattle.usb_base.specs.Number.{le}
 use Rattle.usb_base.specs.Endpoint.{is_in_endpoint}
@@ -10,7 +10,7 @@ use Rattle.redir_wire.specs.declared.packet.Header.{Header}
 use Rattle.redir_wire.specs.declared.kind.DataKind.{DataKind}
 use Rattle.redir_wire.specs.declared.kind.DataKind.TheVariants as kinds
 use Rattle.redir_wire.specs.Capability.{has}
-use Rattle.redir_wire.specs.Table.{data_row}
+use Rattle.redir_wire.specs.Table.{data_row, fixed_length}
 use Rattle.redir_wire.specs.Spelling.{if_sent}
 use Rattle.redir_data.specs.declared.packet.RedirData.{RedirData}
 use Rattle.redir_data.specs.declared.packet.RedirData.TheVariants as moving
@@ -61,16 +61,23 @@ abbrev pub bulk : Bool → ℕ → ℕ → ℕ → ℕ → List ℕ
 bulk wide endpoint status told stream =
     (endpoint ∷ status ∷ []) ++ le w16 (told % 65536) ++ le w32 stream ++ if_sent wide (le w16 (told / 65536))
 
+abbrev pub small : ℕ → ℕ → ℕ → List ℕ
+small endpoint status told = (endpoint ∷ status ∷ []) ++ le w16 told
+
 abbrev pub fixed_fields : Caps → RedirData → List ℕ
 fixed_fields caps (moving.Control endpoint request kind status value index told body) =
     (endpoint ∷ request ∷ kind ∷ status ∷ []) ++ le w16 value ++ le w16 index ++ le w16 told
 fixed_fields caps (moving.Bulk endpoint status told stream body) = bulk (has caps 6) endpoint status told stream
-fixed_fields caps (moving.Iso endpoint status told body) = (endpoint ∷ status ∷ []) ++ le w16 told
-fixed_fields caps (moving.Interrupt endpoint status told body) = (endpoint ∷ status ∷ []) ++ le w16 told
+fixed_fields caps (moving.Iso endpoint status told body) = small endpoint status told
+fixed_fields caps (moving.Interrupt endpoint status told body) = small endpoint status told
 
 abbrev pub fields : Caps → RedirData → List ℕ
 fields caps d = fixed_fields caps d ++ body_of d
 
+-- how many bytes follow the header
+abbrev pub size_of : Caps → RedirData → ℕ
+size_of caps d = fixed_length caps (data_row (kind_of d)) + length (body_of d)
+
 -- the packet's header with this id
 abbrev pub header_of : ℕ → Caps → RedirData → Header
-header_of id caps d = record { kind = number_of d; length = length (fields caps d); id = id }
+header_of id caps d = record { kind = number_of d; length = size_of caps d; id = id }

@@ -8,7 +8,7 @@ use Rattle.redir_wire.specs.declared.packet.RedirControl.TheVariants.{Hello}
 use Rattle.redir_wire.specs.Capability.{agreed, announced, no_caps, caps_of}
 use Rattle.redir_data.specs.declared.packet.RedirPacket.{RedirPacket}
 use Rattle.redir_data.specs.declared.packet.RedirPacket.TheVariants.{Plain}
-use Rattle.redir_data.specs.declared.stream.RedirState.{RedirState}
+use Rattle.redir_data.specs.declared.state.RedirState.{RedirState}
 use Rattle.redir_data.specs.Packets.{redir_packets}
 
 -- the hello is still to come, and nothing is agreed
@@ -16,9 +16,12 @@ abbrev pub start : RedirState
 start = record { first = true; caps = no_caps }
 
 -- a hello's capabilities are agreed where the gateway announces them, too
-abbrev pub after : RedirState → Header × RedirPacket → RedirState
-after s (h, Plain (Hello x)) = record { first = false; caps = agreed (caps_of x) announced }
-after s _ = s
+abbrev pub advanced : RedirState → RedirPacket → RedirState
+advanced s (Plain (Hello x)) = record { first = false; caps = agreed (caps_of x) announced }
+advanced s _ = s
 
-abbrev pub format : Way → RedirState → Format (Header × RedirPacket) Reason
-format way s = redir_packets s.first s.caps way
+abbrev pub after : RedirState → Header × RedirPacket → RedirState
+after s p = advanced s p.1
+
+abbrev pub stream_format : Way → RedirState → Format (Header × RedirPacket) Reason
+stream_format way s = redir_packets s.first s.caps way

@@ -27,19 +27,19 @@ use Rattle.redir_wire.proofs.Words.{length-words, zeros_fit, length-words_of, wo
 
 -- ---- what stands at its place
 
-one : (b : List ℕ) → 1 ≤ length b → byte_at 0 b ∷ [] ≡ take 1 b
+pub one : (b : List ℕ) → 1 ≤ length b → byte_at 0 b ∷ [] ≡ take 1 b
 one [] there = absurd (omega arith)
 one (x ∷ b) there = refl
 
-two : (b : List ℕ) → 2 ≤ length b → byte_at 0 b ∷ byte_at 1 b ∷ [] ≡ take 2 b
+pub two : (b : List ℕ) → 2 ≤ length b → byte_at 0 b ∷ byte_at 1 b ∷ [] ≡ take 2 b
 two [] there = absurd (omega arith)
 two (x ∷ b) there = ap (λ (l : List ℕ). x ∷ l) (one b (omega arith))
 
-three : (b : List ℕ) → 3 ≤ length b → byte_at 0 b ∷ byte_at 1 b ∷ byte_at 2 b ∷ [] ≡ take 3 b
+pub three : (b : List ℕ) → 3 ≤ length b → byte_at 0 b ∷ byte_at 1 b ∷ byte_at 2 b ∷ [] ≡ take 3 b
 three [] there = absurd (omega arith)
 three (x ∷ b) there = ap (λ (l : List ℕ). x ∷ l) (two b (omega arith))
 
-four : (b : List ℕ) → 4 ≤ length b → byte_at 0 b ∷ byte_at 1 b ∷ byte_at 2 b ∷ byte_at 3 b ∷ [] ≡ take 4 b
+pub four : (b : List ℕ) → 4 ≤ length b → byte_at 0 b ∷ byte_at 1 b ∷ byte_at 2 b ∷ byte_at 3 b ∷ [] ≡ take 4 b
 four [] there = absurd (omega arith)
 four (x ∷ b) there = ap (λ (l : List ℕ). x ∷ l) (three b (omega arith))
 

@@ -132,6 +132,10 @@ spelled f first caps way p more is =
       behind = ap (drop (head_size wide)) all ∙ behind_there wide p.0 rest;
     }
 
+pub number_there : {P : Type 0} (f : Bodies P) (first : Bool) (caps : Caps) (way : Way) (p : Header × P) (more : List ℕ) → IsPacket f first caps way p →
+    le_at w32 0 ((packets f first caps way).spelling p ++ more) ≡ f.number p.1
+number_there f first caps way p more is = (spelled f first caps way p more is).kind ∙ is.kind
+
 right : {P : Type 0} (f : Bodies P) (first : Bool) (caps : Caps) (way : Way) → AreBodies f first caps way → (p : Header × P) (more : List ℕ) → IsPacket f first caps way p →
     wrong_at (packets f first caps way).checks ((packets f first caps way).spelling p ++ more) ≡ None
 right f first caps way bodies p more is =
@@ -179,8 +183,8 @@ behind_steady wide (c ∷ cs) n m steady le =
 size_some : (wide : Bool) (b : List ℕ) → 0 < size wide b
 size_some wide b = let least = size_least wide in grind (arith, common_steps)
 
-steady : {P : Type 0} (f : Bodies P) (first : Bool) (caps : Caps) (way : Way) → AreSteadyBehind 0 f.checks → AreSteady 0 (packets f first caps way).checks
-steady f first caps way bodies =
+pub packets_steady : {P : Type 0} (f : Bodies P) (first : Bool) (caps : Caps) (way : Way) → AreSteadyBehind 0 f.checks → AreSteady 4 (packets f first caps way).checks
+packets_steady f first caps way bodies =
     let wide = is_wide first caps in
     let least = size_least wide in (
       omega arith,
@@ -195,5 +199,5 @@ packets_sound f first caps way bodies = record {
   size = λ p more fits. size_there f first caps way p more fits;
   packet = λ p more fits. packet_there f first caps way bodies p more fits;
   some = λ b. size_some (is_wide first caps) b;
-  steady = stays_wrong (packets f first caps way).checks 0 (steady f first caps way bodies.steady);
+  steady = stays_wrong (packets f first caps way).checks 4 (packets_steady f first caps way bodies.steady);
 }

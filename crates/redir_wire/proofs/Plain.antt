@@ -59,9 +59,9 @@ found_with first caps way h b are header plain none there (Some k) e =
 
 -- ---- what is spelled
 
-owned : (c : RedirControl) → is_plain (number_of c) ≡ true
-owned (controls.Hello h) = refl
-owned c = refl
+pub plain_owned : (c : RedirControl) → is_plain (number_of c) ≡ true
+plain_owned (controls.Hello h) = refl
+plain_owned c = refl
 
 fields_there : (caps : Caps) (h : Header) (c : RedirControl) (more : List ℕ) → h.kind ≡ number_of c → fields_at caps h.length (kind_of c) (fields caps c ++ more) ≡ c → control_at caps h (fields caps c ++ more) ≡ c
 fields_there caps h c more kind again = control_by caps h (fields caps c ++ more) (kind_of c) (ap plain_numbered kind ∙ plain_again (kind_of c)) ∙ again
@@ -69,17 +69,17 @@ fields_there caps h c more kind again = control_by caps h (fields caps c ++ more
 count_steady : (h : Header) (b more : List ℕ) → 4 ≤ length b → count_check.passes h (b ++ more) ≡ count_check.passes h b
 count_steady h b more there = ap (λ (n : ℕ). not (h.kind == 4) || nat_le n 32) (le_at-append_32 0 b more there)
 
-bodies : (first : Bool) (caps : Caps) (way : Way) → AreBodies (wire.controls caps) first caps way
-bodies first caps way = record {
+pub plain_bodies : (first : Bool) (caps : Caps) (way : Way) → AreBodies (wire.controls caps) first caps way
+plain_bodies first caps way = record {
   steady = (omega arith, count_steady, tt);
   found = λ h b are header plain none there. found_with first caps way h b are header plain none there (plain_numbered h.kind) refl;
   right = λ p more is. none_from (check 0 4 count_check.reason (count_check.passes p.0)) [] (fields caps p.1 ++ more) (λ _. count_passes caps p.0.kind p.1 more is.kind is.fits) refl;
   fields = λ p more is. fields_there caps p.0 p.1 more is.kind (fields_again caps p.0.length p.1 more is.fits is.length_is);
-  owned = owned;
+  owned = plain_owned;
 }
 
 pub plain_sound : (first : Bool) (caps : Caps) (way : Way) → IsSound (plain first caps way)
-plain_sound first caps way = packets_sound (wire.controls caps) first caps way (bodies first caps way)
+plain_sound first caps way = packets_sound (wire.controls caps) first caps way (plain_bodies first caps way)
 
 -- ---- what is written
 
@@ -109,7 +109,7 @@ length_most caps (controls.Connect c) w = omega (arith, sent_most (has caps 1) 2
 length_most caps (controls.EpInfo e) w = omega (arith, sent_most (has caps 4) 64)
 length_most caps p w = omega arith
 
-packet_written : (way : Way) (caps : Caps) (id : ℕ) (p : RedirControl) → Ranges p → CanWrite id caps p → goes way (plain_row (kind_of p)) ≡ true →
+pub packet_written : (way : Way) (caps : Caps) (id : ℕ) (p : RedirControl) → Ranges p → CanWrite id caps p → goes way (plain_row (kind_of p)) ≡ true →
     IsPacket (wire.controls caps) (is_hello p) caps way (header_of id caps p, p)
 packet_written way caps id p ranges can goes_so =
     let k = Plain (kind_of p) in

@@ -8,6 +8,7 @@ pub mod Ranges
 pub mod Places
 pub mod Plain
 pub mod EpTable
+pub mod Begins
 pub mod Written
 pub mod Past
 pub mod Reads

@@ -8,7 +8,7 @@ ghost use Rattle.redir_wire.specs.Header.{head_bytes, id_bytes, IdFits};
 ghost use Rattle.redir_wire.specs.Spelling.{kind_of, length_of, words_length, is_hello, hello as hello_bytes, connect as connect_bytes, interface_info, ep_info, fields};
 ghost use Rattle.redir_wire.specs.Ranges.{IsWritable};
 ghost use Rattle.redir_wire.specs.Written.{CanWrite, packet_bytes};
-ghost use Rattle.redir_wire.specs.inner.Begins.{Begins};
+ghost use Rattle.redir_wire.specs.Begins.{Begins};
 
 use crate::capability::{CONNECT_VERSION, MAX_PACKET_SIZE};
 use crate::header::is_wide;
