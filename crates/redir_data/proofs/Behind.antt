@@ -1,8 +1,8 @@
 -- What the readers behind a header find.
-use Rattle.std.proofs.Common.{◌≡◌, ℕ, ◌+◌, ◌-◌, ◌<◌, ◌≤◌, Bool, true, false, cond, List, [], ◌∷◌, length, take, drop, Option, Some, None, Result, Ok, Err, refl, sym, ap, subst, ◌∙◌, arith}
+use Rattle.std.proofs.Common.{◌≡◌, ℕ, ◌+◌, ◌-◌, ◌<◌, ◌≤◌, Bool, true, false, cond, List, [], ◌∷◌, length, take, drop, Option, Some, Err, refl, sym, ap, subst, ◌∙◌, arith}
 use Rattle.std.specs.Prelude.{nat_le, not, ◌&&◌, ◌==◌}
 use Rattle.std.proofs.lemmas.Grind.{common_steps}
-use Rattle.usb_base.specs.Number.{byte_at, part}
+use Rattle.usb_base.specs.Number.{part}
 use Rattle.usb_base.specs.declared.reason.Reason.{Reason}
 use Rattle.packet_stream.specs.Format.{Check, wrong_at, Found, Whole, Short, Wrong, reading}
 use Rattle.packet_stream.specs.Reads.{WantsMemory, Answers}
@@ -12,16 +12,13 @@ use Rattle.packet_stream.proofs.Formats.{wrong_parts}
 use Rattle.redir_wire.specs.declared.packet.Caps.{Caps}
 use Rattle.redir_wire.specs.declared.packet.Way.{Way}
 use Rattle.redir_wire.specs.declared.packet.Header.{Header}
-use Rattle.redir_wire.specs.declared.packet.RedirControl.{RedirControl}
 use Rattle.redir_wire.specs.declared.kind.DataKind.{DataKind}
 use Rattle.redir_wire.specs.Table.{data_numbered}
 use Rattle.redir_wire.specs.Bodies.{with_header, behind}
 use Rattle.redir_wire.specs.Plain.{controls}
 use Rattle.redir_wire.specs.Plain as wire
 use Rattle.redir_wire.specs.Reads.{AnswersBehind}
-use Rattle.redir_data.specs.declared.packet.RedirData.{RedirData}
 use Rattle.redir_data.specs.declared.packet.RedirPacket.{RedirPacket}
-use Rattle.redir_data.specs.Spelling.{body_of, data_count}
 use Rattle.redir_data.specs.Places.{fixed, told_length, fields_with, fields_at}
 use Rattle.redir_data.specs.Carrying.{transfers, has_data}
 use Rattle.redir_data.specs.inner.Past.{packet_past, error_past, IsNear}

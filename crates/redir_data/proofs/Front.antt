@@ -1,8 +1,7 @@
 -- Reading a packet of any type is reading its header, and then what is behind it.
-use Rattle.std.proofs.Common.{◌≡◌, ℕ, ◌+◌, ◌≤◌, Bool, true, false, cond, List, ◌++◌, ◌⊎◌, inl, inr, length, drop, Result, Ok, Err, refl, sym, ap, subst, ◌∙◌, arith}
+use Rattle.std.proofs.Common.{◌≡◌, ℕ, ◌≤◌, Bool, true, false, cond, List, inl, inr, length, drop, Err, refl, sym, ap, subst, ◌∙◌}
 use Rattle.std.specs.Prelude.{not}
-use Rattle.std.specs.Int.{w32}
-use Rattle.usb_base.specs.Number.{le_at, AreBytes}
+use Rattle.usb_base.specs.Number.{AreBytes}
 use Rattle.usb_base.specs.declared.reason.Reason.{Reason}
 use Rattle.packet_stream.specs.Format.{Found, Whole, Short, Wrong, reading}
 use Rattle.packet_stream.specs.Joined.{joined}
@@ -15,11 +14,11 @@ use Rattle.redir_wire.specs.declared.packet.Way.{Way}
 use Rattle.redir_wire.specs.declared.packet.Header.{Header}
 use Rattle.redir_wire.specs.declared.packet.RedirControl.{RedirControl}
 use Rattle.redir_wire.specs.Header.{is_wide, head_size, header_at, IsHeader, headers}
-use Rattle.redir_wire.specs.Bodies.{Bodies, behind, packets}
-use Rattle.redir_wire.specs.Plain.{is_plain, controls, plain}
+use Rattle.redir_wire.specs.Bodies.{behind}
+use Rattle.redir_wire.specs.Plain.{controls, plain}
 use Rattle.redir_wire.specs.Past.{found_past}
 use Rattle.redir_wire.specs.Reads.{never}
-use Rattle.redir_wire.proofs.Heads.{IsRead, header_read}
+use Rattle.redir_wire.proofs.Heads.{header_read}
 use Rattle.redir_wire.proofs.Past.{read_past, read_short, read_wrong}
 use Rattle.redir_wire.proofs.Plain.{plain_bodies}
 use Rattle.redir_data.specs.declared.packet.RedirData.{RedirData}

@@ -1,5 +1,5 @@
 -- What is written is read again.
-use Rattle.std.proofs.Common.{◌≡◌, ℕ, ◌≤◌, Bool, true, false, List, ◌++◌, length, refl, sym, ap, ◌∙◌, arith}
+use Rattle.std.proofs.Common.{◌≡◌, ℕ, true, false, List, ◌++◌, length, refl, sym, ◌∙◌, arith}
 use Rattle.std.specs.Prelude.{nat_le, not, ◌==◌}
 use Rattle.std.proofs.lemmas.Bool.{le-leb}
 use Rattle.packet_stream.specs.Format.{Whole, reading}
@@ -19,7 +19,7 @@ use Rattle.redir_wire.proofs.Numbers.{says, known, number_fits, agreed_by}
 use Rattle.redir_wire.proofs.Plain.{packet_written}
 use Rattle.redir_data.specs.declared.packet.RedirData.{RedirData}
 use Rattle.redir_data.specs.declared.packet.RedirPacket.TheVariants.{Plain, Carrying}
-use Rattle.redir_data.specs.Spelling.{kind_of, number_of, fields, size_of, header_of, body_of}
+use Rattle.redir_data.specs.Spelling.{kind_of, size_of, header_of}
 use Rattle.redir_data.specs.Ranges.{Ranges}
 use Rattle.redir_data.specs.Places.{fixed}
 use Rattle.redir_data.specs.Carrying.{transfers}

@@ -1,5 +1,5 @@
 -- The packets that move data.
-use Rattle.std.specs.Prelude.{ℕ, ◌+◌, ◌==◌, ◌||◌, not, Bool, List, [], ◌∷◌, length}
+use Rattle.std.specs.Prelude.{◌+◌, ◌==◌, ◌||◌, not, Bool, [], ◌∷◌, length}
 use Rattle.usb_base.specs.declared.reason.Reason.{Reason}
 use Rattle.usb_base.specs.declared.reason.Reason.TheVariants.{DataLength}
 use Rattle.usb_base.specs.Number.{byte_at}

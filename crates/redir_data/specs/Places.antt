@@ -1,5 +1,5 @@
 -- The fields of a packet that moves data, at their places behind its header, and its data.
-use Rattle.std.specs.Prelude.{ℕ, ◌+◌, ◌-◌, ◌*◌, Bool, true, false, List, [], Option}
+use Rattle.std.specs.Prelude.{ℕ, ◌+◌, ◌-◌, ◌*◌, Bool, true, false, List, []}
 use Rattle.std.specs.Int.{w16, w32}
 use Rattle.std.specs.Option.{option_map_or}
 use Rattle.usb_base.specs.Number.{le_at, byte_at, part}

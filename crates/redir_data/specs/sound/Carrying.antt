@@ -1,5 +1,5 @@
 -- The packets that move data are sound.
-use Rattle.std.proofs.Common.{◌≡◌, ℕ, ◌+◌, ◌-◌, ◌*◌, ◌<◌, ◌≤◌, Bool, true, false, cond, List, [], ◌∷◌, ◌++◌, length, take, Option, Some, None, refl, sym, ap, subst, ◌∙◌, arith}
+use Rattle.std.proofs.Common.{◌≡◌, ℕ, ◌+◌, ◌-◌, ◌*◌, ◌≤◌, Bool, true, false, cond, List, ◌++◌, length, take, Option, Some, None, refl, sym, ap, subst, ◌∙◌, arith}
 use Rattle.std.specs.Prelude.{not, ◌||◌, ◌==◌}
 use Rattle.std.proofs.lemmas.List.{get_or_append_left}
 use Rattle.usb_base.specs.Number.{byte_at, part, AreBytes}
@@ -13,15 +13,15 @@ use Rattle.redir_wire.specs.declared.kind.DataKind.TheVariants.{Control, Bulk, I
 use Rattle.redir_wire.specs.Capability.{has}
 use Rattle.redir_wire.specs.Table.{data_row, data_numbered}
 use Rattle.redir_wire.specs.Header.{IsHeader}
-use Rattle.redir_wire.specs.Bodies.{with_header, IsPacket}
+use Rattle.redir_wire.specs.Bodies.{with_header}
 use Rattle.redir_wire.specs.Plain.{is_plain}
 use Rattle.redir_wire.proofs.Numbers.{data_number, data_again}
 use Rattle.redir_wire.proofs.Packets.{IsFound, AreBodies, AreSteadyBehind, packets_sound}
 use Rattle.redir_data.specs.declared.packet.RedirData.{RedirData}
 use Rattle.redir_data.specs.declared.packet.RedirData.TheVariants as moving
-use Rattle.redir_data.specs.Spelling.{kind_of, number_of, endpoint_of, length_of, body_of, data_count, fields}
+use Rattle.redir_data.specs.Spelling.{kind_of, number_of, data_count, fields}
 use Rattle.redir_data.specs.Ranges.{IsData}
-use Rattle.redir_data.specs.Places.{fixed, bulk_length, told_length, fields_with, fields_at, data_at}
+use Rattle.redir_data.specs.Places.{fixed, bulk_length, told_length, fields_at, data_at}
 use Rattle.redir_data.specs.Carrying.{data_check, transfers, carrying}
 use Rattle.redir_data.specs.sound.Checks.{announced, is_numbered, least_length, none_of, agrees_by}
 use Rattle.redir_data.specs.sound.Fields.{fixed_spelled, ranges_there, length_there, are_fields, length_fields, endpoint_again, told_again, fields_again}

@@ -1,12 +1,11 @@
 -- The fields of packets that move data: spelled again where they stand, and read again where they are spelled.
-use Rattle.std.proofs.Common.{◌≡◌, ℕ, ◌+◌, ◌-◌, ◌*◌, ◌/◌, ◌%◌, ◌^◌, ◌<◌, ◌≤◌, Bool, true, false, cond, List, [], ◌∷◌, ◌++◌, length, take, drop, refl, sym, ap, ◌∙◌, arith, length-drop}
+use Rattle.std.proofs.Common.{◌≡◌, ℕ, ◌+◌, ◌-◌, ◌*◌, ◌/◌, ◌%◌, ◌^◌, ◌<◌, ◌≤◌, Bool, true, false, cond, List, ◌++◌, length, take, refl, ap, ◌∙◌, arith}
 use Rattle.std.specs.Int.{w16, w32}
-use Rattle.std.proofs.lemmas.List.{length-append, length-take}
+use Rattle.std.proofs.lemmas.List.{length-append}
 use Rattle.std.proofs.lemmas.Nat.{from_le_bytes-to_le_bytes_2, from_le_bytes-to_le_bytes_4}
 use Rattle.usb_base.specs.Number.{le, le_at, byte_at, part, AreBytes}
-use Rattle.usb_base.proofs.Numbers.{length-part, part_found, then, le_spelled_16, le_spelled_32, le_at-below_16, le_at-below_32}
+use Rattle.usb_base.proofs.Numbers.{part_found, then, le_spelled_16, le_spelled_32, le_at-below_16, le_at-below_32}
 use Rattle.redir_wire.specs.declared.packet.Caps.{Caps}
-use Rattle.redir_wire.specs.declared.packet.Way.{Way}
 use Rattle.redir_wire.specs.declared.kind.DataKind.{DataKind}
 use Rattle.redir_wire.specs.declared.kind.DataKind.TheVariants as kinds
 use Rattle.redir_wire.specs.Capability.{has}
@@ -14,7 +13,7 @@ use Rattle.redir_wire.proofs.Controls.{two, four}
 use Rattle.redir_data.specs.declared.packet.RedirData.{RedirData}
 use Rattle.redir_data.specs.declared.packet.RedirData.TheVariants as moving
 use Rattle.redir_data.specs.Spelling.{kind_of, endpoint_of, length_of, body_of, bulk, fixed_fields, fields, size_of}
-use Rattle.redir_data.specs.Ranges.{Ranges, ControlRanges, BulkRanges, BulkLengthFits, LengthFits}
+use Rattle.redir_data.specs.Ranges.{Ranges, BulkLengthFits, LengthFits}
 use Rattle.redir_data.specs.Places.{fixed, bulk_length, told_length, fields_with, fields_at}
 
 -- ---- the length of a bulk packet

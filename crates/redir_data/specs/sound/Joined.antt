@@ -1,6 +1,5 @@
 -- All packets are sound.
-use Rattle.std.proofs.Common.{◌≡◌, ℕ, ◌<◌, ◌≤◌, Bool, true, false, List, ◌++◌, ◌⊎◌, inl, inr, length, None, refl, ap, ◌∙◌, arith}
-use Rattle.std.specs.Int.{w32}
+use Rattle.std.proofs.Common.{◌≡◌, Bool, ◌⊎◌, inl, inr, refl, ap, ◌∙◌}
 use Rattle.usb_base.proofs.Numbers.{le_at-append_32}
 use Rattle.packet_stream.specs.Format.{IsSound}
 use Rattle.packet_stream.specs.Joined.{joined}

@@ -1,4 +1,4 @@
-use Rattle.std.proofs.Common.{◌≡◌, ℕ, ◌+◌, ◌≤◌, length, sym, ap, ◌∙◌, arith}
+use Rattle.std.proofs.Common.{◌≡◌, ℕ, sym, ap, ◌∙◌, arith}
 use Rattle.usb_base.specs.declared.reason.Reason.TheVariants.{DataLength}
 use Rattle.packet_stream.specs.Format.{Whole, Wrong}
 use Rattle.redir_wire.specs.Table.{fixed_length}

@@ -1,10 +1,9 @@
-use Rattle.std.proofs.Common.{ap, refl}
+use Rattle.std.proofs.Common.{refl}
 use Rattle.packet_stream.specs.Format.{reading}
 use Rattle.redir_wire.specs.Bodies.{behind}
 use Rattle.redir_data.specs.Carrying.{transfers, has_data}
 use Rattle.redir_data.specs.declared.packet.RedirPacket.TheVariants.{Carrying}
 use Rattle.redir_data.specs.Packets.{takes_memory}
-use Rattle.redir_data.specs.inner.Past.{packet_past}
 use Rattle.redir_data.proofs.Behind.{data_near, error_answers}
 use Rattle.redir_data.proofs.redir.data_behind.Goals as goal
 

@@ -1,11 +1,10 @@
-use Rattle.std.proofs.Common.{ap, refl}
+use Rattle.std.proofs.Common.{refl}
 use Rattle.packet_stream.specs.Format.{reading}
 use Rattle.redir_wire.specs.Bodies.{behind}
 use Rattle.redir_wire.specs.Plain.{controls}
 use Rattle.redir_wire.specs.Plain as wire
 use Rattle.redir_data.specs.declared.packet.RedirPacket.TheVariants.{Plain}
 use Rattle.redir_data.specs.Packets.{takes_memory}
-use Rattle.redir_data.specs.inner.Past.{packet_past}
 use Rattle.redir_data.proofs.Behind.{control_near, error_answers}
 use Rattle.redir_data.proofs.redir.plain_behind.Goals as goal
 
