@@ -61,15 +61,16 @@ abbrev pub bulk : Bool → ℕ → ℕ → ℕ → ℕ → List ℕ
 bulk wide endpoint status told stream =
     (endpoint ∷ status ∷ []) ++ le w16 (told % 65536) ++ le w32 stream ++ if_sent wide (le w16 (told / 65536))
 
-abbrev pub small : ℕ → ℕ → ℕ → List ℕ
-small endpoint status told = (endpoint ∷ status ∷ []) ++ le w16 told
+-- isochronous and interrupt packets
+abbrev pub periodic : ℕ → ℕ → ℕ → List ℕ
+periodic endpoint status told = (endpoint ∷ status ∷ []) ++ le w16 told
 
 abbrev pub fixed_fields : Caps → RedirData → List ℕ
 fixed_fields caps (moving.Control endpoint request kind status value index told body) =
     (endpoint ∷ request ∷ kind ∷ status ∷ []) ++ le w16 value ++ le w16 index ++ le w16 told
 fixed_fields caps (moving.Bulk endpoint status told stream body) = bulk (has caps 6) endpoint status told stream
-fixed_fields caps (moving.Iso endpoint status told body) = small endpoint status told
-fixed_fields caps (moving.Interrupt endpoint status told body) = small endpoint status told
+fixed_fields caps (moving.Iso endpoint status told body) = periodic endpoint status told
+fixed_fields caps (moving.Interrupt endpoint status told body) = periodic endpoint status told
 
 abbrev pub fields : Caps → RedirData → List ℕ
 fields caps d = fixed_fields caps d ++ body_of d

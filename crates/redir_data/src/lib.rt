@@ -1,6 +1,7 @@
 //! The packets of USB network redirection that move data, and all its packets together, read and written.
 #![tactic(auto)]
 
+mod data;
 mod laws;
 mod packet;
 mod read;

@@ -6,11 +6,11 @@ ghost use Rattle.redir_wire.specs.Header.{is_its_length};
 ghost use Rattle.redir_wire.specs.Bodies.{behind};
 ghost use Rattle.redir_wire.specs.Plain.{is_plain};
 ghost use Rattle.redir_wire.specs.Reads.{AnswersBehind};
-ghost use Rattle.redir_data.specs.Spelling.{carries, data_count};
 ghost use Rattle.redir_data.specs.Places.{fixed, length_place, bulk_length, told_length, fields_with};
 ghost use Rattle.redir_data.specs.Carrying.{transfers, has_data};
 ghost use Rattle.redir_data.specs.inner.Least.{least, bulk_size, TellsLength};
 
+use crate::data::data_count;
 use crate::packet::RedirData;
 use packet_stream::ReadError;
 use redir_wire::{Caps, DataKind, Header, WIDE_BULK_LENGTH, Way, WireError};
@@ -52,24 +52,6 @@ pub fn read_data(
         Ok(body) => Ok(Some(fields_with(kind, bytes, told, body))),
         Err(Memory) => Err(ReadError::Memory),
     }
-}
-
-/// Whether packets of this endpoint carry data this way: to the host those of OUT endpoints, to the guest those of
-/// IN endpoints.
-pub(crate) fn carries(way: Way, endpoint: u8) -> bool
-    ensures { result ≡ carries way endpoint }
-{
-    match way {
-        Way::ToHost => endpoint < 0x80,
-        Way::ToGuest => endpoint >= 0x80,
-    }
-}
-
-/// How many bytes of data belong to a length.
-fn data_count(way: Way, endpoint: u8, told: u32) -> u32
-    ensures { result ≡ data_count way endpoint told }
-{
-    if carries(way, endpoint) { told } else { 0 }
 }
 
 /// The place of the length field.

@@ -1,12 +1,13 @@
 //! Writes packets that move data.
 
-ghost use Rattle.std.specs.Prelude.{◌≡◌, ◌++◌, ◌≤◌, length, OnOk, OnErr};
+ghost use Rattle.std.specs.Prelude.{◌≡◌, ◌++◌, ◌≤◌, false, OnOk, OnErr};
 ghost use Rattle.redir_wire.specs.Begins.{Begins};
-ghost use Rattle.redir_data.specs.Spelling.{kind_of, body_of, size_of, bulk, fixed_fields, small};
+ghost use Rattle.redir_wire.specs.Header.{is_wide, IdFits};
+ghost use Rattle.redir_data.specs.Spelling.{size_of, bulk, fixed_fields, periodic};
 ghost use Rattle.redir_data.specs.Written.{CanWrite, packet_bytes};
 
 use crate::packet::RedirData;
-use redir_wire::{Caps, DataKind, Header, WIDE_BULK_LENGTH, WIDE_IDS, Way, push_header};
+use redir_wire::{Caps, Header, WIDE_BULK_LENGTH, WIDE_IDS, Way, push_header};
 use usb_base::{Bytes, Memory, push_le_u16, push_le_u32};
 
 /// Appends a packet with this id, in its form with these capabilities; its data agree with its length this way. For
@@ -22,8 +23,10 @@ pub fn write_data(
     ensures ok { OnOk result (out.new ≡ out.old ++ packet_bytes id caps packet.now) }
     ensures err { OnErr result (out.new ≡ out.old) }
 {
+    let agrees = packet.has_its_data(way);
+    prove!(agrees);
     let before = out.len();
-    match push_data(packet, id, way, caps, out) {
+    match push_data(packet, id, caps, out) {
         Ok(()) => Ok(()),
         Err(memory) => {
             out.cut(before);
@@ -32,45 +35,18 @@ pub fn write_data(
     }
 }
 
-fn push_data(
-    packet: &RedirData,
-    id: u64,
-    _way: Way,
-    caps: Caps,
-    out: &mut Bytes,
-) -> Result<(), Memory>
-    requires { CanWrite id _way caps packet.now }
+fn push_data(packet: &RedirData, id: u64, caps: Caps, out: &mut Bytes) -> Result<(), Memory>
+    requires id_fits { IdFits (is_wide false caps) id }
+    requires in_limit { size_of caps packet.now ≤ 16777280 }
     ensures ok { OnOk result (out.new ≡ out.old ++ packet_bytes id caps packet.now) }
     ensures err { OnErr result (Begins out.old out.new) }
 {
-    let kind = kind_of(packet).row().number;
+    let kind = packet.kind().row().number;
     let length = size_of(packet, caps);
     push_header(caps.has(WIDE_IDS), &Header { kind, length, id }, out)?;
     push_fixed(packet, caps, out)?;
-    out.append(body_of(packet).as_slice())?;
+    out.append(packet.body().as_slice())?;
     Ok(())
-}
-
-fn kind_of(packet: &RedirData) -> DataKind
-    ensures { result ≡ kind_of packet.now }
-{
-    match packet {
-        RedirData::Control { .. } => DataKind::Control,
-        RedirData::Bulk { .. } => DataKind::Bulk,
-        RedirData::Iso { .. } => DataKind::Iso,
-        RedirData::Interrupt { .. } => DataKind::Interrupt,
-    }
-}
-
-fn body_of(packet: &RedirData) -> &Bytes
-    ensures { result.now ≡ body_of packet.now }
-{
-    match packet {
-        RedirData::Control { body, .. }
-        | RedirData::Bulk { body, .. }
-        | RedirData::Iso { body, .. }
-        | RedirData::Interrupt { body, .. } => body,
-    }
 }
 
 /// How many bytes follow the header.
@@ -78,7 +54,7 @@ fn size_of(packet: &RedirData, caps: Caps) -> u32
     requires { size_of caps packet.now ≤ 16777280 }
     ensures { result ≡ size_of caps packet.now }
 {
-    kind_of(packet).row().fixed(caps) + body_of(packet).len() as u32
+    packet.kind().row().fixed(caps) + packet.body().len() as u32
 }
 
 fn push_fixed(packet: &RedirData, caps: Caps, out: &mut Bytes) -> Result<(), Memory>
@@ -123,7 +99,7 @@ fn push_fixed(packet: &RedirData, caps: Caps, out: &mut Bytes) -> Result<(), Mem
             status,
             length,
             ..
-        } => push_small(*endpoint, *status, *length, out),
+        } => push_periodic(*endpoint, *status, *length, out),
     }
 }
 
@@ -148,8 +124,8 @@ fn push_bulk(
     Ok(())
 }
 
-fn push_small(endpoint: u8, status: u8, length: u16, out: &mut Bytes) -> Result<(), Memory>
-    ensures ok { OnOk result (out.new ≡ out.old ++ small endpoint status length) }
+fn push_periodic(endpoint: u8, status: u8, length: u16, out: &mut Bytes) -> Result<(), Memory>
+    ensures ok { OnOk result (out.new ≡ out.old ++ periodic endpoint status length) }
     ensures err { OnErr result (Begins out.old out.new) }
 {
     out.append(&[endpoint, status])?;
