@@ -1,4 +1,13 @@
 pub mod Words
-pub mod Places
-pub mod Fields
-pub mod Sound
+pub mod Lengths
+pub mod Behind
+pub mod EpTable
+pub mod Checks
+pub mod Headers
+pub mod Heads
+pub mod Packets
+pub mod Past
+pub mod Numbers
+pub mod Controls
+pub mod Plain
+pub mod Told

@@ -1,0 +1,9 @@
+pub mod Spelling
+pub mod Ranges
+pub mod Places
+pub mod Carrying
+pub mod Packets
+pub mod Streams
+pub mod Written
+pub mod inner
+pub mod sound

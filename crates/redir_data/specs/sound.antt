@@ -1,0 +1,4 @@
+pub mod Checks
+pub mod Fields
+pub mod Carrying
+pub mod Joined

@@ -1,0 +1,85 @@
+//! What packets that move data have in common.
+
+ghost use Rattle.std.specs.Prelude.{◌≡◌, ◌↔◌, IsTrue};
+ghost use Rattle.redir_data.specs.Spelling.{kind_of, endpoint_of, length_of, body_of, carries, data_count};
+ghost use Rattle.redir_data.specs.Ranges.{HasItsData};
+
+use crate::packet::RedirData;
+use redir_wire::{DataKind, Way};
+use usb_base::Bytes;
+
+impl RedirData {
+    /// Its type.
+    pub fn kind(&self) -> DataKind
+        ensures { result ≡ kind_of self.now }
+    {
+        match self {
+            RedirData::Control { .. } => DataKind::Control,
+            RedirData::Bulk { .. } => DataKind::Bulk,
+            RedirData::Iso { .. } => DataKind::Iso,
+            RedirData::Interrupt { .. } => DataKind::Interrupt,
+        }
+    }
+
+    /// The byte of its endpoint's address.
+    pub fn endpoint(&self) -> u8
+        ensures { result ≡ endpoint_of self.now }
+    {
+        match self {
+            RedirData::Control { endpoint, .. }
+            | RedirData::Bulk { endpoint, .. }
+            | RedirData::Iso { endpoint, .. }
+            | RedirData::Interrupt { endpoint, .. } => *endpoint,
+        }
+    }
+
+    /// How many bytes were asked for or moved.
+    pub fn length(&self) -> u32
+        ensures { result ≡ length_of self.now }
+    {
+        match self {
+            RedirData::Bulk { length, .. } => *length,
+            RedirData::Control { length, .. }
+            | RedirData::Iso { length, .. }
+            | RedirData::Interrupt { length, .. } => u32::from(*length),
+        }
+    }
+
+    /// Its data.
+    pub fn body(&self) -> &Bytes
+        ensures { result.now ≡ body_of self.now }
+    {
+        match self {
+            RedirData::Control { body, .. }
+            | RedirData::Bulk { body, .. }
+            | RedirData::Iso { body, .. }
+            | RedirData::Interrupt { body, .. } => body,
+        }
+    }
+
+    /// Whether it has as many data as its length tells, where packets of its endpoint carry data this way, and
+    /// else none.
+    pub fn has_its_data(&self, way: Way) -> bool
+        ensures { IsTrue result ↔ HasItsData way self.now }
+    {
+        self.body().len() == data_count(way, self.endpoint(), self.length()) as usize
+    }
+}
+
+/// Whether packets of this endpoint carry data this way: to the host those of OUT endpoints, to the guest those of
+/// IN endpoints.
+fn carries(way: Way, endpoint: u8) -> bool
+    ensures { result ≡ carries way endpoint }
+{
+    match way {
+        Way::ToHost => endpoint < 0x80,
+        Way::ToGuest => endpoint >= 0x80,
+    }
+}
+
+/// How many bytes of data stand in a packet of this endpoint that tells this length.
+pub(crate) fn data_count(way: Way, endpoint: u8, told: u32) -> u32
+    ensures { result ≡ data_count way endpoint told }
+{
+    if carries(way, endpoint) { told } else { 0 }
+}

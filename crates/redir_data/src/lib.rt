@@ -1,0 +1,19 @@
+//! The packets of USB network redirection that move data, and all its packets together, read and written.
+#![tactic(auto)]
+
+mod data;
+mod laws;
+mod packet;
+mod read;
+mod redir;
+mod state;
+mod stream;
+mod write;
+
+pub use laws::{control_read_again, data_read_again, packets_sound};
+pub use packet::{RedirData, RedirPacket, RedirRead};
+pub use read::read_data;
+pub use redir::read_redir;
+pub use state::RedirState;
+pub use stream::{FromGuest, FromHost};
+pub use write::write_data;

@@ -1,0 +1,132 @@
+//! Reads packets of all types.
+
+ghost use Rattle.std.specs.Prelude.{◌≡◌, ◌≤◌, true, false};
+ghost use Rattle.packet_stream.specs.Format.{Stands, reading};
+ghost use Rattle.packet_stream.specs.Reads.{Answers, IfTold};
+ghost use Rattle.redir_wire.specs.Header.{is_its_length};
+ghost use Rattle.redir_wire.specs.Bodies.{behind};
+ghost use Rattle.redir_wire.specs.Plain.{controls, is_plain};
+ghost use Rattle.redir_data.specs.Carrying.{transfers};
+ghost use Rattle.redir_data.specs.Packets.{redir_packets, takes_memory};
+ghost use Rattle.redir_data.specs.inner.Past.{packet_past, past_found, error_past, IsNear};
+
+use crate::packet::{RedirPacket, RedirRead};
+use crate::read::read_data;
+use packet_stream::{Read, ReadError};
+use redir_wire::{Caps, Header, Way, WireError, read_control, read_header};
+use std::alloc::Global;
+
+/// Reads the packet at the front of what goes this way, where these capabilities are agreed. `first` says that the
+/// stream's hello hasn't come. A packet is refused as soon as the bytes of what is wrong are there, at its place
+/// from the packet's start, by the reasons of `read_header`, `read_control` and `read_data`. Only a whole packet
+/// with data, or a hello with words, takes memory; its data are copied once.
+pub fn read_redir(
+    alloc: Global,
+    first: bool,
+    caps: Caps,
+    way: Way,
+    bytes: &[u8],
+) -> Result<RedirRead, WireError>
+    ensures exact { Answers takes_memory result (reading (redir_packets first caps way) bytes.now) }
+    ensures stands { IfTold result (Stands (redir_packets first caps way) bytes.now) }
+{
+    packet_at_front(alloc, first, caps, way, bytes)
+}
+
+fn packet_at_front(
+    alloc: Global,
+    first: bool,
+    caps: Caps,
+    way: Way,
+    bytes: &[u8],
+) -> Result<RedirRead, WireError>
+    ensures { Answers takes_memory result (reading (redir_packets first caps way) bytes.now) }
+{
+    match read_header(first, caps, way, bytes) {
+        Ok(Read::Whole(head, size)) => behind_header(alloc, head, size, caps, way, &bytes[size..]),
+        Ok(Read::Short) => Ok(Read::Short),
+        Err(error) => Err(error),
+    }
+}
+
+fn behind_header(
+    alloc: Global,
+    head: Header,
+    size: usize,
+    caps: Caps,
+    way: Way,
+    bytes: &[u8],
+) -> Result<RedirRead, WireError>
+    requires its_length { is_its_length caps head.kind head.length ≡ true }
+    requires size { size ≤ 16 }
+    ensures { Answers takes_memory result (past_found caps way size head bytes.now) }
+{
+    if head.kind < FIRST_DATA {
+        plain_behind(alloc, head, size, caps, bytes)
+    } else {
+        data_behind(alloc, head, size, caps, way, bytes)
+    }
+}
+
+/// The first number of the types that move data.
+const FIRST_DATA: u32 = 100;
+
+fn plain_behind(
+    alloc: Global,
+    head: Header,
+    size: usize,
+    caps: Caps,
+    bytes: &[u8],
+) -> Result<RedirRead, WireError>
+    requires plain { is_plain head.kind ≡ true }
+    requires its_length { is_its_length caps head.kind head.length ≡ true }
+    requires size { size ≤ 16 }
+    ensures { Answers takes_memory result (packet_past RedirPacket.Plain size head (reading (behind (controls caps) head) bytes.now)) }
+{
+    match read_control(alloc, &head, caps, bytes) {
+        Ok(Some(control)) => {
+            let all = size + head.length as usize;
+            Ok(Read::Whole((head, RedirPacket::Plain(control)), all))
+        }
+        Ok(None) => Ok(Read::Short),
+        Err(error) => Err(past_header(size, error)),
+    }
+}
+
+fn data_behind(
+    alloc: Global,
+    head: Header,
+    size: usize,
+    caps: Caps,
+    way: Way,
+    bytes: &[u8],
+) -> Result<RedirRead, WireError>
+    requires carrying { is_plain head.kind ≡ false }
+    requires its_length { is_its_length caps head.kind head.length ≡ true }
+    requires size { size ≤ 16 }
+    ensures { Answers takes_memory result (packet_past RedirPacket.Carrying size head (reading (behind (transfers caps way) head) bytes.now)) }
+{
+    match read_data(alloc, &head, way, caps, bytes) {
+        Ok(Some(data)) => {
+            let all = size + head.length as usize;
+            Ok(Read::Whole((head, RedirPacket::Carrying(data)), all))
+        }
+        Ok(None) => Ok(Read::Short),
+        Err(error) => Err(past_header(size, error)),
+    }
+}
+
+/// The same error, its place counted from the start of a header of this size.
+fn past_header(size: usize, error: ReadError) -> ReadError
+    requires size { size ≤ 16 }
+    requires near { IsNear error }
+    ensures { result ≡ error_past size error }
+{
+    match error {
+        ReadError::Refused { place, reason } => ReadError::Refused {
+            place: size as u64 + place,
+            reason,
+        },
+        ReadError::Memory => ReadError::Memory,
+    }
+}

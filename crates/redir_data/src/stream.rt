@@ -1,0 +1,98 @@
+//! The streams of packets, one a way.
+
+ghost use Rattle.std.specs.Prelude.{◌≡◌};
+ghost use Rattle.redir_wire.specs.declared.packet.Way.TheVariants.{ToGuest, ToHost};
+ghost use Rattle.redir_data.specs.Packets.{takes_memory as packet_takes_memory};
+ghost use Rattle.redir_data.specs.Streams.{start, advanced, after as after_packet, stream_format};
+ghost use Rattle.redir_data.specs.sound.Joined.{stream_sound};
+
+use crate::packet::RedirPacket;
+use crate::redir::read_redir;
+use crate::state::RedirState;
+use packet_stream::{PacketFormat, Read, ReadError};
+use redir_wire::{ANNOUNCED, Caps, Header, RedirControl, Way};
+use std::alloc::Global;
+
+impl RedirState {
+    /// Before the hello, where nothing is agreed.
+    pub fn start() -> RedirState
+        ensures { result ≡ start }
+    {
+        RedirState {
+            first: true,
+            caps: Caps { bits: 0 },
+        }
+    }
+
+    /// What a packet changes: a hello's capabilities are agreed where the gateway announces them, too.
+    pub fn advance(&mut self, packet: &RedirPacket)
+        ensures { self.new ≡ advanced self.old packet.now }
+    {
+        if let RedirPacket::Plain(RedirControl::Hello(hello)) = packet {
+            *self = RedirState {
+                first: false,
+                caps: hello.caps().agreed(Caps { bits: ANNOUNCED }),
+            };
+        }
+    }
+}
+
+/// What a host sends, as its guest reads it.
+#[derive(Debug)]
+pub struct FromHost;
+
+impl PacketFormat for FromHost {
+    type State = RedirState;
+
+    type Packet = (Header, RedirPacket);
+
+    ghost format = { stream_format ToGuest };
+
+    ghost after = { after_packet };
+
+    ghost takes_memory = { packet_takes_memory };
+
+    fn read(
+        alloc: Global,
+        state: &RedirState,
+        bytes: &[u8],
+    ) -> Result<Read<(Header, RedirPacket)>, ReadError> {
+        read_redir(alloc, state.first, state.caps, Way::ToGuest, bytes)
+    }
+
+    fn next(state: &mut RedirState, packet: &(Header, RedirPacket)) {
+        state.advance(&packet.1);
+    }
+
+    ghost sound = { stream_sound ToGuest };
+}
+
+/// What a guest sends, as its host reads it.
+#[derive(Debug)]
+pub struct FromGuest;
+
+impl PacketFormat for FromGuest {
+    type State = RedirState;
+
+    type Packet = (Header, RedirPacket);
+
+    ghost format = { stream_format ToHost };
+
+    ghost after = { after_packet };
+
+    ghost takes_memory = { packet_takes_memory };
+
+    fn read(
+        alloc: Global,
+        state: &RedirState,
+        bytes: &[u8],
+    ) -> Result<Read<(Header, RedirPacket)>, ReadError> {
+        read_redir(alloc, state.first, state.caps, Way::ToHost, bytes)
+    }
+
+    fn next(state: &mut RedirState, packet: &(Header, RedirPacket)) {
+        state.advance(&packet.1);
+    }
+
+    ghost sound = { stream_sound ToHost };
+}

@@ -1,0 +1,49 @@
+-- Checks that pass, that are no matter, and that fail before others.
+use Rattle.std.proofs.Common.{◌≡◌, ℕ, ◌<◌, ◌≤◌, Bool, true, false, cond, List, [], ◌∷◌, ◌++◌, length, Option, Some, None, refl, ◌∙◌}
+use Rattle.std.specs.Prelude.{nat_le, nat_lt, not, ◌&&◌}
+use Rattle.std.proofs.lemmas.Bool.{leb-true, ltb-true}
+use Rattle.packet_stream.specs.Format.{Check, wrong_at, Format, Found, Whole, Short, reading_by, reading}
+use Rattle.packet_stream.proofs.Formats.{none_first, none_later, none_from}
+
+-- each of them passes once its bytes are there
+abbrev pub Passed : {R : Type 0} → List (Check R) → List ℕ → Type 0
+Passed [] b = Unit {0}
+Passed (c ∷ cs) b = (c.needed ≤ length b → c.passes b ≡ true) × Passed cs b
+
+pub passed : {R : Type 0} (cs ds : List (Check R)) (b : List ℕ) → wrong_at (cs ++ ds) b ≡ None → Passed cs b × (wrong_at ds b ≡ None)
+passed [] ds b e = (tt, e)
+passed (c ∷ cs) ds b e = let later = passed cs ds b (none_later c (cs ++ ds) b e) in ((λ there. none_first c (cs ++ ds) b e there, later.0), later.1)
+
+pub none_passed : {R : Type 0} (cs ds : List (Check R)) (b : List ℕ) → Passed cs b → wrong_at ds b ≡ None → wrong_at (cs ++ ds) b ≡ None
+none_passed [] ds b p e = e
+none_passed (c ∷ cs) ds b p e = none_from c (cs ++ ds) b p.0 (none_passed cs ds b p.1 e)
+
+step : {W : Type 0} (t p : Bool) (x : W) (now : Option W) → (t ≡ true → p ≡ true) → cond (t && not p) (Some x) now ≡ now
+step false p x now h = refl
+step true true x now h = refl
+step true false x now h = let no = h refl in absurd cc
+
+pub skip : {R : Type 0} (cs ds : List (Check R)) (b : List ℕ) → Passed cs b → wrong_at (cs ++ ds) b ≡ wrong_at ds b
+skip [] ds b p = refl
+skip (c ∷ cs) ds b p = step (nat_le c.needed (length b)) (c.passes b) (c.place, c.reason) (wrong_at (cs ++ ds) b) (λ t. p.0 (leb-true c.needed (length b) t)) ∙ skip cs ds b p.1
+
+fails : {W : Type 0} (t : Bool) (x w : W) (now then : Option W) → (now ≡ Some w → then ≡ Some w) → cond t (Some x) now ≡ Some w → cond t (Some x) then ≡ Some w
+fails true x w now then h e = e
+fails false x w now then h e = h e
+
+pub wrong_front : {R : Type 0} (cs ds : List (Check R)) (b : List ℕ) (w : ℕ × R) → wrong_at cs b ≡ Some w → wrong_at (cs ++ ds) b ≡ Some w
+wrong_front [] ds b w e = absurd cc
+wrong_front (c ∷ cs) ds b w e = fails (nat_le c.needed (length b) && not (c.passes b)) (c.place, c.reason) w (wrong_at cs b) (wrong_at (cs ++ ds) b) (wrong_front cs ds b w) e
+
+-- ---- what reading tells where less than a packet is there
+
+short_by_length : {P R : Type 0} (f : Format P R) (b : List ℕ) (t : Bool) → nat_lt (length b) (f.size b) ≡ t → ◌≡◌ {A = Found P R} (cond t Short (Whole (f.packet b) (f.size b))) Short → length b < f.size b
+short_by_length f b true less e = ltb-true (length b) (f.size b) less
+short_by_length f b false less e = absurd cc
+
+short_by : {P R : Type 0} (f : Format P R) (b : List ℕ) (w : Option (ℕ × R)) → reading_by f b w ≡ Short → (w ≡ None) × (length b < f.size b)
+short_by f b None e = (refl, short_by_length f b (nat_lt (length b) (f.size b)) refl e)
+short_by f b (Some w) e = absurd cc
+
+pub short_parts : {P R : Type 0} (f : Format P R) (b : List ℕ) → reading f b ≡ Short → (wrong_at f.checks b ≡ None) × (length b < f.size b)
+short_parts f b e = short_by f b (wrong_at f.checks b) e

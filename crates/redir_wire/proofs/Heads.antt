@@ -1,0 +1,113 @@
+-- The checks of a header, and that headers are sound.
+use Rattle.std.proofs.Common.{◌≡◌, ℕ, ◌^◌, ◌<◌, ◌≤◌, Bool, true, List, [], ◌++◌, length, take, None, refl, sym, ap, subst, ◌∙◌, arith}
+use Rattle.std.specs.Int.{w32}
+use Rattle.std.proofs.lemmas.Bool.{leb-true}
+use Rattle.std.proofs.lemmas.List.{append-nil}
+use Rattle.usb_base.specs.Number.{le_at, AreBytes}
+use Rattle.usb_base.specs.declared.reason.Reason.{Reason}
+use Rattle.usb_base.proofs.Numbers.{le_at-append_32, le_at-below_32}
+use Rattle.packet_stream.specs.Format.{Check, wrong_at, IsSound, reading, Whole}
+use Rattle.packet_stream.proofs.Formats.{AreSteady, stays_wrong, whole_parts}
+use Rattle.redir_wire.specs.declared.packet.Caps.{Caps}
+use Rattle.redir_wire.specs.declared.packet.Way.{Way}
+use Rattle.redir_wire.specs.declared.packet.Header.{Header}
+use Rattle.redir_wire.specs.Header.{is_wide, head_size, head_bytes, header_at, head_checks, IsHeader, headers, is_in_turn, is_known, is_agreed, is_on_its_way, is_in_limit, is_its_length}
+use Rattle.redir_wire.proofs.Checks.{Passed, passed, none_passed}
+use Rattle.redir_wire.proofs.Headers.{size_least, length_head, head_spelled, id_fits, kind_there, length_there, header_there}
+
+-- the checks of a whole header say that it is one
+pub header_passed : (first : Bool) (caps : Caps) (way : Way) (b : List ℕ) → AreBytes b → 8 ≤ length b → Passed (head_checks first caps way) b → IsHeader first caps way (header_at (is_wide first caps) b)
+header_passed first caps way b are there p = record {
+  in_turn = p.0 (omega arith);
+  known = p.1.0 (omega arith);
+  agreed = p.1.1.0 (omega arith);
+  on_its_way = p.1.1.1.0 (omega arith);
+  in_limit = p.1.1.1.1.0 (omega arith);
+  its_length = p.1.1.1.1.1.0 (omega arith);
+  kind_fits = le_at-below_32 0 b are;
+  id_fits = id_fits (is_wide first caps) b are;
+}
+
+-- a header passes its checks wherever its numbers stand
+pub passes : (first : Bool) (caps : Caps) (way : Way) (h : Header) (b : List ℕ) → IsHeader first caps way h → le_at w32 0 b ≡ h.kind → le_at w32 4 b ≡ h.length → Passed (head_checks first caps way) b
+passes first caps way h b is kind size = (
+  λ _. ap (is_in_turn first) kind ∙ is.in_turn,
+  (
+    λ _. ap is_known kind ∙ is.known,
+    (
+      λ _. ap (is_agreed caps) kind ∙ is.agreed,
+      (λ _. ap (is_on_its_way way) kind ∙ is.on_its_way, (λ _. ap is_in_limit size ∙ is.in_limit, (λ _. (λ i. is_its_length caps (kind i) (size i)) ∙ is.its_length, tt))),
+    ),
+  ),
+)
+
+kind_more : (b more : List ℕ) → 4 ≤ length b → le_at w32 0 (b ++ more) ≡ le_at w32 0 b
+kind_more b more there = le_at-append_32 0 b more there
+
+-- before others that need more bytes, they see only their own
+pub heads_steady : (first : Bool) (caps : Caps) (way : Way) (ds : List (Check Reason)) (n : ℕ) → n ≤ 4 → AreSteady 8 ds → AreSteady n (head_checks first caps way ++ ds)
+heads_steady first caps way ds n le steady = (
+  omega arith,
+  λ b more there. ap (is_in_turn first) (kind_more b more there),
+  (
+    omega arith,
+    λ b more there. ap is_known (kind_more b more there),
+    (
+      omega arith,
+      λ b more there. ap (is_agreed caps) (kind_more b more there),
+      (
+        omega arith,
+        λ b more there. ap (is_on_its_way way) (kind_more b more there),
+        (
+          omega arith,
+          λ b more there. ap is_in_limit (le_at-append_32 4 b more there),
+          (omega arith, λ b more there. (λ i. is_its_length caps (kind_more b more (omega arith) i) (le_at-append_32 4 b more there i)), steady),
+        ),
+      ),
+    ),
+  ),
+)
+
+pub limit_below : (n : ℕ) → is_in_limit n ≡ true → n < 2 ^ 32
+limit_below n e = let h = leb-true n 16777280 e in omega arith
+
+-- ---- headers are sound
+
+alone : (cs : List (Check Reason)) (b : List ℕ) → wrong_at cs b ≡ None → Passed cs b
+alone cs b e = (passed cs [] b (ap (λ (ds : List (Check Reason)). wrong_at ds b) (append-nil cs) ∙ e)).0
+
+found : (first : Bool) (caps : Caps) (way : Way) (b : List ℕ) → AreBytes b → wrong_at (head_checks first caps way) b ≡ None → head_size (is_wide first caps) ≤ length b →
+    (head_bytes (is_wide first caps) (header_at (is_wide first caps) b) ≡ take (head_size (is_wide first caps)) b) × IsHeader first caps way (header_at (is_wide first caps) b)
+found first caps way b are none there =
+    let least = size_least (is_wide first caps) in
+    (head_spelled (is_wide first caps) b are there, header_passed first caps way b are (omega arith) (alone (head_checks first caps way) b none))
+
+right : (first : Bool) (caps : Caps) (way : Way) (h : Header) (more : List ℕ) → IsHeader first caps way h → wrong_at (head_checks first caps way) (head_bytes (is_wide first caps) h ++ more) ≡ None
+right first caps way h more is =
+    let wide = is_wide first caps in
+    let b = head_bytes wide h ++ more in
+    let p = passes first caps way h b is (kind_there wide h more is.kind_fits) (length_there wide h more (limit_below h.length is.in_limit)) in
+    ap (λ (ds : List (Check Reason)). wrong_at ds b) (sym (append-nil (head_checks first caps way))) ∙ none_passed (head_checks first caps way) [] b p refl
+
+pub headers_sound : (first : Bool) (caps : Caps) (way : Way) → IsSound (headers first caps way)
+headers_sound first caps way = record {
+  found = found first caps way;
+  right = right first caps way;
+  size = λ h more is. sym (length_head (is_wide first caps) h);
+  packet = λ h more is. header_there (is_wide first caps) h more is.kind_fits (limit_below h.length is.in_limit) is.id_fits;
+  some = λ b. let least = size_least (is_wide first caps) in omega arith;
+  steady = stays_wrong (head_checks first caps way) 0 (heads_steady first caps way [] 0 (omega arith) tt);
+}
+
+-- what a whole header that was read is
+pub record IsRead (first : Bool) (caps : Caps) (way : Way) (b : List ℕ) (h : Header) (n : ℕ) : Type 0 where
+  pub header : IsHeader first caps way h
+  pub is : header_at (is_wide first caps) b ≡ h
+  pub size : head_size (is_wide first caps) ≡ n
+  pub there : n ≤ length b
+
+pub header_read : (first : Bool) (caps : Caps) (way : Way) (b : List ℕ) (h : Header) (n : ℕ) → AreBytes b → reading (headers first caps way) b ≡ Whole h n → IsRead first caps way b h n
+header_read first caps way b h n are e =
+    let parts = whole_parts (headers first caps way) b h n e in
+    let is = found first caps way b are parts.0 parts.1 in
+    record { header = subst (IsHeader first caps way) parts.3 is.1; is = parts.3; size = parts.2; there = subst (λ (m : ℕ). m ≤ length b) parts.2 parts.1 }
