@@ -1,20 +1,15 @@
 -- What a host's packets are read as is what is spelled there.
-use Rattle.std.proofs.Common.{◌≡◌, ℕ, ◌+◌, ◌≤◌, ◌<◌, Bool, true, false, List, [], ◌∷◌, ◌++◌, length, take, None, Result, Ok, Err, refl, sym, ap, ◌∙◌, subst, arith}
+use Rattle.std.proofs.Common.{◌≡◌, ℕ, ◌+◌, ◌≤◌, ◌<◌, Bool, true, false, List, [], ◌∷◌, ◌++◌, length, take, None, refl, sym, ap, ◌∙◌, subst, arith}
 use Rattle.std.specs.Int.{w32}
 use Rattle.std.proofs.lemmas.Grind.{common_steps}
 use Rattle.usb_base.specs.Number.{AreBytes, le_at}
-use Rattle.packet_stream.specs.Format.{IsSound, Stands, reading, wrong_at}
+use Rattle.packet_stream.specs.Format.{IsSound, wrong_at}
 use Rattle.usb_base.proofs.Numbers.{le_at-append_32}
-use Rattle.packet_stream.proofs.Formats.{stands, none_from}
+use Rattle.packet_stream.proofs.Formats.{none_from, stays_wrong}
 use Rattle.redir_wire.specs.declared.packet.Header.{Header}
 use Rattle.redir_wire.specs.declared.packet.RedirControl.{RedirControl}
-use Rattle.redir_wire.specs.declared.packet.RedirRead.{RedirRead}
-use Rattle.redir_wire.specs.declared.packet.RedirRead.TheVariants as reads
-use Rattle.redir_wire.specs.declared.packet.WireError.{WireError}
-use Rattle.redir_wire.specs.declared.packet.WireError.TheVariants as errors
 use Rattle.redir_wire.specs.Spelling.{spelling}
 use Rattle.redir_wire.specs.Packets.{host_packets, checks, head_check, word_check, count_check, size, header_at, control_at, Fits}
-use Rattle.redir_wire.specs.Answers.{Answers, IfRead}
 use Rattle.redir_wire.proofs.Places.{head_passes, word_passes, count_passes, size_there, packet_there}
 use Rattle.redir_wire.proofs.Fields.{Found, hello_found, later_found}
 
@@ -57,7 +52,7 @@ sound true = record {
   size = size_there true;
   packet = packet_there true;
   some = size_some;
-  steady = (omega arith, head_steady true, (omega arith, word_steady, tt));
+  steady = stays_wrong (checks true) 0 (omega arith, head_steady true, (omega arith, word_steady, tt));
 }
 sound false = record {
   found = λ b are right there. found_by false b (later_found b are right) there;
@@ -65,13 +60,5 @@ sound false = record {
   size = size_there false;
   packet = packet_there false;
   some = size_some;
-  steady = (omega arith, head_steady false, (omega arith, count_steady, tt));
+  steady = stays_wrong (checks false) 0 (omega arith, head_steady false, (omega arith, count_steady, tt));
 }
-
--- an answer that tells what was found tells what stands there
-pub stands_there : (first : Bool) (bytes : List ℕ) (result : Result RedirRead WireError) → AreBytes bytes → Answers result (reading (host_packets first) bytes) →
-    IfRead result (Stands (host_packets first) bytes)
-stands_there first bytes (Ok (reads.Whole header control size)) are e = subst (Stands (host_packets first) bytes) e (stands (host_packets first) (sound first) bytes are)
-stands_there first bytes (Ok reads.Short) are e = subst (Stands (host_packets first) bytes) e (stands (host_packets first) (sound first) bytes are)
-stands_there first bytes (Err (errors.Refused place reason)) are e = subst (Stands (host_packets first) bytes) e (stands (host_packets first) (sound first) bytes are)
-stands_there first bytes (Err errors.Memory) are e = tt

@@ -1,31 +1,21 @@
--- What a reader's answer says of what stands at the front of bytes.
-use Rattle.std.specs.Prelude.{◌≡◌, ◌++◌, ℕ, Bool, List, length, Result, Ok, Err}
-use Rattle.usb_base.specs.declared.reason.Reason.{Reason}
-use Rattle.packet_stream.specs.Format.{Found, Whole, Short, Wrong, IsSound, reading}
+-- When reading takes memory, and the laws of the packets.
+use Rattle.std.specs.Prelude.{◌≡◌, ◌++◌, ℕ, Bool, true, false, List, length}
+use Rattle.packet_stream.specs.Format.{Whole, IsSound, reading}
 use Rattle.redir_wire.specs.declared.packet.Header.{Header}
 use Rattle.redir_wire.specs.declared.packet.RedirControl.{RedirControl}
-use Rattle.redir_wire.specs.declared.packet.RedirRead.{RedirRead}
-use Rattle.redir_wire.specs.declared.packet.RedirRead.TheVariants as reads
-use Rattle.redir_wire.specs.declared.packet.WireError.{WireError}
-use Rattle.redir_wire.specs.declared.packet.WireError.TheVariants as errors
+use Rattle.redir_wire.specs.declared.packet.RedirControl.TheVariants as control
 use Rattle.redir_wire.specs.Packets.{host_packets}
 
--- what an answer tells has this property, unless memory was wanting
-abbrev pub IfRead : Result RedirRead WireError → (Found (Header × RedirControl) Reason → Type 0) → Type 0
-IfRead (Ok (reads.Whole header control size)) Holds = Holds (Whole (header, control) size)
-IfRead (Ok reads.Short) Holds = Holds Short
-IfRead (Err (errors.Refused place reason)) Holds = Holds (Wrong place reason)
-IfRead (Err errors.Memory) Holds = Unit {0}
+-- memory is taken for the words of a hello
+abbrev pub takes_memory_by : RedirControl → Bool
+takes_memory_by (control.Hello hello) = true
+takes_memory_by (control.Connect connect) = false
+takes_memory_by (control.InterfaceInfo info) = false
+takes_memory_by (control.EpInfo info) = false
+takes_memory_by (control.ConfigurationStatus status configuration) = false
 
--- the answer tells what was found
-abbrev pub Answers : Result RedirRead WireError → Found (Header × RedirControl) Reason → Type 0
-Answers result found = IfRead result (λ told. found ≡ told)
-
--- memory wasn't wanting
-abbrev pub HadMemory : Result RedirRead WireError → Type 0
-HadMemory (Ok read) = Unit {0}
-HadMemory (Err (errors.Refused place reason)) = Unit {0}
-HadMemory (Err errors.Memory) = ⊥
+abbrev pub takes_memory : Header × RedirControl → Bool
+takes_memory p = takes_memory_by p.1
 
 -- ---- the laws of the packets
 

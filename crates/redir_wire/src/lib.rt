@@ -13,8 +13,8 @@ mod write;
 pub use capability::ANNOUNCED;
 pub use laws::{packets_sound, read_again};
 pub use packet::{
-    Connect, EpInfo, Header, Hello, InterfaceInfo, MAX_INTERFACES, RedirControl, RedirRead,
-    WireError, Words,
+    Connect, EpInfo, Header, Hello, InterfaceInfo, MAX_INTERFACES, RedirControl, RedirPacket,
+    RedirRead, WireError, Words,
 };
 pub use read::read_redir;
 pub use write::write_control;

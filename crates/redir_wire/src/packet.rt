@@ -1,7 +1,8 @@
 //! The packets of a usbredir host, as values: those of version 0.7 of the usbredir protocol description that
 //! come before any transfer, where no capability is agreed.
 
-use usb_base::{List, Reason};
+use packet_stream::{Read, ReadError};
+use usb_base::List;
 
 /// How many interfaces an interface_info may have.
 pub const MAX_INTERFACES: u32 = 32;
@@ -92,20 +93,11 @@ pub enum RedirControl {
     ConfigurationStatus { status: u8, configuration: u8 },
 }
 
-/// What stands at the front of some bytes.
-#[derive(Debug, Drop)]
-pub enum RedirRead {
-    /// A packet, and how many bytes it has with its header.
-    Whole(Header, RedirControl, usize),
-    /// The beginning of a packet, or nothing.
-    Short,
-}
+/// A packet with its header.
+pub type RedirPacket = (Header, RedirControl);
 
-/// Why no packet was read.
-#[derive(Clone, Copy, Debug)]
-pub enum WireError {
-    /// The packet is wrong at this place, counted from its first byte.
-    Refused { place: usize, reason: Reason },
-    /// No memory was left.
-    Memory,
-}
+/// What is read of the front of bytes.
+pub type RedirRead = Read<RedirPacket>;
+
+/// Why nothing is read: the packet is wrong, or no memory was left for the words of a whole hello.
+pub type WireError = ReadError;

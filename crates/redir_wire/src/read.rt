@@ -1,11 +1,12 @@
 //! Reads the packets of a usbredir host.
 
-ghost use Rattle.std.specs.Prelude.{◌≡◌, ◌+◌, ◌*◌, ◌≤◌, length, drop, true, false, IfOk};
+ghost use Rattle.std.specs.Prelude.{◌≡◌, ◌+◌, ◌*◌, ◌≤◌, length, drop, true, false, IfOk, Some};
 ghost use Rattle.packet_stream.specs.Format.{Stands, reading};
 ghost use Rattle.redir_wire.specs.Words.{words_of};
 ghost use Rattle.redir_wire.specs.Packets.{host_packets, header_at, hello_at, connect_at, interface_info_at, ep_info_at, later_by, later_length, is_built};
-ghost use Rattle.redir_wire.specs.Answers.{Answers, IfRead, HadMemory};
-ghost use Rattle.redir_wire.specs.declared.packet.WireError.TheVariants.{Refused};
+ghost use Rattle.packet_stream.specs.Reads.{told, IfTold, Answers};
+ghost use Rattle.packet_stream.specs.declared.read.ReadError.TheVariants.{Refused};
+ghost use Rattle.redir_wire.specs.Answers.{takes_memory};
 
 use crate::capability::ANNOUNCED;
 use crate::kind::{CONFIGURATION_STATUS, DEVICE_CONNECT, EP_INFO, HELLO, INTERFACE_INFO};
@@ -20,9 +21,8 @@ use usb_base::{Memory, Reason, array_at, le_u16_at, le_u32_at};
 /// its stream, which is a hello, or a later one. A packet is refused as soon as the bytes of what is wrong
 /// are there. Only the words of a hello take memory.
 pub fn read_redir(alloc: Global, first: bool, bytes: &[u8]) -> Result<RedirRead, WireError>
-    ensures exact { Answers result (reading (host_packets first) bytes.now) }
-    ensures stands { IfRead result (Stands (host_packets first) bytes.now) }
-    ensures had_memory { first ≡ false → HadMemory result }
+    ensures exact { Answers takes_memory result (reading (host_packets first) bytes.now) }
+    ensures stands { IfTold result (Stands (host_packets first) bytes.now) }
 {
     if first {
         read_first(alloc, bytes)
@@ -32,7 +32,7 @@ pub fn read_redir(alloc: Global, first: bool, bytes: &[u8]) -> Result<RedirRead,
 }
 
 fn read_first(alloc: Global, bytes: &[u8]) -> Result<RedirRead, WireError>
-    ensures { Answers result (reading (host_packets true) bytes.now) }
+    ensures { Answers takes_memory result (reading (host_packets true) bytes.now) }
 {
     if bytes.len() < 8 {
         return Ok(RedirRead::Short);
@@ -56,12 +56,11 @@ fn read_first(alloc: Global, bytes: &[u8]) -> Result<RedirRead, WireError>
     let Ok(hello) = hello_at(alloc, bytes, (length as usize - 64) / 4) else {
         return Err(WireError::Memory);
     };
-    Ok(RedirRead::Whole(header_at(bytes), RedirControl::Hello(hello), size))
+    Ok(RedirRead::Whole((header_at(bytes), RedirControl::Hello(hello)), size))
 }
 
 fn read_later(bytes: &[u8]) -> Result<RedirRead, WireError>
-    ensures exact { Answers result (reading (host_packets false) bytes.now) }
-    ensures had_memory { HadMemory result }
+    ensures { told result ≡ Some (reading (host_packets false) bytes.now) }
 {
     if bytes.len() < 8 {
         return Ok(RedirRead::Short);
@@ -83,10 +82,10 @@ fn read_later(bytes: &[u8]) -> Result<RedirRead, WireError>
     if bytes.len() < size {
         return Ok(RedirRead::Short);
     }
-    Ok(RedirRead::Whole(header_at(bytes), later_by(kind, bytes), size))
+    Ok(RedirRead::Whole((header_at(bytes), later_by(kind, bytes)), size))
 }
 
-fn refused(place: usize, reason: Reason) -> WireError
+fn refused(place: u64, reason: Reason) -> WireError
     ensures { result ≡ Refused place reason }
 {
     WireError::Refused { place, reason }

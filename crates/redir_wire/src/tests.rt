@@ -10,7 +10,7 @@ use usb_base::{Bytes, Memory, Reason};
 enum Told {
     Whole(usize),
     Short,
-    Refused(usize, Reason),
+    Refused(u64, Reason),
     Memory,
 }
 
@@ -24,7 +24,7 @@ const EP_KINDS: [u8; 16] = [
 
 fn outcome(alloc: Global, first: bool, bytes: &[u8]) -> Told {
     match read_redir(alloc, first, bytes) {
-        Ok(RedirRead::Whole(_, _, size)) => Told::Whole(size),
+        Ok(RedirRead::Whole(_, size)) => Told::Whole(size),
         Ok(RedirRead::Short) => Told::Short,
         Err(WireError::Refused { place, reason }) => Told::Refused(place, reason),
         Err(WireError::Memory) => Told::Memory,
@@ -195,7 +195,7 @@ fn reads_fields(rt: HostRuntime) -> Result<(), Fail> {
     let connect = [
         1, 0, 0, 0, 8, 0, 0, 0, 7, 0, 0, 0, 2, 0, 0, 0, 0xf0, 0xff, 2, 0,
     ];
-    let Ok(RedirRead::Whole(header, RedirControl::Connect(found), _)) = read_redir(
+    let Ok(RedirRead::Whole((header, RedirControl::Connect(found)), _)) = read_redir(
         alloc, false, &connect,
     ) else {
         return Err("no device_connect")?;
@@ -205,11 +205,13 @@ fn reads_fields(rt: HostRuntime) -> Result<(), Fail> {
     let status = [8, 0, 0, 0, 2, 0, 0, 0, 0, 0, 0, 0, 0, 1];
     let Ok(
         RedirRead::Whole(
-            _,
-            RedirControl::ConfigurationStatus {
-                status,
-                configuration,
-            },
+            (
+                _,
+                RedirControl::ConfigurationStatus {
+                    status,
+                    configuration,
+                },
+            ),
             _,
         ),
     ) = read_redir(alloc, false, &status)
@@ -235,7 +237,7 @@ fn reads_cells(rt: HostRuntime) -> Result<(), Fail> {
             &ZEROS,
         ],
     )?;
-    let Ok(RedirRead::Whole(_, RedirControl::InterfaceInfo(found), _)) = read_redir(
+    let Ok(RedirRead::Whole((_, RedirControl::InterfaceInfo(found)), _)) = read_redir(
         alloc,
         false,
         one.as_slice(),
@@ -249,7 +251,7 @@ fn reads_cells(rt: HostRuntime) -> Result<(), Fail> {
     );
     let head = [5, 0, 0, 0, 0x60, 0, 0, 0, 0, 0, 0, 0];
     let endpoints = joined(alloc, &[&head, &EP_KINDS, &EP_KINDS, &ZEROS])?;
-    let Ok(RedirRead::Whole(_, RedirControl::EpInfo(found), _)) = read_redir(
+    let Ok(RedirRead::Whole((_, RedirControl::EpInfo(found)), _)) = read_redir(
         alloc,
         false,
         endpoints.as_slice(),

@@ -6,7 +6,9 @@ use Rattle.redir_wire.specs.declared.packet.RedirControl.TheVariants as control
 use Rattle.redir_wire.specs.declared.packet.Connect.{Connect}
 use Rattle.redir_wire.specs.declared.packet.InterfaceInfo.{InterfaceInfo}
 use Rattle.usbgate.specs.declared.facts.Facts.{Facts}
-use Rattle.usbgate.specs.Items.{Item, OfClient, OfHost, Told, HostWrong, HostLeft}
+use Rattle.usb_base.specs.declared.side.Side.{Side}
+use Rattle.usb_base.specs.declared.side.Side.TheVariants.{Client, Host}
+use Rattle.usbgate.specs.Items.{Item, Asked, Told, Wrong, Left}
 
 -- the one, or the other where it is none
 abbrev pub or_else : {A : Type 0} → Option A → Option A → Option A
@@ -16,10 +18,12 @@ or_else (Some a) b = Some a
 -- the last that was told since the last loss, where `tells` says what a packet tells
 abbrev pub last_told : {A : Type 0} → (RedirControl → Option A) → List Item → Option A
 last_told tells [] = None
-last_told tells (OfClient i ∷ h) = last_told tells h
-last_told tells (OfHost (Told p) ∷ h) = or_else (tells p.1) (last_told tells h)
-last_told tells (OfHost (HostWrong place reason) ∷ h) = None
-last_told tells (OfHost HostLeft ∷ h) = None
+last_told tells (Asked place p ∷ h) = last_told tells h
+last_told tells (Told place p ∷ h) = or_else (tells p.1) (last_told tells h)
+last_told tells (Wrong Client place reason ∷ h) = last_told tells h
+last_told tells (Wrong Host place reason ∷ h) = None
+last_told tells (Left Client ∷ h) = last_told tells h
+last_told tells (Left Host ∷ h) = None
 
 -- a device_connect tells that the device is there, and what it is
 abbrev pub connect_in : RedirControl → Option Connect
@@ -59,3 +63,8 @@ after_told f p = record {
   interfaces = or_else (interfaces_in p) f.interfaces;
   configuration = unwrap_or (configuration_in p) f.configuration;
 }
+
+-- facts after a side is over
+abbrev pub after_loss : Side → Facts → Facts
+after_loss Client f = f
+after_loss Host f = no_facts

@@ -1,5 +1,5 @@
-pub mod Forms
 pub mod Events
+pub mod Forms
 pub mod Items
 pub mod History
 pub mod Facts
@@ -7,7 +7,7 @@ pub mod Reply
 pub mod Output
 pub mod Refusals
 pub mod Stands
-pub mod Steps
+pub mod Within
 pub mod Tape
 pub mod Lines
 pub mod Text

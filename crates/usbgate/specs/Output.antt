@@ -1,7 +1,6 @@
 -- What an item sends and tells, and all that a history has sent and told.
 use Rattle.std.specs.Prelude.{ℕ, List, [], ◌∷◌, ◌++◌, replicate, codes, None}
 use Rattle.std.specs.List.{flat_map}
-use Rattle.usb_base.specs.declared.side.Side.TheVariants.{Client, Host}
 use Rattle.usbip_op.specs.declared.packet.OpPacket.{OpPacket}
 use Rattle.usbip_op.specs.declared.packet.OpPacket.TheVariants.{ReqDevlist, ReqImport, RepDevlist, RepImport}
 use Rattle.usbip_op.specs.Spelling.{spelling}
@@ -13,7 +12,7 @@ use Rattle.usbgate.specs.declared.facts.Facts.{Facts}
 use Rattle.usbgate.specs.declared.note.Note.{Note}
 use Rattle.usbgate.specs.declared.note.Note.TheVariants.{Refused}
 use Rattle.usbgate.specs.declared.note.Counts.{Counts}
-use Rattle.usbgate.specs.Items.{Item, OfClient, OfHost, Asked, ClientWrong, ClientLeft, Told, HostWrong, HostLeft}
+use Rattle.usbgate.specs.Items.{Item, Asked, Told, Wrong, Left, capped}
 use Rattle.usbgate.specs.Facts.{facts_of}
 use Rattle.usbgate.specs.Reply.{list_reply}
 
@@ -30,10 +29,10 @@ answers f (RepImport status device) = []
 
 -- what an item sends to the client, after the items before it
 abbrev pub to_client : List Item → Item → List OpPacket
-to_client h (OfClient (Asked p)) = answers (facts_of h) p
-to_client h (OfClient (ClientWrong place reason)) = []
-to_client h (OfClient ClientLeft) = []
-to_client h (OfHost i) = []
+to_client h (Asked place p) = answers (facts_of h) p
+to_client h (Told place p) = []
+to_client h (Wrong side place reason) = []
+to_client h (Left side) = []
 
 -- all bytes to the client
 abbrev pub out_client : List Item → List ℕ
@@ -47,12 +46,10 @@ out_host (i ∷ h) = out_host h
 
 -- what an item tells
 abbrev pub notes_of : Item → List Note
-notes_of (OfClient (Asked p)) = []
-notes_of (OfClient (ClientWrong place reason)) = Refused (record { side = Client; place = place; reason = reason; kept = None }) ∷ []
-notes_of (OfClient ClientLeft) = []
-notes_of (OfHost (Told p)) = []
-notes_of (OfHost (HostWrong place reason)) = Refused (record { side = Host; place = place; reason = reason; kept = None }) ∷ []
-notes_of (OfHost HostLeft) = []
+notes_of (Asked place p) = []
+notes_of (Told place p) = []
+notes_of (Wrong side place reason) = Refused (record { side = side; place = capped place; reason = reason; kept = None }) ∷ []
+notes_of (Left side) = []
 
 -- all that was told, in order
 abbrev pub told_notes : List Item → List Note

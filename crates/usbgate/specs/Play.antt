@@ -4,7 +4,7 @@ use Rattle.std.specs.Str.{bytes_eq}
 use Rattle.usbgate.specs.declared.status.Status.{Status}
 use Rattle.usbgate.specs.declared.status.Status.TheVariants.{Done, Usage, Refused, BadTape}
 use Rattle.usbgate.specs.Events.{Event}
-use Rattle.usbgate.specs.Items.{Item, OfClient, OfHost, Asked, ClientWrong, ClientLeft, Told, HostWrong, HostLeft}
+use Rattle.usbgate.specs.Items.{Item, Asked, Told, Wrong, Left}
 use Rattle.usbgate.specs.History.{history}
 use Rattle.usbgate.specs.Output.{counts_of}
 use Rattle.usbgate.specs.Tape.{lines_of, content, Says, Skip, Happens, Bad, says, may_happen}
@@ -60,12 +60,10 @@ replay_text tape = let x = play_lines start (lines_of tape) in made_text ++ x.te
 -- a side was refused
 abbrev pub has_refusal : List Item → Bool
 has_refusal [] = false
-has_refusal (OfClient (Asked p) ∷ h) = has_refusal h
-has_refusal (OfClient (ClientWrong place reason) ∷ h) = true
-has_refusal (OfClient ClientLeft ∷ h) = has_refusal h
-has_refusal (OfHost (Told p) ∷ h) = has_refusal h
-has_refusal (OfHost (HostWrong place reason) ∷ h) = true
-has_refusal (OfHost HostLeft ∷ h) = has_refusal h
+has_refusal (Asked place p ∷ h) = has_refusal h
+has_refusal (Told place p ∷ h) = has_refusal h
+has_refusal (Wrong side place reason ∷ h) = true
+has_refusal (Left side ∷ h) = has_refusal h
 
 abbrev pub status_of : Played → Status
 status_of x = if x.bad then BadTape (x.after.number + 1) else if has_refusal (history x.after.past) then Refused else Done

@@ -4,7 +4,9 @@ use Rattle.std.specs.Prelude.{ℕ, ◌==◌, Bool, true, false, not, if◌then�
 use Rattle.std.specs.Io.BufRead.{strip_last}
 use Rattle.hex.specs.Hex.{decode_of}
 use Rattle.hex.specs.declared.error.FromHexError.{FromHexError}
-use Rattle.usbgate.specs.Events.{Event, ClientPiece, ClientEnd, HostPiece, HostEnd}
+use Rattle.usb_base.specs.declared.side.Side.{Side}
+use Rattle.usb_base.specs.declared.side.Side.TheVariants.{Client, Host}
+use Rattle.usbgate.specs.Events.{Event, Piece, End, side_of, is_side}
 
 -- one byte more in front of the first line
 abbrev pub before_first : ℕ → List (List ℕ) → List (List ℕ)
@@ -38,37 +40,25 @@ end_of end [] = Happens end
 end_of end (b ∷ bs) = Bad
 
 -- what stands behind the letter of a side: a space (32) and a piece, or a `.` (46)
-abbrev pub of_side : (List ℕ → Event) → Event → List ℕ → Says
-of_side piece end [] = Bad
-of_side piece end (b ∷ bs) = if b == 32 then piece_of piece (decode_of bs) else if b == 46 then end_of end bs else Bad
+abbrev pub of_side : Side → List ℕ → Says
+of_side side [] = Bad
+of_side side (b ∷ bs) = if b == 32 then piece_of (Piece side) (decode_of bs) else if b == 46 then end_of (End side) bs else Bad
 
 -- `#` is 35, `c` is 99, `h` is 104
 abbrev pub says : List ℕ → Says
 says [] = Skip
 says (b ∷ bs) =
     if b == 35 then Skip
-    else if b == 99 then of_side ClientPiece ClientEnd bs
-    else if b == 104 then of_side HostPiece HostEnd bs
+    else if b == 99 then of_side Client bs
+    else if b == 104 then of_side Host bs
     else Bad
 
 -- ---- nothing of a side comes after its end
 
-abbrev pub client_ended : List Event → Bool
-client_ended [] = false
-client_ended (ClientPiece b ∷ past) = client_ended past
-client_ended (ClientEnd ∷ past) = true
-client_ended (HostPiece b ∷ past) = client_ended past
-client_ended (HostEnd ∷ past) = client_ended past
-
-abbrev pub host_ended : List Event → Bool
-host_ended [] = false
-host_ended (ClientPiece b ∷ past) = host_ended past
-host_ended (ClientEnd ∷ past) = host_ended past
-host_ended (HostPiece b ∷ past) = host_ended past
-host_ended (HostEnd ∷ past) = true
+abbrev pub has_ended : Side → List Event → Bool
+has_ended s [] = false
+has_ended s (Piece side b ∷ past) = has_ended s past
+has_ended s (End side ∷ past) = if is_side side s then true else has_ended s past
 
 abbrev pub may_happen : List Event → Event → Bool
-may_happen past (ClientPiece b) = not (client_ended past)
-may_happen past ClientEnd = not (client_ended past)
-may_happen past (HostPiece b) = not (host_ended past)
-may_happen past HostEnd = not (host_ended past)
+may_happen past e = not (has_ended (side_of e) past)

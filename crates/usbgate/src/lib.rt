@@ -3,18 +3,17 @@
 
 mod event;
 mod facts;
+mod formats;
 mod gate;
 mod hello;
 mod inner;
 mod laws;
 mod note;
-mod packets;
 mod player;
 mod program;
 mod replay;
 mod reply;
 mod status;
-mod stream;
 mod tape;
 mod text;
 

@@ -1,0 +1,3 @@
+-- What only the gate's own functions say of each other.
+pub mod Steps
+pub mod Sound
