@@ -1,15 +1,17 @@
 -- A stream follows the splitting of its bytes: what its first moment, a piece and an answer of `next` make of that.
-use Rattle.std.proofs.Common.{◌≡◌, ℕ, zero, suc, ◌<◌, ◌≤◌, ◌+◌, ◌-◌, Bool, true, false, List, [], ◌∷◌, ◌++◌, length, take, drop, Some, None, refl, sym, ap, subst, ◌∙◌, arith}
+use Rattle.std.proofs.Common.{◌≡◌, ℕ, zero, suc, ◌<◌, ◌≤◌, ◌+◌, ◌-◌, Bool, true, false, List, [], ◌∷◌, ◌++◌, length, take, drop, Some, None, refl, sym, ap, subst, ◌∙◌, append_assoc, arith}
 use Rattle.std.proofs.lemmas.List.{append-nil, take_rest, length-drop}
 use Rattle.usb_base.specs.Number.{AreBytes}
 use Rattle.packet_stream.specs.Format.{Found, Whole, Short, Wrong}
 use Rattle.packet_stream.specs.Split.{Reader, Position, past, Splitting, split, with_packets, further, further_by, go_on}
 use Rattle.usb_base.proofs.Numbers.{AreBytes-append, AreBytes-drop}
 use Rattle.packet_stream.proofs.Laws.{IsSteady, split-is, split-more, further-with}
-use Rattle.packet_stream.proofs.Taking.{with_packets-twice}
 use Rattle.usb_base.specs.declared.reason.Reason.{Reason}
 use Rattle.packet_stream.specs.Reads.{WantsMemory}
 use Rattle.packet_stream.specs.Streams.{capped, Kept, passed, Left, FollowsBy, Follows, Drained, Wrongs, Gives, Wants, Holds, after_piece, after_piece_by}
+
+with_packets-twice : {S P R : Type 0} (front more : List (ℕ × P)) (y : Splitting S P R) → with_packets front (with_packets more y) ≡ with_packets (front ++ more) y
+with_packets-twice {P = P} front more y = ap (λ (l : List (ℕ × P)). record y { packets = l }) (sym (append_assoc front more y.packets))
 
 no_bytes : AreBytes []
 no_bytes i = omega arith

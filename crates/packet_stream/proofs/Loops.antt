@@ -7,7 +7,7 @@ use Rattle.usb_base.specs.declared.reason.Reason.{Reason}
 use Rattle.packet_stream.specs.declared.read.ReadError.{ReadError}
 use Rattle.packet_stream.specs.declared.read.ReadError.TheVariants.{Refused, Memory}
 use Rattle.packet_stream.specs.Streams.{Kept, Follows, Answered, Nexts, Changes}
-use Rattle.packet_stream.specs.Loops.{IsOver, Stopped, Takes, Goes}
+use Rattle.packet_stream.specs.Loops.{IsOver, Stopped, TakesPackets, Goes}
 use Rattle.packet_stream.proofs.Following.{follows-holds}
 
 pub goes-none : {S P : Type 0} (r : Reader S P Reason) (kept : Kept S) (Did : List (ℕ × P) → Type 0) → Did [] → Goes r kept kept Did
@@ -43,9 +43,9 @@ goes-more {P = P} r takes old kept new Did Did' result i goes changes next is st
 }
 
 pub takes-all : {T S P : Type 0} (v : T) (r : Reader S P Reason) (takes : P → Bool) (old kept new : Kept S) (Did : List (ℕ × P) → Type 0) (result : Result (Option (ℕ × P)) ReadError) →
-    Goes r old kept Did → Changes result kept new → Nexts r takes result kept new → result ≡ Ok None → Takes r (Ok v) old new Did
+    Goes r old kept Did → Changes result kept new → Nexts r takes result kept new → result ≡ Ok None → TakesPackets r (Ok v) old new Did
 takes-all {S = S} {P = P} v r takes old kept new Did result goes changes next is = record {
-  over = ap (λ (k : Kept S). k.over) (changed_to kept new result (Ok None) changes is) ∙ goes.over;
+  over = (let c = changed_to kept new result (Ok None) changes is in (ap (λ (k : Kept S). k.over) c ∙ goes.over, ap (λ (k : Kept S). k.held) c ∙ sym (ap (λ (k : Kept S). k.rest) c), ap (λ (k : Kept S). k.at) c ∙ sym (ap (λ (k : Kept S). k.place) c)));
   takes = λ start bytes given f.
       let w = goes.goes start bytes given f in
       record { more = w.more; stopped = next_at r takes start kept new bytes (given ++ w.more) result (Ok None) next is w.follows; did = w.did };
@@ -57,7 +57,7 @@ handed (Ok v) e h = absurd h
 handed (Err y) e h = ap (λ z. Err z) (sym h)
 
 over_by : {S : Type 0} (T P : Type 0) (old kept new : Kept S) (e : ReadError) → kept.over ≡ old.over → Changes {P = P} (Err e) kept new → IsOver {T = T} (Err e) old new
-over_by {S = S} T P old kept new (Refused place reason) same c = (ap (λ (k : Kept S). k.over) c.1, ap (λ (k : Kept S). k.held) c.1)
+over_by {S = S} T P old kept new (Refused place reason) same c = (ap (λ (k : Kept S). k.over) c.1, ap (λ (k : Kept S). k.held) c.1, ap (λ (k : Kept S). k.rest) c.1)
 over_by {S = S} T P old kept new Memory same c = (ap (λ (k : Kept S). k.over) c.1 ∙ c.0, sym same ∙ c.0)
 
 err_by : (T : Type 0) {S P : Type 0} (r : Reader S P Reason) (takes : P → Bool) (start : Position S) (kept new : Kept S) (bytes : List ℕ) (taken : List (ℕ × P)) (e : ReadError) →
@@ -67,10 +67,10 @@ err_by T {S = S} r takes start kept new bytes taken Memory f c n = follows-holds
 
 -- the next packet is wrong, or memory ran out for it
 pub takes-err : {T S P : Type 0} (r : Reader S P Reason) (takes : P → Bool) (old kept new : Kept S) (Did : List (ℕ × P) → Type 0) (result : Result (Option (ℕ × P)) ReadError) (e : ReadError) (last : Result T ReadError) →
-    Goes r old kept Did → Changes result kept new → Nexts r takes result kept new → result ≡ Err e → IsErrAnd last (λ y. y ≡ e) → Takes r last old new Did
+    Goes r old kept Did → Changes result kept new → Nexts r takes result kept new → result ≡ Err e → IsErrAnd last (λ y. y ≡ e) → TakesPackets r last old new Did
 takes-err {T = T} {P = P} r takes old kept new Did result e last goes changes next is on =
     let c = changed_to kept new result (Err e) changes is in
-    subst (λ (x : Result T ReadError). Takes r x old new Did) (handed last e on) (record {
+    subst (λ (x : Result T ReadError). TakesPackets r x old new Did) (handed last e on) (record {
       over = over_by T P old kept new e goes.over c;
       takes = λ start bytes given f.
           let w = goes.goes start bytes given f in
@@ -83,17 +83,17 @@ takes-err {T = T} {P = P} r takes old kept new Did result e last goes changes ne
 
 -- memory ran out where a packet was handled: those before it were, and it is held
 pub takes-memory : {T S P : Type 0} (r : Reader S P Reason) (old kept new : Kept S) (Did : List (ℕ × P) → Type 0) (result : Result (Option (ℕ × P)) ReadError) (i : ℕ × P) (last : Result T ReadError) →
-    Goes r old kept Did → Changes result kept new → result ≡ Ok (Some i) → IsErrAnd last (λ y. y ≡ Memory) → Takes r last old new Did
+    Goes r old kept Did → Changes result kept new → result ≡ Ok (Some i) → IsErrAnd last (λ y. y ≡ Memory) → TakesPackets r last old new Did
 takes-memory {T = T} {P = P} r old kept new Did result i last goes changes is on =
     let c = changed_to kept new result (Ok (Some i)) changes is in
-    subst (λ (x : Result T ReadError). Takes r x old new Did) (handed last Memory on) (record {
+    subst (λ (x : Result T ReadError). TakesPackets r x old new Did) (handed last Memory on) (record {
       over = (c.2, sym goes.over ∙ c.1);
       takes = λ start bytes given f.
           let w = goes.goes start bytes given f in
           record { more = w.more; stopped = follows-holds r start kept new bytes (given ++ w.more) w.follows c.1 c.3 c.4; did = w.did };
     })
 
-pub takes-weaker : {T S P : Type 0} (r : Reader S P Reason) (old new : Kept S) (Did Did' : List (ℕ × P) → Type 0) (result : Result T ReadError) → ((more : List (ℕ × P)) → Did more → Did' more) → Takes r result old new Did → Takes r result old new Did'
+pub takes-weaker : {T S P : Type 0} (r : Reader S P Reason) (old new : Kept S) (Did Did' : List (ℕ × P) → Type 0) (result : Result T ReadError) → ((more : List (ℕ × P)) → Did more → Did' more) → TakesPackets r result old new Did → TakesPackets r result old new Did'
 takes-weaker r old new Did Did' result weaker t = record {
   over = t.over;
   takes = λ start bytes given f. let w = t.takes start bytes given f in record { more = w.more; stopped = w.stopped; did = weaker w.more w.did };

@@ -6,12 +6,12 @@ use Rattle.packet_stream.specs.Split.{Reader, Position, Splitting, split}
 pub record SideStream (S P R I : Type 0) : Type 0 where
   pub reader : Reader S P R
   pub start : Position S
-  pub packet : P → I
+  pub packet : ℕ → P → I
   pub wrong : ℕ → R → I
   pub over : List I → Bool
 
 abbrev pub packets : {S P R I : Type 0} → SideStream S P R I → List (ℕ × P) → List I
-packets s found = map (λ i. s.packet i.1) found
+packets s found = map (λ i. s.packet i.0 i.1) found
 
 abbrev pub wrongs : {S P R I : Type 0} → SideStream S P R I → Option (ℕ × R) → List I
 wrongs s None = []

@@ -1,6 +1,6 @@
 //! One side's stream, of which whole packets are taken as its bytes come in pieces.
 
-ghost use Rattle.std.specs.Prelude.{◌≡◌, ◌≤◌, [], length, drop, true, false, OnOk, OnErr};
+ghost use Rattle.std.specs.Prelude.{◌≡◌, ◌≤◌, ◌<◌, ◌^◌, [], length, drop, true, false, OnOk, OnErr};
 ghost use Rattle.packet_stream.specs.Split.{reads};
 ghost use Rattle.packet_stream.specs.Streams.{Kept, passed, ended, after_piece, Follows, Puts, Nexts, Changes};
 
@@ -74,9 +74,10 @@ impl<F: PacketFormat> Stream<F> {
 
     /// How many bytes are held: those that belong to no packet that was given before the last call.
     pub fn held(&self) -> usize
-        ensures { result ≡ length self.now.held }
+        ensures held { result ≡ length self.now.held }
+        ensures small { result < 2 ^ 63 }
     {
-        self.bytes.len() - self.given.index
+        self.bytes.as_slice().len() - self.given.index
     }
 
     /// How the next packet is read.

@@ -4,11 +4,12 @@ use Rattle.std.proofs.lemmas.List.{append-nil, drop_at}
 use Rattle.usbgate.specs.declared.note.Note.{Note}
 use Rattle.usbgate.specs.declared.replay.Replay.{Replay}
 use Rattle.usbgate.specs.Events.{Event}
-use Rattle.usbgate.specs.Items.{Item, OfClient, OfHost, Asked, ClientWrong, ClientLeft, Told, HostWrong, HostLeft}
+use Rattle.usb_base.specs.declared.side.Side.TheVariants.{Client, Host}
+use Rattle.usbgate.specs.Items.{Item, Asked, Told, Wrong, Left}
 use Rattle.usbgate.specs.History.{history}
 use Rattle.usbgate.specs.Output.{out_client, out_host, told_notes}
 use Rattle.usbgate.specs.Stands.{Gains, Takes}
-use Rattle.usbgate.specs.Tape.{client_ended, host_ended}
+use Rattle.usbgate.specs.Tape.{has_ended}
 use Rattle.usbgate.specs.Text.{gained, sent_text}
 use Rattle.usbgate.specs.Replay.{has_refusal}
 use Rattle.usbgate.specs.inner.Replay.{HasSeen, Sees}
@@ -25,12 +26,10 @@ some_note-append (m ∷ ns) n = refl
 
 refusal-told : (h : List Item) → has_refusal h ≡ some_note (told_notes h)
 refusal-told [] = refl
-refusal-told (OfClient (Asked p) ∷ h) = refusal-told h ∙ ap some_note (sym (append-nil (told_notes h)))
-refusal-told (OfClient (ClientWrong place reason) ∷ h) = sym (some_note-append (told_notes h) _)
-refusal-told (OfClient ClientLeft ∷ h) = refusal-told h ∙ ap some_note (sym (append-nil (told_notes h)))
-refusal-told (OfHost (Told p) ∷ h) = refusal-told h ∙ ap some_note (sym (append-nil (told_notes h)))
-refusal-told (OfHost (HostWrong place reason) ∷ h) = sym (some_note-append (told_notes h) _)
-refusal-told (OfHost HostLeft ∷ h) = refusal-told h ∙ ap some_note (sym (append-nil (told_notes h)))
+refusal-told (Asked place p ∷ h) = refusal-told h ∙ ap some_note (sym (append-nil (told_notes h)))
+refusal-told (Told place p ∷ h) = refusal-told h ∙ ap some_note (sym (append-nil (told_notes h)))
+refusal-told (Wrong side place reason ∷ h) = sym (some_note-append (told_notes h) _)
+refusal-told (Left side ∷ h) = refusal-told h ∙ ap some_note (sym (append-nil (told_notes h)))
 
 some_note-more : (ms ns : List Note) → (ns ≡ [] → ⊥) → some_note (ms ++ ns) ≡ true
 some_note-more [] [] some = absurd (some refl)
@@ -55,7 +54,7 @@ gains-is old new before after none g =
 
 pub sees : (old new : Replay) (past : List Event) (e : Event) (client host text_old text_new : List ℕ) (notes : List Note) → HasSeen old past
     → Takes new.gate past e old.to_client client old.to_host host notes → text_new ≡ text_old ++ sent_text client host notes → new.to_client ≡ [] → new.to_host ≡ []
-    → new.client_ended ≡ client_ended (e ∷ past) → new.host_ended ≡ host_ended (e ∷ past) → new.refused ≡ has_refusal (history (e ∷ past)) → Sees new past e text_old text_new
+    → new.client_ended ≡ has_ended Client (e ∷ past) → new.host_ended ≡ has_ended Host (e ∷ past) → new.refused ≡ has_refusal (history (e ∷ past)) → Sees new past e text_old text_new
 sees old new past e client host text_old text_new notes h t text no_client no_host client_end host_end refused =
     let to_client : client ≡ gained out_client past e = gains-is old.to_client client _ _ h.to_client t.sends.client in
     let to_host : host ≡ gained out_host past e = gains-is old.to_host host _ _ h.to_host t.sends.host in

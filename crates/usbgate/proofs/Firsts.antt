@@ -1,46 +1,66 @@
 -- The gate to which nothing has happened.
-use Rattle.std.proofs.Common.{◌≡◌, Bool, true, false, [], None, refl, sym, ap, ◌∙◌, arith}
-use Rattle.std.proofs.lemmas.Bool.{true≢false}
+use Rattle.std.proofs.Common.{◌≡◌, true, false, [], None, refl, sym, ap, ◌∙◌, arith}
 use Rattle.usb_base.specs.Number.{be_at, le_at}
-use Rattle.packet_stream.specs.Split.{Splitting, split}
 use Rattle.usb_base.specs.declared.reason.Reason.{Reason}
+use Rattle.usb_base.specs.declared.side.Side.{Side}
+use Rattle.usb_base.specs.declared.side.Side.TheVariants.{Client, Host}
+use Rattle.packet_stream.specs.Split.{Splitting, split}
+use Rattle.packet_stream.specs.Streams.{Kept, Drained, capped}
+use Rattle.packet_stream.proofs.Following.{follows-new, follows-holds}
 use Rattle.usbgate.specs.declared.inner.Inner.{Inner}
-use Rattle.usbgate.specs.declared.stream.Stream.{Stream}
-use Rattle.usbgate.specs.Items.{capped}
+use Rattle.usbgate.specs.Forms.{StateOf, PacketOf, start_of, reader_of}
+use Rattle.usbgate.specs.History.{split_of}
 use Rattle.usbgate.specs.Facts.{no_facts}
-use Rattle.usbgate.specs.Forms.{client_start, host_start}
-use Rattle.usbgate.specs.History.{client_split, host_split}
-use Rattle.usbgate.specs.Stands.{Stands}
+use Rattle.usbgate.specs.Stands.{kept_of, StandsAt, Stands}
+use Rattle.usbgate.proofs.Standing.{going_at}
 
-client_first : client_split [] ≡ record { packets = []; wrong = None; position = client_start; rest = [] }
-unfolding split be_at
-client_first = refl
+abbrev first_kept : (s : Side) → Kept (StateOf s)
+first_kept s = record { state = (start_of s).state; rest = []; place = 0; held = []; at = 0; over = false }
 
-host_first : host_split [] ≡ record { packets = []; wrong = None; position = host_start; rest = [] }
-unfolding split le_at
-host_first = refl
+abbrev first_split : (s : Side) → Splitting (StateOf s) (PacketOf s) Reason
+first_split s = record { packets = []; wrong = None; position = start_of s; rest = [] }
 
-pub stands-first : (g : Inner) → g.client ≡ record { state = tt; rest = []; place = 0; over = false } → g.host ≡ record { state = true; rest = []; place = 0; over = false } → g.facts ≡ no_facts → g.failed ≡ false → Stands g []
-stands-first g client host facts failed = record {
-  knows = record { client = ap (λ (s : Stream (Unit {0})). s.over) client; host = ap (λ (s : Stream Bool). s.over) host; facts = facts; failed = failed };
-  client = λ going. record {
-    right = ap (λ (x : Splitting _ _ Reason). x.wrong) client_first;
-    rest = ap (λ (s : Stream (Unit {0})). s.rest) client ∙ sym (ap (λ (x : Splitting _ _ Reason). x.rest) client_first);
-    position = record {
-      place = ap (λ (s : Stream (Unit {0})). s.place) client ∙ sym (ap (λ (x : Splitting (Unit {0}) _ Reason). capped x.position.place) client_first);
-      state = ap (λ (s : Stream (Unit {0})). s.state) client ∙ sym (ap (λ (x : Splitting (Unit {0}) _ Reason). x.position.state) client_first);
-    };
-  };
-  client_left = λ over. absurd (true≢false (sym over));
-  host = λ going. record {
-    right = ap (λ (x : Splitting _ _ Reason). x.wrong) host_first;
-    rest = ap (λ (s : Stream Bool). s.rest) host ∙ sym (ap (λ (x : Splitting _ _ Reason). x.rest) host_first);
-    position = record {
-      place = ap (λ (s : Stream Bool). s.place) host ∙ sym (ap (λ (x : Splitting Bool _ Reason). capped x.position.place) host_first);
-      state = ap (λ (s : Stream Bool). s.state) host ∙ sym (ap (λ (x : Splitting Bool _ Reason). x.position.state) host_first);
-    };
-  };
-  host_left = λ over. absurd (true≢false (sym over));
-  client_bytes = λ i. omega arith;
-  host_bytes = λ i. omega arith;
+empty : (s : Side) → split_of s [] ≡ first_split s
+unfolding split be_at le_at
+empty Client = refl
+empty Host = refl
+
+first_place : (s : Side) → capped (start_of s).place ≡ 0
+first_place Client = refl
+first_place Host = refl
+
+first_at : (s : Side) (g : Inner) → kept_of s g ≡ first_kept s → StandsAt s g [] []
+first_at Client g e =
+    let over = ap (λ (k : Kept (StateOf Client)). k.over) e in
+    going_at Client g [] [] over refl
+    (follows-holds (reader_of Client) (start_of Client) g.client g.client [] [] (follows-new (reader_of Client) tt g.client e) over
+    (ap (λ (k : Kept (StateOf Client)). k.held) e ∙ sym (ap (λ (k : Kept (StateOf Client)). k.rest) e)) (ap (λ (k : Kept (StateOf Client)). k.at) e ∙ sym (ap (λ (k : Kept (StateOf Client)). k.place) e)))
+first_at Host g e =
+    let over = ap (λ (k : Kept (StateOf Host)). k.over) e in
+    going_at Host g [] [] over refl
+    (follows-holds (reader_of Host) (start_of Host) g.host g.host [] [] (follows-new (reader_of Host) true g.host e) over
+    (ap (λ (k : Kept (StateOf Host)). k.held) e ∙ sym (ap (λ (k : Kept (StateOf Host)). k.rest) e)) (ap (λ (k : Kept (StateOf Host)). k.at) e ∙ sym (ap (λ (k : Kept (StateOf Host)). k.place) e)))
+
+first_drained : (s : Side) (g : Inner) → kept_of s g ≡ first_kept s → Drained (kept_of s g) (split_of s []) []
+first_drained s g e = record {
+  packets = ap (λ (x : Splitting (StateOf s) (PacketOf s) Reason). x.packets) (empty s);
+  right = ap (λ (x : Splitting (StateOf s) (PacketOf s) Reason). x.wrong) (empty s);
+  rest = ap (λ (k : Kept (StateOf s)). k.rest) e ∙ sym (ap (λ (x : Splitting (StateOf s) (PacketOf s) Reason). x.rest) (empty s));
+  place = ap (λ (k : Kept (StateOf s)). k.place) e ∙ sym (ap (λ (x : Splitting (StateOf s) (PacketOf s) Reason). capped x.position.place) (empty s) ∙ first_place s);
+  state = ap (λ (k : Kept (StateOf s)). k.state) e ∙ sym (ap (λ (x : Splitting (StateOf s) (PacketOf s) Reason). x.position.state) (empty s));
+}
+
+-- what holds of both sides
+each : (P : Side → Type 0) → P Client → P Host → (s : Side) → P s
+each P a b Client = a
+each P a b Host = b
+
+pub stands-first : (g : Inner) → g.client ≡ first_kept Client → g.host ≡ first_kept Host → g.facts ≡ no_facts → g.failed ≡ false → Stands g []
+stands-first g client host facts works = record {
+  items = record { sides = each (λ s. StandsAt s g [] []) (first_at Client g client) (first_at Host g host); facts = facts };
+  works = works;
+  drained = each _ (λ _. first_drained Client g client) (λ _. first_drained Host g host);
+  whole = each _ (λ _. ap (λ (k : Kept (StateOf Client)). k.held) client ∙ sym (ap (λ (k : Kept (StateOf Client)). k.rest) client))
+      (λ _. ap (λ (k : Kept (StateOf Host)). k.held) host ∙ sym (ap (λ (k : Kept (StateOf Host)). k.rest) host));
+  bytes = each _ (λ i. omega arith) (λ i. omega arith);
 }

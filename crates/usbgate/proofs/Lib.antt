@@ -1,11 +1,11 @@
+pub mod Sides
+pub mod Doing
+pub mod Standing
+pub mod Taking
+pub mod Puts
 pub mod Firsts
 pub mod Held
-pub mod Moving
-pub mod Pieces
-pub mod Refusing
 pub mod Rows
-pub mod Sound
-pub mod Stopping
 pub mod Digits
 pub mod Lines
 pub mod Events

@@ -1,12 +1,15 @@
 -- What the host has told of its device: of each fact the last, since the device was last lost. It is lost with the
 -- host's end and with the host's wrong place.
 use Rattle.std.specs.Prelude.{ℕ, ◌==◌, if◌then◌else◌, List, [], ◌∷◌, Option, Some, None, unwrap_or}
-use Rattle.redir_wire.specs.declared.packet.RedirControl.{RedirControl}
+use Rattle.redir_data.specs.declared.packet.RedirPacket.{RedirPacket}
+use Rattle.redir_data.specs.declared.packet.RedirPacket.TheVariants.{Plain}
 use Rattle.redir_wire.specs.declared.packet.RedirControl.TheVariants as control
 use Rattle.redir_wire.specs.declared.packet.Connect.{Connect}
 use Rattle.redir_wire.specs.declared.packet.InterfaceInfo.{InterfaceInfo}
 use Rattle.usbgate.specs.declared.facts.Facts.{Facts}
-use Rattle.usbgate.specs.Items.{Item, OfClient, OfHost, Told, HostWrong, HostLeft}
+use Rattle.usb_base.specs.declared.side.Side.{Side}
+use Rattle.usb_base.specs.declared.side.Side.TheVariants.{Client, Host}
+use Rattle.usbgate.specs.Items.{Item, Asked, Told, Wrong, Left}
 
 -- the one, or the other where it is none
 abbrev pub or_else : {A : Type 0} → Option A → Option A → Option A
@@ -14,36 +17,29 @@ or_else None b = b
 or_else (Some a) b = Some a
 
 -- the last that was told since the last loss, where `tells` says what a packet tells
-abbrev pub last_told : {A : Type 0} → (RedirControl → Option A) → List Item → Option A
+abbrev pub last_told : {A : Type 0} → (RedirPacket → Option A) → List Item → Option A
 last_told tells [] = None
-last_told tells (OfClient i ∷ h) = last_told tells h
-last_told tells (OfHost (Told p) ∷ h) = or_else (tells p.1) (last_told tells h)
-last_told tells (OfHost (HostWrong place reason) ∷ h) = None
-last_told tells (OfHost HostLeft ∷ h) = None
+last_told tells (Asked place p ∷ h) = last_told tells h
+last_told tells (Told place p ∷ h) = or_else (tells p.1) (last_told tells h)
+last_told tells (Wrong Client place reason ∷ h) = last_told tells h
+last_told tells (Wrong Host place reason ∷ h) = None
+last_told tells (Left Client ∷ h) = last_told tells h
+last_told tells (Left Host ∷ h) = None
 
 -- a device_connect tells that the device is there, and what it is
-abbrev pub connect_in : RedirControl → Option Connect
-connect_in (control.Hello hello) = None
-connect_in (control.Connect connect) = Some connect
-connect_in (control.InterfaceInfo info) = None
-connect_in (control.EpInfo info) = None
-connect_in (control.ConfigurationStatus status configuration) = None
+abbrev pub connect_in : RedirPacket → Option Connect
+connect_in (Plain (control.Connect connect)) = Some connect
+connect_in _ = None
 
 -- an interface_info tells its interfaces
-abbrev pub interfaces_in : RedirControl → Option InterfaceInfo
-interfaces_in (control.Hello hello) = None
-interfaces_in (control.Connect connect) = None
-interfaces_in (control.InterfaceInfo info) = Some info
-interfaces_in (control.EpInfo info) = None
-interfaces_in (control.ConfigurationStatus status configuration) = None
+abbrev pub interfaces_in : RedirPacket → Option InterfaceInfo
+interfaces_in (Plain (control.InterfaceInfo info)) = Some info
+interfaces_in _ = None
 
 -- a configuration_status with success (0) tells its configuration
-abbrev pub configuration_in : RedirControl → Option ℕ
-configuration_in (control.Hello hello) = None
-configuration_in (control.Connect connect) = None
-configuration_in (control.InterfaceInfo info) = None
-configuration_in (control.EpInfo info) = None
-configuration_in (control.ConfigurationStatus status configuration) = if status == 0 then Some configuration else None
+abbrev pub configuration_in : RedirPacket → Option ℕ
+configuration_in (Plain (control.ConfigurationStatus status configuration)) = if status == 0 then Some configuration else None
+configuration_in _ = None
 
 abbrev pub facts_of : List Item → Facts
 facts_of h = record { connect = last_told connect_in h; interfaces = last_told interfaces_in h; configuration = unwrap_or (last_told configuration_in h) 0 }
@@ -53,9 +49,14 @@ abbrev pub no_facts : Facts
 no_facts = record { connect = None; interfaces = None; configuration = 0 }
 
 -- facts after a packet of the host
-abbrev pub after_told : Facts → RedirControl → Facts
+abbrev pub after_told : Facts → RedirPacket → Facts
 after_told f p = record {
   connect = or_else (connect_in p) f.connect;
   interfaces = or_else (interfaces_in p) f.interfaces;
   configuration = unwrap_or (configuration_in p) f.configuration;
 }
+
+-- facts after a side is over
+abbrev pub after_loss : Side → Facts → Facts
+after_loss Client f = f
+after_loss Host f = no_facts

@@ -7,16 +7,21 @@ use Rattle.packet_stream.specs.Format.{Check, Format}
 use Rattle.packet_stream.specs.Split.{Reader, Position, reads}
 use Rattle.usb_base.specs.declared.reason.Reason.{Reason}
 use Rattle.usb_base.specs.declared.reason.Reason.TheVariants.{NotBuilt}
+use Rattle.usb_base.specs.declared.side.Side.{Side}
+use Rattle.usb_base.specs.declared.side.Side.TheVariants.{Client, Host}
+use Rattle.usbip_op.specs.declared.code.TheConstants.{USBIP_VERSION, OP_REQ_DEVLIST}
 use Rattle.usbip_op.specs.declared.packet.OpPacket.{OpPacket}
 use Rattle.usbip_op.specs.declared.packet.OpPacket.TheVariants.{ReqDevlist, ReqImport, RepDevlist, RepImport}
 use Rattle.usbip_op.specs.Requests.{requests}
 use Rattle.redir_wire.specs.declared.packet.Header.{Header}
-use Rattle.redir_wire.specs.declared.packet.RedirControl.{RedirControl}
-use Rattle.redir_wire.specs.Packets.{host_packets}
+use Rattle.redir_data.specs.declared.packet.RedirPacket.{RedirPacket}
+use Rattle.usbgate.specs.HostPackets.{host_packets}
 
--- the first four bytes of a client's packet are those of a list request, OP_REQ_DEVLIST of version 1.1.1
+-- ---- the client's packets
+
+-- the first four bytes of a client's packet are those of a list request of version 1.1.1
 abbrev pub not_built : Check Reason
-not_built = record { place = 0; needed = 4; passes = λ b. (be_at w16 0 b == 0x0111) && (be_at w16 2 b == 0x8005); reason = NotBuilt }
+not_built = record { place = 0; needed = 4; passes = λ b. (be_at w16 0 b == USBIP_VERSION) && (be_at w16 2 b == OP_REQ_DEVLIST); reason = NotBuilt }
 
 abbrev pub IsBuilt : OpPacket → Type 0
 IsBuilt (ReqDevlist status) = Unit {0}
@@ -34,21 +39,40 @@ client_format s = client_packets
 abbrev pub client_next : Unit {0} → OpPacket → Unit {0}
 client_next s p = s
 
+-- a list request takes no memory
+abbrev pub client_takes : OpPacket → Bool
+client_takes p = false
+
+-- ---- the host's packets
+
 -- the host's first packet is a hello, and no later one is
-abbrev pub host_format : Bool → Format (Header × RedirControl) Reason
+abbrev pub host_format : Bool → Format (Header × RedirPacket) Reason
 host_format first = host_packets first
 
-abbrev pub host_next : Bool → Header × RedirControl → Bool
+abbrev pub host_next : Bool → Header × RedirPacket → Bool
 host_next first p = false
 
-abbrev pub client_reader : Reader (Unit {0}) OpPacket Reason
-client_reader = reads client_format client_next
+-- ---- the streams by their side
 
-abbrev pub host_reader : Reader Bool (Header × RedirControl) Reason
-host_reader = reads host_format host_next
+abbrev pub StateOf : Side → Type 0
+StateOf Client = Unit {0}
+StateOf Host = Bool
 
-abbrev pub client_start : Position (Unit {0})
-client_start = record { state = tt; place = 0 }
+abbrev pub PacketOf : Side → Type 0
+PacketOf Client = OpPacket
+PacketOf Host = Header × RedirPacket
 
-abbrev pub host_start : Position Bool
-host_start = record { state = true; place = 0 }
+abbrev pub format_of : (side : Side) → StateOf side → Format (PacketOf side) Reason
+format_of Client = client_format
+format_of Host = host_format
+
+abbrev pub next_of : (side : Side) → StateOf side → PacketOf side → StateOf side
+next_of Client = client_next
+next_of Host = host_next
+
+abbrev pub start_of : (side : Side) → Position (StateOf side)
+start_of Client = record { state = tt; place = 0 }
+start_of Host = record { state = true; place = 0 }
+
+abbrev pub reader_of : (side : Side) → Reader (StateOf side) (PacketOf side) Reason
+reader_of side = reads (format_of side) (next_of side)

@@ -1,5 +1,6 @@
-pub mod Forms
 pub mod Events
+pub mod HostPackets
+pub mod Forms
 pub mod Items
 pub mod History
 pub mod Facts
@@ -7,7 +8,6 @@ pub mod Reply
 pub mod Output
 pub mod Refusals
 pub mod Stands
-pub mod Steps
 pub mod Tape
 pub mod Text
 pub mod Command

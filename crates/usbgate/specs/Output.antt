@@ -1,25 +1,24 @@
 -- What an item sends and tells, and all that a history has sent and told.
 use Rattle.std.specs.Prelude.{ℕ, List, [], ◌∷◌, ◌++◌, replicate, codes, None}
 use Rattle.std.specs.List.{flat_map}
-use Rattle.usb_base.specs.declared.side.Side.TheVariants.{Client, Host}
 use Rattle.usbip_op.specs.declared.packet.OpPacket.{OpPacket}
 use Rattle.usbip_op.specs.declared.packet.OpPacket.TheVariants.{ReqDevlist, ReqImport, RepDevlist, RepImport}
 use Rattle.usbip_op.specs.Spelling.{spelling}
-use Rattle.redir_wire.specs.declared.packet.Header.{Header}
 use Rattle.redir_wire.specs.declared.packet.RedirControl.{RedirControl}
 use Rattle.redir_wire.specs.declared.packet.RedirControl.TheVariants as control
-use Rattle.redir_wire.specs.Spelling.{spelling as redir_spelling}
+use Rattle.redir_wire.specs.Capability.{no_caps, announced}
+use Rattle.redir_wire.specs.Written.{packet_bytes}
 use Rattle.usbgate.specs.declared.facts.Facts.{Facts}
 use Rattle.usbgate.specs.declared.note.Note.{Note}
 use Rattle.usbgate.specs.declared.note.Note.TheVariants.{Refused}
 use Rattle.usbgate.specs.declared.note.Counts.{Counts}
-use Rattle.usbgate.specs.Items.{Item, OfClient, OfHost, Asked, ClientWrong, ClientLeft, Told, HostWrong, HostLeft}
+use Rattle.usbgate.specs.Items.{Item, Asked, Told, Wrong, Left, capped}
 use Rattle.usbgate.specs.Facts.{facts_of}
 use Rattle.usbgate.specs.Reply.{list_reply}
 
--- the gateway's hello: its name, and the capabilities that it announces (bits 1, 3, 4, 5 and 6)
-abbrev pub gateway_hello : Header × RedirControl
-gateway_hello = (record { kind = 0; length = 68; id = 0 }, control.Hello (record { version = codes "usbgate 1" ++ replicate 55 0; words = 0x7A ∷ [] }))
+-- the gateway's hello: its name, and the capabilities that it announces
+abbrev pub gateway_hello : RedirControl
+gateway_hello = control.Hello (record { version = codes "usbgate 1" ++ replicate 55 0; words = announced.bits ∷ [] })
 
 -- a list request is answered with the list
 abbrev pub answers : Facts → OpPacket → List OpPacket
@@ -30,10 +29,10 @@ answers f (RepImport status device) = []
 
 -- what an item sends to the client, after the items before it
 abbrev pub to_client : List Item → Item → List OpPacket
-to_client h (OfClient (Asked p)) = answers (facts_of h) p
-to_client h (OfClient (ClientWrong place reason)) = []
-to_client h (OfClient ClientLeft) = []
-to_client h (OfHost i) = []
+to_client h (Asked place p) = answers (facts_of h) p
+to_client h (Told place p) = []
+to_client h (Wrong side place reason) = []
+to_client h (Left side) = []
 
 -- all bytes to the client
 abbrev pub out_client : List Item → List ℕ
@@ -42,17 +41,15 @@ out_client (i ∷ h) = out_client h ++ flat_map spelling (to_client h i)
 
 -- all bytes to the host: the gateway's hello, and nothing for an item
 abbrev pub out_host : List Item → List ℕ
-out_host [] = redir_spelling gateway_hello
+out_host [] = packet_bytes 0 no_caps gateway_hello
 out_host (i ∷ h) = out_host h
 
 -- what an item tells
 abbrev pub notes_of : Item → List Note
-notes_of (OfClient (Asked p)) = []
-notes_of (OfClient (ClientWrong place reason)) = Refused (record { side = Client; place = place; reason = reason; kept = None }) ∷ []
-notes_of (OfClient ClientLeft) = []
-notes_of (OfHost (Told p)) = []
-notes_of (OfHost (HostWrong place reason)) = Refused (record { side = Host; place = place; reason = reason; kept = None }) ∷ []
-notes_of (OfHost HostLeft) = []
+notes_of (Asked place p) = []
+notes_of (Told place p) = []
+notes_of (Wrong side place reason) = Refused (record { side = side; place = capped place; reason = reason; kept = None }) ∷ []
+notes_of (Left side) = []
 
 -- all that was told, in order
 abbrev pub told_notes : List Item → List Note

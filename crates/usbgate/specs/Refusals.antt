@@ -2,20 +2,17 @@
 -- bytes has with it, as long as the side wasn't over.
 use Rattle.std.specs.Prelude.{ℕ, if◌then◌else◌, List, [], ◌∷◌, Option, Some, None}
 use Rattle.usb_base.specs.declared.side.Side.{Side}
-use Rattle.usb_base.specs.declared.side.Side.TheVariants.{Client, Host}
 use Rattle.usb_base.specs.declared.reason.Reason.{Reason}
 use Rattle.usbgate.specs.declared.note.Note.{Note}
 use Rattle.usbgate.specs.declared.note.Note.TheVariants.{Refused}
-use Rattle.usbgate.specs.Events.{Event, ClientPiece, ClientEnd, HostPiece, HostEnd}
-use Rattle.usbgate.specs.Items.{client_over, host_over, capped}
-use Rattle.usbgate.specs.History.{history, client_split, host_split}
+use Rattle.usbgate.specs.Events.{Event, Piece, End}
+use Rattle.usbgate.specs.Items.{is_over, capped}
+use Rattle.usbgate.specs.History.{history, split_of}
 
 abbrev pub refusal_at : Side → Option (ℕ × Reason) → List Note
 refusal_at side None = []
 refusal_at side (Some wrong) = Refused (record { side = side; place = capped wrong.0; reason = wrong.1; kept = None }) ∷ []
 
 abbrev pub refusals : List Event → Event → List Note
-refusals past (ClientPiece b) = if client_over (history past) then [] else refusal_at Client (client_split (ClientPiece b ∷ past)).wrong
-refusals past ClientEnd = []
-refusals past (HostPiece b) = if host_over (history past) then [] else refusal_at Host (host_split (HostPiece b ∷ past)).wrong
-refusals past HostEnd = []
+refusals past (Piece side b) = if is_over side (history past) then [] else refusal_at side (split_of side (Piece side b ∷ past)).wrong
+refusals past (End side) = []

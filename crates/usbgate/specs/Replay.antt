@@ -2,7 +2,7 @@
 use Rattle.std.specs.Prelude.{ℕ, Bool, true, false, if◌then◌else◌, List, [], ◌∷◌, Option, Some, None}
 use Rattle.usbgate.specs.declared.status.Status.TheVariants.{Done, Refused}
 use Rattle.usbgate.specs.Events.{Event}
-use Rattle.usbgate.specs.Items.{Item, OfClient, OfHost, Asked, ClientWrong, ClientLeft, Told, HostWrong, HostLeft}
+use Rattle.usbgate.specs.Items.{Item, Asked, Told, Wrong, Left}
 use Rattle.usbgate.specs.History.{history}
 use Rattle.usbgate.specs.Output.{counts_of}
 use Rattle.usbgate.specs.Tape.{Says, Skip, Happens, Bad, says, may_happen}
@@ -17,12 +17,10 @@ on_saying past Bad = None
 -- a side was refused
 abbrev pub has_refusal : List Item → Bool
 has_refusal [] = false
-has_refusal (OfClient (Asked p) ∷ h) = has_refusal h
-has_refusal (OfClient (ClientWrong place reason) ∷ h) = true
-has_refusal (OfClient ClientLeft ∷ h) = has_refusal h
-has_refusal (OfHost (Told p) ∷ h) = has_refusal h
-has_refusal (OfHost (HostWrong place reason) ∷ h) = true
-has_refusal (OfHost HostLeft ∷ h) = has_refusal h
+has_refusal (Asked place p ∷ h) = has_refusal h
+has_refusal (Told place p ∷ h) = has_refusal h
+has_refusal (Wrong side place reason ∷ h) = true
+has_refusal (Left side ∷ h) = has_refusal h
 
 abbrev pub replay : Command (List Event)
 replay = record {

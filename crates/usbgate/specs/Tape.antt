@@ -4,7 +4,9 @@ use Rattle.std.specs.Prelude.{ℕ, ◌==◌, Bool, true, false, not, if◌then�
 use Rattle.std.specs.Io.BufRead.{strip_last}
 use Rattle.hex.specs.Hex.{decode_of}
 use Rattle.hex.specs.declared.error.FromHexError.{FromHexError}
-use Rattle.usbgate.specs.Events.{Event, ClientPiece, ClientEnd, HostPiece, HostEnd}
+use Rattle.usb_base.specs.declared.side.Side.{Side}
+use Rattle.usb_base.specs.declared.side.Side.TheVariants.{Client, Host}
+use Rattle.usbgate.specs.Events.{Event, Piece, End, side_of, is_side}
 
 -- ---- the bytes with a meaning, by ASCII
 
@@ -51,10 +53,8 @@ pub data Says : Type 0 where
 -- the line brings bytes, for which memory is needed
 abbrev pub IsPiece : Says → Type 0
 IsPiece Skip = ⊥
-IsPiece (Happens (ClientPiece b)) = Unit {0}
-IsPiece (Happens ClientEnd) = ⊥
-IsPiece (Happens (HostPiece b)) = Unit {0}
-IsPiece (Happens HostEnd) = ⊥
+IsPiece (Happens (Piece side b)) = Unit {0}
+IsPiece (Happens (End side)) = ⊥
 IsPiece Bad = ⊥
 
 -- an event stands on the line
@@ -75,36 +75,24 @@ end_of end [] = Happens end
 end_of end (b ∷ bs) = Bad
 
 -- what stands behind the letter of a side: a space and a piece, or a `.`
-abbrev pub of_side : (List ℕ → Event) → Event → List ℕ → Says
-of_side piece end [] = Bad
-of_side piece end (b ∷ bs) = if b == SPACE then piece_of piece (decode_of bs) else if b == DOT then end_of end bs else Bad
+abbrev pub of_side : Side → List ℕ → Says
+of_side side [] = Bad
+of_side side (b ∷ bs) = if b == SPACE then piece_of (Piece side) (decode_of bs) else if b == DOT then end_of (End side) bs else Bad
 
 abbrev pub says : List ℕ → Says
 says [] = Skip
 says (b ∷ bs) =
     if b == HASH then Skip
-    else if b == LETTER_C then of_side ClientPiece ClientEnd bs
-    else if b == LETTER_H then of_side HostPiece HostEnd bs
+    else if b == LETTER_C then of_side Client bs
+    else if b == LETTER_H then of_side Host bs
     else Bad
 
 -- ---- nothing of a side comes after its end
 
-abbrev pub client_ended : List Event → Bool
-client_ended [] = false
-client_ended (ClientPiece b ∷ past) = client_ended past
-client_ended (ClientEnd ∷ past) = true
-client_ended (HostPiece b ∷ past) = client_ended past
-client_ended (HostEnd ∷ past) = client_ended past
-
-abbrev pub host_ended : List Event → Bool
-host_ended [] = false
-host_ended (ClientPiece b ∷ past) = host_ended past
-host_ended (ClientEnd ∷ past) = host_ended past
-host_ended (HostPiece b ∷ past) = host_ended past
-host_ended (HostEnd ∷ past) = true
+abbrev pub has_ended : Side → List Event → Bool
+has_ended s [] = false
+has_ended s (Piece side b ∷ past) = has_ended s past
+has_ended s (End side ∷ past) = if is_side side s then true else has_ended s past
 
 abbrev pub may_happen : List Event → Event → Bool
-may_happen past (ClientPiece b) = not (client_ended past)
-may_happen past ClientEnd = not (client_ended past)
-may_happen past (HostPiece b) = not (host_ended past)
-may_happen past HostEnd = not (host_ended past)
+may_happen past e = not (has_ended (side_of e) past)

@@ -2,6 +2,7 @@
 
 ghost use Rattle.std.specs.Prelude.{◌≡◌};
 
+use redir_data::RedirPacket;
 use redir_wire::{Connect, InterfaceInfo, RedirControl};
 
 /// What the host has told of its device since the device was last lost: of each fact the last.
@@ -29,21 +30,20 @@ impl Facts {
     }
 
     /// Takes in what a packet tells.
-    pub fn tell(&mut self, packet: RedirControl)
+    pub fn tell(&mut self, packet: RedirPacket)
         ensures { self.new ≡ after_told self.old packet }
     {
+        let RedirPacket::Plain(packet) = packet else {
+            return;
+        };
         match packet {
             RedirControl::Connect(connect) => self.connect = Some(connect),
             RedirControl::InterfaceInfo(info) => self.interfaces = Some(info),
             RedirControl::ConfigurationStatus {
                 status: 0,
                 configuration,
-            } => {
-                self.configuration = configuration;
-            }
-            RedirControl::ConfigurationStatus { .. }
-            | RedirControl::Hello(_)
-            | RedirControl::EpInfo(_) => {}
+            } => self.configuration = configuration,
+            _ => {}
         }
     }
 }

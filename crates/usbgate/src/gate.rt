@@ -2,11 +2,11 @@
 
 ghost use Rattle.std.specs.Prelude.{◌≡◌, ◌++◌, [], List, ℕ, OnOk, OnErr, IfOk, IsErr};
 ghost use Rattle.usbgate.specs.Events.{Event as PastEvent, event_of};
-ghost use Rattle.usbgate.specs.Items.{capped};
+ghost use Rattle.usbgate.specs.Items.{Item};
 ghost use Rattle.usbgate.specs.History.{history, rest_length};
 ghost use Rattle.usbgate.specs.Output.{counts_of, out_host};
 ghost use Rattle.usbgate.specs.Refusals.{refusals};
-ghost use Rattle.usbgate.specs.Stands.{Stands, Takes, Stops, HasFailed};
+ghost use Rattle.usbgate.specs.Stands.{Stands, StandsFor, IsHeld, Takes, Stops, HasFailed};
 
 use crate::event::Event;
 use crate::hello::write_hello;
@@ -44,8 +44,8 @@ impl Gate {
     }
 
     /// Takes the next event: it appends what that sends to each side, and tells its notes. For want of memory
-    /// the items before the one that met it are taken, and every later call answers `Memory` and changes
-    /// nothing. An event of a side that is over does nothing.
+    /// the items before the one that met it are taken, that one has changed nothing, and every later call
+    /// answers `Memory` and changes nothing. An event of a side that is over does nothing.
     pub fn take(
         &mut self,
         event: Event,
@@ -58,7 +58,7 @@ impl Gate {
         ensures refusals { IfOk result (λ notes. (past : List PastEvent) → Stands self.old past
             → notes ≡ refusals past (event_of event.entry)) }
         ensures stops { OnErr result ((past : List PastEvent) → Stands self.old past
-            → Stops past (event_of event.entry) to_client.old to_client.new to_host.old to_host.new) }
+            → Stops self.new past (event_of event.entry) to_client.old to_client.new to_host.old to_host.new) }
         ensures fails { OnErr result (HasFailed self.new) }
         ensures failed { HasFailed self.old → IsErr result × (self.new ≡ self.old)
             × (to_client.new ≡ to_client.old) × (to_host.new ≡ to_host.old) }
@@ -66,7 +66,7 @@ impl Gate {
         if self.inner.failed {
             return Err(Memory);
         }
-        match self.inner.take(event, to_client, to_host) {
+        match self.inner.take(event, to_client) {
             Ok(notes) => Ok(notes),
             Err(memory) => {
                 self.inner.failed = true;
@@ -77,7 +77,8 @@ impl Gate {
 
     /// What has been counted.
     pub fn counts(&self) -> Counts
-        ensures { (past : List PastEvent) → Stands self.now past → result ≡ counts_of (history past) }
+        ensures all { (past : List PastEvent) → Stands self.now past → result ≡ counts_of (history past) }
+        ensures items { (seen : List PastEvent) (h : List Item) → StandsFor self.now seen h → result ≡ counts_of h }
     {
         Counts {
             answered: 0,
@@ -87,12 +88,11 @@ impl Gate {
         }
     }
 
-    /// The number of bytes that are kept of packets that aren't whole. It stands still at `u64::MAX`.
+    /// The number of bytes that are held of packets that weren't taken.
     pub fn held(&self) -> u64
-        ensures { (past : List PastEvent) → Stands self.now past → result ≡ capped (rest_length past) }
+        ensures all { (past : List PastEvent) → Stands self.now past → result ≡ rest_length past }
+        ensures items { (seen : List PastEvent) (h : List Item) → StandsFor self.now seen h → IsHeld result seen h }
     {
-        let client = self.inner.client.rest.len() as u64;
-        let host = self.inner.host.rest.len() as u64;
-        client.saturating_add(host)
+        (self.inner.client.held() + self.inner.host.held()) as u64
     }
 }

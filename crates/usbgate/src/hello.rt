@@ -3,7 +3,7 @@
 ghost use Rattle.std.specs.Prelude.{◌≡◌, ◌++◌, [], OnOk, OnErr};
 ghost use Rattle.usbgate.specs.Output.{out_host};
 
-use redir_wire::{ANNOUNCED, Hello, RedirControl, Words, write_control};
+use redir_wire::{ANNOUNCED, Caps, Hello, RedirControl, Words, write_control};
 use std::alloc::Global;
 use usb_base::{Bytes, Memory};
 
@@ -16,5 +16,6 @@ pub fn write_hello(alloc: Global, to_host: &mut Bytes) -> Result<(), Memory>
     version[..9].copy_from_slice(b"usbgate 1");
     let mut words = Words::new(alloc);
     words.push(ANNOUNCED)?;
-    write_control(&RedirControl::Hello(Hello { version, words }), 0, to_host)
+    let hello = RedirControl::Hello(Hello { version, words });
+    write_control(&hello, 0, Caps { bits: 0 }, to_host)
 }

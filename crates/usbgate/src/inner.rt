@@ -1,32 +1,28 @@
 //! What the gate keeps, and how an event changes it.
 
-ghost use Rattle.std.specs.Prelude.{◌≡◌, ◌+◌, true, [], List, ℕ, Bool, false, OnOk, OnErr, IfOk};
-ghost use Rattle.packet_stream.specs.Split.{Position, split};
-ghost use Rattle.usbgate.specs.Forms.{client_reader, host_reader};
-ghost use Rattle.usbgate.specs.Events.{Event as PastEvent, ClientPiece, ClientEnd, HostPiece, HostEnd, event_of};
-ghost use Rattle.usbgate.specs.Items.{Item, client_side, host_side, capped};
-ghost use Rattle.usbgate.specs.Facts.{no_facts};
-ghost use Rattle.usbgate.specs.Stands.{Stands, Knows, IsAt, Takes, Stops};
-ghost use Rattle.usbgate.specs.Steps.{Took, Stopped, refusal_notes};
+ghost use Rattle.std.specs.Prelude.{◌≡◌, ◌∷◌, [], None, false, List, ℕ, OnOk, OnErr, IfOk};
+ghost use Rattle.usbgate.specs.Events.{Event as PastEvent, Piece, End, event_of};
+ghost use Rattle.usbgate.specs.Facts.{after_loss};
+ghost use Rattle.usbgate.specs.Stands.{kept_of, Stands, Stops};
+ghost use Rattle.usbgate.specs.inner.Steps.{HasPut, HasNotPut, TakesSide, EndsSide, TakesTelling};
+ghost use Rattle.usbgate.specs.declared.note.Note.TheVariants.{Refused};
 
 use crate::event::Event;
 use crate::facts::Facts;
+use crate::formats::{ClientFormat, HostFormat};
 use crate::note::{Note, Notes};
-use crate::packets::read_client;
 use crate::reply::answer;
-use crate::stream::Stream;
-use redir_wire::{RedirRead, WireError, read_redir};
+use packet_stream::{ReadError, Stream};
 use std::alloc::Global;
 use usb_base::{Bytes, Memory, Reason, Refusal, Side};
-use usbip_op::{OpError, OpRead};
 
 /// Both streams, and what the host has told.
 #[derive(Debug, Drop)]
 pub struct Inner {
     pub alloc: Global,
-    pub client: Stream<()>,
+    pub client: Stream<ClientFormat>,
     /// Its state says whether the hello is still to come.
-    pub host: Stream<bool>,
+    pub host: Stream<HostFormat>,
     pub facts: Facts,
     /// Memory ran out in an earlier event.
     pub failed: bool,
@@ -46,189 +42,141 @@ impl Inner {
         }
     }
 
-    /// Takes the next event.
-    pub fn take(
-        &mut self,
-        event: Event,
-        to_client: &mut Bytes,
-        to_host: &mut Bytes,
-    ) -> Result<Notes, Memory>
-        ensures takes { IfOk result (λ notes. (past : List PastEvent) → Stands self.old past
-            → Takes self.new past (event_of event.entry) to_client.old to_client.new to_host.old to_host.new notes) }
-        ensures stops { OnErr result ((past : List PastEvent) → Stands self.old past
-            → Stops past (event_of event.entry) to_client.old to_client.new to_host.old to_host.new) }
+    /// Takes the next event. An event of a side that is over does nothing.
+    pub fn take(&mut self, event: Event, to_client: &mut Bytes) -> Result<Notes, Memory>
+        ensures takes { IfOk result (λ notes. (past : List PastEvent) (host : List ℕ) → Stands self.old past
+            → TakesTelling self.new past (event_of event.entry) to_client.old to_client.new host host notes) }
+        ensures stops { OnErr result ((past : List PastEvent) (host : List ℕ) → Stands self.old past
+            → Stops self.new past (event_of event.entry) to_client.old to_client.new host host) }
     {
         match event {
-            Event::ClientPiece(piece) => self.take_client(piece, to_client),
-            Event::ClientEnd => {
-                self.end_client();
-                Ok(Notes::new(self.alloc))
-            }
-            Event::HostPiece(piece) => self.take_host(piece),
-            Event::HostEnd => {
-                self.end_host();
+            Event::Piece(side, piece) => self.take_piece(side, piece, to_client),
+            Event::End(side) => {
+                self.take_end(side);
                 Ok(Notes::new(self.alloc))
             }
         }
     }
 
-    /// The client's end.
-    fn end_client(&mut self)
+    /// Takes the end of a side.
+    fn take_end(&mut self, side: Side)
         ensures { (past : List PastEvent) (client host : List ℕ) → Stands self.old past
-            → Takes self.new past ClientEnd client client host host [] }
+            → TakesTelling self.new past (End side) client client host host [] }
     {
-        if !self.client.over {
-            self.client.end();
+        if !self.is_over(side) {
+            self.end(side);
         }
     }
 
-    /// The host's end.
-    fn end_host(&mut self)
-        ensures { (past : List PastEvent) (client host : List ℕ) → Stands self.old past
-            → Takes self.new past HostEnd client client host host [] }
-    {
-        if !self.host.over {
-            self.lose_host();
-        }
-    }
-
-    /// The host is over, and what it told is lost.
-    fn lose_host(&mut self)
-        ensures { self.new ≡ record self.old { host = record self.old.host { rest = []; over = true }; facts = no_facts } }
-    {
-        self.host.end();
-        self.facts = Facts::none();
-    }
-
-    /// Takes a piece of the client's stream.
-    fn take_client(&mut self, piece: &[u8], to_client: &mut Bytes) -> Result<Notes, Memory>
+    /// Takes a piece of a side's stream.
+    fn take_piece(
+        &mut self,
+        side: Side,
+        piece: &[u8],
+        to_client: &mut Bytes,
+    ) -> Result<Notes, Memory>
         ensures takes { IfOk result (λ notes. (past : List PastEvent) (host : List ℕ) → Stands self.old past
-            → Takes self.new past (ClientPiece piece.now) to_client.old to_client.new host host notes) }
+            → TakesTelling self.new past (Piece side piece.now) to_client.old to_client.new host host notes) }
         ensures stops { OnErr result ((past : List PastEvent) (host : List ℕ) → Stands self.old past
-            → Stops past (ClientPiece piece.now) to_client.old to_client.new host host) }
+            → Stops self.new past (Piece side piece.now) to_client.old to_client.new host host) }
     {
-        if self.client.over {
+        if self.is_over(side) {
             return Ok(Notes::new(self.alloc));
         }
-        self.client.rest.append(piece)?;
-        let refusal = self.take_requests(to_client)?;
-        notes(self.alloc, refusal)
-    }
-
-    /// Takes the client's requests that are whole now, and refuses the client at a wrong place.
-    fn take_requests(&mut self, to_client: &mut Bytes) -> Result<Option<Refusal>, Memory>
-        requires { self.old.client.over ≡ false }
-        ensures host { OnOk result (self.new.host ≡ self.old.host) }
-        ensures took { IfOk result (λ refusal. (h : List Item) (at : Position (Unit {0})) (host : List ℕ) → Knows self.old h → IsAt self.old.client at
-            → Took client_side self.new.client self.new to_client.old to_client.new host host refusal h (split client_reader at self.old.client.rest)) }
-        ensures stopped { OnErr result ((h : List Item) (at : Position (Unit {0})) (host : List ℕ) → Knows self.old h → IsAt self.old.client at
-            → Stopped client_side to_client.old to_client.new host host h (split client_reader at self.old.client.rest)) }
-    {
-        let mut taken = 0;
-        'packets: loop {
-            match read_client(&self.client.rest.as_slice()[taken..]) {
-                Ok(OpRead::Whole(packet, len)) => {
-                    answer(self.alloc, &self.facts, &packet, to_client)?;
-                    taken += len;
-                    self.client.place = self.client.place.saturating_add(len as u64);
-                }
-                Ok(OpRead::Short) => {
-                    self.client.rest.skip(taken);
-                    return Ok(None);
-                }
-                Err(OpError::Refused { place, reason }) => {
-                    return Ok(Some(self.refuse_client(place, reason)));
-                }
-                Err(OpError::Memory) => return Err(Memory),
-            }
+        self.put(side, piece)?;
+        match self.take_packets(side, to_client) {
+            Ok(()) => Ok(Notes::new(self.alloc)),
+            Err(ReadError::Refused { place, reason }) => self.refuse(side, place, reason),
+            Err(ReadError::Memory) => Err(Memory),
         }
     }
 
-    /// Refuses the client at this place of its next packet.
-    fn refuse_client(&mut self, place: usize, reason: Reason) -> Refusal
-        ensures over { self.new ≡ record self.old { client = record self.old.client { rest = []; over = true } } }
-        ensures refusal { result ≡ record { side = Side.Client; place = capped (self.old.client.place + place); reason = reason; kept = None } }
+    /// Whether nothing more is read of a side.
+    fn is_over(&self, side: Side) -> bool
+        ensures { result ≡ (kept_of side self.now).over }
     {
-        self.client.end();
-        Refusal {
-            side: Side::Client,
-            place: self.client.place.saturating_add(place as u64),
+        match side {
+            Side::Client => self.client.is_over(),
+            Side::Host => self.host.is_over(),
+        }
+    }
+
+    /// Puts a piece behind what is kept of a side.
+    fn put(&mut self, side: Side, piece: &[u8]) -> Result<(), Memory>
+        ensures ok { OnOk result (HasPut side piece.now self.old self.new) }
+        ensures err { OnErr result (HasNotPut side self.old self.new) }
+    {
+        match side {
+            Side::Client => self.client.put(piece),
+            Side::Host => self.host.put(piece),
+        }
+    }
+
+    /// Takes the packets of a side that are whole now.
+    fn take_packets(&mut self, side: Side, to_client: &mut Bytes) -> Result<(), ReadError>
+        ensures { TakesSide side result self.old self.new to_client.old to_client.new }
+    {
+        match side {
+            Side::Client => self.take_requests(to_client),
+            Side::Host => self.take_told(),
+        }
+    }
+
+    /// Answers the client's requests that are whole now.
+    fn take_requests(&mut self, to_client: &mut Bytes) -> Result<(), ReadError>
+        ensures { TakesSide Side.Client result self.old self.new to_client.old to_client.new }
+    {
+        'packets: while let Some((_, packet)) = self.client.next(self.alloc)? {
+            answer(self.alloc, &self.facts, packet, to_client)?;
+        }
+        Ok(())
+    }
+
+    /// Takes in what the host tells in packets that are whole now.
+    fn take_told(&mut self) -> Result<(), ReadError>
+        ensures { (client : List ℕ) → TakesSide Side.Host result self.old self.new client client }
+    {
+        'packets: while let Some((_, packet)) = self.host.next(self.alloc)? {
+            self.facts.tell(packet.1);
+        }
+        Ok(())
+    }
+
+    /// A side is refused at this place of its stream.
+    fn refuse(&mut self, side: Side, place: u64, reason: Reason) -> Result<Notes, Memory>
+        ensures loses { self.new ≡ record self.old { facts = after_loss side self.old.facts } }
+        ensures tells { IfOk result (λ notes. notes ≡ Refused (record { side = side; place = place; reason = reason; kept = None }) ∷ []) }
+    {
+        self.lose(side);
+        let kept = None;
+        let mut notes = Notes::new(self.alloc);
+        notes.push(Note::Refused(Refusal {
+            side,
+            place,
             reason,
-            kept: None,
-        }
+            kept,
+        }))?;
+        Ok(notes)
     }
 
-    /// Takes a piece of the host's stream.
-    fn take_host(&mut self, piece: &[u8]) -> Result<Notes, Memory>
-        ensures takes { IfOk result (λ notes. (past : List PastEvent) (client host : List ℕ) → Stands self.old past
-            → Takes self.new past (HostPiece piece.now) client client host host notes) }
-        ensures stops { OnErr result ((past : List PastEvent) (client host : List ℕ) → Stands self.old past
-            → Stops past (HostPiece piece.now) client client host host) }
+    /// Ends a side.
+    fn end(&mut self, side: Side)
+        ensures { EndsSide side self.old self.new }
     {
-        if self.host.over {
-            return Ok(Notes::new(self.alloc));
+        self.lose(side);
+        match side {
+            Side::Client => self.client.end(),
+            Side::Host => self.host.end(),
         }
-        self.host.rest.append(piece)?;
-        let refusal = self.take_told()?;
-        notes(self.alloc, refusal)
     }
 
-    /// Takes the host's packets that are whole now, and refuses the host at a wrong place.
-    fn take_told(&mut self) -> Result<Option<Refusal>, Memory>
-        requires { self.old.host.over ≡ false }
-        ensures client { OnOk result (self.new.client ≡ self.old.client) }
-        ensures took { IfOk result (λ refusal. (h : List Item) (at : Position Bool) (client host : List ℕ) → Knows self.old h → IsAt self.old.host at
-            → Took host_side self.new.host self.new client client host host refusal h (split host_reader at self.old.host.rest)) }
-        ensures stopped { OnErr result ((h : List Item) (at : Position Bool) (client host : List ℕ) → Knows self.old h → IsAt self.old.host at
-            → Stopped host_side client client host host h (split host_reader at self.old.host.rest)) }
+    /// A side is over: what the host has told is lost with it.
+    fn lose(&mut self, side: Side)
+        ensures { self.new ≡ record self.old { facts = after_loss side self.old.facts } }
     {
-        let mut taken = 0;
-        'packets: loop {
-            match read_redir(
-                self.alloc,
-                self.host.state,
-                &self.host.rest.as_slice()[taken..],
-            ) {
-                Ok(RedirRead::Whole(_header, packet, len)) => {
-                    self.facts.tell(packet);
-                    taken += len;
-                    self.host.state = false;
-                    self.host.place = self.host.place.saturating_add(len as u64);
-                }
-                Ok(RedirRead::Short) => {
-                    self.host.rest.skip(taken);
-                    return Ok(None);
-                }
-                Err(WireError::Refused { place, reason }) => {
-                    return Ok(Some(self.refuse_host(place, reason)));
-                }
-                Err(WireError::Memory) => return Err(Memory),
-            }
+        match side {
+            Side::Client => {}
+            Side::Host => self.facts = Facts::none(),
         }
     }
-
-    /// Refuses the host at this place of its next packet, and loses what it told.
-    fn refuse_host(&mut self, place: usize, reason: Reason) -> Refusal
-        ensures over { self.new ≡ record self.old { host = record self.old.host { rest = []; over = true }; facts = no_facts } }
-        ensures refusal { result ≡ record { side = Side.Host; place = capped (self.old.host.place + place); reason = reason; kept = None } }
-    {
-        self.lose_host();
-        Refusal {
-            side: Side::Host,
-            place: self.host.place.saturating_add(place as u64),
-            reason,
-            kept: None,
-        }
-    }
-}
-
-/// The notes of a piece: its refusal, if there is one.
-fn notes(alloc: Global, refusal: Option<Refusal>) -> Result<Notes, Memory>
-    ensures { IfOk result (λ notes. notes ≡ refusal_notes refusal) }
-{
-    let mut notes = Notes::new(alloc);
-    if let Some(refusal) = refusal {
-        notes.push(Note::Refused(refusal))?;
-    }
-    Ok(notes)
 }

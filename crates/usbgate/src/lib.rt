@@ -3,17 +3,17 @@
 
 mod event;
 mod facts;
+mod formats;
 mod gate;
 mod hello;
+mod host;
 mod inner;
 mod laws;
 mod note;
-mod packets;
 mod program;
 mod replay;
 mod reply;
 mod status;
-mod stream;
 mod tape;
 mod tape_reader;
 mod text;

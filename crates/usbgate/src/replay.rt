@@ -5,7 +5,7 @@ ghost use Rattle.usbgate.specs.Events.{Event as PastEvent, event_of};
 ghost use Rattle.usbgate.specs.Items.{Item};
 ghost use Rattle.usbgate.specs.History.{history};
 ghost use Rattle.usbgate.specs.Output.{counts_of, told_notes};
-ghost use Rattle.usbgate.specs.Tape.{client_ended, host_ended, may_happen, content as content_of, says, IsEvent};
+ghost use Rattle.usbgate.specs.Tape.{has_ended, may_happen, content as content_of, says, IsEvent};
 ghost use Rattle.usbgate.specs.Text.{made_text, sent_text, counts_line};
 ghost use Rattle.usbgate.specs.Command.{tape_limit};
 ghost use Rattle.usbgate.specs.Replay.{has_refusal};
@@ -17,7 +17,7 @@ use crate::note::Notes;
 use crate::tape::{LineError, content, read_line};
 use crate::text::{push_bytes, push_counts, push_notes};
 use std::alloc::Global;
-use usb_base::{Bytes, Memory};
+use usb_base::{Bytes, Memory, Side};
 
 /// How many bytes a tape may have.
 const TAPE_LIMIT: u64 = 67_108_864;
@@ -96,8 +96,8 @@ impl Replay {
         ensures { (past : List PastEvent) → HasSeen self.now past → result ≡ may_happen past (event_of event.entry) }
     {
         match event {
-            Event::ClientPiece(_) | Event::ClientEnd => !self.client_ended,
-            Event::HostPiece(_) | Event::HostEnd => !self.host_ended,
+            Event::Piece(Side::Client, _) | Event::End(Side::Client) => !self.client_ended,
+            Event::Piece(Side::Host, _) | Event::End(Side::Host) => !self.host_ended,
         }
     }
 
@@ -139,14 +139,14 @@ impl Replay {
 
     /// Keeps that a side has ended, if the event says so.
     fn see_end(&mut self, event: Event)
-        ensures client { (past : List PastEvent) → self.old.client_ended ≡ client_ended past → self.new.client_ended ≡ client_ended (event_of event.entry ∷ past) }
-        ensures host { (past : List PastEvent) → self.old.host_ended ≡ host_ended past → self.new.host_ended ≡ host_ended (event_of event.entry ∷ past) }
+        ensures client { (past : List PastEvent) → self.old.client_ended ≡ has_ended Side.Client past → self.new.client_ended ≡ has_ended Side.Client (event_of event.entry ∷ past) }
+        ensures host { (past : List PastEvent) → self.old.host_ended ≡ has_ended Side.Host past → self.new.host_ended ≡ has_ended Side.Host (event_of event.entry ∷ past) }
         ensures rest { self.new ≡ record self.old { client_ended = self.new.client_ended; host_ended = self.new.host_ended } }
     {
         match event {
-            Event::ClientEnd => self.client_ended = true,
-            Event::HostEnd => self.host_ended = true,
-            Event::ClientPiece(_) | Event::HostPiece(_) => {}
+            Event::End(Side::Client) => self.client_ended = true,
+            Event::End(Side::Host) => self.host_ended = true,
+            Event::Piece(..) => {}
         }
     }
 

@@ -91,10 +91,10 @@ pub fn list_reply(alloc: Global, facts: &Facts) -> Result<OpPacket, Memory>
 pub fn answer(
     alloc: Global,
     facts: &Facts,
-    request: &OpPacket,
+    request: OpPacket,
     to_client: &mut Bytes,
 ) -> Result<(), Memory>
-    ensures ok { OnOk result (to_client.new ≡ to_client.old ++ flat_map spelling (answers facts.now request.now)) }
+    ensures ok { OnOk result (to_client.new ≡ to_client.old ++ flat_map spelling (answers facts.now request)) }
     ensures err { OnErr result (to_client.new ≡ to_client.old) }
 {
     match request {

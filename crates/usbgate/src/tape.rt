@@ -8,7 +8,7 @@ ghost use Rattle.usbgate.specs.inner.Line.{said, says_of, has_bytes};
 
 use crate::event::Event;
 use std::alloc::Global;
-use usb_base::Memory;
+use usb_base::{Memory, Side};
 
 /// What a line says: nothing, the next piece of a side's stream, which has a byte at least, or a side's end.
 #[derive(Debug, Drop)]
@@ -27,10 +27,10 @@ impl TapeLine {
     {
         match self {
             TapeLine::Skip => None,
-            TapeLine::Client(piece) => Some(Event::ClientPiece(piece)),
-            TapeLine::ClientEnd => Some(Event::ClientEnd),
-            TapeLine::Host(piece) => Some(Event::HostPiece(piece)),
-            TapeLine::HostEnd => Some(Event::HostEnd),
+            TapeLine::Client(piece) => Some(Event::Piece(Side::Client, piece)),
+            TapeLine::ClientEnd => Some(Event::End(Side::Client)),
+            TapeLine::Host(piece) => Some(Event::Piece(Side::Host, piece)),
+            TapeLine::HostEnd => Some(Event::End(Side::Host)),
         }
     }
 }

@@ -4,7 +4,8 @@ use Rattle.usbgate.specs.declared.replay.Replay.{Replay}
 use Rattle.usbgate.specs.Events.{Event}
 use Rattle.usbgate.specs.History.{history}
 use Rattle.usbgate.specs.Stands.{Stands}
-use Rattle.usbgate.specs.Tape.{client_ended, host_ended}
+use Rattle.usb_base.specs.declared.side.Side.TheVariants.{Client, Host}
+use Rattle.usbgate.specs.Tape.{has_ended}
 use Rattle.usbgate.specs.Text.{event_text}
 use Rattle.usbgate.specs.declared.status.Status.{Status}
 use Rattle.usbgate.specs.Command.{tape_limit, Progress, begin, next_line, Reading, read_lines, last_text, command_text, status_of, command_status}
@@ -46,8 +47,8 @@ pub record HasSeen (r : Replay) (past : List Event) : Type 0 where
   pub gate : Stands r.gate past
   pub to_client : r.to_client ≡ []
   pub to_host : r.to_host ≡ []
-  pub client_ended : r.client_ended ≡ client_ended past
-  pub host_ended : r.host_ended ≡ host_ended past
+  pub client_ended : r.client_ended ≡ has_ended Client past
+  pub host_ended : r.host_ended ≡ has_ended Host past
   pub refused : r.refused ≡ has_refusal (history past)
 
 -- A line has a byte at least, so there are no more lines than bytes.

@@ -1,7 +1,8 @@
 use Rattle.packet_stream.proofs.Splits.{splits_well}
-use Rattle.usbgate.specs.Forms.{client_format, client_next, client_start}
-use Rattle.usbgate.proofs.Sound.{client_sound}
+use Rattle.usb_base.specs.declared.side.Side.TheVariants.{Client}
+use Rattle.usbgate.specs.Forms.{format_of, next_of, start_of}
+use Rattle.usbgate.specs.inner.ClientSound.{client_sound}
 use Rattle.usbgate.proofs.laws.client_splits_well.Goals as goal
 
 pub returns : goal.returns
-returns c = splits_well client_format client_next (λ s. client_sound) client_start
+returns c = splits_well (format_of Client) (next_of Client) client_sound (start_of Client)

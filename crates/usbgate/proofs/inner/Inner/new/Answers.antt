@@ -3,4 +3,4 @@ use Rattle.usbgate.proofs.Firsts.{stands-first}
 use Rattle.usbgate.proofs.inner.Inner.new.Goals as goal
 
 pub returns : goal.returns
-returns c = stands-first _ c.new.ensures c.new-2.ensures c.none.ensures refl
+returns c = stands-first _ c.new.ensures.kept c.new-2.ensures.kept c.none.ensures refl

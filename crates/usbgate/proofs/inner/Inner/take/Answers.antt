@@ -1,25 +1,16 @@
-use Rattle.std.proofs.Common.{sym, ap, subst}
-use Rattle.usbgate.specs.Events.{Event, event_of}
-use Rattle.usbgate.specs.Stands.{Takes}
-use Rattle.usbgate.proofs.Stopping.{if_ok}
+use Rattle.std.proofs.Common.{sym, ap, subst, List}
+use Rattle.std.proofs.lemmas.Result.{IfOk-weaker}
+use Rattle.usbgate.specs.declared.note.Note.{Note}
+use Rattle.usbgate.specs.Events.{Event, End, event_of}
+use Rattle.usbgate.specs.inner.Steps.{TakesTelling}
 use Rattle.usbgate.proofs.inner.Inner.take.Goals as goal
 
-pub returns-in-ClientPiece-clause-takes : goal.returns-in-ClientPiece-clause-takes
-returns-in-ClientPiece-clause-takes c = if_ok c.take_client.result c.take_client.ensures.takes (λ notes takes past stands.
-    subst (λ (e : Event). Takes c.take_client.new.self past e c.args.to_client.now c.take_client.new.to_client c.args.to_host.now c.args.to_host.now notes) (sym (ap event_of c.in-ClientPiece.is)) (takes past c.args.to_host.now stands))
+pub returns-in-Piece-clause-takes : goal.returns-in-Piece-clause-takes
+returns-in-Piece-clause-takes c = IfOk-weaker c.take_piece.result _ _ (λ notes takes past host stands.
+    subst (λ (e : Event). TakesTelling c.take_piece.new.self past e c.args.to_client.now c.take_piece.new.to_client host host notes) (sym (ap event_of c.in-Piece.is)) (takes past host stands)) c.take_piece.ensures.takes
 
-pub returns-in-ClientEnd-clause-takes : goal.returns-in-ClientEnd-clause-takes
-returns-in-ClientEnd-clause-takes c past stands =
-    let takes = c.end_client.ensures past c.args.to_client.now c.args.to_host.now stands in
-    let noted = subst (Takes c.end_client.new.self past _ c.args.to_client.now c.args.to_client.now c.args.to_host.now c.args.to_host.now) (sym c.new.ensures) takes in
-    subst (λ (e : Event). Takes c.end_client.new.self past e c.args.to_client.now c.args.to_client.now c.args.to_host.now c.args.to_host.now c.new.result) (sym (ap event_of c.in-ClientEnd.is)) noted
-
-pub returns-in-HostPiece-clause-takes : goal.returns-in-HostPiece-clause-takes
-returns-in-HostPiece-clause-takes c = if_ok c.take_host.result c.take_host.ensures.takes (λ notes takes past stands.
-    subst (λ (e : Event). Takes c.take_host.new.self past e c.args.to_client.now c.args.to_client.now c.args.to_host.now c.args.to_host.now notes) (sym (ap event_of c.in-HostPiece.is)) (takes past c.args.to_client.now c.args.to_host.now stands))
-
-pub returns-in-HostEnd-clause-takes : goal.returns-in-HostEnd-clause-takes
-returns-in-HostEnd-clause-takes c past stands =
-    let takes = c.end_host.ensures past c.args.to_client.now c.args.to_host.now stands in
-    let noted = subst (Takes c.end_host.new.self past _ c.args.to_client.now c.args.to_client.now c.args.to_host.now c.args.to_host.now) (sym c.new-in-HostEnd.ensures) takes in
-    subst (λ (e : Event). Takes c.end_host.new.self past e c.args.to_client.now c.args.to_client.now c.args.to_host.now c.args.to_host.now c.new-in-HostEnd.result) (sym (ap event_of c.in-HostEnd.is)) noted
+pub returns-in-End-clause-takes : goal.returns-in-End-clause-takes
+returns-in-End-clause-takes c past host stands =
+    let client = c.args.to_client.now in
+    let noted = subst (λ (n : List Note). TakesTelling c.take_end.new.self past (End c.in-End.side) client client host host n) (sym c.new.ensures) (c.take_end.ensures past client host stands) in
+    subst (λ (e : Event). TakesTelling c.take_end.new.self past e client client host host c.new.result) (sym (ap event_of c.in-End.is)) noted

@@ -1,21 +1,19 @@
--- The formats of both sides are sound.
-use Rattle.std.proofs.Common.{◌≡◌, ℕ, ◌≤◌, true, List, [], ◌++◌, length, take, None, refl, sym, ap, subst, ◌∙◌, arith, lit<}
+-- The client's format is sound.
+use Rattle.std.proofs.Common.{◌≡◌, ℕ, ◌≤◌, true, List, [], ◌∷◌, ◌++◌, length, take, None, refl, sym, ap, subst, ◌∙◌, arith, lit<}
 use Rattle.std.specs.Prelude.{◌==◌, ◌&&◌}
 use Rattle.std.specs.Int.{w16}
 use Rattle.std.proofs.lemmas.Grind.{common_steps}
 use Rattle.usb_base.specs.Number.{be_at, AreBytes}
 use Rattle.packet_stream.specs.Format.{wrong_at, IsSound}
 use Rattle.usb_base.proofs.Numbers.{be_at-append_16}
-use Rattle.packet_stream.proofs.Formats.{none_first, none_from}
-use Rattle.packet_stream.proofs.Laws.{IsSteady, reads_steady}
+use Rattle.packet_stream.proofs.Formats.{none_first, none_from, stays_wrong}
 use Rattle.usbip_op.specs.declared.packet.OpPacket.{OpPacket}
 use Rattle.usbip_op.specs.declared.packet.OpPacket.TheVariants.{ReqDevlist, ReqImport, RepDevlist, RepImport}
 use Rattle.usbip_op.specs.Spelling.{spelling}
 use Rattle.usbip_op.specs.Requests.{requests, request_by}
 use Rattle.usbip_op.proofs.Heads.{version_again, code_again}
 use Rattle.usbip_op.proofs.Requests.{requests_sound}
-use Rattle.redir_wire.proofs.Sound.{sound}
-use Rattle.usbgate.specs.Forms.{not_built, IsBuilt, client_packets, client_format, client_next, client_reader, host_format, host_next, host_reader}
+use Rattle.usbgate.specs.Forms.{not_built, IsBuilt, client_packets, client_format}
 
 -- where the check passes, those of a request do
 requests_right : (b : List ℕ) → 4 ≤ length b → not_built.passes b ≡ true → wrong_at requests.checks b ≡ None
@@ -46,18 +44,15 @@ found b are right there =
     let h = requests_sound.found b are (requests_right b long passes) there in
     (h.0, (h.1, built b passes))
 
-pub client_sound : IsSound client_packets
-client_sound = record {
+packets_sound : IsSound client_packets
+packets_sound = record {
   found = found;
   right = client_right;
   size = λ p more fits. requests_sound.size p more fits.0;
   packet = λ p more fits. requests_sound.packet p more fits.0;
   some = requests_sound.some;
-  steady = (omega arith, λ b more h. rw (be_at-append_16 0 b more (omega arith), be_at-append_16 2 b more h) refl, tt);
+  steady = stays_wrong (not_built ∷ []) 0 (omega arith, λ b more h. rw (be_at-append_16 0 b more (omega arith), be_at-append_16 2 b more h) refl, tt);
 }
 
-pub client_steady : IsSteady client_reader
-client_steady = reads_steady client_format client_next (λ s. client_sound)
-
-pub host_steady : IsSteady host_reader
-host_steady = reads_steady host_format host_next sound
+pub client_sound : (s : Unit {0}) → IsSound (client_format s)
+client_sound s = packets_sound
