@@ -1,5 +1,7 @@
 -- What the answer of a reader tells.
-use Rattle.std.specs.Prelude.{◌≡◌, Bool, true, Result, Ok, Err, Option, Some, None}
+use Rattle.std.specs.Prelude.{◌≡◌, ℕ, Bool, true, List, ◌++◌, codes, Result, Ok, Err, Option, Some, None}
+use Rattle.std.specs.Fmt.{decimal}
+use Rattle.usb_base.specs.Reason.{name_of}
 use Rattle.usb_base.specs.declared.reason.Reason.{Reason}
 use Rattle.packet_stream.specs.Format.{Found, Whole, Short, Wrong}
 use Rattle.packet_stream.specs.declared.read.Read.{Read}
@@ -33,3 +35,8 @@ Answers takes (Ok (read.Whole p n)) found = found ≡ Whole p n
 Answers takes (Ok read.Short) found = found ≡ Short
 Answers takes (Err (error.Refused place reason)) found = found ≡ Wrong place reason
 Answers takes (Err error.Memory) found = WantsMemory takes found
+
+-- how an error is printed
+abbrev pub error_text : ReadError → List ℕ
+error_text (error.Refused place reason) = name_of reason ++ codes " at " ++ decimal place
+error_text error.Memory = codes "out of memory"

@@ -1,5 +1,10 @@
 //! What a reader of packets answers.
 
+ghost use Rattle.std.specs.Prelude.{Some};
+ghost use Rattle.packet_stream.specs.Reads.{error_text};
+
+use std::error::Error;
+use std::fmt;
 use usb_base::{Memory, Reason};
 
 /// What stands at the front of bytes, where nothing is wrong.
@@ -19,6 +24,22 @@ pub enum ReadError {
     /// No memory was left for the packet, which is whole. Its bytes may be read again.
     Memory,
 }
+
+impl fmt::Display for ReadError {
+    ghost output = { λ error. Some (error_text error) };
+
+    fn fmt<W: fmt::Write>(&self, f: &mut fmt::Formatter<W>) -> fmt::Result {
+        match self {
+            ReadError::Refused { place, reason } => {
+                let name = reason.name();
+                write!(f, "{name} at {place}")
+            }
+            ReadError::Memory => write!(f, "out of memory"),
+        }
+    }
+}
+
+impl Error for ReadError {}
 
 impl From<Memory> for ReadError {
     ghost use Rattle.std.specs.Prelude.{◌≡◌};

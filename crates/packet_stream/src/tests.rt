@@ -120,3 +120,21 @@ fn nothing_is_read_after_the_end(rt: HostRuntime) -> Result<(), Fail> {
     splits_well::<Tells>();
     Ok(())
 }
+
+#[test]
+fn errors_are_printed(rt: HostRuntime) -> Result<(), Fail> {
+    for (error, wanted) in [
+        (
+            ReadError::Refused {
+                place: 12,
+                reason: Reason::Count,
+            },
+            "Count at 12",
+        ),
+        (ReadError::Memory, "out of memory"),
+    ] {
+        let text = format!(in rt.alloc(); "{error}")?;
+        assert_eq!(rt; text.as_str(), wanted);
+    }
+    Ok(())
+}
