@@ -6,7 +6,7 @@ ghost use Rattle.usb_base.specs.Number.{be_at};
 ghost use Rattle.packet_stream.specs.Format.{IsSound, Stands, reading, reading_by, Whole as FoundWhole};
 ghost use Rattle.packet_stream.specs.Reads.{Answers, IfTold};
 ghost use Rattle.usbip_urb.specs.declared.packet.UrbPacket.{UrbPacket as Packet};
-ghost use Rattle.usbip_urb.specs.declared.code.TheConstants.{USBIP_RET_SUBMIT};
+ghost use Rattle.usbip_urb.specs.declared.code.TheConstants.{HEAD_SIZE, USBIP_RET_SUBMIT};
 ghost use Rattle.usbip_urb.specs.Spelling.{spelling};
 ghost use Rattle.usbip_urb.specs.Ranges.{IsAnswer};
 ghost use Rattle.usbip_urb.specs.Answers.{answers, seqnum_of};
@@ -69,7 +69,7 @@ fn answer_at_front(alloc: Global, is_in: bool, bytes: &[u8]) -> Result<UrbRead, 
 
 fn read_ret_submit(alloc: Global, is_in: bool, bytes: &[u8]) -> Result<UrbRead, UrbError>
     requires submit { be_at w32 0 bytes.now ≡ USBIP_RET_SUBMIT }
-    requires head { 48 ≤ length bytes.now }
+    requires head { HEAD_SIZE ≤ length bytes.now }
     ensures { Answers takes_memory result (reading_by (answers is_in) bytes.now None) }
 {
     let Some(payload) = payload_of(is_in, bytes) else {

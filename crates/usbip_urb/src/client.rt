@@ -1,8 +1,6 @@
 //! All that a client sends: list and import requests, and URB requests, told apart by their first two bytes.
 
-ghost use Rattle.std.specs.Prelude.{◌≡◌, ◌==◌, ◌≤◌, ◌++◌, ℕ, List, true, false, length};
-ghost use Rattle.std.specs.Int.{w16};
-ghost use Rattle.usb_base.specs.Number.{be_at};
+ghost use Rattle.std.specs.Prelude.{◌≡◌, ◌++◌, ℕ, List, true, false, length};
 ghost use Rattle.packet_stream.specs.Format.{IsSound, Stands, reading, Whole as FoundWhole};
 ghost use Rattle.packet_stream.specs.Reads.{Answers, IfTold};
 ghost use Rattle.usbip_urb.specs.declared.client.ClientPacket.{ClientPacket as Packet};

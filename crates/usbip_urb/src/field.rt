@@ -1,6 +1,7 @@
 //! Fields at their places.
 
 ghost use Rattle.std.specs.Prelude.{◌≡◌, ◌≤◌, length};
+ghost use Rattle.usbip_urb.specs.declared.code.TheConstants.{DESC_SIZE, HEAD_SIZE};
 ghost use Rattle.usbip_urb.specs.Fields.{head_at, unlink_at, ret_unlink_at, desc_at};
 
 use crate::packet::{Head, IsoDesc, RetUnlink, Unlink};
@@ -19,7 +20,7 @@ pub(crate) fn head_at(bytes: &[u8]) -> Head
 }
 
 pub(crate) fn unlink_at(bytes: &[u8]) -> Unlink
-    requires { 48 ≤ length bytes.now }
+    requires { HEAD_SIZE ≤ length bytes.now }
     ensures { result ≡ unlink_at bytes.now }
 {
     Unlink {
@@ -30,7 +31,7 @@ pub(crate) fn unlink_at(bytes: &[u8]) -> Unlink
 }
 
 pub(crate) fn ret_unlink_at(bytes: &[u8]) -> RetUnlink
-    requires { 48 ≤ length bytes.now }
+    requires { HEAD_SIZE ≤ length bytes.now }
     ensures { result ≡ ret_unlink_at bytes.now }
 {
     RetUnlink {
@@ -41,7 +42,7 @@ pub(crate) fn ret_unlink_at(bytes: &[u8]) -> RetUnlink
 }
 
 pub(crate) fn desc_at(bytes: &[u8]) -> IsoDesc
-    requires { 16 ≤ length bytes.now }
+    requires { DESC_SIZE ≤ length bytes.now }
     ensures { result ≡ desc_at bytes.now }
 {
     IsoDesc {

@@ -1,8 +1,9 @@
 //! What stands behind the first 48 bytes of a submit and of its answer: a body or none, and descriptors.
 
-ghost use Rattle.std.specs.Prelude.{◌≡◌, ◌≤◌, ◌<◌, ◌↔◌, ◌*◌, ◌/◌, length, IsNone, IfSome, IfOk, OnErr};
+ghost use Rattle.std.specs.Prelude.{◌≡◌, ◌≤◌, ◌<◌, ◌↔◌, ◌/◌, ◌^◌, length, IsNone, IfSome, IfOk, OnErr};
 ghost use Rattle.std.specs.Int.{w32};
 ghost use Rattle.usb_base.specs.Number.{be_at, part};
+ghost use Rattle.usbip_urb.specs.declared.code.TheConstants.{DESC_SIZE, HEAD_SIZE};
 ghost use Rattle.usbip_urb.specs.Sizes.{count_of, descs_place, descs_size, whole_size};
 ghost use Rattle.usbip_urb.specs.Fields.{body_at, descs_at};
 
@@ -24,7 +25,7 @@ pub(crate) struct Payload<'a> {
 
 /// What stands behind the head, where `has_body` says whether a body does. None where it isn't all there.
 pub(crate) fn payload_of(has_body: bool, bytes: &[u8]) -> Option<Payload<'_>>
-    requires { 48 ≤ length bytes.now }
+    requires { HEAD_SIZE ≤ length bytes.now }
     ensures none { IsNone result ↔ (length bytes.now < whole_size has_body bytes.now) }
     ensures body { IfSome result (λ payload. payload.body.now ≡ body_at has_body bytes.now) }
     ensures descs { IfSome result (λ payload. payload.descs.now ≡ part (descs_place has_body bytes.now) (descs_size bytes.now) bytes.now) }
@@ -49,9 +50,9 @@ pub(crate) fn payload_of(has_body: bool, bytes: &[u8]) -> Option<Payload<'_>>
 }
 
 fn desc_count(bytes: &[u8]) -> usize
-    requires { 48 ≤ length bytes.now }
+    requires { HEAD_SIZE ≤ length bytes.now }
     ensures count { result ≡ count_of (be_at w32 32 bytes.now) }
-    ensures in_range { result < 4294967296 }
+    ensures in_range { result < 2 ^ 32 }
 {
     let packets = be_u32_at(bytes, 32);
     if packets == NO_PACKETS {
@@ -75,8 +76,8 @@ pub(crate) fn copied(alloc: Global, bytes: &[u8]) -> Result<Bytes, Memory>
 
 /// The descriptors that stand one behind another, 16 bytes each. They take no memory where there are none.
 pub(crate) fn read_descs(alloc: Global, bytes: &[u8]) -> Result<Descs, Memory>
-    ensures ok { IfOk result (λ descs. descs ≡ descs_at (length bytes.now / 16) bytes.now) }
-    ensures err { OnErr result (0 < length bytes.now / 16) }
+    ensures ok { IfOk result (λ descs. descs ≡ descs_at (length bytes.now / DESC_SIZE) bytes.now) }
+    ensures err { OnErr result (0 < length bytes.now / DESC_SIZE) }
 {
     let mut descs = List::new(alloc);
     for desc in bytes.chunks_exact(DESC_SIZE) {

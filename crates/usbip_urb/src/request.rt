@@ -6,7 +6,7 @@ ghost use Rattle.usb_base.specs.Number.{be_at};
 ghost use Rattle.packet_stream.specs.Format.{IsSound, Stands, reading, reading_by, Whole as FoundWhole};
 ghost use Rattle.packet_stream.specs.Reads.{Answers, IfTold};
 ghost use Rattle.usbip_urb.specs.declared.packet.UrbPacket.{UrbPacket as Packet};
-ghost use Rattle.usbip_urb.specs.declared.code.TheConstants.{USBIP_CMD_SUBMIT};
+ghost use Rattle.usbip_urb.specs.declared.code.TheConstants.{HEAD_SIZE, USBIP_CMD_SUBMIT};
 ghost use Rattle.usbip_urb.specs.Spelling.{spelling};
 ghost use Rattle.usbip_urb.specs.Ranges.{IsRequest};
 ghost use Rattle.usbip_urb.specs.Requests.{requests};
@@ -59,7 +59,7 @@ fn request_at_front(alloc: Global, bytes: &[u8]) -> Result<UrbRead, UrbError>
 
 fn read_submit(alloc: Global, bytes: &[u8]) -> Result<UrbRead, UrbError>
     requires submit { be_at w32 0 bytes.now ≡ USBIP_CMD_SUBMIT }
-    requires head { 48 ≤ length bytes.now }
+    requires head { HEAD_SIZE ≤ length bytes.now }
     ensures { Answers takes_memory result (reading_by requests bytes.now None) }
 {
     let is_out = be_u32_at(bytes, 12) == USBIP_DIR_OUT;

@@ -1,6 +1,6 @@
 //! Requests read.
 
-use crate::packet::{Head, IsoDesc, Submit, UrbError, UrbPacket, UrbRead};
+use crate::packet::{Head, IsoDesc, Submit, Unlink, UrbError, UrbPacket, UrbRead};
 use crate::request::read_urb;
 use crate::tests::{front, size_of, with_field};
 use std::alloc::Global;
@@ -29,14 +29,25 @@ fn request_size(alloc: Global, bytes: &[u8]) -> Result<Option<usize>, UrbError> 
     size_of(read_urb(alloc, bytes))
 }
 
-// The submit that was read, if one was.
-fn submit_of(read: UrbRead) -> Option<Submit> {
-    match read {
-        UrbRead::Whole(packet, _) => match packet {
+// The submit at the front, if one is read.
+fn submit_at_front(alloc: Global, bytes: &[u8]) -> Option<Submit> {
+    match read_urb(alloc, bytes) {
+        Ok(UrbRead::Whole(packet, _)) => match packet {
             UrbPacket::Submit(submit) => Some(submit),
             _ => None,
         },
-        UrbRead::Short => None,
+        _ => None,
+    }
+}
+
+// The unlink at the front, if one is read.
+fn unlink_at_front(alloc: Global, bytes: &[u8]) -> Option<Unlink> {
+    match read_urb(alloc, bytes) {
+        Ok(UrbRead::Whole(packet, _)) => match packet {
+            UrbPacket::Unlink(unlink) => Some(unlink),
+            _ => None,
+        },
+        _ => None,
     }
 }
 
@@ -60,8 +71,8 @@ fn a_request_is_read_once_its_last_byte_is_there(rt: HostRuntime) {
 
 #[test]
 fn the_fields_of_a_submit_are_read(rt: HostRuntime) {
-    match read_urb(rt.alloc(), &SUBMIT_OUT) {
-        Ok(UrbRead::Whole(UrbPacket::Submit(submit), 83)) => {
+    match submit_at_front(rt.alloc(), &SUBMIT_OUT) {
+        Some(submit) => {
             let head = Head {
                 seqnum: 7,
                 devid: 0x0001_0002,
@@ -92,14 +103,14 @@ fn the_fields_of_a_submit_are_read(rt: HostRuntime) {
             ];
             assert_eq!(rt; submit.descs.as_slice(), descs.as_slice());
         }
-        _ => assert!(rt; false, "a submit is read"),
+        None => assert!(rt; false, "a submit is read"),
     }
 }
 
 #[test]
 fn the_fields_of_an_unlink_are_read(rt: HostRuntime) {
-    match read_urb(rt.alloc(), &UNLINK) {
-        Ok(UrbRead::Whole(UrbPacket::Unlink(unlink), 48)) => {
+    match unlink_at_front(rt.alloc(), &UNLINK) {
+        Some(unlink) => {
             let head = Head {
                 seqnum: 3,
                 devid: 0x0001_0002,
@@ -110,7 +121,7 @@ fn the_fields_of_an_unlink_are_read(rt: HostRuntime) {
             assert_eq!(rt; unlink.target, 2);
             assert_eq!(rt; (unlink.pad[0], unlink.pad[1], unlink.pad[23]), (11, 0, 12));
         }
-        _ => assert!(rt; false, "an unlink is read"),
+        None => assert!(rt; false, "an unlink is read"),
     }
 }
 
@@ -176,7 +187,7 @@ fn a_request_of_1024_packets_is_read(rt: HostRuntime) -> Result<(), Fail> {
         assert_eq!(rt; request_size(rt.alloc(), bytes.as_slice()), Ok(None));
         bytes.append(&[0, 0, 0, 1, 0, 0, 0, 2, 0, 0, 0, 3, 0, 0, 0, 4])?;
     }
-    match submit_of(read_urb(rt.alloc(), bytes.as_slice())?) {
+    match submit_at_front(rt.alloc(), bytes.as_slice()) {
         Some(submit) => {
             assert_eq!(rt; submit.descs.len(), 1024);
             for desc in submit.descs.as_slice() {
@@ -203,7 +214,7 @@ fn a_body_of_16_mib_is_read(rt: HostRuntime) -> Result<(), Fail> {
         assert_eq!(rt; request_size(rt.alloc(), bytes.as_slice()), Ok(None));
         bytes.append(&[0x5a; 4096])?;
     }
-    match submit_of(read_urb(rt.alloc(), bytes.as_slice())?) {
+    match submit_at_front(rt.alloc(), bytes.as_slice()) {
         Some(submit) => {
             assert_eq!(rt; submit.body.len(), 16_777_216);
             for byte in submit.body.as_slice() {
