@@ -120,6 +120,17 @@ impl Lives {
         Ok(())
     }
 
+    /// The live request at a place, counted from the earliest.
+    pub fn at(&self, place: usize) -> Option<&Live>
+        ensures { option_copied result ≡ slice_get self.now.live place }
+    {
+        if place < self.len() {
+            Some(self.table.at(place))
+        } else {
+            None
+        }
+    }
+
     /// An unlink of the request with the number `target`; `by` is the unlink's own. It takes out a stream request,
     /// and marks any other: the first unlink is kept.
     pub fn unlink(&mut self, target: u32, by: u32) -> UnlinkTold

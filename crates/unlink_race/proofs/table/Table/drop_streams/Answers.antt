@@ -1,4 +1,4 @@
-use Rattle.std.proofs.Common.{◌≡◌, ◌-◌, ◌∙◌, ap, not, length, Some, sym, true, false, get_or, arith, slice_get, refl}
+use Rattle.std.proofs.Common.{◌≡◌, ◌-◌, ◌∙◌, ap, not, length, sym, true, false, get_or, arith}
 use Rattle.std.proofs.lemmas.Option.{slice_get-get_or}
 use Rattle.unlink_race.specs.Tests.{goes_by_id}
 use Rattle.unlink_race.proofs.Ids.{no_live}
