@@ -8,7 +8,7 @@ use Rattle.std.proofs.lemmas.List.Sums.{position_or_len_is}
 use Rattle.unlink_race.specs.declared.live.Live.{Live}
 use Rattle.unlink_race.specs.declared.live.LiveKind.TheVariants.{Wire}
 use Rattle.unlink_race.specs.declared.table.Row.{Row}
-use Rattle.unlink_race.specs.Tests.{is_stream, has_id}
+use Rattle.unlink_race.specs.Searches.{is_stream, has_id}
 
 abbrev pub no_row : Row
 no_row = record { key = 0; kind = Wire 0 }
