@@ -57,6 +57,14 @@ fn three(alloc: Global) -> Result<Lives, Fail>
     Ok(lives)
 }
 
+fn number(found: Option<&Live>) -> Option<u32> {
+    found.map(|live| live.seqnum)
+}
+
+fn number_taken(found: Option<Live>) -> Option<u32> {
+    found.map(|live| live.seqnum)
+}
+
 fn told(told: UnlinkTold) -> (&'static str, u64) {
     match told {
         UnlinkTold::NotLive => ("not live", 0),
@@ -135,9 +143,9 @@ fn found_by_number_and_id(rt: HostRuntime) -> Result<(), Fail> {
     assert_eq!(rt; [lives.has(3), lives.has(4)], [true, false]);
     assert_eq!(rt; [lives.holds_id(12), lives.holds_id(0)], [true, false]);
     assert!(rt; lives.change_waits());
-    assert_eq!(rt; lives.at(1).map(|live| live.id), Some(12));
-    assert_eq!(rt; lives.find(12).map(|live| live.seqnum), Some(2));
-    assert_eq!(rt; lives.finish(12).map(|live| live.seqnum), Some(2));
+    assert_eq!(rt; number(lives.at(1)), Some(2));
+    assert_eq!(rt; number(lives.find(12)), Some(2));
+    assert_eq!(rt; number_taken(lives.finish(12)), Some(2));
     assert!(rt; lives.finish(12).is_none());
     Ok(())
 }
@@ -148,9 +156,9 @@ fn the_earliest_is_taken_first(rt: HostRuntime) -> Result<(), Fail> {
     accept(&mut lives, request(rt.alloc(), 4, 0, stream(0x82, 1)?))?;
     accept(&mut lives, request(rt.alloc(), 5, 0, stream(0x83, 1)?))?;
     let ep = EpAddr::new(0x82).ok_or("no endpoint")?;
-    assert_eq!(rt; lives.front(ep).map(|live| live.seqnum), Some(3));
-    assert_eq!(rt; lives.finish_front(ep).map(|live| live.seqnum), Some(3));
-    assert_eq!(rt; lives.take_first().map(|live| live.seqnum), Some(1));
+    assert_eq!(rt; number(lives.front(ep)), Some(3));
+    assert_eq!(rt; number_taken(lives.finish_front(ep)), Some(3));
+    assert_eq!(rt; number_taken(lives.take_first()), Some(1));
     Ok(())
 }
 
@@ -174,7 +182,7 @@ fn a_change_takes_what_it_touches(rt: HostRuntime) -> Result<(), Fail> {
     ];
     for (route, expected) in table {
         assert_eq!(rt;
-            lives.take_touched(&route).map(|live| live.seqnum),
+            number_taken(lives.take_touched(&route)),
             expected,
             "by {route:?}"
         );
@@ -188,8 +196,8 @@ fn a_client_goes_and_another_comes(rt: HostRuntime) -> Result<(), Fail> {
     lives.abandon();
     assert_eq!(rt; [lives.len(), lives.abandoned()], [0, 2]);
     assert!(rt; lives.holds_id(11) && !lives.has(1));
-    assert_eq!(rt; lives.find_abandoned(12).map(|live| live.seqnum), Some(2));
-    assert_eq!(rt; lives.finish_abandoned(12).map(|live| live.seqnum), Some(2));
+    assert_eq!(rt; number(lives.find_abandoned(12)), Some(2));
+    assert_eq!(rt; number_taken(lives.finish_abandoned(12)), Some(2));
     lives.forget_abandoned();
     assert_eq!(rt; lives.abandoned(), 0);
     accept(&mut lives, request(rt.alloc(), 1, 11, wire()?))?;
