@@ -1,5 +1,5 @@
 -- A column of a list: what a function gives of each element, in order.
-use Rattle.std.proofs.Common.{◌≡◌, ℕ, zero, suc, ◌+◌, ◌<◌, Bool, cond, not, ◌||◌, List, [], ◌∷◌, length, map, get_or, set, Some, refl, ap, sym, ◌∙◌, arith}
+use Rattle.std.proofs.Common.{◌≡◌, ℕ, zero, suc, ◌+◌, Bool, cond, not, ◌||◌, List, [], ◌∷◌, map, get_or, set, Some, refl, ap, ◌∙◌}
 use Rattle.std.specs.List.{position, position_or_len, remove, slice_get, list_any}
 use Rattle.std.proofs.lemmas.List.{length-map}
 

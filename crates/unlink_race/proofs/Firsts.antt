@@ -1,9 +1,10 @@
--- `position`, `find` and `without_first` together.
-use Rattle.std.proofs.Common.{◌≡◌, ℕ, suc, ◌+◌, ◌<◌, ◌≤◌, Bool, true, false, cond, not, ltb, List, [], ◌∷◌, length, set, Some, None, is_some, ◌||◌, refl, ap, sym, ◌∙◌, arith, inl, inr}
+-- The first element that passes a test: `position`, `find`, `without_first` and `change_first` together.
+use Rattle.std.proofs.Common.{◌≡◌, ℕ, suc, ◌+◌, ◌<◌, ◌≤◌, Bool, true, false, cond, not, ltb, List, [], ◌∷◌, length, map, filter, count_by, set, Some, None, is_some, ◌||◌, refl, ap, sym, ◌∙◌, zero-add, arith, inl, inr}
 use Rattle.std.specs.List.{find, position, position_or_len, remove, slice_get, list_any}
-use Rattle.std.proofs.lemmas.Bool.{ltb-true, ltb-false, lt-ltb, cases_Bool}
+use Rattle.std.proofs.lemmas.Bool.{ltb-true, ltb-false, lt-ltb, cases_Bool, false≢true}
 use Rattle.std.proofs.lemmas.Grind.{common_steps}
 use Rattle.std.proofs.lemmas.List.Folds.{find_at}
+use Rattle.std.proofs.lemmas.List.Sums.{sum_by-cons}
 use Rattle.unlink_race.specs.Firsts.{without_first, change_first}
 
 remove_front : {X : Type 0} (x : X) (xs : List X) (n : ℕ) → remove (x ∷ xs) (1 + n) ≡ x ∷ remove xs n
@@ -96,3 +97,94 @@ changed_first {X = X} p f xs i x is read =
           | true ↦ λ g. let e : Some y ≡ Some x = g in let same : y ≡ x = cc in ap (λ z. f z ∷ ys) (sym same)
           | false ↦ λ g. set_front y (f x) ys (position_or_len p ys) ∙ ap (λ zs. y ∷ zs) (within ys (sym (get_front y ys (position_or_len p ys)) ∙ g))
         ] h
+
+-- ---- for callers: what the first that passes leaves of the others
+
+at_most : (a b : ℕ) → a ≡ b → b ≤ 1 → a ≤ 1
+at_most a b same once = rw same once
+
+module _ {X : Type 0} where
+  counted : (p : X → Bool) (x : X) (xs : List X) → p x ≡ true → 1 + count_by p xs ≡ count_by p (x ∷ xs)
+  counted p x xs here = sym (sum_by-cons (λ y. cond (p y) 1 0) x xs ∙ ap (λ b. cond b 1 0 + count_by p xs) here)
+
+  uncounted : (p : X → Bool) (x : X) (xs : List X) → p x ≡ false → count_by p xs ≡ count_by p (x ∷ xs)
+  uncounted p x xs other =
+      sym (sum_by-cons (λ y. cond (p y) 1 0) x xs ∙ ap (λ b. cond b 1 0 + count_by p xs) other ∙ zero-add (count_by p xs))
+
+  -- a test that p never passes with keeps what it kept
+  pub filter-without_first : (p q : X → Bool) → ((x : X) → q x ≡ true → p x ≡ false) → (xs : List X) → filter q (without_first p xs) ≡ filter q xs
+  filter-without_first p q apart [] = refl
+  filter-without_first p q apart (x ∷ xs) =
+      elim (cases_Bool (p x)) [
+        | inl taken ↦
+            elim (cases_Bool (q x)) [
+              | inl kept ↦ absurd (false≢true (sym (apart x kept) ∙ taken))
+              | inr not_kept ↦ rw (taken, not_kept) refl
+            ]
+        | inr other ↦ rw other (ap (λ ys. cond (q x) (x ∷ ys) ys) (filter-without_first p q apart xs))
+      ]
+
+  -- and finds first what it found
+  pub find-without_first : (p q : X → Bool) → ((x : X) → q x ≡ true → p x ≡ false) → (xs : List X) → find q (without_first p xs) ≡ find q xs
+  find-without_first p q apart [] = refl
+  find-without_first p q apart (x ∷ xs) =
+      elim (cases_Bool (p x)) [
+        | inl taken ↦
+            elim (cases_Bool (q x)) [
+              | inl kept ↦ absurd (false≢true (sym (apart x kept) ∙ taken))
+              | inr not_kept ↦ rw (taken, not_kept) refl
+            ]
+        | inr other ↦ rw other (ap (cond (q x) (Some x)) (find-without_first p q apart xs))
+      ]
+
+  -- where none passes all stay
+  pub without_none : (p : X → Bool) (xs : List X) → count_by p xs ≡ 0 → filter (λ x. not (p x)) xs ≡ xs
+  without_none p [] none = refl
+  without_none p (x ∷ xs) none =
+      elim (cases_Bool (p x)) [
+        | inl here ↦ (let e = counted p x xs here ∙ none in absurd (omega (arith, e)))
+        | inr other ↦ rw other (ap (λ ys. x ∷ ys) (without_none p xs (uncounted p x xs other ∙ none)))
+      ]
+
+  -- where at most one passes, the list without the first is the list without all
+  pub without_first-filter : (p : X → Bool) (xs : List X) → count_by p xs ≤ 1 → without_first p xs ≡ filter (λ x. not (p x)) xs
+  without_first-filter p [] once = refl
+  without_first-filter p (x ∷ xs) once =
+      elim (cases_Bool (p x)) [
+        | inl here ↦ (let e = at_most _ _ (counted p x xs here) once in rw here (sym (without_none p xs (omega (arith, e)))))
+        | inr other ↦ rw other (ap (λ ys. x ∷ ys) (without_first-filter p xs (at_most _ _ (uncounted p x xs other) once)))
+      ]
+
+  map_none : (p : X → Bool) (f : X → X) (xs : List X) → count_by p xs ≡ 0 → map (λ x. cond (p x) (f x) x) xs ≡ xs
+  map_none p f [] none = refl
+  map_none p f (x ∷ xs) none =
+      elim (cases_Bool (p x)) [
+        | inl here ↦ (let e = counted p x xs here ∙ none in absurd (omega (arith, e)))
+        | inr other ↦ rw other (ap (λ ys. x ∷ ys) (map_none p f xs (uncounted p x xs other ∙ none)))
+      ]
+
+  -- and the list with the first changed is the list with each changed
+  pub change_first-map : (p : X → Bool) (f : X → X) (xs : List X) → count_by p xs ≤ 1 → change_first p f xs ≡ map (λ x. cond (p x) (f x) x) xs
+  change_first-map p f [] once = refl
+  change_first-map p f (x ∷ xs) once =
+      elim (cases_Bool (p x)) [
+        | inl here ↦ (let e = at_most _ _ (counted p x xs here) once in rw here (ap (λ ys. f x ∷ ys) (sym (map_none p f xs (omega arith)))))
+        | inr other ↦ rw other (ap (λ ys. x ∷ ys) (change_first-map p f xs (at_most _ _ (uncounted p x xs other) once)))
+      ]
+
+  -- what a change doesn't touch stays of each
+  pub map-change_first : {Y : Type 0} (g : X → Y) (p : X → Bool) (f : X → X) → ((x : X) → g (f x) ≡ g x) → (xs : List X) → map g (change_first p f xs) ≡ map g xs
+  map-change_first g p f same [] = refl
+  map-change_first g p f same (x ∷ xs) =
+      elim (cases_Bool (p x)) [
+        | inl here ↦ rw here (ap (λ y. y ∷ map g xs) (same x))
+        | inr other ↦ rw other (ap (λ ys. g x ∷ ys) (map-change_first g p f same xs))
+      ]
+
+  pub length-change_first : (p : X → Bool) (f : X → X) (xs : List X) → length (change_first p f xs) ≡ length xs
+  length-change_first p f [] = refl
+  length-change_first p f (x ∷ xs) =
+      elim (cases_Bool (p x)) [
+        | inl here ↦ rw here refl
+        | inr other ↦ rw other (ap suc (length-change_first p f xs))
+      ]

@@ -1,5 +1,5 @@
 -- A list of which the elements from a place on were tried, and only those that pass are left.
-use Rattle.std.proofs.Common.{◌≡◌, ℕ, zero, suc, ◌+◌, ◌-◌, ◌<◌, ◌≤◌, Bool, true, false, List, [], ◌∷◌, ◌++◌, length, take, drop, filter, Some, refl, ap, sym, ◌∙◌, arith}
+use Rattle.std.proofs.Common.{◌≡◌, ℕ, zero, suc, ◌-◌, ◌<◌, ◌≤◌, Bool, true, false, List, [], ◌∷◌, ◌++◌, length, take, drop, filter, Some, refl, ap, arith}
 use Rattle.std.specs.List.{remove, slice_get}
 
 module _ {X : Type 0} (test : X → Bool) where

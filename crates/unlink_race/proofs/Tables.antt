@@ -12,7 +12,7 @@ use Rattle.unlink_race.specs.declared.live.LiveKind.{LiveKind}
 use Rattle.unlink_race.specs.declared.live.LiveKind.TheVariants.{Wire}
 use Rattle.unlink_race.specs.declared.table.Row.{Row}
 use Rattle.unlink_race.specs.Inner.Sound.{in_order, IsSound, AreColumns, HasRoom}
-use Rattle.unlink_race.proofs.Rows.{length-listed, entry_of, took_at, put_last, changed_at}
+use Rattle.unlink_race.proofs.Rows.{length-listed, took_at, put_last, changed_at}
 use Rattle.unlink_race.proofs.Columns.{map-remove, position-map, list_any-map, map_unchanged}
 
 abbrev key_of : Row → ℕ

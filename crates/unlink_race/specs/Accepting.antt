@@ -4,7 +4,7 @@ use Rattle.std.specs.List.{list_any}
 use Rattle.unlink_race.specs.declared.live.Live.{Live}
 use Rattle.unlink_race.specs.declared.lives.NotAccepted.{NotAccepted}
 use Rattle.unlink_race.specs.declared.lives.NotAccepted.TheVariants.{Full, SeqInFlight}
-use Rattle.unlink_race.specs.Tests.{has_number}
+use Rattle.unlink_race.specs.Searches.{has_number}
 
 -- its number is that of one in flight; else 4,096 are in flight
 abbrev pub refusal_of : List Live → Live → Option NotAccepted

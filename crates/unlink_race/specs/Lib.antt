@@ -1,5 +1,5 @@
 pub mod Firsts
-pub mod Tests
+pub mod Searches
 pub mod Requests
 pub mod Accepting
 pub mod Unlinking

@@ -2,7 +2,7 @@
 -- host, each in order of acceptance. A client comes only once nothing is left of the former.
 use Rattle.std.specs.Prelude.{◌≡◌, ◌⊎◌, List, [], filter}
 use Rattle.unlink_race.specs.declared.live.Live.{Live}
-use Rattle.unlink_race.specs.Tests.{goes_by_id}
+use Rattle.unlink_race.specs.Searches.{goes_by_id}
 
 pub record Requests : Type 0 where
   pub live : List Live

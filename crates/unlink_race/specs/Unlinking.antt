@@ -6,7 +6,7 @@ use Rattle.unlink_race.specs.declared.live.LiveKind.TheVariants.{Wire, Routed, S
 use Rattle.unlink_race.specs.declared.unlink.UnlinkTold.{UnlinkTold}
 use Rattle.unlink_race.specs.declared.unlink.UnlinkTold.TheVariants.{NotLive, Already, Taken, Cancel, Waits}
 use Rattle.unlink_race.specs.Firsts.{without_first, change_first}
-use Rattle.unlink_race.specs.Tests.{has_number}
+use Rattle.unlink_race.specs.Searches.{has_number}
 
 -- of a request of this kind that isn't being unlinked
 abbrev pub told_first : LiveKind → Live → UnlinkTold

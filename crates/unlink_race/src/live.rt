@@ -1,7 +1,7 @@
 //! A request in flight.
 
 ghost use Rattle.std.specs.Prelude.{◌≡◌};
-ghost use Rattle.unlink_race.specs.Tests.{is_stream, waits_at, is_touched_by, is_change};
+ghost use Rattle.unlink_race.specs.Searches.{is_stream, waits_at, is_touched_by, is_change};
 
 use control_route::Route;
 use usb_base::EpAddr;

@@ -4,7 +4,7 @@ ghost use Rattle.std.specs.Prelude.{◌≡◌, ◌≤◌, ◌||◌, [], ◌∷�
 ghost use Rattle.std.specs.List.{find, list_any};
 ghost use Rattle.std.specs.Result.{result_err};
 ghost use Rattle.unlink_race.specs.Firsts.{without_first};
-ghost use Rattle.unlink_race.specs.Tests.{has_number, has_id, waits_at, is_touched_by, is_change};
+ghost use Rattle.unlink_race.specs.Searches.{has_number, has_id, waits_for, touched_by, changes};
 ghost use Rattle.unlink_race.specs.Requests.{no_requests, left_behind, OneIsEmpty};
 ghost use Rattle.unlink_race.specs.Accepting.{refusal_of};
 ghost use Rattle.unlink_race.specs.Unlinking.{told_of, left_by};
@@ -96,7 +96,7 @@ impl Lives {
 
     /// Whether a change of the device's interfaces is live.
     pub fn change_waits(&self) -> bool
-        ensures { result ≡ list_any (λ live. is_change live.kind) self.now.live }
+        ensures { result ≡ list_any changes self.now.live }
     {
         !self.client_gone && self.table.has_change()
     }
@@ -118,6 +118,17 @@ impl Lives {
         self.client_gone = false;
         self.table.push(live);
         Ok(())
+    }
+
+    /// The live request at a place, counted from the earliest.
+    pub fn at(&self, place: usize) -> Option<&Live>
+        ensures { option_copied result ≡ slice_get self.now.live place }
+    {
+        if place < self.len() {
+            Some(self.table.at(place))
+        } else {
+            None
+        }
     }
 
     /// An unlink of the request with the number `target`; `by` is the unlink's own. It takes out a stream request,
@@ -156,7 +167,7 @@ impl Lives {
 
     /// The earliest request that waits for the stream of an endpoint.
     pub fn front(&self, ep: EpAddr) -> Option<&Live>
-        ensures { option_copied result ≡ find (λ live. waits_at ep live.kind) self.now.live }
+        ensures { option_copied result ≡ find (waits_for ep) self.now.live }
     {
         if self.client_gone {
             return None;
@@ -166,8 +177,8 @@ impl Lives {
 
     /// Takes it out.
     pub fn finish_front(&mut self, ep: EpAddr) -> Option<Live>
-        ensures found { result ≡ find (λ live. waits_at ep live.kind) self.old.live }
-        ensures rest { self.new ≡ record self.old { live = without_first (λ live. waits_at ep live.kind) self.old.live } }
+        ensures found { result ≡ find (waits_for ep) self.old.live }
+        ensures rest { self.new ≡ record self.old { live = without_first (waits_for ep) self.old.live } }
     {
         if self.client_gone {
             return None;
@@ -178,8 +189,8 @@ impl Lives {
 
     /// Takes out the earliest request that waits for a stream whose interface the route touches.
     pub fn take_touched(&mut self, route: &Route) -> Option<Live>
-        ensures found { result ≡ find (λ live. is_touched_by route.now live.kind) self.old.live }
-        ensures rest { self.new ≡ record self.old { live = without_first (λ live. is_touched_by route.now live.kind) self.old.live } }
+        ensures found { result ≡ find (touched_by route.now) self.old.live }
+        ensures rest { self.new ≡ record self.old { live = without_first (touched_by route.now) self.old.live } }
     {
         if self.client_gone {
             return None;

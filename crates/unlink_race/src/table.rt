@@ -6,7 +6,7 @@ ghost use Rattle.std.specs.List.{find, position, list_any};
 ghost use Rattle.unlink_race.specs.declared.live.Live.{Live};
 ghost use Rattle.unlink_race.specs.Firsts.{without_first};
 ghost use Rattle.unlink_race.specs.Unlinking.{unlinked_by};
-ghost use Rattle.unlink_race.specs.Tests.{has_number, has_id, waits_at, is_touched_by, is_change, is_stream, goes_by_id};
+ghost use Rattle.unlink_race.specs.Searches.{has_number, has_id, waits_for, touched_by, changes, waits_at, is_touched_by, is_change, is_stream, goes_by_id};
 
 use crate::live::{Live, LiveKind};
 use control_route::Route;
@@ -135,19 +135,19 @@ impl Table {
     }
 
     pub fn place_waiting(&self, ep: EpAddr) -> Option<usize>
-        ensures { result ≡ position (λ live. waits_at ep live.kind) self.now }
+        ensures { result ≡ position (waits_for ep) self.now }
     {
         first_waiting(&self.rows, ep)
     }
 
     pub fn place_touched(&self, route: &Route) -> Option<usize>
-        ensures { result ≡ position (λ live. is_touched_by route.now live.kind) self.now }
+        ensures { result ≡ position (touched_by route.now) self.now }
     {
         first_touched(&self.rows, route)
     }
 
     pub fn has_change(&self) -> bool
-        ensures { result ≡ list_any (λ live. is_change live.kind) self.now }
+        ensures { result ≡ list_any changes self.now }
     {
         any_change(&self.rows)
     }

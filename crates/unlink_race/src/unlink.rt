@@ -2,7 +2,7 @@
 
 ghost use Rattle.std.specs.Prelude.{◌≡◌};
 ghost use Rattle.std.specs.List.{find};
-ghost use Rattle.unlink_race.specs.Tests.{has_number};
+ghost use Rattle.unlink_race.specs.Searches.{has_number};
 ghost use Rattle.unlink_race.specs.Unlinking.{told_of, left_by};
 
 use crate::live::{Live, LiveKind};

@@ -2,7 +2,7 @@ use Rattle.std.proofs.Common.{◌≡◌, ◌∙◌, sym, ap, refl, Some}
 use Rattle.unlink_race.proofs.Firsts.{took_first, took_none, changed_first}
 use Rattle.unlink_race.proofs.Unlinks.{told_at, left_at}
 use Rattle.unlink_race.specs.declared.unlink.UnlinkTold.TheVariants.{Taken}
-use Rattle.unlink_race.specs.Tests.{has_number}
+use Rattle.unlink_race.specs.Searches.{has_number}
 use Rattle.unlink_race.specs.Unlinking.{told_of, left_by, unlinked_by}
 use Rattle.unlink_race.proofs.unlink.unlink.Goals as goal
 

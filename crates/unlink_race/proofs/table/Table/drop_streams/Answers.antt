@@ -1,6 +1,6 @@
-use Rattle.std.proofs.Common.{◌≡◌, ◌-◌, ◌∙◌, ap, not, length, Some, sym, true, false, get_or, arith, slice_get, refl}
+use Rattle.std.proofs.Common.{◌≡◌, ◌-◌, ◌∙◌, ap, not, length, sym, true, false, get_or, arith}
 use Rattle.std.proofs.lemmas.Option.{slice_get-get_or}
-use Rattle.unlink_race.specs.Tests.{goes_by_id}
+use Rattle.unlink_race.specs.Searches.{goes_by_id}
 use Rattle.unlink_race.proofs.Ids.{no_live}
 use Rattle.unlink_race.proofs.Passing.{none_tried, untried_stand, step_fails, step_passes, tried_from}
 use Rattle.unlink_race.proofs.table.Table.drop_streams.Goals as goal

@@ -1,5 +1,5 @@
 use Rattle.std.proofs.Common.{◌≡◌}
-use Rattle.unlink_race.specs.Tests.{goes_by_id}
+use Rattle.unlink_race.specs.Searches.{goes_by_id}
 use Rattle.unlink_race.proofs.Passing.{tried_from}
 use Rattle.unlink_race.proofs.table.Table.drop_streams.Given as goal
 

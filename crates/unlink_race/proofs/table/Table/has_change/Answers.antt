@@ -1,6 +1,6 @@
 use Rattle.std.proofs.Common.{◌∙◌}
 use Rattle.unlink_race.proofs.Tables.{any_kind}
-use Rattle.unlink_race.specs.Tests.{is_change}
+use Rattle.unlink_race.specs.Searches.{is_change}
 use Rattle.unlink_race.proofs.table.Table.has_change.Goals as goal
 
 pub returns : goal.returns

@@ -1,6 +1,6 @@
 use Rattle.std.proofs.Common.{◌∙◌, ap, is_some}
 use Rattle.unlink_race.proofs.Firsts.{is_some-position}
-use Rattle.unlink_race.specs.Tests.{has_number}
+use Rattle.unlink_race.specs.Searches.{has_number}
 use Rattle.unlink_race.proofs.table.Table.has_number.Goals as goal
 
 pub returns : goal.returns

@@ -1,5 +1,5 @@
 use Rattle.std.proofs.Common.{◌∙◌, ap}
-use Rattle.unlink_race.specs.Tests.{is_stream}
+use Rattle.unlink_race.specs.Searches.{is_stream}
 use Rattle.unlink_race.proofs.Columns.{column_at}
 use Rattle.unlink_race.proofs.Tables.{columns}
 use Rattle.unlink_race.proofs.table.Table.is_stream_at.Goals as goal

@@ -1,6 +1,6 @@
 use Rattle.std.proofs.Common.{◌∙◌}
 use Rattle.unlink_race.proofs.Tables.{placed_kind}
-use Rattle.unlink_race.specs.Tests.{is_touched_by}
+use Rattle.unlink_race.specs.Searches.{is_touched_by}
 use Rattle.unlink_race.proofs.table.Table.place_touched.Goals as goal
 
 pub returns : goal.returns

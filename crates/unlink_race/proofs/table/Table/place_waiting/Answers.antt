@@ -1,6 +1,6 @@
 use Rattle.std.proofs.Common.{◌∙◌}
 use Rattle.unlink_race.proofs.Tables.{placed_kind}
-use Rattle.unlink_race.specs.Tests.{waits_at}
+use Rattle.unlink_race.specs.Searches.{waits_at}
 use Rattle.unlink_race.proofs.table.Table.place_waiting.Goals as goal
 
 pub returns : goal.returns

@@ -1,10 +1,12 @@
--- What is asked of a request in flight.
+-- What a request in flight is found by.
 use Rattle.std.specs.Prelude.{ℕ, Bool, true, false, not, ◌&&◌, ◌==◌}
 use Rattle.control_route.specs.Changes.{touches, is_change as is_change_route}
 use Rattle.control_route.specs.declared.route.Route.{Route}
 use Rattle.unlink_race.specs.declared.live.Live.{Live}
 use Rattle.unlink_race.specs.declared.live.LiveKind.{LiveKind}
 use Rattle.unlink_race.specs.declared.live.LiveKind.TheVariants.{Wire, Routed, Stream}
+
+-- ---- by its kind
 
 -- it waits for packets of a stream
 abbrev pub is_stream : LiveKind → Bool
@@ -30,6 +32,8 @@ is_change (Wire ep) = false
 is_change (Routed route) = is_change_route route
 is_change (Stream ep interface) = false
 
+-- ---- as a request
+
 abbrev pub has_number : ℕ → Live → Bool
 has_number seqnum live = live.seqnum == seqnum
 
@@ -37,6 +41,15 @@ has_number seqnum live = live.seqnum == seqnum
 abbrev pub goes_by_id : Live → Bool
 goes_by_id live = not (is_stream live.kind)
 
--- the id of a stream request is none
+-- a stream request has no id
 abbrev pub has_id : ℕ → Live → Bool
 has_id id live = goes_by_id live && (live.id == id)
+
+abbrev pub waits_for : ℕ → Live → Bool
+waits_for ep live = waits_at ep live.kind
+
+abbrev pub touched_by : Route → Live → Bool
+touched_by route live = is_touched_by route live.kind
+
+abbrev pub changes : Live → Bool
+changes live = is_change live.kind
