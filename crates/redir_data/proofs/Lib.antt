@@ -1,3 +1,4 @@
 pub mod Behind
 pub mod Front
 pub mod Written
+pub mod Back

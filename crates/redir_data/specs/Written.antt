@@ -1,8 +1,10 @@
 -- What is written, and that it is read again.
-use Rattle.std.specs.Prelude.{◌≡◌, ℕ, ◌≤◌, Bool, true, false, List, ◌++◌, length}
+use Rattle.std.specs.Prelude.{◌≡◌, ℕ, ◌≤◌, Bool, true, false, List, ◌++◌, length, take}
+use Rattle.usb_base.specs.Number.{AreBytes}
 use Rattle.packet_stream.specs.Format.{Whole, IsSound, reading}
 use Rattle.redir_wire.specs.declared.packet.Caps.{Caps}
 use Rattle.redir_wire.specs.declared.packet.Way.{Way}
+use Rattle.redir_wire.specs.declared.packet.Header.{Header}
 use Rattle.redir_wire.specs.declared.packet.RedirControl.{RedirControl}
 use Rattle.redir_wire.specs.Table.{plain_row, goes}
 use Rattle.redir_wire.specs.Header.{is_wide, head_bytes, IdFits}
@@ -42,3 +44,15 @@ abbrev pub ControlReadAgain : Type 0
 ControlReadAgain =
     (way : Way) (caps : Caps) (id : ℕ) (p : RedirControl) (more : List ℕ) → wire_ranges.Ranges p → wire_written.CanWrite id caps p → goes way (plain_row (wire.kind_of p)) ≡ true →
     reading (redir_packets (wire.is_hello p) caps way) (wire_written.packet_bytes id caps p ++ more) ≡ Whole (wire.header_of id caps p, Plain p) (length (wire_written.packet_bytes id caps p))
+
+-- the bytes that were read as data are those that are written
+abbrev pub DataWritesBack : Type 0
+DataWritesBack =
+    (first : Bool) (caps : Caps) (way : Way) (bytes : List ℕ) (h : Header) (d : RedirData) (n : ℕ) → AreBytes bytes → reading (redir_packets first caps way) bytes ≡ Whole (h, Carrying d) n →
+    CanWrite h.id way caps d × (take n bytes ≡ packet_bytes h.id caps d)
+
+-- and so are those of a packet that moves none
+abbrev pub ControlWritesBack : Type 0
+ControlWritesBack =
+    (first : Bool) (caps : Caps) (way : Way) (bytes : List ℕ) (h : Header) (p : RedirControl) (n : ℕ) → AreBytes bytes → reading (redir_packets first caps way) bytes ≡ Whole (h, Plain p) n →
+    wire_written.CanWrite h.id caps p × (take n bytes ≡ wire_written.packet_bytes h.id caps p)

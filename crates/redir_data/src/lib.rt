@@ -10,7 +10,9 @@ mod state;
 mod stream;
 mod write;
 
-pub use laws::{control_read_again, data_read_again, packets_sound};
+pub use laws::{
+    control_read_again, control_writes_back, data_read_again, data_writes_back, packets_sound,
+};
 pub use packet::{RedirData, RedirPacket, RedirRead};
 pub use read::read_data;
 pub use redir::read_redir;

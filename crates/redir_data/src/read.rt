@@ -89,13 +89,13 @@ fn bulk_length(wide: bool, bytes: &[u8]) -> u32
     }
 }
 
-fn copied(alloc: Global, data: &[u8]) -> Result<Bytes, Memory>
-    ensures ok { IfOk result (λ body. body ≡ data.now) }
-    ensures err { OnErr result (0 < length data.now) }
+fn copied(alloc: Global, piece: &[u8]) -> Result<Bytes, Memory>
+    ensures ok { IfOk result (λ body. body ≡ piece.now) }
+    ensures err { OnErr result (0 < length piece.now) }
 {
     let mut body = Bytes::new(alloc);
-    if !data.is_empty() {
-        body.append(data)?;
+    if !piece.is_empty() {
+        body.append(piece)?;
     }
     Ok(body)
 }

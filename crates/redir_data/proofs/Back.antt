@@ -1,0 +1,81 @@
+-- What was read is what is written.
+use Rattle.std.proofs.Common.{◌≡◌, ℕ, ◌≤◌, Bool, true, false, cond, List, ◌++◌, length, take, refl, sym, ap, subst, ◌∙◌, arith}
+use Rattle.std.specs.Prelude.{not, ◌&&◌, ◌==◌}
+use Rattle.std.proofs.lemmas.Bool.{leb-true}
+use Rattle.usb_base.specs.Number.{AreBytes}
+use Rattle.packet_stream.specs.Format.{Whole, reading}
+use Rattle.packet_stream.proofs.Formats.{read_whole}
+use Rattle.redir_wire.specs.declared.packet.Caps.{Caps}
+use Rattle.redir_wire.specs.declared.packet.Way.{Way}
+use Rattle.redir_wire.specs.declared.packet.Header.{Header}
+use Rattle.redir_wire.specs.declared.packet.RedirControl.{RedirControl}
+use Rattle.redir_wire.specs.declared.kind.DataKind.{DataKind}
+use Rattle.redir_wire.specs.declared.kind.DataKind.TheVariants.{Control}
+use Rattle.redir_wire.specs.declared.kind.Kind.TheVariants.{Plain as PlainKind}
+use Rattle.redir_wire.specs.Table.{plain_row, data_row, has_wanted, is_left_out}
+use Rattle.redir_wire.specs.Header.{is_wide, head_bytes, is_in_turn, row_says, IdFits}
+use Rattle.redir_wire.specs.Spelling as wire
+use Rattle.redir_wire.specs.Written as wire_written
+use Rattle.redir_wire.proofs.Lengths as wire_lengths
+use Rattle.redir_wire.proofs.Numbers.{says}
+use Rattle.redir_data.specs.declared.packet.RedirData.{RedirData}
+use Rattle.redir_data.specs.declared.packet.RedirPacket.TheVariants.{Plain, Carrying}
+use Rattle.redir_data.specs.Spelling.{kind_of, fields, size_of, header_of}
+use Rattle.redir_data.specs.Packets.{redir_packets}
+use Rattle.redir_data.specs.Written.{CanWrite, packet_bytes}
+use Rattle.redir_data.specs.sound.Fields.{length_fields}
+use Rattle.redir_data.specs.sound.Joined.{redir_sound}
+
+-- ---- who comes first
+
+not_so : (t : Bool) → not t ≡ true → t ≡ false
+not_so true e = absurd cc
+not_so false e = refl
+
+first_is : (first : Bool) (n : ℕ) → is_in_turn first n ≡ true → first ≡ (n == 0)
+first_is true n e = sym e
+first_is false n e = sym (not_so (n == 0) e)
+
+no_hello : (k : DataKind) → ((data_row k).number == 0) ≡ false
+no_hello Control = refl
+no_hello k = refl
+
+right_of : (t u : Bool) → (t && u) ≡ true → u ≡ true
+right_of true u e = e
+right_of false u e = absurd cc
+
+-- ---- data
+
+pub data_back : (first : Bool) (caps : Caps) (way : Way) (bytes : List ℕ) (h : Header) (d : RedirData) (n : ℕ) → AreBytes bytes → reading (redir_packets first caps way) bytes ≡ Whole (h, Carrying d) n →
+    CanWrite h.id way caps d × (take n bytes ≡ packet_bytes h.id caps d)
+data_back first caps way bytes h d n are e =
+    let whole = read_whole (redir_packets first caps way) (redir_sound first caps way) bytes n (h, Carrying d) are e in
+    let is = whole.fits in
+    let size : h.length ≡ size_of caps d = is.length_is ∙ length_fields caps d in
+    let later : first ≡ false = first_is first h.kind is.header.in_turn ∙ ap (λ (x : ℕ). x == 0) is.kind ∙ no_hello (kind_of d) in
+    let head : h ≡ header_of h.id caps d = λ i. record { kind = is.kind i; length = size i; id = h.id } in
+    let limit = leb-true h.length 16777280 is.header.in_limit in (
+      record {
+        id_fits = subst (λ (x : Bool). IdFits (is_wide x caps) h.id) later is.header.id_fits;
+        length_fits = is.fits.length_fits;
+        data_there = is.fits.data_there;
+        in_limit = subst (λ (m : ℕ). m ≤ 16777280) size limit;
+      },
+      whole.spelled ∙ (λ i. head_bytes (is_wide (later i) caps) (head i) ++ fields caps d),
+    )
+
+-- ---- no data
+
+pub control_back : (first : Bool) (caps : Caps) (way : Way) (bytes : List ℕ) (h : Header) (p : RedirControl) (n : ℕ) → AreBytes bytes → reading (redir_packets first caps way) bytes ≡ Whole (h, Plain p) n →
+    wire_written.CanWrite h.id caps p × (take n bytes ≡ wire_written.packet_bytes h.id caps p)
+control_back first caps way bytes h p n are e =
+    let whole = read_whole (redir_packets first caps way) (redir_sound first caps way) bytes n (h, Plain p) are e in
+    let is = whole.fits in
+    let size : h.length ≡ wire.length_of caps p = is.length_is ∙ wire_lengths.length_fields caps p is.fits.ranges in
+    let turn : first ≡ wire.is_hello p = first_is first h.kind is.header.in_turn ∙ ap (λ (x : ℕ). x == 0) is.kind in
+    let head : h ≡ wire.header_of h.id caps p = λ i. record { kind = is.kind i; length = size i; id = h.id } in
+    let says_so : row_says (has_wanted caps) h.kind ≡ true = right_of (not (is_left_out h.kind)) (row_says (has_wanted caps) h.kind) is.header.agreed in
+    let agreed = sym (says (has_wanted caps) (PlainKind (wire.kind_of p))) ∙ ap (row_says (has_wanted caps)) (sym is.kind) ∙ says_so in (
+      record { agreed = agreed; id_fits = subst (λ (x : Bool). IdFits (is_wide x caps) h.id) turn is.header.id_fits; writable = is.fits.writable },
+      whole.spelled ∙ (λ i. head_bytes (is_wide (turn i) caps) (head i) ++ wire.fields caps p),
+    )
