@@ -1,10 +1,10 @@
 -- A walk that has come to a place: what the descriptors before it are, and what is left.
-use Rattle.std.proofs.Common.{◌≡◌, ℕ, zero, suc, ◌+◌, ◌-◌, ◌<◌, ◌≤◌, nat_le, Bool, true, false, cond, List, [], ◌∷◌, ◌++◌, length, drop, map, Option, Some, None, refl, sym, ap, ◌∙◌, subst, arith, append_assoc, length-drop}
+use Rattle.std.proofs.Common.{◌≡◌, ℕ, zero, suc, ◌+◌, ◌<◌, ◌≤◌, nat_le, Bool, true, false, cond, List, [], ◌∷◌, ◌++◌, length, drop, map, Option, Some, None, refl, sym, ap, ◌∙◌, arith, append_assoc, length-drop}
 use Rattle.std.proofs.lemmas.List.{drop-drop}
 use Rattle.std.proofs.lemmas.Bool.{leb-true, and_parts}
 use Rattle.usb_base.specs.Number.{byte_at}
 use Rattle.chapter9.specs.declared.part.Part.{Part}
-use Rattle.chapter9.specs.Descriptors.{Descriptor, descriptors, is_configuration, later, first_wrong, wrong_place, parts_of, part_at, is_right, is_whole}
+use Rattle.chapter9.specs.Descriptors.{Descriptor, descriptors, is_configuration, later, first_wrong, parts_of, part_at, is_right, is_whole}
 
 abbrev pub parts_at : List Descriptor → List Part
 parts_at ds = map (λ d. part_at d.bytes) ds

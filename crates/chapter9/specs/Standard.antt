@@ -1,6 +1,6 @@
 -- What a device with one configuration and one interface answers on endpoint 0, and what it changes (USB 2.0, 9.4; the
 -- port reset is that of 11.24.2.13, and resets the device itself).
-use Rattle.std.specs.Prelude.{ℕ, ◌%◌, ◌==◌, ◌&&◌, nat_lt, not, min, Bool, true, false, List, [], ◌∷◌, length, take, Option, Some, None, is_some, if◌then◌else◌}
+use Rattle.std.specs.Prelude.{ℕ, ◌%◌, ◌==◌, ◌&&◌, nat_lt, min, Bool, true, false, List, [], ◌∷◌, length, take, Option, Some, None, is_some, if◌then◌else◌}
 use Rattle.usb_base.specs.Endpoint.{endpoint_index, row_of}
 use Rattle.usb_base.specs.declared.endpoint.EpKind.{EpKind}
 use Rattle.usb_base.specs.declared.endpoint.EpKind.TheVariants.{Control, Iso, Bulk, Interrupt, Invalid}

@@ -1,5 +1,4 @@
-use Rattle.std.proofs.Common.{◌≡◌, ◌+◌, ◌-◌, ◌++◌, ◌≤◌, length, drop, map, true}
-use Rattle.chapter9.specs.Descriptors.{is_configuration, later, first_wrong, parts_of, part_at, descriptors}
+use Rattle.std.proofs.Common.{◌-◌, length}
 use Rattle.chapter9.proofs.descriptors.walk.Given as goal
 use Rattle.chapter9.proofs.Walks.{Walking}
 
