@@ -1,0 +1,52 @@
+-- The routes of control transfers: a table by bmRequestType and bRequest (USB 2.0, 9.4, tables 9-3 and 9-4; the
+-- port's reset, 11.24.2.13). The first row that a setup has decides; a setup with none goes to the device as it is.
+use Rattle.std.specs.Prelude.{ℕ, ◌==◌, ◌&&◌, nat_lt, Bool, true, if◌then◌else◌, List, [], ◌∷◌, Option, Some, None}
+use Rattle.std.specs.List.{find}
+use Rattle.usb_base.specs.declared.setup.Setup.{Setup}
+use Rattle.control_route.specs.declared.route.Route.{Route}
+use Rattle.control_route.specs.declared.route.Route.TheVariants.{Local, SetConfig, GetConfig, SetAlt, GetAlt, Reset, Plain, Bad}
+
+-- `only` says which setups with this bmRequestType and bRequest the row is for, `good` which of them can be
+-- carried out
+pub record Row : Type 0 where
+  pub request_type : ℕ
+  pub request : ℕ
+  pub only : Setup → Bool
+  pub good : Setup → Bool
+  pub route : Setup → Route
+
+abbrev pub any : Setup → Bool
+any s = true
+
+abbrev pub has_no_data : Setup → Bool
+has_no_data s = s.length == 0
+
+-- wValue and wIndex are fields of two bytes, for numbers of one
+abbrev pub is_byte : ℕ → Bool
+is_byte n = nat_lt n 256
+
+abbrev pub rows : List Row
+rows =
+    -- SET_ADDRESS
+    record { request_type = 0x00; request = 5; only = any; good = has_no_data; route = λ s. Local } ∷
+    -- SET_CONFIGURATION
+    record { request_type = 0x00; request = 9; only = any; good = λ s. has_no_data s && is_byte s.value; route = λ s. SetConfig s.value } ∷
+    -- GET_CONFIGURATION
+    record { request_type = 0x80; request = 8; only = any; good = any; route = λ s. GetConfig } ∷
+    -- SET_INTERFACE
+    record { request_type = 0x01; request = 11; only = any; good = λ s. has_no_data s && is_byte s.index && is_byte s.value; route = λ s. SetAlt s.index s.value } ∷
+    -- GET_INTERFACE
+    record { request_type = 0x81; request = 10; only = any; good = λ s. is_byte s.index; route = λ s. GetAlt s.index } ∷
+    -- SetPortFeature of PORT_RESET
+    record { request_type = 0x23; request = 3; only = λ s. s.value == 4; good = has_no_data; route = λ s. Reset } ∷
+    []
+
+abbrev pub is_for : Setup → Row → Bool
+is_for s row = (s.kind == row.request_type) && (s.request == row.request) && row.only s
+
+abbrev pub by_row : Setup → Option Row → Route
+by_row s None = Plain
+by_row s (Some row) = if row.good s then row.route s else Bad
+
+unfoldable pub route_of : Setup → Route
+route_of s = by_row s (find (is_for s) rows)
