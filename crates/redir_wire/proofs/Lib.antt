@@ -1,4 +1,4 @@
 pub mod Words
-pub mod Places
-pub mod Fields
-pub mod Sound
+pub mod Lengths
+pub mod Behind
+pub mod EpTable

@@ -1,6 +1,13 @@
+pub mod Capability
+pub mod Table
 pub mod Words
+pub mod Header
+pub mod Bodies
 pub mod Spelling
 pub mod Ranges
-pub mod Packets
-pub mod Answers
-pub mod Begins
+pub mod Places
+pub mod Plain
+pub mod EpTable
+pub mod Written
+pub mod Reads
+pub mod inner

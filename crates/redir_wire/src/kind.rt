@@ -1,12 +1,305 @@
-//! The kinds of packets, as the first field of a header has them.
+//! The types of packets, and what the protocol says of each: its number, its way, its capability, its length.
 
-/// `usb_redir_hello`.
-pub const HELLO: u32 = 0;
-/// `usb_redir_device_connect`.
-pub const DEVICE_CONNECT: u32 = 1;
-/// `usb_redir_interface_info`.
-pub const INTERFACE_INFO: u32 = 4;
-/// `usb_redir_ep_info`.
-pub const EP_INFO: u32 = 5;
-/// `usb_redir_configuration_status`.
-pub const CONFIGURATION_STATUS: u32 = 8;
+ghost use Rattle.std.specs.Prelude.{◌≡◌, ◌<◌, ◌≤◌, IfSome};
+ghost use Rattle.redir_wire.specs.Table.{row, plain_row, data_row, row_of, plain_numbered, data_numbered, kind_numbered, goes, has_wanted, fixed_length, has_length, is_left_out, AreBits};
+
+use crate::capability::{CONNECT_VERSION, DISCONNECT_ACK, MAX_PACKET_SIZE, WIDE_BULK_LENGTH};
+use crate::packet::{Caps, Way};
+
+/// The number of `usb_redir_hello`.
+pub(crate) const HELLO: u32 = 0;
+/// The number of `usb_redir_interface_info`.
+pub(crate) const INTERFACE_INFO: u32 = 4;
+
+/// The types of packets that move no data of a transfer ("Control packets").
+#[derive(Clone, Copy, Debug, PartialEq, Eq)]
+pub enum PlainKind {
+    Hello,
+    Connect,
+    Disconnect,
+    Reset,
+    InterfaceInfo,
+    EpInfo,
+    SetConfiguration,
+    GetConfiguration,
+    ConfigurationStatus,
+    SetAlt,
+    GetAlt,
+    AltStatus,
+    StartIso,
+    StopIso,
+    IsoStatus,
+    StartInterrupt,
+    StopInterrupt,
+    InterruptStatus,
+    Cancel,
+    DisconnectAck,
+}
+
+/// The types of packets that move data ("Data packets").
+#[derive(Clone, Copy, Debug, PartialEq, Eq)]
+pub enum DataKind {
+    Control,
+    Bulk,
+    Iso,
+    Interrupt,
+}
+
+/// The types of packets.
+#[derive(Clone, Copy, Debug, PartialEq, Eq)]
+pub enum Kind {
+    Plain(PlainKind),
+    Carrying(DataKind),
+}
+
+/// Fields that a packet has only with a capability, behind its other fixed fields.
+#[derive(Clone, Copy, Debug, PartialEq, Eq)]
+pub struct More {
+    pub capability: u32,
+    pub bytes: u32,
+}
+
+/// What follows a packet's fixed fields.
+#[derive(Clone, Copy, Debug, PartialEq, Eq)]
+pub enum Tail {
+    Nothing,
+    /// At most 32 words.
+    Words,
+    /// The data of a transfer.
+    Data,
+}
+
+/// What the protocol says of a type.
+#[derive(Clone, Copy, Debug, PartialEq, Eq)]
+pub struct Row {
+    pub number: u32,
+    /// The one way that it goes, or none where it goes both.
+    pub way: Option<Way>,
+    /// The capability without which it isn't sent.
+    pub wanted: Option<u32>,
+    /// How many bytes its fixed fields have, with no capability.
+    pub fixed: u32,
+    pub more: Option<More>,
+    pub tail: Tail,
+}
+
+impl PlainKind {
+    /// The type of this number.
+    #[tactic(auto, unfolding(crate::specs::Table::plain_numbered))]
+    pub fn numbered(number: u32) -> Option<PlainKind>
+        ensures { result ≡ plain_numbered number }
+    {
+        let kind = match number {
+            0 => PlainKind::Hello,
+            1 => PlainKind::Connect,
+            2 => PlainKind::Disconnect,
+            3 => PlainKind::Reset,
+            4 => PlainKind::InterfaceInfo,
+            5 => PlainKind::EpInfo,
+            6 => PlainKind::SetConfiguration,
+            7 => PlainKind::GetConfiguration,
+            8 => PlainKind::ConfigurationStatus,
+            9 => PlainKind::SetAlt,
+            10 => PlainKind::GetAlt,
+            11 => PlainKind::AltStatus,
+            12 => PlainKind::StartIso,
+            13 => PlainKind::StopIso,
+            14 => PlainKind::IsoStatus,
+            15 => PlainKind::StartInterrupt,
+            16 => PlainKind::StopInterrupt,
+            17 => PlainKind::InterruptStatus,
+            21 => PlainKind::Cancel,
+            24 => PlainKind::DisconnectAck,
+            _ => return None,
+        };
+        Some(kind)
+    }
+
+    /// What the protocol says of it.
+    pub fn row(self) -> Row
+        ensures { result ≡ plain_row self }
+    {
+        match self {
+            PlainKind::Hello => both_ways(0, 64, Tail::Words),
+            PlainKind::Connect => Row {
+                more: Some(More {
+                    capability: CONNECT_VERSION,
+                    bytes: 2,
+                }),
+                ..to_guest(1, 8)
+            },
+            PlainKind::Disconnect => to_guest(2, 0),
+            PlainKind::Reset => to_host(3, 0),
+            PlainKind::InterfaceInfo => to_guest(4, 132),
+            PlainKind::EpInfo => Row {
+                more: Some(More {
+                    capability: MAX_PACKET_SIZE,
+                    bytes: 64,
+                }),
+                ..to_guest(5, 96)
+            },
+            PlainKind::SetConfiguration => to_host(6, 1),
+            PlainKind::GetConfiguration => to_host(7, 0),
+            PlainKind::ConfigurationStatus => to_guest(8, 2),
+            PlainKind::SetAlt => to_host(9, 2),
+            PlainKind::GetAlt => to_host(10, 1),
+            PlainKind::AltStatus => to_guest(11, 3),
+            PlainKind::StartIso => to_host(12, 3),
+            PlainKind::StopIso => to_host(13, 1),
+            PlainKind::IsoStatus => to_guest(14, 2),
+            PlainKind::StartInterrupt => to_host(15, 1),
+            PlainKind::StopInterrupt => to_host(16, 1),
+            PlainKind::InterruptStatus => to_guest(17, 2),
+            PlainKind::Cancel => to_host(21, 0),
+            PlainKind::DisconnectAck => Row {
+                wanted: Some(DISCONNECT_ACK),
+                ..to_host(24, 0)
+            },
+        }
+    }
+}
+
+impl DataKind {
+    /// The type of this number.
+    #[tactic(auto, unfolding(crate::specs::Table::data_numbered))]
+    pub fn numbered(number: u32) -> Option<DataKind>
+        ensures { result ≡ data_numbered number }
+    {
+        let kind = match number {
+            100 => DataKind::Control,
+            101 => DataKind::Bulk,
+            102 => DataKind::Iso,
+            103 => DataKind::Interrupt,
+            _ => return None,
+        };
+        Some(kind)
+    }
+
+    /// What the protocol says of it.
+    pub fn row(self) -> Row
+        ensures { result ≡ data_row self }
+    {
+        match self {
+            DataKind::Control => both_ways(100, 10, Tail::Data),
+            DataKind::Bulk => Row {
+                more: Some(More {
+                    capability: WIDE_BULK_LENGTH,
+                    bytes: 2,
+                }),
+                ..both_ways(101, 8, Tail::Data)
+            },
+            DataKind::Iso => both_ways(102, 4, Tail::Data),
+            DataKind::Interrupt => both_ways(103, 4, Tail::Data),
+        }
+    }
+}
+
+impl Kind {
+    /// The type of this number.
+    pub fn numbered(number: u32) -> Option<Kind>
+        ensures { result ≡ kind_numbered number }
+    {
+        if let Some(kind) = PlainKind::numbered(number) {
+            return Some(Kind::Plain(kind));
+        }
+        let kind = DataKind::numbered(number)?;
+        Some(Kind::Carrying(kind))
+    }
+
+    /// What the protocol says of it.
+    pub fn row(self) -> Row
+        ensures row { result ≡ row_of self }
+        ensures bits { AreBits result }
+    {
+        match self {
+            Kind::Plain(kind) => kind.row(),
+            Kind::Carrying(kind) => kind.row(),
+        }
+    }
+}
+
+const fn both_ways(number: u32, fixed: u32, tail: Tail) -> Row
+    ensures { result ≡ row number None None fixed None tail }
+{
+    Row {
+        number,
+        way: None,
+        wanted: None,
+        fixed,
+        more: None,
+        tail,
+    }
+}
+
+const fn to_guest(number: u32, fixed: u32) -> Row
+    ensures { result ≡ row number (Some Way.ToGuest) None fixed None Tail.Nothing }
+{
+    Row {
+        way: Some(Way::ToGuest),
+        ..both_ways(number, fixed, Tail::Nothing)
+    }
+}
+
+const fn to_host(number: u32, fixed: u32) -> Row
+    ensures { result ≡ row number (Some Way.ToHost) None fixed None Tail.Nothing }
+{
+    Row {
+        way: Some(Way::ToHost),
+        ..both_ways(number, fixed, Tail::Nothing)
+    }
+}
+
+impl Row {
+    /// Whether such packets go this way.
+    pub fn goes(&self, way: Way) -> bool
+        ensures { result ≡ goes way self.now }
+    {
+        match self.way {
+            None => true,
+            Some(only) => way == only,
+        }
+    }
+
+    /// Whether such packets are sent with these capabilities.
+    pub fn is_agreed(&self, caps: Caps) -> bool
+        requires { AreBits self.now }
+        ensures { result ≡ has_wanted caps self.now }
+    {
+        match self.wanted {
+            None => true,
+            Some(bit) => caps.has(bit),
+        }
+    }
+
+    /// How many bytes the fixed fields have.
+    pub fn fixed(&self, caps: Caps) -> u32
+        requires { AreBits self.now }
+        ensures value { result ≡ fixed_length caps self.now }
+        ensures small { result < 1000 }
+    {
+        match self.more {
+            Some(more) if caps.has(more.capability) => self.fixed + more.bytes,
+            _ => self.fixed,
+        }
+    }
+
+    /// Whether so many bytes may follow the header.
+    pub fn has_length(&self, caps: Caps, length: u32) -> bool
+        requires { AreBits self.now }
+        ensures { result ≡ has_length caps self.now length }
+    {
+        let fixed = self.fixed(caps);
+        match self.tail {
+            Tail::Nothing => length == fixed,
+            Tail::Words => length >= fixed && length <= fixed + 128 && (length - fixed) % 4 == 0,
+            Tail::Data => length >= fixed,
+        }
+    }
+}
+
+/// Whether this is a type of the protocol that the gateway never agrees to.
+pub fn is_left_out(number: u32) -> bool
+    ensures { result ≡ is_left_out number }
+{
+    matches!(number, 18..=20 | 22 | 23 | 25..=27 | 104)
+}

@@ -1,20 +1,22 @@
-//! The packets of USB network redirection that a host sends before any transfer, read and written.
+//! The packets of USB network redirection that move no data of a transfer, read and written.
 #![tactic(auto)]
 
 mod capability;
+mod ep_table;
+mod header;
 mod kind;
-mod laws;
 mod packet;
 mod read;
-#[cfg(test)]
-mod tests;
 mod write;
 
-pub use capability::ANNOUNCED;
-pub use laws::{packets_sound, read_again};
-pub use packet::{
-    Connect, EpInfo, Header, Hello, InterfaceInfo, MAX_INTERFACES, RedirControl, RedirRead,
-    WireError, Words,
+pub use capability::{
+    ANNOUNCED, CONNECT_VERSION, DISCONNECT_ACK, MAX_PACKET_SIZE, WIDE_BULK_LENGTH, WIDE_IDS,
 };
-pub use read::read_redir;
-pub use write::write_control;
+pub use header::{MAX_LENGTH, read_header};
+pub use kind::{DataKind, Kind, More, PlainKind, Row, Tail, is_left_out};
+pub use packet::{
+    Caps, Connect, EpInfo, Header, HeaderRead, Hello, InterfaceInfo, MAX_INTERFACES, RedirControl,
+    Way, WireError, Words,
+};
+pub use read::read_control;
+pub use write::{push_header, write_control};

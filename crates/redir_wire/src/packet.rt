@@ -1,10 +1,23 @@
-//! The packets of a usbredir host, as values: those of version 0.7 of the usbredir protocol description that
-//! come before any transfer, where no capability is agreed.
+//! The packets of usbredir that move no data of a transfer, as values (protocol description, version 0.7).
 
-use usb_base::{List, Reason};
+use packet_stream::{Read, ReadError};
+use usb_base::List;
 
 /// How many interfaces an interface_info may have.
 pub const MAX_INTERFACES: u32 = 32;
+
+/// Which way a packet goes: to the guest, who uses the device, or to the host, who has it.
+#[derive(Clone, Copy, Debug, PartialEq, Eq)]
+pub enum Way {
+    ToGuest,
+    ToHost,
+}
+
+/// Capabilities, of which bit n says that capability n is there.
+#[derive(Clone, Copy, Debug, PartialEq, Eq)]
+pub struct Caps {
+    pub bits: u32,
+}
 
 /// Capability words, bit 0 of the first word being capability 0.
 pub type Words = List<u32>;
@@ -77,35 +90,85 @@ pub struct Header {
     pub id: u64,
 }
 
-/// A packet that moves no data of a transfer.
+/// A packet that moves no data of a transfer. A `status` is 0 for success, else the byte of a `UsbStatus`; an
+/// `endpoint` is the byte of its address.
 #[derive(Debug, Drop)]
 pub enum RedirControl {
-    /// Type 0, the first packet of its stream.
+    /// Type 0, both ways: the first packet of its stream.
     Hello(Hello),
-    /// Type 1.
+    /// Type 1, to the guest.
     Connect(Connect),
-    /// Type 4.
+    /// Type 2, to the guest: the device is gone.
+    Disconnect,
+    /// Type 3, to the host: resets the device.
+    Reset,
+    /// Type 4, to the guest.
     InterfaceInfo(InterfaceInfo),
-    /// Type 5.
+    /// Type 5, to the guest.
     EpInfo(EpInfo),
-    /// Type 8, `usb_redir_configuration_status`: the active configuration, and 0 if it was set as asked.
-    ConfigurationStatus { status: u8, configuration: u8 },
+    /// Type 6, to the host.
+    SetConfiguration {
+        configuration: u8,
+    },
+    /// Type 7, to the host.
+    GetConfiguration,
+    /// Type 8, to the guest: answers types 6 and 7 with the configuration that is active then.
+    ConfigurationStatus {
+        status: u8,
+        configuration: u8,
+    },
+    /// Type 9, to the host.
+    SetAlt {
+        interface: u8,
+        alt: u8,
+    },
+    /// Type 10, to the host.
+    GetAlt {
+        interface: u8,
+    },
+    /// Type 11, to the guest: answers types 9 and 10 with the setting that is active then.
+    AltStatus {
+        status: u8,
+        interface: u8,
+        alt: u8,
+    },
+    /// Type 12, to the host: packets of this endpoint are to come, `pkts_per_urb` in each of `no_urbs` URBs.
+    StartIso {
+        endpoint: u8,
+        pkts_per_urb: u8,
+        no_urbs: u8,
+    },
+    /// Type 13, to the host.
+    StopIso {
+        endpoint: u8,
+    },
+    /// Type 14, to the guest: answers types 12 and 13, or tells that the stream has ended.
+    IsoStatus {
+        status: u8,
+        endpoint: u8,
+    },
+    /// Type 15, to the host: packets of this endpoint are to come.
+    StartInterrupt {
+        endpoint: u8,
+    },
+    /// Type 16, to the host.
+    StopInterrupt {
+        endpoint: u8,
+    },
+    /// Type 17, to the guest: answers types 15 and 16, or tells that the stream has ended.
+    InterruptStatus {
+        status: u8,
+        endpoint: u8,
+    },
+    /// Type 21, to the host: cancels the data packet that has this packet's id.
+    Cancel,
+    /// Type 24, to the host, with capability 3: a disconnect was seen.
+    DisconnectAck,
 }
 
-/// What stands at the front of some bytes.
-#[derive(Debug, Drop)]
-pub enum RedirRead {
-    /// A packet, and how many bytes it has with its header.
-    Whole(Header, RedirControl, usize),
-    /// The beginning of a packet, or nothing.
-    Short,
-}
+/// What stands at the front of the bytes: a header and how many bytes it has, less than one, or a wrong
+/// place. It is never `Memory`.
+pub type HeaderRead = Result<Read<Header>, ReadError>;
 
 /// Why no packet was read.
-#[derive(Clone, Copy, Debug)]
-pub enum WireError {
-    /// The packet is wrong at this place, counted from its first byte.
-    Refused { place: usize, reason: Reason },
-    /// No memory was left.
-    Memory,
-}
+pub type WireError = ReadError;

@@ -1,130 +1,128 @@
-//! Reads the packets of a usbredir host.
+//! Reads what stands behind a header.
 
-ghost use Rattle.std.specs.Prelude.{◌≡◌, ◌+◌, ◌*◌, ◌≤◌, length, drop, true, false, IfOk};
-ghost use Rattle.packet_stream.specs.Format.{Stands, reading};
+ghost use Rattle.std.specs.Prelude.{◌≡◌, ◌+◌, ◌*◌, ◌≤◌, ◌&&◌, not, nat_le, length, drop, true, IfOk, OnErr, ◌<◌};
+ghost use Rattle.packet_stream.specs.Format.{reading};
+ghost use Rattle.redir_wire.specs.Table.{plain_row, has_length};
+ghost use Rattle.redir_wire.specs.inner.Sent.{sent_bytes};
 ghost use Rattle.redir_wire.specs.Words.{words_of};
-ghost use Rattle.redir_wire.specs.Packets.{host_packets, header_at, hello_at, connect_at, interface_info_at, ep_info_at, later_by, later_length, is_built};
-ghost use Rattle.redir_wire.specs.Answers.{Answers, IfRead, HadMemory};
-ghost use Rattle.redir_wire.specs.declared.packet.WireError.TheVariants.{Refused};
+ghost use Rattle.redir_wire.specs.Places.{hello_at, connect_at, interface_info_at, ep_info_at, fields_at, max_packet_at};
+ghost use Rattle.redir_wire.specs.Bodies.{behind};
+ghost use Rattle.redir_wire.specs.Plain.{controls, count_check, is_plain, takes_memory};
+ghost use Rattle.redir_wire.specs.Header.{is_its_length};
+ghost use Rattle.redir_wire.specs.Reads.{AnswersBehind};
 
-use crate::capability::ANNOUNCED;
-use crate::kind::{CONFIGURATION_STATUS, DEVICE_CONNECT, EP_INFO, HELLO, INTERFACE_INFO};
+use crate::capability::{CONNECT_VERSION, MAX_PACKET_SIZE};
+use crate::kind::{INTERFACE_INFO, PlainKind};
 use crate::packet::{
-    Connect, EpInfo, Header, Hello, InterfaceInfo, MAX_INTERFACES, RedirControl, RedirRead,
-    WireError, Words,
+    Caps, Connect, EpInfo, Header, Hello, InterfaceInfo, MAX_INTERFACES, RedirControl, WireError,
+    Words,
 };
+use packet_stream::ReadError;
 use std::alloc::Global;
 use usb_base::{Memory, Reason, array_at, le_u16_at, le_u32_at};
 
-/// Reads the packet at the front of what a host sent, where no capability is agreed: the first packet of
-/// its stream, which is a hello, or a later one. A packet is refused as soon as the bytes of what is wrong
-/// are there. Only the words of a hello take memory.
-pub fn read_redir(alloc: Global, first: bool, bytes: &[u8]) -> Result<RedirRead, WireError>
-    ensures exact { Answers result (reading (host_packets first) bytes.now) }
-    ensures stands { IfRead result (Stands (host_packets first) bytes.now) }
-    ensures had_memory { first ≡ false → HadMemory result }
+/// Reads the packet whose header this is, from the bytes behind it, as far as they have come: None where fewer than
+/// the header announces are there. An interface_info with more than 32 interfaces is refused as soon as their
+/// number is there, by `Count` at place 0 of these bytes. Only the words of a hello take memory.
+pub fn read_control(
+    alloc: Global,
+    head: &Header,
+    caps: Caps,
+    bytes: &[u8],
+) -> Result<Option<RedirControl>, WireError>
+    requires plain { is_plain head.now.kind ≡ true }
+    requires its_length { is_its_length caps head.now.kind head.now.length ≡ true }
+    ensures { AnswersBehind head.now takes_memory result (reading (behind (controls caps) head.now) bytes.now) }
 {
-    if first {
-        read_first(alloc, bytes)
-    } else {
-        read_later(bytes)
-    }
-}
-
-fn read_first(alloc: Global, bytes: &[u8]) -> Result<RedirRead, WireError>
-    ensures { Answers result (reading (host_packets true) bytes.now) }
-{
-    if bytes.len() < 8 {
-        return Ok(RedirRead::Short);
-    }
-    let length = le_u32_at(bytes, 4);
-    if !is_hello_head(le_u32_at(bytes, 0), length) {
-        return Err(refused(0, Reason::NotBuilt));
-    }
-    if length >= 68 {
-        if bytes.len() < 80 {
-            return Ok(RedirRead::Short);
-        }
-        if le_u32_at(bytes, 76) & ANNOUNCED != 0 {
-            return Err(refused(0, Reason::NotBuilt));
-        }
-    }
-    let size = 12 + length as usize;
-    if bytes.len() < size {
-        return Ok(RedirRead::Short);
-    }
-    let Ok(hello) = hello_at(alloc, bytes, (length as usize - 64) / 4) else {
-        return Err(WireError::Memory);
+    let Some(kind) = PlainKind::numbered(head.kind) else {
+        unreachable!()
     };
-    Ok(RedirRead::Whole(header_at(bytes), RedirControl::Hello(hello), size))
+    if has_too_many(head, bytes) {
+        let (place, reason) = (0, Reason::Count);
+        return Err(ReadError::Refused { place, reason });
+    }
+    if bytes.len() < head.length as usize {
+        return Ok(None);
+    }
+    let control = control_at(alloc, kind, caps, head.length, bytes)?;
+    Ok(Some(control))
 }
 
-fn read_later(bytes: &[u8]) -> Result<RedirRead, WireError>
-    ensures exact { Answers result (reading (host_packets false) bytes.now) }
-    ensures had_memory { HadMemory result }
+/// Whether an interface_info tells more interfaces than there may be.
+fn has_too_many(head: &Header, bytes: &[u8]) -> bool
+    ensures { result ≡ (nat_le 4 (length bytes.now) && not (count_check.passes head.now bytes.now)) }
 {
-    if bytes.len() < 8 {
-        return Ok(RedirRead::Short);
-    }
-    let kind = le_u32_at(bytes, 0);
-    let length = le_u32_at(bytes, 4);
-    if !is_later_head(kind, length) {
-        return Err(refused(0, Reason::NotBuilt));
-    }
-    if kind == INTERFACE_INFO {
-        if bytes.len() < 16 {
-            return Ok(RedirRead::Short);
-        }
-        if le_u32_at(bytes, 12) > MAX_INTERFACES {
-            return Err(refused(12, Reason::Count));
-        }
-    }
-    let size = 12 + length as usize;
-    if bytes.len() < size {
-        return Ok(RedirRead::Short);
-    }
-    Ok(RedirRead::Whole(header_at(bytes), later_by(kind, bytes), size))
+    head.kind == INTERFACE_INFO && bytes.len() >= 4 && le_u32_at(bytes, 0) > MAX_INTERFACES
 }
 
-fn refused(place: usize, reason: Reason) -> WireError
-    ensures { result ≡ Refused place reason }
+fn control_at(
+    alloc: Global,
+    kind: PlainKind,
+    caps: Caps,
+    size: u32,
+    bytes: &[u8],
+) -> Result<RedirControl, Memory>
+    requires its_length { has_length caps (plain_row kind) size ≡ true }
+    requires there { size ≤ length bytes.now }
+    ensures ok { IfOk result (λ control. control ≡ fields_at caps size kind bytes.now) }
+    ensures err { OnErr result (takes_memory (fields_at caps size kind bytes.now) ≡ true) }
 {
-    WireError::Refused { place, reason }
-}
-
-fn is_hello_head(kind: u32, length: u32) -> bool
-    ensures { result ≡ is_built true kind length }
-{
-    kind == HELLO && length >= 64 && length <= 192 && length % 4 == 0
-}
-
-fn is_later_head(kind: u32, length: u32) -> bool
-    ensures { result ≡ is_built false kind length }
-{
-    matches!(
-        (kind, length),
-        (DEVICE_CONNECT, 8) | (INTERFACE_INFO, 132) | (EP_INFO, 96) | (CONFIGURATION_STATUS, 2)
-    )
-}
-
-fn header_at(bytes: &[u8]) -> Header
-    requires { 12 ≤ length bytes.now }
-    ensures { result ≡ header_at bytes.now }
-{
-    Header {
-        kind: le_u32_at(bytes, 0),
-        length: le_u32_at(bytes, 4),
-        id: u64::from(le_u32_at(bytes, 8)),
-    }
+    Ok(match kind {
+        PlainKind::Hello => RedirControl::Hello(hello_at(alloc, bytes, (size as usize - 64) / 4)?),
+        PlainKind::Connect => RedirControl::Connect(connect_at(caps.has(CONNECT_VERSION), bytes)),
+        PlainKind::Disconnect => RedirControl::Disconnect,
+        PlainKind::Reset => RedirControl::Reset,
+        PlainKind::InterfaceInfo => RedirControl::InterfaceInfo(interface_info_at(bytes)),
+        PlainKind::EpInfo => RedirControl::EpInfo(ep_info_at(caps.has(MAX_PACKET_SIZE), bytes)),
+        PlainKind::SetConfiguration => RedirControl::SetConfiguration {
+            configuration: bytes[0],
+        },
+        PlainKind::GetConfiguration => RedirControl::GetConfiguration,
+        PlainKind::ConfigurationStatus => RedirControl::ConfigurationStatus {
+            status: bytes[0],
+            configuration: bytes[1],
+        },
+        PlainKind::SetAlt => RedirControl::SetAlt {
+            interface: bytes[0],
+            alt: bytes[1],
+        },
+        PlainKind::GetAlt => RedirControl::GetAlt {
+            interface: bytes[0],
+        },
+        PlainKind::AltStatus => RedirControl::AltStatus {
+            status: bytes[0],
+            interface: bytes[1],
+            alt: bytes[2],
+        },
+        PlainKind::StartIso => RedirControl::StartIso {
+            endpoint: bytes[0],
+            pkts_per_urb: bytes[1],
+            no_urbs: bytes[2],
+        },
+        PlainKind::StopIso => RedirControl::StopIso { endpoint: bytes[0] },
+        PlainKind::IsoStatus => RedirControl::IsoStatus {
+            status: bytes[0],
+            endpoint: bytes[1],
+        },
+        PlainKind::StartInterrupt => RedirControl::StartInterrupt { endpoint: bytes[0] },
+        PlainKind::StopInterrupt => RedirControl::StopInterrupt { endpoint: bytes[0] },
+        PlainKind::InterruptStatus => RedirControl::InterruptStatus {
+            status: bytes[0],
+            endpoint: bytes[1],
+        },
+        PlainKind::Cancel => RedirControl::Cancel,
+        PlainKind::DisconnectAck => RedirControl::DisconnectAck,
+    })
 }
 
 fn hello_at(alloc: Global, bytes: &[u8], count: usize) -> Result<Hello, Memory>
-    requires { 76 + count * 4 ≤ length bytes.now }
-    ensures { IfOk result (λ hello. hello ≡ hello_at count bytes.now) }
+    requires { 64 + count * 4 ≤ length bytes.now }
+    ensures ok { IfOk result (λ hello. hello ≡ hello_at count bytes.now) }
+    ensures err { OnErr result (0 < count) }
 {
-    let words = words_of(alloc, &bytes[76..], count)?;
+    let words = words_of(alloc, &bytes[64..], count)?;
     Ok(Hello {
-        version: array_at(bytes, 12),
+        version: array_at(bytes, 0),
         words,
     })
 }
@@ -132,7 +130,8 @@ fn hello_at(alloc: Global, bytes: &[u8], count: usize) -> Result<Hello, Memory>
 #[tactic(auto, using(crate::proofs::Words::words_of_next))]
 fn words_of(alloc: Global, bytes: &[u8], count: usize) -> Result<Words, Memory>
     requires { count * 4 ≤ length bytes.now }
-    ensures { IfOk result (λ words. words ≡ words_of count bytes.now) }
+    ensures ok { IfOk result (λ words. words ≡ words_of count bytes.now) }
+    ensures err { OnErr result (0 < count) }
 {
     let mut words = Words::new(alloc);
     for i in 0..count {
@@ -141,57 +140,55 @@ fn words_of(alloc: Global, bytes: &[u8], count: usize) -> Result<Words, Memory>
     Ok(words)
 }
 
-fn later_by(kind: u32, bytes: &[u8]) -> RedirControl
-    requires { 12 + later_length kind ≤ length bytes.now }
-    ensures { result ≡ later_by kind bytes.now }
+fn connect_at(sent: bool, bytes: &[u8]) -> Connect
+    requires { 8 + sent_bytes sent 2 ≤ length bytes.now }
+    ensures { result ≡ connect_at sent bytes.now }
 {
-    match kind {
-        DEVICE_CONNECT => RedirControl::Connect(connect_at(bytes)),
-        INTERFACE_INFO => RedirControl::InterfaceInfo(interface_info_at(bytes)),
-        EP_INFO => RedirControl::EpInfo(ep_info_at(bytes)),
-        _ => RedirControl::ConfigurationStatus {
-            status: bytes[12],
-            configuration: bytes[13],
-        },
-    }
-}
-
-fn connect_at(bytes: &[u8]) -> Connect
-    requires { 20 ≤ length bytes.now }
-    ensures { result ≡ connect_at bytes.now }
-{
+    let version = if sent { le_u16_at(bytes, 8) } else { 0 };
     Connect {
-        speed: bytes[12],
-        class: bytes[13],
-        subclass: bytes[14],
-        protocol: bytes[15],
-        vendor: le_u16_at(bytes, 16),
-        product: le_u16_at(bytes, 18),
-        version: 0,
+        speed: bytes[0],
+        class: bytes[1],
+        subclass: bytes[2],
+        protocol: bytes[3],
+        vendor: le_u16_at(bytes, 4),
+        product: le_u16_at(bytes, 6),
+        version,
     }
 }
 
 fn interface_info_at(bytes: &[u8]) -> InterfaceInfo
-    requires { 144 ≤ length bytes.now }
+    requires { 132 ≤ length bytes.now }
     ensures { result ≡ interface_info_at bytes.now }
 {
     InterfaceInfo {
-        count: le_u32_at(bytes, 12),
-        interface: array_at(bytes, 16),
-        class: array_at(bytes, 48),
-        subclass: array_at(bytes, 80),
-        protocol: array_at(bytes, 112),
+        count: le_u32_at(bytes, 0),
+        interface: array_at(bytes, 4),
+        class: array_at(bytes, 36),
+        subclass: array_at(bytes, 68),
+        protocol: array_at(bytes, 100),
     }
 }
 
-fn ep_info_at(bytes: &[u8]) -> EpInfo
-    requires { 108 ≤ length bytes.now }
-    ensures { result ≡ ep_info_at bytes.now }
+fn ep_info_at(sent: bool, bytes: &[u8]) -> EpInfo
+    requires { 96 + sent_bytes sent 64 ≤ length bytes.now }
+    ensures { result ≡ ep_info_at sent bytes.now }
 {
+    let max_packet = if sent { max_packet_at(bytes) } else { [0; 32] };
     EpInfo {
-        kinds: array_at(bytes, 12),
-        interval: array_at(bytes, 44),
-        interface: array_at(bytes, 76),
-        max_packet: [0; 32],
+        kinds: array_at(bytes, 0),
+        interval: array_at(bytes, 32),
+        interface: array_at(bytes, 64),
+        max_packet,
     }
+}
+
+fn max_packet_at(bytes: &[u8]) -> [u16; 32]
+    requires { 160 ≤ length bytes.now }
+    ensures { result ≡ max_packet_at true bytes.now }
+{
+    let mut sizes = [0; 32];
+    for i in 0..32 {
+        sizes[i] = le_u16_at(bytes, 96 + i * 2);
+    }
+    sizes
 }

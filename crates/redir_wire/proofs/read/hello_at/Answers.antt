@@ -7,8 +7,8 @@ use Rattle.redir_wire.proofs.read.hello_at.Goals as goal
 from : (n : ℕ) (b : List ℕ) → take (length b - n) (drop n b) ≡ drop n b
 from n b = take_all (length b - n) (drop n b) (omega (arith, length-drop n b))
 
-pub returns : goal.returns
-returns c =
+pub returns-clause-ok : goal.returns-clause-ok
+returns-clause-ok c =
     let version = c.array_at.ensures in
-    let words = c.in_ok-words.ensures ∙ ap (words_of c.args.count) (from 76 c.args.bytes.now) in
+    let words = c.in_ok-words.ensures.ok ∙ ap (words_of c.args.count) (from 64 c.args.bytes.now) in
     λ i. record { version = version i; words = words i }

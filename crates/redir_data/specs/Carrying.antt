@@ -1,0 +1,40 @@
+-- The packets that move data.
+use Rattle.std.specs.Prelude.{ℕ, ◌+◌, ◌==◌, ◌||◌, not, Bool, List, [], ◌∷◌}
+use Rattle.usb_base.specs.declared.reason.Reason.{Reason}
+use Rattle.usb_base.specs.declared.reason.Reason.TheVariants.{DataLength}
+use Rattle.usb_base.specs.Number.{byte_at}
+use Rattle.packet_stream.specs.Format.{Format}
+use Rattle.redir_wire.specs.declared.packet.Caps.{Caps}
+use Rattle.redir_wire.specs.declared.packet.Way.{Way}
+use Rattle.redir_wire.specs.declared.packet.Header.{Header}
+use Rattle.redir_wire.specs.declared.kind.DataKind.{DataKind}
+use Rattle.redir_wire.specs.declared.kind.DataKind.TheVariants.{Control, Bulk, Iso, Interrupt}
+use Rattle.redir_wire.specs.Table.{data_row}
+use Rattle.redir_wire.specs.Bodies.{BodyCheck, Bodies, packets}
+use Rattle.redir_wire.specs.Plain.{is_plain}
+use Rattle.redir_data.specs.declared.packet.RedirData.{RedirData}
+use Rattle.redir_data.specs.Spelling.{data_count, fields, number_of}
+use Rattle.redir_data.specs.Ranges.{IsData}
+use Rattle.redir_data.specs.Places.{fixed, length_place, told_length, data_at}
+
+-- the header announces the fixed fields and the data that the length tells, where data are to stand
+abbrev pub data_check : Caps → Way → DataKind → BodyCheck
+data_check caps way kind = record {
+  place = length_place kind;
+  needed = fixed caps kind;
+  passes = λ h b. not (h.kind == (data_row kind).number) || (h.length == fixed caps kind + data_count way (byte_at 0 b) (told_length caps kind b));
+  reason = DataLength;
+}
+
+abbrev pub transfers : Caps → Way → Bodies RedirData
+transfers caps way = record {
+  owns = λ number. not (is_plain number);
+  checks = data_check caps way Iso ∷ data_check caps way Interrupt ∷ data_check caps way Bulk ∷ data_check caps way Control ∷ [];
+  fields = data_at caps;
+  number = number_of;
+  spelling = fields caps;
+  Fits = IsData caps way;
+}
+
+abbrev pub carrying : Bool → Caps → Way → Format (Header × RedirData) Reason
+carrying first caps way = packets (transfers caps way) first caps way

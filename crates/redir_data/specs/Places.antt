@@ -1,0 +1,48 @@
+-- The fields of a packet that moves data, at their places behind its header, and its data.
+use Rattle.std.specs.Prelude.{ℕ, ◌+◌, ◌-◌, ◌*◌, Bool, true, false, List, [], Option}
+use Rattle.std.specs.Int.{w16, w32}
+use Rattle.std.specs.Option.{option_map_or}
+use Rattle.usb_base.specs.Number.{le_at, byte_at, part}
+use Rattle.redir_wire.specs.declared.packet.Caps.{Caps}
+use Rattle.redir_wire.specs.declared.packet.Header.{Header}
+use Rattle.redir_wire.specs.declared.kind.DataKind.{DataKind}
+use Rattle.redir_wire.specs.declared.kind.DataKind.TheVariants as kinds
+use Rattle.redir_wire.specs.Capability.{has}
+use Rattle.redir_wire.specs.Table.{data_row, data_numbered, fixed_length}
+use Rattle.redir_data.specs.declared.packet.RedirData.{RedirData}
+use Rattle.redir_data.specs.declared.packet.RedirData.TheVariants as moving
+
+-- how many bytes the fixed fields of this type have
+abbrev pub fixed : Caps → DataKind → ℕ
+fixed caps kind = fixed_length caps (data_row kind)
+
+-- the place of the length field, of its lower 16 bits
+abbrev pub length_place : DataKind → ℕ
+length_place kinds.Control = 8
+length_place kinds.Bulk = 2
+length_place kinds.Iso = 2
+length_place kinds.Interrupt = 2
+
+abbrev pub bulk_length : Bool → List ℕ → ℕ
+bulk_length true b = le_at w16 2 b + 65536 * le_at w16 8 b
+bulk_length false b = le_at w16 2 b
+
+-- the length that a packet tells
+abbrev pub told_length : Caps → DataKind → List ℕ → ℕ
+told_length caps kinds.Control b = le_at w16 8 b
+told_length caps kinds.Bulk b = bulk_length (has caps 6) b
+told_length caps kinds.Iso b = le_at w16 2 b
+told_length caps kinds.Interrupt b = le_at w16 2 b
+
+-- the fields, and as data all that is left of so many bytes
+abbrev pub fields_at : Caps → ℕ → DataKind → List ℕ → RedirData
+fields_at caps size kinds.Control b =
+    moving.Control (byte_at 0 b) (byte_at 1 b) (byte_at 2 b) (byte_at 3 b) (le_at w16 4 b) (le_at w16 6 b) (le_at w16 8 b) (part 10 (size - 10) b)
+fields_at caps size kinds.Bulk b =
+    moving.Bulk (byte_at 0 b) (byte_at 1 b) (bulk_length (has caps 6) b) (le_at w32 4 b) (part (fixed caps kinds.Bulk) (size - fixed caps kinds.Bulk) b)
+fields_at caps size kinds.Iso b = moving.Iso (byte_at 0 b) (byte_at 1 b) (le_at w16 2 b) (part 4 (size - 4) b)
+fields_at caps size kinds.Interrupt b = moving.Interrupt (byte_at 0 b) (byte_at 1 b) (le_at w16 2 b) (part 4 (size - 4) b)
+
+-- no header that passes its checks has another number than a type's
+abbrev pub data_at : Caps → Header → List ℕ → RedirData
+data_at caps h b = option_map_or (λ k. fields_at caps h.length k b) (data_numbered h.kind) (moving.Iso 0 0 0 [])

@@ -1,0 +1,76 @@
+-- The fields of a packet that moves data, in wire order, numbers little-endian, and its data behind them ("Data packets").
+use Rattle.std.specs.Prelude.{ℕ, ◌/◌, ◌%◌, Bool, not, if◌then◌else◌, List, [], ◌∷◌, ◌++◌, length}
+use Rattle.std.specs.Int.{w16, w32}
+use Rattle.usb_base.specs.Number.{le}
+use Rattle.usb_base.specs.Endpoint.{is_in_endpoint}
+use Rattle.redir_wire.specs.declared.packet.Caps.{Caps}
+use Rattle.redir_wire.specs.declared.packet.Way.{Way}
+use Rattle.redir_wire.specs.declared.packet.Way.TheVariants.{ToGuest, ToHost}
+use Rattle.redir_wire.specs.declared.packet.Header.{Header}
+use Rattle.redir_wire.specs.declared.kind.DataKind.{DataKind}
+use Rattle.redir_wire.specs.declared.kind.DataKind.TheVariants as kinds
+use Rattle.redir_wire.specs.Capability.{has}
+use Rattle.redir_wire.specs.Table.{data_row}
+use Rattle.redir_wire.specs.Spelling.{if_sent}
+use Rattle.redir_data.specs.declared.packet.RedirData.{RedirData}
+use Rattle.redir_data.specs.declared.packet.RedirData.TheVariants as moving
+
+abbrev pub kind_of : RedirData → DataKind
+kind_of (moving.Control endpoint request kind status value index length body) = kinds.Control
+kind_of (moving.Bulk endpoint status length stream body) = kinds.Bulk
+kind_of (moving.Iso endpoint status length body) = kinds.Iso
+kind_of (moving.Interrupt endpoint status length body) = kinds.Interrupt
+
+abbrev pub number_of : RedirData → ℕ
+number_of d = (data_row (kind_of d)).number
+
+abbrev pub endpoint_of : RedirData → ℕ
+endpoint_of (moving.Control endpoint request kind status value index length body) = endpoint
+endpoint_of (moving.Bulk endpoint status length stream body) = endpoint
+endpoint_of (moving.Iso endpoint status length body) = endpoint
+endpoint_of (moving.Interrupt endpoint status length body) = endpoint
+
+-- how many bytes were asked for or moved
+abbrev pub length_of : RedirData → ℕ
+length_of (moving.Control endpoint request kind status value index length body) = length
+length_of (moving.Bulk endpoint status length stream body) = length
+length_of (moving.Iso endpoint status length body) = length
+length_of (moving.Interrupt endpoint status length body) = length
+
+abbrev pub body_of : RedirData → List ℕ
+body_of (moving.Control endpoint request kind status value index length body) = body
+body_of (moving.Bulk endpoint status length stream body) = body
+body_of (moving.Iso endpoint status length body) = body
+body_of (moving.Interrupt endpoint status length body) = body
+
+-- ---- where data stand
+
+-- to the host in packets of OUT endpoints, to the guest in packets of IN endpoints
+abbrev pub carries : Way → ℕ → Bool
+carries ToHost endpoint = not (is_in_endpoint endpoint)
+carries ToGuest endpoint = is_in_endpoint endpoint
+
+-- how many bytes of data stand in a packet of this endpoint that tells this length
+abbrev pub data_count : Way → ℕ → ℕ → ℕ
+data_count way endpoint told = if carries way endpoint then told else 0
+
+-- ---- the bytes
+
+-- with capability 6 a bulk packet has the upper 16 bits of its length in a field of their own
+abbrev pub bulk : Bool → ℕ → ℕ → ℕ → ℕ → List ℕ
+bulk wide endpoint status told stream =
+    (endpoint ∷ status ∷ []) ++ le w16 (told % 65536) ++ le w32 stream ++ if_sent wide (le w16 (told / 65536))
+
+abbrev pub fixed_fields : Caps → RedirData → List ℕ
+fixed_fields caps (moving.Control endpoint request kind status value index told body) =
+    (endpoint ∷ request ∷ kind ∷ status ∷ []) ++ le w16 value ++ le w16 index ++ le w16 told
+fixed_fields caps (moving.Bulk endpoint status told stream body) = bulk (has caps 6) endpoint status told stream
+fixed_fields caps (moving.Iso endpoint status told body) = (endpoint ∷ status ∷ []) ++ le w16 told
+fixed_fields caps (moving.Interrupt endpoint status told body) = (endpoint ∷ status ∷ []) ++ le w16 told
+
+abbrev pub fields : Caps → RedirData → List ℕ
+fields caps d = fixed_fields caps d ++ body_of d
+
+-- the packet's header with this id
+abbrev pub header_of : ℕ → Caps → RedirData → Header
+header_of id caps d = record { kind = number_of d; length = length (fields caps d); id = id }

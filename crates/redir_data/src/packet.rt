@@ -1,0 +1,56 @@
+//! The usbredir packets that move data, as values, and a packet of either kind.
+
+use packet_stream::Read;
+use redir_wire::{Header, RedirControl};
+use usb_base::Bytes;
+
+/// A packet of a transfer: a request on its way to the host, or its answer on the way to the guest. `status`
+/// is the byte of a `UsbStatus`, `length` how many bytes were asked for or moved, and `endpoint` the
+/// endpoint's address. Bytes stand only in requests to an OUT endpoint and in answers of an IN endpoint.
+#[derive(Debug, Drop)]
+pub enum RedirData {
+    /// Type 100, `usb_redir_control_packet`: `kind` is bmRequestType.
+    Control {
+        endpoint: u8,
+        request: u8,
+        kind: u8,
+        status: u8,
+        value: u16,
+        index: u16,
+        length: u16,
+        body: Bytes,
+    },
+    /// Type 101, `usb_redir_bulk_packet`. Without capability 6 the length is below 65,536.
+    Bulk {
+        endpoint: u8,
+        status: u8,
+        length: u32,
+        stream: u32,
+        body: Bytes,
+    },
+    /// Type 102, `usb_redir_iso_packet`.
+    Iso {
+        endpoint: u8,
+        status: u8,
+        length: u16,
+        body: Bytes,
+    },
+    /// Type 103, `usb_redir_interrupt_packet`.
+    Interrupt {
+        endpoint: u8,
+        status: u8,
+        length: u16,
+        body: Bytes,
+    },
+}
+
+/// A packet of usbredir, after its header.
+#[derive(Debug, Drop)]
+pub enum RedirPacket {
+    Plain(RedirControl),
+    Carrying(RedirData),
+}
+
+/// What stands at the front of the bytes: a packet with its header and how many bytes both have, or less
+/// than one.
+pub type RedirRead = Read<(Header, RedirPacket)>;

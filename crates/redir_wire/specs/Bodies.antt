@@ -1,0 +1,69 @@
+-- Packets that are a header and then what it announces: how both are read together.
+use Rattle.std.specs.Prelude.{◌≡◌, ℕ, ◌+◌, Bool, true, nat_lt, if◌then◌else◌, List, [], ◌∷◌, ◌++◌, length, drop}
+use Rattle.std.specs.Int.{w32}
+use Rattle.usb_base.specs.declared.reason.Reason.{Reason}
+use Rattle.usb_base.specs.declared.reason.Reason.TheVariants.{UnknownType}
+use Rattle.usb_base.specs.Number.{le_at}
+use Rattle.packet_stream.specs.Format.{Check, Format}
+use Rattle.redir_wire.specs.declared.packet.Caps.{Caps}
+use Rattle.redir_wire.specs.declared.packet.Way.{Way}
+use Rattle.redir_wire.specs.declared.packet.Header.{Header}
+use Rattle.redir_wire.specs.Header.{is_wide, head_size, head_bytes, header_at, head_checks, check, IsHeader}
+
+-- a check of the bytes behind a header; its place counts from the first of them
+pub record BodyCheck : Type 0 where
+  pub place : ℕ
+  pub needed : ℕ
+  pub passes : Header → List ℕ → Bool
+  pub reason : Reason
+
+-- what stands behind headers of some types
+pub record Bodies (P : Type 0) : Type 1 where
+  -- the numbers of these types
+  pub owns : ℕ → Bool
+  pub checks : List BodyCheck
+  -- the fields that stand at their places behind this header
+  pub fields : Header → List ℕ → P
+  pub number : P → ℕ
+  pub spelling : P → List ℕ
+  pub Fits : P → Type 0
+
+-- ---- behind a header that was read
+
+abbrev pub with_header : Header → List BodyCheck → List (Check Reason)
+with_header h [] = []
+with_header h (c ∷ cs) = check c.place c.needed c.reason (c.passes h) ∷ with_header h cs
+
+-- the packet is whole once all that the header announces is there
+abbrev pub behind : {P : Type 0} → Bodies P → Header → Format P Reason
+behind f h = record { checks = with_header h f.checks; size = λ b. h.length; packet = f.fields h; spelling = f.spelling; Fits = f.Fits }
+
+-- ---- header and body
+
+abbrev pub behind_head : Bool → List BodyCheck → List (Check Reason)
+behind_head wide [] = []
+behind_head wide (c ∷ cs) =
+    check (head_size wide + c.place) (head_size wide + c.needed) c.reason (λ b. c.passes (header_at wide b) (drop (head_size wide) b)) ∷ behind_head wide cs
+
+-- a packet of another type is none of these
+abbrev pub own_check : {P : Type 0} → Bodies P → Check Reason
+own_check f = check 0 4 UnknownType (λ b. f.owns (le_at w32 0 b))
+
+abbrev pub size : Bool → List ℕ → ℕ
+size wide b = if nat_lt (length b) 8 then head_size wide else head_size wide + le_at w32 4 b
+
+-- the header is the packet's own
+pub record IsPacket {P : Type 0} (f : Bodies P) (first : Bool) (caps : Caps) (way : Way) (p : Header × P) : Type 0 where
+  pub header : IsHeader first caps way p.0
+  pub kind : p.0.kind ≡ f.number p.1
+  pub length_is : p.0.length ≡ length (f.spelling p.1)
+  pub fits : f.Fits p.1
+
+abbrev pub packets : {P : Type 0} → Bodies P → Bool → Caps → Way → Format (Header × P) Reason
+packets f first caps way = record {
+  checks = own_check f ∷ head_checks first caps way ++ behind_head (is_wide first caps) f.checks;
+  size = size (is_wide first caps);
+  packet = λ b. (header_at (is_wide first caps) b, f.fields (header_at (is_wide first caps) b) (drop (head_size (is_wide first caps)) b));
+  spelling = λ p. head_bytes (is_wide first caps) p.0 ++ f.spelling p.1;
+  Fits = IsPacket f first caps way;
+}

@@ -1,0 +1,43 @@
+-- The packets that move no data of a transfer.
+use Rattle.std.specs.Prelude.{◌≡◌, ℕ, ◌==◌, ◌||◌, not, nat_le, nat_lt, Bool, true, false, List, [], ◌∷◌, length}
+use Rattle.std.specs.Int.{w32}
+use Rattle.usb_base.specs.declared.reason.Reason.{Reason}
+use Rattle.usb_base.specs.declared.reason.Reason.TheVariants.{Count}
+use Rattle.usb_base.specs.Number.{le_at}
+use Rattle.packet_stream.specs.Format.{Format}
+use Rattle.redir_wire.specs.declared.packet.Caps.{Caps}
+use Rattle.redir_wire.specs.declared.packet.Way.{Way}
+use Rattle.redir_wire.specs.declared.packet.Header.{Header}
+use Rattle.redir_wire.specs.declared.packet.RedirControl.{RedirControl}
+use Rattle.redir_wire.specs.declared.packet.RedirControl.TheVariants.{Hello}
+use Rattle.redir_wire.specs.Bodies.{BodyCheck, Bodies, packets}
+use Rattle.redir_wire.specs.Spelling.{fields, number_of}
+use Rattle.redir_wire.specs.Ranges.{IsControl}
+use Rattle.redir_wire.specs.Places.{control_at}
+
+-- the numbers of the types that move no data are below 100
+abbrev pub is_plain : ℕ → Bool
+is_plain number = nat_lt number 100
+
+-- an interface_info has at most 32 interfaces
+abbrev pub count_check : BodyCheck
+count_check = record { place = 0; needed = 4; passes = λ h b. not (h.kind == 4) || nat_le (le_at w32 0 b) 32; reason = Count }
+
+abbrev pub controls : Caps → Bodies RedirControl
+controls caps = record {
+  owns = is_plain;
+  checks = count_check ∷ [];
+  fields = control_at caps;
+  number = number_of;
+  spelling = fields caps;
+  Fits = IsControl caps;
+}
+
+-- the packets of a stream that goes this way, the first one or a later one, with the capabilities that are agreed
+abbrev pub plain : Bool → Caps → Way → Format (Header × RedirControl) Reason
+plain first caps way = packets (controls caps) first caps way
+
+-- only the words of a hello take memory
+abbrev pub takes_memory : RedirControl → Bool
+takes_memory (Hello h) = not (length h.words == 0)
+takes_memory _ = false

@@ -1,0 +1,122 @@
+-- The table of packets: each type's number, the way that it goes, the capability that it wants, and its length ("Packet types").
+use Rattle.std.specs.Prelude.{ℕ, ◌+◌, ◌-◌, ◌%◌, Bool, true, false, ◌==◌, ◌&&◌, ◌||◌, nat_le, List, [], ◌∷◌, Option, Some, None, find, ◌<◌, IfSome, if◌then◌else◌}
+use Rattle.std.specs.Option.{option_map_or}
+use Rattle.redir_wire.specs.declared.packet.Caps.{Caps}
+use Rattle.redir_wire.specs.declared.packet.Way.{Way}
+use Rattle.redir_wire.specs.declared.packet.Way.TheVariants.{ToGuest, ToHost}
+use Rattle.redir_wire.specs.declared.kind.PlainKind.{PlainKind}
+use Rattle.redir_wire.specs.declared.kind.PlainKind.TheVariants as plain
+use Rattle.redir_wire.specs.declared.kind.DataKind.{DataKind}
+use Rattle.redir_wire.specs.declared.kind.DataKind.TheVariants as moving
+use Rattle.redir_wire.specs.declared.kind.Kind.{Kind}
+use Rattle.redir_wire.specs.declared.kind.Kind.TheVariants.{Plain, Carrying}
+use Rattle.redir_wire.specs.declared.kind.More.{More}
+use Rattle.redir_wire.specs.declared.kind.Tail.{Tail}
+use Rattle.redir_wire.specs.declared.kind.Tail.TheVariants.{Nothing, Words, Data}
+use Rattle.redir_wire.specs.declared.kind.Row.{Row}
+use Rattle.redir_wire.specs.Capability.{has}
+
+abbrev pub row : ℕ → Option Way → Option ℕ → ℕ → Option More → Tail → Row
+row number way wanted fixed more tail = record { number = number; way = way; wanted = wanted; fixed = fixed; more = more; tail = tail }
+
+-- so many bytes more with this capability
+abbrev with : ℕ → ℕ → Option More
+with capability bytes = Some (record { capability = capability; bytes = bytes })
+
+abbrev pub plain_row : PlainKind → Row
+plain_row plain.Hello = row 0 None None 64 None Words
+plain_row plain.Connect = row 1 (Some ToGuest) None 8 (with 1 2) Nothing
+plain_row plain.Disconnect = row 2 (Some ToGuest) None 0 None Nothing
+plain_row plain.Reset = row 3 (Some ToHost) None 0 None Nothing
+plain_row plain.InterfaceInfo = row 4 (Some ToGuest) None 132 None Nothing
+plain_row plain.EpInfo = row 5 (Some ToGuest) None 96 (with 4 64) Nothing
+plain_row plain.SetConfiguration = row 6 (Some ToHost) None 1 None Nothing
+plain_row plain.GetConfiguration = row 7 (Some ToHost) None 0 None Nothing
+plain_row plain.ConfigurationStatus = row 8 (Some ToGuest) None 2 None Nothing
+plain_row plain.SetAlt = row 9 (Some ToHost) None 2 None Nothing
+plain_row plain.GetAlt = row 10 (Some ToHost) None 1 None Nothing
+plain_row plain.AltStatus = row 11 (Some ToGuest) None 3 None Nothing
+plain_row plain.StartIso = row 12 (Some ToHost) None 3 None Nothing
+plain_row plain.StopIso = row 13 (Some ToHost) None 1 None Nothing
+plain_row plain.IsoStatus = row 14 (Some ToGuest) None 2 None Nothing
+plain_row plain.StartInterrupt = row 15 (Some ToHost) None 1 None Nothing
+plain_row plain.StopInterrupt = row 16 (Some ToHost) None 1 None Nothing
+plain_row plain.InterruptStatus = row 17 (Some ToGuest) None 2 None Nothing
+plain_row plain.Cancel = row 21 (Some ToHost) None 0 None Nothing
+plain_row plain.DisconnectAck = row 24 (Some ToHost) (Some 3) 0 None Nothing
+
+abbrev pub data_row : DataKind → Row
+data_row moving.Control = row 100 None None 10 None Data
+data_row moving.Bulk = row 101 None None 8 (with 6 2) Data
+data_row moving.Iso = row 102 None None 4 None Data
+data_row moving.Interrupt = row 103 None None 4 None Data
+
+abbrev pub row_of : Kind → Row
+row_of (Plain k) = plain_row k
+row_of (Carrying k) = data_row k
+
+-- ---- the types by their numbers
+
+abbrev pub plain_kinds : List PlainKind
+plain_kinds =
+    plain.Hello ∷ plain.Connect ∷ plain.Disconnect ∷ plain.Reset ∷ plain.InterfaceInfo ∷ plain.EpInfo ∷ plain.SetConfiguration ∷ plain.GetConfiguration
+    ∷ plain.ConfigurationStatus ∷ plain.SetAlt ∷ plain.GetAlt ∷ plain.AltStatus ∷ plain.StartIso ∷ plain.StopIso ∷ plain.IsoStatus ∷ plain.StartInterrupt
+    ∷ plain.StopInterrupt ∷ plain.InterruptStatus ∷ plain.Cancel ∷ plain.DisconnectAck ∷ []
+
+abbrev pub data_kinds : List DataKind
+data_kinds = moving.Control ∷ moving.Bulk ∷ moving.Iso ∷ moving.Interrupt ∷ []
+
+unfoldable pub plain_numbered : ℕ → Option PlainKind
+plain_numbered number = find (λ k. (plain_row k).number == number) plain_kinds
+
+unfoldable pub data_numbered : ℕ → Option DataKind
+data_numbered number = find (λ k. (data_row k).number == number) data_kinds
+
+abbrev pub or_carrying : Option PlainKind → Option DataKind → Option Kind
+or_carrying (Some k) d = Some (Plain k)
+or_carrying None (Some d) = Some (Carrying d)
+or_carrying None None = None
+
+abbrev pub kind_numbered : ℕ → Option Kind
+kind_numbered number = or_carrying (plain_numbered number) (data_numbered number)
+
+-- the types of the protocol that the gateway never agrees to: bulk streams, filters, buffered bulk
+abbrev pub is_left_out : ℕ → Bool
+is_left_out number =
+    (nat_le 18 number && nat_le number 20) || ((number == 22) || ((number == 23) || ((nat_le 25 number && nat_le number 27) || (number == 104))))
+
+-- ---- what a row says
+
+abbrev pub is_way : Way → Way → Bool
+is_way ToGuest ToGuest = true
+is_way ToGuest ToHost = false
+is_way ToHost ToGuest = false
+is_way ToHost ToHost = true
+
+abbrev pub goes : Way → Row → Bool
+goes way r = option_map_or (is_way way) r.way true
+
+abbrev pub has_wanted : Caps → Row → Bool
+has_wanted caps r = option_map_or (has caps) r.wanted true
+
+abbrev pub more_bytes : Caps → More → ℕ
+more_bytes caps m = if has caps m.capability then m.bytes else 0
+
+-- how many bytes the fixed fields have
+abbrev pub fixed_length : Caps → Row → ℕ
+fixed_length caps r = r.fixed + option_map_or (more_bytes caps) r.more 0
+
+-- behind a hello's text are at most 32 words; any data are behind the fields of a data packet
+abbrev pub is_tail : Tail → ℕ → ℕ → Bool
+is_tail Nothing fixed length = length == fixed
+is_tail Words fixed length = nat_le fixed length && (nat_le length (fixed + 128) && ((length - fixed) % 4 == 0))
+is_tail Data fixed length = nat_le fixed length
+
+abbrev pub has_length : Caps → Row → ℕ → Bool
+has_length caps r length = is_tail r.tail (fixed_length caps r) length
+
+-- the capabilities of a row are bits, and its lengths small
+pub record AreBits (r : Row) : Type 0 where
+  pub wanted : IfSome r.wanted (λ bit. bit < 32)
+  pub more : IfSome r.more (λ m. (m.capability < 32) × (m.bytes < 100))
+  pub fixed : r.fixed < 200
