@@ -26,7 +26,7 @@ if_whole : (t : Bool) (x y : List Descriptor) → (t ≡ true → x ≡ y) → c
 if_whole true x y h = h refl
 if_whole false x y h = refl
 
-at_least_two : (bytes : List ℕ) → is_whole bytes ≡ true → 2 ≤ byte_at 0 bytes
+pub at_least_two : (bytes : List ℕ) → is_whole bytes ≡ true → 2 ≤ byte_at 0 bytes
 at_least_two bytes h = omega (arith, leb-true 2 (byte_at 0 bytes) (and_parts _ _ h).0)
 
 -- how many are looked for doesn't matter, where it is enough

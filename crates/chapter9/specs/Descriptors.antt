@@ -1,5 +1,5 @@
 -- The descriptors of a configuration (USB 2.0, 9.5 and 9.6): where each one stands, which are wrong, and what they say.
-use Rattle.std.specs.Prelude.{ℕ, zero, suc, ◌+◌, ◌%◌, Bool, true, if◌then◌else◌, ◌==◌, ◌&&◌, nat_lt, nat_le, List, [], ◌∷◌, length, drop, map, Option, Some, None}
+use Rattle.std.specs.Prelude.{◌≡◌, ℕ, zero, suc, ◌+◌, ◌%◌, Bool, true, if◌then◌else◌, ◌==◌, ◌&&◌, nat_lt, nat_le, List, [], ◌∷◌, ◌++◌, length, take, drop, map, Option, Some, None}
 use Rattle.std.specs.Int.{w16}
 use Rattle.usb_base.specs.Number.{byte_at, le_at}
 use Rattle.usb_base.specs.Endpoint.{kind_of_byte}
@@ -73,3 +73,17 @@ part_at bytes = part_by (byte_at 1 bytes) bytes
 -- the parts of a configuration without a wrong descriptor
 abbrev pub parts_of : List ℕ → List Part
 parts_of blob = configuration_at blob ∷ map (λ d. part_at d.bytes) (later blob)
+
+-- ---- that they are all there is
+
+-- the bytes of the descriptor at the front
+abbrev pub own_bytes : List ℕ → List ℕ
+own_bytes bytes = take (byte_at 0 bytes) bytes
+
+abbrev pub joined : List Descriptor → List ℕ
+joined [] = []
+joined (d ∷ ds) = own_bytes d.bytes ++ joined ds
+
+-- a configuration without a wrong descriptor is its descriptors one behind another
+abbrev pub AreJoined : Type 0
+AreJoined = (blob : List ℕ) → wrong_place blob ≡ None → own_bytes blob ++ joined (later blob) ≡ blob

@@ -2,7 +2,7 @@
 
 ghost use Rattle.std.specs.Prelude.{◌≡◌, ◌≤◌, ◌%◌, length, drop, Some, None, IfOk, IsTrue, nat_lt, if◌then◌else◌};
 ghost use Rattle.usb_base.specs.Number.{byte_at};
-ghost use Rattle.chapter9.specs.Descriptors.{configuration_at, endpoint_at, interface_at, is_configuration, is_right, part_at, parts_of, wrong_place};
+ghost use Rattle.chapter9.specs.Descriptors.{AreJoined, configuration_at, endpoint_at, interface_at, is_configuration, is_right, part_at, parts_of, wrong_place};
 ghost use Rattle.chapter9.specs.Answers.{IfBad, OnMemory};
 
 use crate::part::{Part, Parts};
@@ -64,6 +64,11 @@ pub fn walk(alloc: Global, blob: &[u8]) -> Result<Parts, WalkError>
     }
     Ok(parts)
 }
+
+/// A law: a configuration without a wrong descriptor is its descriptors, one behind another.
+pub fn descriptors_join()
+    ensures { AreJoined }
+{}
 
 // What stands from a place on.
 fn behind(bytes: &[u8], place: usize) -> &[u8]

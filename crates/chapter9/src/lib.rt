@@ -9,7 +9,7 @@ mod standard_requests;
 mod state;
 mod table;
 
-pub use descriptors::{WalkError, walk};
+pub use descriptors::{WalkError, descriptors_join, walk};
 pub use part::{Part, Parts};
 pub use requests::{ControlRead, ControlWrite, Request, request_of};
 pub use standard_requests::{DescriptorSet, standard};

@@ -32,7 +32,7 @@ abbrev pub report : ℕ → List ℕ
 report key = 0 ∷ 0 ∷ (4 + key) ∷ 0 ∷ 0 ∷ 0 ∷ 0 ∷ 0 ∷ []
 
 -- what is kept is the number of offers since the last change, modulo 26
-abbrev pub keyboard : Device ℕ
+unfoldable pub keyboard : Device ℕ
 keyboard = record {
   set = keyboard_set;
   identity = record { speed = 1; class = 0; subclass = 0; protocol = 0; vendor = 0xFFF0; product = 1; version = 0x0100 };

@@ -46,7 +46,7 @@ abbrev pub given_back : List ℕ → ℕ → Option (List ℕ × Outcome)
 given_back held wanted = if length held == 0 && not (wanted == 0) then None else Some (drop wanted held, success (take wanted held))
 
 -- what is kept are the bytes that came and weren't given back
-abbrev pub loopback : Device (List ℕ)
+unfoldable pub loopback : Device (List ℕ)
 loopback = record {
   set = loop_set;
   identity = record { speed = 2; class = 0; subclass = 0; protocol = 0; vendor = 0xFFF0; product = 2; version = 0x0100 };

@@ -33,7 +33,7 @@ unfoldable pub samples : ℕ → List ℕ
 samples sample = replicate 192 sample
 
 -- what is kept is the number of offers since the last change, modulo 256
-abbrev pub tone : Device ℕ
+unfoldable pub tone : Device ℕ
 tone = record {
   set = tone_set;
   identity = record { speed = 1; class = 0; subclass = 0; protocol = 0; vendor = 0xFFF0; product = 3; version = 0x0100 };

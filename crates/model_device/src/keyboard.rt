@@ -1,4 +1,5 @@
 //! The keyboard: keys pressed one after another.
+#![tactic(auto, unfolding(crate::specs::Keyboard::keyboard))]
 
 ghost use Rattle.std.specs.Prelude.{◌≡◌, OnOk, IfOk};
 ghost use Rattle.model_device.specs.Device.{first_state};
@@ -61,7 +62,7 @@ impl Model for Keyboard {
 
 impl Keyboard {
     /// A keyboard that was just plugged in.
-    #[tactic(auto, unfolding(usb_base::specs::Number::le_at))]
+    #[tactic(auto, unfolding(usb_base::specs::Number::le_at, crate::specs::Keyboard::keyboard))]
     pub fn make(alloc: Global) -> Result<Keyboard, Memory>
         ensures { IfOk result (λ made. made ≡ first_state keyboard) }
     {

@@ -1,4 +1,5 @@
 //! The loop: what comes is given back.
+#![tactic(auto, unfolding(crate::specs::Loopback::loopback))]
 
 ghost use Rattle.std.specs.Prelude.{◌≡◌, ◌≤◌, IfOk, OnOk, OnErr, length};
 ghost use Rattle.model_device.specs.Device.{first_state};
@@ -56,7 +57,7 @@ impl Model for Loopback {
 
 impl Loopback {
     /// A loop that was just plugged in. It holds no byte.
-    #[tactic(auto, unfolding(usb_base::specs::Number::le_at))]
+    #[tactic(auto, unfolding(usb_base::specs::Number::le_at, crate::specs::Loopback::loopback))]
     pub fn make(alloc: Global) -> Result<Loopback, Memory>
         ensures { IfOk result (λ made. made ≡ first_state loopback) }
     {

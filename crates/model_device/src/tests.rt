@@ -113,23 +113,58 @@ fn sent<G: Gadget>(
     gadget.perform(alloc, &transfer)
 }
 
+// What comes of an OUT transfer of endpoint 1 of so many zeros, or None where it waits.
+fn sent_zeros<G: Gadget>(
+    rt: &impl Abort,
+    alloc: Global,
+    gadget: &mut G,
+    count: u32,
+) -> Result<Option<Outcome>, Memory> {
+    let mut body = Bytes::new(alloc);
+    body.append(&vec![in alloc; 0; count as usize]?)?;
+    let transfer = Transfer {
+        ep: address(rt, 0x01),
+        setup: None,
+        wanted: count,
+        body,
+    };
+    gadget.perform(alloc, &transfer)
+}
+
+fn identity<G: Gadget>(gadget: &G) -> (u8, u16) {
+    let identity = gadget.identity();
+    (identity.speed, identity.product)
+}
+
+// How many interfaces it has, and the class of the first.
+fn interfaces<G: Gadget>(gadget: &G) -> (u32, u8) {
+    let interfaces = gadget.interfaces();
+    (interfaces.count, interfaces.class[0])
+}
+
+// The kind of IN endpoint 1.
+fn kind_in<G: Gadget>(rt: &impl Abort, gadget: &G) -> EpKind {
+    gadget.table().row(address(rt, 0x81)).kind
+}
+
+// Whether an offer is a packet of this sample.
+fn is_sample(packet: &StreamPacket, sample: u8) -> bool {
+    let body = packet.body.as_slice();
+    body.len() == 192 && body.iter().all(|byte| *byte == sample)
+}
+
 #[test]
 fn a_keyboard_presses_the_keys_in_turn(rt: HostRuntime) -> Result<(), Fail> {
     let mut keyboard = Keyboard::make(rt.alloc())?;
-    assert_eq!(rt; keyboard.identity().speed, 1);
-    assert_eq!(rt; keyboard.identity().product, 1);
+    assert_eq!(rt; identity(&keyboard), (1, 1));
+    assert_eq!(rt; interfaces(&keyboard), (0, 0));
     assert!(rt;
         offered(&rt, rt.alloc(), &mut keyboard)?.is_none(),
         "not configured"
     );
     asked(&rt, rt.alloc(), &mut keyboard, SET_CONFIGURATION)?;
-    assert_eq!(rt; keyboard.configuration(), 1);
-    assert_eq!(rt; keyboard.interfaces().count, 1);
-    assert_eq!(rt; keyboard.interfaces().class[0], 0xFF);
-    assert_eq!(rt;
-        keyboard.table().row(address(&rt, 0x81)).kind,
-        EpKind::Interrupt
-    );
+    assert_eq!(rt; interfaces(&keyboard), (1, 0xFF));
+    assert_eq!(rt; kind_in(&rt, &keyboard), EpKind::Interrupt);
     for k in 0..60u8 {
         let packet = offered(&rt, rt.alloc(), &mut keyboard)?.expect(&rt, "a report");
         let report = [0, 0, 4 + k % 26, 0, 0, 0, 0, 0];
@@ -140,10 +175,18 @@ fn a_keyboard_presses_the_keys_in_turn(rt: HostRuntime) -> Result<(), Fail> {
     Ok(())
 }
 
+// The key of an offer, or 0 where there is none.
+fn key<G: Gadget>(rt: &impl Abort, alloc: Global, gadget: &mut G) -> Result<u8, Memory> {
+    Ok(match offered(rt, alloc, gadget)? {
+        Some(packet) => packet.body.as_slice().get(2).copied().unwrap_or(0),
+        None => 0,
+    })
+}
+
 #[test]
 fn a_halted_keyboard_is_silent_and_goes_on_where_it_was(rt: HostRuntime) -> Result<(), Fail> {
     let mut keyboard = Keyboard::make(rt.alloc())?;
-    // a request, whether it is carried out, and the key of the offer after it, or 0 where there is none
+    // a request, whether it is carried out, and the key after it
     let table = [
         (SET_CONFIGURATION, true, 4),
         (HALT_IN, true, 0),
@@ -157,14 +200,11 @@ fn a_halted_keyboard_is_silent_and_goes_on_where_it_was(rt: HostRuntime) -> Resu
         (SET_CONFIGURATION, true, 4),
         (CLEAR_CONFIGURATION, true, 0),
     ];
-    for (setup, good, key) in table {
+    for (setup, good, wanted) in table {
         let status = asked(&rt, rt.alloc(), &mut keyboard, setup)?;
         assert_eq!(rt; status == UsbStatus::Success, good, "of {setup:#018x}");
-        let found = match offered(&rt, rt.alloc(), &mut keyboard)? {
-            Some(packet) => packet.body.as_slice().get(2).copied().unwrap_or(0),
-            None => 0,
-        };
-        assert_eq!(rt; found, key, "after {setup:#018x}");
+        let found = key(&rt, rt.alloc(), &mut keyboard)?;
+        assert_eq!(rt; found, wanted, "after {setup:#018x}");
     }
     Ok(())
 }
@@ -172,17 +212,16 @@ fn a_halted_keyboard_is_silent_and_goes_on_where_it_was(rt: HostRuntime) -> Resu
 #[test]
 fn a_tone_sounds_in_its_second_setting(rt: HostRuntime) -> Result<(), Fail> {
     let mut tone = Tone::make(rt.alloc())?;
-    assert_eq!(rt; tone.identity().product, 3);
+    assert_eq!(rt; identity(&tone), (1, 3));
     asked(&rt, rt.alloc(), &mut tone, SET_CONFIGURATION)?;
     for _ in 0..2 {
         assert!(rt; offered(&rt, rt.alloc(), &mut tone)?.is_none(), "setting 0");
-        assert_eq!(rt; tone.table().row(address(&rt, 0x81)).kind, EpKind::Invalid);
+        assert_eq!(rt; kind_in(&rt, &tone), EpKind::Invalid);
         asked(&rt, rt.alloc(), &mut tone, SETTING_1)?;
-        assert_eq!(rt; tone.table().row(address(&rt, 0x81)).kind, EpKind::Iso);
+        assert_eq!(rt; kind_in(&rt, &tone), EpKind::Iso);
         for k in 0..300u16 {
             let packet = offered(&rt, rt.alloc(), &mut tone)?.expect(&rt, "a packet");
-            let samples = [(k % 256) as u8; 192];
-            assert_eq!(rt; packet.body.as_slice(), samples.as_slice(), "offer {k}");
+            assert!(rt; is_sample(&packet, (k % 256) as u8), "offer {k}");
         }
         asked(&rt, rt.alloc(), &mut tone, SETTING_0)?;
     }
@@ -192,8 +231,7 @@ fn a_tone_sounds_in_its_second_setting(rt: HostRuntime) -> Result<(), Fail> {
 #[test]
 fn a_loop_gives_back_what_came(rt: HostRuntime) -> Result<(), Fail> {
     let mut device = Loopback::make(rt.alloc())?;
-    assert_eq!(rt; device.identity().speed, 2);
-    assert_eq!(rt; device.identity().product, 2);
+    assert_eq!(rt; identity(&device), (2, 2));
     let early = sent(&rt, rt.alloc(), &mut device, &[9])?.expect(&rt, "no wait");
     assert_eq!(rt; early.status, UsbStatus::Stall);
     asked(&rt, rt.alloc(), &mut device, SET_CONFIGURATION)?;
@@ -239,7 +277,7 @@ fn a_loop_forgets_at_a_change_and_keeps_at_a_halt(rt: HostRuntime) -> Result<(),
     assert_eq!(rt; outcome.status, UsbStatus::Stall, "halted");
     assert_eq!(rt; outcome.done, 0);
     asked(&rt, rt.alloc(), &mut device, PORT_RESET)?;
-    assert_eq!(rt; device.configuration(), 0);
+    assert_eq!(rt; interfaces(&device), (0, 0));
     let outcome = wanted(&rt, rt.alloc(), &mut device, 1)?.expect(&rt, "no wait");
     assert_eq!(rt; outcome.status, UsbStatus::Stall, "reset");
     Ok(())
@@ -249,20 +287,21 @@ fn a_loop_forgets_at_a_change_and_keeps_at_a_halt(rt: HostRuntime) -> Result<(),
 fn a_loop_holds_a_mebibyte(rt: HostRuntime) -> Result<(), Fail> {
     let mut device = Loopback::make(rt.alloc())?;
     asked(&rt, rt.alloc(), &mut device, SET_CONFIGURATION)?;
-    let bytes = vec![in rt.alloc(); 7u8; 1_048_577]?;
-    let outcome = sent(&rt, rt.alloc(), &mut device, &bytes)?.expect(&rt, "no wait");
+    let outcome = sent_zeros(&rt, rt.alloc(), &mut device, 1_048_577)?.expect(&rt, "no wait");
     assert_eq!(rt; outcome.status, UsbStatus::Stall, "more than it can hold");
-    // how many bytes are sent, and how many are taken, or none where it waits
-    for (count, done) in [
-        (1_048_570, Some(1_048_570)),
-        (7, None),
-        (6, Some(6)),
-        (1, None),
-        (0, Some(0)),
-    ] {
-        let outcome = sent(&rt, rt.alloc(), &mut device, &bytes[..count])?;
-        assert_eq!(rt; outcome.map(|outcome| outcome.done), done, "of {count}");
+    // how many bytes are sent, and whether they are taken
+    let table = [
+        (1_048_570, true),
+        (7, false),
+        (6, true),
+        (1, false),
+        (0, true),
+    ];
+    for (count, taken) in table {
+        let outcome = sent_zeros(&rt, rt.alloc(), &mut device, count)?;
+        assert_eq!(rt; outcome.is_some(), taken, "of {count}");
     }
+    // how many are wanted, and how many come
     for (count, done) in [(2, 2), (2_000_000, 1_048_574)] {
         let outcome = wanted(&rt, rt.alloc(), &mut device, count)?.expect(&rt, "bytes");
         assert_eq!(rt; outcome.done, done, "of {count}");

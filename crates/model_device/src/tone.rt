@@ -1,4 +1,5 @@
 //! The tone: samples that rise with each packet.
+#![tactic(auto, unfolding(crate::specs::Tone::tone))]
 
 ghost use Rattle.std.specs.Prelude.{◌≡◌, IfOk};
 ghost use Rattle.model_device.specs.Device.{first_state};
@@ -56,7 +57,7 @@ impl Model for Tone {
 
 impl Tone {
     /// A tone that was just plugged in.
-    #[tactic(auto, unfolding(usb_base::specs::Number::le_at))]
+    #[tactic(auto, unfolding(usb_base::specs::Number::le_at, crate::specs::Tone::tone))]
     pub fn make(alloc: Global) -> Result<Tone, Memory>
         ensures { IfOk result (λ made. made ≡ first_state tone) }
     {
