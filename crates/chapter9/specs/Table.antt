@@ -1,0 +1,81 @@
+-- The endpoints of a device in a state, and the class of its interface.
+use Rattle.std.specs.Prelude.{ℕ, ◌%◌, ◌==◌, List, [], ◌∷◌, ◌++◌, Option, Some, None, if◌then◌else◌, slice_set}
+use Rattle.usb_base.specs.Endpoint.{endpoint_index, no_endpoints}
+use Rattle.usb_base.specs.declared.endpoint.EpRow.{EpRow}
+use Rattle.usb_base.specs.declared.endpoint.EpTable.{EpTable}
+use Rattle.usb_base.specs.declared.endpoint.EpKind.{EpKind}
+use Rattle.usb_base.specs.declared.endpoint.EpKind.TheVariants.{Control}
+use Rattle.chapter9.specs.declared.part.Part.{Part}
+use Rattle.chapter9.specs.declared.part.Part.TheVariants.{Config, Interface, Endpoint, Other}
+use Rattle.chapter9.specs.declared.state.DevState.{DevState}
+use Rattle.chapter9.specs.declared.table.InterfaceClass.{InterfaceClass}
+use Rattle.chapter9.specs.State.{is_configured}
+
+abbrev pub control_row : EpRow
+control_row = record { kind = Control; interval = 0; interface = 0; max_packet = 64 }
+
+-- a row takes its endpoint's place, if its endpoint isn't endpoint 0
+abbrev pub with_row : ℕ → EpRow → List EpRow → List EpRow
+with_row ep row rows = if endpoint_index ep % 16 == 0 then rows else slice_set rows (endpoint_index ep) row
+
+-- an endpoint's address, and its row
+pub record Placed : Type 0 where
+  pub ep : ℕ
+  pub row : EpRow
+
+-- the number of the interface whose setting the endpoints after this descriptor belong to, where that setting is
+-- the wanted one: an interface descriptor says, the others leave it
+abbrev pub interface_after : ℕ → Option ℕ → Part → Option ℕ
+interface_after alt before (Interface number other class subclass protocol) = if other == alt then Some number else None
+interface_after alt before (Config value interfaces) = before
+interface_after alt before (Endpoint ep kind max_packet interval) = before
+interface_after alt before (Other kind) = before
+
+abbrev pub placed_by : Option ℕ → ℕ → EpKind → ℕ → ℕ → List Placed
+placed_by (Some number) ep kind max_packet interval = record { ep = ep; row = record { kind = kind; interval = interval; interface = number; max_packet = max_packet } } ∷ []
+placed_by None ep kind max_packet interval = []
+
+-- the endpoint that this descriptor adds to that setting, if it is one
+abbrev pub placed : Option ℕ → Part → List Placed
+placed before (Endpoint ep kind max_packet interval) = placed_by before ep kind max_packet interval
+placed before (Config value interfaces) = []
+placed before (Interface number alt class subclass protocol) = []
+placed before (Other kind) = []
+
+-- the endpoints that stand after an interface descriptor with this alternate setting, up to the next interface
+-- descriptor
+abbrev pub endpoints_after : ℕ → Option ℕ → List Part → List Placed
+endpoints_after alt before [] = []
+endpoints_after alt before (part ∷ parts) = placed before part ++ endpoints_after alt (interface_after alt before part) parts
+
+abbrev pub endpoints_of : ℕ → List Part → List Placed
+endpoints_of alt parts = endpoints_after alt None parts
+
+-- each row at its place, so that of two with one address the later counts
+abbrev pub with_rows : List EpRow → List Placed → List EpRow
+with_rows rows [] = rows
+with_rows rows (p ∷ ps) = with_rows (with_row p.ep p.row rows) ps
+
+-- endpoint 0 alone
+abbrev pub control_rows : List EpRow
+control_rows = slice_set (slice_set no_endpoints.rows 0 control_row) 16 control_row
+
+abbrev pub table_of : List Part → DevState → EpTable
+table_of parts s = record { rows = if is_configured s then with_rows control_rows (endpoints_of s.alt parts) else control_rows }
+
+-- ---- the interface
+
+abbrev pub class_at : ℕ → Part → Option InterfaceClass
+class_at alt (Interface number other class subclass protocol) = if other == alt then Some (record { class = class; subclass = subclass; protocol = protocol }) else None
+class_at alt (Config value interfaces) = None
+class_at alt (Endpoint ep kind max_packet interval) = None
+class_at alt (Other kind) = None
+
+abbrev pub first_of : Option InterfaceClass → Option InterfaceClass → Option InterfaceClass
+first_of (Some class) others = Some class
+first_of None others = others
+
+-- the class of the first interface descriptor with this alternate setting
+abbrev pub class_of : ℕ → List Part → Option InterfaceClass
+class_of alt [] = None
+class_of alt (part ∷ parts) = first_of (class_at alt part) (class_of alt parts)

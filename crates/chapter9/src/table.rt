@@ -1,0 +1,111 @@
+//! Which endpoints a device has in a state, and of which class its interface is.
+
+ghost use Rattle.std.specs.Prelude.{◌≡◌};
+ghost use Rattle.chapter9.specs.Table.{class_of, endpoints_of, table_of, with_row, with_rows};
+
+use crate::part::{Part, Parts};
+use crate::state::DevState;
+use usb_base::{EpAddr, EpKind, EpRow, EpTable};
+
+/// The two sides of endpoint 0, which every device has (USB 2.0, 5.5).
+const CONTROL: EpRow = EpRow {
+    kind: EpKind::Control,
+    interval: 0,
+    interface: 0,
+    max_packet: 64,
+};
+
+/// bInterfaceClass, bInterfaceSubClass and bInterfaceProtocol of an interface (USB 2.0, table 9-12).
+#[derive(Clone, Copy, Debug, PartialEq, Eq)]
+pub struct InterfaceClass {
+    pub class: u8,
+    pub subclass: u8,
+    pub protocol: u8,
+}
+
+/// The endpoints of a device: endpoint 0, and where a configuration is set those of the current alternate
+/// setting. Of two with one address the later counts, and one with number 0 counts for nothing.
+pub fn table_of(parts: &Parts, state: &DevState) -> EpTable
+    ensures { result ≡ table_of parts.now state.now }
+{
+    let mut table = EpTable::none();
+    table.rows[0] = CONTROL;
+    table.rows[16] = CONTROL;
+    if state.configuration != 0 {
+        add_setting(&mut table, parts, state.alt);
+    }
+    table
+}
+
+// Adds the endpoints of an alternate setting: those after an interface descriptor with it, up to the next one.
+fn add_setting(table: &mut EpTable, parts: &Parts, alt: u8)
+    ensures { table.new.rows ≡ with_rows table.old.rows (endpoints_of alt parts.now) }
+{
+    let mut interface = None;
+    for part in parts.as_slice() {
+        match *part {
+            Part::Interface {
+                number,
+                alt: other,
+                ..
+            } => {
+                interface = (other == alt).then_some(number);
+            }
+            Part::Endpoint {
+                ep,
+                kind,
+                max_packet,
+                interval,
+            } => {
+                if let Some(interface) = interface {
+                    put(
+                        table,
+                        ep,
+                        EpRow {
+                            kind,
+                            interval,
+                            interface,
+                            max_packet,
+                        },
+                    );
+                }
+            }
+            Part::Config { .. } | Part::Other { .. } => {}
+        }
+    }
+}
+
+fn put(table: &mut EpTable, ep: EpAddr, row: EpRow)
+    ensures { table.new.rows ≡ with_row ep row table.old.rows }
+{
+    let index = ep.index();
+    if index % 16 != 0 {
+        table.rows[index] = row;
+    }
+}
+
+/// The class of the first interface descriptor with this alternate setting, or None where there is no such
+/// setting.
+pub fn class_of(parts: &Parts, alt: u8) -> Option<InterfaceClass>
+    ensures { result ≡ class_of alt parts.now }
+{
+    for part in parts.as_slice() {
+        match *part {
+            Part::Interface {
+                alt: other,
+                class,
+                subclass,
+                protocol,
+                ..
+            } if other == alt => {
+                return Some(InterfaceClass {
+                    class,
+                    subclass,
+                    protocol,
+                });
+            }
+            _ => {}
+        }
+    }
+    None
+}

@@ -1,0 +1,102 @@
+-- A device that answers endpoint 0 by its descriptors, and its other endpoints in a way of its own.
+use Rattle.std.specs.Prelude.{ℕ, ◌==◌, ◌&&◌, not, Bool, true, false, List, [], replicate, slice_set, Option, Some, None, if◌then◌else◌}
+use Rattle.usb_base.specs.Endpoint.{row_of}
+use Rattle.usb_base.specs.declared.setup.Setup.{Setup}
+use Rattle.usb_base.specs.declared.status.UsbStatus.{UsbStatus}
+use Rattle.usb_base.specs.declared.status.UsbStatus.TheVariants.{Success, Cancelled, Inval, IoError, Stall, Timeout, Babble, Other}
+use Rattle.usb_base.specs.declared.transfer.Transfer.{Transfer}
+use Rattle.usb_base.specs.declared.transfer.Outcome.{Outcome}
+use Rattle.usb_base.specs.declared.transfer.StreamPacket.{StreamPacket}
+use Rattle.redir_wire.specs.declared.packet.Connect.{Connect}
+use Rattle.redir_wire.specs.declared.packet.InterfaceInfo.{InterfaceInfo}
+use Rattle.chapter9.specs.declared.part.Part.{Part}
+use Rattle.chapter9.specs.declared.state.DevState.{DevState}
+use Rattle.chapter9.specs.declared.standard_requests.DescriptorSet.{DescriptorSet}
+use Rattle.chapter9.specs.declared.table.InterfaceClass.{InterfaceClass}
+use Rattle.chapter9.specs.Descriptors.{parts_of}
+use Rattle.chapter9.specs.State.{is_configured, is_halted, unconfigured}
+use Rattle.chapter9.specs.Table.{class_of, table_of}
+use Rattle.chapter9.specs.Standard.{is_valid, outcome_of, stall, state_after}
+use Rattle.model_device.specs.Transfer.{asks_change}
+use Rattle.model_device.specs.Meaning.{Meaning}
+
+-- the state that its requests change, and what it keeps beside that
+pub record State (X : Type 0) : Type 0 where
+  pub device : DevState
+  pub kept : X
+
+pub record Device (X : Type 0) : Type 0 where
+  pub set : DescriptorSet
+  pub identity : Connect
+  -- what it keeps at first, and after each change that succeeds
+  pub first : X
+  -- a transfer of an endpoint other than 0 that is there and isn't halted
+  pub transfer : X → Transfer → Option (X × Outcome)
+  -- a packet of an endpoint that is there and isn't halted
+  pub packet : X → ℕ → Option (X × StreamPacket)
+
+abbrev pub device_parts : {X : Type 0} → Device X → List Part
+device_parts d = parts_of d.set.config
+
+-- ---- what it tells
+
+abbrev pub no_bytes : List ℕ
+no_bytes = replicate 32 0
+
+-- one interface, whose number is 0, of this class
+abbrev pub one_interface : Option InterfaceClass → InterfaceInfo
+one_interface None = record { count = 1; interface = no_bytes; class = no_bytes; subclass = no_bytes; protocol = no_bytes }
+one_interface (Some c) = record { count = 1; interface = no_bytes; class = slice_set no_bytes 0 c.class; subclass = slice_set no_bytes 0 c.subclass; protocol = slice_set no_bytes 0 c.protocol }
+
+abbrev pub interfaces_of : List Part → DevState → InterfaceInfo
+interfaces_of parts s = if is_configured s then one_interface (class_of s.alt parts) else record { count = 0; interface = no_bytes; class = no_bytes; subclass = no_bytes; protocol = no_bytes }
+
+-- ---- what it does
+
+abbrev pub is_success : UsbStatus → Bool
+is_success Success = true
+is_success Cancelled = false
+is_success Inval = false
+is_success IoError = false
+is_success Stall = false
+is_success Timeout = false
+is_success Babble = false
+is_success (Other byte) = false
+
+-- the endpoint is there and isn't halted
+abbrev pub is_running : List Part → DevState → ℕ → Bool
+is_running parts s ep = is_valid (row_of (table_of parts s) ep).kind && not (is_halted s ep)
+
+-- what is kept after a request: nothing of before, where it was a change that succeeded
+abbrev pub kept_after : {X : Type 0} → X → X → Transfer → Outcome → X
+kept_after first kept t o = if asks_change t && is_success o.status then first else kept
+
+abbrev pub with_kept : {X A : Type 0} → DevState → Option (X × A) → Option (State X × A)
+with_kept s None = None
+with_kept s (Some r) = Some (record { device = s; kept = r.0 }, r.1)
+
+abbrev pub control : {X : Type 0} → Device X → State X → Transfer → State X × Outcome
+control d s t = (record { device = state_after (device_parts d) s.device t; kept = kept_after d.first s.kept t (outcome_of d.set (device_parts d) s.device t) }, outcome_of d.set (device_parts d) s.device t)
+
+abbrev pub perform_by : {X : Type 0} → Device X → State X → Transfer → Option Setup → Option (State X × Outcome)
+perform_by d s t (Some r) = Some (control d s t)
+perform_by d s t None = if is_running (device_parts d) s.device t.ep then with_kept s.device (d.transfer s.kept t) else Some (s, stall)
+
+abbrev pub perform : {X : Type 0} → Device X → State X → Transfer → Option (State X × Outcome)
+perform d s t = perform_by d s t t.setup
+
+abbrev pub offer : {X : Type 0} → Device X → State X → ℕ → Option (State X × StreamPacket)
+offer d s ep = if is_running (device_parts d) s.device ep then with_kept s.device (d.packet s.kept ep) else None
+
+abbrev pub meaning_of : {X : Type 0} → Device X → Meaning (State X)
+meaning_of d = record {
+  identity = d.identity;
+  configuration = λ s. s.device.configuration;
+  interfaces = λ s. interfaces_of (device_parts d) s.device;
+  table = λ s. table_of (device_parts d) s.device;
+  perform = perform d;
+  offer = offer d;
+}
+
+abbrev pub first_state : {X : Type 0} → Device X → State X
+first_state d = record { device = unconfigured; kept = d.first }

@@ -1,0 +1,10 @@
+pub mod Transfer
+pub mod Meaning
+pub mod Gadget
+pub mod Submit
+pub mod Device
+pub mod Inside
+pub mod Keyboard
+pub mod Loopback
+pub mod Tone
+pub mod inner

@@ -1,0 +1,56 @@
+-- The loop: a bulk endpoint each way, which gives back what came, in order.
+use Rattle.std.specs.Prelude.{ℕ, ◌+◌, ◌==◌, nat_lt, ◌&&◌, not, Bool, List, [], ◌∷◌, ◌++◌, length, take, drop, Option, Some, None, if◌then◌else◌}
+use Rattle.usb_base.specs.Endpoint.{is_in_endpoint}
+use Rattle.usb_base.specs.declared.status.UsbStatus.TheVariants.{Success}
+use Rattle.usb_base.specs.declared.transfer.Transfer.{Transfer}
+use Rattle.usb_base.specs.declared.transfer.Outcome.{Outcome}
+use Rattle.redir_wire.specs.declared.packet.Connect.{Connect}
+use Rattle.chapter9.specs.declared.standard_requests.DescriptorSet.{DescriptorSet}
+use Rattle.chapter9.specs.Standard.{stall, success}
+use Rattle.model_device.specs.Device.{Device}
+
+abbrev pub loop_set : DescriptorSet
+loop_set = record {
+  device =
+      -- bLength, bDescriptorType, bcdUSB 2.00, no class, bMaxPacketSize0
+      0x12 ∷ 0x01 ∷ 0x00 ∷ 0x02 ∷ 0x00 ∷ 0x00 ∷ 0x00 ∷ 0x40 ∷
+      -- idVendor, idProduct, bcdDevice 1.00
+      0xF0 ∷ 0xFF ∷ 0x02 ∷ 0x00 ∷ 0x00 ∷ 0x01 ∷
+      -- iManufacturer, iProduct, iSerialNumber, bNumConfigurations
+      0x00 ∷ 0x01 ∷ 0x00 ∷ 0x01 ∷ [];
+  config =
+      -- configuration 1 of 32 bytes with one interface, bus-powered, 100 mA
+      0x09 ∷ 0x02 ∷ 0x20 ∷ 0x00 ∷ 0x01 ∷ 0x01 ∷ 0x00 ∷ 0x80 ∷ 0x32 ∷
+      -- interface 0 with two endpoints, of the vendor's class
+      0x09 ∷ 0x04 ∷ 0x00 ∷ 0x00 ∷ 0x02 ∷ 0xFF ∷ 0x00 ∷ 0x00 ∷ 0x00 ∷
+      -- OUT endpoint 1: bulk, packets of 512 bytes
+      0x07 ∷ 0x05 ∷ 0x01 ∷ 0x02 ∷ 0x00 ∷ 0x02 ∷ 0x00 ∷
+      -- IN endpoint 1: bulk, packets of 512 bytes
+      0x07 ∷ 0x05 ∷ 0x81 ∷ 0x02 ∷ 0x00 ∷ 0x02 ∷ 0x00 ∷ [];
+  name = 0x0A ∷ 0x03 ∷ 0x6C ∷ 0x00 ∷ 0x6F ∷ 0x00 ∷ 0x6F ∷ 0x00 ∷ 0x70 ∷ 0x00 ∷ [];
+}
+
+-- how many bytes it holds at most
+abbrev pub limit : ℕ
+limit = 1048576
+
+-- more than it can ever hold is refused, and more than it has room for waits
+abbrev pub taken_in : List ℕ → List ℕ → Option (List ℕ × Outcome)
+taken_in held body =
+    if nat_lt limit (length body) then Some (held, stall)
+    else if nat_lt limit (length held + length body) then None
+    else Some (held ++ body, record { status = Success; done = length body; body = [] })
+
+-- where it holds nothing, a transfer that wants some bytes waits
+abbrev pub given_back : List ℕ → ℕ → Option (List ℕ × Outcome)
+given_back held wanted = if length held == 0 && not (wanted == 0) then None else Some (drop wanted held, success (take wanted held))
+
+-- what is kept are the bytes that came and weren't given back
+unfoldable pub loopback : Device (List ℕ)
+loopback = record {
+  set = loop_set;
+  identity = record { speed = 2; class = 0; subclass = 0; protocol = 0; vendor = 0xFFF0; product = 2; version = 0x0100 };
+  first = [];
+  transfer = λ held t. if is_in_endpoint t.ep then given_back held t.wanted else taken_in held t.body;
+  packet = λ held ep. None;
+}

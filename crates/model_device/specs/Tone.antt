@@ -1,0 +1,43 @@
+-- The tone: an isochronous IN endpoint in alternate setting 1, on which each offer is a packet of one byte repeated.
+use Rattle.std.specs.Prelude.{ℕ, ◌+◌, ◌%◌, ◌==◌, List, [], ◌∷◌, replicate, Option, Some, None, if◌then◌else◌}
+use Rattle.usb_base.specs.declared.status.UsbStatus.TheVariants.{Success}
+use Rattle.usb_base.specs.declared.transfer.StreamPacket.{StreamPacket}
+use Rattle.redir_wire.specs.declared.packet.Connect.{Connect}
+use Rattle.chapter9.specs.declared.standard_requests.DescriptorSet.{DescriptorSet}
+use Rattle.chapter9.specs.Standard.{stall}
+use Rattle.model_device.specs.Device.{Device}
+
+abbrev pub tone_set : DescriptorSet
+tone_set = record {
+  device =
+      -- bLength, bDescriptorType, bcdUSB 2.00, no class, bMaxPacketSize0
+      0x12 ∷ 0x01 ∷ 0x00 ∷ 0x02 ∷ 0x00 ∷ 0x00 ∷ 0x00 ∷ 0x40 ∷
+      -- idVendor, idProduct, bcdDevice 1.00
+      0xF0 ∷ 0xFF ∷ 0x03 ∷ 0x00 ∷ 0x00 ∷ 0x01 ∷
+      -- iManufacturer, iProduct, iSerialNumber, bNumConfigurations
+      0x00 ∷ 0x01 ∷ 0x00 ∷ 0x01 ∷ [];
+  config =
+      -- configuration 1 of 34 bytes with one interface, bus-powered, 100 mA
+      0x09 ∷ 0x02 ∷ 0x22 ∷ 0x00 ∷ 0x01 ∷ 0x01 ∷ 0x00 ∷ 0x80 ∷ 0x32 ∷
+      -- interface 0 without endpoints, of the vendor's class
+      0x09 ∷ 0x04 ∷ 0x00 ∷ 0x00 ∷ 0x00 ∷ 0xFF ∷ 0x00 ∷ 0x00 ∷ 0x00 ∷
+      -- its alternate setting 1 with one endpoint
+      0x09 ∷ 0x04 ∷ 0x00 ∷ 0x01 ∷ 0x01 ∷ 0xFF ∷ 0x00 ∷ 0x00 ∷ 0x00 ∷
+      -- IN endpoint 1: isochronous, packets of 192 bytes, every frame
+      0x07 ∷ 0x05 ∷ 0x81 ∷ 0x01 ∷ 0xC0 ∷ 0x00 ∷ 0x01 ∷ [];
+  name = 0x0A ∷ 0x03 ∷ 0x74 ∷ 0x00 ∷ 0x6F ∷ 0x00 ∷ 0x6E ∷ 0x00 ∷ 0x65 ∷ 0x00 ∷ [];
+}
+
+-- a packet of 192 samples
+unfoldable pub samples : ℕ → List ℕ
+samples sample = replicate 192 sample
+
+-- what is kept is the number of offers since the last change, modulo 256
+unfoldable pub tone : Device ℕ
+tone = record {
+  set = tone_set;
+  identity = record { speed = 1; class = 0; subclass = 0; protocol = 0; vendor = 0xFFF0; product = 3; version = 0x0100 };
+  first = 0;
+  transfer = λ sample t. Some (sample, stall);
+  packet = λ sample ep. if ep == 0x81 then Some ((sample + 1) % 256, record { status = Success; body = samples sample }) else None;
+}

@@ -1,0 +1,39 @@
+-- The transfers that a device is asked for, and what may come of one.
+use Rattle.std.specs.Prelude.{◌≡◌, ℕ, ◌≤◌, ◌%◌, ◌==◌, nat_lt, not, Bool, true, false, List, [], length, Option, Some, None, is_some, IfSome}
+use Rattle.usb_base.specs.Endpoint.{IsEndpoint, is_in_endpoint}
+use Rattle.usb_base.specs.declared.setup.Setup.{Setup}
+use Rattle.usb_base.specs.declared.transfer.Transfer.{Transfer}
+use Rattle.usb_base.specs.declared.transfer.Outcome.{Outcome}
+use Rattle.control_route.specs.Routes.{route_of}
+use Rattle.control_route.specs.Changes.{is_change}
+
+-- endpoint 0, in either direction
+abbrev pub is_control : ℕ → Bool
+is_control ep = ep % 128 == 0
+
+-- bit 7 of bmRequestType is the direction (USB 2.0, table 9-2)
+abbrev pub is_in_setup : Setup → Bool
+is_in_setup r = not (nat_lt r.kind 128)
+
+-- a transfer has a setup exactly on endpoint 0, and there the setup's direction; from the device it has no body, and
+-- to the device it wants just its body
+pub record IsTransfer (t : Transfer) : Type 0 where
+  pub address : IsEndpoint t.ep
+  pub has_setup : is_some t.setup ≡ is_control t.ep
+  pub direction : IfSome t.setup (λ r. is_in_setup r ≡ is_in_endpoint t.ep)
+  pub from_device : is_in_endpoint t.ep ≡ true → t.body ≡ []
+  pub to_device : is_in_endpoint t.ep ≡ false → t.wanted ≡ length t.body
+
+-- what comes of it is no more than it wants; from the device as many bytes as are given, and to the device no bytes
+pub record IsOutcome (t : Transfer) (o : Outcome) : Type 0 where
+  pub done : o.done ≤ t.wanted
+  pub from_device : is_in_endpoint t.ep ≡ true → o.done ≡ length o.body
+  pub to_device : is_in_endpoint t.ep ≡ false → o.body ≡ []
+
+-- whether it asks for a change: a configuration, an alternate setting, or a reset of the port
+abbrev pub setup_changes : Option Setup → Bool
+setup_changes None = false
+setup_changes (Some r) = is_change (route_of r)
+
+abbrev pub asks_change : Transfer → Bool
+asks_change t = setup_changes t.setup

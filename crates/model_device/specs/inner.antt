@@ -1,0 +1,4 @@
+pub mod Asked
+pub mod Tables
+pub mod Lawful
+pub mod Three

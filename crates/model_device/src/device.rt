@@ -1,0 +1,124 @@
+//! What the three devices have in common: descriptors, and the answers on endpoint 0.
+
+ghost use Rattle.std.specs.Prelude.{◌≡◌, ◌&&◌, IsSome, IfOk, OnOk, OnErr, None};
+ghost use Rattle.chapter9.specs.Descriptors.{wrong_place};
+ghost use Rattle.chapter9.specs.State.{unconfigured};
+ghost use Rattle.chapter9.specs.Standard.{outcome_of, stall, state_after};
+ghost use Rattle.chapter9.specs.Table.{table_of};
+ghost use Rattle.model_device.specs.Device.{interfaces_of, is_running, is_success};
+ghost use Rattle.model_device.specs.Inside.{HasSet};
+ghost use Rattle.model_device.specs.Transfer.{asks_change};
+
+use chapter9::{DescriptorSet, DevState, Parts, WalkError, class_of, standard, table_of, walk};
+use control_route::{is_change, route_of};
+use redir_wire::InterfaceInfo;
+use std::alloc::Global;
+use usb_base::{Bytes, EpAddr, EpKind, EpTable, Memory, Outcome, Transfer, UsbStatus};
+
+/// A device's descriptors, with the parts of its configuration, and its state.
+#[derive(Debug, Drop)]
+pub(crate) struct Device {
+    set: DescriptorSet,
+    parts: Parts,
+    pub(crate) state: DevState,
+}
+
+impl Device {
+    /// The device with these descriptors, as it is before a configuration is set.
+    pub(crate) fn make(
+        alloc: Global,
+        device: [u8; 18],
+        config: &[u8],
+        name: &[u8],
+    ) -> Result<Device, Memory>
+        requires { wrong_place config.now ≡ None }
+        ensures set { IfOk result (HasSet (record { device = device; config = config.now; name = name.now })) }
+        ensures state { IfOk result (λ made. made.state ≡ unconfigured) }
+    {
+        let mut set = DescriptorSet {
+            device,
+            config: Bytes::new(alloc),
+            name: Bytes::new(alloc),
+        };
+        set.config.append(config)?;
+        set.name.append(name)?;
+        let parts = match walk(alloc, config) {
+            Ok(parts) => parts,
+            Err(WalkError::Memory) => return Err(Memory),
+            Err(WalkError::Bad { .. }) => unreachable!(),
+        };
+        Ok(Device {
+            set,
+            parts,
+            state: DevState::unconfigured(),
+        })
+    }
+
+    pub(crate) fn table(&self) -> EpTable
+        ensures { result ≡ table_of self.now.parts self.now.state }
+    {
+        table_of(&self.parts, &self.state)
+    }
+
+    /// The one interface that it has where a configuration is set.
+    pub(crate) fn interfaces(&self) -> InterfaceInfo
+        ensures { result ≡ interfaces_of self.now.parts self.now.state }
+    {
+        let mut info = InterfaceInfo {
+            count: 0,
+            interface: [0; 32],
+            class: [0; 32],
+            subclass: [0; 32],
+            protocol: [0; 32],
+        };
+        if self.state.configuration != 0 {
+            info.count = 1;
+            if let Some(class) = class_of(&self.parts, self.state.alt) {
+                info.class[0] = class.class;
+                info.subclass[0] = class.subclass;
+                info.protocol[0] = class.protocol;
+            }
+        }
+        info
+    }
+
+    /// Whether the endpoint is there and isn't halted.
+    pub(crate) fn is_running(&self, ep: EpAddr) -> bool
+        ensures { result ≡ is_running self.now.parts self.now.state ep }
+    {
+        self.table().row(ep).kind != EpKind::Invalid && !self.state.is_halted(ep)
+    }
+
+    /// Answers a transfer of endpoint 0.
+    pub(crate) fn control(&mut self, alloc: Global, transfer: &Transfer) -> Result<Outcome, Memory>
+        requires { IsSome transfer.now.setup }
+        ensures outcome { IfOk result (λ outcome. outcome ≡ outcome_of self.old.set self.old.parts self.old.state transfer.now) }
+        ensures state { OnOk result (self.new ≡ record self.old { state = state_after self.old.parts self.old.state transfer.now }) }
+        ensures err { OnErr result (self.new ≡ self.old) }
+    {
+        standard(alloc, &self.set, &self.parts, &mut self.state, transfer)
+    }
+}
+
+/// Whether a transfer was a change that succeeded.
+pub(crate) fn is_done_change(transfer: &Transfer, outcome: &Outcome) -> bool
+    ensures { result ≡ (asks_change transfer.now && is_success outcome.now.status) }
+{
+    match &transfer.setup {
+        Some(setup) => {
+            is_change(&route_of(setup)) && matches!(outcome.status, UsbStatus::Success)
+        }
+        None => false,
+    }
+}
+
+/// The refusal of a transfer.
+pub(crate) fn stall(alloc: Global) -> Outcome
+    ensures { result ≡ stall }
+{
+    Outcome {
+        status: UsbStatus::Stall,
+        done: 0,
+        body: Bytes::new(alloc),
+    }
+}

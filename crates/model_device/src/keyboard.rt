@@ -1,0 +1,131 @@
+//! The keyboard: keys pressed one after another.
+#![tactic(auto, unfolding(crate::specs::Keyboard::keyboard))]
+
+ghost use Rattle.std.specs.Prelude.{◌≡◌, OnOk, IfOk};
+ghost use Rattle.model_device.specs.Device.{first_state};
+ghost use Rattle.model_device.specs.Keyboard.{keyboard};
+
+use crate::device::{Device, is_done_change, stall};
+use crate::gadget::Gadget;
+use redir_wire::{Connect, InterfaceInfo};
+use std::alloc::Global;
+use std::marker::Model;
+use usb_base::{Bytes, EpAddr, EpTable, Memory, Outcome, StreamPacket, Transfer, UsbStatus};
+
+/// The device descriptor (USB 2.0, table 9-8).
+const DEVICE: [u8; 18] = [
+    0x12, 0x01, 0x00, 0x02, 0x00, 0x00, 0x00, 0x40, // USB 2.00, no class, packets of 64 bytes
+    0xF0, 0xFF, 0x01, 0x00, 0x00, 0x01, // vendor 0xFFF0, product 1, release 1.00
+    0x00, 0x01, 0x00, 0x01, // string 1 names the product; one configuration
+];
+
+/// The configuration (USB 2.0, tables 9-10, 9-12 and 9-13).
+const CONFIG: [u8; 25] = [
+    0x09, 0x02, 0x19, 0x00, 0x01, 0x01, 0x00, 0x80, 0x32, // 25 bytes, one interface, 100 mA
+    0x09, 0x04, 0x00, 0x00, 0x01, 0xFF, 0x00, 0x00, 0x00, // one endpoint, the vendor's class
+    0x07, 0x05, 0x81, 0x03, 0x08, 0x00, 0x0A, // IN 1: interrupt, 8 bytes, every 10 frames
+];
+
+/// String 1 (USB 2.0, table 9-16): `keyboard`.
+const NAME: [u8; 18] = [
+    0x12, 0x03, 0x6B, 0x00, 0x65, 0x00, 0x79, 0x00, 0x62, 0x00, 0x6F, 0x00, 0x61, 0x00, 0x72, 0x00,
+    0x64, 0x00,
+];
+
+/// The usage ID of the key A (HID Usage Tables, keyboard page).
+const KEY_A: u8 = 4;
+
+/// How many keys there are, A to Z.
+const KEYS: u8 = 26;
+
+/// A full-speed device with an interrupt IN endpoint, on which each offer is a report of the next key. A
+/// change that succeeds begins with A again.
+#[derive(Debug, Drop)]
+pub struct Keyboard {
+    device: Device,
+    /// The key of the next offer, counted from A.
+    key: u8,
+}
+
+impl Model for Keyboard {
+    ghost use Rattle.std.specs.Prelude.{ℕ, ◌<◌};
+    ghost use Rattle.model_device.specs.Device.{State};
+    ghost use Rattle.model_device.specs.Inside.{HasSet};
+    ghost use Rattle.model_device.specs.Keyboard.{keyboard_set};
+
+    ghost Value = { State ℕ };
+
+    ghost view = { λ k. record { device = k.device.state; kept = k.key } };
+
+    ghost invariant = { λ k. HasSet keyboard_set k.device × (k.key < 26) };
+}
+
+impl Keyboard {
+    /// A keyboard that was just plugged in.
+    #[tactic(auto, unfolding(usb_base::specs::Number::le_at, crate::specs::Keyboard::keyboard))]
+    pub fn make(alloc: Global) -> Result<Keyboard, Memory>
+        ensures { IfOk result (λ made. made ≡ first_state keyboard) }
+    {
+        Ok(Keyboard {
+            device: Device::make(alloc, DEVICE, &CONFIG, &NAME)?,
+            key: 0,
+        })
+    }
+}
+
+impl Gadget for Keyboard {
+    ghost use Rattle.model_device.specs.Device.{meaning_of};
+    ghost use Rattle.model_device.specs.inner.Three.{keyboard_lawful};
+
+    ghost meaning = { meaning_of keyboard };
+
+    fn identity(&self) -> Connect {
+        Connect {
+            speed: 1,
+            class: 0,
+            subclass: 0,
+            protocol: 0,
+            vendor: 0xFFF0,
+            product: 1,
+            version: 0x0100,
+        }
+    }
+
+    fn configuration(&self) -> u8 {
+        self.device.state.configuration
+    }
+
+    fn interfaces(&self) -> InterfaceInfo {
+        self.device.interfaces()
+    }
+
+    fn table(&self) -> EpTable {
+        self.device.table()
+    }
+
+    fn perform(&mut self, alloc: Global, transfer: &Transfer) -> Result<Option<Outcome>, Memory> {
+        if transfer.setup.is_none() {
+            return Ok(Some(stall(alloc)));
+        }
+        let outcome = self.device.control(alloc, transfer)?;
+        if is_done_change(transfer, &outcome) {
+            self.key = 0;
+        }
+        Ok(Some(outcome))
+    }
+
+    fn offer(&mut self, alloc: Global, ep: EpAddr) -> Result<Option<StreamPacket>, Memory> {
+        if ep.byte() != 0x81 || !self.device.is_running(ep) {
+            return Ok(None);
+        }
+        let mut body = Bytes::new(alloc);
+        body.append(&[0, 0, KEY_A + self.key, 0, 0, 0, 0, 0])?;
+        self.key = (self.key + 1) % KEYS;
+        Ok(Some(StreamPacket {
+            status: UsbStatus::Success,
+            body,
+        }))
+    }
+
+    ghost lawful = { keyboard_lawful };
+}

@@ -1,0 +1,18 @@
+//! Modelled USB devices: what every device is, and three of them, a keyboard, a loop and a tone.
+#![tactic(auto)]
+
+mod device;
+mod gadget;
+mod keyboard;
+mod loopback;
+mod submit;
+mod tone;
+
+pub use gadget::Gadget;
+pub use keyboard::Keyboard;
+pub use loopback::Loopback;
+pub use submit::submits_ask_transfers;
+pub use tone::Tone;
+
+#[cfg(test)]
+mod tests;
