@@ -6,15 +6,16 @@ use Rattle.std.proofs.lemmas.Bool.Decides.{eqb_tells}
 use Rattle.std.proofs.lemmas.List.{length-map, get_or-map, get_or_default}
 use Rattle.std.proofs.lemmas.List.Sums.{position_or_len_is}
 use Rattle.unlink_race.specs.declared.live.Live.{Live}
+use Rattle.usb_base.specs.declared.endpoint.EpKind.TheVariants.{Bulk}
 use Rattle.unlink_race.specs.declared.live.LiveKind.TheVariants.{Wire}
 use Rattle.unlink_race.specs.declared.table.Row.{Row}
 use Rattle.unlink_race.specs.Searches.{is_stream, has_id}
 
 abbrev pub no_row : Row
-no_row = record { key = 0; kind = Wire 0 }
+no_row = record { key = 0; kind = Wire 0 Bulk }
 
 abbrev pub no_live : Live
-no_live = record { seqnum = 0; id = 0; kind = Wire 0; is_in = false; wanted = 0; flags = 0; packets = 0; descs = []; unlinker = None }
+no_live = record { seqnum = 0; id = 0; kind = Wire 0 Bulk; is_in = false; wanted = 0; flags = 0; packets = 0; descs = []; unlinker = None }
 
 abbrev pub held_at : List ℕ → List Row → ℕ → ℕ → Bool
 held_at ids rows id k = not (is_stream (get_or rows k no_row).kind) && (get_or ids k 0 == id)
@@ -48,7 +49,7 @@ module _ (ids : List ℕ) (rows : List Row) (lives : List Live) (are_ids : ids �
   held : (id k : ℕ) → k < length lives → has_id id (get_or lives k no_live) ≡ held_at ids rows id k
   held id k within =
       let same_kind : (get_or rows k no_row).kind ≡ (get_or lives k no_live).kind =
-      sym (get_or-map (λ r. r.kind) rows k no_row (Wire 0) (omega (arith, long))) ∙ ap (λ ks. get_or ks k (Wire 0)) are_kinds ∙ get_or-map (λ live. live.kind) lives k no_live (Wire 0) within in
+      sym (get_or-map (λ r. r.kind) rows k no_row (Wire 0 Bulk) (omega (arith, long))) ∙ ap (λ ks. get_or ks k (Wire 0 Bulk)) are_kinds ∙ get_or-map (λ live. live.kind) lives k no_live (Wire 0 Bulk) within in
       let same_id : get_or ids k 0 ≡ (get_or lives k no_live).id =
       ap (λ ns. get_or ns k 0) are_ids ∙ get_or-map (λ live. live.id) lives k no_live 0 within in
       rw (same_kind, same_id) refl

@@ -9,6 +9,7 @@ use Rattle.slab.specs.Slab.{Slab, get, slab_len, ContainsKey, Updates, with_valu
 use Rattle.slab.proofs.SlabLemmas.{Updates-with_value, ContainsKey-within}
 use Rattle.unlink_race.specs.declared.live.Live.{Live}
 use Rattle.unlink_race.specs.declared.live.LiveKind.{LiveKind}
+use Rattle.usb_base.specs.declared.endpoint.EpKind.TheVariants.{Bulk}
 use Rattle.unlink_race.specs.declared.live.LiveKind.TheVariants.{Wire}
 use Rattle.unlink_race.specs.declared.table.Row.{Row}
 use Rattle.unlink_race.specs.Inner.Sound.{in_order, IsSound, AreColumns, HasRoom}
@@ -73,7 +74,7 @@ module _ {slab : Slab Live} {rows : List Row} {seqnums ids : List ℕ} (s : IsSo
 
   pub has_key : (i : ℕ) (r : Row) → i < length xs → r ≡ get_or rows i r → ContainsKey slab r.key
   has_key i r within read =
-      let default : Live = record { seqnum = 0; id = 0; kind = Wire 0; is_in = false; wanted = 0; flags = 0; packets = 0; descs = []; unlinker = None } in
+      let default : Live = record { seqnum = 0; id = 0; kind = Wire 0 Bulk; is_in = false; wanted = 0; flags = 0; packets = 0; descs = []; unlinker = None } in
       ap is_some (found_at i r within read ∙ slice_get-get_or xs i default within)
 
   pub removed : (slab' : Slab Live) (rows' : List Row) (seqnums' ids' : List ℕ) (i : ℕ) (r : Row) → i < length xs → r ≡ get_or rows i r → rows' ≡ remove rows i → seqnums' ≡ remove seqnums i → ids' ≡ remove ids i → Updates slab slab' r.key None → slab_len slab' + 1 ≡ slab_len slab → IsSound slab' rows' seqnums' ids' × (in_order slab' rows' ≡ remove xs i)

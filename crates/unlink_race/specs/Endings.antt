@@ -14,6 +14,6 @@ wire_ending by _ = CompletedThenLate by
 
 abbrev pub ending_of : Option ℕ → LiveKind → UsbStatus → Ending
 ending_of None kind status = Completed
-ending_of (Some by) (Wire ep) status = wire_ending by status
+ending_of (Some by) (Wire ep kind) status = wire_ending by status
 ending_of (Some by) (Routed route) status = CompletedThenLate by
 ending_of (Some by) (Stream ep interface) status = CompletedThenLate by

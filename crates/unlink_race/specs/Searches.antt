@@ -10,25 +10,25 @@ use Rattle.unlink_race.specs.declared.live.LiveKind.TheVariants.{Wire, Routed, S
 
 -- it waits for packets of a stream
 abbrev pub is_stream : LiveKind → Bool
-is_stream (Wire ep) = false
+is_stream (Wire ep kind) = false
 is_stream (Routed route) = false
 is_stream (Stream ep interface) = true
 
 -- for those of this endpoint's
 abbrev pub waits_at : ℕ → LiveKind → Bool
-waits_at at (Wire ep) = false
+waits_at at (Wire ep kind) = false
 waits_at at (Routed route) = false
 waits_at at (Stream ep interface) = ep == at
 
 -- for those of a stream that ends once the route is carried out
 abbrev pub is_touched_by : Route → LiveKind → Bool
-is_touched_by by (Wire ep) = false
+is_touched_by by (Wire ep kind) = false
 is_touched_by by (Routed route) = false
 is_touched_by by (Stream ep interface) = touches by interface
 
 -- it changes the device's interfaces
 abbrev pub is_change : LiveKind → Bool
-is_change (Wire ep) = false
+is_change (Wire ep kind) = false
 is_change (Routed route) = is_change_route route
 is_change (Stream ep interface) = false
 

@@ -10,7 +10,7 @@ use Rattle.unlink_race.specs.Searches.{has_number}
 
 -- of a request of this kind that isn't being unlinked
 abbrev pub told_first : LiveKind → Live → UnlinkTold
-told_first (Wire ep) live = Cancel live.id
+told_first (Wire ep kind) live = Cancel live.id
 told_first (Routed route) live = Waits
 told_first (Stream ep interface) live = Taken live
 
@@ -28,7 +28,7 @@ unlinked_by by live = record live { unlinker = Some by }
 
 -- a stream request is taken out, and another is marked
 abbrev pub left_first : ℕ → ℕ → LiveKind → List Live → List Live
-left_first target by (Wire ep) lives = change_first (has_number target) (unlinked_by by) lives
+left_first target by (Wire ep kind) lives = change_first (has_number target) (unlinked_by by) lives
 left_first target by (Routed route) lives = change_first (has_number target) (unlinked_by by) lives
 left_first target by (Stream ep interface) lives = without_first (has_number target) lives
 

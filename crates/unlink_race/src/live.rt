@@ -4,14 +4,14 @@ ghost use Rattle.std.specs.Prelude.{◌≡◌};
 ghost use Rattle.unlink_race.specs.Searches.{is_stream, waits_at, is_touched_by, is_change};
 
 use control_route::Route;
-use usb_base::EpAddr;
+use usb_base::{EpAddr, EpKind};
 use usbip_urb::Descs;
 
 /// What a request waits for.
 #[derive(Clone, Copy, Debug, PartialEq, Eq)]
 pub enum LiveKind {
-    /// The host's answer with its id: it went as a packet with the transfer.
-    Wire { ep: EpAddr },
+    /// The host's answer with its id: it went as a packet with the transfer, of the kind that the endpoint had then.
+    Wire { ep: EpAddr, kind: EpKind },
     /// The host's status with its id: it went as packets of its own, by its route.
     Routed(Route),
     /// Packets of an endpoint's stream. The interface is the one that the stream went up with.

@@ -6,7 +6,7 @@ use crate::{Ending, Live, LiveKind, Lives, NotAccepted, UnlinkTold, ending_of};
 use control_route::Route;
 use std::alloc::Global;
 use std::test::Fail;
-use usb_base::{EpAddr, UsbStatus};
+use usb_base::{EpAddr, EpKind, UsbStatus};
 use usbip_urb::Descs;
 
 fn request(alloc: Global, seqnum: u32, id: u64, kind: LiveKind) -> Live {
@@ -25,7 +25,8 @@ fn request(alloc: Global, seqnum: u32, id: u64, kind: LiveKind) -> Live {
 
 fn wire() -> Result<LiveKind, Fail> {
     let ep = EpAddr::new(0x81).ok_or("no endpoint")?;
-    Ok(LiveKind::Wire { ep })
+    let kind = EpKind::Bulk;
+    Ok(LiveKind::Wire { ep, kind })
 }
 
 fn stream(byte: u8, interface: u8) -> Result<LiveKind, Fail> {
