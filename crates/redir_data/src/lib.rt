@@ -8,6 +8,10 @@ mod read;
 mod redir;
 mod state;
 mod stream;
+#[cfg(test)]
+mod tests;
+#[cfg(test)]
+mod vectors;
 mod write;
 
 pub use laws::{
