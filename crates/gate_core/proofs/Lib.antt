@@ -1,0 +1,20 @@
+pub mod Lists
+mod Rows
+pub mod Steps
+pub mod Runs
+pub mod Openings
+pub mod Cycle
+pub mod Draws
+pub mod Search
+pub mod Ended
+pub mod Once
+pub mod Losses
+pub mod Flights
+pub mod Events
+pub mod Firsts
+pub mod States
+pub mod Brought
+pub mod Interfaces
+pub mod Carried
+pub mod Flying
+pub mod Answered

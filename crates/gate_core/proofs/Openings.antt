@@ -1,0 +1,242 @@
+-- What is true of a submit where an item accepts it, and of an import.
+use Rattle.std.proofs.Common.{◌≡◌, ℕ, suc, ◌<◌, ◌≤◌, ◌&&◌, Bool, true, false, cond, not, eqb, leb, List, [], ◌∷◌, length, Option, Some, None, refl, sym, ap, subst, ◌∙◌, arith}
+use Rattle.std.specs.Prelude.{nat_lt, is_none, ℤ}
+use Rattle.std.proofs.lemmas.Bool.{leb-false, false≢true}
+use Rattle.usb_base.specs.declared.setup.Setup.{Setup}
+use Rattle.usb_base.specs.declared.endpoint.EpKind.{EpKind}
+use Rattle.usb_base.specs.declared.endpoint.EpKind.TheVariants as kind
+use Rattle.usb_base.specs.declared.endpoint.EpRow.{EpRow}
+use Rattle.usb_base.specs.declared.endpoint.EpTable.{EpTable}
+use Rattle.usb_base.specs.declared.refusal.Refusal.{Refusal}
+use Rattle.usb_base.specs.declared.transfer.Transfer.{Transfer}
+use Rattle.usb_base.specs.declared.transfer.Outcome.{Outcome}
+use Rattle.usb_base.specs.Endpoint.{row_of}
+use Rattle.usbip_op.specs.declared.packet.OpPacket.{OpPacket}
+use Rattle.usbip_op.specs.declared.packet.OpPacket.TheVariants as op
+use Rattle.usbip_urb.specs.declared.packet.UrbPacket.{UrbPacket}
+use Rattle.usbip_urb.specs.declared.packet.UrbPacket.TheVariants as urb
+use Rattle.redir_wire.specs.declared.packet.Connect.{Connect}
+use Rattle.redir_wire.specs.declared.packet.Header.{Header}
+use Rattle.redir_wire.specs.declared.packet.RedirControl.TheVariants as plain
+use Rattle.redir_data.specs.declared.packet.RedirPacket.{RedirPacket}
+use Rattle.redir_data.specs.declared.packet.RedirPacket.TheVariants.{Plain}
+use Rattle.usbip_urb.specs.Buffers.{laid}
+use Rattle.control_route.specs.declared.route.Route.{Route}
+use Rattle.control_route.specs.declared.route.Route.TheVariants as route
+use Rattle.control_route.specs.Routes.{route_of}
+use Rattle.usbip_urb.specs.declared.client.ClientPacket.{ClientPacket}
+use Rattle.usbip_urb.specs.declared.client.ClientPacket.TheVariants.{Op, Urb}
+use Rattle.gate_core.specs.Items.{Item, Asked, ClientWrong, ClientLeft, Told, HostWrong, HostLeft}
+use Rattle.gate_core.specs.Errno.{enoent, ebusy, einval, emsgsize, eshutdown}
+use Rattle.gate_core.specs.Requests.{Request, request_of, is_in_setup}
+use Rattle.gate_core.specs.Verdict.{Verdict, Now, max_narrow, none_of, bool_eq, is_invalid, is_control, is_iso, is_narrow, by_route, by_kind, by_endpoint, by_transfer, verdict, goes_by_id}
+use Rattle.gate_core.specs.Built.{is_built}
+use Rattle.gate_core.specs.Marks.{Submission, Effect, Opens}
+use Rattle.gate_core.specs.Sides.{imports}
+use Rattle.gate_core.specs.Submits.{opened, at_once, ends}
+use Rattle.gate_core.specs.Ids.{last_of}
+use Rattle.gate_core.specs.State.{State, next_ids, has_number}
+use Rattle.gate_core.specs.Replies.{is_exported}
+use Rattle.gate_core.specs.Packets.{packets_of}
+use Rattle.gate_core.specs.Responses.{Response, response_of}
+use Rattle.gate_core.specs.Meaning.{may_import, imported_as, op_meaning, verdict_of, drawn_for, submission, accepts, urb_meaning, asked_meaning, answered_as, answer_to, by_response, told_meaning, meaning}
+use Rattle.gate_core.proofs.Lists.{Each}
+
+-- ---- of a verdict
+
+-- a submit that isn't answered at once finds room
+pub verdict-room : (lost : Bool) (n : ℕ) (changing : Bool) (t : EpTable) (wide : Bool) (r : Request) → is_none (at_once (verdict lost n changing t wide r)) ≡ true → n < 4096
+verdict-room lost n changing t wide r h = go lost (leb 4096 n) refl h
+  where
+    go : (l b : Bool) → leb 4096 n ≡ b → is_none (at_once (cond l (Now eshutdown) (cond b (Now ebusy) (by_transfer changing t wide r r.transfer.setup)))) ≡ true → n < 4096
+    go true b e k = absurd (false≢true k)
+    go false true e k = absurd (false≢true k)
+    go false false e k = leb-false 4096 n e
+
+-- one packet at least and two at most
+pub record AreSome {A : Type 0} (xs : List A) : Type 0 where
+  pub more : ℕ
+  pub few : more ≤ 1
+  pub is : length xs ≡ suc more
+
+record Sends (t : Transfer) (v : Verdict) : Type 0 where
+  packets : goes_by_id v ≡ true → AreSome (packets_of v t)
+
+one : {A : Type 0} (x : A) → AreSome (x ∷ [])
+one x = record { more = 0; few = omega arith; is = refl }
+
+silent : (t : Transfer) (v : Verdict) → goes_by_id v ≡ false → Sends t v
+silent t v e = record { packets = λ h. absurd (false≢true (sym e ∙ h)) }
+
+sends-if : (t : Transfer) (b : Bool) (v w : Verdict) → Sends t v → Sends t w → Sends t (cond b v w)
+sends-if t true v w h k = h
+sends-if t false v w h k = k
+
+sends-route : (t : Transfer) (r : Route) → Sends t (by_route r)
+sends-route t route.Local = silent t _ refl
+sends-route t (route.SetConfig configuration) = record { packets = λ h. one _ }
+sends-route t route.GetConfig = record { packets = λ h. one _ }
+sends-route t (route.SetAlt interface alt) = record { packets = λ h. one _ }
+sends-route t (route.GetAlt interface) = record { packets = λ h. one _ }
+sends-route t route.Reset = record { packets = λ h. record { more = 1; few = omega arith; is = refl } }
+sends-route t route.Plain = record { packets = λ h. one _ }
+sends-route t route.Bad = silent t _ refl
+
+sends-kind : (t : Transfer) (r : Request) (row : EpRow) (k : EpKind) → Sends t (by_kind r row k)
+sends-kind t r row kind.Control = silent t _ refl
+sends-kind t r row kind.Iso = sends-if t r.is_in _ _ (silent t _ refl) (silent t _ refl)
+sends-kind t r row kind.Bulk = record { packets = λ h. one _ }
+sends-kind t r row kind.Interrupt = sends-if t r.is_in _ _ (silent t _ refl) (record { packets = λ h. one _ })
+sends-kind t r row kind.Invalid = silent t _ refl
+
+-- else it is answered at once
+unless : (t : Transfer) (b : Bool) (status : ℤ) (w : Verdict) → Sends t w → Sends t (cond b (Now status) w)
+unless t b status w h = sends-if t b (Now status) w (silent t (Now status) refl) h
+
+sends-transfer : (t : Transfer) (changing : Bool) (table : EpTable) (wide : Bool) (r : Request) (o : Option Setup) → Sends t (by_transfer changing table wide r o)
+sends-transfer t changing table wide r (Some s) =
+    unless t (not (none_of r.descs)) einval _
+    (unless t (not (eqb s.length 0) && not (bool_eq (is_in_setup s) r.is_in)) einval _
+    (unless t (not (eqb s.length r.transfer.wanted)) einval _ (sends-route t (route_of s))))
+sends-transfer t changing table wide r None = unless t changing enoent _ (by_row (row_of table r.transfer.ep))
+  where
+    by_row : (row : EpRow) → Sends t (by_endpoint wide r row)
+    by_row row =
+        unless t (is_invalid row.kind) enoent _
+        (unless t (is_control row.kind) einval _
+        (unless t (bool_eq (is_iso row.kind) (none_of r.descs)) einval _
+        (unless t (not (laid r.descs r.transfer.wanted)) einval _
+        (unless t (is_narrow wide r.is_in row.kind && nat_lt max_narrow r.transfer.wanted) emsgsize _ (sends-kind t r row row.kind)))))
+
+pub verdict-sends : (t : Transfer) (lost : Bool) (n : ℕ) (changing : Bool) (table : EpTable) (wide : Bool) (r : Request) → goes_by_id (verdict lost n changing table wide r) ≡ true → AreSome (packets_of (verdict lost n changing table wide r) t)
+verdict-sends t lost n changing table wide r = all.packets
+  where
+    all : Sends t (verdict lost n changing table wide r)
+    all = unless t lost eshutdown _ (unless t (leb 4096 n) ebusy _ (sends-transfer t changing table wide r r.transfer.setup))
+
+-- ---- of an effect
+
+-- the id was drawn
+pub record IsDrawn (st : State) (id : ℕ) : Type 0 where
+  pub more : ℕ
+  pub few : more ≤ 1
+  pub is : id ≡ last_of 0 (next_ids st (suc more))
+
+pub record IsOpening (st : State) (e : Effect) : Type 0 where
+  -- a client that has imported accepts, a number that isn't live is accepted, and an import finds nothing abandoned
+  pub imported : Each (λ s. st.imported ≡ true) (opened e)
+  pub new : Each (λ s. has_number st s.request.number ≡ false) (opened e)
+  pub alone : imports e ≡ true → st.abandoned ≡ []
+  -- one that lives on finds room, and its id was drawn
+  pub room : Each (λ s. is_none (ends e s) ≡ true → length st.live < 4096) (opened e)
+  pub drawn : Each (λ s. is_none (ends e s) ≡ true → goes_by_id s.verdict ≡ true → IsDrawn st s.id) (opened e)
+
+-- one that opens nothing and imports nothing
+none : (st : State) (e : Effect) → opened e ≡ [] → imports e ≡ false → IsOpening st e
+none st e nil k = record {
+  imported = subst (Each (λ s. st.imported ≡ true)) (sym nil) tt;
+  new = subst (Each (λ s. has_number st s.request.number ≡ false)) (sym nil) tt;
+  alone = λ h. absurd (false≢true (sym k ∙ h));
+  room = subst (Each (λ s. is_none (ends e s) ≡ true → length st.live < 4096)) (sym nil) tt;
+  drawn = subst (Each (λ s. is_none (ends e s) ≡ true → goes_by_id s.verdict ≡ true → IsDrawn st s.id)) (sym nil) tt;
+}
+
+-- by a test
+when : (st : State) (b : Bool) (e f : Effect) → (b ≡ true → IsOpening st e) → (b ≡ false → IsOpening st f) → IsOpening st (cond b e f)
+when st true e f h k = h refl
+when st false e f h k = k refl
+
+both-right : (a b : Bool) → (a && b) ≡ true → b ≡ true
+both-right true b e = e
+both-right false b e = absurd (false≢true e)
+
+none-nil : {A : Type 0} (xs : List A) → none_of xs ≡ true → xs ≡ []
+none-nil [] e = refl
+none-nil (x ∷ xs) e = absurd (false≢true e)
+
+opening-import : (st : State) (o : Option Connect) → st.abandoned ≡ [] → IsOpening st (imported_as st o)
+opening-import st None h = none st (imported_as st None) refl refl
+opening-import st (Some c) h = record { imported = tt; new = tt; alone = λ k. h; room = tt; drawn = tt }
+
+opening-op : (st : State) (place : ℕ) (p : OpPacket) → IsOpening st (op_meaning st place p)
+opening-op st place (op.ReqDevlist status) = when st st.imported _ _ (λ h. none st _ refl refl) (λ h. none st _ refl refl)
+opening-op st place (op.ReqImport status busid) =
+    when st st.imported _ _ (λ h. none st _ refl refl)
+    (λ h. when st (may_import st busid) _ _ (λ k. opening-import st st.facts.connect (none-nil st.abandoned (both-right (is_exported busid) (none_of st.abandoned) k))) (λ k. none st _ refl refl))
+opening-op st place (op.RepDevlist status devices) = none st _ refl refl
+opening-op st place (op.RepImport status device) = none st _ refl refl
+
+own : (n : ℕ) → eqb n n ≡ true
+own n = grind arith
+
+-- it lives on where its verdict doesn't answer it
+lives-on : (s : Submission) → is_none (ends (Opens s) s) ≡ true → is_none (at_once s.verdict) ≡ true
+lives-on s h = sym (ap (λ (b : Bool). is_none (cond b (at_once s.verdict) None)) (own s.place)) ∙ h
+
+opening-submit : (st : State) (place : ℕ) (r : Request) → st.imported ≡ true → has_number st r.number ≡ false → IsOpening st (accepts st place r (verdict_of st r))
+opening-submit st place r in_session new =
+    when st (is_built v) _ _
+    (λ h. record {
+      imported = (in_session, tt);
+      new = (new, tt);
+      alone = λ k. absurd (false≢true k);
+      room = (λ k. verdict-room st.lost (length st.live) _ st.facts.table _ r (lives-on s k), tt);
+      drawn = (λ k by. id-drawn (verdict-sends r.transfer st.lost (length st.live) _ st.facts.table _ r by), tt);
+    })
+    (λ h. record {
+      imported = (in_session, tt);
+      new = (new, tt);
+      alone = λ k. absurd (false≢true k);
+      room = (λ k. absurd (false≢true k), tt);
+      drawn = (λ k by. absurd (false≢true k), tt);
+    })
+  where
+    v : Verdict
+    v = verdict_of st r
+
+    s : Submission
+    s = submission st r v (drawn_for st r v)
+
+    id-drawn : AreSome (packets_of v r.transfer) → IsDrawn st s.id
+    id-drawn a = record { more = a.more; few = a.few; is = ap (λ (n : ℕ). last_of 0 (next_ids st n)) a.is }
+
+not-false : (b : Bool) → not b ≡ false → b ≡ true
+not-false true e = refl
+not-false false e = sym e
+
+opening-urb : (st : State) (place : ℕ) (p : UrbPacket) → IsOpening st (urb_meaning st place p)
+opening-urb st place (urb.Submit s) =
+    when st (not st.imported) _ _ (λ h. none st _ refl refl)
+    (λ h. when st (has_number st s.head.seqnum) _ _ (λ k. none st _ refl refl) (λ k. opening-submit st place (request_of s) (not-false st.imported h) k))
+opening-urb st place (urb.Unlink u) = when st (not st.imported) _ _ (λ h. none st _ refl refl) (λ h. none st _ refl refl)
+opening-urb st place (urb.RetSubmit r) = none st _ refl refl
+opening-urb st place (urb.RetUnlink r) = none st _ refl refl
+
+opening-asked : (st : State) (place : ℕ) (p : ClientPacket) → IsOpening st (asked_meaning st place p)
+opening-asked st place (Op p) = opening-op st place p
+opening-asked st place (Urb p) = opening-urb st place p
+
+opening-answered : (st : State) (id : ℕ) (o : Outcome) (r : Option Refusal) → IsOpening st (answered_as id o r)
+opening-answered st id o None = none st (answered_as id o None) refl refl
+opening-answered st id o (Some r) = none st (answered_as id o (Some r)) refl refl
+
+opening-answer : (st : State) (place : ℕ) (h : Header) (response : Response) (s : Option Submission) → IsOpening st (answer_to st place h response s)
+opening-answer st place h response None = none st (answer_to st place h response None) refl refl
+opening-answer st place h response (Some s) = opening-answered st h.id _ _
+
+opening-response : (st : State) (place : ℕ) (h : Header) (response : Option Response) → IsOpening st (by_response st place h response)
+opening-response st place h None = none st (by_response st place h None) refl refl
+opening-response st place h (Some response) = opening-answer st place h response _
+
+opening-told : (st : State) (place : ℕ) (h : Header) (p : RedirPacket) → IsOpening st (told_meaning st place h p)
+opening-told st place h (Plain (plain.Hello hello)) = none st (told_meaning st place h (Plain (plain.Hello hello))) refl refl
+opening-told st place h (Plain plain.Disconnect) = none st (told_meaning st place h (Plain plain.Disconnect)) refl refl
+opening-told st place h p = opening-response st place h (response_of p)
+
+pub opening-meaning : (st : State) (x : Item) → IsOpening st (meaning st x)
+opening-meaning st (Asked place packet) = opening-asked st place packet
+opening-meaning st (ClientWrong place reason) = none st (meaning st (ClientWrong place reason)) refl refl
+opening-meaning st ClientLeft = none st (meaning st ClientLeft) refl refl
+opening-meaning st (Told place header packet) = opening-told st place header packet
+opening-meaning st (HostWrong place reason) = none st (meaning st (HostWrong place reason)) refl refl
+opening-meaning st HostLeft = none st (meaning st HostLeft) refl refl

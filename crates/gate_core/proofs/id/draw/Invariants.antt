@@ -1,0 +1,16 @@
+use Rattle.std.proofs.Common.{◌≡◌, length}
+use Rattle.gate_core.specs.Ids.{free_from, draw, greatest, Fits}
+use Rattle.gate_core.specs.inner.Flying.{ids_in}
+use Rattle.gate_core.proofs.Search.{passes}
+use Rattle.gate_core.proofs.id.draw.Given as goal
+
+-- the rest of the search finds what the whole does
+abbrev pub invariant-loop-id : goal.invariant-loop-id
+invariant-loop-id l = record {
+  most : l.greatest ≡ greatest l.wide;
+  fits : Fits l.greatest l.id;
+  same : free_from l.greatest (ids_in l.lives) (length (ids_in l.lives)) l.id ≡ draw (greatest l.wide) (ids_in l.lives) l.last;
+}
+
+abbrev pub decreases-loop-id : goal.decreases-loop-id
+decreases-loop-id l = passes l.greatest (ids_in l.lives) (length (ids_in l.lives)) l.id

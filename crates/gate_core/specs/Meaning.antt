@@ -1,0 +1,141 @@
+-- What an item means, by what the past says: its effect, the fact that it tells, and the ids of its packets.
+use Rattle.std.specs.Prelude.{ℕ, ◌+◌, ◌==◌, ◌&&◌, not, Bool, if◌then◌else◌, List, [], ◌++◌, length, Option, Some, None}
+use Rattle.std.specs.List.{find}
+use Rattle.usb_base.specs.declared.side.Side.{Side}
+use Rattle.usb_base.specs.declared.side.Side.TheVariants.{Client, Host}
+use Rattle.usb_base.specs.declared.reason.Reason.{Reason}
+use Rattle.usb_base.specs.declared.reason.Reason.TheVariants.{NotImported, AlreadyImported, DuplicateSeq}
+use Rattle.usb_base.specs.declared.refusal.Refusal.{Refusal}
+use Rattle.usb_base.specs.declared.transfer.Outcome.{Outcome}
+use Rattle.usbip_op.specs.declared.packet.OpPacket.{OpPacket}
+use Rattle.usbip_op.specs.declared.packet.OpPacket.TheVariants as op
+use Rattle.usbip_urb.specs.declared.packet.UrbPacket.{UrbPacket}
+use Rattle.usbip_urb.specs.declared.packet.UrbPacket.TheVariants as urb
+use Rattle.redir_wire.specs.declared.packet.Connect.{Connect}
+use Rattle.redir_wire.specs.declared.packet.Header.{Header}
+use Rattle.redir_wire.specs.declared.packet.RedirControl.TheVariants as plain
+use Rattle.redir_wire.specs.Capability.{announced, caps_of, agreed}
+use Rattle.redir_wire.specs.Header.{head_size}
+use Rattle.redir_data.specs.declared.packet.RedirPacket.{RedirPacket}
+use Rattle.redir_data.specs.declared.packet.RedirPacket.TheVariants.{Plain}
+use Rattle.usbip_urb.specs.declared.client.ClientPacket.{ClientPacket}
+use Rattle.usbip_urb.specs.declared.client.ClientPacket.TheVariants.{Op, Urb}
+use Rattle.gate_core.specs.Items.{Item, Asked, ClientWrong, ClientLeft, Told, HostWrong, HostLeft}
+use Rattle.gate_core.specs.Requests.{Request, request_of}
+use Rattle.gate_core.specs.Verdict.{Verdict, verdict, none_of}
+use Rattle.gate_core.specs.Marks.{Submission, Fact, Connected, Interfaces, Endpoints, Configuration, Effect, Idle, Replies, Imports, Opens, Unbuilt, Unlinks, Agrees, Answers, Disconnects, Ends, Refuses, Mark}
+use Rattle.gate_core.specs.Sides.{refusal}
+use Rattle.gate_core.specs.Ids.{last_of}
+use Rattle.gate_core.specs.Submits.{has_id}
+use Rattle.gate_core.specs.Flight.{wide_ids, wide_bulk}
+use Rattle.gate_core.specs.State.{State, submits, next_ids, has_number, change_waits}
+use Rattle.gate_core.specs.Replies.{list_reply, import_reply, failed_import, is_exported}
+use Rattle.gate_core.specs.Packets.{packets_of}
+use Rattle.gate_core.specs.Responses.{Response, response_of, mismatch, seen}
+use Rattle.gate_core.specs.Built.{is_built}
+use Rattle.redir_wire.specs.EpTable.{table_of}
+
+abbrev pub refused : Side → ℕ → Reason → Effect
+refused side place reason = Refuses (refusal side place reason)
+
+-- ---- list and import requests
+
+-- an import waits until the host has answered all that an earlier client left
+abbrev pub may_import : State → List ℕ → Bool
+may_import st busid = is_exported busid && none_of st.abandoned
+
+abbrev pub imported_as : State → Option Connect → Effect
+imported_as st None = Replies failed_import
+imported_as st (Some c) = Imports (import_reply st.facts c)
+
+abbrev pub op_meaning : State → ℕ → OpPacket → Effect
+op_meaning st place (op.ReqDevlist status) = if st.imported then refused Client place AlreadyImported else Replies (list_reply st.facts)
+op_meaning st place (op.ReqImport status busid) =
+    if st.imported then refused Client place AlreadyImported
+    else if may_import st busid then imported_as st st.facts.connect
+    else Replies failed_import
+op_meaning st place (op.RepDevlist status devices) = Idle
+op_meaning st place (op.RepImport status device) = Idle
+
+-- ---- submits and unlinks
+
+abbrev pub verdict_of : State → Request → Verdict
+verdict_of st r = verdict st.lost (length st.live) (change_waits st) st.facts.table (wide_bulk st.agreed) r
+
+-- the ids of the packets that ask the host for it
+abbrev pub drawn_for : State → Request → Verdict → List ℕ
+drawn_for st r v = next_ids st (length (packets_of v r.transfer))
+
+abbrev pub submission : State → Request → Verdict → List ℕ → Submission
+submission st r v ids = record { place = st.items; request = r; verdict = v; id = last_of 0 ids }
+
+abbrev pub accepts : State → ℕ → Request → Verdict → Effect
+accepts st place r v = if is_built v then Opens (submission st r v (drawn_for st r v)) else Unbuilt (submission st r v []) place
+
+abbrev pub urb_meaning : State → ℕ → UrbPacket → Effect
+urb_meaning st place (urb.Submit s) =
+    if not st.imported then refused Client place NotImported
+    else if has_number st s.head.seqnum then refused Client (place + 4) DuplicateSeq
+    else accepts st place (request_of s) (verdict_of st (request_of s))
+urb_meaning st place (urb.Unlink u) =
+    if not st.imported then refused Client place NotImported
+    else Unlinks u.head.seqnum u.target
+urb_meaning st place (urb.RetSubmit r) = Idle
+urb_meaning st place (urb.RetUnlink r) = Idle
+
+abbrev pub asked_meaning : State → ℕ → ClientPacket → Effect
+asked_meaning st place (Op p) = op_meaning st place p
+asked_meaning st place (Urb p) = urb_meaning st place p
+
+-- ---- the host's packets
+
+abbrev pub answered_as : ℕ → Outcome → Option Refusal → Effect
+answered_as id o None = Answers id o
+answered_as id o (Some r) = Refuses r
+
+-- an answer to nobody means nothing
+abbrev pub answer_to : State → ℕ → Header → Response → Option Submission → Effect
+answer_to st place h response None = Idle
+answer_to st place h response (Some s) = answered_as h.id (seen s.request s.verdict response) (mismatch place (head_size (wide_ids st.agreed)) s h.kind response)
+
+abbrev pub by_response : State → ℕ → Header → Option Response → Effect
+by_response st place h None = Idle
+by_response st place h (Some response) = answer_to st place h response (find (has_id h.id) (submits st ++ st.abandoned))
+
+abbrev pub told_meaning : State → ℕ → Header → RedirPacket → Effect
+told_meaning st place h (Plain (plain.Hello hello)) = Agrees (agreed (caps_of hello) announced)
+told_meaning st place h (Plain plain.Disconnect) = Disconnects h.id
+told_meaning st place h p = by_response st place h (response_of p)
+
+abbrev pub meaning : State → Item → Effect
+meaning st (Asked place packet) = asked_meaning st place packet
+meaning st (ClientWrong place reason) = refused Client place reason
+meaning st ClientLeft = Ends Client
+meaning st (Told place header packet) = told_meaning st place header packet
+meaning st (HostWrong place reason) = refused Host place reason
+meaning st HostLeft = Ends Host
+
+-- ---- the fact that it tells
+
+abbrev pub fact_of : RedirPacket → Option Fact
+fact_of (Plain (plain.Connect connect)) = Some (Connected connect)
+fact_of (Plain (plain.InterfaceInfo info)) = Some (Interfaces info)
+fact_of (Plain (plain.EpInfo info)) = Some (Endpoints (table_of info))
+fact_of (Plain (plain.ConfigurationStatus status configuration)) = if status == 0 then Some (Configuration configuration) else None
+fact_of _ = None
+
+abbrev pub told_by : Item → Option Fact
+told_by (Told place header packet) = fact_of packet
+told_by _ = None
+
+-- ---- the ids of its packets
+
+abbrev pub drawn_by : State → Effect → List ℕ
+drawn_by st (Opens s) = drawn_for st s.request s.verdict
+drawn_by st _ = []
+
+abbrev pub mark_as : State → Effect → Option Fact → Mark
+mark_as st e told = record { what = e; told = told; drawn = drawn_by st e }
+
+abbrev pub mark_of : State → Item → Mark
+mark_of st x = mark_as st (meaning st x) (told_by x)

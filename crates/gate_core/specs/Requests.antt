@@ -1,0 +1,47 @@
+-- What a submit asks for, beside the bytes that it is written in.
+use Rattle.std.specs.Prelude.{ℕ, ◌+◌, ◌==◌, nat_lt, Bool, not, if◌then◌else◌, List, Some, None}
+use Rattle.usb_base.specs.Setup.{setup_at}
+use Rattle.usb_base.specs.declared.setup.Setup.{Setup}
+use Rattle.usb_base.specs.declared.transfer.Transfer.{Transfer}
+use Rattle.usbip_urb.specs.declared.packet.IsoDesc.{IsoDesc}
+use Rattle.usbip_urb.specs.declared.packet.Submit.{Submit}
+use Rattle.usbip_urb.specs.Sizes.{is_out}
+
+-- a transfer, and what its answer has of the submit
+pub record Request : Type 0 where
+  pub number : ℕ
+  pub is_in : Bool
+  pub flags : ℕ
+  -- number_of_packets, which the answer echoes
+  pub packets : ℕ
+  pub descs : List IsoDesc
+  pub transfer : Transfer
+
+-- bit 7 of an endpoint's address is its direction
+abbrev pub address : Bool → ℕ → ℕ
+address is_in ep = if is_in then ep + 128 else ep
+
+-- a control transfer's direction is that of its setup
+abbrev pub is_in_setup : Setup → Bool
+is_in_setup s = not (nat_lt s.kind 128)
+
+abbrev pub transfer_by : Bool → Submit → Transfer
+transfer_by control s = record {
+  ep = if control then address (is_in_setup (setup_at s.setup)) 0 else address (not (is_out s.head.direction)) s.head.ep;
+  setup = if control then Some (setup_at s.setup) else None;
+  wanted = s.length;
+  body = s.body;
+}
+
+abbrev pub transfer_of : Submit → Transfer
+transfer_of s = transfer_by (s.head.ep == 0) s
+
+abbrev pub request_of : Submit → Request
+request_of s = record {
+  number = s.head.seqnum;
+  is_in = not (is_out s.head.direction);
+  flags = s.flags;
+  packets = s.packets;
+  descs = s.descs;
+  transfer = transfer_of s;
+}

@@ -1,0 +1,7 @@
+-- What the code's own values are of the definitions.
+pub mod Views
+pub mod Asked
+pub mod Responses
+pub mod Carried
+pub mod Flying
+pub mod Rows

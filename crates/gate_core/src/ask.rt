@@ -1,0 +1,170 @@
+//! The packets to the host: its hello, those that ask for a transfer, cancels and acknowledgements.
+
+ghost use Rattle.std.specs.Prelude.{◌≡◌, ◌++◌, ◌∷◌, [], true, length, zip, All, OnOk, OnErr};
+ghost use Rattle.std.specs.List.{flat_map};
+ghost use Rattle.redir_wire.specs.Header.{IdFits};
+ghost use Rattle.redir_wire.specs.Capability.{has, no_caps};
+ghost use Rattle.redir_wire.specs.declared.packet.RedirControl.TheVariants.{Cancel, DisconnectAck, Reset as ResetPacket, GetConfiguration as GetConfigurationPacket};
+ghost use Rattle.redir_data.specs.declared.packet.RedirPacket.TheVariants.{Plain, Carrying};
+ghost use Rattle.gate_core.specs.Packets.{wire_packet, route_packets};
+ghost use Rattle.gate_core.specs.Bytes.{host_packet_bytes, gateway_hello};
+ghost use Rattle.gate_core.specs.Flight.{wide_ids, wide_bulk};
+ghost use Rattle.gate_core.specs.inner.Views.{pipe_view};
+ghost use Rattle.gate_core.specs.inner.Carried.{HasItsSetup, LengthFits, IsSent};
+
+use crate::field::field;
+use crate::verdict::Pipe;
+use control_route::Route;
+use redir_data::{RedirData, write_data};
+use redir_wire::{ANNOUNCED, Caps, Hello, RedirControl, Way, Words, write_control};
+use std::alloc::Global;
+use usb_base::{Bytes, Memory, Transfer};
+
+/// Appends the packet that carries a transfer to the host, with this id. The transfer's body is moved into the packet,
+/// and copied once, to `out`, which stands for want of memory.
+pub fn write_wire(
+    pipe: Pipe,
+    transfer: Transfer,
+    id: u64,
+    caps: Caps,
+    out: &mut Bytes,
+) -> Result<(), Memory>
+    requires sent { IsSent (wide_bulk caps) (pipe_view pipe) transfer }
+    requires id_fits { IdFits (wide_ids caps) id }
+    ensures ok { OnOk result (out.new ≡ out.old ++ host_packet_bytes caps (id, wire_packet (pipe_view pipe) transfer)) }
+    ensures err { OnErr result (out.new ≡ out.old) }
+{
+    let packet = wire_packet(pipe, transfer);
+    write_data(&packet, id, Way::ToHost, caps, out)
+}
+
+// The packet that carries a transfer to the host.
+fn wire_packet(pipe: Pipe, transfer: Transfer) -> RedirData
+    requires setup { HasItsSetup (pipe_view pipe) transfer.setup transfer.wanted }
+    requires length_fits { LengthFits true (pipe_view pipe) transfer.wanted }
+    ensures { Carrying result ≡ wire_packet (pipe_view pipe) transfer }
+{
+    let Transfer {
+        ep,
+        setup,
+        wanted,
+        body,
+    } = transfer;
+    let endpoint = ep.byte();
+    match pipe {
+        Pipe::Control => {
+            let setup = setup.unwrap();
+            RedirData::Control {
+                endpoint,
+                request: setup.request,
+                kind: setup.kind,
+                status: 0,
+                value: setup.value,
+                index: setup.index,
+                length: setup.length,
+                body,
+            }
+        }
+        Pipe::Bulk => RedirData::Bulk {
+            endpoint,
+            status: 0,
+            length: wanted,
+            stream: 0,
+            body,
+        },
+        Pipe::InterruptOut => RedirData::Interrupt {
+            endpoint,
+            status: 0,
+            length: wanted as u16,
+            body,
+        },
+    }
+}
+
+/// Appends the packets that ask for a route, each with an id of its own: two for a reset, and one for any other. For
+/// want of memory `out` stands.
+pub fn write_route(route: &Route, ids: &[u64], caps: Caps, out: &mut Bytes) -> Result<(), Memory>
+    requires count { length ids.now ≡ length (route_packets route.now) }
+    requires ids_fit { All (IdFits (wide_ids caps)) ids.now }
+    ensures ok { OnOk result (out.new ≡ out.old ++ flat_map (host_packet_bytes caps) (zip ids.now (route_packets route.now))) }
+    ensures err { OnErr result (out.new ≡ out.old) }
+{
+    match (route, ids) {
+        (Route::SetConfig(configuration), [id]) => {
+            let packet = RedirControl::SetConfiguration {
+                configuration: *configuration,
+            };
+            write_control(&packet, *id, caps, out)
+        }
+        (Route::GetConfig, [id]) => {
+            write_control(&RedirControl::GetConfiguration, *id, caps, out)
+        }
+        (Route::SetAlt { interface, alt }, [id]) => {
+            let packet = RedirControl::SetAlt {
+                interface: *interface,
+                alt: *alt,
+            };
+            write_control(&packet, *id, caps, out)
+        }
+        (Route::GetAlt(interface), [id]) => {
+            let packet = RedirControl::GetAlt {
+                interface: *interface,
+            };
+            write_control(&packet, *id, caps, out)
+        }
+        (Route::Reset, [first, second]) => write_reset(*first, *second, caps, out),
+        _ => Ok(()),
+    }
+}
+
+// A reset has no answer: what the configuration is after it is asked for.
+fn write_reset(first: u64, second: u64, caps: Caps, out: &mut Bytes) -> Result<(), Memory>
+    requires first_fits { IdFits (wide_ids caps) first }
+    requires second_fits { IdFits (wide_ids caps) second }
+    ensures ok { OnOk result (out.new ≡ out.old ++ host_packet_bytes caps (first, Plain ResetPacket) ++ host_packet_bytes caps (second, Plain GetConfigurationPacket)) }
+    ensures err { OnErr result (out.new ≡ out.old) }
+{
+    let before = out.len();
+    write_control(&RedirControl::Reset, first, caps, out)?;
+    match write_control(&RedirControl::GetConfiguration, second, caps, out) {
+        Ok(()) => Ok(()),
+        Err(memory) => {
+            out.cut(before);
+            Err(memory)
+        }
+    }
+}
+
+/// Appends the cancel of the packet that has this id. For want of memory `out` stands.
+pub fn write_cancel(id: u64, caps: Caps, out: &mut Bytes) -> Result<(), Memory>
+    requires { IdFits (wide_ids caps) id }
+    ensures ok { OnOk result (out.new ≡ out.old ++ host_packet_bytes caps (id, Plain Cancel)) }
+    ensures err { OnErr result (out.new ≡ out.old) }
+{
+    write_control(&RedirControl::Cancel, id, caps, out)
+}
+
+/// Appends the acknowledgement of the disconnect that has this id, which is sent where capability 3 is agreed. For want
+/// of memory `out` stands.
+pub fn write_disconnect_ack(id: u64, caps: Caps, out: &mut Bytes) -> Result<(), Memory>
+    requires agreed { has caps 3 ≡ true }
+    requires id_fits { IdFits (wide_ids caps) id }
+    ensures ok { OnOk result (out.new ≡ out.old ++ host_packet_bytes caps (id, Plain DisconnectAck)) }
+    ensures err { OnErr result (out.new ≡ out.old) }
+{
+    write_control(&RedirControl::DisconnectAck, id, caps, out)
+}
+
+/// Appends the gateway's hello: its name, and the capabilities that it announces. For want of memory `out` stands.
+pub fn write_hello(alloc: Global, out: &mut Bytes) -> Result<(), Memory>
+    ensures ok { OnOk result (out.new ≡ out.old ++ host_packet_bytes no_caps (0, gateway_hello)) }
+    ensures err { OnErr result (out.new ≡ out.old) }
+{
+    let mut words = Words::new(alloc);
+    words.push(ANNOUNCED)?;
+    let hello = Hello {
+        version: field(b"usbgate 1"),
+        words,
+    };
+    write_control(&RedirControl::Hello(hello), 0, Caps { bits: 0 }, out)
+}

@@ -1,0 +1,76 @@
+//! Laws of the core's definitions, as contracts of functions that do nothing.
+
+ghost use Rattle.std.specs.Prelude.{◌≡◌, ◌<◌, ◌↔◌, ℕ, List, ◌∷◌, length, filter};
+ghost use Rattle.std.specs.List.{list_any};
+ghost use Rattle.gate_core.specs.Events.{Event as PastEvent};
+ghost use Rattle.gate_core.specs.Items.{Item};
+ghost use Rattle.gate_core.specs.Ids.{draw, greatest, IsNext, AreFresh, Once};
+ghost use Rattle.gate_core.specs.Submits.{live};
+ghost use Rattle.gate_core.specs.Flight.{wide_ids, in_flight};
+ghost use Rattle.gate_core.specs.State.{state_of, is_number};
+ghost use Rattle.gate_core.specs.Meaning.{mark_of};
+ghost use Rattle.gate_core.specs.Past.{past};
+ghost use Rattle.gate_core.specs.History.{brought, history};
+ghost use Rattle.gate_core.specs.Output.{to_client, to_host};
+ghost use Rattle.gate_core.specs.Notes.{notes_of, dropped};
+ghost use Rattle.gate_core.specs.All.{all_of, counts_of};
+ghost use Rattle.gate_core.specs.Bytes.{client_bytes_of, host_bytes_of};
+ghost use Rattle.gate_core.specs.Machine.{run, run_counts, steps, GivesPast, AddsItems};
+ghost use Rattle.gate_core.specs.Turns.{turns, Alternate, is_answer, answered_ends};
+ghost use Rattle.gate_core.specs.Losses.{Loses, EndsAll};
+ghost use Rattle.gate_core.specs.Sound.{IsSound};
+
+/// A law: the machine's state is what the searches of the past find, and it sends, tells and counts the same.
+pub fn machine_is_past()
+    ensures state { (first : ℕ) (items : List Item) → state_of first (past first items) ≡ run first items }
+    ensures client { GivesPast to_client }
+    ensures host { GivesPast to_host }
+    ensures client_bytes { GivesPast client_bytes_of }
+    ensures host_bytes { GivesPast host_bytes_of }
+    ensures notes { GivesPast notes_of }
+    ensures counts { (first : ℕ) (items : List Item) → counts_of first (past first items) ≡ run_counts first items }
+{}
+
+/// A law: one event more is the items that it brings, one after another, to the state and to all that was given.
+pub fn events_add_items()
+    ensures state { (first : ℕ) (events : List PastEvent) (event : PastEvent)
+        → state_of first (history first (event ∷ events)) ≡ steps (state_of first (history first events)) (brought events event) }
+    ensures client { AddsItems to_client }
+    ensures client_bytes { AddsItems client_bytes_of }
+    ensures host_bytes { AddsItems host_bytes_of }
+    ensures notes { AddsItems notes_of }
+    ensures dropped { AddsItems dropped }
+{}
+
+/// A law: of each number, submits and their ends alternate, a submit first. The answers that are sent are as many
+/// as the ends that aren't a client's leaving.
+pub fn submits_end_once()
+    ensures alternate { (first : ℕ) (items : List Item) (number : ℕ)
+        → Alternate (list_any (is_number number) (live (past first items))) (turns (past first items) number) }
+    ensures answered { (first : ℕ) (items : List Item)
+        → length (filter is_answer (all_of to_client first (past first items))) ≡ length (answered_ends (past first items)) }
+{}
+
+/// A law: with a loss of the device each submit that is live gets one answer, none is live after it, and none that
+/// was accepted before it is live later.
+pub fn losses_end_all()
+    ensures { (first : ℕ) (items : List Item) (item : Item)
+        → Loses (state_of first (past first items)) item → EndsAll first items item }
+{}
+
+/// A law: after every past few requests are live, what a former client left is gone before the next one has
+/// imported, and a number and an id are each that of one request at most.
+pub fn states_are_sound()
+    ensures { (first : ℕ) (items : List Item) → IsSound (state_of first (past first items)) }
+{}
+
+/// A law: no id is in flight twice. The ids that an item draws are in range and in flight nowhere, and no two are
+/// one. A drawn id is the first after the last one that isn't in flight.
+pub fn ids_fly_once()
+    ensures once { (first : ℕ) (items : List Item) → Once (in_flight (past first items)) }
+    ensures fresh { (first : ℕ) (items : List Item) (item : Item)
+        → AreFresh (greatest (wide_ids (state_of first (past first items)).agreed)) (in_flight (past first items))
+        (mark_of (state_of first (past first items)) item).drawn }
+    ensures next { (m : ℕ) (flying : List ℕ) (last id : ℕ)
+        → length flying < m → (id ≡ draw m flying last ↔ IsNext m flying last id) }
+{}

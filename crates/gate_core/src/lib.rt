@@ -1,0 +1,31 @@
+//! The gateway's core: what the packets of a USB/IP client and of a usbredir host mean in the order in which
+//! they become whole, and what is sent to each side for them.
+#![tactic(auto)]
+
+mod answer;
+mod ask;
+mod errno;
+mod event;
+mod facts;
+mod field;
+mod finish;
+mod id;
+mod laws;
+mod note;
+mod reply;
+mod request;
+mod response;
+mod verdict;
+
+pub use event::Event;
+pub use facts::Facts;
+pub use laws::{
+    events_add_items, ids_fly_once, losses_end_all, machine_is_past, states_are_sound,
+    submits_end_once,
+};
+pub use note::{Counts, Note, Notes};
+pub use request::Request;
+pub use verdict::{MAX_LIVE, Pipe, Verdict, decide};
+
+#[cfg(test)]
+mod tests;

@@ -1,0 +1,40 @@
+//! What the gateway tells of an event, beside the bytes that it sends.
+
+use usb_base::{EpAddr, List, Refusal};
+
+/// What an event told.
+#[derive(Clone, Copy, Debug, PartialEq, Eq)]
+pub enum Note {
+    /// The client has imported the device.
+    Imported,
+    /// A submit was accepted. The id is that of its packet to the host, 0 where its answer goes by none.
+    Submitted { seqnum: u32, id: u64 },
+    /// An unlink `by` asks for the submit `target` to be taken back.
+    UnlinkAsked { by: u32, target: u32 },
+    /// A packet came from an endpoint whose stream is up.
+    Arrived { ep: EpAddr },
+    /// A submit ended by its answer or by its stream's packets.
+    Answered { seqnum: u32 },
+    /// The imported device is lost.
+    DeviceGone,
+    /// The client has left, or was refused.
+    ClientGone,
+    /// A side was refused.
+    Refused(Refusal),
+}
+
+/// Notes, in the order in which they were told.
+pub type Notes = List<Note>;
+
+/// What was counted. Each number stands still at `u64::MAX`.
+#[derive(Clone, Copy, Debug, PartialEq, Eq)]
+pub struct Counts {
+    /// RET_SUBMITs that were sent.
+    pub answered: u64,
+    /// RET_UNLINKs with -104 that were sent.
+    pub unlinked: u64,
+    /// Submits that are in flight.
+    pub left: u64,
+    /// Submits that ended with their client.
+    pub dropped: u64,
+}
