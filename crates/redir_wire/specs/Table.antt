@@ -16,40 +16,40 @@ use Rattle.redir_wire.specs.declared.kind.Tail.TheVariants.{Nothing, Words, Data
 use Rattle.redir_wire.specs.declared.kind.Row.{Row}
 use Rattle.redir_wire.specs.Capability.{has}
 
-abbrev pub row : ℕ → Option Way → Option ℕ → ℕ → Option More → Tail → Row
-row number way wanted fixed more tail = record { number = number; way = way; wanted = wanted; fixed = fixed; more = more; tail = tail }
+abbrev pub of_type : ℕ → Option Way → Option ℕ → ℕ → Option More → Tail → Row
+of_type number way wanted fixed more tail = record { number = number; way = way; wanted = wanted; fixed = fixed; more = more; tail = tail }
 
 -- so many bytes more with this capability
 abbrev with : ℕ → ℕ → Option More
 with capability bytes = Some (record { capability = capability; bytes = bytes })
 
 abbrev pub plain_row : PlainKind → Row
-plain_row plain.Hello = row 0 None None 64 None Words
-plain_row plain.Connect = row 1 (Some ToGuest) None 8 (with 1 2) Nothing
-plain_row plain.Disconnect = row 2 (Some ToGuest) None 0 None Nothing
-plain_row plain.Reset = row 3 (Some ToHost) None 0 None Nothing
-plain_row plain.InterfaceInfo = row 4 (Some ToGuest) None 132 None Nothing
-plain_row plain.EpInfo = row 5 (Some ToGuest) None 96 (with 4 64) Nothing
-plain_row plain.SetConfiguration = row 6 (Some ToHost) None 1 None Nothing
-plain_row plain.GetConfiguration = row 7 (Some ToHost) None 0 None Nothing
-plain_row plain.ConfigurationStatus = row 8 (Some ToGuest) None 2 None Nothing
-plain_row plain.SetAlt = row 9 (Some ToHost) None 2 None Nothing
-plain_row plain.GetAlt = row 10 (Some ToHost) None 1 None Nothing
-plain_row plain.AltStatus = row 11 (Some ToGuest) None 3 None Nothing
-plain_row plain.StartIso = row 12 (Some ToHost) None 3 None Nothing
-plain_row plain.StopIso = row 13 (Some ToHost) None 1 None Nothing
-plain_row plain.IsoStatus = row 14 (Some ToGuest) None 2 None Nothing
-plain_row plain.StartInterrupt = row 15 (Some ToHost) None 1 None Nothing
-plain_row plain.StopInterrupt = row 16 (Some ToHost) None 1 None Nothing
-plain_row plain.InterruptStatus = row 17 (Some ToGuest) None 2 None Nothing
-plain_row plain.Cancel = row 21 (Some ToHost) None 0 None Nothing
-plain_row plain.DisconnectAck = row 24 (Some ToHost) (Some 3) 0 None Nothing
+plain_row plain.Hello = of_type 0 None None 64 None Words
+plain_row plain.Connect = of_type 1 (Some ToGuest) None 8 (with 1 2) Nothing
+plain_row plain.Disconnect = of_type 2 (Some ToGuest) None 0 None Nothing
+plain_row plain.Reset = of_type 3 (Some ToHost) None 0 None Nothing
+plain_row plain.InterfaceInfo = of_type 4 (Some ToGuest) None 132 None Nothing
+plain_row plain.EpInfo = of_type 5 (Some ToGuest) None 96 (with 4 64) Nothing
+plain_row plain.SetConfiguration = of_type 6 (Some ToHost) None 1 None Nothing
+plain_row plain.GetConfiguration = of_type 7 (Some ToHost) None 0 None Nothing
+plain_row plain.ConfigurationStatus = of_type 8 (Some ToGuest) None 2 None Nothing
+plain_row plain.SetAlt = of_type 9 (Some ToHost) None 2 None Nothing
+plain_row plain.GetAlt = of_type 10 (Some ToHost) None 1 None Nothing
+plain_row plain.AltStatus = of_type 11 (Some ToGuest) None 3 None Nothing
+plain_row plain.StartIso = of_type 12 (Some ToHost) None 3 None Nothing
+plain_row plain.StopIso = of_type 13 (Some ToHost) None 1 None Nothing
+plain_row plain.IsoStatus = of_type 14 (Some ToGuest) None 2 None Nothing
+plain_row plain.StartInterrupt = of_type 15 (Some ToHost) None 1 None Nothing
+plain_row plain.StopInterrupt = of_type 16 (Some ToHost) None 1 None Nothing
+plain_row plain.InterruptStatus = of_type 17 (Some ToGuest) None 2 None Nothing
+plain_row plain.Cancel = of_type 21 (Some ToHost) None 0 None Nothing
+plain_row plain.DisconnectAck = of_type 24 (Some ToHost) (Some 3) 0 None Nothing
 
 abbrev pub data_row : DataKind → Row
-data_row moving.Control = row 100 None None 10 None Data
-data_row moving.Bulk = row 101 None None 8 (with 6 2) Data
-data_row moving.Iso = row 102 None None 4 None Data
-data_row moving.Interrupt = row 103 None None 4 None Data
+data_row moving.Control = of_type 100 None None 10 None Data
+data_row moving.Bulk = of_type 101 None None 8 (with 6 2) Data
+data_row moving.Iso = of_type 102 None None 4 None Data
+data_row moving.Interrupt = of_type 103 None None 4 None Data
 
 abbrev pub row_of : Kind → Row
 row_of (Plain k) = plain_row k

@@ -1,7 +1,7 @@
 //! The types of packets, and what the protocol says of each: its number, its way, its capability, its length.
 
 ghost use Rattle.std.specs.Prelude.{◌≡◌, ◌<◌, ◌≤◌, IfSome};
-ghost use Rattle.redir_wire.specs.Table.{row, plain_row, data_row, row_of, plain_numbered, data_numbered, kind_numbered, goes, has_wanted, fixed_length, has_length, is_left_out, AreBits};
+ghost use Rattle.redir_wire.specs.Table.{of_type, plain_row, data_row, row_of, plain_numbered, data_numbered, kind_numbered, goes, has_wanted, fixed_length, has_length, is_left_out, AreBits};
 
 use crate::capability::{CONNECT_VERSION, DISCONNECT_ACK, MAX_PACKET_SIZE, WIDE_BULK_LENGTH};
 use crate::packet::{Caps, Way};
@@ -219,7 +219,7 @@ impl Kind {
 }
 
 const fn both_ways(number: u32, fixed: u32, tail: Tail) -> Row
-    ensures { result ≡ row number None None fixed None tail }
+    ensures { result ≡ of_type number None None fixed None tail }
 {
     Row {
         number,
@@ -232,7 +232,7 @@ const fn both_ways(number: u32, fixed: u32, tail: Tail) -> Row
 }
 
 const fn to_guest(number: u32, fixed: u32) -> Row
-    ensures { result ≡ row number (Some Way.ToGuest) None fixed None Tail.Nothing }
+    ensures { result ≡ of_type number (Some Way.ToGuest) None fixed None Tail.Nothing }
 {
     Row {
         way: Some(Way::ToGuest),
@@ -241,7 +241,7 @@ const fn to_guest(number: u32, fixed: u32) -> Row
 }
 
 const fn to_host(number: u32, fixed: u32) -> Row
-    ensures { result ≡ row number (Some Way.ToHost) None fixed None Tail.Nothing }
+    ensures { result ≡ of_type number (Some Way.ToHost) None fixed None Tail.Nothing }
 {
     Row {
         way: Some(Way::ToHost),
