@@ -143,6 +143,16 @@ impl Lives {
         unlink(&mut self.table, target, by)
     }
 
+    /// The live request with a number.
+    pub fn find_number(&self, seqnum: u32) -> Option<&Live>
+        ensures { option_copied result ≡ find (has_number seqnum) self.now.live }
+    {
+        if self.client_gone {
+            return None;
+        }
+        self.table.get(self.table.place_of_number(seqnum))
+    }
+
     /// The live wire or route request with an id.
     pub fn find(&self, id: u64) -> Option<&Live>
         ensures { option_copied result ≡ find (has_id id) self.now.live }

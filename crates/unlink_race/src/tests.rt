@@ -145,6 +145,7 @@ fn found_by_number_and_id(rt: HostRuntime) -> Result<(), Fail> {
     assert_eq!(rt; [lives.holds_id(12), lives.holds_id(0)], [true, false]);
     assert!(rt; lives.change_waits());
     assert_eq!(rt; number(lives.at(1)), Some(2));
+    assert_eq!(rt; number(lives.find_number(2)), Some(2));
     assert_eq!(rt; number(lives.find(12)), Some(2));
     assert_eq!(rt; number_taken(lives.finish(12)), Some(2));
     assert!(rt; lives.finish(12).is_none());
