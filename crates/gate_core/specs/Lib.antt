@@ -27,4 +27,5 @@ pub mod Machine
 pub mod Turns
 pub mod Losses
 pub mod Sound
+pub mod Stands
 pub mod inner

@@ -5,3 +5,4 @@ pub mod Responses
 pub mod Carried
 pub mod Flying
 pub mod Rows
+pub mod Holds

@@ -9,16 +9,22 @@ mod event;
 mod facts;
 mod field;
 mod finish;
+mod gate;
 mod id;
+mod inner;
+mod item;
 mod laws;
 mod note;
 mod reply;
 mod request;
 mod response;
+mod translator;
 mod verdict;
 
 pub use event::Event;
 pub use facts::Facts;
+pub use gate::Gate;
+pub use item::Item;
 pub use laws::{
     events_add_items, ids_fly_once, losses_end_all, machine_is_past, states_are_sound,
     submits_end_once,

@@ -1,17 +1,29 @@
--- What a row of the requests in flight has of its submit.
-use Rattle.std.specs.Prelude.{◌≡◌, Bool, true, false}
+-- The rows of the requests in flight: what each has of its submit.
+use Rattle.std.specs.Prelude.{◌≡◌, ◌⊎◌, ℕ, ◌≤◌, Bool, true, false, Option, None}
+use Rattle.usb_base.specs.declared.endpoint.EpKind.{EpKind}
+use Rattle.usb_base.specs.declared.endpoint.EpKind.TheVariants as kind
+use Rattle.usb_base.specs.Endpoint.{is_in_endpoint}
+use Rattle.usbip_urb.specs.declared.code.TheConstants.{MAX_LENGTH}
+use Rattle.redir_wire.specs.declared.packet.Caps.{Caps}
+use Rattle.redir_wire.specs.Header.{IdFits}
 use Rattle.unlink_race.specs.declared.live.Live.{Live}
 use Rattle.unlink_race.specs.declared.live.LiveKind.{LiveKind}
 use Rattle.unlink_race.specs.declared.live.LiveKind.TheVariants as live_kind
-use Rattle.gate_core.specs.Verdict.{is_wire}
+use Rattle.unlink_race.specs.Searches.{goes_by_id}
+use Rattle.gate_core.specs.Verdict.{Pipe, Control, Bulk, InterruptOut, Verdict, Now, Wire, Routed, IsoOut, Stream, is_wire}
 use Rattle.gate_core.specs.Marks.{Submission}
+use Rattle.gate_core.specs.Submits.{Pending}
+use Rattle.gate_core.specs.Flight.{wide_ids}
+use Rattle.gate_core.specs.Responses.{route_gets}
+use Rattle.gate_core.specs.inner.Asked.{HasItsPackets}
+
+-- ---- what the answers of a submit have of it
 
 abbrev pub is_wire_row : LiveKind → Bool
 is_wire_row (live_kind.Wire ep kind) = true
 is_wire_row (live_kind.Routed route) = false
 is_wire_row (live_kind.Stream ep interface) = false
 
--- all that the answers of a submit have of it
 pub record IsRowOf (s : Submission) (l : Live) : Type 0 where
   pub number : l.seqnum ≡ s.request.number
   pub is_in : l.is_in ≡ s.request.is_in
@@ -20,3 +32,56 @@ pub record IsRowOf (s : Submission) (l : Live) : Type 0 where
   pub descs : l.descs ≡ s.request.descs
   pub wanted : l.wanted ≡ s.request.transfer.wanted
   pub wire : is_wire_row l.kind ≡ is_wire s.verdict
+
+-- ---- the whole row
+
+abbrev pub pipe_kind : Pipe → EpKind
+pipe_kind Control = kind.Control
+pipe_kind Bulk = kind.Bulk
+pipe_kind InterruptOut = kind.Interrupt
+
+-- what is answered at once is never in flight
+abbrev pub kind_of : Verdict → ℕ → LiveKind
+kind_of (Wire pipe) ep = live_kind.Wire ep (pipe_kind pipe)
+kind_of (Routed r) ep = live_kind.Routed r
+kind_of (Stream row) ep = live_kind.Stream ep row.interface
+kind_of (Now status) ep = live_kind.Stream ep 0
+kind_of IsoOut ep = live_kind.Stream ep 0
+
+abbrev pub row_of : Submission → Option ℕ → Live
+row_of s by = record {
+  seqnum = s.request.number;
+  id = s.id;
+  kind = kind_of s.verdict s.request.transfer.ep;
+  is_in = s.request.is_in;
+  wanted = s.request.transfer.wanted;
+  flags = s.request.flags;
+  packets = s.request.packets;
+  descs = s.request.descs;
+  unlinker = by;
+}
+
+abbrev pub row : Pending → Live
+row p = row_of p.submit p.unlinker
+
+-- of a client that has left it doesn't matter what it asked back
+abbrev pub unmarked : Live → Live
+unmarked l = record l { unlinker = None }
+
+abbrev pub left_row : Submission → Live
+left_row s = row_of s None
+
+-- ---- what holds of each row
+
+-- data come from the device only where the submit says so
+abbrev pub IsRead : Bool → LiveKind → Type 0
+IsRead is_in (live_kind.Wire ep kind) = is_in_endpoint ep ≡ is_in
+IsRead is_in (live_kind.Routed r) = route_gets r ≡ true → is_in ≡ true
+IsRead is_in (live_kind.Stream ep interface) = Unit {0}
+
+pub record IsFine (caps : Caps) (l : Live) : Type 0 where
+  pub packets : HasItsPackets l.packets l.descs
+  pub few_bytes : l.wanted ≤ MAX_LENGTH
+  pub read : (l.wanted ≡ 0) ⊎ IsRead l.is_in l.kind
+  pub id_fits : IdFits (wide_ids caps) l.id
+  pub by_id : goes_by_id l ≡ true

@@ -1,0 +1,101 @@
+-- When the translator stands for a state of the machine, and what it does with an item.
+use Rattle.std.specs.Prelude.{◌≡◌, ◌+◌, ◌++◌, ◌≤◌, ℕ, Bool, true, false, List, length, map, filter, Option, Some, None}
+use Rattle.std.specs.List.{AllByRecursion}
+use Rattle.usb_base.specs.declared.reason.Reason.{Reason}
+use Rattle.usbip_urb.specs.declared.code.TheConstants.{MAX_LENGTH}
+use Rattle.usbip_urb.specs.ClientPackets.{IsClientPacket}
+use Rattle.redir_wire.specs.declared.packet.Caps.{Caps}
+use Rattle.redir_wire.specs.declared.packet.Header.{Header}
+use Rattle.redir_wire.specs.declared.packet.Way.TheVariants.{ToGuest}
+use Rattle.redir_wire.specs.declared.packet.RedirControl.TheVariants as plain
+use Rattle.redir_wire.specs.Header.{IdFits}
+use Rattle.redir_data.specs.declared.packet.RedirPacket.{RedirPacket}
+use Rattle.redir_data.specs.declared.packet.RedirPacket.TheVariants.{Plain, Carrying}
+use Rattle.redir_data.specs.Spelling.{data_count}
+use Rattle.gate_core.specs.declared.note.Note.{Note}
+use Rattle.gate_core.specs.declared.translator.Translator.{Translator}
+use Rattle.gate_core.specs.declared.item.Item.{Item as RawItem}
+use Rattle.gate_core.specs.declared.item.Item.TheVariants as raw
+use Rattle.gate_core.specs.Items.{Item, Asked, ClientWrong, ClientLeft, Told, HostWrong, HostLeft, capped}
+use Rattle.gate_core.specs.Marks.{Mark, Submission}
+use Rattle.gate_core.specs.Flight.{wide_ids}
+use Rattle.gate_core.specs.Responses.{Response, Data, Status, response_of}
+use Rattle.gate_core.specs.State.{State}
+use Rattle.gate_core.specs.Meaning.{mark_of}
+use Rattle.gate_core.specs.Output.{to_client}
+use Rattle.gate_core.specs.Notes.{notes_of, dropped}
+use Rattle.gate_core.specs.All.{is_ret_submit, is_won_unlink}
+use Rattle.gate_core.specs.Bytes.{client_bytes_of, host_bytes_of}
+use Rattle.gate_core.specs.Machine.{start, after}
+use Rattle.gate_core.specs.inner.Rows.{row, unmarked, left_row, IsFine}
+
+-- ---- standing for a state
+
+pub record Holds (t : Translator) (st : State) : Type 0 where
+  pub facts : t.facts ≡ st.facts
+  pub caps : t.caps ≡ st.agreed
+  pub imported : t.imported ≡ st.imported
+  pub lost : t.lost ≡ st.lost
+  pub client_over : t.client_over ≡ st.client_over
+  pub host_over : t.host_over ≡ st.host_over
+  pub last : t.last ≡ st.last
+  pub live : t.lives.live ≡ map row st.live
+  pub abandoned : map unmarked t.lives.abandoned ≡ map left_row st.abandoned
+  pub fine : AllByRecursion (IsFine t.caps) t.lives.live
+
+-- nothing came yet
+pub record IsFirst (t : Translator) (first : ℕ) : Type 0 where
+  pub holds : Holds t (start first)
+  pub answered : t.answered ≡ 0
+  pub unlinked : t.unlinked ≡ 0
+  pub dropped : t.dropped ≡ 0
+
+-- ---- an item as the code has it
+
+abbrev pub IsItem : RawItem → Item → Type 0
+IsItem (raw.Asked place packet) x = (at : ℕ) × (place ≡ capped at) × (x ≡ Asked at packet)
+IsItem (raw.ClientWrong place reason) x = (at : ℕ) × (place ≡ capped at) × (x ≡ ClientWrong at reason)
+IsItem raw.ClientLeft x = x ≡ ClientLeft
+IsItem (raw.Told place header packet) x = (at : ℕ) × (place ≡ capped at) × (x ≡ Told at header packet)
+IsItem (raw.HostWrong place reason) x = (at : ℕ) × (place ≡ capped at) × (x ≡ HostWrong at reason)
+IsItem raw.HostLeft x = x ≡ HostLeft
+
+-- an answer's type is that of its form, and its data are there
+abbrev pub ResponseFits : ℕ → Option Response → Type 0
+ResponseFits kind None = Unit {0}
+ResponseFits kind (Some (Status status value)) = kind ≤ 99
+ResponseFits kind (Some (Data endpoint length_place o)) = (100 ≤ kind) × (length o.body ≡ data_count ToGuest endpoint o.done)
+
+-- ids have 32 bits before the hello
+abbrev pub HelloFits : Caps → RedirPacket → Type 0
+HelloFits caps (Plain (plain.Hello hello)) = wide_ids caps ≡ false
+HelloFits caps _ = Unit {0}
+
+pub record ToldFits (caps : Caps) (h : Header) (p : RedirPacket) : Type 0 where
+  pub id_fits : IdFits (wide_ids caps) h.id
+  pub response : ResponseFits h.kind (response_of p)
+  pub hello : HelloFits caps p
+
+-- as its reader gives it
+abbrev pub ItemFits : Caps → RawItem → Type 0
+ItemFits caps (raw.Asked place packet) = IsClientPacket packet
+ItemFits caps (raw.Told place header packet) = ToldFits caps header packet
+ItemFits caps _ = Unit {0}
+
+-- ---- what is done with a mark, and so with an item
+
+pub record Does (st : State) (m : Mark) (old new : Translator) (client_old client_new host_old host_new : List ℕ) (notes_old notes_new : List Note) : Type 0 where
+  pub holds : Holds new (after st m)
+  pub client : client_new ≡ client_old ++ client_bytes_of st m
+  pub host : host_new ≡ host_old ++ host_bytes_of st m
+  pub notes : notes_new ≡ notes_old ++ notes_of st m
+  pub answered : new.answered ≡ capped (old.answered + length (filter is_ret_submit (to_client st m)))
+  pub unlinked : new.unlinked ≡ capped (old.unlinked + length (filter is_won_unlink (to_client st m)))
+  pub dropped : new.dropped ≡ capped (old.dropped + length (dropped st m))
+
+-- for want of memory nothing has changed
+pub record DoesNothing (old new : Translator) (client_old client_new host_old host_new : List ℕ) (notes_old notes_new : List Note) : Type 0 where
+  pub same : new ≡ old
+  pub client : client_new ≡ client_old
+  pub host : host_new ≡ host_old
+  pub notes : notes_new ≡ notes_old

@@ -1,0 +1,84 @@
+//! The gate: it translates between USB/IP clients, one after another, and a usbredir host.
+
+ghost use Rattle.std.specs.Prelude.{◌≡◌, ◌++◌, ◌≤◌, [], List, ℕ, OnOk, OnErr, IfOk, IsErr};
+ghost use Rattle.gate_core.specs.Events.{Event as PastEvent, event_of};
+ghost use Rattle.gate_core.specs.Items.{Item as PastItem};
+ghost use Rattle.gate_core.specs.Past.{past};
+ghost use Rattle.gate_core.specs.History.{history, rest_length};
+ghost use Rattle.gate_core.specs.All.{counts_of};
+ghost use Rattle.gate_core.specs.Bytes.{out_host};
+ghost use Rattle.gate_core.specs.Stands.{Stands, StandsFor, Takes, Stops, HasFailed};
+
+use crate::event::Event;
+use crate::inner::Inner;
+use crate::note::{Counts, Notes};
+use std::alloc::Global;
+use std::marker::Model;
+use usb_base::{Bytes, Memory};
+
+/// The gate between the streams of clients and of a host.
+#[derive(Drop)]
+pub struct Gate {
+    inner: Inner,
+}
+
+impl Model for Gate {
+    ghost use Rattle.gate_core.specs.declared.inner.Inner.{Inner};
+
+    ghost Value = { Inner };
+
+    ghost view = { λ gate. gate.inner };
+}
+
+impl Gate {
+    /// The gate to which nothing has happened. It appends its hello for the host. Ids are drawn from the first one on.
+    pub fn make(alloc: Global, first_id: u64, to_host: &mut Bytes) -> Result<Gate, Memory>
+        requires { (1 ≤ first_id) × (first_id ≤ 4294967295) }
+        ensures made { IfOk result (λ gate. Stands first_id gate []) }
+        ensures sent { OnOk result (to_host.new ≡ to_host.old ++ out_host first_id []) }
+        ensures err { OnErr result (to_host.new ≡ to_host.old) }
+    {
+        Err(Memory)
+    }
+
+    /// Takes the next event: it appends what that sends to each side, and tells its notes. For want of memory
+    /// the items before the one that met it are taken, that one has changed nothing, and every later call
+    /// answers `Memory` and changes nothing. A piece of a side that is over does nothing.
+    pub fn take(
+        &mut self,
+        event: Event,
+        to_client: &mut Bytes,
+        to_host: &mut Bytes,
+    ) -> Result<Notes, Memory>
+        ensures takes { IfOk result (λ notes. (first : ℕ) (past : List PastEvent) → Stands first self.old past
+            → Takes first self.new past (event_of event.entry) to_client.old to_client.new to_host.old to_host.new notes) }
+        ensures stops { OnErr result ((first : ℕ) (past : List PastEvent) → Stands first self.old past
+            → Stops first self.new past (event_of event.entry) to_client.old to_client.new to_host.old to_host.new) }
+        ensures fails { OnErr result (HasFailed self.new) }
+        ensures failed { HasFailed self.old → IsErr result × (self.new ≡ self.old)
+            × (to_client.new ≡ to_client.old) × (to_host.new ≡ to_host.old) }
+    {
+        Err(Memory)
+    }
+
+    /// What has been counted.
+    pub fn counts(&self) -> Counts
+        ensures all { (first : ℕ) (events : List PastEvent) → Stands first self.now events → result ≡ counts_of first (history first events) }
+        ensures items { (first : ℕ) (events : List PastEvent) (items : List PastItem) → StandsFor first self.now events items
+            → result ≡ counts_of first (past first items) }
+    {
+        Counts {
+            answered: self.inner.translator.answered,
+            unlinked: self.inner.translator.unlinked,
+            left: self.inner.translator.lives.len() as u64,
+            dropped: self.inner.translator.dropped,
+        }
+    }
+
+    /// The number of bytes that are held of packets that weren't taken.
+    pub fn held(&self) -> u64
+        ensures { (first : ℕ) (events : List PastEvent) → Stands first self.now events → result ≡ rest_length first events }
+    {
+        (self.inner.client.held() + self.inner.host.held()) as u64
+    }
+}
