@@ -18,3 +18,6 @@ pub mod Interfaces
 pub mod Carried
 pub mod Flying
 pub mod Answered
+pub mod Fronts
+pub mod Lost
+pub mod Left

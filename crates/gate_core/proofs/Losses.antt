@@ -46,7 +46,7 @@ quiet st (Agrees caps) h = absurd (false≢true h)
 quiet st (Answers id outcome) h = absurd (false≢true h)
 
 -- so it ends each submit as lost
-ends-lost : (st : State) (e : Effect) (s : Submission) → is_loss e ≡ true → ends e s ≡ Some ByLoss
+pub ends-lost : (st : State) (e : Effect) (s : Submission) → is_loss e ≡ true → ends e s ≡ Some ByLoss
 ends-lost st e s h =
     ap (λ (b : Bool). cond b (Some ByClient) (cond (is_loss e) (Some ByLoss) (own_end e s))) (quiet st e h).stays
     ∙ ap (λ (b : Bool). cond b (Some ByLoss) (own_end e s)) h
@@ -58,7 +58,7 @@ none-live first ms m w h =
     (every (λ s. is_none (ends m.what s) ≡ false) (λ s. ap is_none (ends-lost (state_of first ms) m.what s h)) (live ms ++ opened m.what))
     ∙ filter-none (live ms ++ opened m.what)
 
-all-lost : (st : State) (m : Mark) → is_loss m.what ≡ true → to_client st m ≡ map (λ p. Urb (lost_answer p.submit p.unlinker)) st.live
+pub all-lost : (st : State) (m : Mark) → is_loss m.what ≡ true → to_client st m ≡ map (λ p. Urb (lost_answer p.submit p.unlinker)) st.live
 all-lost st m h =
     let q = quiet st m.what h in
     (λ i. q.silent i ++ answered st m.what)

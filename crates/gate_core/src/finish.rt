@@ -6,10 +6,10 @@ ghost use Rattle.usbip_urb.specs.Spelling.{spelling};
 ghost use Rattle.gate_core.specs.Marks.{Submission};
 ghost use Rattle.gate_core.specs.Answers.{with_outcome, ret_unlink, answers_by};
 ghost use Rattle.gate_core.specs.inner.Asked.{asked_view, HasItsPackets, IsMoved};
-ghost use Rattle.gate_core.specs.inner.Rows.{IsRowOf};
+ghost use Rattle.gate_core.specs.inner.Rows.{IsRowOf, lost_bytes};
 
-use crate::answer::{Asked, write_outcome, write_ret_unlink};
-use crate::errno::ECONNRESET;
+use crate::answer::{Asked, write_outcome, write_ret_unlink, write_without_packets};
+use crate::errno::{ECONNRESET, ESHUTDOWN};
 use std::alloc::Global;
 use unlink_race::{Ending, Live, ending_of};
 use usb_base::{Bytes, Memory, Outcome};
@@ -25,6 +25,19 @@ fn asked_by(live: &Live) -> Asked<'_>
         packets: live.packets,
         wanted: live.wanted,
         descs: live.descs.as_slice(),
+    }
+}
+
+/// Appends the answer of a request whose device is lost: its unlink's where it was asked back, and else its own. For want
+/// of memory `out` stands.
+pub fn write_lost(alloc: Global, live: &Live, out: &mut Bytes) -> Result<(), Memory>
+    requires { HasItsPackets live.now.packets live.now.descs }
+    ensures ok { OnOk result (out.new ≡ out.old ++ lost_bytes live.now) }
+    ensures err { OnErr result (out.new ≡ out.old) }
+{
+    match live.unlinker {
+        None => write_without_packets(alloc, &asked_by(live), ESHUTDOWN, out),
+        Some(by) => write_ret_unlink(by, ECONNRESET, out),
     }
 }
 

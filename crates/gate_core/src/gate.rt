@@ -67,11 +67,12 @@ impl Gate {
         ensures items { (first : ℕ) (events : List PastEvent) (items : List PastItem) → StandsFor first self.now events items
             → result ≡ counts_of first (past first items) }
     {
+        let kept = self.inner.translator.kept();
         Counts {
-            answered: self.inner.translator.answered,
-            unlinked: self.inner.translator.unlinked,
-            left: self.inner.translator.lives.len() as u64,
-            dropped: self.inner.translator.dropped,
+            answered: kept.answered,
+            unlinked: kept.unlinked,
+            left: kept.lives.len() as u64,
+            dropped: kept.dropped,
         }
     }
 

@@ -4,6 +4,7 @@
 
 mod answer;
 mod ask;
+mod end;
 mod errno;
 mod event;
 mod facts;
@@ -13,6 +14,7 @@ mod gate;
 mod id;
 mod inner;
 mod item;
+mod kept;
 mod laws;
 mod note;
 mod reply;

@@ -5,43 +5,31 @@ ghost use Rattle.gate_core.specs.Items.{Item as PastItem};
 ghost use Rattle.gate_core.specs.State.{State};
 ghost use Rattle.gate_core.specs.Meaning.{mark_of};
 ghost use Rattle.gate_core.specs.Past.{is_left_out};
-ghost use Rattle.gate_core.specs.Machine.{start};
 ghost use Rattle.gate_core.specs.Sound.{IsSound};
-ghost use Rattle.gate_core.specs.inner.Holds.{Holds, IsFirst, IsItem, ItemFits, Does, DoesNothing};
+ghost use Rattle.gate_core.specs.inner.Holds.{Holds, IsFirst, IsKept, IsItem, ItemFits, Does, DoesNothing};
 
-use crate::facts::Facts;
 use crate::item::Item;
+use crate::kept::Kept;
 use crate::note::Notes;
-use redir_wire::Caps;
 use std::alloc::Global;
-use unlink_race::Lives;
+use std::marker::Model;
 use usb_base::{Bytes, Memory};
 
-/// What is kept of the items that have come: the requests in flight, what the host has told, and where both sides stand.
+/// What becomes of the items of both streams.
 #[derive(Drop)]
 pub struct Translator {
-    pub alloc: Global,
-    /// The requests in flight.
-    pub lives: Lives,
-    pub facts: Facts,
-    /// The capabilities that are agreed, none before the host's hello.
-    pub caps: Caps,
-    /// The present client has imported the device.
-    pub imported: bool,
-    /// The device was lost after the last import.
-    pub lost: bool,
-    /// The present client was refused.
-    pub client_over: bool,
-    /// The host has ended or was refused.
-    pub host_over: bool,
-    /// The id that was drawn last.
-    pub last: u64,
-    /// RET_SUBMITs that were sent.
-    pub answered: u64,
-    /// RET_UNLINKs with -104 that were sent.
-    pub unlinked: u64,
-    /// Submits that ended with their client.
-    pub dropped: u64,
+    kept: Kept,
+}
+
+impl Model for Translator {
+    ghost use Rattle.gate_core.specs.declared.kept.Kept.{Kept};
+    ghost use Rattle.gate_core.specs.inner.Holds.{IsKept};
+
+    ghost Value = { Kept };
+
+    ghost view = { λ translator. translator.kept };
+
+    ghost invariant = { λ translator. IsKept translator.kept };
 }
 
 impl Translator {
@@ -51,19 +39,15 @@ impl Translator {
         ensures { IfOk result (λ translator. IsFirst translator first_id) }
     {
         Ok(Translator {
-            alloc,
-            lives: Lives::make(alloc)?,
-            facts: Facts::none(),
-            caps: Caps { bits: 0 },
-            imported: false,
-            lost: false,
-            client_over: false,
-            host_over: false,
-            last: first_id - 1,
-            answered: 0,
-            unlinked: 0,
-            dropped: 0,
+            kept: Kept::make(alloc, first_id)?,
         })
+    }
+
+    /// What is kept of the items.
+    pub fn kept(&self) -> &Kept
+        ensures { result.now ≡ self.now }
+    {
+        &self.kept
     }
 
     /// Takes the next item of a side that isn't over: it appends what that sends to each side, and what it tells. For
@@ -80,6 +64,15 @@ impl Translator {
             → Does st (mark_of st x) self.old self.new to_client.old to_client.new to_host.old to_host.new notes.old notes.new) }
         ensures err { OnErr result (DoesNothing self.old self.new to_client.old to_client.new to_host.old to_host.new notes.old notes.new) }
     {
-        Err(Memory)
+        let before = (to_client.len(), to_host.len(), notes.len());
+        match Err(Memory) {
+            Ok(()) => Ok(()),
+            Err(memory) => {
+                to_client.cut(before.0);
+                to_host.cut(before.1);
+                notes.cut(before.2);
+                Err(memory)
+            }
+        }
     }
 }

@@ -1,5 +1,5 @@
--- When the translator stands for a state of the machine, and what it does with an item.
-use Rattle.std.specs.Prelude.{◌≡◌, ◌+◌, ◌++◌, ◌≤◌, ℕ, Bool, true, false, List, length, map, filter, Option, Some, None}
+-- When what is kept stands for a state of the machine, and what it does with an item.
+use Rattle.std.specs.Prelude.{◌≡◌, ◌+◌, ◌-◌, ◌^◌, [], ◌++◌, ◌≤◌, ℕ, Bool, true, false, List, length, map, filter, Option, Some, None}
 use Rattle.std.specs.List.{AllByRecursion}
 use Rattle.usb_base.specs.declared.reason.Reason.{Reason}
 use Rattle.usbip_urb.specs.declared.code.TheConstants.{MAX_LENGTH}
@@ -12,12 +12,15 @@ use Rattle.redir_wire.specs.Header.{IdFits}
 use Rattle.redir_data.specs.declared.packet.RedirPacket.{RedirPacket}
 use Rattle.redir_data.specs.declared.packet.RedirPacket.TheVariants.{Plain, Carrying}
 use Rattle.redir_data.specs.Spelling.{data_count}
+use Rattle.unlink_race.specs.Requests.{no_requests}
+use Rattle.unlink_race.specs.Searches.{goes_by_id}
 use Rattle.gate_core.specs.declared.note.Note.{Note}
-use Rattle.gate_core.specs.declared.translator.Translator.{Translator}
+use Rattle.gate_core.specs.declared.kept.Kept.{Kept}
 use Rattle.gate_core.specs.declared.item.Item.{Item as RawItem}
 use Rattle.gate_core.specs.declared.item.Item.TheVariants as raw
 use Rattle.gate_core.specs.Items.{Item, Asked, ClientWrong, ClientLeft, Told, HostWrong, HostLeft, capped}
 use Rattle.gate_core.specs.Marks.{Mark, Submission}
+use Rattle.gate_core.specs.Facts.{no_facts}
 use Rattle.gate_core.specs.Flight.{wide_ids}
 use Rattle.gate_core.specs.Responses.{Response, Data, Status, response_of}
 use Rattle.gate_core.specs.State.{State}
@@ -31,7 +34,16 @@ use Rattle.gate_core.specs.inner.Rows.{row, unmarked, left_row, IsFine}
 
 -- ---- standing for a state
 
-pub record Holds (t : Translator) (st : State) : Type 0 where
+-- whatever came
+pub record IsKept (t : Kept) : Type 0 where
+  pub fine : AllByRecursion (IsFine t.caps) t.lives.live
+  -- a client has requests only once it has imported the device, and imports it only once nothing is left of the former
+  pub apart : t.imported ≡ true → t.lives.abandoned ≡ []
+  pub answered_fits : t.answered ≤ 2 ^ 64 - 1
+  pub unlinked_fits : t.unlinked ≤ 2 ^ 64 - 1
+  pub dropped_fits : t.dropped ≤ 2 ^ 64 - 1
+
+pub record Holds (t : Kept) (st : State) : Type 0 where
   pub facts : t.facts ≡ st.facts
   pub caps : t.caps ≡ st.agreed
   pub imported : t.imported ≡ st.imported
@@ -41,10 +53,9 @@ pub record Holds (t : Translator) (st : State) : Type 0 where
   pub last : t.last ≡ st.last
   pub live : t.lives.live ≡ map row st.live
   pub abandoned : map unmarked t.lives.abandoned ≡ map left_row st.abandoned
-  pub fine : AllByRecursion (IsFine t.caps) t.lives.live
 
 -- nothing came yet
-pub record IsFirst (t : Translator) (first : ℕ) : Type 0 where
+pub record IsFirst (t : Kept) (first : ℕ) : Type 0 where
   pub holds : Holds t (start first)
   pub answered : t.answered ≡ 0
   pub unlinked : t.unlinked ≡ 0
@@ -84,7 +95,7 @@ ItemFits caps _ = Unit {0}
 
 -- ---- what is done with a mark, and so with an item
 
-pub record Does (st : State) (m : Mark) (old new : Translator) (client_old client_new host_old host_new : List ℕ) (notes_old notes_new : List Note) : Type 0 where
+pub record Does (st : State) (m : Mark) (old new : Kept) (client_old client_new host_old host_new : List ℕ) (notes_old notes_new : List Note) : Type 0 where
   pub holds : Holds new (after st m)
   pub client : client_new ≡ client_old ++ client_bytes_of st m
   pub host : host_new ≡ host_old ++ host_bytes_of st m
@@ -94,8 +105,40 @@ pub record Does (st : State) (m : Mark) (old new : Translator) (client_old clien
   pub dropped : new.dropped ≡ capped (old.dropped + length (dropped st m))
 
 -- for want of memory nothing has changed
-pub record DoesNothing (old new : Translator) (client_old client_new host_old host_new : List ℕ) (notes_old notes_new : List Note) : Type 0 where
+pub record DoesNothing (old new : Kept) (client_old client_new host_old host_new : List ℕ) (notes_old notes_new : List Note) : Type 0 where
   pub same : new ≡ old
   pub client : client_new ≡ client_old
   pub host : host_new ≡ host_old
   pub notes : notes_new ≡ notes_old
+
+-- bytes or notes were put behind those that were there
+pub record Extends {A : Type 0} (old new : List A) : Type 0 where
+  pub more : List A
+  pub is : new ≡ old ++ more
+
+-- for want of memory what is kept stands, and the outputs may have the first of what was to be sent and told
+pub record Leaves (old new : Kept) (client_old client_new host_old host_new : List ℕ) (notes_old notes_new : List Note) : Type 0 where
+  pub same : new ≡ old
+  pub client : Extends client_old client_new
+  pub host : Extends host_old host_new
+  pub notes : Extends notes_old notes_new
+
+-- ---- all requests ended
+
+-- with the loss of the device, so many of them asked back
+pub record HasLost (unlinked : ℕ) (old new : Kept) : Type 0 where
+  pub is : new ≡ record old {
+    lives = no_requests;
+    facts = no_facts;
+    lost = true;
+    answered = capped (old.answered + (length old.lives.live - unlinked));
+    unlinked = capped (old.unlinked + unlinked);
+  }
+
+-- with their client
+pub record HasLeft (old new : Kept) : Type 0 where
+  pub is : new ≡ record old {
+    lives = record { live = []; abandoned = old.lives.abandoned ++ filter goes_by_id old.lives.live };
+    imported = false;
+    dropped = capped (old.dropped + length old.lives.live);
+  }

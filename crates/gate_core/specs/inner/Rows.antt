@@ -1,20 +1,28 @@
 -- The rows of the requests in flight: what each has of its submit.
-use Rattle.std.specs.Prelude.{◌≡◌, ◌⊎◌, ℕ, ◌≤◌, Bool, true, false, Option, None}
+use Rattle.std.specs.Prelude.{◌≡◌, ◌⊎◌, ◌&&◌, not, ℕ, ◌≤◌, Bool, true, false, if◌then◌else◌, List, [], Option, Some, None, is_none}
 use Rattle.usb_base.specs.declared.endpoint.EpKind.{EpKind}
 use Rattle.usb_base.specs.declared.endpoint.EpKind.TheVariants as kind
 use Rattle.usb_base.specs.Endpoint.{is_in_endpoint}
 use Rattle.usbip_urb.specs.declared.code.TheConstants.{MAX_LENGTH}
+use Rattle.usbip_urb.specs.declared.packet.UrbPacket.{UrbPacket}
+use Rattle.usbip_urb.specs.Spelling.{spelling}
 use Rattle.redir_wire.specs.declared.packet.Caps.{Caps}
+use Rattle.redir_wire.specs.declared.packet.RedirControl.TheVariants as plain
 use Rattle.redir_wire.specs.Header.{IdFits}
+use Rattle.redir_data.specs.declared.packet.RedirPacket.TheVariants.{Plain}
 use Rattle.unlink_race.specs.declared.live.Live.{Live}
 use Rattle.unlink_race.specs.declared.live.LiveKind.{LiveKind}
 use Rattle.unlink_race.specs.declared.live.LiveKind.TheVariants as live_kind
 use Rattle.unlink_race.specs.Searches.{goes_by_id}
 use Rattle.gate_core.specs.Verdict.{Pipe, Control, Bulk, InterruptOut, Verdict, Now, Wire, Routed, IsoOut, Stream, is_wire}
+use Rattle.gate_core.specs.Errno.{econnreset, eshutdown}
+use Rattle.gate_core.specs.Requests.{Request}
 use Rattle.gate_core.specs.Marks.{Submission}
 use Rattle.gate_core.specs.Submits.{Pending}
 use Rattle.gate_core.specs.Flight.{wide_ids}
 use Rattle.gate_core.specs.Responses.{route_gets}
+use Rattle.gate_core.specs.Answers.{without_packets, ret_unlink}
+use Rattle.gate_core.specs.Bytes.{host_packet_bytes}
 use Rattle.gate_core.specs.inner.Asked.{HasItsPackets}
 
 -- ---- what the answers of a submit have of it
@@ -85,3 +93,33 @@ pub record IsFine (caps : Caps) (l : Live) : Type 0 where
   pub read : (l.wanted ≡ 0) ⊎ IsRead l.is_in l.kind
   pub id_fits : IdFits (wide_ids caps) l.id
   pub by_id : goes_by_id l ≡ true
+
+-- ---- what goes out for a row
+
+abbrev pub row_request : Live → Request
+row_request l = record {
+  number = l.seqnum;
+  is_in = l.is_in;
+  flags = l.flags;
+  packets = l.packets;
+  descs = l.descs;
+  transfer = record { ep = 0; setup = None; wanted = l.wanted; body = [] };
+}
+
+-- where the device is lost
+abbrev pub lost_packet : Live → Option ℕ → UrbPacket
+lost_packet l None = without_packets (row_request l) eshutdown
+lost_packet l (Some by) = ret_unlink by econnreset
+
+abbrev pub lost_bytes : Live → List ℕ
+lost_bytes l = spelling (lost_packet l l.unlinker)
+
+-- where the client is gone
+abbrev pub is_cancelled_row : Live → Bool
+is_cancelled_row l = is_wire_row l.kind && is_none l.unlinker
+
+abbrev pub cancel_bytes : Caps → Live → List ℕ
+cancel_bytes caps l = if is_cancelled_row l then host_packet_bytes caps (l.id, Plain plain.Cancel) else []
+
+abbrev pub is_asked_back : Live → Bool
+is_asked_back l = not (is_none l.unlinker)

@@ -1,0 +1,230 @@
+-- What a client's leaving makes of what is kept, and what it sends and tells.
+use Rattle.std.proofs.Common.{◌≡◌, ℕ, ◌+◌, ◌^◌, ◌-◌, ◌≤◌, ◌&&◌, Bool, true, false, cond, not, List, [], ◌∷◌, ◌++◌, length, map, Option, Some, None, refl, sym, ap, subst, ◌∙◌, arith}
+use Rattle.std.specs.Prelude.{min, is_none, unwrap_or, filter, zip}
+use Rattle.std.specs.List.{flat_map}
+use Rattle.std.proofs.lemmas.List.{append-nil, map-append, length-append, length-map}
+use Rattle.usb_base.specs.declared.refusal.Refusal.{Refusal}
+use Rattle.usb_base.specs.declared.side.Side.TheVariants.{Client, Host}
+use Rattle.usbip_urb.specs.declared.packet.UrbPacket.{UrbPacket}
+use Rattle.usbip_urb.specs.declared.client.ClientPacket.{ClientPacket}
+use Rattle.usbip_urb.specs.declared.client.ClientPacket.TheVariants.{Urb}
+use Rattle.usbip_urb.specs.ClientPackets.{client_spelling}
+use Rattle.redir_wire.specs.declared.packet.Caps.{Caps}
+use Rattle.redir_wire.specs.declared.packet.RedirControl.TheVariants as plain
+use Rattle.redir_data.specs.declared.packet.RedirPacket.TheVariants.{Plain}
+use Rattle.redir_data.specs.declared.packet.RedirPacket.{RedirPacket}
+use Rattle.unlink_race.specs.declared.live.Live.{Live}
+use Rattle.unlink_race.specs.Searches.{goes_by_id as is_answered_by_id}
+use Rattle.gate_core.specs.declared.note.Note.{Note}
+use Rattle.gate_core.specs.declared.note.Note.TheVariants as note
+use Rattle.gate_core.specs.declared.kept.Kept.{Kept}
+use Rattle.gate_core.specs.Items.{capped}
+use Rattle.gate_core.specs.Marks.{Submission, Fact, Effect, Ends, Refuses, Unbuilt, Mark}
+use Rattle.gate_core.specs.Facts.{no_facts, tell}
+use Rattle.gate_core.specs.Sides.{refused_at, leaves, is_loss, closes_host, imports, refuses_client, ends_client, agrees, never, turned}
+use Rattle.gate_core.specs.Submits.{Pending, ByClient, ByLoss, opened, own_end, ends, is_answered}
+use Rattle.gate_core.specs.Ids.{last_of}
+use Rattle.gate_core.specs.State.{State, submits}
+use Rattle.gate_core.specs.Verdict.{Verdict, Now, Wire, Routed, IsoOut, Stream, is_wire, goes_by_id}
+use Rattle.gate_core.specs.Meaning.{mark_as, drawn_by}
+use Rattle.gate_core.specs.Answers.{answers_at}
+use Rattle.gate_core.specs.Output.{fresh, present, answered, replies, cancels, cancel, asked_packets, acknowledgements, to_client}
+use Rattle.gate_core.specs.Notes.{when, import_notes, submit_notes, unlink_notes, answer_notes, is_by_answer, refusal_notes, is_by_client, dropped}
+use Rattle.gate_core.specs.All.{is_ret_submit, is_won_unlink}
+use Rattle.gate_core.specs.Bytes.{host_packet_bytes}
+use Rattle.gate_core.specs.Machine.{ask}
+use Rattle.gate_core.specs.inner.Rows.{is_wire_row, kind_of, row_of, row, unmarked, left_row, cancel_bytes}
+use Rattle.gate_core.specs.inner.Holds.{Holds, Does, HasLeft}
+use Rattle.gate_core.proofs.Lists.{every, filter-same, filter-none, filter-all, flat_map-same, flat_map-none}
+use Rattle.gate_core.proofs.Lost.{capped-same}
+
+-- ---- rows
+
+pub wire-row : (v : Verdict) (ep : ℕ) → is_wire_row (kind_of v ep) ≡ is_wire v
+wire-row (Now status) ep = refl
+wire-row (Wire pipe) ep = refl
+wire-row (Routed r) ep = refl
+wire-row IsoOut ep = refl
+wire-row (Stream r) ep = refl
+
+pub by_id-row : (s : Submission) (by : Option ℕ) → is_answered_by_id (row_of s by) ≡ goes_by_id s.verdict
+by_id-row s by = of s.verdict
+  where
+    of : (v : Verdict) → is_answered_by_id (row_of (record s { verdict = v }) by) ≡ goes_by_id v
+    of (Now status) = refl
+    of (Wire pipe) = refl
+    of (Routed r) = refl
+    of IsoOut = refl
+    of (Stream r) = refl
+
+-- what is left at the host
+left-rows : (ps : List Pending) → map unmarked (filter is_answered_by_id (map row ps)) ≡ map left_row (filter (λ s. goes_by_id s.verdict) (map (λ (p : Pending). p.submit) ps))
+left-rows [] = refl
+left-rows (p ∷ ps) =
+    ap (λ (b : Bool). map unmarked (cond b (row p ∷ filter is_answered_by_id (map row ps)) (filter is_answered_by_id (map row ps)))) (by_id-row p.submit p.unlinker)
+    ∙ elim (goes_by_id p.submit.verdict) as (λ b. map unmarked (cond b (row p ∷ filter is_answered_by_id (map row ps)) (filter is_answered_by_id (map row ps)))
+    ≡ map left_row (cond b (p.submit ∷ filter (λ s. goes_by_id s.verdict) (map (λ (q : Pending). q.submit) ps)) (filter (λ s. goes_by_id s.verdict) (map (λ (q : Pending). q.submit) ps)))) [
+      | true ↦ ap (λ (ls : List Live). left_row p.submit ∷ ls) (left-rows ps)
+      | false ↦ left-rows ps
+    ]
+
+-- the cancels
+cancel-rows : (caps : Caps) (test : Pending → Bool) → ((p : Pending) → test p ≡ (is_wire p.submit.verdict && is_none p.unlinker)) → (ps : List Pending) →
+    flat_map (cancel_bytes caps) (map row ps) ≡ flat_map (host_packet_bytes caps) (map cancel (filter test ps))
+cancel-rows caps test h [] = refl
+cancel-rows caps test h (p ∷ ps) =
+    (λ i. cond (wire-row p.submit.verdict p.submit.request.transfer.ep i && is_none p.unlinker) (host_packet_bytes caps (p.submit.id, Plain plain.Cancel)) [] ++ cancel-rows caps test h ps i)
+    ∙ ap (λ (b : Bool). cond b (host_packet_bytes caps (p.submit.id, Plain plain.Cancel)) [] ++ flat_map (host_packet_bytes caps) (map cancel (filter test ps))) (sym (h p))
+    ∙ elim (test p) as (λ b. cond b (host_packet_bytes caps (p.submit.id, Plain plain.Cancel)) [] ++ flat_map (host_packet_bytes caps) (map cancel (filter test ps)) ≡ flat_map (host_packet_bytes caps) (map cancel (cond b (p ∷ filter test ps) (filter test ps)))) [
+      | true ↦ refl
+      | false ↦ refl
+    ]
+
+-- what is kept once the client is gone, but whether it is over; so many submits are dropped that were never live
+abbrev pub left_of : Kept → ℕ → Kept
+left_of old more = record old {
+  lives = record { live = []; abandoned = old.lives.abandoned ++ filter is_answered_by_id old.lives.live };
+  imported = false;
+  dropped = capped (old.dropped + (length old.lives.live + more));
+}
+
+pub left-none : (old new : Kept) → HasLeft old new → new ≡ left_of old 0
+left-none old new h = h.is ∙ ap (λ (n : ℕ). record (left_of old 0) { dropped = capped n }) (omega arith)
+
+pub left-one : (old new : Kept) → HasLeft old new → record new { dropped = min (new.dropped + 1) (2 ^ 64 - 1) } ≡ left_of old 1
+left-one old new h =
+    ap (λ (k : Kept). record k { dropped = min (k.dropped + 1) (2 ^ 64 - 1) }) h.is
+    ∙ ap (λ (n : ℕ). record (left_of old 1) { dropped = n }) (omega arith)
+
+-- ---- an effect with which the client is gone, and that does nothing else; it may open a submit, and tell so first
+
+pub record IsLeaving (st : State) (e : Effect) (first : List Note) : Type 0 where
+  pub gone : leaves e ≡ true
+  pub keeps : is_loss e ≡ false
+  pub open_host : closes_host e ≡ false
+  pub no_caps : agrees e ≡ None
+  pub no_import : imports e ≡ false
+  pub silent : replies st e ≡ []
+  pub cancel_is : (p : Pending) → cancels e p ≡ (is_wire p.submit.verdict && is_none p.unlinker)
+  pub no_packets : asked_packets e ≡ []
+  pub no_ids : drawn_by st e ≡ []
+  pub no_word : (caps : Caps) → acknowledgements caps e ≡ []
+  pub told_first : import_notes e ++ submit_notes e ++ unlink_notes e ≡ first
+
+and-true : (b : Bool) → (b && true) ≡ b
+and-true true = refl
+and-true false = refl
+
+pub end-leaves : (st : State) → IsLeaving st (Ends Client) []
+end-leaves st = record {
+  gone = refl;
+  keeps = refl;
+  open_host = refl;
+  no_caps = refl;
+  no_import = refl;
+  silent = refl;
+  cancel_is = λ p. and-true (is_wire p.submit.verdict && is_none p.unlinker);
+  no_packets = refl;
+  no_ids = refl;
+  no_word = λ caps. refl;
+  told_first = refl;
+}
+
+pub refusal-leaves : (st : State) (r : Refusal) → r.side ≡ Client → IsLeaving st (Refuses r) []
+refusal-leaves st r e =
+    subst (λ (q : Refusal). IsLeaving st (Refuses q) []) (λ i. record { side = sym e i; place = r.place; reason = r.reason; kept = r.kept })
+    (record {
+      gone = refl;
+      keeps = refl;
+      open_host = refl;
+      no_caps = refl;
+      no_import = refl;
+      silent = refl;
+      cancel_is = λ p. and-true (is_wire p.submit.verdict && is_none p.unlinker);
+      no_packets = refl;
+      no_ids = refl;
+      no_word = λ caps. refl;
+      told_first = refl;
+    })
+
+pub unbuilt-leaves : (st : State) (s : Submission) (place : ℕ) → IsLeaving st (Unbuilt s place) (note.Submitted s.request.number s.id ∷ [])
+unbuilt-leaves st s place = record {
+  gone = refl;
+  keeps = refl;
+  open_host = refl;
+  no_caps = refl;
+  no_import = refl;
+  silent = refl;
+  cancel_is = λ p. and-true (is_wire p.submit.verdict && is_none p.unlinker);
+  no_packets = refl;
+  no_ids = refl;
+  no_word = λ caps. refl;
+  told_first = refl;
+}
+
+module _ (st : State) (e : Effect) (first : List Note) (l : IsLeaving st e first) where
+  none-pass : (test : Pending → Bool) → ((p : Pending) → test p ≡ false) → (ps : List Pending) → filter test ps ≡ []
+  none-pass test h ps = filter-same test (λ p. false) ps (every (λ p. test p ≡ false) h ps) ∙ filter-none ps
+
+  all-pass : (test : Pending → Bool) → ((p : Pending) → test p ≡ true) → (ps : List Pending) → filter test ps ≡ ps
+  all-pass test h ps = filter-same test (λ p. true) ps (every (λ p. test p ≡ true) h ps) ∙ filter-all ps
+
+  ended : (p : Pending) → ends e p.submit ≡ Some ByClient
+  ended p = ap (λ (b : Bool). cond b (Some ByClient) (cond (is_loss e) (Some ByLoss) (own_end e p.submit))) l.gone
+
+  left-live : map row (map (ask e) (filter (λ p. is_none (ends e p.submit)) (present st e))) ≡ []
+  left-live = ap (λ (ps : List Pending). map row (map (ask e) ps)) (none-pass (λ p. is_none (ends e p.submit)) (λ p. ap is_none (ended p)) (present st e))
+
+  left-dropped : length (dropped st (mark_as st e None)) ≡ length st.live + length (opened e)
+  left-dropped =
+      length-map (filter (λ p. is_by_client (ends e p.submit)) (present st e)) (λ (p : Pending). p.submit)
+      ∙ ap length (all-pass (λ p. is_by_client (ends e p.submit)) (λ p. ap is_by_client (ended p)) (present st e))
+      ∙ length-append st.live (map fresh (opened e)) ∙ ap (λ (n : ℕ). length st.live + n) (length-map (opened e) fresh)
+
+  left-notes : answer_notes st e ≡ []
+  left-notes = ap (map (λ (p : Pending). note.Answered p.submit.request.number)) (none-pass (λ p. is_by_answer (ends e p.submit)) (λ p. ap is_by_answer (ended p)) (present st e))
+
+  left-answers : to_client st (mark_as st e None) ≡ []
+  left-answers =
+      (λ i. l.silent i ++ answered st e)
+      ∙ ap (map Urb) (flat_map-same (λ p. answers_at p.submit p.unlinker (ends e p.submit)) (λ p. []) (present st e) (every (λ p. answers_at p.submit p.unlinker (ends e p.submit) ≡ []) (λ p. ap (answers_at p.submit p.unlinker) (ended p)) (present st e))
+      ∙ flat_map-none (present st e))
+
+  -- what is kept, sent and told
+  pub does-leave : (old new : Kept) (client host_old host_new : List ℕ) (notes_old notes_new : List Note) → Holds old st → old.answered ≤ 2 ^ 64 - 1 → old.unlinked ≤ 2 ^ 64 - 1 →
+      new ≡ record (left_of old (length (opened e))) { client_over = turned refuses_client ends_client e old.client_over } →
+      host_new ≡ host_old ++ flat_map (cancel_bytes old.caps) old.lives.live →
+      notes_new ≡ notes_old ++ (first ++ when (not old.client_over) note.ClientGone ++ refusal_notes (refused_at e)) →
+      Does st (mark_as st e None) old new client client host_old host_new notes_old notes_new
+  does-leave old new client host_old host_new notes_old notes_new h answered_fits unlinked_fits is host notes =
+      let m = mark_as st e None in
+      let rows : length old.lives.live ≡ length st.live = ap length h.live ∙ length-map st.live row in
+      record {
+        holds = record {
+          facts = ap (λ (k : Kept). k.facts) is ∙ h.facts ∙ sym (ap (λ (b : Bool). cond b no_facts (tell st.facts None)) l.keeps);
+          caps = ap (λ (k : Kept). k.caps) is ∙ h.caps ∙ sym (ap (λ (a : Option Caps). unwrap_or a st.agreed) l.no_caps);
+          imported = ap (λ (k : Kept). k.imported) is ∙ (λ i. cond (sym l.no_import i) true (cond (sym l.gone i) false st.imported));
+          lost = ap (λ (k : Kept). k.lost) is ∙ h.lost ∙ (λ i. cond (sym l.keeps i) true (cond (sym l.no_import i) false st.lost));
+          client_over = ap (λ (k : Kept). k.client_over) is ∙ ap (turned refuses_client ends_client e) h.client_over;
+          host_over = ap (λ (k : Kept). k.host_over) is ∙ h.host_over ∙ sym (ap (λ (b : Bool). cond b true st.host_over) l.open_host);
+          last = ap (λ (k : Kept). k.last) is ∙ h.last ∙ ap (last_of st.last) (sym l.no_ids);
+          live = ap (λ (k : Kept). k.lives.live) is ∙ sym left-live;
+          abandoned = ap (λ (k : Kept). map unmarked k.lives.abandoned) is
+              ∙ map-append unmarked old.lives.abandoned (filter is_answered_by_id old.lives.live)
+              ∙ (λ i. h.abandoned i ++ map unmarked (filter is_answered_by_id (h.live i)))
+              ∙ ap (λ (ls : List Live). map left_row st.abandoned ++ ls) (left-rows st.live)
+              ∙ sym (map-append left_row st.abandoned (filter (λ s. goes_by_id s.verdict) (submits st)))
+              ∙ ap (λ (b : Bool). map left_row (cond b (st.abandoned ++ filter (λ s. goes_by_id s.verdict) (submits st)) (cond (is_loss e) [] (filter (λ s. not (is_answered e s)) st.abandoned)))) (sym l.gone);
+        };
+        client = sym (append-nil client) ∙ ap (λ (ps : List ClientPacket). client ++ flat_map client_spelling ps) (sym left-answers);
+        host = host ∙ ap (λ (bs : List ℕ). host_old ++ bs)
+            ((λ i. flat_map (cancel_bytes (h.caps i)) (h.live i)) ∙ cancel-rows st.agreed (cancels e) l.cancel_is st.live
+            ∙ ap (flat_map (host_packet_bytes st.agreed)) (sym (append-nil (map cancel (filter (cancels e) st.live))) ∙ sym (append-nil (map cancel (filter (cancels e) st.live) ++ []))
+            ∙ (λ i. (map cancel (filter (cancels e) st.live) ++ zip (sym l.no_ids i) (sym l.no_packets i)) ++ sym (l.no_word st.agreed) i)));
+        notes = notes ∙ ap (λ (ns : List Note). notes_old ++ ns)
+            (ap (λ (ns : List Note). (ns ++ when (not old.client_over) note.ClientGone) ++ refusal_notes (refused_at e)) (sym (append-nil first) ∙ sym (append-nil (first ++ [])))
+            ∙ (λ i. (((sym l.told_first i ++ sym left-notes i) ++ when ((sym l.keeps i && st.imported) && not st.lost) note.DeviceGone) ++ when (sym l.gone i && not (h.client_over i)) note.ClientGone) ++ refusal_notes (refused_at e)));
+        answered = ap (λ (k : Kept). k.answered) is ∙ capped-same old.answered answered_fits ∙ ap (λ (ps : List ClientPacket). capped (old.answered + length (filter is_ret_submit ps))) (sym left-answers);
+        unlinked = ap (λ (k : Kept). k.unlinked) is ∙ capped-same old.unlinked unlinked_fits ∙ ap (λ (ps : List ClientPacket). capped (old.unlinked + length (filter is_won_unlink ps))) (sym left-answers);
+        dropped = ap (λ (k : Kept). k.dropped) is ∙ ap (λ (n : ℕ). capped (old.dropped + n)) (ap (λ (n : ℕ). n + length (opened e)) rows ∙ sym left-dropped);
+      }

@@ -1,0 +1,10 @@
+use Rattle.std.proofs.Common.{◌≡◌, Option, Some, sym, ap, ◌∙◌}
+use Rattle.std.specs.Option.{option_copied}
+use Rattle.gate_core.specs.inner.Rows.{cancel_bytes}
+use Rattle.gate_core.proofs.Fronts.{sent-next}
+use Rattle.gate_core.proofs.kept.Kept.write_cancels.Goals as goal
+
+pub loop-place-preserved : goal.loop-place-preserved
+loop-place-preserved c =
+    sent-next (cancel_bytes c.args.self.now.caps) c.args.self.now.lives.live c.loop-place.place c.unwrap-live.result.now _ _ _
+    (sym c.at.ensures ∙ ap option_copied c.unwrap-live.ensures) c.loop-place.invariant c.in_ok-write_cancel_of.ensures.ok

@@ -1,0 +1,267 @@
+//! How submits end together: with the loss of the device, and with their client.
+
+ghost use Rattle.std.specs.Prelude.{◌≡◌, ◌++◌, ◌&&◌, not, ℕ, List, None, false, OnOk, OnErr, IfOk, length, filter};
+ghost use Rattle.std.specs.List.{flat_map};
+ghost use Rattle.usb_base.specs.declared.side.Side.TheVariants.{Client, Host};
+ghost use Rattle.redir_wire.specs.Header.{IdFits};
+ghost use Rattle.gate_core.specs.Flight.{wide_ids};
+ghost use Rattle.gate_core.specs.declared.note.Note.TheVariants.{DeviceGone, ClientGone};
+ghost use Rattle.gate_core.specs.Items.{capped};
+ghost use Rattle.gate_core.specs.Marks.{Submission, Disconnects, Ends, Refuses, Unbuilt};
+ghost use Rattle.gate_core.specs.Sides.{refusal};
+ghost use Rattle.gate_core.specs.Output.{acknowledgements};
+ghost use Rattle.gate_core.specs.Bytes.{host_packet_bytes};
+ghost use Rattle.gate_core.specs.State.{State};
+ghost use Rattle.gate_core.specs.Meaning.{mark_as};
+ghost use Rattle.gate_core.specs.Notes.{when};
+ghost use Rattle.gate_core.specs.inner.Holds.{IsKept, Holds, Does, Leaves, Extends, HasLost, HasLeft};
+ghost use Rattle.gate_core.specs.inner.Rows.{lost_bytes, cancel_bytes, is_asked_back};
+
+use crate::ask::{write_cancel, write_disconnect_ack};
+use crate::facts::Facts;
+use crate::finish::write_lost;
+use crate::kept::Kept;
+use crate::note::{Note, Notes};
+use redir_wire::{Caps, DISCONNECT_ACK};
+use unlink_race::{Live, LiveKind};
+use usb_base::{Bytes, Memory, Reason, Refusal, Side};
+
+impl Kept {
+    /// Appends the answers of all requests in flight, whose device is lost. It gives the number of those that were asked
+    /// back, whose unlinks are answered.
+    pub fn write_losses(&self, to_client: &mut Bytes) -> Result<u64, Memory>
+        requires { IsKept self.now }
+        ensures ok { OnOk result (to_client.new ≡ to_client.old ++ flat_map lost_bytes self.now.lives.live) }
+        ensures count { IfOk result (λ unlinked. unlinked ≡ length (filter is_asked_back self.now.lives.live)) }
+        ensures err { OnErr result (Extends to_client.old to_client.new) }
+    {
+        let mut unlinked = 0;
+        for place in 0..self.lives.len() {
+            let live = self.lives.at(place).unwrap();
+            write_lost(self.alloc, live, to_client)?;
+            unlinked += u64::from(live.unlinker.is_some());
+        }
+        Ok(unlinked)
+    }
+
+    /// Appends the cancels of the transfers on the wire that weren't asked back, whose client is gone.
+    pub fn write_cancels(&self, to_host: &mut Bytes) -> Result<(), Memory>
+        requires { IsKept self.now }
+        ensures ok { OnOk result (to_host.new ≡ to_host.old ++ flat_map (cancel_bytes self.now.caps) self.now.lives.live) }
+        ensures err { OnErr result (Extends to_host.old to_host.new) }
+    {
+        for place in 0..self.lives.len() {
+            let live = self.lives.at(place).unwrap();
+            write_cancel_of(live, self.caps, to_host)?;
+        }
+        Ok(())
+    }
+
+    /// The device is lost: what the host has told goes with it, and all requests have ended, of which so many were asked
+    /// back.
+    pub fn lose(&mut self, unlinked: u64)
+        requires kept { IsKept self.old }
+        ensures kept { IsKept self.new }
+        ensures lost { HasLost unlinked self.old self.new }
+    {
+        let live = self.lives.len() as u64;
+        self.answered = self.answered.saturating_add(live.saturating_sub(unlinked));
+        self.unlinked = self.unlinked.saturating_add(unlinked);
+        if self.lives.abandoned() == 0 {
+            self.lives.abandon();
+        }
+        self.lives.forget_abandoned();
+        self.facts = Facts::none();
+        self.lost = true;
+    }
+
+    /// The host has ended: its device is lost with it.
+    pub fn host_left(&mut self, to_client: &mut Bytes, notes: &mut Notes) -> Result<(), Memory>
+        requires kept { IsKept self.old }
+        ensures kept { IsKept self.new }
+        ensures ok { (st : State) (host : List ℕ) → Holds self.old st → OnOk result (Does st (mark_as st (Ends Host) None) self.old self.new to_client.old to_client.new host host notes.old notes.new) }
+        ensures err { (host : List ℕ) → OnErr result (Leaves self.old self.new to_client.old to_client.new host host notes.old notes.new) }
+    {
+        let unlinked = self.write_losses(to_client)?;
+        self.tell_loss(notes)?;
+        self.lose(unlinked);
+        self.host_over = true;
+        Ok(())
+    }
+
+    /// The host is refused: its device is lost with it.
+    pub fn refuse_host(
+        &mut self,
+        refusal: Refusal,
+        to_client: &mut Bytes,
+        notes: &mut Notes,
+    ) -> Result<(), Memory>
+        requires kept { IsKept self.old }
+        requires side { refusal.side ≡ Host }
+        ensures kept { IsKept self.new }
+        ensures ok { (st : State) (host : List ℕ) → Holds self.old st → OnOk result (Does st (mark_as st (Refuses refusal) None) self.old self.new to_client.old to_client.new host host notes.old notes.new) }
+        ensures err { (host : List ℕ) → OnErr result (Leaves self.old self.new to_client.old to_client.new host host notes.old notes.new) }
+    {
+        let unlinked = self.write_losses(to_client)?;
+        self.tell_loss(notes)?;
+        notes.push(Note::Refused(refusal))?;
+        self.lose(unlinked);
+        self.host_over = true;
+        Ok(())
+    }
+
+    /// The device is gone, and the host waits for this packet of it to be acknowledged.
+    pub fn disconnect(
+        &mut self,
+        id: u64,
+        to_client: &mut Bytes,
+        to_host: &mut Bytes,
+        notes: &mut Notes,
+    ) -> Result<(), Memory>
+        requires kept { IsKept self.old }
+        requires id_fits { IdFits (wide_ids self.old.caps) id }
+        ensures kept { IsKept self.new }
+        ensures ok { (st : State) → Holds self.old st → OnOk result (Does st (mark_as st (Disconnects id) None) self.old self.new to_client.old to_client.new to_host.old to_host.new notes.old notes.new) }
+        ensures err { OnErr result (Leaves self.old self.new to_client.old to_client.new to_host.old to_host.new notes.old notes.new) }
+    {
+        let unlinked = self.write_losses(to_client)?;
+        self.tell_loss(notes)?;
+        acknowledge(id, self.caps, to_host)?;
+        self.lose(unlinked);
+        Ok(())
+    }
+
+    /// The client has left.
+    pub fn client_left(&mut self, to_host: &mut Bytes, notes: &mut Notes) -> Result<(), Memory>
+        requires kept { IsKept self.old }
+        ensures kept { IsKept self.new }
+        ensures ok { (st : State) (client : List ℕ) → Holds self.old st → OnOk result (Does st (mark_as st (Ends Client) None) self.old self.new client client to_host.old to_host.new notes.old notes.new) }
+        ensures err { (client : List ℕ) → OnErr result (Leaves self.old self.new client client to_host.old to_host.new notes.old notes.new) }
+    {
+        self.write_cancels(to_host)?;
+        self.tell_gone(notes)?;
+        self.leave();
+        self.client_over = false;
+        Ok(())
+    }
+
+    /// The client is refused.
+    pub fn refuse_client(
+        &mut self,
+        refusal: Refusal,
+        to_host: &mut Bytes,
+        notes: &mut Notes,
+    ) -> Result<(), Memory>
+        requires kept { IsKept self.old }
+        requires side { refusal.side ≡ Client }
+        ensures kept { IsKept self.new }
+        ensures ok { (st : State) (client : List ℕ) → Holds self.old st → st.client_over ≡ false → OnOk result (Does st (mark_as st (Refuses refusal) None) self.old self.new client client to_host.old to_host.new notes.old notes.new) }
+        ensures err { (client : List ℕ) → OnErr result (Leaves self.old self.new client client to_host.old to_host.new notes.old notes.new) }
+    {
+        self.write_cancels(to_host)?;
+        notes.push(Note::ClientGone)?;
+        notes.push(Note::Refused(refusal))?;
+        self.leave();
+        self.client_over = true;
+        Ok(())
+    }
+
+    /// The client is refused for a submit that is accepted, but for which nothing is built: it counts as dropped.
+    pub fn refuse_unbuilt(
+        &mut self,
+        number: u32,
+        place: u64,
+        to_host: &mut Bytes,
+        notes: &mut Notes,
+    ) -> Result<(), Memory>
+        requires kept { IsKept self.old }
+        ensures kept { IsKept self.new }
+        ensures ok { (st : State) (client : List ℕ) (s : Submission) (at : ℕ) → Holds self.old st → st.client_over ≡ false → s.request.number ≡ number → s.id ≡ 0 → place ≡ capped at
+            → OnOk result (Does st (mark_as st (Unbuilt s at) None) self.old self.new client client to_host.old to_host.new notes.old notes.new) }
+        ensures err { (client : List ℕ) → OnErr result (Leaves self.old self.new client client to_host.old to_host.new notes.old notes.new) }
+    {
+        self.write_cancels(to_host)?;
+        notes.push(Note::Submitted {
+            seqnum: number,
+            id: 0,
+        })?;
+        notes.push(Note::ClientGone)?;
+        notes.push(Note::Refused(client_refusal(place, Reason::NotBuilt)))?;
+        self.leave();
+        self.client_over = true;
+        self.dropped = self.dropped.saturating_add(1);
+        Ok(())
+    }
+
+    /// Tells that an import stands no more.
+    fn tell_loss(&self, notes: &mut Notes) -> Result<(), Memory>
+        ensures ok { OnOk result (notes.new ≡ notes.old ++ when (self.now.imported && not self.now.lost) DeviceGone) }
+        ensures err { OnErr result (notes.new ≡ notes.old) }
+    {
+        if self.imported && !self.lost {
+            notes.push(Note::DeviceGone)?;
+        }
+        Ok(())
+    }
+
+    /// Tells that the client is gone; one that was refused was gone before its end.
+    fn tell_gone(&self, notes: &mut Notes) -> Result<(), Memory>
+        ensures ok { OnOk result (notes.new ≡ notes.old ++ when (not self.now.client_over) ClientGone) }
+        ensures err { OnErr result (notes.new ≡ notes.old) }
+    {
+        if !self.client_over {
+            notes.push(Note::ClientGone)?;
+        }
+        Ok(())
+    }
+
+    /// The client is gone: the host still has its transfers, which are abandoned.
+    pub fn leave(&mut self)
+        requires kept { IsKept self.old }
+        ensures kept { IsKept self.new }
+        ensures left { HasLeft self.old self.new }
+    {
+        self.dropped = self.dropped.saturating_add(self.lives.len() as u64);
+        if self.lives.abandoned() == 0 {
+            self.lives.abandon();
+        }
+        self.imported = false;
+    }
+}
+
+// Appends the cancel of a transfer on the wire, and nothing for any other request.
+fn write_cancel_of(live: &Live, caps: Caps, to_host: &mut Bytes) -> Result<(), Memory>
+    requires { IdFits (wide_ids caps) live.now.id }
+    ensures ok { OnOk result (to_host.new ≡ to_host.old ++ cancel_bytes caps live.now) }
+    ensures err { OnErr result (to_host.new ≡ to_host.old) }
+{
+    match (live.kind, live.unlinker) {
+        (LiveKind::Wire { .. }, None) => write_cancel(live.id, caps, to_host),
+        _ => Ok(()),
+    }
+}
+
+// A disconnect is acknowledged where that is agreed.
+fn acknowledge(id: u64, caps: Caps, to_host: &mut Bytes) -> Result<(), Memory>
+    requires { IdFits (wide_ids caps) id }
+    ensures ok { OnOk result (to_host.new ≡ to_host.old ++ flat_map (host_packet_bytes caps) (acknowledgements caps (Disconnects id))) }
+    ensures err { OnErr result (to_host.new ≡ to_host.old) }
+{
+    if caps.has(DISCONNECT_ACK) {
+        write_disconnect_ack(id, caps, to_host)?;
+    }
+    Ok(())
+}
+
+/// A client is refused at this place of its stream.
+pub fn client_refusal(place: u64, reason: Reason) -> Refusal
+    ensures value { (at : ℕ) → place ≡ capped at → result ≡ refusal Client at reason }
+    ensures side { result.side ≡ Client }
+{
+    Refusal {
+        side: Side::Client,
+        place,
+        reason,
+        kept: None,
+    }
+}

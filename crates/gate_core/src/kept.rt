@@ -1,0 +1,61 @@
+//! What is kept of the items that have come.
+
+ghost use Rattle.std.specs.Prelude.{◌≡◌, ◌≤◌, IfOk};
+ghost use Rattle.gate_core.specs.inner.Holds.{IsFirst, IsKept};
+
+use crate::facts::Facts;
+use redir_wire::Caps;
+use std::alloc::Global;
+use unlink_race::Lives;
+use usb_base::Memory;
+
+/// The requests in flight, what the host has told, where both sides stand, and what was counted.
+#[derive(Drop)]
+pub struct Kept {
+    pub alloc: Global,
+    /// The requests in flight.
+    pub lives: Lives,
+    pub facts: Facts,
+    /// The capabilities that are agreed, none before the host's hello.
+    pub caps: Caps,
+    /// The present client has imported the device.
+    pub imported: bool,
+    /// The device was lost after the last import.
+    pub lost: bool,
+    /// The present client was refused.
+    pub client_over: bool,
+    /// The host has ended or was refused.
+    pub host_over: bool,
+    /// The id that was drawn last.
+    pub last: u64,
+    /// RET_SUBMITs that were sent.
+    pub answered: u64,
+    /// RET_UNLINKs with -104 that were sent.
+    pub unlinked: u64,
+    /// Submits that ended with their client.
+    pub dropped: u64,
+}
+
+impl Kept {
+    /// Nothing has come yet. The first packet to the host gets the first id.
+    pub fn make(alloc: Global, first_id: u64) -> Result<Kept, Memory>
+        requires { 1 ≤ first_id }
+        ensures first { IfOk result (λ kept. IsFirst kept first_id) }
+        ensures kept { IfOk result (λ kept. IsKept kept) }
+    {
+        Ok(Kept {
+            alloc,
+            lives: Lives::make(alloc)?,
+            facts: Facts::none(),
+            caps: Caps { bits: 0 },
+            imported: false,
+            lost: false,
+            client_over: false,
+            host_over: false,
+            last: first_id - 1,
+            answered: 0,
+            unlinked: 0,
+            dropped: 0,
+        })
+    }
+}
