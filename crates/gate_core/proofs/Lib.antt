@@ -21,3 +21,4 @@ pub mod Answered
 pub mod Fronts
 pub mod Lost
 pub mod Left
+pub mod Steady

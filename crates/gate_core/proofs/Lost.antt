@@ -92,7 +92,7 @@ pub record IsLoss (st : State) (e : Effect) : Type 0 where
   pub no_ids : drawn_by st e ≡ []
   pub no_notes : import_notes e ++ submit_notes e ++ unlink_notes e ≡ []
 
-and-false : (b : Bool) → (b && false) ≡ false
+pub and-false : (b : Bool) → (b && false) ≡ false
 and-false true = refl
 and-false false = refl
 

@@ -21,7 +21,7 @@ use Rattle.gate_core.specs.Built.{is_built}
 use Rattle.gate_core.specs.Marks.{Submission, Effect, Mark}
 use Rattle.gate_core.specs.State.{State, state_of, has_number}
 use Rattle.gate_core.specs.Responses.{Response, response_of}
-use Rattle.gate_core.specs.Meaning.{may_import, imported_as, op_meaning, accepts, urb_meaning, asked_meaning, answered_as, answer_to, by_response, told_meaning, meaning, mark_of}
+use Rattle.gate_core.specs.Meaning.{importable, imported_as, op_meaning, accepts, urb_meaning, asked_meaning, answered_as, answer_to, by_response, told_meaning, meaning, mark_of}
 use Rattle.gate_core.specs.Past.{is_left_out, put, past}
 use Rattle.gate_core.specs.All.{all_of}
 use Rattle.gate_core.specs.Machine.{after, step, run, given, all_given}
@@ -39,8 +39,7 @@ placed-import n st (Some c) = tt
 
 placed-op : (st : State) (place : ℕ) (p : OpPacket) → IsPlaced st.items (op_meaning st place p)
 placed-op st place (op.ReqDevlist status) = either st.items st.imported _ _ tt tt
-placed-op st place (op.ReqImport status busid) =
-    either st.items st.imported _ _ tt (either st.items (may_import st busid) _ _ (placed-import st.items st st.facts.connect) tt)
+placed-op st place (op.ReqImport status busid) = either st.items st.imported _ _ tt (placed-import st.items st (importable st busid))
 placed-op st place (op.RepDevlist status devices) = tt
 placed-op st place (op.RepImport status device) = tt
 

@@ -48,12 +48,17 @@ abbrev pub imported_as : State → Option Connect → Effect
 imported_as st None = Replies failed_import
 imported_as st (Some c) = Imports (import_reply st.facts c)
 
+-- the device that an import of this bus id would get
+abbrev pub importable : State → List ℕ → Option Connect
+importable st busid = if may_import st busid then st.facts.connect else None
+
+abbrev pub import_meaning : State → List ℕ → Effect
+import_meaning st busid = imported_as st (importable st busid)
+
 abbrev pub op_meaning : State → ℕ → OpPacket → Effect
 op_meaning st place (op.ReqDevlist status) = if st.imported then refused Client place AlreadyImported else Replies (list_reply st.facts)
 op_meaning st place (op.ReqImport status busid) =
-    if st.imported then refused Client place AlreadyImported
-    else if may_import st busid then imported_as st st.facts.connect
-    else Replies failed_import
+    if st.imported then refused Client place AlreadyImported else import_meaning st busid
 op_meaning st place (op.RepDevlist status devices) = Idle
 op_meaning st place (op.RepImport status device) = Idle
 

@@ -1,5 +1,6 @@
 -- What is true of the state after every past.
-use Rattle.std.specs.Prelude.{◌≡◌, ℕ, ◌≤◌, true, false, [], ◌++◌, length, filter}
+use Rattle.std.specs.Prelude.{◌≡◌, ℕ, ◌≤◌, ◌<◌, true, false, [], ◌++◌, length, filter}
+use Rattle.std.specs.List.{AllByRecursion}
 use Rattle.gate_core.specs.Submits.{has_id}
 use Rattle.gate_core.specs.State.{State, submits, is_number}
 
@@ -9,6 +10,8 @@ pub record IsSound (st : State) : Type 0 where
   -- a client comes once nothing is left of the former, and only one that has imported has submits
   pub apart : st.imported ≡ true → st.abandoned ≡ []
   pub gone : st.imported ≡ false → st.live ≡ []
+  -- each submit stands before the next item
+  pub places : AllByRecursion (λ s. s.place < st.items) (submits st)
   -- an id is that of one request at most, and so is a number
   pub ids : (id : ℕ) → length (filter (has_id id) (submits st ++ st.abandoned)) ≤ 1
   pub numbers : (number : ℕ) → length (filter (is_number number) (submits st)) ≤ 1

@@ -4,6 +4,7 @@
 
 mod answer;
 mod ask;
+mod client;
 mod end;
 mod errno;
 mod event;

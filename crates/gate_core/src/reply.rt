@@ -1,6 +1,7 @@
 //! The replies to list and import requests.
 
 ghost use Rattle.std.specs.Prelude.{◌≡◌, ◌≤◌, length, take, IfOk};
+ghost use Rattle.usbip_op.specs.Ranges.{IsWritable};
 ghost use Rattle.gate_core.specs.Replies.{rows as rows_of, interface_rows, device_row, list_reply, import_reply, failed_import, is_exported};
 
 use crate::facts::Facts;
@@ -12,7 +13,8 @@ use usbip_op::{DeviceRow, IfaceRow, IfaceRows, Listed, ListedRows, OpPacket};
 
 /// The list of the one device, or of none before its device_connect.
 pub fn list_reply(alloc: Global, facts: &Facts) -> Result<OpPacket, Memory>
-    ensures { IfOk result (λ reply. reply ≡ list_reply facts.now) }
+    ensures value { IfOk result (λ reply. reply ≡ list_reply facts.now) }
+    ensures writable { IfOk result IsWritable }
 {
     let mut devices = ListedRows::new(alloc);
     if let Some(connect) = &facts.connect {
@@ -25,7 +27,8 @@ pub fn list_reply(alloc: Global, facts: &Facts) -> Result<OpPacket, Memory>
 
 /// The device, to a client that imports it.
 pub fn import_reply(facts: &Facts, connect: &Connect) -> OpPacket
-    ensures { result ≡ import_reply facts.now connect.now }
+    ensures value { result ≡ import_reply facts.now connect.now }
+    ensures writable { IsWritable result }
 {
     let device = device_row(facts, connect, interface_count(&facts.interfaces));
     OpPacket::RepImport {
@@ -36,7 +39,8 @@ pub fn import_reply(facts: &Facts, connect: &Connect) -> OpPacket
 
 /// The reply to an import that fails. Clients take any status other than 0 so.
 pub fn failed_import() -> OpPacket
-    ensures { result ≡ failed_import }
+    ensures value { result ≡ failed_import }
+    ensures writable { IsWritable result }
 {
     OpPacket::RepImport {
         status: 1,

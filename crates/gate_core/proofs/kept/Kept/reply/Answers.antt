@@ -1,0 +1,17 @@
+use Rattle.std.proofs.Common.{◌≡◌, ℕ, ◌+◌, ◌&&◌, not, cond, Bool, true, false, List, [], ◌∷◌, ◌++◌, length, Option, Some, None, OnOk, refl, sym, ap, subst, ◌∙◌, append_assoc, arith}
+use Rattle.std.proofs.lemmas.List.{append-nil}
+use Rattle.gate_core.specs.declared.kept.Kept.{Kept}
+use Rattle.gate_core.specs.declared.note.Note.{Note}
+use Rattle.gate_core.specs.Marks.{Effect, Refuses, Replies, Imports}
+use Rattle.gate_core.specs.Meaning.{mark_as}
+use Rattle.gate_core.specs.inner.Holds.{Does}
+use Rattle.usbip_urb.specs.declared.client.ClientPacket.TheVariants.{Op}
+use Rattle.gate_core.proofs.Steady.{replies-steady, does-steady, rows-same, host-same, one-reply, stays-uncancelled}
+use Rattle.gate_core.proofs.kept.Kept.reply.Goals as goal
+
+pub returns-clause-ok : goal.returns-clause-ok
+returns-clause-ok c st host notes h =
+    let old = c.args.self.now in
+    let e = Replies c.args.reply.now in
+    does-steady st _ (replies-steady st c.args.reply.now) old old old.lives.live _ _ host host notes notes h c.requires.kept.answered_fits c.requires.kept.unlinked_fits c.requires.kept.dropped_fits
+    (rows-same e old.lives.live st.live (λ s. refl) h.live) refl (one-reply c.args.to_client.now c.write_op.new.out (Op c.args.reply.now) c.in_ok-write_op.ensures) (host-same st.agreed e host st.live stays-uncancelled) (sym (append-nil notes))
