@@ -160,9 +160,11 @@ opening-import st (Some c) h = record { imported = tt; new = tt; alone = λ k. h
 
 opening-op : (st : State) (place : ℕ) (p : OpPacket) → IsOpening st (op_meaning st place p)
 opening-op st place (op.ReqDevlist status) = when st st.imported _ _ (λ h. none st _ refl refl) (λ h. none st _ refl refl)
-opening-op st place (op.ReqImport status busid) =
-    when st st.imported _ _ (λ h. none st _ refl refl)
-    (λ h. when st (may_import st busid) _ _ (λ k. opening-import st st.facts.connect (none-nil st.abandoned (both-right (is_exported busid) (none_of st.abandoned) k))) (λ k. none st _ refl refl))
+opening-op st place (op.ReqImport status busid) = when st st.imported _ _ (λ h. none st _ refl refl) (λ h. by (may_import st busid) refl)
+  where
+    by : (b : Bool) → may_import st busid ≡ b → IsOpening st (imported_as st (cond b st.facts.connect None))
+    by true e = opening-import st st.facts.connect (none-nil st.abandoned (both-right (is_exported busid) (none_of st.abandoned) e))
+    by false e = none st _ refl refl
 opening-op st place (op.RepDevlist status devices) = none st _ refl refl
 opening-op st place (op.RepImport status device) = none st _ refl refl
 
