@@ -38,7 +38,7 @@ not-not : (b : Bool) → not (not b) ≡ b
 not-not true = refl
 not-not false = refl
 
-address-way : (is_in : Bool) (n : ℕ) → n ≤ 15 → is_in_endpoint (address is_in n) ≡ is_in
+pub address-way : (is_in : Bool) (n : ℕ) → n ≤ 15 → is_in_endpoint (address is_in n) ≡ is_in
 address-way true n few = ap not (le-ltb (n + 128) 128 (omega arith))
 address-way false n few = ap not (lt-ltb n 128 (omega arith))
 
@@ -104,7 +104,7 @@ by_route-carried wide route.Bad t sent = tt
 no-length : (n : ℕ) → (not (n == 0) && true) ≡ false → n ≡ 0
 no-length n e = elim (eqb_tells n 0) [ inl h ↦ h.1 | inr h ↦ absurd (true≢false (rw h.0 at e)) ]
 
-not-false : (b : Bool) → not b ≡ false → b ≡ true
+pub not-false : (b : Bool) → not b ≡ false → b ≡ true
 not-false true e = refl
 not-false false e = absurd (true≢false e)
 

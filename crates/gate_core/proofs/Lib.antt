@@ -22,3 +22,6 @@ pub mod Fronts
 pub mod Lost
 pub mod Left
 pub mod Steady
+pub mod Reading
+pub mod Opened
+pub mod Flown

@@ -1,6 +1,6 @@
 //! The packets to the host: its hello, those that ask for a transfer, cancels and acknowledgements.
 
-ghost use Rattle.std.specs.Prelude.{◌≡◌, ◌++◌, ◌∷◌, [], true, length, zip, All, OnOk, OnErr};
+ghost use Rattle.std.specs.Prelude.{◌≡◌, ◌≤◌, ◌++◌, ◌∷◌, [], true, length, zip, All, OnOk, OnErr};
 ghost use Rattle.std.specs.List.{flat_map};
 ghost use Rattle.redir_wire.specs.Header.{IdFits};
 ghost use Rattle.redir_wire.specs.Capability.{has, no_caps};
@@ -78,6 +78,18 @@ fn wire_packet(pipe: Pipe, transfer: Transfer) -> RedirData
             length: wanted as u16,
             body,
         },
+    }
+}
+
+/// How many packets ask for a route.
+pub fn packet_count(route: &Route) -> usize
+    ensures count { result ≡ length (route_packets route.now) }
+    ensures few { result ≤ 2 }
+{
+    match route {
+        Route::Local | Route::Plain | Route::Bad => 0,
+        Route::Reset => 2,
+        _ => 1,
     }
 }
 

@@ -21,6 +21,7 @@ mod note;
 mod reply;
 mod request;
 mod response;
+mod submit;
 mod translator;
 mod verdict;
 

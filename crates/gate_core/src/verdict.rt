@@ -1,8 +1,9 @@
 //! What is made of a submit.
 
-ghost use Rattle.std.specs.Prelude.{◌≡◌};
-ghost use Rattle.gate_core.specs.Verdict.{verdict, by_route, by_setup, by_kind, by_endpoint, is_narrow};
-ghost use Rattle.gate_core.specs.inner.Views.{request_view, verdict_view};
+ghost use Rattle.std.specs.Prelude.{◌≡◌, ◌⊎◌, ◌<◌, true};
+ghost use Rattle.gate_core.specs.Verdict.{verdict, goes_by_id, by_route, by_setup, by_kind, by_endpoint, is_narrow};
+ghost use Rattle.gate_core.specs.inner.Views.{request_view, pipe_view, verdict_view};
+ghost use Rattle.gate_core.specs.inner.Rows.{kind_of, pipe_kind, IsRead};
 ghost use Rattle.gate_core.specs.inner.Carried.{IsRequest, IsCarried};
 
 use crate::errno::{EBUSY, EINVAL, EMSGSIZE, ENOENT, ESHUTDOWN};
@@ -17,6 +18,19 @@ pub enum Pipe {
     Control,
     Bulk,
     InterruptOut,
+}
+
+impl Pipe {
+    /// The kind of endpoints that have such transfers.
+    pub fn kind(self) -> EpKind
+        ensures { result ≡ pipe_kind (pipe_view self) }
+    {
+        match self {
+            Pipe::Control => EpKind::Control,
+            Pipe::Bulk => EpKind::Bulk,
+            Pipe::InterruptOut => EpKind::Interrupt,
+        }
+    }
 }
 
 /// What is made of a submit.
@@ -53,6 +67,9 @@ pub fn decide(
 ) -> Verdict
     ensures value { verdict_view result ≡ verdict lost live changing table.now wide (request_view request.now) }
     ensures carried { IsRequest (request_view request.now) → IsCarried wide (verdict_view result) request.now.transfer }
+    ensures reads { IsRequest (request_view request.now) → goes_by_id (verdict_view result) ≡ true
+        → (request.now.transfer.wanted ≡ 0) ⊎ IsRead request.now.is_in (kind_of (verdict_view result) request.now.transfer.ep) }
+    ensures room { goes_by_id (verdict_view result) ≡ true → live < 4096 }
 {
     if lost {
         return Verdict::Now(ESHUTDOWN);

@@ -1,6 +1,6 @@
 -- When what is kept stands for a state of the machine, and what it does with an item.
-use Rattle.std.specs.Prelude.{◌≡◌, ◌+◌, ◌-◌, ◌^◌, [], ◌++◌, ◌≤◌, ℕ, Bool, true, false, List, length, map, filter, Option, Some, None}
-use Rattle.std.specs.List.{AllByRecursion}
+use Rattle.std.specs.Prelude.{◌≡◌, ◌⊎◌, ◌∷◌, ◌<◌, not, ◌+◌, ◌-◌, ◌^◌, [], ◌++◌, ◌≤◌, ℕ, Bool, true, false, List, length, map, filter, Option, Some, None}
+use Rattle.std.specs.List.{AllByRecursion, list_any}
 use Rattle.usb_base.specs.declared.reason.Reason.{Reason}
 use Rattle.usbip_urb.specs.declared.code.TheConstants.{MAX_LENGTH}
 use Rattle.usbip_urb.specs.ClientPackets.{IsClientPacket}
@@ -13,7 +13,9 @@ use Rattle.redir_data.specs.declared.packet.RedirPacket.{RedirPacket}
 use Rattle.redir_data.specs.declared.packet.RedirPacket.TheVariants.{Plain, Carrying}
 use Rattle.redir_data.specs.Spelling.{data_count}
 use Rattle.unlink_race.specs.Requests.{no_requests}
-use Rattle.unlink_race.specs.Searches.{goes_by_id}
+use Rattle.unlink_race.specs.declared.live.Live.{Live}
+use Rattle.unlink_race.specs.declared.live.LiveKind.{LiveKind}
+use Rattle.unlink_race.specs.Searches.{goes_by_id, has_number, is_stream}
 use Rattle.gate_core.specs.declared.note.Note.{Note}
 use Rattle.gate_core.specs.declared.kept.Kept.{Kept}
 use Rattle.gate_core.specs.declared.item.Item.{Item as RawItem}
@@ -21,6 +23,7 @@ use Rattle.gate_core.specs.declared.item.Item.TheVariants as raw
 use Rattle.gate_core.specs.Items.{Item, Asked, ClientWrong, ClientLeft, Told, HostWrong, HostLeft, capped}
 use Rattle.gate_core.specs.Marks.{Mark, Submission}
 use Rattle.gate_core.specs.Facts.{no_facts}
+use Rattle.gate_core.specs.Verdict.{Verdict, goes_by_id as goes_by_id_of}
 use Rattle.gate_core.specs.Flight.{wide_ids}
 use Rattle.gate_core.specs.Responses.{Response, Data, Status, response_of}
 use Rattle.gate_core.specs.State.{State}
@@ -30,7 +33,9 @@ use Rattle.gate_core.specs.Notes.{notes_of, dropped}
 use Rattle.gate_core.specs.All.{is_ret_submit, is_won_unlink}
 use Rattle.gate_core.specs.Bytes.{client_bytes_of, host_bytes_of}
 use Rattle.gate_core.specs.Machine.{start, after}
-use Rattle.gate_core.specs.inner.Rows.{row, unmarked, left_row, IsFine}
+use Rattle.gate_core.specs.Requests.{Request}
+use Rattle.gate_core.specs.inner.Asked.{HasItsPackets}
+use Rattle.gate_core.specs.inner.Rows.{row, unmarked, left_row, kind_of, IsFine, IsRead}
 
 -- ---- standing for a state
 
@@ -39,6 +44,7 @@ pub record IsKept (t : Kept) : Type 0 where
   pub fine : AllByRecursion (IsFine t.caps) t.lives.live
   -- a client has requests only once it has imported the device, and imports it only once nothing is left of the former
   pub apart : t.imported ≡ true → t.lives.abandoned ≡ []
+  pub few : length t.lives.live ≤ 4096
   pub answered_fits : t.answered ≤ 2 ^ 64 - 1
   pub unlinked_fits : t.unlinked ≤ 2 ^ 64 - 1
   pub dropped_fits : t.dropped ≤ 2 ^ 64 - 1
@@ -142,3 +148,41 @@ pub record HasLeft (old new : Kept) : Type 0 where
     imported = false;
     dropped = capped (old.dropped + length old.lives.live);
   }
+
+-- ---- a submit is taken in
+
+-- its number is free, and there is room for it
+pub record IsFree (t : Kept) (number : ℕ) : Type 0 where
+  pub imported : t.imported ≡ true
+  pub number_free : list_any (has_number number) t.lives.live ≡ false
+  pub room : length t.lives.live < 4096
+
+-- the row of a request that goes as one of this kind, under this id
+abbrev pub row_for : Request → LiveKind → ℕ → Live
+row_for r kind id = record {
+  seqnum = r.number;
+  id = id;
+  kind = kind;
+  is_in = r.is_in;
+  wanted = r.transfer.wanted;
+  flags = r.flags;
+  packets = r.packets;
+  descs = r.descs;
+  unlinker = None;
+}
+
+-- it is the last of the live ones, and this is the last id that was drawn
+pub record HasOpened (live : Live) (last : ℕ) (old new : Kept) : Type 0 where
+  pub is : new ≡ record old { lives = record { live = old.lives.live ++ live ∷ []; abandoned = old.lives.abandoned }; last = last }
+
+-- such a request can be answered
+pub record CanAnswer (r : Request) (kind : LiveKind) : Type 0 where
+  pub packets : HasItsPackets r.packets r.descs
+  pub few_bytes : r.transfer.wanted ≤ MAX_LENGTH
+  pub read : (r.transfer.wanted ≡ 0) ⊎ IsRead r.is_in kind
+  pub by_id : not (is_stream kind) ≡ true
+
+-- one that goes by an id can be answered, and finds room
+pub record CanGo (t : Kept) (r : Request) (v : Verdict) : Type 0 where
+  pub answered : goes_by_id_of v ≡ true → CanAnswer r (kind_of v r.transfer.ep)
+  pub room : goes_by_id_of v ≡ true → length t.lives.live < 4096

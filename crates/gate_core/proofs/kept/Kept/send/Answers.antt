@@ -1,0 +1,38 @@
+use Rattle.std.proofs.Common.{◌≡◌, ℕ, ◌+◌, List, [], ◌∷◌, ◌++◌, length, None, refl, sym, ap, ◌∙◌, arith}
+use Rattle.std.specs.Prelude.{zip}
+use Rattle.std.proofs.lemmas.List.{append-nil}
+use Rattle.redir_wire.specs.declared.packet.Caps.{Caps}
+use Rattle.unlink_race.specs.declared.live.Live.{Live}
+use Rattle.gate_core.specs.declared.kept.Kept.{Kept}
+use Rattle.unlink_race.specs.declared.live.LiveKind.TheVariants as live_kind
+use Rattle.gate_core.specs.declared.note.Note.TheVariants as note
+use Rattle.gate_core.specs.inner.Holds.{row_for}
+use Rattle.gate_core.proofs.Lost.{capped-same}
+use Rattle.gate_core.specs.Verdict.{Wire, Routed}
+use Rattle.gate_core.specs.Ids.{draw, greatest}
+use Rattle.gate_core.specs.Flight.{wide_ids}
+use Rattle.gate_core.specs.State.{flying, next_ids}
+use Rattle.gate_core.specs.Packets.{wire_packet, route_packets}
+use Rattle.gate_core.specs.Meaning.{submission}
+use Rattle.gate_core.specs.Output.{fresh}
+use Rattle.gate_core.specs.Bytes.{host_packet_bytes}
+use Rattle.gate_core.specs.inner.Views.{request_view, pipe_view}
+use Rattle.gate_core.proofs.Opened.{does-open}
+use Rattle.gate_core.proofs.kept.Kept.send.Goals as goal
+
+pub returns-clause-ok : goal.returns-clause-ok
+returns-clause-ok c st client h sound =
+    let old = c.args.self.now in
+    let r = request_view c.args.request in
+    let v = Wire (pipe_view c.args.pipe) in
+    let s = submission st r v (next_ids st 1) in
+    let id : c.draw-id.result ≡ draw (greatest (wide_ids st.agreed)) (flying st) st.last = c.draw-id.ensures.value st h ∙ ap (draw (greatest (wide_ids st.agreed)) (flying st)) h.last in
+    does-open st s refl sound old _ (fresh s ∷ []) client client _ _ _ _ h c.requires.kept.unlinked_fits c.requires.kept.dropped_fits refl refl refl refl
+    (c.open.ensures.opened.is ∙ (λ i. record old {
+      lives = record { live = old.lives.live ++ row_for r (live_kind.Wire r.transfer.ep (c.kind.ensures i)) (id i) ∷ []; abandoned = old.lives.abandoned };
+      last = id i;
+      answered = capped-same old.answered c.requires.kept.answered_fits i;
+    }))
+    (sym (append-nil client))
+    (c.in_ok-write_wire.ensures.ok ∙ (λ i. c.args.to_host.now ++ sym (append-nil (host_packet_bytes old.caps (id i, wire_packet (pipe_view c.args.pipe) r.transfer))) i))
+    (c.in_ok-push.ensures.ok ∙ ap (λ (n : ℕ). c.args.notes.now ++ note.Submitted r.number n ∷ []) id)

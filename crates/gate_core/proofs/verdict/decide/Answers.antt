@@ -1,0 +1,13 @@
+use Rattle.std.proofs.Common.{◌≡◌, Option, Some, sym, subst}
+use Rattle.usb_base.specs.declared.setup.Setup.{Setup}
+use Rattle.gate_core.specs.Verdict.{Verdict}
+use Rattle.gate_core.specs.inner.Views.{request_view}
+use Rattle.gate_core.specs.inner.Carried.{IsDirected}
+use Rattle.gate_core.proofs.Reading.{Reads, by_setup-reads}
+use Rattle.gate_core.proofs.verdict.decide.Goals as goal
+
+pub returns-in-Some-clause-reads : goal.returns-in-Some-clause-reads
+returns-in-Some-clause-reads c is =
+    let r = c.args.request.now in
+    subst (λ (v : Verdict). Reads r.is_in r.transfer.ep r.transfer.wanted v) (sym c.by_setup.ensures)
+    (by_setup-reads (request_view r) c.in-Some.setup (subst (λ (o : Option Setup). IsDirected r.is_in o r.transfer.ep) c.in-Some.is is.directed))
