@@ -1,20 +1,21 @@
 -- The ids in flight of what is kept are those of the state.
-use Rattle.std.proofs.Common.{◌≡◌, ℕ, ◌-◌, ◌≤◌, take, get_or, length, Bool, true, false, cond, List, [], ◌∷◌, ◌++◌, map, None, refl, sym, ap, ◌∙◌, arith}
+use Rattle.std.proofs.Common.{◌≡◌, ℕ, ◌-◌, ◌≤◌, take, get_or, length, ◌==◌, ◌||◌, Bool, true, false, cond, List, [], ◌∷◌, ◌++◌, map, None, refl, sym, ap, ◌∙◌, arith}
 use Rattle.std.specs.Prelude.{filter}
 use Rattle.unlink_race.specs.declared.live.Live.{Live}
-use Rattle.unlink_race.specs.Searches.{goes_by_id as is_answered_by_id}
+use Rattle.std.specs.List.{list_any}
+use Rattle.unlink_race.specs.Searches.{goes_by_id as is_answered_by_id, is_change, changes as changes_row, has_number as has_number_row}
 use Rattle.control_route.specs.declared.route.Route.{Route}
 use Rattle.control_route.specs.declared.route.Route.TheVariants as route
 use Rattle.gate_core.specs.Ids.{draw, draws, last_of}
 use Rattle.gate_core.specs.Packets.{route_packets}
 use Rattle.gate_core.specs.declared.kept.Kept.{Kept}
-use Rattle.gate_core.specs.Verdict.{goes_by_id}
+use Rattle.gate_core.specs.Verdict.{Verdict, Now, Wire, Routed, IsoOut, Stream, goes_by_id, changes}
 use Rattle.gate_core.specs.Marks.{Submission}
 use Rattle.gate_core.specs.Submits.{Pending}
 use Rattle.gate_core.specs.Flight.{ids_of}
-use Rattle.gate_core.specs.State.{State, flying}
+use Rattle.gate_core.specs.State.{State, flying, is_number}
 use Rattle.gate_core.specs.inner.Flying.{row_ids, ids_in}
-use Rattle.gate_core.specs.inner.Rows.{row, unmarked, left_row}
+use Rattle.gate_core.specs.inner.Rows.{kind_of, row, unmarked, left_row}
 use Rattle.gate_core.specs.inner.Holds.{Holds}
 use Rattle.gate_core.proofs.Left.{by_id-row}
 
@@ -80,3 +81,20 @@ last-drawn m f last route.Reset a b some = refl
 last-drawn m f last route.Local a b some = absurd (omega arith)
 last-drawn m f last route.Plain a b some = absurd (omega arith)
 last-drawn m f last route.Bad a b some = absurd (omega arith)
+
+-- ---- what the searches of the rows find
+
+change-row : (v : Verdict) (ep : ℕ) → is_change (kind_of v ep) ≡ changes v
+change-row (Now status) ep = refl
+change-row (Wire pipe) ep = refl
+change-row (Routed r) ep = refl
+change-row IsoOut ep = refl
+change-row (Stream r) ep = refl
+
+pub change-rows : (ps : List Pending) → list_any changes_row (map row ps) ≡ list_any (λ s. changes s.verdict) (map (λ (p : Pending). p.submit) ps)
+change-rows [] = refl
+change-rows (p ∷ ps) = λ i. change-row p.submit.verdict p.submit.request.transfer.ep i || change-rows ps i
+
+pub number-rows : (n : ℕ) (ps : List Pending) → list_any (has_number_row n) (map row ps) ≡ list_any (is_number n) (map (λ (p : Pending). p.submit) ps)
+number-rows n [] = refl
+number-rows n (p ∷ ps) = ap (λ (b : Bool). (p.submit.request.number == n) || b) (number-rows n ps)

@@ -1,6 +1,7 @@
 -- Which way the data of a transfer that goes by an id may move.
-use Rattle.std.proofs.Common.{◌≡◌, ◌⊎◌, ◌&&◌, ◌==◌, ℕ, ◌<◌, Bool, true, false, cond, not, Option, Some, None, refl, sym, ap, subst, ◌∙◌, inl, inr, List, [], ◌∷◌, arith}
-use Rattle.std.specs.Prelude.{nat_lt, nat_le}
+use Rattle.std.proofs.Common.{rules, w32, ◌≡◌, ◌⊎◌, ◌&&◌, ◌==◌, ℕ, ◌<◌, Bool, true, false, cond, not, Option, Some, None, refl, sym, ap, subst, ◌∙◌, inl, inr, List, [], ◌∷◌, arith}
+use Rattle.std.specs.Prelude.{nat_lt, nat_le, FitsSigned}
+use Rattle.unlink_race.specs.Searches.{is_stream}
 use Rattle.std.specs.List.{find}
 use Rattle.std.proofs.lemmas.Bool.{cases_Bool, false≢true, true≢false, eqb-true, leb-false}
 use Rattle.std.proofs.lemmas.Bool.Decides.{eqb_tells}
@@ -144,3 +145,64 @@ by_id-room lost n changing table wide r h = go lost (nat_le 4096 n) refl h
     go true b e k = absurd (false≢true k)
     go false true e k = absurd (false≢true k)
     go false false e k = leb-false 4096 n e
+
+-- ---- its status is one of 32 bits
+
+abbrev pub StatusFits : Verdict → Type 0
+StatusFits (Now status) = FitsSigned w32 status
+StatusFits (Wire pipe) = Unit {0}
+StatusFits (Routed r) = Unit {0}
+StatusFits IsoOut = Unit {0}
+StatusFits (Stream row) = Unit {0}
+
+either-fits : (b : Bool) (v w : Verdict) → StatusFits v → StatusFits w → StatusFits (cond b v w)
+either-fits true v w h k = h
+either-fits false v w h k = k
+
+by_route-fits : (r : Route) → StatusFits (by_route r)
+by_route-fits route.Local = (search rules)
+by_route-fits (route.SetConfig configuration) = tt
+by_route-fits route.GetConfig = tt
+by_route-fits (route.SetAlt interface alt) = tt
+by_route-fits (route.GetAlt interface) = tt
+by_route-fits route.Reset = tt
+by_route-fits route.Plain = tt
+by_route-fits route.Bad = (search rules)
+
+by_kind-fits : (r : Request) (row : EpRow) (k : EpKind) → StatusFits (by_kind r row k)
+by_kind-fits r row kind.Control = (search rules)
+by_kind-fits r row kind.Iso = either-fits r.is_in (Stream row) IsoOut tt tt
+by_kind-fits r row kind.Bulk = tt
+by_kind-fits r row kind.Interrupt = either-fits r.is_in (Stream row) (Wire InterruptOut) tt tt
+by_kind-fits r row kind.Invalid = (search rules)
+
+by_endpoint-fits : (wide : Bool) (r : Request) (row : EpRow) → StatusFits (by_endpoint wide r row)
+by_endpoint-fits wide r row =
+    either-fits (is_invalid row.kind) (Now enoent) _ (search rules)
+    (either-fits (is_control row.kind) (Now einval) _ (search rules)
+    (either-fits (bool_eq (is_iso row.kind) (none_of r.descs)) (Now einval) _ (search rules)
+    (either-fits (not (laid r.descs r.transfer.wanted)) (Now einval) _ (search rules)
+    (either-fits (is_narrow wide r.is_in row.kind && nat_lt max_narrow r.transfer.wanted) (Now emsgsize) _ (search rules) (by_kind-fits r row row.kind)))))
+
+by_setup-fits : (r : Request) (s : Setup) → StatusFits (by_setup r s)
+by_setup-fits r s =
+    either-fits (not (none_of r.descs)) (Now einval) _ (search rules)
+    (either-fits (not (s.length == 0) && not (bool_eq (is_in_setup s) r.is_in)) (Now einval) _ (search rules)
+    (either-fits (not (s.length == r.transfer.wanted)) (Now einval) _ (search rules) (by_route-fits (route_of s))))
+
+by_transfer-fits : (changing : Bool) (table : EpTable) (wide : Bool) (r : Request) (o : Option Setup) → StatusFits (by_transfer changing table wide r o)
+by_transfer-fits changing table wide r None = either-fits changing (Now enoent) _ (search rules) (by_endpoint-fits wide r (row_of table r.transfer.ep))
+by_transfer-fits changing table wide r (Some s) = by_setup-fits r s
+
+pub verdict-fits : (lost : Bool) (live : ℕ) (changing : Bool) (table : EpTable) (wide : Bool) (r : Request) → StatusFits (verdict lost live changing table wide r)
+verdict-fits lost live changing table wide r =
+    either-fits lost (Now eshutdown) _ (search rules) (either-fits (nat_le max_live live) (Now ebusy) _ (search rules) (by_transfer-fits changing table wide r r.transfer.setup))
+
+-- ---- and it goes as some packets, or waits for none
+
+pub not-stream : (v : Verdict) (ep : ℕ) → goes_by_id v ≡ true → not (is_stream (kind_of v ep)) ≡ true
+not-stream (Now status) ep h = absurd (false≢true h)
+not-stream (Wire pipe) ep h = refl
+not-stream (Routed r) ep h = refl
+not-stream IsoOut ep h = absurd (false≢true h)
+not-stream (Stream row) ep h = absurd (false≢true h)

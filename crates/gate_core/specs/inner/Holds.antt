@@ -26,6 +26,7 @@ use Rattle.gate_core.specs.Facts.{no_facts}
 use Rattle.gate_core.specs.Verdict.{Verdict, goes_by_id as goes_by_id_of}
 use Rattle.gate_core.specs.Flight.{wide_ids}
 use Rattle.gate_core.specs.Responses.{Response, Data, Status, response_of}
+use Rattle.gate_core.specs.Packets.{packets_of}
 use Rattle.gate_core.specs.State.{State}
 use Rattle.gate_core.specs.Meaning.{mark_of}
 use Rattle.gate_core.specs.Output.{to_client}
@@ -186,3 +187,4 @@ pub record CanAnswer (r : Request) (kind : LiveKind) : Type 0 where
 pub record CanGo (t : Kept) (r : Request) (v : Verdict) : Type 0 where
   pub answered : goes_by_id_of v ≡ true → CanAnswer r (kind_of v r.transfer.ep)
   pub room : goes_by_id_of v ≡ true → length t.lives.live < 4096
+  pub sends : goes_by_id_of v ≡ true → 1 ≤ length (packets_of v r.transfer)

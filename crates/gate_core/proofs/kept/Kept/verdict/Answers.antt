@@ -1,0 +1,36 @@
+use Rattle.std.proofs.Common.{◌≡◌, ℕ, suc, ◌≤◌, Bool, true, length, sym, ap, subst, ◌∙◌, arith}
+use Rattle.std.proofs.lemmas.List.{length-map}
+use Rattle.unlink_race.specs.Searches.{changes}
+use Rattle.std.specs.List.{list_any}
+use Rattle.gate_core.specs.Verdict.{Verdict, verdict, goes_by_id}
+use Rattle.gate_core.specs.Flight.{wide_bulk}
+use Rattle.gate_core.specs.Packets.{packets_of}
+use Rattle.gate_core.specs.inner.Views.{request_view, verdict_view}
+use Rattle.gate_core.specs.inner.Rows.{row}
+use Rattle.gate_core.proofs.Flown.{change-rows}
+use Rattle.gate_core.proofs.Reading.{not-stream}
+use Rattle.gate_core.proofs.Openings.{verdict-sends}
+use Rattle.gate_core.proofs.kept.Kept.verdict.Goals as goal
+
+pub returns-clause-value : goal.returns-clause-value
+returns-clause-value c st h =
+    let t = c.args.self.now in
+    let live = c.len.ensures.len ∙ ap length h.live ∙ length-map st.live row in
+    let changing = c.change_waits-changing.ensures ∙ ap (list_any changes) h.live ∙ change-rows st.live in
+    let wide = c.has-wide.ensures ∙ ap wide_bulk h.caps in
+    c.decide.ensures.value ∙ (λ i. verdict (h.lost i) (live i) (changing i) (h.facts i).table (wide i) (request_view c.args.request.now))
+
+pub returns-clause-answered : goal.returns-clause-answered
+returns-clause-answered c =
+    let t = c.args.self.now in
+    let r = request_view c.args.request.now in
+    let w = c.requires.whole in
+    record {
+      answered = λ by. record { packets = record { few = w.few_packets; counted = w.descs }; few_bytes = w.few_bytes; read = c.decide.ensures.reads w by; by_id = not-stream (verdict_view c.decide.result) r.transfer.ep by };
+      room = λ by. omega (arith, c.decide.ensures.room by, c.len.ensures.len);
+      sends = λ by.
+          let v = verdict t.lost c.len.result c.change_waits-changing.result t.facts.table c.has-wide.result r in
+          let some = verdict-sends r.transfer t.lost c.len.result c.change_waits-changing.result t.facts.table c.has-wide.result r (sym (ap goes_by_id c.decide.ensures.value) ∙ by) in
+          let is : length (packets_of (verdict_view c.decide.result) r.transfer) ≡ suc some.more = ap (λ (x : Verdict). length (packets_of x r.transfer)) c.decide.ensures.value ∙ some.is in
+          omega (arith, is);
+    }
