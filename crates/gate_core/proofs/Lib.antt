@@ -25,3 +25,5 @@ pub mod Steady
 pub mod Reading
 pub mod Opened
 pub mod Flown
+pub mod Unlinked
+pub mod Unlinking

@@ -125,7 +125,7 @@ module _ (st : State) (e : Effect) (l : IsSteady st e) where
 
 -- ---- where none is asked back
 
-or_else-none : (by : Option ℕ) → or_else by None ≡ by
+pub or_else-none : (by : Option ℕ) → or_else by None ≡ by
 or_else-none None = refl
 or_else-none (Some n) = refl
 

@@ -23,6 +23,7 @@ mod request;
 mod response;
 mod submit;
 mod translator;
+mod unlink;
 mod verdict;
 
 pub use event::Event;

@@ -1,0 +1,107 @@
+-- What an unlink makes of what is kept, and what it sends and tells.
+use Rattle.std.proofs.Common.{◌≡◌, ℕ, ◌+◌, ◌-◌, ◌^◌, ◌≤◌, ◌==◌, ◌&&◌, ◌||◌, Bool, true, false, cond, not, List, [], ◌∷◌, ◌++◌, length, map, Option, Some, None, pos, refl, sym, ap, subst, ◌∙◌, arith}
+use Rattle.std.specs.Prelude.{filter, is_none}
+use Rattle.std.specs.List.{list_any, flat_map}
+use Rattle.std.proofs.lemmas.List.{append-nil, length-map}
+use Rattle.usbip_urb.specs.declared.client.ClientPacket.{ClientPacket}
+use Rattle.usbip_urb.specs.declared.client.ClientPacket.TheVariants.{Urb}
+use Rattle.usbip_urb.specs.ClientPackets.{client_spelling}
+use Rattle.usbip_urb.specs.Spelling.{spelling}
+use Rattle.redir_wire.specs.declared.packet.Caps.{Caps}
+use Rattle.redir_wire.specs.declared.packet.RedirControl.TheVariants as plain
+use Rattle.redir_data.specs.declared.packet.RedirPacket.TheVariants.{Plain}
+use Rattle.unlink_race.specs.declared.live.Live.{Live}
+use Rattle.unlink_race.specs.Searches.{has_number}
+use Rattle.gate_core.specs.declared.note.Note.{Note}
+use Rattle.gate_core.specs.declared.note.Note.TheVariants as note
+use Rattle.gate_core.specs.declared.kept.Kept.{Kept}
+use Rattle.gate_core.specs.declared.unlink.Asked.{Asked}
+use Rattle.gate_core.specs.Sides.{or_else}
+use Rattle.gate_core.specs.Marks.{Submission, Unlinks}
+use Rattle.gate_core.specs.Verdict.{is_wire, goes_by_id}
+use Rattle.gate_core.specs.Submits.{Pending}
+use Rattle.gate_core.specs.State.{State, is_number, submits}
+use Rattle.gate_core.specs.Meaning.{mark_as}
+use Rattle.gate_core.specs.Sound.{IsSound}
+use Rattle.gate_core.specs.Answers.{ret_unlink}
+use Rattle.gate_core.specs.Output.{is_target, replies, cancels, cancel}
+use Rattle.gate_core.specs.All.{is_ret_submit, is_won_unlink}
+use Rattle.gate_core.specs.Bytes.{host_packet_bytes}
+use Rattle.gate_core.specs.Machine.{ask}
+use Rattle.gate_core.specs.inner.Rows.{row, row_of, is_wire_row, kind_of}
+use Rattle.gate_core.specs.inner.Unlinked.{asked_row, is_target_row, cancel_row, left_told, is_late, told_bytes}
+use Rattle.gate_core.specs.inner.Holds.{Holds, Does}
+use Rattle.gate_core.proofs.Lists.{filter-map}
+use Rattle.gate_core.proofs.Left.{wire-row, by_id-row}
+use Rattle.gate_core.proofs.Unlinked.{Told}
+use Rattle.gate_core.proofs.Steady.{IsSteady, does-steady}
+
+silent : (b : Bool) (p : ClientPacket) (test : ClientPacket → Bool) → test p ≡ false → filter test (cond b [] (p ∷ [])) ≡ []
+silent true p test h = refl
+silent false p test h = ap (λ (b : Bool). cond b (p ∷ []) []) h
+
+unlinks-steady : (st : State) (by target : ℕ) → IsSteady st (Unlinks by target)
+unlinks-steady st by target = record {
+  stays = refl;
+  keeps = refl;
+  open_host = refl;
+  no_refusal = refl;
+  no_end = refl;
+  opens = refl;
+  ends_none = λ p. refl;
+  answers_none = λ s. refl;
+  no_packets = refl;
+  no_ids = refl;
+  no_word = λ caps. refl;
+  no_place = refl;
+  no_answer = silent (list_any (is_target target) st.live) (Urb (ret_unlink by (pos 0))) is_ret_submit refl;
+  none_won = silent (list_any (is_target target) st.live) (Urb (ret_unlink by (pos 0))) is_won_unlink refl;
+}
+
+-- ---- the rows are those of the submits
+
+asked-rows : (by target : ℕ) (ps : List Pending) → map (asked_row target by) (map row ps) ≡ map row (map (ask (Unlinks by target)) ps)
+asked-rows by target [] = refl
+asked-rows by target (p ∷ ps) =
+    λ i. row_of p.submit (or_else p.unlinker (cond (by_id-row p.submit p.unlinker i && (p.submit.request.number == target)) (Some by) None)) ∷ asked-rows by target ps i
+
+target-rows : (target : ℕ) (ps : List Pending) → list_any (is_target_row target) (map row ps) ≡ list_any (is_target target) ps
+target-rows target [] = refl
+target-rows target (p ∷ ps) = λ i. (by_id-row p.submit p.unlinker i && (p.submit.request.number == target) && is_none p.unlinker) || target-rows target ps i
+
+cancelled-rows : (caps : Caps) (by target : ℕ) (ps : List Pending) → flat_map (cancel_row caps target) (map row ps) ≡ flat_map (host_packet_bytes caps) (map cancel (filter (cancels (Unlinks by target)) ps))
+cancelled-rows caps by target [] = refl
+cancelled-rows caps by target (p ∷ ps) =
+    (λ i. cond (wire-row p.submit.verdict p.submit.request.transfer.ep i && (by_id-row p.submit p.unlinker i && (p.submit.request.number == target) && is_none p.unlinker)) (host_packet_bytes caps (p.submit.id, Plain plain.Cancel)) [] ++ cancelled-rows caps by target ps i)
+    ∙ elim (cancels (Unlinks by target) p) as (λ b. cond b (host_packet_bytes caps (p.submit.id, Plain plain.Cancel)) [] ++ flat_map (host_packet_bytes caps) (map cancel (filter (cancels (Unlinks by target)) ps))
+    ≡ flat_map (host_packet_bytes caps) (map cancel (cond b (p ∷ filter (cancels (Unlinks by target)) ps) (filter (cancels (Unlinks by target)) ps)))) [ true ↦ refl | false ↦ refl ]
+
+pub one-numbered : (t : Kept) (st : State) (target : ℕ) → Holds t st → IsSound st → length (filter (has_number target) t.lives.live) ≤ 1
+one-numbered t st target h sound =
+    let here : List Pending = filter (λ p. p.submit.request.number == target) st.live in
+    let a : length (filter (has_number target) t.lives.live) ≡ length here =
+    ap (λ (ls : List Live). length (filter (has_number target) ls)) h.live ∙ ap length (filter-map (has_number target) row st.live) ∙ length-map here row in
+    let b : length (filter (is_number target) (submits st)) ≡ length here =
+    ap length (filter-map (is_number target) (λ (p : Pending). p.submit) st.live) ∙ length-map here (λ (p : Pending). p.submit) in
+    omega (arith, a, b, sound.numbers target)
+
+-- ---- what is done
+
+pub does-unlink : (st : State) (by target : ℕ) (told : Asked) (old new : Kept) (client_old client_new host_old host_new : List ℕ) (notes_old notes_new : List Note) → Holds old st →
+    old.answered ≤ 2 ^ 64 - 1 → old.unlinked ≤ 2 ^ 64 - 1 → old.dropped ≤ 2 ^ 64 - 1 → Told old.caps target by old.lives.live told →
+    new ≡ record old { lives = record { live = left_told told target by old.lives.live; abandoned = old.lives.abandoned } } →
+    client_new ≡ client_old ++ cond (is_late told) (spelling (ret_unlink by (pos 0))) [] →
+    host_new ≡ host_old ++ told_bytes old.caps told →
+    notes_new ≡ notes_old ++ note.UnlinkAsked by target ∷ [] →
+    Does st (mark_as st (Unlinks by target) None) old new client_old client_new host_old host_new notes_old notes_new
+does-unlink st by target told old new client_old client_new host_old host_new notes_old notes_new h a u d t is client host notes =
+    does-steady st (Unlinks by target) (unlinks-steady st by target) old new (left_told told target by old.lives.live) client_old client_new host_old host_new notes_old notes_new h a u d
+    (t.rows ∙ ap (map (asked_row target by)) h.live ∙ asked-rows by target st.live)
+    is
+    (client ∙ ap (λ (bs : List ℕ). client_old ++ bs) (reply (is_late told) (list_any (is_target target) st.live) (sym (target-rows target st.live) ∙ ap (list_any (is_target_row target)) (sym h.live) ∙ t.late)))
+    (host ∙ ap (λ (bs : List ℕ). host_old ++ bs) (t.bytes ∙ (λ i. flat_map (cancel_row (h.caps i) target) (h.live i)) ∙ cancelled-rows st.agreed by target st.live))
+    notes
+  where
+    reply : (late found : Bool) → found ≡ not late → cond late (spelling (ret_unlink by (pos 0))) [] ≡ flat_map client_spelling (cond found [] (Urb (ret_unlink by (pos 0)) ∷ []))
+    reply true found e = sym (append-nil (spelling (ret_unlink by (pos 0)))) ∙ ap (λ (b : Bool). flat_map client_spelling (cond b [] (Urb (ret_unlink by (pos 0)) ∷ []))) (sym e)
+    reply false found e = ap (λ (b : Bool). flat_map client_spelling (cond b [] (Urb (ret_unlink by (pos 0)) ∷ []))) (sym e)
