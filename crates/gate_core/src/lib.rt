@@ -22,6 +22,8 @@ mod reply;
 mod request;
 mod response;
 mod submit;
+mod take;
+mod told;
 mod translator;
 mod unlink;
 mod verdict;

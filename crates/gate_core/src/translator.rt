@@ -65,7 +65,7 @@ impl Translator {
         ensures err { OnErr result (DoesNothing self.old self.new to_client.old to_client.new to_host.old to_host.new notes.old notes.new) }
     {
         let before = (to_client.len(), to_host.len(), notes.len());
-        match Err(Memory) {
+        match self.kept.take(item, to_client, to_host, notes) {
             Ok(()) => Ok(()),
             Err(memory) => {
                 to_client.cut(before.0);
