@@ -25,3 +25,14 @@ pub mod Steady
 pub mod Reading
 pub mod Opened
 pub mod Flown
+pub mod Fitting
+pub mod Taking
+pub mod Apart
+pub mod InStep
+pub mod Translating
+pub mod Sides
+pub mod Pieces
+pub mod Coming
+pub mod Standing
+pub mod Ends
+pub mod Held

@@ -6,3 +6,4 @@ pub mod Carried
 pub mod Flying
 pub mod Rows
 pub mod Holds
+pub mod Steps
