@@ -27,3 +27,14 @@ pub mod Opened
 pub mod Flown
 pub mod Unlinked
 pub mod Unlinking
+pub mod Fitting
+pub mod Taking
+pub mod Apart
+pub mod InStep
+pub mod Translating
+pub mod Sides
+pub mod Pieces
+pub mod Coming
+pub mod Standing
+pub mod Ends
+pub mod Held

@@ -1,21 +1,18 @@
 -- When the gate stands for items and for events, and what one event more makes of it.
 use Rattle.std.specs.Prelude.{◌≡◌, ◌⊎◌, ◌++◌, ◌∷◌, [], ℕ, Bool, true, false, List, length, filter}
-use Rattle.std.specs.List.{AllByRecursion}
+use Rattle.usb_base.specs.Number.{AreBytes}
 use Rattle.usb_base.specs.declared.reason.Reason.{Reason}
 use Rattle.usbip_urb.specs.declared.client.ClientPacket.{ClientPacket}
 use Rattle.redir_wire.specs.declared.packet.Header.{Header}
-use Rattle.redir_wire.specs.declared.packet.Caps.{Caps}
 use Rattle.redir_data.specs.declared.packet.RedirPacket.{RedirPacket}
-use Rattle.redir_data.specs.declared.state.RedirState.{RedirState}
-use Rattle.packet_stream.specs.Split.{Reader, Position, split}
-use Rattle.packet_stream.specs.Streams.{Kept, Follows, Drained, Holds as IsLeft}
-use Rattle.packet_stream.specs.Split.{Splitting}
+use Rattle.packet_stream.specs.Split.{Reader, Position, Splitting, split}
+use Rattle.packet_stream.specs.Streams.{Kept, Drained, Closed, Holds as IsLeft}
 use Rattle.gate_core.specs.declared.note.Note.{Note}
+use Rattle.gate_core.specs.declared.kept.Kept.{Kept as Translator}
 use Rattle.gate_core.specs.declared.inner.Inner.{Inner}
 use Rattle.gate_core.specs.Events.{Event, client_bytes, host_bytes}
 use Rattle.gate_core.specs.Streams.{client_reader, client_start, host_reader, host_start}
 use Rattle.gate_core.specs.Items.{Item, Asked, ClientWrong, ClientLeft, Told, HostWrong, HostLeft, capped}
-use Rattle.gate_core.specs.Marks.{Mark}
 use Rattle.gate_core.specs.Sides.{client_over, host_over}
 use Rattle.gate_core.specs.State.{state_of}
 use Rattle.gate_core.specs.Past.{past}
@@ -36,45 +33,81 @@ HasFailed g = g.failed ≡ true
 abbrev pub asked : List Item → List (ℕ × ClientPacket)
 asked [] = []
 asked (Asked place packet ∷ xs) = asked xs ++ (place, packet) ∷ []
+asked (ClientWrong place reason ∷ xs) = asked xs
 asked (ClientLeft ∷ xs) = []
-asked (_ ∷ xs) = asked xs
+asked (Told place header packet ∷ xs) = asked xs
+asked (HostWrong place reason ∷ xs) = asked xs
+asked (HostLeft ∷ xs) = asked xs
 
 abbrev pub told : List Item → List (ℕ × (Header × RedirPacket))
 told [] = []
+told (Asked place packet ∷ xs) = told xs
+told (ClientWrong place reason ∷ xs) = told xs
+told (ClientLeft ∷ xs) = told xs
 told (Told place header packet ∷ xs) = told xs ++ (place, (header, packet)) ∷ []
-told (_ ∷ xs) = told xs
+told (HostWrong place reason ∷ xs) = told xs
+told (HostLeft ∷ xs) = told xs
 
 -- ---- items
 
--- of a side that isn't over what these packets leave of its splitting is held, and of one that is over nothing
+-- the translator stands for the past of these items, and has counted what they gave
+pub record Translates (first : ℕ) (t : Translator) (xs : List Item) : Type 0 where
+  pub state : Holds t (state_of first (past first xs))
+  pub answered : t.answered ≡ capped (length (filter is_ret_submit (all_of to_client first (past first xs))))
+  pub unlinked : t.unlinked ≡ capped (length (filter is_won_unlink (all_of to_client first (past first xs))))
+  pub dropped : t.dropped ≡ capped (length (all_of dropped first (past first xs)))
+
+-- what these packets leave of the splitting is held; nothing is where the stream has met its wrong place, and memory ran
+-- out for that
+abbrev pub IsLeftBy : {S P : Type 0} → Reader S P Reason → Kept S → Splitting S P Reason → List (ℕ × P) → Bool → Type 0
+IsLeftBy r kept x given false = IsLeft r kept x given
+IsLeftBy r kept x given true = Closed x given
+
+-- a side's stream stands for these packets of its bytes; of a side that is over nothing is held
 pub record StreamStands {S P : Type 0} (r : Reader S P Reason) (start : Position S) (kept : Kept S) (bytes : List ℕ) (given : List (ℕ × P)) (over : Bool) : Type 0 where
-  pub over_is : kept.over ≡ over
-  pub going : over ≡ false → IsLeft r kept (split r start bytes) given
-  pub none : over ≡ true → kept.held ≡ []
+  pub going : over ≡ false → IsLeftBy r kept (split r start bytes) given kept.over
+  pub ended : over ≡ true → kept.over ≡ true
+  pub none : kept.over ≡ true → kept.held ≡ []
 
 -- the gate stands for these items of what has come with these events
 pub record StandsFor (first : ℕ) (g : Inner) (events : List Event) (xs : List Item) : Type 0 where
-  pub state : Holds g.translator (state_of first (past first xs))
-  pub answered : g.translator.answered ≡ capped (length (filter is_ret_submit (all_of to_client first (past first xs))))
-  pub unlinked : g.translator.unlinked ≡ capped (length (filter is_won_unlink (all_of to_client first (past first xs))))
-  pub dropped : g.translator.dropped ≡ capped (length (all_of dropped first (past first xs)))
+  pub translates : Translates first g.translator xs
   pub client : StreamStands client_reader client_start g.client (client_bytes events) (asked xs) (client_over (past first xs))
   pub host : StreamStands host_reader host_start g.host (host_bytes events) (told xs) (host_over (past first xs))
 
 -- ---- events
 
+-- of a side that isn't over every packet was taken, and the rest is held
+pub record HasAll {S P : Type 0} (r : Reader S P Reason) (start : Position S) (kept : Kept S) (bytes : List ℕ) (given : List (ℕ × P)) (over : Bool) : Type 0 where
+  pub over_is : kept.over ≡ over
+  pub none : over ≡ true → kept.held ≡ []
+  pub empty : over ≡ true → kept.rest ≡ []
+  pub drained : over ≡ false → Drained kept (split r start bytes) given
+  pub whole : over ≡ false → kept.held ≡ kept.rest
+  pub place : over ≡ false → kept.at ≡ kept.place
+  pub fits : AreBytes bytes
+
 -- the gate works, and stands for all items of these events
 pub record Stands (first : ℕ) (g : Inner) (events : List Event) : Type 0 where
-  pub items : StandsFor first g events (arrivals events)
   pub works : g.failed ≡ false
+  pub translates : Translates first g.translator (arrivals events)
+  pub client : HasAll client_reader client_start g.client (client_bytes events) (asked (arrivals events)) (client_over (history first events))
+  pub host : HasAll host_reader host_start g.host (host_bytes events) (told (arrivals events)) (host_over (history first events))
+
+-- it stands for some events
+abbrev pub HasPast : Inner → Type 0
+HasPast g = ∥ ((first : ℕ) × ((events : List Event) × Stands first g events)) ∥₁
+
+abbrev pub IsReady : Inner → Type 0
+IsReady g = g.failed ≡ false → HasPast g
 
 -- ---- one event more
 
 -- the one list has gained what the other has
-pub record Gains (old new before after : List ℕ) : Type 0 where
-  pub bytes : List ℕ
-  pub new-is : new ≡ old ++ bytes
-  pub after-is : after ≡ before ++ bytes
+pub record Gains {A : Type 0} (old new before after : List A) : Type 0 where
+  pub more : List A
+  pub new-is : new ≡ old ++ more
+  pub after-is : after ≡ before ++ more
 
 pub record Takes (first : ℕ) (new : Inner) (events : List Event) (e : Event) (client_old client_new host_old host_new : List ℕ) (notes : List Note) : Type 0 where
   pub stands : Stands first new (e ∷ events)

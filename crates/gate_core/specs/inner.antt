@@ -7,3 +7,4 @@ pub mod Flying
 pub mod Rows
 pub mod Holds
 pub mod Unlinked
+pub mod Steps

@@ -9,6 +9,7 @@ ghost use Rattle.gate_core.specs.All.{counts_of};
 ghost use Rattle.gate_core.specs.Bytes.{out_host};
 ghost use Rattle.gate_core.specs.Stands.{Stands, StandsFor, Takes, Stops, HasFailed};
 
+use crate::ask::write_hello;
 use crate::event::Event;
 use crate::inner::Inner;
 use crate::note::{Counts, Notes};
@@ -27,7 +28,11 @@ impl Model for Gate {
 
     ghost Value = { Inner };
 
+    ghost use Rattle.gate_core.specs.Stands.{IsReady};
+
     ghost view = { λ gate. gate.inner };
+
+    ghost invariant = { λ gate. IsReady gate.inner };
 }
 
 impl Gate {
@@ -38,7 +43,9 @@ impl Gate {
         ensures sent { OnOk result (to_host.new ≡ to_host.old ++ out_host first_id []) }
         ensures err { OnErr result (to_host.new ≡ to_host.old) }
     {
-        Err(Memory)
+        let inner = Inner::make(alloc, first_id)?;
+        write_hello(alloc, to_host)?;
+        Ok(Gate { inner })
     }
 
     /// Takes the next event: it appends what that sends to each side, and tells its notes. For want of memory
@@ -58,7 +65,17 @@ impl Gate {
         ensures failed { HasFailed self.old → IsErr result × (self.new ≡ self.old)
             × (to_client.new ≡ to_client.old) × (to_host.new ≡ to_host.old) }
     {
-        Err(Memory)
+        if self.inner.failed {
+            return Err(Memory);
+        }
+        let mut notes = Notes::new(self.inner.alloc);
+        match self.inner.take(event, to_client, to_host, &mut notes) {
+            Ok(()) => Ok(notes),
+            Err(memory) => {
+                self.inner.failed = true;
+                Err(memory)
+            }
+        }
     }
 
     /// What has been counted.

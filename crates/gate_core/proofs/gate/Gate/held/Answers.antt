@@ -1,0 +1,11 @@
+use Rattle.std.proofs.Common.{ℕ, ◌+◌, length, ◌∙◌, ap, sym, subst}
+use Rattle.gate_core.specs.declared.inner.Inner.{Inner}
+use Rattle.gate_core.specs.Stands.{Stands}
+use Rattle.gate_core.proofs.Held.{held-all}
+use Rattle.gate_core.proofs.gate.Gate.held.Goals as goal
+
+pub returns : goal.returns
+returns c first events stands =
+    let g = c.self.inside.inner in
+    let both = ap (λ (n : ℕ). n + c.held-2.result) c.held.ensures.held ∙ ap (λ (n : ℕ). length g.client.held + n) c.held-2.ensures.held in
+    both ∙ held-all first g events (subst (λ (x : Inner). Stands first x events) (sym c.self.view_is) stands)

@@ -1,0 +1,9 @@
+use Rattle.std.proofs.Common.{◌∷◌}
+use Rattle.std.proofs.Math.Logic.{∥∥₁_map}
+use Rattle.gate_core.specs.Events.{event_of}
+use Rattle.gate_core.proofs.gate.Gate.take.Goals as goal
+
+-- it stands for one event more
+pub invariant_of-self : goal.invariant_of-self
+invariant_of-self c works =
+    ∥∥₁_map (c.self.invariant c.if-self.false) (λ w. (w.0, (event_of c.args.event ∷ w.1.0, (c.in-Ok.ensures w.0 w.1.0 w.1.1).stands)))

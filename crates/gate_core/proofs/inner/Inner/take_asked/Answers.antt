@@ -1,0 +1,89 @@
+use Rattle.std.proofs.Common.{Ok, refl, sym, ap, subst, ◌∙◌, arith}
+use Rattle.usbip_urb.specs.ClientPackets.{takes_memory}
+use Rattle.gate_core.specs.declared.item.Item.TheVariants as raw
+use Rattle.gate_core.specs.declared.inner.Inner.{Inner}
+use Rattle.gate_core.specs.Events.{ClientPiece, client_bytes}
+use Rattle.gate_core.specs.History.{arrivals}
+use Rattle.gate_core.specs.inner.Holds.{ItemFits}
+use Rattle.gate_core.specs.inner.Steps.{ended_if}
+use Rattle.gate_core.proofs.Sides.{client_side}
+use Rattle.gate_core.proofs.Pieces.{Taking, taking-first, taking-item, taking-all, taking-halted, halted-still, some-more, err-more}
+use Rattle.gate_core.proofs.Coming.{next-holds, asked-readable}
+use Rattle.gate_core.proofs.Standing.{err-event, client-kept, takes-asked, halts-asked, unput-asked}
+use Rattle.gate_core.proofs.inner.Inner.take_asked.Goals as goal
+
+pub items-init : goal.items-init
+items-init c = record {
+  took = λ first events stands.
+      taking-first first (client_side first) c.args.self.now.client c.put.new.self c.args.self.now.translator (client_bytes events) c.args.piece.now (arrivals events) c.args.to_client.now c.args.to_host.now c.args.notes.now
+      (λ i. omega (arith, c.type_inv.piece i)) stands.client stands.translates c.in_ok-put.ensures.ok c.in_ok-put.ensures.follows;
+  rest = refl;
+}
+
+pub returns-in_err-put : goal.returns-in_err-put
+returns-in_err-put c =
+    let old = c.args.self.now in
+    let client = c.args.to_client.now in
+    let host = c.args.to_host.now in
+    err-event c.from_residual.result old (record old { client = c.put.new.self }) (ClientPiece c.args.piece.now) client client host host c.args.notes.now c.args.notes.now c.from_residual.ensures.0
+    (λ first events stands. unput-asked first old c.put.new.self events c.args.piece.now client host stands c.in_err-put.ensures.err)
+
+pub take-requires : goal.take-requires
+take-requires c =
+    next-holds (ItemFits c.items.self.translator.caps) c.next_asked.result c.in-Some.item
+    (c.next_asked.ensures.fits (asked-readable c.args.self.now c.items.self.client c.items.self.translator c.args.piece.now c.args.to_client.now c.items.to_client c.args.to_host.now c.items.to_host c.args.notes.now c.items.notes c.requires c.items.invariant.took) c.items.self.translator.caps)
+    (c.in_ok-item.was ∙ ap (λ o. Ok o) c.in-Some.is)
+
+pub items-preserved : goal.items-preserved
+items-preserved c =
+    let n = c.next_asked.ensures.next in
+    record {
+      took = λ first events stands.
+          subst (λ (g : Inner). Taking first (client_side first) g.client g.translator (client_bytes events) c.args.piece.now (arrivals events) c.args.to_client.now c.take.new.to_client c.args.to_host.now c.take.new.to_host c.args.notes.now c.take.new.notes) (sym c.close_client.ensures)
+          (taking-item first (client_side first) takes_memory c.items.self.client c.next_asked.new.client c.items.self.translator c.take.new.self (client_bytes events) c.args.piece.now (arrivals events)
+          c.args.to_client.now c.items.to_client c.take.new.to_client c.args.to_host.now c.items.to_host c.take.new.to_host c.args.notes.now c.items.notes c.take.new.notes c.in-Some.item n.answer
+          (sym n.result-is ∙ c.in_ok-item.was ∙ ap (λ o. Ok o) c.in-Some.is) n.changes n.nexts c.in_ok-take.ensures.ok (c.items.invariant.took first events stands));
+      rest = client-kept c.args.self.now c.items.self c.close_client.new.self (ended_if c.take.new.self.client_over c.next_asked.new.client) c.take.new.self c.items.invariant.rest c.close_client.ensures;
+    }
+
+pub returns-in_err-item : goal.returns-in_err-item
+returns-in_err-item c =
+    let old = c.args.self.now in
+    let mid = c.items.self in
+    let new : Inner = record mid { client = c.next_asked.new.client } in
+    let n = c.next_asked.ensures.next in
+    err-event c.from_residual-in_err-item.result old new (ClientPiece c.args.piece.now) c.args.to_client.now c.items.to_client c.args.to_host.now c.items.to_host c.args.notes.now c.items.notes c.from_residual-in_err-item.ensures.0
+    (λ first events stands.
+    halts-asked first old new events c.args.piece.now c.args.to_client.now c.items.to_client c.args.to_host.now c.items.to_host c.args.notes.now c.items.notes stands
+    (client-kept old mid new c.next_asked.new.client mid.translator c.items.invariant.rest refl)
+    (taking-halted first (client_side first) takes_memory mid.client c.next_asked.new.client mid.translator (client_bytes events) c.args.piece.now (arrivals events)
+    c.args.to_client.now c.items.to_client c.args.to_host.now c.items.to_host c.args.notes.now c.items.notes n.answer
+    (err-more raw.Asked raw.ClientWrong n.answer c.in_err-item.field-0.0 (sym n.result-is ∙ c.in_err-item.was)) n.changes n.nexts (c.items.invariant.took first events stands)))
+
+pub returns-in_err-take : goal.returns-in_err-take
+returns-in_err-take c =
+    let old = c.args.self.now in
+    let mid = c.items.self in
+    let new : Inner = record mid { client = c.next_asked.new.client; translator = c.take.new.self } in
+    let n = c.next_asked.ensures.next in
+    err-event c.from_residual-in_err-take.result old new (ClientPiece c.args.piece.now) c.args.to_client.now c.take.new.to_client c.args.to_host.now c.take.new.to_host c.args.notes.now c.take.new.notes c.from_residual-in_err-take.ensures.0
+    (λ first events stands.
+    halts-asked first old new events c.args.piece.now c.args.to_client.now c.take.new.to_client c.args.to_host.now c.take.new.to_host c.args.notes.now c.take.new.notes stands
+    (client-kept old mid new c.next_asked.new.client c.take.new.self c.items.invariant.rest refl)
+    (halted-still first (client_side first) c.next_asked.new.client mid.translator c.take.new.self (client_bytes events) c.args.piece.now (arrivals events)
+    c.args.to_client.now c.items.to_client c.take.new.to_client c.args.to_host.now c.items.to_host c.take.new.to_host c.args.notes.now c.items.notes c.take.new.notes c.in_err-take.ensures.err
+    (taking-halted first (client_side first) takes_memory mid.client c.next_asked.new.client mid.translator (client_bytes events) c.args.piece.now (arrivals events)
+    c.args.to_client.now c.items.to_client c.args.to_host.now c.items.to_host c.args.notes.now c.items.notes n.answer
+    (some-more raw.Asked raw.ClientWrong n.answer c.in-Some.item (sym n.result-is ∙ c.in_ok-item.was ∙ ap (λ o. Ok o) c.in-Some.is)) n.changes n.nexts (c.items.invariant.took first events stands))))
+
+pub returns : goal.returns
+returns c first events stands =
+    let old = c.args.self.now in
+    let mid = c.items.self in
+    let new : Inner = record mid { client = c.next_asked.new.client } in
+    let n = c.next_asked.ensures.next in
+    takes-asked first old new events c.args.piece.now c.args.to_client.now c.items.to_client c.args.to_host.now c.items.to_host c.args.notes.now c.items.notes stands
+    (client-kept old mid new c.next_asked.new.client mid.translator c.items.invariant.rest refl)
+    (taking-all first (client_side first) takes_memory mid.client c.next_asked.new.client mid.translator (client_bytes events) c.args.piece.now (arrivals events)
+    c.args.to_client.now c.items.to_client c.args.to_host.now c.items.to_host c.args.notes.now c.items.notes n.answer stands.client.fits (λ i. omega (arith, c.type_inv.piece i))
+    (sym n.result-is ∙ c.in_ok-item.was ∙ ap (λ o. Ok o) c.in_default.is) n.changes n.nexts (c.items.invariant.took first events stands))

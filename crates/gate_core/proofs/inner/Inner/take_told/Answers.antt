@@ -1,0 +1,88 @@
+use Rattle.std.proofs.Common.{Ok, refl, sym, ap, subst, ◌∙◌, arith}
+use Rattle.redir_data.specs.Packets.{takes_memory}
+use Rattle.gate_core.specs.declared.item.Item.TheVariants as raw
+use Rattle.gate_core.specs.declared.inner.Inner.{Inner}
+use Rattle.gate_core.specs.Events.{HostPiece, host_bytes}
+use Rattle.gate_core.specs.History.{arrivals}
+use Rattle.gate_core.specs.inner.Steps.{raw_told, ended_if}
+use Rattle.gate_core.proofs.Sides.{host_side}
+use Rattle.gate_core.proofs.Pieces.{Taking, taking-first, taking-item, taking-all, taking-halted, halted-still, some-more, err-more}
+use Rattle.gate_core.proofs.Coming.{told-item}
+use Rattle.gate_core.proofs.Standing.{err-event, host-kept, takes-told, halts-told, unput-told}
+use Rattle.gate_core.proofs.inner.Inner.take_told.Goals as goal
+
+pub items-init : goal.items-init
+items-init c = record {
+  took = λ first events stands.
+      taking-first first (host_side first) c.args.self.now.host c.put.new.self c.args.self.now.translator (host_bytes events) c.args.piece.now (arrivals events) c.args.to_client.now c.args.to_host.now c.args.notes.now
+      (λ i. omega (arith, c.type_inv.piece i)) stands.host stands.translates c.in_ok-put.ensures.ok c.in_ok-put.ensures.follows;
+  rest = refl;
+}
+
+pub returns-in_err-put : goal.returns-in_err-put
+returns-in_err-put c =
+    let old = c.args.self.now in
+    let client = c.args.to_client.now in
+    let host = c.args.to_host.now in
+    err-event c.from_residual.result old (record old { host = c.put.new.self }) (HostPiece c.args.piece.now) client client host host c.args.notes.now c.args.notes.now c.from_residual.ensures.0
+    (λ first events stands. unput-told first old c.put.new.self events c.args.piece.now client host stands c.in_err-put.ensures.err)
+
+pub take-requires : goal.take-requires
+take-requires c =
+    let n = c.next_told.ensures in
+    told-item c.args.self.now c.items.self.host c.next_told.new.host c.items.self.translator c.args.piece.now c.args.to_client.now c.items.to_client c.args.to_host.now c.items.to_host c.args.notes.now c.items.notes takes_memory c.in-Some.item n.answer
+    c.requires c.items.invariant.took (sym n.result-is ∙ c.in_ok-item.was ∙ ap (λ o. Ok o) c.in-Some.is) n.changes n.nexts
+
+pub items-preserved : goal.items-preserved
+items-preserved c =
+    let n = c.next_told.ensures in
+    record {
+      took = λ first events stands.
+          subst (λ (g : Inner). Taking first (host_side first) g.host g.translator (host_bytes events) c.args.piece.now (arrivals events) c.args.to_client.now c.take.new.to_client c.args.to_host.now c.take.new.to_host c.args.notes.now c.take.new.notes) (sym c.close_host.ensures)
+          (taking-item first (host_side first) takes_memory c.items.self.host c.next_told.new.host c.items.self.translator c.take.new.self (host_bytes events) c.args.piece.now (arrivals events)
+          c.args.to_client.now c.items.to_client c.take.new.to_client c.args.to_host.now c.items.to_host c.take.new.to_host c.args.notes.now c.items.notes c.take.new.notes c.in-Some.item n.answer
+          (sym n.result-is ∙ c.in_ok-item.was ∙ ap (λ o. Ok o) c.in-Some.is) n.changes n.nexts c.in_ok-take.ensures.ok (c.items.invariant.took first events stands));
+      rest = host-kept c.args.self.now c.items.self c.close_host.new.self (ended_if c.take.new.self.host_over c.next_told.new.host) c.take.new.self c.items.invariant.rest c.close_host.ensures;
+    }
+
+pub returns-in_err-item : goal.returns-in_err-item
+returns-in_err-item c =
+    let old = c.args.self.now in
+    let mid = c.items.self in
+    let new : Inner = record mid { host = c.next_told.new.host } in
+    let n = c.next_told.ensures in
+    err-event c.from_residual-in_err-item.result old new (HostPiece c.args.piece.now) c.args.to_client.now c.items.to_client c.args.to_host.now c.items.to_host c.args.notes.now c.items.notes c.from_residual-in_err-item.ensures.0
+    (λ first events stands.
+    halts-told first old new events c.args.piece.now c.args.to_client.now c.items.to_client c.args.to_host.now c.items.to_host c.args.notes.now c.items.notes stands
+    (host-kept old mid new c.next_told.new.host mid.translator c.items.invariant.rest refl)
+    (taking-halted first (host_side first) takes_memory mid.host c.next_told.new.host mid.translator (host_bytes events) c.args.piece.now (arrivals events)
+    c.args.to_client.now c.items.to_client c.args.to_host.now c.items.to_host c.args.notes.now c.items.notes n.answer
+    (err-more raw_told raw.HostWrong n.answer c.in_err-item.field-0.0 (sym n.result-is ∙ c.in_err-item.was)) n.changes n.nexts (c.items.invariant.took first events stands)))
+
+pub returns-in_err-take : goal.returns-in_err-take
+returns-in_err-take c =
+    let old = c.args.self.now in
+    let mid = c.items.self in
+    let new : Inner = record mid { host = c.next_told.new.host; translator = c.take.new.self } in
+    let n = c.next_told.ensures in
+    err-event c.from_residual-in_err-take.result old new (HostPiece c.args.piece.now) c.args.to_client.now c.take.new.to_client c.args.to_host.now c.take.new.to_host c.args.notes.now c.take.new.notes c.from_residual-in_err-take.ensures.0
+    (λ first events stands.
+    halts-told first old new events c.args.piece.now c.args.to_client.now c.take.new.to_client c.args.to_host.now c.take.new.to_host c.args.notes.now c.take.new.notes stands
+    (host-kept old mid new c.next_told.new.host c.take.new.self c.items.invariant.rest refl)
+    (halted-still first (host_side first) c.next_told.new.host mid.translator c.take.new.self (host_bytes events) c.args.piece.now (arrivals events)
+    c.args.to_client.now c.items.to_client c.take.new.to_client c.args.to_host.now c.items.to_host c.take.new.to_host c.args.notes.now c.items.notes c.take.new.notes c.in_err-take.ensures.err
+    (taking-halted first (host_side first) takes_memory mid.host c.next_told.new.host mid.translator (host_bytes events) c.args.piece.now (arrivals events)
+    c.args.to_client.now c.items.to_client c.args.to_host.now c.items.to_host c.args.notes.now c.items.notes n.answer
+    (some-more raw_told raw.HostWrong n.answer c.in-Some.item (sym n.result-is ∙ c.in_ok-item.was ∙ ap (λ o. Ok o) c.in-Some.is)) n.changes n.nexts (c.items.invariant.took first events stands))))
+
+pub returns : goal.returns
+returns c first events stands =
+    let old = c.args.self.now in
+    let mid = c.items.self in
+    let new : Inner = record mid { host = c.next_told.new.host } in
+    let n = c.next_told.ensures in
+    takes-told first old new events c.args.piece.now c.args.to_client.now c.items.to_client c.args.to_host.now c.items.to_host c.args.notes.now c.items.notes stands
+    (host-kept old mid new c.next_told.new.host mid.translator c.items.invariant.rest refl)
+    (taking-all first (host_side first) takes_memory mid.host c.next_told.new.host mid.translator (host_bytes events) c.args.piece.now (arrivals events)
+    c.args.to_client.now c.items.to_client c.args.to_host.now c.items.to_host c.args.notes.now c.items.notes n.answer stands.host.fits (λ i. omega (arith, c.type_inv.piece i))
+    (sym n.result-is ∙ c.in_ok-item.was ∙ ap (λ o. Ok o) c.in_default.is) n.changes n.nexts (c.items.invariant.took first events stands))

@@ -1,0 +1,91 @@
+-- What the gate's own steps do.
+use Rattle.std.specs.Prelude.{◌≡◌, ◌∷◌, ◌+◌, ℕ, Bool, true, false, if◌then◌else◌, List, length, Option, Some, None, Result, Ok, Err, IfOk, IfSome}
+use Rattle.usb_base.specs.Number.{AreBytes}
+use Rattle.usb_base.specs.declared.memory.Memory.{Memory}
+use Rattle.usb_base.specs.declared.reason.Reason.{Reason}
+use Rattle.packet_stream.specs.declared.read.ReadError.{ReadError}
+use Rattle.packet_stream.specs.declared.read.ReadError.TheVariants.{Refused, Memory as OutOfMemory}
+use Rattle.packet_stream.specs.Split.{Reader}
+use Rattle.packet_stream.specs.Streams.{Kept, ended, Nexts, Changes, capped}
+use Rattle.packet_stream.specs.Items.{SideStream}
+use Rattle.usbip_urb.specs.declared.client.ClientPacket.{ClientPacket}
+use Rattle.redir_wire.specs.declared.packet.Header.{Header}
+use Rattle.redir_data.specs.declared.packet.RedirPacket.{RedirPacket}
+use Rattle.redir_data.specs.declared.state.RedirState.{RedirState}
+use Rattle.gate_core.specs.declared.item.Item.{Item as RawItem}
+use Rattle.gate_core.specs.declared.item.Item.TheVariants as raw
+use Rattle.gate_core.specs.declared.note.Note.{Note}
+use Rattle.gate_core.specs.declared.inner.Inner.{Inner}
+use Rattle.gate_core.specs.Items.{Item, Asked, ClientWrong, Told, HostWrong}
+use Rattle.gate_core.specs.Streams.{client_reader, client_start, host_reader, host_start}
+use Rattle.gate_core.specs.Events.{Event}
+use Rattle.gate_core.specs.Sides.{client_over, host_over}
+use Rattle.gate_core.specs.Past.{past}
+use Rattle.gate_core.specs.History.{arrivals}
+use Rattle.gate_core.specs.Notes.{notes_of}
+use Rattle.gate_core.specs.All.{all_of}
+use Rattle.gate_core.specs.Bytes.{out_client, out_host}
+use Rattle.gate_core.specs.Stands.{Stands, Gains, Stops}
+
+-- ---- both streams
+
+abbrev pub client_stream : ℕ → SideStream (Unit {0}) ClientPacket Reason Item
+client_stream first = record { reader = client_reader; start = client_start; packet = Asked; wrong = ClientWrong; over = λ xs. client_over (past first xs) }
+
+abbrev pub host_stream : ℕ → SideStream RedirState (Header × RedirPacket) Reason Item
+host_stream first = record { reader = host_reader; start = host_start; packet = λ place p. Told place p.0 p.1; wrong = HostWrong; over = λ xs. host_over (past first xs) }
+
+-- ---- the next item of a stream
+
+-- it is a packet or the wrong place
+abbrev pub item_next : {P : Type 0} → (ℕ → P → RawItem) → (ℕ → Reason → RawItem) → Result (Option (ℕ × P)) ReadError → Result (Option RawItem) Memory
+item_next packet wrong (Ok None) = Ok None
+item_next packet wrong (Ok (Some i)) = Ok (Some (packet i.0 i.1))
+item_next packet wrong (Err (Refused place reason)) = Ok (Some (wrong place reason))
+item_next packet wrong (Err OutOfMemory) = Err (record {})
+
+-- what the stream answers is handed on as an item
+pub record NextItem {S P : Type 0} (r : Reader S P Reason) (takes : P → Bool) (packet : ℕ → P → RawItem) (wrong : ℕ → Reason → RawItem) (result : Result (Option RawItem) Memory) (old new : Kept S) : Type 0 where
+  pub answer : Result (Option (ℕ × P)) ReadError
+  pub result-is : result ≡ item_next packet wrong answer
+  pub changes : Changes answer old new
+  pub over : old.over ≡ true → answer ≡ Ok None
+  pub nexts : Nexts r takes answer old new
+
+abbrev pub raw_told : ℕ → Header × RedirPacket → RawItem
+raw_told place p = raw.Told place p.0 p.1
+
+-- its bytes are bytes, and its place is one
+abbrev pub IsReadable : {S : Type 0} → Kept S → Type 0
+IsReadable kept = kept.over ≡ false → AreBytes kept.rest × (kept.place ≡ capped kept.place)
+
+-- an item is there, of which this holds
+abbrev pub IfNext : Result (Option RawItem) Memory → (RawItem → Type 0) → Type 0
+IfNext result Holds = IfOk result (λ o. IfSome o Holds)
+
+-- how much is left to be read
+abbrev pub left_of : {S : Type 0} → Kept S → ℕ
+left_of kept = if kept.over then 0 else length kept.rest + 1
+
+-- a stream is ended where its side is over
+abbrev pub ended_if : {S : Type 0} → Bool → Kept S → Kept S
+ended_if over kept = if over then ended kept else kept
+
+-- ---- an event
+
+-- from these items to those this was sent and told
+pub record Sends (first : ℕ) (client_old client_new host_old host_new : List ℕ) (notes_old notes_new : List Note) (h k : List Item) : Type 0 where
+  pub client : Gains client_old client_new (out_client first (past first h)) (out_client first (past first k))
+  pub host : Gains host_old host_new (out_host first (past first h)) (out_host first (past first k))
+  pub told : Gains notes_old notes_new (all_of notes_of first (past first h)) (all_of notes_of first (past first k))
+
+pub record TakesOn (first : ℕ) (new : Inner) (events : List Event) (e : Event) (client_old client_new host_old host_new : List ℕ) (notes_old notes_new : List Note) : Type 0 where
+  pub stands : Stands first new (e ∷ events)
+  pub sends : Sends first client_old client_new host_old host_new notes_old notes_new (arrivals events) (arrivals (e ∷ events))
+
+-- whatever has come: the event was taken, or memory ran out
+abbrev pub TakesEvent : Result (Unit {0}) Memory → Inner → Inner → Event → List ℕ → List ℕ → List ℕ → List ℕ → List Note → List Note → Type 0
+TakesEvent (Ok v) old new e client_old client_new host_old host_new notes_old notes_new =
+    (first : ℕ) (events : List Event) → Stands first old events → TakesOn first new events e client_old client_new host_old host_new notes_old notes_new
+TakesEvent (Err memory) old new e client_old client_new host_old host_new notes_old notes_new =
+    (first : ℕ) (events : List Event) → Stands first old events → Stops first new events e client_old client_new host_old host_new
