@@ -6,6 +6,7 @@ use crate::facts::Facts;
 use crate::reply::is_exported;
 use crate::request::Request;
 use crate::verdict::{Pipe, Verdict, decide};
+use crate::{Counts, Event, Gate, Note};
 use control_route::Route;
 use redir_data::RedirPacket;
 use redir_wire::{ANNOUNCED, Caps, RedirControl};
@@ -248,4 +249,34 @@ fn the_device_is_told_and_imported_by_its_bus_id(rt: HostRuntime) {
     assert!(rt; !is_exported(&busid));
     busid[..4].copy_from_slice(b"1-10");
     assert!(rt; !is_exported(&busid));
+}
+
+#[test]
+fn a_gate_answers_and_clients_come_one_after_another(rt: HostRuntime) -> Result<(), Fail> {
+    let mut to_host = Bytes::new(rt.alloc());
+    let mut to_client = Bytes::new(rt.alloc());
+    let mut gate = Gate::make(rt.alloc(), 1, &mut to_host)?;
+    assert_eq!(rt; to_host.len(), 80);
+    let list = [1, 0x11, 0x80, 5, 0, 0, 0, 0];
+    gate.take(Event::ClientPiece(&list[..3]), &mut to_client, &mut to_host)?;
+    assert_eq!(rt; gate.held(), 3);
+    gate.take(Event::ClientPiece(&list[3..]), &mut to_client, &mut to_host)?;
+    assert_eq!(rt;
+        to_client.as_slice(),
+        [1, 0x11, 0, 5, 0, 0, 0, 0, 0, 0, 0, 0].as_slice()
+    );
+    let notes = gate.take(Event::ClientEnd, &mut to_client, &mut to_host)?;
+    assert_eq!(rt; notes.as_slice(), [Note::ClientGone].as_slice());
+    gate.take(Event::ClientPiece(&list), &mut to_client, &mut to_host)?;
+    assert_eq!(rt; to_client.len(), 24);
+    assert_eq!(rt;
+        gate.counts(),
+        Counts {
+            answered: 0,
+            unlinked: 0,
+            left: 0,
+            dropped: 0
+        }
+    );
+    Ok(())
 }
