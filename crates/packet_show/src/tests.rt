@@ -1,0 +1,1 @@
+//! Lines that were laid out by hand.
