@@ -1,12 +1,15 @@
 -- What each call does to a side's link. An equation says too that the rest stands.
-use Rattle.std.specs.Prelude.{◌≡◌, ◌⊎◌, ◌<◌, ◌≤◌, ℕ, min, Bool, true, false, List, [], ◌∷◌, length, take, drop, Option, Some, IfSome, option_map, Result, Ok, Err}
+use Rattle.std.specs.Prelude.{◌≡◌, ◌⊎◌, ◌<◌, ◌≤◌, ℕ, Bool, true, false, List, [], ◌∷◌, length, take, drop, Option, Some, IfSome, option_map, Result, Ok, Err}
 use Rattle.std.specs.Io.KnownBytes.{append_known}
+use Rattle.usb_base.specs.declared.side.Side.{Side}
+use Rattle.usb_base.specs.declared.side.Side.TheVariants.{Client, Host}
 use Rattle.gate_outside.specs.declared.turn.Turn.{Turn}
-use Rattle.gate_outside.specs.declared.turn.Turn.TheVariants.{Piece, Wait, Fail}
+use Rattle.gate_outside.specs.declared.turn.Turn.TheVariants.{Fail}
 use Rattle.gate_outside.specs.declared.turn.Polled.{Polled}
 use Rattle.gate_outside.specs.declared.turn.Polled.TheVariants.{Took, NotYet, Ended, Failed}
 use Rattle.gate_outside.specs.Faults.{one_more}
 use Rattle.gate_outside.specs.Link.{Link, Door}
+use Rattle.gate_outside.specs.Turns.{pending, answer, given, after, taken}
 
 -- one fault more
 abbrev pub faulted : Link → Link
@@ -31,12 +34,18 @@ abbrev pub Listens : {T E : Type 0} → Result T E → Door → Door → Link �
 Listens (Ok _) door door_new old new = (door_new ≡ record door { made = true }) × (new ≡ old)
 Listens (Err _) door door_new old new = (door_new ≡ door) × (new ≡ faulted old)
 
--- the client comes, once where that is told, or hasn't come yet
+-- the turns of the client that comes next
+abbrev pub first : List (List Turn) → List Turn
+first [] = []
+first (turns ∷ clients) = turns
+
+-- the next client comes, exactly where one is still to come if that is told, or none has come yet
 abbrev pub Accepts : {E : Type 0} → Result Bool E → Door → Door → Link → Link → Type 0
 Accepts (Ok true) door door_new old new =
-    (new ≡ opened old) × IfSome door.to_come (λ b. b ≡ true) × (door_new ≡ record door { to_come = option_map (λ _. false) door.to_come })
-Accepts (Ok false) door door_new old new = (new ≡ idled old) × IfSome door.to_come (λ b. b ≡ false) × (door_new ≡ door)
-Accepts (Err _) door door_new old new = (door_new ≡ door) × (new ≡ faulted old)
+    IfSome door.to_come (λ clients. 0 < length clients) × (new ≡ record (opened old) { turns = option_map first door.to_come })
+    × (door_new ≡ record door { to_come = option_map (λ clients. drop 1 clients) door.to_come })
+Accepts (Ok false) door door_new old new = IfSome door.to_come (λ clients. clients ≡ []) × (new ≡ idled old) × (door_new ≡ door)
+Accepts (Err _) door door_new old new = (new ≡ faulted old) × (door_new ≡ door)
 
 -- a front of the piece, at least one byte of it, is written
 abbrev pub Writes : {E : Type 0} → Result ℕ E → List ℕ → Link → Link → Type 0
@@ -50,27 +59,14 @@ TookWithin NotYet buf = Unit {0}
 TookWithin Ended buf = Unit {0}
 TookWithin Failed buf = Unit {0}
 
--- the turns from the first on that is no empty piece
-abbrev pub pending : List Turn → List Turn
-pending [] = []
-pending (Piece [] ∷ turns) = pending turns
-pending (Piece (b ∷ bs) ∷ turns) = Piece (b ∷ bs) ∷ turns
-pending (Wait ∷ turns) = Wait ∷ turns
-pending (Fail ∷ turns) = Fail ∷ turns
+-- a poll gives what these turns have
+pub record Gives (polled : Polled) (buf : List ℕ) (turns : List Turn) : Type 0 where
+  pub answers : polled ≡ answer (length buf) (pending turns)
+  pub bytes : take (taken polled) buf ≡ given (length buf) (pending turns)
 
--- what a poll gives at these turns unless it fails: as much of a piece as the buffer has room for
-abbrev pub Gives : List Turn → Polled → List ℕ → Type 0
-Gives [] polled buf = polled ≡ Ended
-Gives (Piece piece ∷ turns) polled buf = let n = min (length piece) (length buf) in (polled ≡ Took n) × (take n buf ≡ take n piece)
-Gives (Wait ∷ turns) polled buf = polled ≡ NotYet
-Gives (Fail ∷ turns) polled buf = ⊥
-
--- the turns after n bytes of the front piece: what is left of it stays, even if that is none
-abbrev pub taken : ℕ → List Turn → List Turn
-taken n [] = []
-taken n (Piece piece ∷ turns) = Piece (drop n piece) ∷ turns
-taken n (Wait ∷ turns) = Wait ∷ turns
-taken n (Fail ∷ turns) = Fail ∷ turns
+-- the link after a poll with so much room that gave what the turns have
+abbrev pub turned : ℕ → Link → Link
+turned room link = record link { turns = option_map (λ turns. after room (pending turns)) link.turns }
 
 -- these turns begin with a `Fail`, and are then those behind it
 abbrev pub FailTaken : Option (List Turn) → Option (List Turn) → Type 0
@@ -81,19 +77,14 @@ pub record PollFails (old new : Link) : Type 0 where
   pub turns : (new.turns ≡ old.turns) ⊎ FailTaken old.turns new.turns
   pub same : new ≡ record (faulted old) { turns = new.turns }
 
--- what a poll does to the link, apart from what it gives
-abbrev pub PollMoves : Polled → Link → Link → Type 0
-PollMoves (Took n) old new = new ≡ record old { turns = option_map (λ turns. taken n (pending turns)) old.turns }
-PollMoves NotYet old new = new ≡ record (idled old) { turns = option_map (λ turns. drop 1 (pending turns)) old.turns }
-PollMoves Ended old new = new ≡ record (closed old) { turns = option_map (λ _. []) old.turns }
-PollMoves Failed old new = PollFails old new
-
--- what a poll gives, where the turns are told
-abbrev pub PollGives : Polled → List ℕ → Link → Type 0
-PollGives (Took n) buf old = IfSome old.turns (λ turns. Gives (pending turns) (Took n) buf)
-PollGives NotYet buf old = IfSome old.turns (λ turns. Gives (pending turns) NotYet buf)
-PollGives Ended buf old = IfSome old.turns (λ turns. Gives (pending turns) Ended buf)
-PollGives Failed buf old = Unit {0}
-
+-- an answer other than `Failed` is that of the front turn, where the turns are told
 abbrev pub Polls : Polled → List ℕ → Link → Link → Type 0
-Polls polled buf old new = PollGives polled buf old × PollMoves polled old new
+Polls (Took n) buf old new = IfSome old.turns (Gives (Took n) buf) × (new ≡ turned (length buf) old)
+Polls NotYet buf old new = IfSome old.turns (Gives NotYet buf) × (new ≡ turned (length buf) (idled old))
+Polls Ended buf old new = IfSome old.turns (Gives Ended buf) × (new ≡ turned (length buf) (closed old))
+Polls Failed buf old new = PollFails old new
+
+-- the link goes down. The rest of a client's turns goes with it, and the host's stay.
+abbrev pub closes : Side → Link → Link
+closes Client link = record (closed link) { turns = option_map (λ _. []) link.turns }
+closes Host link = closed link

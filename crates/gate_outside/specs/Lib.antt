@@ -1,8 +1,11 @@
 pub mod Faults
 pub mod Front
 pub mod Link
+pub mod Turns
 pub mod Doors
 pub mod NoDoors
 pub mod Plan
 pub mod Std
 pub mod Text
+pub mod Reading
+pub mod Script

@@ -1,4 +1,4 @@
--- What is known of a side's link, and of the door that the client comes to.
+-- What is known of a side's link, and of the door that clients come to.
 use Rattle.std.specs.Prelude.{ℕ, Bool, List, Option}
 use Rattle.usb_base.specs.declared.side.Side.{Side}
 use Rattle.usb_base.specs.declared.side.Side.TheVariants.{Client, Host}
@@ -17,8 +17,8 @@ pub record Link : Type 0 where
 
 pub record Door : Type 0 where
   pub made : Bool
-  -- whether the client is still to come, where it is told
-  pub to_come : Option Bool
+  -- the turns of each client that is still to come, where they are told
+  pub to_come : Option (List (List Turn))
 
 abbrev pub other : Side → Side
 other Client = Host

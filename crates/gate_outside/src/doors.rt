@@ -7,16 +7,17 @@ use crate::turn::Polled;
 use usb_base::Side;
 
 /// The links to the client, who comes to a door, and to the host, whom the gateway dials. What a call doesn't
-/// name stands, on both sides.
+/// name stands, on both sides. Each link has a count of faults, which rises at each failure, and a count of
+/// idle answers, which rises where there is nothing yet.
 pub trait Doors {
     ghost use Rattle.usb_base.specs.declared.side.Side.{Side as SideOf};
     ghost use Rattle.gate_outside.specs.Link.{Link, Door, other};
-    ghost use Rattle.gate_outside.specs.Doors.{Dials, Listens, Accepts, Writes, Polls, TookWithin, closed};
+    ghost use Rattle.gate_outside.specs.Doors.{Dials, Listens, Accepts, Writes, Polls, TookWithin, closes};
 
     /// One side's link.
     ghost link: { Self → SideOf → Link };
 
-    /// The door that the client comes to.
+    /// The door that clients come to, one after the other.
     ghost door: { Self → Door };
 
     /// Dials the host at `addr`, a host's name or IP address and a port.
@@ -25,13 +26,13 @@ pub trait Doors {
         ensures other { link self.new Side.Client ≡ link self.old Side.Client }
         ensures door { door self.new ≡ door self.old };
 
-    /// Makes the client's door at `addr`, an IP address and a port.
+    /// Makes the clients' door at `addr`, a host's name or IP address and a port.
     fn listen(&mut self, addr: &str) -> Result<(), Failed>
         ensures listens { Listens result (door self.old) (door self.new)
             (link self.old Side.Client) (link self.new Side.Client) }
         ensures other { link self.new Side.Host ≡ link self.old Side.Host };
 
-    /// Whether the client has come, whose link is then up. It doesn't wait for one.
+    /// Whether the next client has come, whose link is then up. It waits for a moment at most.
     fn accept(&mut self) -> Result<bool, Failed>
         requires door { IsTrue (door self.old).made }
         requires down { (link self.old Side.Client).up ≡ false }
@@ -57,9 +58,9 @@ pub trait Doors {
         ensures other { link self.new (other side) ≡ link self.old (other side) }
         ensures door { door self.new ≡ door self.old };
 
-    /// Takes the side's link down, if it is up.
+    /// Takes the side's link down, if it is up. What a client had still to send is lost.
     fn close(&mut self, side: Side)
-        ensures link { link self.new side ≡ closed (link self.old side) }
+        ensures link { link self.new side ≡ closes side (link self.old side) }
         ensures other { link self.new (other side) ≡ link self.old (other side) }
         ensures door { door self.new ≡ door self.old };
 }

@@ -10,6 +10,8 @@ use std::io::{Read, Write};
 use std::process::Abort;
 use std::test::Fail;
 
+mod scripts;
+
 const FAILED: Result<&str, Failed> = Err(Failed);
 
 // Reads "abcde" into four bytes a call. Each read gives at most `piece` bytes, and answers as listed.

@@ -28,3 +28,6 @@ pub enum Turn {
 
 /// The turns of a link, in order. A script that has come to its end has ended the link.
 pub type Script = List<Turn>;
+
+/// The scripts of clients that come one after the other.
+pub type Scripts = List<Script>;

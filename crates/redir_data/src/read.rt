@@ -36,7 +36,8 @@ pub fn read_data(
         unreachable!()
     };
     let fixed = kind.row().fixed(caps) as usize;
-    if bytes.len() < fixed {
+    let has_fields = bytes.len() >= fixed;
+    if !has_fields {
         return Ok(None);
     }
     let told = told_length(kind, caps, bytes);

@@ -11,14 +11,14 @@ use Rattle.redir_data.proofs.read.read_data.Goals as goal
 pub unreachable-requires : goal.unreachable-requires
 unreachable-requires c = is_numbered c.args.caps c.args.head.now c.requires.carrying c.requires.its_length (sym c.numbered.ensures ∙ c.in_default.is)
 
-pub returns-then-bytes-fixed : goal.returns-then-bytes-fixed
-returns-then-bytes-fixed c =
+pub returns-then-not-has_fields : goal.returns-then-not-has_fields
+returns-then-not-has_fields c =
     let a = c.args in
     let k = c.in-Some.kind in
     let kind = sym c.numbered.ensures ∙ c.in-Some.is in
     let f : c.fixed-fixed.result ≡ fixed a.caps k = c.fixed-fixed.ensures.value ∙ ap (fixed_length a.caps) c.row.ensures in
     let least = least_length a.caps a.head.now k kind c.requires.its_length in
-    read_short a.caps a.way a.head.now k a.bytes.now kind (λ there. absurd (omega (arith, c.if-bytes-fixed.true))) (omega (arith, c.if-bytes-fixed.true))
+    read_short a.caps a.way a.head.now k a.bytes.now kind (λ there. absurd (omega (arith, c.if-not-has_fields.true))) (omega (arith, c.if-not-has_fields.true))
 
 pub returns-then-head-fixed : goal.returns-then-head-fixed
 returns-then-head-fixed c =
@@ -27,7 +27,7 @@ returns-then-head-fixed c =
     let kind = sym c.numbered.ensures ∙ c.in-Some.is in
     let f : c.fixed-fixed.result ≡ fixed a.caps k = c.fixed-fixed.ensures.value ∙ ap (fixed_length a.caps) c.row.ensures in
     let sum = sum_is a.caps a.way k a.bytes.now c.fixed-fixed.result c.told_length-told.result c.data_count-count.result f c.told_length-told.ensures.value c.data_count-count.ensures in
-    read_wrong a.caps a.way a.head.now k a.bytes.now kind (omega (arith, c.if-bytes-fixed.false)) (λ e. c.if-head-fixed.true (e ∙ sym sum)) ∙ ap (λ (p : ℕ). Wrong p DataLength) (sym c.length_place-place.ensures)
+    read_wrong a.caps a.way a.head.now k a.bytes.now kind (omega (arith, c.if-not-has_fields.false)) (λ e. c.if-head-fixed.true (e ∙ sym sum)) ∙ ap (λ (p : ℕ). Wrong p DataLength) (sym c.length_place-place.ensures)
 
 pub returns-then-bytes-head : goal.returns-then-bytes-head
 returns-then-bytes-head c =

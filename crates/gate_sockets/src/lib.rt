@@ -1,0 +1,14 @@
+//! The doors over TCP: what connects the program to a real client and a real host.
+//!
+//! A gateway that polls its sockets in turn would keep a processor busy. So a poll reads first, and where
+//! nothing has come for a while it waits in the kernel, for any of the sockets, before it answers.
+#![tactic(auto)]
+
+mod ready;
+mod socket;
+mod tcp_doors;
+
+pub use tcp_doors::TcpDoors;
+
+#[cfg(test)]
+mod tests;

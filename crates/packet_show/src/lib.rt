@@ -1,0 +1,17 @@
+//! Packets of both protocols as lines of text, and the lines of a tape.
+#![tactic(auto)]
+
+mod client;
+mod line;
+mod number;
+mod redir;
+mod tape;
+#[cfg(test)]
+mod tests;
+mod urb;
+
+pub use client::show_client;
+pub use number::read_number;
+pub use redir::show_redir;
+pub use tape::{LineError, TapeKind, TapeLine, read_line};
+pub use urb::show_urb;

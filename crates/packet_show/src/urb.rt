@@ -1,0 +1,111 @@
+//! The line of a URB request.
+
+ghost use Rattle.std.specs.Prelude.{◌≡◌, ◌++◌, IfOk, map, string_bytes};
+ghost use Rattle.packet_stream.specs.Writes.{Appends, AppendsSome};
+ghost use Rattle.packet_show.specs.Line.{decimal, spaced_words};
+ghost use Rattle.packet_show.specs.Urb.{IsRequest, urb_line, urb_words, submit_words, unlink_words, desc_word};
+
+use crate::line::{end_line, push_begin, push_bytes, push_numbers, push_word};
+use std::alloc::Global;
+use usb_base::{Bytes, Memory};
+use usbip_urb::{IsoDesc, Submit, Unlink, UrbPacket};
+
+/// Appends the line of a request, whose first byte stands at `place` of its stream. For want of memory `out`
+/// stands.
+#[tactic(auto, using(crate::proofs::Words::line_spaced))]
+pub fn show_urb(
+    alloc: Global,
+    place: u64,
+    packet: &UrbPacket,
+    out: &mut Bytes,
+) -> Result<(), Memory>
+    requires { IsRequest packet.now }
+    ensures { Appends result out.old out.new (urb_line place packet.now) }
+{
+    let from = out.len();
+    let begun = push_request(alloc, place, packet, out);
+    end_line(begun, from, out)
+}
+
+#[tactic(auto, using(crate::proofs::Words::spacing))]
+fn push_request(
+    alloc: Global,
+    place: u64,
+    packet: &UrbPacket,
+    out: &mut Bytes,
+) -> Result<(), Memory>
+    requires { IsRequest packet.now }
+    ensures { AppendsSome result out.old out.new (decimal place ++ spaced_words (urb_words packet.now)) }
+{
+    match packet {
+        UrbPacket::Submit(submit) => push_submit(alloc, place, submit, out),
+        UrbPacket::Unlink(unlink) => push_unlink(alloc, place, unlink, out),
+        UrbPacket::RetSubmit(_) | UrbPacket::RetUnlink(_) => unreachable!(),
+    }
+}
+
+#[tactic(auto, using(crate::proofs::Words::spacing))]
+fn push_submit(alloc: Global, place: u64, submit: &Submit, out: &mut Bytes) -> Result<(), Memory>
+    ensures { AppendsSome result out.old out.new (decimal place ++ spaced_words (submit_words submit.now)) }
+{
+    let head = &submit.head;
+    push_begin(place, "SUBMIT", out)?;
+    push_numbers(
+        &[
+            head.seqnum,
+            head.devid,
+            head.direction,
+            head.ep,
+            submit.flags,
+            submit.length,
+            submit.start_frame,
+            submit.packets,
+            submit.interval,
+        ],
+        out,
+    )?;
+    push_bytes(alloc, &submit.setup, out)?;
+    push_bytes(alloc, submit.body.as_slice(), out)?;
+    push_descs(alloc, submit.descs.as_slice(), out)?;
+    Ok(())
+}
+
+#[tactic(auto, using(crate::proofs::Words::spacing))]
+fn push_unlink(alloc: Global, place: u64, unlink: &Unlink, out: &mut Bytes) -> Result<(), Memory>
+    ensures { AppendsSome result out.old out.new (decimal place ++ spaced_words (unlink_words unlink.now)) }
+{
+    let head = &unlink.head;
+    push_begin(place, "UNLINK", out)?;
+    push_numbers(
+        &[
+            head.seqnum,
+            head.devid,
+            head.direction,
+            head.ep,
+            unlink.target,
+        ],
+        out,
+    )?;
+    push_bytes(alloc, &unlink.pad, out)?;
+    Ok(())
+}
+
+#[tactic(auto, using(crate::proofs::Words::spacing))]
+fn push_descs(alloc: Global, descs: &[IsoDesc], out: &mut Bytes) -> Result<(), Memory>
+    ensures { AppendsSome result out.old out.new (spaced_words (map desc_word descs.now)) }
+{
+    for desc in descs {
+        push_word(desc_text(alloc, desc)?.as_bytes(), out)?;
+    }
+    Ok(())
+}
+
+fn desc_text(alloc: Global, desc: &IsoDesc) -> Result<String, Memory>
+    ensures { IfOk result (λ text. string_bytes text ≡ desc_word desc.now) }
+{
+    let offset = desc.offset;
+    let length = desc.length;
+    let actual = desc.actual;
+    let status = desc.status;
+    Ok(format!(in alloc; "{offset}:{length}:{actual}:{status}")?)
+}

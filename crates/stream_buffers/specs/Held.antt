@@ -1,0 +1,16 @@
+-- What is held of a receiving stream: the packets that came and that no request took, the first first.
+use Rattle.std.specs.Prelude.{ℕ, nat_le, Bool, if◌then◌else◌, List, [], ◌∷◌, ◌++◌, length}
+use Rattle.usb_base.specs.declared.transfer.StreamPacket.{StreamPacket}
+
+pub record Held : Type 0 where
+  pub packets : List StreamPacket
+  -- the largest packet of the endpoint, in bytes
+  pub max_packet : ℕ
+
+-- at most 1,024 are held
+abbrev pub is_full : List StreamPacket → Bool
+is_full packets = nat_le 1024 (length packets)
+
+-- a packet is put behind those that are held, and is lost where there is no room
+abbrev pub receive : StreamPacket → List StreamPacket → List StreamPacket
+receive p packets = if is_full packets then packets else packets ++ p ∷ []

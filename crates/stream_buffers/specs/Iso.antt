@@ -1,0 +1,41 @@
+-- Isochronous requests over the packets that are held: one packet for each descriptor.
+use Rattle.std.specs.Prelude.{ℕ, nat_lt, if◌then◌else◌, List, [], ◌∷◌, ◌++◌, length, take, drop, Option, Some, None}
+use Rattle.usb_base.specs.Status.{errno_of}
+use Rattle.usb_base.specs.declared.status.UsbStatus.{UsbStatus}
+use Rattle.usb_base.specs.declared.status.UsbStatus.TheVariants.{Babble}
+use Rattle.usb_base.specs.declared.transfer.StreamPacket.{StreamPacket}
+use Rattle.usbip_urb.specs.declared.packet.IsoDesc.{IsoDesc}
+use Rattle.stream_buffers.specs.declared.iso.IsoOutcome.{IsoOutcome}
+use Rattle.stream_buffers.specs.Cuts.{Cut}
+
+-- what fits of a packet
+abbrev pub piece : IsoDesc → StreamPacket → List ℕ
+piece d p = take d.length p.body
+
+-- a packet that is too long has the status of babble
+abbrev pub piece_status : IsoDesc → StreamPacket → UsbStatus
+piece_status d p = if nat_lt d.length (length p.body) then Babble else p.status
+
+abbrev pub filled : IsoDesc → StreamPacket → IsoDesc
+filled d p = record d { actual = length (piece d p); status = errno_of (piece_status d p) }
+
+-- ---- those of all descriptors
+
+-- joined without gaps, whatever the offsets
+abbrev pub pieces : List IsoDesc → List StreamPacket → List ℕ
+pieces [] ps = []
+pieces (d ∷ ds) [] = []
+pieces (d ∷ ds) (p ∷ ps) = piece d p ++ pieces ds ps
+
+abbrev pub all_filled : List IsoDesc → List StreamPacket → List IsoDesc
+all_filled [] ps = []
+all_filled (d ∷ ds) [] = []
+all_filled (d ∷ ds) (p ∷ ps) = filled d p ∷ all_filled ds ps
+
+abbrev pub iso_outcome : List IsoDesc → List StreamPacket → IsoOutcome
+iso_outcome descs packets = record { body = pieces descs packets; descs = all_filled descs packets }
+
+abbrev pub iso_cut : List IsoDesc → List StreamPacket → Option (Cut IsoOutcome)
+iso_cut descs packets =
+    if nat_lt (length packets) (length descs) then None
+    else Some (record { gives = iso_outcome descs packets; leaves = drop (length descs) packets })

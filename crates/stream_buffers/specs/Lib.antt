@@ -1,0 +1,7 @@
+pub mod Held
+pub mod Cuts
+pub mod Least
+pub mod Interrupt
+pub mod Iso
+pub mod Laws
+pub mod inner

@@ -1,0 +1,14 @@
+//! The packets of receiving streams, held until requests take them, and what a request is given of them.
+#![tactic(auto)]
+
+mod fill;
+mod inbox;
+mod interrupt;
+mod iso;
+mod laws;
+#[cfg(test)]
+mod tests;
+
+pub use inbox::{Inbox, MAX_HELD};
+pub use iso::IsoOutcome;
+pub use laws::{fewest_fill, interrupt_fits, iso_fits};
