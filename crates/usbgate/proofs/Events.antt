@@ -1,49 +1,110 @@
 -- What an event adds to a replay's text, and to what it keeps.
-use Rattle.std.proofs.Common.{◌≡◌, ℕ, Bool, true, false, List, [], ◌∷◌, ◌++◌, length, drop, refl, sym, ap, ◌∙◌}
-use Rattle.std.proofs.lemmas.List.{append-nil, drop_at}
-use Rattle.usbgate.specs.declared.note.Note.{Note}
+use Rattle.std.proofs.Common.{◌≡◌, ℕ, Bool, true, false, ◌||◌, ◌&&◌, not, List, [], ◌∷◌, ◌++◌, length, drop, map, filter, Option, Some, None, is_some, refl, sym, ap, ◌∙◌}
+use Rattle.std.specs.List.{list_any}
+use Rattle.std.proofs.Math.Bool.{or-false}
+use Rattle.std.proofs.lemmas.List.{drop_at}
+use Rattle.std.proofs.lemmas.List.Folds.{list_any-append}
+use Rattle.usb_base.specs.declared.refusal.Refusal.{Refusal}
+use Rattle.gate_core.specs.declared.note.Note.{Note}
+use Rattle.gate_core.specs.declared.note.Note.TheVariants as note
+use Rattle.gate_core.specs.Events.{Event}
+use Rattle.gate_core.specs.Marks.{Submission, Effect, Idle, Replies, Imports, Opens, Unbuilt, Unlinks, Agrees, Answers, Disconnects, Ends, Refuses, Mark}
+use Rattle.gate_core.specs.Sides.{refused_at, leaves, is_loss}
+use Rattle.gate_core.specs.Submits.{Pending, opened, ends}
+use Rattle.gate_core.specs.State.{State, state_of}
+use Rattle.gate_core.specs.History.{history}
+use Rattle.gate_core.specs.Notes.{is_by_answer, when, import_notes, submit_notes, unlink_notes, answer_notes, refusal_notes, notes_of}
+use Rattle.gate_core.specs.Output.{present}
+use Rattle.gate_core.specs.Bytes.{out_client, out_host}
+use Rattle.gate_core.specs.Stands.{Gains, Takes}
 use Rattle.usbgate.specs.declared.replay.Replay.{Replay}
-use Rattle.usbgate.specs.Events.{Event}
-use Rattle.usb_base.specs.declared.side.Side.TheVariants.{Client, Host}
-use Rattle.usbgate.specs.Items.{Item, Asked, Told, Wrong, Left}
-use Rattle.usbgate.specs.History.{history}
-use Rattle.usbgate.specs.Output.{out_client, out_host, told_notes}
-use Rattle.usbgate.specs.Stands.{Gains, Takes}
-use Rattle.usbgate.specs.Tape.{has_ended}
-use Rattle.usbgate.specs.Text.{gained, sent_text}
+use Rattle.usbgate.specs.Tape.{host_ended}
+use Rattle.usbgate.specs.Text.{told_notes, gained, sent_text}
 use Rattle.usbgate.specs.Replay.{has_refusal}
-use Rattle.usbgate.specs.inner.Replay.{HasSeen, Sees}
+use Rattle.usbgate.specs.inner.Replay.{is_refusal, HasSeen, Sees}
 
--- ---- each note is a refusal
+-- ---- a side was refused where a note tells it
 
-abbrev some_note : List Note → Bool
-some_note [] = false
-some_note (n ∷ ns) = true
+-- none of these notes does
+abbrev IsQuiet : List Note → Type 0
+IsQuiet notes = list_any is_refusal notes ≡ false
 
-some_note-append : (ns : List Note) (n : Note) → some_note (ns ++ n ∷ []) ≡ true
-some_note-append [] n = refl
-some_note-append (m ∷ ns) n = refl
+quiet-then : (xs ys : List Note) → IsQuiet xs → list_any is_refusal (xs ++ ys) ≡ list_any is_refusal ys
+quiet-then xs ys quiet = list_any-append is_refusal xs ys ∙ ap (λ (b : Bool). b || list_any is_refusal ys) quiet
 
-refusal-told : (h : List Item) → has_refusal h ≡ some_note (told_notes h)
-refusal-told [] = refl
-refusal-told (Asked place p ∷ h) = refusal-told h ∙ ap some_note (sym (append-nil (told_notes h)))
-refusal-told (Told place p ∷ h) = refusal-told h ∙ ap some_note (sym (append-nil (told_notes h)))
-refusal-told (Wrong side place reason ∷ h) = sym (some_note-append (told_notes h) _)
-refusal-told (Left side ∷ h) = refusal-told h ∙ ap some_note (sym (append-nil (told_notes h)))
+quiet-three : (xs ys zs : List Note) → IsQuiet xs → IsQuiet ys → IsQuiet zs → IsQuiet (xs ++ ys ++ zs)
+quiet-three xs ys zs p q r = quiet-then (xs ++ ys) zs (quiet-then xs ys p ∙ q) ∙ r
 
-some_note-more : (ms ns : List Note) → (ns ≡ [] → ⊥) → some_note (ms ++ ns) ≡ true
-some_note-more [] [] some = absurd (some refl)
-some_note-more [] (n ∷ ns) some = refl
-some_note-more (m ∷ ms) ns some = refl
+quiet-when : (b : Bool) (n : Note) → is_refusal n ≡ false → IsQuiet (when b n)
+quiet-when true n quiet = ap (λ (t : Bool). t || false) quiet
+quiet-when false n quiet = refl
 
--- notes were told
-pub refused-some : (h k : List Item) (ns : List Note) → told_notes k ≡ told_notes h ++ ns → (ns ≡ [] → ⊥) → true ≡ has_refusal k
-refused-some h k ns told some = sym (refusal-told k ∙ ap some_note told ∙ some_note-more (told_notes h) ns some)
+quiet-import : (e : Effect) → IsQuiet (import_notes e)
+quiet-import (Imports reply) = refl
+quiet-import Idle = refl
+quiet-import (Replies reply) = refl
+quiet-import (Opens s) = refl
+quiet-import (Unbuilt s place) = refl
+quiet-import (Unlinks by target) = refl
+quiet-import (Agrees caps) = refl
+quiet-import (Answers id outcome) = refl
+quiet-import (Disconnects id) = refl
+quiet-import (Ends side) = refl
+quiet-import (Refuses r) = refl
 
--- no notes were told
-pub refused-none : (h k : List Item) (ns : List Note) → told_notes k ≡ told_notes h ++ ns → ns ≡ [] → has_refusal h ≡ has_refusal k
-refused-none h k ns told none =
-    refusal-told h ∙ ap some_note (sym (append-nil (told_notes h)) ∙ ap (λ (l : List Note). told_notes h ++ l) (sym none) ∙ sym told) ∙ sym (refusal-told k)
+quiet-submit : (ss : List Submission) → IsQuiet (map (λ s. note.Submitted s.request.number s.id) ss)
+quiet-submit [] = refl
+quiet-submit (s ∷ ss) = quiet-submit ss
+
+quiet-unlink : (e : Effect) → IsQuiet (unlink_notes e)
+quiet-unlink (Unlinks by target) = refl
+quiet-unlink Idle = refl
+quiet-unlink (Replies reply) = refl
+quiet-unlink (Imports reply) = refl
+quiet-unlink (Opens s) = refl
+quiet-unlink (Unbuilt s place) = refl
+quiet-unlink (Agrees caps) = refl
+quiet-unlink (Answers id outcome) = refl
+quiet-unlink (Disconnects id) = refl
+quiet-unlink (Ends side) = refl
+quiet-unlink (Refuses r) = refl
+
+quiet-answer : (ps : List Pending) → IsQuiet (map (λ p. note.Answered p.submit.request.number) ps)
+quiet-answer [] = refl
+quiet-answer (p ∷ ps) = quiet-answer ps
+
+told-refusal : (r : Option Refusal) → list_any is_refusal (refusal_notes r) ≡ is_some r
+told-refusal None = refl
+told-refusal (Some r) = refl
+
+told-mark : (st : State) (m : Mark) → list_any is_refusal (notes_of st m) ≡ is_some (refused_at m.what)
+told-mark st m =
+    let by_client = import_notes m.what ++ submit_notes m.what ++ unlink_notes m.what in
+    let gone = when (is_loss m.what && st.imported && not st.lost) note.DeviceGone in
+    let left = when (leaves m.what && not st.client_over) note.ClientGone in
+    let first_three : IsQuiet by_client =
+    quiet-three (import_notes m.what) (submit_notes m.what) (unlink_notes m.what) (quiet-import m.what) (quiet-submit (opened m.what)) (quiet-unlink m.what) in
+    let next_three : IsQuiet (by_client ++ answer_notes st m.what ++ gone) =
+    quiet-three by_client (answer_notes st m.what) gone first_three (quiet-answer (filter (λ p. is_by_answer (ends m.what p.submit)) (present st m.what))) (quiet-when (is_loss m.what && st.imported && not st.lost) note.DeviceGone refl) in
+    let all_six : IsQuiet (by_client ++ answer_notes st m.what ++ gone ++ left) =
+    quiet-then (by_client ++ answer_notes st m.what ++ gone) left next_three ∙ quiet-when (leaves m.what && not st.client_over) note.ClientGone refl in
+    quiet-then (by_client ++ answer_notes st m.what ++ gone ++ left) (refusal_notes (refused_at m.what)) all_six ∙ told-refusal (refused_at m.what)
+
+or-comm : (a b : Bool) → (a || b) ≡ (b || a)
+or-comm true true = refl
+or-comm true false = refl
+or-comm false b = sym (or-false b)
+
+told-past : (first : ℕ) (ms : List Mark) → list_any is_refusal (told_notes first ms) ≡ has_refusal ms
+told-past first [] = refl
+told-past first (m ∷ ms) =
+    list_any-append is_refusal (told_notes first ms) (notes_of (state_of first ms) m) ∙ ap (λ (b : Bool). b || list_any is_refusal (notes_of (state_of first ms) m)) (told-past first ms)
+    ∙ ap (λ (b : Bool). has_refusal ms || b) (told-mark (state_of first ms) m) ∙ or-comm (has_refusal ms) (is_some (refused_at m.what))
+
+-- with the notes that an event told
+refused-more : (first : ℕ) (before after : List Mark) (notes : List Note) → told_notes first after ≡ told_notes first before ++ notes → (has_refusal before || list_any is_refusal notes) ≡ has_refusal after
+refused-more first before after notes told =
+    ap (λ (b : Bool). b || list_any is_refusal notes) (sym (told-past first before)) ∙ sym (list_any-append is_refusal (told_notes first before) notes) ∙ ap (list_any is_refusal) (sym told) ∙ told-past first after
 
 -- ---- what is printed
 
@@ -52,15 +113,22 @@ gains-is : (old new before after : List ℕ) → old ≡ [] → Gains old new be
 gains-is old new before after none g =
     g.new-is ∙ ap (λ (l : List ℕ). l ++ g.bytes) none ∙ sym (drop_at before g.bytes (length before) refl) ∙ ap (drop (length before)) (sym g.after-is)
 
-pub sees : (old new : Replay) (past : List Event) (e : Event) (client host text_old text_new : List ℕ) (notes : List Note) → HasSeen old past
-    → Takes new.gate past e old.to_client client old.to_host host notes → text_new ≡ text_old ++ sent_text client host notes → new.to_client ≡ [] → new.to_host ≡ []
-    → new.client_ended ≡ has_ended Client (e ∷ past) → new.host_ended ≡ has_ended Host (e ∷ past) → new.refused ≡ has_refusal (history (e ∷ past)) → Sees new past e text_old text_new
-sees old new past e client host text_old text_new notes h t text no_client no_host client_end host_end refused =
-    let to_client : client ≡ gained out_client past e = gains-is old.to_client client _ _ h.to_client t.sends.client in
-    let to_host : host ≡ gained out_host past e = gains-is old.to_host host _ _ h.to_host t.sends.host in
-    let told : notes ≡ gained told_notes past e = sym (drop_at (told_notes (history past)) notes _ refl) ∙ ap (drop (length (told_notes (history past)))) (sym t.sends.told) in
+pub sees : (first : ℕ) (old new : Replay) (events : List Event) (e : Event) (client host text_old text_new : List ℕ) (notes : List Note) → HasSeen first old events
+    → Takes first new.gate events e old.to_client client old.to_host host notes → text_new ≡ text_old ++ sent_text client host notes → new.to_client ≡ [] → new.to_host ≡ []
+    → new.host_ended ≡ host_ended (e ∷ events) → new.refused ≡ (old.refused || list_any is_refusal notes) → Sees first new events e text_old text_new
+sees first old new events e client host text_old text_new notes h t text no_client no_host host_end refused =
+    let to_client : client ≡ gained out_client first events e = gains-is old.to_client client _ _ h.to_client t.client in
+    let to_host : host ≡ gained out_host first events e = gains-is old.to_host host _ _ h.to_host t.host in
+    let told : notes ≡ gained told_notes first events e =
+    sym (drop_at (told_notes first (history first events)) notes _ refl) ∙ ap (drop (length (told_notes first (history first events)))) (sym t.told) in
     record {
-      text = text ∙ ap (λ (l : List ℕ). text_old ++ l) (ap (λ (l : List ℕ). sent_text l host notes) to_client ∙ ap (λ (l : List ℕ). sent_text (gained out_client past e) l notes) to_host
-          ∙ ap (λ (l : List Note). sent_text (gained out_client past e) (gained out_host past e) l) told);
-      seen = record { gate = t.stands; to_client = no_client; to_host = no_host; client_ended = client_end; host_ended = host_end; refused = refused };
+      text = text ∙ ap (λ (l : List ℕ). text_old ++ l) (ap (λ (l : List ℕ). sent_text l host notes) to_client ∙ ap (λ (l : List ℕ). sent_text (gained out_client first events e) l notes) to_host
+          ∙ ap (λ (l : List Note). sent_text (gained out_client first events e) (gained out_host first events e) l) told);
+      seen = record {
+        gate = t.stands;
+        to_client = no_client;
+        to_host = no_host;
+        host_ended-is = host_end;
+        refused = refused ∙ ap (λ (b : Bool). b || list_any is_refusal notes) h.refused ∙ refused-more first (history first events) (history first (e ∷ events)) notes t.told;
+      };
     }

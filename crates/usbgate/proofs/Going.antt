@@ -9,12 +9,14 @@ use Rattle.gate_outside.specs.Front.{AppendsFront}
 use Rattle.usbgate.specs.declared.tape_reader.TapeReader.{TapeReader}
 use Rattle.usbgate.specs.declared.status.Status.{Status}
 use Rattle.usbgate.specs.declared.status.Status.TheVariants.{Done, Usage, Refused, ReadFault, WriteFault, LinkFault, OutOfMemory, BadTape, Idle, Spent}
-use Rattle.usbgate.specs.History.{history}
+use Rattle.gate_core.specs.History.{history}
 use Rattle.usbgate.specs.Tape.{lines_of}
 use Rattle.usbgate.specs.Text.{made_text, usage_line}
-use Rattle.usbgate.specs.Command.{tape_limit}
+use Rattle.usbgate.specs.TapeCommand.{tape_limit}
 use Rattle.usbgate.specs.Replay.{has_refusal}
-use Rattle.usbgate.specs.Words.{is_replay, prescribed_text, prescribed_status}
+use Rattle.usbgate.specs.declared.words.Command.{Command}
+use Rattle.usbgate.specs.declared.words.Command.TheVariants.{Replay, Unknown}
+use Rattle.usbgate.specs.Prescribed.{prescribed_text}
 use Rattle.usbgate.specs.inner.Replay.{ReplayReading, replay_begin, replay_lines, replay_text, replay_status}
 use Rattle.usbgate.specs.inner.Causes.{HasCauses}
 use Rattle.usbgate.specs.Run.{WrittenInPart, WrittenWhole, LeavesTold, Leaves, OpensNoLink}
@@ -38,116 +40,18 @@ at_end_told : (new : Option (List ℕ)) (rest : List ℕ) → IsAtEnd new → ne
 at_end_told None rest end e = absurd (none-some rest e)
 at_end_told (Some x) rest end e = same_Some rest x (sym e) ∙ end
 
--- ---- what a run prints
-
-text-replay : (words : List (List ℕ)) (tape : List ℕ) → is_replay words ≡ true → prescribed_text words tape ≡ replay_text tape
-text-replay words tape e = ap (λ (b : Bool). cond b (replay_text tape) usage_line) e
-
-status-replay : (words : List (List ℕ)) (tape : List ℕ) → is_replay words ≡ true → prescribed_status words tape ≡ replay_status tape
-status-replay words tape e = ap (λ (b : Bool). cond b (replay_status tape) Usage) e
-
 -- ---- in the middle
 
-pub record Goes (remaining_old remaining contents_old contents : Option (List ℕ)) (p : TapeReader) : Type 0 where
+pub record Goes (first : ℕ) (remaining_old remaining contents_old contents : Option (List ℕ)) (p : TapeReader) : Type 0 where
   pub read : List ℕ
   pub written : List ℕ
   pub consumed : Consumes remaining_old remaining read
   pub wrote : Appends contents_old contents written
-  pub stage : Stage p read written
-
-pub goes-none : (remaining contents : Option (List ℕ)) (p : TapeReader) → Stage p [] [] → Goes remaining remaining contents contents p
-goes-none remaining contents p s = record { read = []; written = []; consumed = Consumes-nil remaining; wrote = Appends-nil contents; stage = s }
-
--- all text is written
-pub goes-written : (remaining_old remaining contents_old contents new : Option (List ℕ)) (p : TapeReader) (text none : List ℕ) → Goes remaining_old remaining contents_old contents p → text ≡ p.text → Appends contents new text → none ≡ []
-    → Goes remaining_old remaining contents_old new (record p { text = none })
-goes-written remaining_old remaining contents_old contents new p text none g is a e = record {
-  read = g.read;
-  written = g.written ++ p.text;
-  consumed = g.consumed;
-  wrote = Appends-trans contents_old contents new g.written p.text g.wrote (subst (Appends contents new) is a);
-  stage = record {
-    whole = g.stage.whole;
-    text = g.stage.text;
-    at = g.stage.at;
-    read-is = g.stage.read-is;
-    whole_lines = g.stage.whole_lines;
-    part_of_line = g.stage.part_of_line;
-    bytes-is = g.stage.bytes-is;
-    within = g.stage.within;
-    text-is = ap (λ (l : List ℕ). (g.written ++ p.text) ++ l) e ∙ append-nil (g.written ++ p.text) ∙ g.stage.text-is;
-    reads = g.stage.reads;
-    has_read = g.stage.has_read;
-  };
-}
-
--- a piece more was read
-pub goes-read : (remaining_old remaining new contents_old contents : Option (List ℕ)) (p q : TapeReader) (piece : List ℕ) (g : Goes remaining_old remaining contents_old contents p) → Consumes remaining new piece
-    → Stage q (g.read ++ piece) g.written → Goes remaining_old new contents_old contents q
-goes-read remaining_old remaining new contents_old contents p q piece g read s = record {
-  read = g.read ++ piece;
-  written = g.written;
-  consumed = Consumes-trans remaining_old remaining new g.read piece g.consumed read;
-  wrote = g.wrote;
-  stage = s;
-}
-
--- ---- ends in the middle
+  pub stage : Stage first p read written
 
 -- nothing is written
-pub in_part-none : (words : List (List ℕ)) (contents : Option (List ℕ)) (tape text : List ℕ) → contents ≡ Some text → WrittenInPart words tape text contents
-in_part-none words contents tape text e = record { front = []; back = prescribed_text words tape; parts = refl; contents-is = e ∙ ap (λ (l : List ℕ). Some l) (sym (append-nil text)) }
-
-in_part : (words : List (List ℕ)) (remaining_old remaining contents_old contents : Option (List ℕ)) (p : TapeReader) → is_replay words ≡ true → (g : Goes remaining_old remaining contents_old contents p) (new : Option (List ℕ)) (front back : List ℕ)
-    → p.text ≡ front ++ back → Appends contents new front → (tape text : List ℕ) → remaining_old ≡ Some tape → contents_old ≡ Some text → WrittenInPart words tape text new
-in_part words remaining_old remaining contents_old contents p is g new front back parts a tape text tape_told text_told =
-    let t = remaining_told remaining_old remaining g.read tape g.consumed tape_told in
-    let begins = text_begins g.stage t.0 in
-    record {
-      front = g.written ++ front;
-      back = back ++ begins.0;
-      parts = text-replay words tape is ∙ ap replay_text t.2 ∙ begins.1
-          ∙ ap (λ (l : List ℕ). l ++ begins.0) (ap (λ (l : List ℕ). g.written ++ l) parts ∙ sym (append_assoc g.written front back)) ∙ append_assoc (g.written ++ front) back begins.0;
-      contents-is = contents_told contents_old new (g.written ++ front) text (Appends-trans contents_old contents new g.written front g.wrote a) text_told;
-    }
-
--- the write of the text fails
-pub ran-write : (remaining_old remaining contents_old contents new : Option (List ℕ)) (p : TapeReader) (bytes : List ℕ) → Goes remaining_old remaining contents_old contents p → bytes ≡ p.text → AppendsFront contents new bytes
-    → (words : List (List ℕ)) → is_replay words ≡ true → Leaves WriteFault words remaining_old remaining contents_old new
-ran-write remaining_old remaining contents_old contents new p bytes g bytes-is f words is = λ tape text tape_told text_told.
-    in_part words remaining_old remaining contents_old contents p is g new f.front f.back (sym bytes-is ∙ f.parts) f.appends tape text tape_told text_told
-
--- memory runs out after a piece was read
-pub ran-memory : (remaining_old remaining new contents_old contents : Option (List ℕ)) (p : TapeReader) → Goes remaining_old remaining contents_old contents p
-    → (words : List (List ℕ)) → is_replay words ≡ true → Leaves OutOfMemory words remaining_old new contents_old contents
-ran-memory remaining_old remaining new contents_old contents p g words is = λ tape text tape_told text_told.
-    in_part words remaining_old remaining contents_old contents p is g contents [] p.text refl (Appends-nil contents) tape text tape_told text_told
-
--- a read fails, and all text is written
-pub ran-read : (remaining_old remaining new contents_old contents : Option (List ℕ)) (p : TapeReader) → Goes remaining_old remaining contents_old contents p → p.text ≡ [] → Keeps remaining new
-    → (words : List (List ℕ)) → is_replay words ≡ true → Leaves ReadFault words remaining_old new contents_old contents
-ran-read remaining_old remaining new contents_old contents p g none kept words is = λ tape text tape_told text_told.
-    let t = remaining_told remaining_old new g.read tape (Consumes-kept remaining_old remaining new g.read g.consumed kept) tape_told in
-    let s = g.stage in
-    let plays : replay_lines replay_begin (lines_of s.whole) ≡ record { text = s.text; after = s.at; bad = false } =
-    ap (λ (l : List ℕ). replay_lines replay_begin (lines_of l)) (sym (append-nil s.whole)) ∙ s.reads [] ∙ ap (λ (l : List ℕ). record { text = l; after = s.at; bad = false }) (append-nil s.text) in
-    let written : g.written ≡ made_text ++ (replay_lines replay_begin (lines_of s.whole)).text =
-    sym (append-nil g.written) ∙ ap (λ (l : List ℕ). g.written ++ l) (sym none) ∙ s.text-is ∙ ap (λ (x : ReplayReading). made_text ++ x.text) (sym plays) in (
-      is,
-      record {
-        whole = s.whole;
-        part = p.pending;
-        rest = t.0;
-        tape-is = t.2 ∙ ap (λ (l : List ℕ). l ++ t.0) s.read-is;
-        whole_lines = s.whole_lines;
-        part_of_line = s.part_of_line;
-        good = ap (λ (x : ReplayReading). x.bad) plays;
-        within = subst (λ (x : ReplayReading). x.after.bytes + length p.pending ≤ tape_limit) (sym plays) s.within;
-        remaining-is = t.1;
-        contents-is = contents_told contents_old contents g.written text g.wrote text_told
-            ∙ ap (λ (l : List ℕ). Some l) (ap (λ (l : List ℕ). text ++ l) written ∙ sym (append_assoc text made_text (replay_lines replay_begin (lines_of s.whole)).text));
-      },
-    )
+pub in_part-none : (command : Command) (contents : Option (List ℕ)) (tape text : List ℕ) → contents ≡ Some text → WrittenInPart command tape text contents
+in_part-none command contents tape text e = record { front = []; back = prescribed_text command tape; parts = refl; contents-is = e ∙ ap (λ (l : List ℕ). Some l) (sym (append-nil text)) }
 
 -- ---- the end
 
@@ -169,11 +73,6 @@ end_by true refused number = refl
 end_by false true number = refl
 end_by false false number = refl
 
-pub closes-is_quiet : {status : Status} {p : TapeReader} {piece written : List ℕ} (read : List ℕ) → Closes status p piece read written → is_quiet status ≡ true
-closes-is_quiet {piece = piece} read c =
-    let x = replay_lines replay_begin (lines_of ((read ++ piece) ++ [])) in
-    ap is_quiet (sym (c.outcome [] (λ _. refl))) ∙ end_by x.bad (has_refusal (history x.after.kept)) (x.after.lines + 1)
-
 pub false-true : {A : Type 0} → false ≡ true → A
 false-true e = cc
 
@@ -184,66 +83,170 @@ refused-bad : {A : Type 0} (n : ℕ) → Refused ≡ BadTape n → A
 refused-bad n e = cc
 
 -- the tape has come to its end, or the status is that of a bad line
-ends_by : (status : Status) (words : List (List ℕ)) (tape text : List ℕ) (remaining contents : Option (List ℕ)) → is_quiet status ≡ true → WrittenWhole status words tape text contents
-    → ((number : ℕ) × (status ≡ BadTape number)) ⊎ (remaining ≡ Some []) → LeavesTold status words tape text remaining contents
-ends_by Done words tape text remaining contents e p (inl b) = done-bad b.0 b.1
-ends_by Done words tape text remaining contents e p (inr none) = (none, p)
-ends_by Refused words tape text remaining contents e p (inl b) = refused-bad b.0 b.1
-ends_by Refused words tape text remaining contents e p (inr none) = (none, p)
-ends_by (BadTape n) words tape text remaining contents e p either = p
-ends_by Usage words tape text remaining contents e p either = false-true e
-ends_by ReadFault words tape text remaining contents e p either = false-true e
-ends_by WriteFault words tape text remaining contents e p either = false-true e
-ends_by (LinkFault side) words tape text remaining contents e p either = false-true e
-ends_by OutOfMemory words tape text remaining contents e p either = record { front = prescribed_text words tape; back = []; parts = sym (append-nil (prescribed_text words tape)); contents-is = p.contents-is }
-ends_by Idle words tape text remaining contents e p either = false-true e
-ends_by Spent words tape text remaining contents e p either = false-true e
+ends_by : (status : Status) (command : Command) (tape text : List ℕ) (remaining contents : Option (List ℕ)) → is_quiet status ≡ true → WrittenWhole status command tape text contents
+    → ((number : ℕ) × (status ≡ BadTape number)) ⊎ (remaining ≡ Some []) → LeavesTold status command tape text remaining contents
+ends_by Done command tape text remaining contents e p (inl b) = done-bad b.0 b.1
+ends_by Done command tape text remaining contents e p (inr none) = (none, p)
+ends_by Refused command tape text remaining contents e p (inl b) = refused-bad b.0 b.1
+ends_by Refused command tape text remaining contents e p (inr none) = (none, p)
+ends_by (BadTape n) command tape text remaining contents e p either = p
+ends_by Usage command tape text remaining contents e p either = false-true e
+ends_by ReadFault command tape text remaining contents e p either = false-true e
+ends_by WriteFault command tape text remaining contents e p either = false-true e
+ends_by (LinkFault side) command tape text remaining contents e p either = false-true e
+ends_by OutOfMemory command tape text remaining contents e p either = record { front = prescribed_text command tape; back = []; parts = sym (append-nil (prescribed_text command tape)); contents-is = p.contents-is }
+ends_by Idle command tape text remaining contents e p either = false-true e
+ends_by Spent command tape text remaining contents e p either = false-true e
 
 closed : (piece rest : List ℕ) (status : Status) (remaining : Option (List ℕ)) → ((piece ≡ [] → ⊥) → (number : ℕ) × (status ≡ BadTape number)) → (piece ≡ [] → rest ≡ []) → remaining ≡ Some rest
     → ((number : ℕ) × (status ≡ BadTape number)) ⊎ (remaining ≡ Some [])
 closed [] rest status remaining bad none e = inr (e ∙ ap (λ (l : List ℕ). Some l) (none refl))
 closed (b ∷ bs) rest status remaining bad none e = inl (bad (λ (e : b ∷ bs ≡ []). cc))
 
--- all text is written, and the run ends
-pub ran-end : (remaining_old remaining new contents_old contents last : Option (List ℕ)) (p q : TapeReader) (status : Status) (piece bytes : List ℕ) (g : Goes remaining_old remaining contents_old contents p) → Consumes remaining new piece
-    → (piece ≡ [] → IsAtEnd new) → Closes status q piece g.read g.written → bytes ≡ q.text → Appends contents last bytes
-    → (words : List (List ℕ)) → is_replay words ≡ true → Leaves status words remaining_old new contents_old last
-ran-end remaining_old remaining new contents_old contents last p q status piece bytes g read at_end c bytes-is a words is = λ tape text tape_told text_told.
-    let t = remaining_told remaining_old new (g.read ++ piece) tape (Consumes-trans remaining_old remaining new g.read piece g.consumed read) tape_told in
-    let none : piece ≡ [] → t.0 ≡ [] = λ e. at_end_told new t.0 (at_end e) t.1 in
-    ends_by status words tape text new last (closes-is_quiet g.read c) (record {
-      contents-is = contents_told contents_old last (g.written ++ bytes) text (Appends-trans contents_old contents last g.written bytes g.wrote a) text_told
-          ∙ ap (λ (l : List ℕ). Some (text ++ l)) (ap (λ (l : List ℕ). g.written ++ l) bytes-is ∙ sym (c.text t.0 none) ∙ ap replay_text (sym t.2) ∙ sym (text-replay words tape is));
-      status-is = sym (c.outcome t.0 none) ∙ ap replay_status (sym t.2) ∙ sym (status-replay words tape is);
-    }) (closed piece t.0 status new c.bad none t.1)
+-- ---- of the replay that draws from the first id on
 
--- the last write fails
-pub ran-last : (remaining_old remaining new contents_old contents last : Option (List ℕ)) (p q : TapeReader) (status : Status) (piece bytes : List ℕ) (g : Goes remaining_old remaining contents_old contents p) → Consumes remaining new piece
-    → (piece ≡ [] → IsAtEnd new) → Closes status q piece g.read g.written → bytes ≡ q.text → AppendsFront contents last bytes
-    → (words : List (List ℕ)) → is_replay words ≡ true → Leaves WriteFault words remaining_old new contents_old last
-ran-last remaining_old remaining new contents_old contents last p q status piece bytes g read at_end c bytes-is f words is = λ tape text tape_told text_told.
-    let t = remaining_told remaining_old new (g.read ++ piece) tape (Consumes-trans remaining_old remaining new g.read piece g.consumed read) tape_told in
-    let none : piece ≡ [] → t.0 ≡ [] = λ e. at_end_told new t.0 (at_end e) t.1 in
-    record {
-      front = g.written ++ f.front;
-      back = f.back;
-      parts = text-replay words tape is ∙ ap replay_text t.2 ∙ c.text t.0 none ∙ ap (λ (l : List ℕ). g.written ++ l) (sym bytes-is ∙ f.parts) ∙ sym (append_assoc g.written f.front f.back);
-      contents-is = contents_told contents_old last (g.written ++ f.front) text (Appends-trans contents_old contents last g.written f.front g.wrote f.appends) text_told;
-    }
+module _ (first : ℕ) where
+  pub goes-none : (remaining contents : Option (List ℕ)) (p : TapeReader) → Stage first p [] [] → Goes first remaining remaining contents contents p
+  goes-none remaining contents p s = record { read = []; written = []; consumed = Consumes-nil remaining; wrote = Appends-nil contents; stage = s }
+
+  -- all text is written
+  pub goes-written : (remaining_old remaining contents_old contents new : Option (List ℕ)) (p : TapeReader) (text none : List ℕ) → Goes first remaining_old remaining contents_old contents p → text ≡ p.text → Appends contents new text → none ≡ []
+      → Goes first remaining_old remaining contents_old new (record p { text = none })
+  goes-written remaining_old remaining contents_old contents new p text none g is a e = record {
+    read = g.read;
+    written = g.written ++ p.text;
+    consumed = g.consumed;
+    wrote = Appends-trans contents_old contents new g.written p.text g.wrote (subst (Appends contents new) is a);
+    stage = record {
+      whole = g.stage.whole;
+      text = g.stage.text;
+      at = g.stage.at;
+      read-is = g.stage.read-is;
+      whole_lines = g.stage.whole_lines;
+      part_of_line = g.stage.part_of_line;
+      bytes-is = g.stage.bytes-is;
+      within = g.stage.within;
+      text-is = ap (λ (l : List ℕ). (g.written ++ p.text) ++ l) e ∙ append-nil (g.written ++ p.text) ∙ g.stage.text-is;
+      reads = g.stage.reads;
+      has_read = g.stage.has_read;
+    };
+  }
+
+  -- a piece more was read
+  pub goes-read : (remaining_old remaining new contents_old contents : Option (List ℕ)) (p q : TapeReader) (piece : List ℕ) (g : Goes first remaining_old remaining contents_old contents p) → Consumes remaining new piece
+      → Stage first q (g.read ++ piece) g.written → Goes first remaining_old new contents_old contents q
+  goes-read remaining_old remaining new contents_old contents p q piece g read s = record {
+    read = g.read ++ piece;
+    written = g.written;
+    consumed = Consumes-trans remaining_old remaining new g.read piece g.consumed read;
+    wrote = g.wrote;
+    stage = s;
+  }
+
+  -- ---- ends in the middle
+
+  in_part : (remaining_old remaining contents_old contents : Option (List ℕ)) (p : TapeReader) (g : Goes first remaining_old remaining contents_old contents p) (new : Option (List ℕ)) (front back : List ℕ)
+      → p.text ≡ front ++ back → Appends contents new front → (tape text : List ℕ) → remaining_old ≡ Some tape → contents_old ≡ Some text → WrittenInPart (Replay first) tape text new
+  in_part remaining_old remaining contents_old contents p g new front back parts a tape text tape_told text_told =
+      let t = remaining_told remaining_old remaining g.read tape g.consumed tape_told in
+      let begins = text_begins first g.stage t.0 in
+      record {
+        front = g.written ++ front;
+        back = back ++ begins.0;
+        parts = ap (replay_text first) t.2 ∙ begins.1
+            ∙ ap (λ (l : List ℕ). l ++ begins.0) (ap (λ (l : List ℕ). g.written ++ l) parts ∙ sym (append_assoc g.written front back)) ∙ append_assoc (g.written ++ front) back begins.0;
+        contents-is = contents_told contents_old new (g.written ++ front) text (Appends-trans contents_old contents new g.written front g.wrote a) text_told;
+      }
+
+  -- the write of the text fails
+  pub ran-write : (remaining_old remaining contents_old contents new : Option (List ℕ)) (p : TapeReader) (bytes : List ℕ) → Goes first remaining_old remaining contents_old contents p → bytes ≡ p.text → AppendsFront contents new bytes
+      → Leaves WriteFault (Replay first) remaining_old remaining contents_old new
+  ran-write remaining_old remaining contents_old contents new p bytes g bytes-is f = λ tape text tape_told text_told.
+      in_part remaining_old remaining contents_old contents p g new f.front f.back (sym bytes-is ∙ f.parts) f.appends tape text tape_told text_told
+
+  -- memory runs out after a piece was read
+  pub ran-memory : (remaining_old remaining new contents_old contents : Option (List ℕ)) (p : TapeReader) → Goes first remaining_old remaining contents_old contents p
+      → Leaves OutOfMemory (Replay first) remaining_old new contents_old contents
+  ran-memory remaining_old remaining new contents_old contents p g = λ tape text tape_told text_told.
+      in_part remaining_old remaining contents_old contents p g contents [] p.text refl (Appends-nil contents) tape text tape_told text_told
+
+  -- a read fails, and all text is written
+  pub ran-read : (remaining_old remaining new contents_old contents : Option (List ℕ)) (p : TapeReader) → Goes first remaining_old remaining contents_old contents p → p.text ≡ [] → Keeps remaining new
+      → Leaves ReadFault (Replay first) remaining_old new contents_old contents
+  ran-read remaining_old remaining new contents_old contents p g none kept = λ tape text tape_told text_told.
+      let t = remaining_told remaining_old new g.read tape (Consumes-kept remaining_old remaining new g.read g.consumed kept) tape_told in
+      let s = g.stage in
+      let plays : replay_lines first (replay_begin first) (lines_of s.whole) ≡ record { text = s.text; after = s.at; bad = false } =
+      ap (λ (l : List ℕ). replay_lines first (replay_begin first) (lines_of l)) (sym (append-nil s.whole)) ∙ s.reads [] ∙ ap (λ (l : List ℕ). record { text = l; after = s.at; bad = false }) (append-nil s.text) in
+      let written : g.written ≡ made_text first ++ (replay_lines first (replay_begin first) (lines_of s.whole)).text =
+      sym (append-nil g.written) ∙ ap (λ (l : List ℕ). g.written ++ l) (sym none) ∙ s.text-is ∙ ap (λ (x : ReplayReading). made_text first ++ x.text) (sym plays) in
+      record {
+        whole = s.whole;
+        part = p.pending;
+        rest = t.0;
+        tape-is = t.2 ∙ ap (λ (l : List ℕ). l ++ t.0) s.read-is;
+        whole_lines = s.whole_lines;
+        part_of_line = s.part_of_line;
+        good = ap (λ (x : ReplayReading). x.bad) plays;
+        within = subst (λ (x : ReplayReading). x.after.bytes + length p.pending ≤ tape_limit) (sym plays) s.within;
+        remaining-is = t.1;
+        contents-is = contents_told contents_old contents g.written text g.wrote text_told
+            ∙ ap (λ (l : List ℕ). Some l) (ap (λ (l : List ℕ). text ++ l) written ∙ sym (append_assoc text (made_text first) (replay_lines first (replay_begin first) (lines_of s.whole)).text));
+      }
+
+  -- ---- the end
+
+  pub closes-is_quiet : {status : Status} {p : TapeReader} {piece written : List ℕ} (read : List ℕ) → Closes first status p piece read written → is_quiet status ≡ true
+  closes-is_quiet {piece = piece} read c =
+      let x = replay_lines first (replay_begin first) (lines_of ((read ++ piece) ++ [])) in
+      ap is_quiet (sym (c.outcome [] (λ _. refl))) ∙ end_by x.bad (has_refusal (history first x.after.kept)) (x.after.lines + 1)
+
+  -- all text is written, and the run ends
+  pub ran-end : (remaining_old remaining new contents_old contents last : Option (List ℕ)) (p q : TapeReader) (status : Status) (piece bytes : List ℕ) (g : Goes first remaining_old remaining contents_old contents p) → Consumes remaining new piece
+      → (piece ≡ [] → IsAtEnd new) → Closes first status q piece g.read g.written → bytes ≡ q.text → Appends contents last bytes
+      → Leaves status (Replay first) remaining_old new contents_old last
+  ran-end remaining_old remaining new contents_old contents last p q status piece bytes g read at_end c bytes-is a = λ tape text tape_told text_told.
+      let t = remaining_told remaining_old new (g.read ++ piece) tape (Consumes-trans remaining_old remaining new g.read piece g.consumed read) tape_told in
+      let none : piece ≡ [] → t.0 ≡ [] = λ e. at_end_told new t.0 (at_end e) t.1 in
+      ends_by status (Replay first) tape text new last (closes-is_quiet g.read c) (record {
+        contents-is = contents_told contents_old last (g.written ++ bytes) text (Appends-trans contents_old contents last g.written bytes g.wrote a) text_told
+            ∙ ap (λ (l : List ℕ). Some (text ++ l)) (ap (λ (l : List ℕ). g.written ++ l) bytes-is ∙ sym (c.text t.0 none) ∙ ap (replay_text first) (sym t.2));
+        status-is = sym (c.outcome t.0 none) ∙ ap (replay_status first) (sym t.2);
+      }) (closed piece t.0 status new c.bad none t.1)
+
+  -- the last write fails
+  pub ran-last : (remaining_old remaining new contents_old contents last : Option (List ℕ)) (p q : TapeReader) (status : Status) (piece bytes : List ℕ) (g : Goes first remaining_old remaining contents_old contents p) → Consumes remaining new piece
+      → (piece ≡ [] → IsAtEnd new) → Closes first status q piece g.read g.written → bytes ≡ q.text → AppendsFront contents last bytes
+      → Leaves WriteFault (Replay first) remaining_old new contents_old last
+  ran-last remaining_old remaining new contents_old contents last p q status piece bytes g read at_end c bytes-is f = λ tape text tape_told text_told.
+      let t = remaining_told remaining_old new (g.read ++ piece) tape (Consumes-trans remaining_old remaining new g.read piece g.consumed read) tape_told in
+      let none : piece ≡ [] → t.0 ≡ [] = λ e. at_end_told new t.0 (at_end e) t.1 in
+      record {
+        front = g.written ++ f.front;
+        back = f.back;
+        parts = ap (replay_text first) t.2 ∙ c.text t.0 none ∙ ap (λ (l : List ℕ). g.written ++ l) (sym bytes-is ∙ f.parts) ∙ sym (append_assoc g.written f.front f.back);
+        contents-is = contents_told contents_old last (g.written ++ f.front) text (Appends-trans contents_old contents last g.written f.front g.wrote f.appends) text_told;
+      }
+
+-- ---- a read
+
+-- a read gives nothing only at the end
+pub read-end : (n : ℕ) (buf : List ℕ) (new : Option (List ℕ)) → n ≤ length buf → 0 < length buf → (n ≡ 0 → 0 < length buf → IsAtEnd new) → take n buf ≡ [] → IsAtEnd new
+read-end n buf new bound room end e = end (sym (length-take-le n buf bound) ∙ ap length e) room
 
 -- ---- causes
-
-read-usage : {A : Type 0} → ReadFault ≡ Usage → A
-read-usage e = cc
 
 read-write : {A : Type 0} → ReadFault ≡ WriteFault → A
 read-write e = cc
 
-write-usage : {A : Type 0} → WriteFault ≡ Usage → A
-write-usage e = cc
-
 write-read : {A : Type 0} → WriteFault ≡ ReadFault → A
 write-read e = cc
+
+usage-read : {A : Type 0} → Usage ≡ ReadFault → A
+usage-read e = cc
+
+usage-write : {A : Type 0} → Usage ≡ WriteFault → A
+usage-write e = cc
 
 quiet-no_links : (status : Status) → is_quiet status ≡ true → OpensNoLink status
 quiet-no_links Done quiet = tt
@@ -257,9 +260,12 @@ quiet-no_links (BadTape number) quiet = tt
 quiet-no_links Idle quiet = false-true quiet
 quiet-no_links Spent quiet = false-true quiet
 
+-- a replay never ends so
+pub quiet-not_usage : (status : Status) → is_quiet status ≡ true → status ≡ Usage → ⊥
+quiet-not_usage status quiet e = false-true (sym (ap is_quiet e) ∙ quiet)
+
 pub causes-none : (status : Status) (a b x y : ℕ) → is_quiet status ≡ true → b ≡ a → y ≡ x → HasCauses status a b x y
 causes-none status a b x y quiet tape out = record {
-  usage = λ e. false-true (sym (ap is_quiet e) ∙ quiet);
   read_fault = λ e. false-true (sym (ap is_quiet e) ∙ quiet);
   write_fault = λ e. false-true (sym (ap is_quiet e) ∙ quiet);
   reads_stand = λ ne. tape;
@@ -269,7 +275,6 @@ causes-none status a b x y quiet tape out = record {
 
 pub causes-read : (a b x y : ℕ) → Rose a b → y ≡ x → HasCauses ReadFault a b x y
 causes-read a b x y rose out = record {
-  usage = λ e. read-usage e;
   read_fault = λ e. rose;
   write_fault = λ e. read-write e;
   reads_stand = λ ne. absurd (ne refl);
@@ -279,7 +284,6 @@ causes-read a b x y rose out = record {
 
 pub causes-write : (a b x y : ℕ) → b ≡ a → Rose x y → HasCauses WriteFault a b x y
 causes-write a b x y tape rose = record {
-  usage = λ e. write-usage e;
   read_fault = λ e. write-read e;
   write_fault = λ e. rose;
   reads_stand = λ ne. tape;
@@ -287,64 +291,21 @@ causes-write a b x y tape rose = record {
   no_links = tt;
 }
 
--- ---- a read
-
--- a read gives nothing only at the end
-pub read-end : (n : ℕ) (buf : List ℕ) (new : Option (List ℕ)) → n ≤ length buf → 0 < length buf → (n ≡ 0 → 0 < length buf → IsAtEnd new) → take n buf ≡ [] → IsAtEnd new
-read-end n buf new bound room end e = end (sym (length-take-le n buf bound) ∙ ap length e) room
-
--- ---- other words
-
-usage-read : {A : Type 0} → Usage ≡ ReadFault → A
-usage-read e = cc
-
-usage-write : {A : Type 0} → Usage ≡ WriteFault → A
-usage-write e = cc
-
--- what is said of words that are no command, and print how they should be
-pub record OfUsage (status : Status) (out_old out_new : ℕ) : Type 0 where
-  pub no_command : (status ≡ Usage) ⊎ (status ≡ WriteFault)
-  pub read_fault : status ≡ ReadFault → ⊥
-  pub write_fault : status ≡ WriteFault → Rose out_old out_new
-  pub writes_stand : (status ≡ WriteFault → ⊥) → out_new ≡ out_old
-  pub no_links : OpensNoLink status
-
-pub usage-written : (x y : ℕ) → y ≡ x → OfUsage Usage x y
-usage-written x y same = record {
-  no_command = inl refl;
+pub causes-usage : (a x y : ℕ) → y ≡ x → HasCauses Usage a a x y
+causes-usage a x y out = record {
   read_fault = λ e. usage-read e;
   write_fault = λ e. usage-write e;
-  writes_stand = λ ne. same;
+  reads_stand = λ ne. refl;
+  writes_stand = λ ne. out;
   no_links = tt;
 }
 
-pub usage-failed : (x y : ℕ) → Rose x y → OfUsage WriteFault x y
-usage-failed x y rose = record {
-  no_command = inr refl;
-  read_fault = λ e. write-read e;
-  write_fault = λ e. rose;
-  writes_stand = λ ne. absurd (ne refl);
-  no_links = tt;
-}
+-- ---- words that are no command
 
-text-usage : (words : List (List ℕ)) (tape : List ℕ) → is_replay words ≡ false → prescribed_text words tape ≡ usage_line
-text-usage words tape e = ap (λ (b : Bool). cond b (replay_text tape) usage_line) e
-
--- the usage line is written
-pub ran-usage : (remaining contents_old contents : Option (List ℕ)) (words : List (List ℕ)) → is_replay words ≡ false → Appends contents_old contents usage_line → Leaves Usage words remaining remaining contents_old contents
-ran-usage remaining contents_old contents words not a = λ tape text tape_told text_told. (
-  tape_told,
-  record {
-    contents-is = contents_told contents_old contents usage_line text a text_told ∙ ap (λ (l : List ℕ). Some (text ++ l)) (sym (text-usage words tape not));
-    status-is = sym (ap (λ (b : Bool). cond b (replay_status tape) Usage) not);
-  },
-)
+-- how they should be is written
+pub ran-usage : (remaining contents_old contents : Option (List ℕ)) → Appends contents_old contents usage_line → Leaves Usage Unknown remaining remaining contents_old contents
+ran-usage remaining contents_old contents a = λ tape text tape_told text_told. (tape_told, record { contents-is = contents_told contents_old contents usage_line text a text_told; status-is = refl })
 
 -- a front of it is written
-pub ran-usage_failed : (remaining contents_old contents : Option (List ℕ)) (words : List (List ℕ)) → is_replay words ≡ false → AppendsFront contents_old contents usage_line → Leaves WriteFault words remaining remaining contents_old contents
-ran-usage_failed remaining contents_old contents words not f = λ tape text tape_told text_told. record {
-  front = f.front;
-  back = f.back;
-  parts = text-usage words tape not ∙ f.parts;
-  contents-is = contents_told contents_old contents f.front text f.appends text_told;
-}
+pub ran-usage_failed : (remaining contents_old contents : Option (List ℕ)) → AppendsFront contents_old contents usage_line → Leaves WriteFault Unknown remaining remaining contents_old contents
+ran-usage_failed remaining contents_old contents f = λ tape text tape_told text_told. record { front = f.front; back = f.back; parts = f.parts; contents-is = contents_told contents_old contents f.front text f.appends text_told }

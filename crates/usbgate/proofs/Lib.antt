@@ -1,11 +1,4 @@
-pub mod Sides
-pub mod Doing
-pub mod Standing
-pub mod Taking
-pub mod Puts
-pub mod Firsts
-pub mod Held
-pub mod Rows
+pub mod Numbers
 pub mod Digits
 pub mod Lines
 pub mod Events

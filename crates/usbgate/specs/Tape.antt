@@ -1,12 +1,10 @@
--- A tape: the lines of a text, and what each says. `c HEX` and `h HEX` are pieces of the client's and the host's
--- stream, `c.` and `h.` their ends. Empty lines and those that begin with `#` are skipped.
+-- A tape: the lines of a text, and what each says. `c HEX` and `h HEX` are pieces of the present client's and of the
+-- host's stream, `c.` and `h.` their ends. Empty lines and those that begin with `#` are skipped.
 use Rattle.std.specs.Prelude.{ℕ, ◌==◌, Bool, true, false, not, if◌then◌else◌, List, [], ◌∷◌, Result, Ok, Err}
 use Rattle.std.specs.Io.BufRead.{strip_last}
 use Rattle.hex.specs.Hex.{decode_of}
 use Rattle.hex.specs.declared.error.FromHexError.{FromHexError}
-use Rattle.usb_base.specs.declared.side.Side.{Side}
-use Rattle.usb_base.specs.declared.side.Side.TheVariants.{Client, Host}
-use Rattle.usbgate.specs.Events.{Event, Piece, End, side_of, is_side}
+use Rattle.gate_core.specs.Events.{Event, ClientPiece, ClientEnd, HostPiece, HostEnd}
 
 -- ---- the bytes with a meaning, by ASCII
 
@@ -53,8 +51,10 @@ pub data Says : Type 0 where
 -- the line brings bytes, for which memory is needed
 abbrev pub IsPiece : Says → Type 0
 IsPiece Skip = ⊥
-IsPiece (Happens (Piece side b)) = Unit {0}
-IsPiece (Happens (End side)) = ⊥
+IsPiece (Happens (ClientPiece b)) = Unit {0}
+IsPiece (Happens ClientEnd) = ⊥
+IsPiece (Happens (HostPiece b)) = Unit {0}
+IsPiece (Happens HostEnd) = ⊥
 IsPiece Bad = ⊥
 
 -- an event stands on the line
@@ -75,24 +75,29 @@ end_of end [] = Happens end
 end_of end (b ∷ bs) = Bad
 
 -- what stands behind the letter of a side: a space and a piece, or a `.`
-abbrev pub of_side : Side → List ℕ → Says
-of_side side [] = Bad
-of_side side (b ∷ bs) = if b == SPACE then piece_of (Piece side) (decode_of bs) else if b == DOT then end_of (End side) bs else Bad
+abbrev pub of_side : (List ℕ → Event) → Event → List ℕ → Says
+of_side piece end [] = Bad
+of_side piece end (b ∷ bs) = if b == SPACE then piece_of piece (decode_of bs) else if b == DOT then end_of end bs else Bad
 
 abbrev pub says : List ℕ → Says
 says [] = Skip
 says (b ∷ bs) =
     if b == HASH then Skip
-    else if b == LETTER_C then of_side Client bs
-    else if b == LETTER_H then of_side Host bs
+    else if b == LETTER_C then of_side ClientPiece ClientEnd bs
+    else if b == LETTER_H then of_side HostPiece HostEnd bs
     else Bad
 
--- ---- nothing of a side comes after its end
+-- ---- nothing of the host comes after its end; after a client's comes the next client
 
-abbrev pub has_ended : Side → List Event → Bool
-has_ended s [] = false
-has_ended s (Piece side b ∷ past) = has_ended s past
-has_ended s (End side ∷ past) = if is_side side s then true else has_ended s past
+abbrev pub host_ended : List Event → Bool
+host_ended [] = false
+host_ended (ClientPiece b ∷ events) = host_ended events
+host_ended (ClientEnd ∷ events) = host_ended events
+host_ended (HostPiece b ∷ events) = host_ended events
+host_ended (HostEnd ∷ events) = true
 
 abbrev pub may_happen : List Event → Event → Bool
-may_happen past e = not (has_ended (side_of e) past)
+may_happen events (ClientPiece b) = true
+may_happen events ClientEnd = true
+may_happen events (HostPiece b) = not (host_ended events)
+may_happen events HostEnd = not (host_ended events)

@@ -4,13 +4,15 @@ use Rattle.std.specs.List.{flat_map}
 use Rattle.std.specs.Fmt.{decimal}
 use Rattle.hex.specs.Hex.{encode_lower}
 use Rattle.usb_base.specs.Refusal.{refusal_line}
-use Rattle.usbgate.specs.declared.note.Note.{Note}
-use Rattle.usbgate.specs.declared.note.Note.TheVariants.{Refused}
-use Rattle.usbgate.specs.declared.note.Counts.{Counts}
-use Rattle.usbgate.specs.Events.{Event}
-use Rattle.usbgate.specs.Items.{Item}
-use Rattle.usbgate.specs.History.{history}
-use Rattle.usbgate.specs.Output.{out_client, out_host, told_notes}
+use Rattle.gate_core.specs.declared.note.Note.{Note}
+use Rattle.gate_core.specs.declared.note.Note.TheVariants as note
+use Rattle.gate_core.specs.declared.note.Counts.{Counts}
+use Rattle.gate_core.specs.Events.{Event}
+use Rattle.gate_core.specs.Marks.{Mark}
+use Rattle.gate_core.specs.History.{history}
+use Rattle.gate_core.specs.Notes.{notes_of}
+use Rattle.gate_core.specs.All.{all_of}
+use Rattle.gate_core.specs.Bytes.{out_client, out_host}
 use Rattle.usbgate.specs.Tape.{LF, SPACE}
 
 -- a letter, the bytes in lower-case hexadecimal and LF; nothing where there are no bytes
@@ -18,8 +20,10 @@ abbrev pub bytes_line : ℕ → List ℕ → List ℕ
 bytes_line letter [] = []
 bytes_line letter (b ∷ bs) = letter ∷ SPACE ∷ encode_lower (b ∷ bs) ++ LF ∷ []
 
+-- a refusal is told, and no other note
 abbrev pub note_line : Note → List ℕ
-note_line (Refused refusal) = refusal_line refusal
+note_line (note.Refused refusal) = refusal_line refusal
+note_line _ = []
 
 -- the letters of the sides
 abbrev pub CAPITAL_C : ℕ
@@ -32,16 +36,20 @@ CAPITAL_H = 72
 abbrev pub sent_text : List ℕ → List ℕ → List Note → List ℕ
 sent_text client host notes = bytes_line CAPITAL_C client ++ bytes_line CAPITAL_H host ++ flat_map note_line notes
 
--- what a list of items has, and a front of it hasn't
-abbrev pub gained : {X : Type 0} → (List Item → List X) → List Event → Event → List X
-gained out past e = drop (length (out (history past))) (out (history (e ∷ past)))
+-- what was told of a past, in order
+abbrev pub told_notes : ℕ → List Mark → List Note
+told_notes first marks = all_of notes_of first marks
 
-abbrev pub event_text : List Event → Event → List ℕ
-event_text past e = sent_text (gained out_client past e) (gained out_host past e) (gained told_notes past e)
+-- what the past has with an event, and without it hasn't
+abbrev pub gained : {X : Type 0} → (ℕ → List Mark → List X) → ℕ → List Event → Event → List X
+gained out first events e = drop (length (out first (history first events))) (out first (history first (e ∷ events)))
+
+abbrev pub event_text : ℕ → List Event → Event → List ℕ
+event_text first events e = sent_text (gained out_client first events e) (gained out_host first events e) (gained told_notes first events e)
 
 -- the bytes of the making come first
-abbrev pub made_text : List ℕ
-made_text = bytes_line CAPITAL_H (out_host [])
+abbrev pub made_text : ℕ → List ℕ
+made_text first = bytes_line CAPITAL_H (out_host first [])
 
 abbrev pub counts_line : Counts → List ℕ
 counts_line c =

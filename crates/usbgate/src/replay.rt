@@ -1,29 +1,27 @@
 //! A tape's lines, put to the gate one by one.
 
-ghost use Rattle.std.specs.Prelude.{◌≡◌, ◌++◌, ◌∷◌, ◌+◌, ◌<◌, ◌≤◌, ◌↔◌, [], List, length, IfOk, OnOk, IsTrue};
-ghost use Rattle.usbgate.specs.Events.{Event as PastEvent, event_of};
-ghost use Rattle.usbgate.specs.Items.{Item};
-ghost use Rattle.usbgate.specs.History.{history};
-ghost use Rattle.usbgate.specs.Output.{counts_of, told_notes};
-ghost use Rattle.usbgate.specs.Tape.{has_ended, may_happen, content as content_of, says, IsEvent};
+ghost use Rattle.std.specs.Prelude.{◌≡◌, ◌++◌, ◌∷◌, ◌+◌, ◌<◌, ◌≤◌, ◌↔◌, ◌||◌, ℕ, List, length, IfOk, OnOk, IsTrue, None};
+ghost use Rattle.std.specs.List.{list_any};
+ghost use Rattle.gate_core.specs.Events.{Event as PastEvent, event_of};
+ghost use Rattle.gate_core.specs.History.{history};
+ghost use Rattle.gate_core.specs.All.{counts_of};
+ghost use Rattle.usbgate.specs.Tape.{host_ended, may_happen, content as content_of, says, IsEvent};
 ghost use Rattle.usbgate.specs.Text.{made_text, sent_text, counts_line};
-ghost use Rattle.usbgate.specs.Command.{tape_limit};
+ghost use Rattle.usbgate.specs.TapeCommand.{tape_limit};
 ghost use Rattle.usbgate.specs.Replay.{has_refusal};
-ghost use Rattle.usbgate.specs.inner.Replay.{ReplayProgress, replay_begin, replay_line, HasSeen, HasRead, Sees, GoesOn};
+ghost use Rattle.usbgate.specs.inner.Replay.{ReplayProgress, replay_begin, replay_line, HasSeen, HasRead, Sees, GoesOn, is_refusal};
 
-use crate::event::Event;
-use crate::gate::Gate;
-use crate::note::Notes;
 use crate::tape::{LineError, content, read_line};
 use crate::text::{push_bytes, push_counts, push_notes};
+use gate_core::{Event, Gate, Note, Notes};
 use std::alloc::Global;
-use usb_base::{Bytes, Memory, Side};
+use usb_base::{Bytes, Memory};
 
 /// How many bytes a tape may have.
 const TAPE_LIMIT: u64 = 67_108_864;
 
 /// The gate, and what has been read of the tape that is put to it.
-#[derive(Debug, Drop)]
+#[derive(Drop)]
 pub struct Replay {
     gate: Gate,
     /// What the event at hand sends to the client.
@@ -34,7 +32,6 @@ pub struct Replay {
     lines: u64,
     /// How many bytes the tape may still have.
     room: u64,
-    client_ended: bool,
     host_ended: bool,
     /// A side was refused.
     refused: bool,
@@ -42,12 +39,13 @@ pub struct Replay {
 
 impl Replay {
     /// The replay of which no line has been read. It appends the line of what the gate's making sends.
-    pub fn start(alloc: Global, text: &mut Bytes) -> Result<Replay, Memory>
-        ensures start { IfOk result (λ replay. HasRead replay replay_begin) }
-        ensures text { OnOk result (text.new ≡ text.old ++ made_text) }
+    pub fn start(alloc: Global, first_id: u32, text: &mut Bytes) -> Result<Replay, Memory>
+        requires { 1 ≤ first_id }
+        ensures start { IfOk result (λ replay. HasRead first_id replay (replay_begin first_id)) }
+        ensures text { OnOk result (text.new ≡ text.old ++ made_text first_id) }
     {
         let mut to_host = Bytes::new(alloc);
-        let gate = Gate::make(alloc, &mut to_host)?;
+        let gate = Gate::make(alloc, u64::from(first_id), &mut to_host)?;
         push_bytes(alloc, b'H', to_host.as_slice(), text)?;
         to_host.clear();
         Ok(Replay {
@@ -56,7 +54,6 @@ impl Replay {
             to_host,
             lines: 0,
             room: TAPE_LIMIT,
-            client_ended: false,
             host_ended: false,
             refused: false,
         })
@@ -70,8 +67,8 @@ impl Replay {
         text: &mut Bytes,
     ) -> Result<(), LineError>
         requires { 0 < length line.now }
-        ensures goes { OnOk result ((s : ReplayProgress) → HasRead self.old s → GoesOn (replay_line s line.now) self.new text.old text.new) }
-        ensures bad { result ≡ Err LineError.Bad → (s : ReplayProgress) → HasRead self.old s → replay_line s line.now ≡ None }
+        ensures goes { OnOk result ((first : ℕ) (s : ReplayProgress) → HasRead first self.old s → GoesOn first (replay_line first s line.now) self.new text.old text.new) }
+        ensures bad { result ≡ Err LineError.Bad → (first : ℕ) (s : ReplayProgress) → HasRead first self.old s → replay_line first s line.now ≡ None }
         ensures same { result ≡ Err LineError.Bad → (self.new ≡ self.old) × (text.new ≡ text.old) }
         ensures memory { result ≡ Err LineError.Memory → IsEvent (says (content_of line.now)) }
     {
@@ -91,19 +88,19 @@ impl Replay {
         Ok(())
     }
 
-    /// Whether nothing of the event's side has ended.
+    /// Whether the event isn't one of a host that has ended.
     fn may_see(&self, event: Event) -> bool
-        ensures { (past : List PastEvent) → HasSeen self.now past → result ≡ may_happen past (event_of event.entry) }
+        ensures { (first : ℕ) (events : List PastEvent) → HasSeen first self.now events → result ≡ may_happen events (event_of event.entry) }
     {
         match event {
-            Event::Piece(Side::Client, _) | Event::End(Side::Client) => !self.client_ended,
-            Event::Piece(Side::Host, _) | Event::End(Side::Host) => !self.host_ended,
+            Event::ClientPiece(_) | Event::ClientEnd => true,
+            Event::HostPiece(_) | Event::HostEnd => !self.host_ended,
         }
     }
 
     /// Puts the event to the gate, and appends what it sends and tells.
     fn see(&mut self, alloc: Global, event: Event, text: &mut Bytes) -> Result<(), Memory>
-        ensures sees { OnOk result ((past : List PastEvent) → HasSeen self.old past → Sees self.new past (event_of event.entry) text.old text.new) }
+        ensures sees { OnOk result ((first : ℕ) (events : List PastEvent) → HasSeen first self.old events → Sees first self.new events (event_of event.entry) text.old text.new) }
         ensures lines { self.new.lines ≡ self.old.lines }
         ensures room { self.new.room ≡ self.old.room }
     {
@@ -113,7 +110,7 @@ impl Replay {
         self.print(alloc, &notes, text)?;
         self.to_client.clear();
         self.to_host.clear();
-        self.see_notes(&notes);
+        self.refused |= tells_refusal(&notes);
         self.see_end(event);
         Ok(())
     }
@@ -127,54 +124,51 @@ impl Replay {
         push_notes(alloc, notes, text)
     }
 
-    /// Keeps that a side was refused, if the notes say so: each is a refusal.
-    fn see_notes(&mut self, notes: &Notes)
-        ensures refused { (h k : List Item) → self.old.refused ≡ has_refusal h → told_notes k ≡ told_notes h ++ notes.now → self.new.refused ≡ has_refusal k }
-        ensures rest { self.new ≡ record self.old { refused = self.new.refused } }
-    {
-        if !notes.is_empty() {
-            self.refused = true;
-        }
-    }
-
-    /// Keeps that a side has ended, if the event says so.
+    /// Keeps that the host has ended, if the event says so.
     fn see_end(&mut self, event: Event)
-        ensures client { (past : List PastEvent) → self.old.client_ended ≡ has_ended Side.Client past → self.new.client_ended ≡ has_ended Side.Client (event_of event.entry ∷ past) }
-        ensures host { (past : List PastEvent) → self.old.host_ended ≡ has_ended Side.Host past → self.new.host_ended ≡ has_ended Side.Host (event_of event.entry ∷ past) }
-        ensures rest { self.new ≡ record self.old { client_ended = self.new.client_ended; host_ended = self.new.host_ended } }
+        ensures host { (events : List PastEvent) → self.old.host_ended ≡ host_ended events → self.new.host_ended ≡ host_ended (event_of event.entry ∷ events) }
+        ensures rest { self.new ≡ record self.old { host_ended = self.new.host_ended } }
     {
-        match event {
-            Event::End(Side::Client) => self.client_ended = true,
-            Event::End(Side::Host) => self.host_ended = true,
-            Event::Piece(..) => {}
+        if let Event::HostEnd = event {
+            self.host_ended = true;
         }
     }
 
     /// How many lines have been read.
     pub fn lines(&self) -> u64
-        ensures { (s : ReplayProgress) → HasRead self.now s → result ≡ s.lines }
+        ensures { (first : ℕ) (s : ReplayProgress) → HasRead first self.now s → result ≡ s.lines }
     {
         self.lines
     }
 
     /// Whether the tape may still have so many bytes.
     pub fn has_room(&self, len: usize) -> bool
-        ensures { (s : ReplayProgress) → HasRead self.now s → IsTrue result ↔ (s.bytes + len ≤ tape_limit) }
+        ensures { (first : ℕ) (s : ReplayProgress) → HasRead first self.now s → IsTrue result ↔ (s.bytes + len ≤ tape_limit) }
     {
         len as u64 <= self.room
     }
 
     /// Whether a side was refused.
     pub fn has_refused(&self) -> bool
-        ensures { (s : ReplayProgress) → HasRead self.now s → result ≡ has_refusal (history s.kept) }
+        ensures { (first : ℕ) (s : ReplayProgress) → HasRead first self.now s → result ≡ has_refusal (history first s.kept) }
     {
         self.refused
     }
 
     /// Appends the line of the counts.
     pub fn counts(&self, alloc: Global, text: &mut Bytes) -> Result<(), Memory>
-        ensures { OnOk result ((s : ReplayProgress) → HasRead self.now s → text.new ≡ text.old ++ counts_line (counts_of (history s.kept))) }
+        ensures { OnOk result ((first : ℕ) (s : ReplayProgress) → HasRead first self.now s → text.new ≡ text.old ++ counts_line (counts_of first (history first s.kept))) }
     {
         push_counts(alloc, &self.gate.counts(), text)
     }
+}
+
+/// Whether a side was refused.
+fn tells_refusal(notes: &Notes) -> bool
+    ensures { result ≡ list_any is_refusal notes.now }
+{
+    notes
+        .as_slice()
+        .iter()
+        .any(|note| matches!(note, Note::Refused(_)))
 }

@@ -2,13 +2,13 @@
 
 ghost use Rattle.std.specs.Prelude.{◌≡◌, List, ℕ, true, IfOk, option_map};
 ghost use Rattle.usbgate.specs.Tape.{content, says, Happens, Bad, IsPiece, piece_of};
-ghost use Rattle.usbgate.specs.Events.{Event as PastEvent, event_of};
+ghost use Rattle.gate_core.specs.Events.{Event as PastEvent, event_of};
 ghost use Rattle.hex.specs.Hex.{decode_of};
 ghost use Rattle.usbgate.specs.inner.Line.{said, says_of, has_bytes};
 
-use crate::event::Event;
+use gate_core::Event;
 use std::alloc::Global;
-use usb_base::{Memory, Side};
+use usb_base::Memory;
 
 /// What a line says: nothing, the next piece of a side's stream, which has a byte at least, or a side's end.
 #[derive(Debug, Drop)]
@@ -27,10 +27,10 @@ impl TapeLine {
     {
         match self {
             TapeLine::Skip => None,
-            TapeLine::Client(piece) => Some(Event::Piece(Side::Client, piece)),
-            TapeLine::ClientEnd => Some(Event::End(Side::Client)),
-            TapeLine::Host(piece) => Some(Event::Piece(Side::Host, piece)),
-            TapeLine::HostEnd => Some(Event::End(Side::Host)),
+            TapeLine::Client(piece) => Some(Event::ClientPiece(piece)),
+            TapeLine::ClientEnd => Some(Event::ClientEnd),
+            TapeLine::Host(piece) => Some(Event::HostPiece(piece)),
+            TapeLine::HostEnd => Some(Event::HostEnd),
         }
     }
 }

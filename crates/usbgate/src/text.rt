@@ -4,7 +4,7 @@ ghost use Rattle.std.specs.Prelude.{◌≡◌, ◌++◌, ◌∷◌, [], IfOk, On
 ghost use Rattle.std.specs.List.{flat_map};
 ghost use Rattle.usbgate.specs.Text.{bytes_line, note_line, counts_line, bad_line};
 
-use crate::note::{Counts, Note, Notes};
+use gate_core::{Counts, Note, Notes};
 use std::alloc::Global;
 use usb_base::{Bytes, Memory};
 
@@ -26,13 +26,13 @@ pub fn push_bytes(alloc: Global, letter: u8, bytes: &[u8], text: &mut Bytes) -> 
     text.push(b'\n')
 }
 
-/// Appends the line of each note. For want of memory a front of the lines may be there.
+/// Appends the line of each refusal among the notes. For want of memory a front of the lines may be there.
 pub fn push_notes(alloc: Global, notes: &Notes, text: &mut Bytes) -> Result<(), Memory>
     ensures { OnOk result (text.new ≡ text.old ++ flat_map note_line notes.now) }
 {
     for note in notes.as_slice() {
-        match note {
-            Note::Refused(refusal) => refusal.line(alloc, text)?,
+        if let Note::Refused(refusal) = note {
+            refusal.line(alloc, text)?;
         }
     }
     Ok(())

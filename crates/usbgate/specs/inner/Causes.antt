@@ -1,13 +1,12 @@
--- Why a replay ended so.
+-- Why a command ended so.
 use Rattle.std.specs.Prelude.{◌≡◌, ◌≢◌, ℕ}
 use Rattle.gate_outside.specs.Faults.{Rose}
 use Rattle.usbgate.specs.declared.status.Status.{Status}
-use Rattle.usbgate.specs.declared.status.Status.TheVariants.{Usage, ReadFault, WriteFault}
+use Rattle.usbgate.specs.declared.status.Status.TheVariants.{ReadFault, WriteFault}
 use Rattle.usbgate.specs.Run.{OpensNoLink}
 
--- a replay ends in a fault of its tape or its sink exactly where the count of its faults rose
+-- it ends in a fault of its tape or its sink exactly where the count of its faults rose
 pub record HasCauses (status : Status) (tape_old tape_new out_old out_new : ℕ) : Type 0 where
-  pub usage : status ≡ Usage → ⊥
   pub read_fault : status ≡ ReadFault → Rose tape_old tape_new
   pub write_fault : status ≡ WriteFault → Rose out_old out_new
   pub reads_stand : status ≢ ReadFault → tape_new ≡ tape_old

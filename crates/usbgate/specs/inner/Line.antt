@@ -3,16 +3,15 @@ use Rattle.std.specs.Prelude.{ℕ, Bool, true, false, List, [], ◌∷◌, Optio
 use Rattle.hex.specs.declared.error.FromHexError.{FromHexError}
 use Rattle.usbgate.specs.declared.tape.TapeLine.{TapeLine}
 use Rattle.usbgate.specs.declared.tape.TapeLine.TheVariants as line
-use Rattle.usb_base.specs.declared.side.Side.TheVariants.{Client, Host}
-use Rattle.usbgate.specs.Events.{Event, Piece, End}
+use Rattle.gate_core.specs.Events.{Event, ClientPiece, ClientEnd, HostPiece, HostEnd}
 use Rattle.usbgate.specs.Tape.{Says, Skip, Happens}
 
 abbrev pub said : TapeLine → Says
 said line.Skip = Skip
-said (line.Client piece) = Happens (Piece Client piece.items)
-said line.ClientEnd = Happens (End Client)
-said (line.Host piece) = Happens (Piece Host piece.items)
-said line.HostEnd = Happens (End Host)
+said (line.Client piece) = Happens (ClientPiece piece.items)
+said line.ClientEnd = Happens ClientEnd
+said (line.Host piece) = Happens (HostPiece piece.items)
+said line.HostEnd = Happens HostEnd
 
 -- a byte at least was decoded
 abbrev pub has_bytes : Result (List ℕ) FromHexError → Bool

@@ -5,7 +5,7 @@ use Rattle.usbgate.specs.declared.status.Status.{Status}
 use Rattle.usbgate.specs.declared.status.Status.TheVariants.{BadTape}
 use Rattle.usbgate.specs.Tape.{lines_of}
 use Rattle.usbgate.specs.Text.{made_text, bad_line}
-use Rattle.usbgate.specs.Command.{tape_limit}
+use Rattle.usbgate.specs.TapeCommand.{tape_limit}
 use Rattle.usbgate.specs.Run.{EndsALine, HasNoLF}
 use Rattle.usbgate.specs.inner.Replay.{ReplayProgress, ReplayReading, replay_begin, replay_line, replay_lines, replay_text, replay_status, HasRead, GoesOn}
 
@@ -14,7 +14,7 @@ with_text text x = record x { text = text ++ x.text }
 
 -- Whole lines were read, which are good, and a part of the next one, which doesn't pass the limit. However the tape
 -- goes on, its text begins with theirs.
-pub record Stage (p : TapeReader) (read written : List ℕ) : Type 0 where
+pub record Stage (first : ℕ) (p : TapeReader) (read written : List ℕ) : Type 0 where
   pub whole : List ℕ
   pub text : List ℕ
   pub at : ReplayProgress
@@ -23,47 +23,47 @@ pub record Stage (p : TapeReader) (read written : List ℕ) : Type 0 where
   pub part_of_line : HasNoLF p.pending
   pub bytes-is : at.bytes ≡ length whole
   pub within : at.bytes + length p.pending ≤ tape_limit
-  pub text-is : written ++ p.text ≡ made_text ++ text
-  pub reads : (later : List ℕ) → replay_lines replay_begin (lines_of (whole ++ later)) ≡ with_text text (replay_lines at (lines_of later))
-  pub has_read : HasRead p.replay at
+  pub text-is : written ++ p.text ≡ made_text first ++ text
+  pub reads : (later : List ℕ) → replay_lines first (replay_begin first) (lines_of (whole ++ later)) ≡ with_text text (replay_lines first at (lines_of later))
+  pub has_read : HasRead first p.replay at
 
 -- a line is bad, however the tape goes on: its text ends here
-pub record Spoilt (status : Status) (p : TapeReader) (read written : List ℕ) : Type 0 where
+pub record Spoilt (first : ℕ) (status : Status) (p : TapeReader) (read written : List ℕ) : Type 0 where
   pub number : ℕ
   pub status-is : status ≡ BadTape number
-  pub text : (later : List ℕ) → replay_text (read ++ later) ≡ written ++ p.text
-  pub outcome : (later : List ℕ) → replay_status (read ++ later) ≡ status
+  pub text : (later : List ℕ) → replay_text first (read ++ later) ≡ written ++ p.text
+  pub outcome : (later : List ℕ) → replay_status first (read ++ later) ≡ status
 
-abbrev pub Took : Option Status → TapeReader → List ℕ → List ℕ → Type 0
-Took None p read written = Stage p read written
-Took (Some status) p read written = Spoilt status p read written
+abbrev pub Took : ℕ → Option Status → TapeReader → List ℕ → List ℕ → Type 0
+Took first None p read written = Stage first p read written
+Took first (Some status) p read written = Spoilt first status p read written
 
 -- the tape has come to its end, and so has its text
-pub record Finished (status : Status) (p : TapeReader) (tape written : List ℕ) : Type 0 where
-  pub text : replay_text tape ≡ written ++ p.text
-  pub outcome : replay_status tape ≡ status
+pub record Finished (first : ℕ) (status : Status) (p : TapeReader) (tape written : List ℕ) : Type 0 where
+  pub text : replay_text first tape ≡ written ++ p.text
+  pub outcome : replay_status first tape ≡ status
 
 -- the run ends: at the tape's end, where an empty piece comes, or at a bad line, however the tape goes on
-pub record Closes (status : Status) (p : TapeReader) (piece read written : List ℕ) : Type 0 where
-  pub text : (later : List ℕ) → (piece ≡ [] → later ≡ []) → replay_text ((read ++ piece) ++ later) ≡ written ++ p.text
-  pub outcome : (later : List ℕ) → (piece ≡ [] → later ≡ []) → replay_status ((read ++ piece) ++ later) ≡ status
+pub record Closes (first : ℕ) (status : Status) (p : TapeReader) (piece read written : List ℕ) : Type 0 where
+  pub text : (later : List ℕ) → (piece ≡ [] → later ≡ []) → replay_text first ((read ++ piece) ++ later) ≡ written ++ p.text
+  pub outcome : (later : List ℕ) → (piece ≡ [] → later ≡ []) → replay_status first ((read ++ piece) ++ later) ≡ status
   pub bad : (piece ≡ [] → ⊥) → (number : ℕ) × (status ≡ BadTape number)
 
-abbrev pub Stepped : Option Status → TapeReader → List ℕ → List ℕ → List ℕ → Type 0
-Stepped None p piece read written = (piece ≢ []) × Stage p (read ++ piece) written
-Stepped (Some status) p piece read written = Closes status p piece read written
+abbrev pub Stepped : ℕ → Option Status → TapeReader → List ℕ → List ℕ → List ℕ → Type 0
+Stepped first None p piece read written = (piece ≢ []) × Stage first p (read ++ piece) written
+Stepped first (Some status) p piece read written = Closes first status p piece read written
 
 -- every line of the tape was read, and is good
-pub record AllRead (p : TapeReader) (tape written : List ℕ) : Type 0 where
+pub record AllRead (first : ℕ) (p : TapeReader) (tape written : List ℕ) : Type 0 where
   pub text : List ℕ
   pub at : ReplayProgress
-  pub text-is : written ++ p.text ≡ made_text ++ text
-  pub reads : replay_lines replay_begin (lines_of tape) ≡ record { text = text; after = at; bad = false }
-  pub has_read : HasRead p.replay at
+  pub text-is : written ++ p.text ≡ made_text first ++ text
+  pub reads : replay_lines first (replay_begin first) (lines_of tape) ≡ record { text = text; after = at; bad = false }
+  pub has_read : HasRead first p.replay at
 
-abbrev pub TookLast : Option Status → TapeReader → List ℕ → List ℕ → Type 0
-TookLast None p tape written = AllRead p tape written
-TookLast (Some status) p tape written = Finished status p tape written
+abbrev pub TookLast : ℕ → Option Status → TapeReader → List ℕ → List ℕ → Type 0
+TookLast first None p tape written = AllRead first p tape written
+TookLast first (Some status) p tape written = Finished first status p tape written
 
 -- ---- one line
 
@@ -72,9 +72,9 @@ pub record Spoils (status : Status) (s : ReplayProgress) (text_old text_new : Li
   pub status-is : status ≡ BadTape (s.lines + 1)
   pub text-is : text_new ≡ text_old ++ bad_line (s.lines + 1)
 
-abbrev pub TookLine : Option Status → ReplayProgress → List ℕ → TapeReader → TapeReader → Type 0
-TookLine None s line old new = GoesOn (replay_line s line) new.replay old.text new.text × (new.pending ≡ [])
-TookLine (Some status) s line old new = (replay_line s line ≡ None) × Spoils status s old.text new.text
+abbrev pub TookLine : ℕ → Option Status → ReplayProgress → List ℕ → TapeReader → TapeReader → Type 0
+TookLine first None s line old new = GoesOn first (replay_line first s line) new.replay old.text new.text × (new.pending ≡ [])
+TookLine first (Some status) s line old new = (replay_line first s line ≡ None) × Spoils status s old.text new.text
 
 -- a part of a line is kept, unless the line passes the limit
 abbrev pub Kept : Option Status → ReplayProgress → List ℕ → TapeReader → TapeReader → Type 0

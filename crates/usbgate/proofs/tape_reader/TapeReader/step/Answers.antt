@@ -5,8 +5,8 @@ use Rattle.usbgate.proofs.Stages.{closes-end, stepped-take}
 use Rattle.usbgate.proofs.tape_reader.TapeReader.step.Goals as goal
 
 pub returns-then-is_empty : goal.returns-then-is_empty
-returns-then-is_empty c = λ read written s.
-    closes-end c.in_ok-end.field-0 c.end.new.self c.args.piece.now read written (nil_from_length c.args.piece.now (search rules)) (c.in_ok-end.ensures read written s)
+returns-then-is_empty c = λ first read written s.
+    closes-end first c.in_ok-end.field-0 c.end.new.self c.args.piece.now read written (nil_from_length c.args.piece.now (search rules)) (c.in_ok-end.ensures first read written s)
 
 pub returns : goal.returns
-returns c = IfOk-weaker c.take.result _ _ (λ status took read written s. stepped-take status c.take.new.self c.args.piece.now read written (λ none. search rules) (took read written s)) c.take.ensures
+returns c = IfOk-weaker c.take.result _ _ (λ status took first read written s. stepped-take first status c.take.new.self c.args.piece.now read written (λ none. search rules) (took first read written s)) c.take.ensures

@@ -5,7 +5,7 @@ use Rattle.usbgate.proofs.tape_reader.TapeReader.take.Given as goal
 abbrev pub invariant-loop-len : goal.invariant-loop-len
 invariant-loop-len l = record {
   within : l.from ≤ length l.piece;
-  stage : (read written : List ℕ) → Stage l.initial.self read written → Stage l.self (read ++ take l.from l.piece) written;
+  stage : (first : ℕ) (read written : List ℕ) → Stage first l.initial.self read written → Stage first l.self (read ++ take l.from l.piece) written;
 }
 
 abbrev pub decreases-loop-len : goal.decreases-loop-len

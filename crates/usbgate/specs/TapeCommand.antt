@@ -10,14 +10,14 @@ abbrev pub tape_limit : ℕ
 tape_limit = 67108864
 
 -- a command, which keeps an S of the lines so far
-pub record Command (S : Type 0) : Type 0 where
+pub record TapeCommand (S : Type 0) : Type 0 where
   -- the text before the first line
-  pub first : List ℕ
+  pub opening : List ℕ
   pub start : S
   -- a line's text, by its content, and what is kept with it; none where the line is bad
   pub line : S → List ℕ → Option (List ℕ × S)
   -- the text behind the last line
-  pub last : S → List ℕ
+  pub closing : S → List ℕ
   -- how it ends where no line is bad
   pub status : S → Status
 
@@ -27,7 +27,7 @@ pub record Progress (S : Type 0) : Type 0 where
   pub bytes : ℕ
   pub kept : S
 
-abbrev pub begin : {S : Type 0} → Command S → Progress S
+abbrev pub begin : {S : Type 0} → TapeCommand S → Progress S
 begin command = record { lines = 0; bytes = 0; kept = command.start }
 
 abbrev pub one_further : {S : Type 0} → Progress S → List ℕ → List ℕ × S → List ℕ × Progress S
@@ -35,7 +35,7 @@ one_further p line x = (x.0, record { lines = p.lines + 1; bytes = p.bytes + len
 
 -- the text of the next line, and what has then been read; none where the line is bad, as one is, too, that has a byte
 -- past the limit of the tape; its LF is one of its bytes
-abbrev pub next_line : {S : Type 0} → Command S → Progress S → List ℕ → Option (List ℕ × Progress S)
+abbrev pub next_line : {S : Type 0} → TapeCommand S → Progress S → List ℕ → Option (List ℕ × Progress S)
 next_line command p line =
     if nat_lt tape_limit (p.bytes + length line) then None else option_map (one_further p line) (command.line p.kept (content line))
 
@@ -49,23 +49,23 @@ abbrev pub on_line : {S : Type 0} → Progress S → (Progress S → Reading S) 
 on_line p later None = record { text = []; after = p; bad = true }
 on_line p later (Some x) = record (later x.1) { text = x.0 ++ (later x.1).text }
 
-abbrev pub read_lines : {S : Type 0} → Command S → Progress S → List (List ℕ) → Reading S
+abbrev pub read_lines : {S : Type 0} → TapeCommand S → Progress S → List (List ℕ) → Reading S
 read_lines command p [] = record { text = []; after = p; bad = false }
 read_lines command p (line ∷ lines) = on_line p (λ q. read_lines command q lines) (next_line command p line)
 
-abbrev pub read_tape : {S : Type 0} → Command S → List ℕ → Reading S
+abbrev pub read_tape : {S : Type 0} → TapeCommand S → List ℕ → Reading S
 read_tape command tape = read_lines command (begin command) (lines_of tape)
 
 -- the last text, or in its place the number of the bad line, counted from 1
-abbrev pub last_text : {S : Type 0} → Command S → Reading S → List ℕ
-last_text command x = if x.bad then bad_line (x.after.lines + 1) else command.last x.after.kept
+abbrev pub last_text : {S : Type 0} → TapeCommand S → Reading S → List ℕ
+last_text command x = if x.bad then bad_line (x.after.lines + 1) else command.closing x.after.kept
 
 -- the text that a command prescribes for a tape, and how it then ends
-abbrev pub command_text : {S : Type 0} → Command S → List ℕ → List ℕ
-command_text command tape = let x = read_tape command tape in command.first ++ x.text ++ last_text command x
+abbrev pub tape_text : {S : Type 0} → TapeCommand S → List ℕ → List ℕ
+tape_text command tape = let x = read_tape command tape in command.opening ++ x.text ++ last_text command x
 
-abbrev pub status_of : {S : Type 0} → Command S → Reading S → Status
+abbrev pub status_of : {S : Type 0} → TapeCommand S → Reading S → Status
 status_of command x = if x.bad then BadTape (x.after.lines + 1) else command.status x.after.kept
 
-abbrev pub command_status : {S : Type 0} → Command S → List ℕ → Status
-command_status command tape = status_of command (read_tape command tape)
+abbrev pub tape_status : {S : Type 0} → TapeCommand S → List ℕ → Status
+tape_status command tape = status_of command (read_tape command tape)
