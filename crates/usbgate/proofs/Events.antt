@@ -109,9 +109,11 @@ refused-more first before after notes told =
 -- ---- what is printed
 
 -- what an empty buffer gained is what the output gained
+more-is : (old new before after more : List ℕ) → old ≡ [] → new ≡ old ++ more → after ≡ before ++ more → new ≡ drop (length before) after
+more-is old new before after more none new_is after_is = new_is ∙ ap (λ (l : List ℕ). l ++ more) none ∙ sym (drop_at before more (length before) refl) ∙ ap (drop (length before)) (sym after_is)
+
 gains-is : (old new before after : List ℕ) → old ≡ [] → Gains old new before after → new ≡ drop (length before) after
-gains-is old new before after none g =
-    g.new-is ∙ ap (λ (l : List ℕ). l ++ g.bytes) none ∙ sym (drop_at before g.bytes (length before) refl) ∙ ap (drop (length before)) (sym g.after-is)
+gains-is old new before after none g = more-is old new before after _ none g.new-is g.after-is
 
 pub sees : (first : ℕ) (old new : Replay) (events : List Event) (e : Event) (client host text_old text_new : List ℕ) (notes : List Note) → HasSeen first old events
     → Takes first new.gate events e old.to_client client old.to_host host notes → text_new ≡ text_old ++ sent_text client host notes → new.to_client ≡ [] → new.to_host ≡ []

@@ -1,22 +1,37 @@
-//! Whole runs over tapes in memory, and the gate by itself. What is expected was laid out by hand.
+//! Whole runs over tapes in memory. What is expected was laid out by hand.
 
 ghost use Rattle.std.specs.Prelude.{◌<◌};
 
-mod gate;
+mod cuts;
 mod outside;
+mod packets;
+mod refusals;
+mod sessions;
 mod tapes;
+mod unlinks;
 
 use crate::{Status, run};
+use cuts::{push_cut, push_joined};
 use gate_outside::{NoDoors, TextSink, TextSource};
+use packets::{push_counts, push_lines};
+use std::alloc::Global;
 use std::process::Abort;
 use std::test::Fail;
 use usb_base::{Bytes, Memory};
 
-const LIST: &str = "0111800500000000";
+const NO_COUNTS: [u64; 4] = [0, 0, 0, 0];
 
-const NO_DEVICE: &str = "C 011100050000000000000000\n";
+/// A host of one device, which the client imports. Ids have 64 bits and bulk lengths 32.
+const IMPORTED: [(&str, &str); 2] = [
+    ("h HHA EP160 II8 DC10", ""),
+    ("c IMP", "C 0111000300000000 DEV 0100000000000101"),
+];
 
-const COUNTS: &str = "answered 0 unlinked 0 left 0 dropped 0\n";
+/// The same with a host that has no capability.
+const PLAINLY_IMPORTED: [(&str, &str); 2] = [
+    ("h HH0 EP96 II4 DC8", ""),
+    ("c IMP", "C 0111000300000000 DEV 0000000000000101"),
+];
 
 fn push(text: &mut Bytes, piece: &str, times: usize) -> Result<(), Memory> {
     for _ in 0..times {
@@ -25,83 +40,110 @@ fn push(text: &mut Bytes, piece: &str, times: usize) -> Result<(), Memory> {
     Ok(())
 }
 
-/// The line of the gateway's hello.
-fn push_made(text: &mut Bytes) -> Result<(), Memory> {
-    push(text, "H 000000004400000000000000757362676174652031", 1)?;
-    push(text, "00", 55)?;
-    push(text, "7a000000\n", 1)
+/// A tape, and the text that it has to print.
+#[derive(Drop)]
+struct Session {
+    tape: Bytes,
+    text: Bytes,
 }
 
-/// The line of a list of one device, by its product and by its configuration and number of interfaces.
-fn push_listed(
-    text: &mut Bytes,
-    product: &str,
-    numbers: &str,
-    interfaces: &str,
-) -> Result<(), Memory> {
-    push(text, "C 011100050000000000000001", 1)?;
-    push(text, "2f75736272656469722f312d31", 1)?;
-    push(text, "00", 243)?;
-    push(text, "312d31", 1)?;
-    push(text, "00", 29)?;
-    push(text, "000000010000000200000003fff0", 1)?;
-    push(text, product, 1)?;
-    push(text, "0000000000", 1)?;
-    push(text, numbers, 1)?;
-    push(text, interfaces, 1)?;
-    push(text, "\n", 1)
-}
-
-/// The bytes of a side as lines of a tape, so many bytes a line.
-fn push_lines(tape: &mut Bytes, letter: &str, digits: &[u8], bytes: usize) -> Result<(), Memory>
-    requires { 0 < bytes }
-{
-    for piece in digits.chunks(bytes.saturating_mul(2)) {
-        push(tape, letter, 1)?;
-        push(tape, " ", 1)?;
-        tape.append(piece)?;
-        push(tape, "\n", 1)?;
+impl Session {
+    /// The session that begins with these rows.
+    fn start(alloc: Global, rows: &[(&str, &str)]) -> Result<Session, Memory> {
+        let mut session = Session {
+            tape: Bytes::new(alloc),
+            text: Bytes::new(alloc),
+        };
+        push_lines(alloc, &mut session.text, "H GH")?;
+        session.push_rows(alloc, rows)?;
+        Ok(session)
     }
-    Ok(())
+
+    /// The session of these rows and then those.
+    fn of(
+        alloc: Global,
+        before: &[(&str, &str)],
+        rows: &[(&str, &str)],
+        counts: [u64; 4],
+    ) -> Result<Session, Memory> {
+        let mut session = Session::start(alloc, before)?;
+        session.push_rows(alloc, rows)?;
+        push_counts(alloc, &mut session.text, counts)?;
+        Ok(session)
+    }
+
+    fn push_rows(&mut self, alloc: Global, rows: &[(&str, &str)]) -> Result<(), Memory> {
+        for (lines, printed) in rows {
+            push_lines(alloc, &mut self.tape, lines)?;
+            push_lines(alloc, &mut self.text, printed)?;
+        }
+        Ok(())
+    }
+
+    /// Bulk transfers of 13 bytes from the device, which are numbered from 1 on and stay in flight.
+    fn push_submits(&mut self, alloc: Global, last: u32) -> Result<(), Memory> {
+        for number in 1..=last {
+            let line = format!(in alloc; "c SUB:{number}:1:1:0:13:0 00*8")?;
+            let printed = format!(in alloc; "H ASK:{number}")?;
+            self.push_rows(alloc, &[(line.as_str(), printed.as_str())])?;
+        }
+        Ok(())
+    }
+
+    /// Runs the words over the tape.
+    fn expect(
+        &self,
+        rt: &(impl Abort + AllocGlobal),
+        words: &[&str],
+        status: Status,
+    ) -> Result<(), Fail> {
+        expect_run(
+            rt,
+            words,
+            self.tape.as_slice(),
+            65_536,
+            self.text.as_slice(),
+            status,
+        )
+    }
+
+    /// Runs the tape with its lines cut: the bytes to each side and the refusals stay the same.
+    fn expect_cut(
+        &self,
+        rt: &(impl Abort + AllocGlobal),
+        first: usize,
+        later: usize,
+        status: Status,
+    ) -> Result<(), Fail>
+        requires { 0 < later }
+    {
+        let mut tape = Bytes::new(rt.alloc());
+        push_cut(&mut tape, self.tape.as_slice(), first, later)?;
+        let mut source = TextSource::make(rt.alloc(), tape.as_slice(), 65_536, &[])?;
+        let mut sink = TextSink::make(rt.alloc(), 1_000_000, 1_000_000, &[])?;
+        let ended = run(
+            rt.alloc(),
+            &["replay"],
+            &mut source,
+            &mut sink,
+            &mut NoDoors::new(),
+        );
+        assert_eq!(rt; ended, status);
+        for letter in ["C ", "H ", "! "] {
+            let mut wanted = Bytes::new(rt.alloc());
+            push_joined(&mut wanted, self.text.as_slice(), letter.as_bytes())?;
+            let mut printed = Bytes::new(rt.alloc());
+            push_joined(&mut printed, sink.held(), letter.as_bytes())?;
+            assert_eq!(rt; printed.as_slice(), wanted.as_slice());
+        }
+        Ok(())
+    }
 }
 
-/// A hello with no capability word.
-fn push_hello(digits: &mut Bytes) -> Result<(), Memory> {
-    push(digits, "000000004000000000000000686f7374", 1)?;
-    push(digits, "00", 60)
-}
-
-fn push_endpoints(digits: &mut Bytes) -> Result<(), Memory> {
-    push(digits, "050000006000000000000000", 1)?;
-    push(digits, "00020301ffffffffffffffffffffffff", 2)?;
-    push(digits, "00", 64)
-}
-
-/// One interface of class ff.
-fn push_interface(digits: &mut Bytes) -> Result<(), Memory> {
-    push(digits, "04000000840000000000000001000000", 1)?;
-    push(digits, "00", 32)?;
-    push(digits, "ff", 1)?;
-    push(digits, "00", 95)
-}
-
-/// A device at high speed, vendor fff0, product 0002, and its configuration 1.
-fn push_device(digits: &mut Bytes) -> Result<(), Memory> {
-    push(digits, "01000000080000000000000002000000f0ff0200", 1)?;
-    push(digits, "0800000002000000000000000001", 1)
-}
-
-/// All that a host tells of one device.
-fn push_host(digits: &mut Bytes) -> Result<(), Memory> {
-    push_hello(digits)?;
-    push_endpoints(digits)?;
-    push_interface(digits)?;
-    push_device(digits)
-}
-
-/// Runs a replay of the tape, of which so many bytes are read at a time.
-fn expect_replay(
+/// Runs the words over a tape, of which so many bytes are read at a time.
+fn expect_run(
     rt: &(impl Abort + AllocGlobal),
+    words: &[&str],
     tape: &[u8],
     piece: usize,
     wanted: &[u8],
@@ -110,10 +152,10 @@ fn expect_replay(
     requires { 0 < piece }
 {
     let mut source = TextSource::make(rt.alloc(), tape, piece, &[])?;
-    let mut sink = TextSink::make(rt.alloc(), 65_536, 65_536, &[])?;
+    let mut sink = TextSink::make(rt.alloc(), 1_000_000, 1_000_000, &[])?;
     let ended = run(
         rt.alloc(),
-        &["replay"],
+        words,
         &mut source,
         &mut sink,
         &mut NoDoors::new(),
@@ -123,17 +165,22 @@ fn expect_replay(
     Ok(())
 }
 
-/// Runs a replay of a short tape: it prints the hello's line, and then this.
-fn expect_short(
+/// Runs a replay of these rows.
+fn expect_rows(
     rt: &(impl Abort + AllocGlobal),
-    tape: &str,
-    lines: &str,
-    last: &str,
+    rows: &[(&str, &str)],
+    counts: [u64; 4],
     status: Status,
 ) -> Result<(), Fail> {
-    let mut wanted = Bytes::new(rt.alloc());
-    push_made(&mut wanted)?;
-    push(&mut wanted, lines, 1)?;
-    push(&mut wanted, last, 1)?;
-    expect_replay(rt, tape.as_bytes(), 65_536, wanted.as_slice(), status)
+    Session::of(rt.alloc(), &[], rows, counts)?.expect(rt, &["replay"], status)
+}
+
+/// The same after an import.
+fn expect_imported(
+    rt: &(impl Abort + AllocGlobal),
+    rows: &[(&str, &str)],
+    counts: [u64; 4],
+    status: Status,
+) -> Result<(), Fail> {
+    Session::of(rt.alloc(), &IMPORTED, rows, counts)?.expect(rt, &["replay"], status)
 }

@@ -2,7 +2,8 @@
 
 ghost use Rattle.std.specs.Prelude.{◌<◌};
 
-use super::{COUNTS, NO_DEVICE, expect_replay, push, push_made};
+use super::packets::{push_counts, push_lines};
+use super::{NO_COUNTS, expect_run, push};
 use crate::{Status, run};
 use gate_outside::{NoDoors, TextSink, TextSource};
 use std::process::Abort;
@@ -25,9 +26,8 @@ fn expect_fault(
     requires writes { 0 < pieces.1 }
 {
     let mut wanted = Bytes::new(rt.alloc());
-    push_made(&mut wanted)?;
-    push(&mut wanted, NO_DEVICE, 1)?;
-    push(&mut wanted, COUNTS, 1)?;
+    push_lines(rt.alloc(), &mut wanted, "H GH;C 011100050000000000000000")?;
+    push_counts(rt.alloc(), &mut wanted, NO_COUNTS)?;
     let mut source = TextSource::make(rt.alloc(), b"c 0111800500000000\n", pieces.0, fails.0)?;
     let mut sink = TextSink::make(rt.alloc(), room, pieces.1, fails.1)?;
     let ended = run(
@@ -63,10 +63,17 @@ fn a_tape_may_come_byte_by_byte(rt: HostRuntime) -> Result<(), Fail> {
     let mut tape = Bytes::new(rt.alloc());
     push(&mut tape, "c 0111800500000000\n", 300)?;
     let mut wanted = Bytes::new(rt.alloc());
-    push_made(&mut wanted)?;
-    push(&mut wanted, NO_DEVICE, 300)?;
-    push(&mut wanted, COUNTS, 1)?;
-    expect_replay(&rt, tape.as_slice(), 1, wanted.as_slice(), Status::Done)
+    push_lines(rt.alloc(), &mut wanted, "H GH")?;
+    push(&mut wanted, "C 011100050000000000000000\n", 300)?;
+    push_counts(rt.alloc(), &mut wanted, NO_COUNTS)?;
+    expect_run(
+        &rt,
+        &["replay"],
+        tape.as_slice(),
+        1,
+        wanted.as_slice(),
+        Status::Done,
+    )
 }
 
 #[test]
@@ -80,16 +87,27 @@ fn a_tape_ends_at_its_limit(rt: HostRuntime) -> Result<(), Fail> {
     }
     // The last of 1,024 lines, by its length with its LF.
     for (length, last, status) in [
-        (65_536, COUNTS, Status::Done),
+        (
+            65_536,
+            "answered 0 unlinked 0 left 0 dropped 0\n",
+            Status::Done,
+        ),
         (65_537, "bad tape 1024\n", Status::BadTape(1024)),
     ] {
         let before = tape.len();
         push(&mut tape, "#", length - 1)?;
         push(&mut tape, "\n", 1)?;
         let mut wanted = Bytes::new(rt.alloc());
-        push_made(&mut wanted)?;
+        push_lines(rt.alloc(), &mut wanted, "H GH")?;
         push(&mut wanted, last, 1)?;
-        expect_replay(&rt, tape.as_slice(), 65_536, wanted.as_slice(), status)?;
+        expect_run(
+            &rt,
+            &["replay"],
+            tape.as_slice(),
+            65_536,
+            wanted.as_slice(),
+            status,
+        )?;
         assert!(rt; before <= tape.len());
         tape.cut(before);
     }
@@ -98,7 +116,21 @@ fn a_tape_ends_at_its_limit(rt: HostRuntime) -> Result<(), Fail> {
 
 #[test]
 fn words_that_are_no_command(rt: HostRuntime) -> Result<(), Fail> {
-    let table: [&[&str]; 4] = [&[], &["show"], &["replay", "replay"], &["replay "]];
+    let table: [&[&str]; 13] = [
+        &[],
+        &["show"],
+        &["replay "],
+        &["replay", "replay"],
+        &["replay", "--first-id"],
+        &["replay", "--first-id", "0"],
+        &["replay", "--first-id", "4294967296"],
+        &["replay", "--first-id", "18446744073709551617"],
+        &["replay", "--first-id", "+1"],
+        &["replay", "--first-id", "01"],
+        &["replay", "--first-id", ""],
+        &["replay", "--first-id", "1", "1"],
+        &["replay", "1"],
+    ];
     for words in table {
         let mut source = TextSource::make(rt.alloc(), b"x\n", 9, &[0])?;
         let mut sink = TextSink::make(rt.alloc(), 99, 9, &[])?;

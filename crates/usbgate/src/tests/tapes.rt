@@ -1,80 +1,113 @@
 //! What tapes print.
 
-use super::{
-    COUNTS, LIST, NO_DEVICE, expect_replay, expect_short, push, push_hello, push_host, push_lines,
-    push_listed, push_made,
-};
+use super::packets::push_lines;
+use super::{NO_COUNTS, Session, expect_rows, expect_run, push};
 use crate::Status;
+use std::process::Abort;
 use std::test::Fail;
 use usb_base::Bytes;
 
+const NO_DEVICE: &str = "C 011100050000000000000000";
+
 #[test]
 fn the_list_of_one_device_however_cut(rt: HostRuntime) -> Result<(), Fail> {
-    let mut host = Bytes::new(rt.alloc());
-    push_host(&mut host)?;
-    let mut wanted = Bytes::new(rt.alloc());
-    push_made(&mut wanted)?;
-    push_listed(&mut wanted, "0002", "010101", "ff000000")?;
-    push(&mut wanted, COUNTS, 1)?;
-    for bytes in [1, 2, 3, 7, 11, 12, 13, 75, 76, 77, 1000] {
-        let mut tape = Bytes::new(rt.alloc());
-        push_lines(&mut tape, "h", host.as_slice(), bytes)?;
-        push_lines(&mut tape, "c", LIST.as_bytes(), bytes)?;
-        for piece in [1, 5, 65_536] {
-            expect_replay(&rt, tape.as_slice(), piece, wanted.as_slice(), Status::Done)?;
-        }
+    let session = Session::of(
+        rt.alloc(),
+        &[],
+        &[
+            ("h HH0 EP96 II4 DC8 CS4", ""),
+            (
+                "c LIST",
+                "C 011100050000000000000001 DEV 0000000000010101 ff000000",
+            ),
+        ],
+        NO_COUNTS,
+    )?;
+    session.expect(&rt, &["replay"], Status::Done)?;
+    for first in [1, 2, 3, 7, 11, 12, 13, 75, 76, 77] {
+        session.expect_cut(&rt, first, first, Status::Done)?;
     }
     Ok(())
 }
 
 #[test]
-fn short_tapes(rt: HostRuntime) -> Result<(), Fail> {
-    for (tape, lines) in [
+fn rows_without_an_import(rt: HostRuntime) -> Result<(), Fail> {
+    for (lines, printed) in [
         ("", ""),
-        ("c 0111800500000000\n", NO_DEVICE),
-        ("c 0111800500000000", NO_DEVICE),
-        ("\n# c 00\n\nc 01118005aBcDeF01\n#", NO_DEVICE),
+        ("c LIST", NO_DEVICE),
         (
-            "c 011180050000000001118005ffffffff\n",
-            "C 011100050000000000000000011100050000000000000000\n",
+            "c LIST LIST",
+            "C 011100050000000000000000011100050000000000000000",
         ),
-        ("c 0110\nc 80\n", ""),
-        ("h 01000000080000\n", ""),
-        ("c 01118005000000\nc.\n", ""),
-        ("c.\nh.\n", ""),
-        ("h.\nc 0111800500000000\n", NO_DEVICE),
+        ("c 01118005000000;c.;c.;c LIST", NO_DEVICE),
+        ("h 000000;h.;c LIST;c.", NO_DEVICE),
+        ("# c 00;;c 01118005aBcDeF01;#", NO_DEVICE),
     ] {
-        expect_short(&rt, tape, lines, COUNTS, Status::Done)?;
+        expect_rows(&rt, &[(lines, printed)], NO_COUNTS, Status::Done)?;
     }
     Ok(())
 }
 
 #[test]
-fn refusals_stand_at_their_places(rt: HostRuntime) -> Result<(), Fail> {
-    for (tape, lines) in [
-        ("c 01108005\n", "! client 0 12 NotBuilt\n"),
-        ("c 011180\nc 03\n", "! client 0 12 NotBuilt\n"),
-        (
-            "c 011180050000000001118003\n",
-            "C 011100050000000000000000\n! client 8 12 NotBuilt\n",
-        ),
-        (
-            "c 00000000\nc 00000000\nc 0111800500000000\nc.\n",
-            "! client 0 12 NotBuilt\n",
-        ),
-        ("h 0100000008000000\nh 00\nh.\n", "! host 0 12 NotBuilt\n"),
-        (
-            "h 01000000\nh 080000\nh 00\nc 0111800500000000\n",
-            "! host 0 12 NotBuilt\nC 011100050000000000000000\n",
-        ),
-        (
-            "c 00000000\nh 0100000008000000\n",
-            "! client 0 12 NotBuilt\n! host 0 12 NotBuilt\n",
-        ),
-    ] {
-        expect_short(&rt, tape, lines, COUNTS, Status::Refused)?;
-    }
-    Ok(())
+fn a_last_line_needs_no_line_feed(rt: HostRuntime) -> Result<(), Fail> {
+    let session = Session::of(rt.alloc(), &[], &[("", NO_DEVICE)], NO_COUNTS)?;
+    expect_run(
+        &rt,
+        &["replay", "--first-id", "1"],
+        b"c 0111800500000000",
+        5,
+        session.text.as_slice(),
+        Status::Done,
+    )
+}
+
+/// The last fact counts until the host ends.
+#[test]
+fn facts_are_told_again(rt: HostRuntime) -> Result<(), Fail> {
+    expect_rows(
+        &rt,
+        &[
+            ("h HH0 EP96 II4 DC8 CS4", ""),
+            (
+                "h 01000000 08000000 00000000 02000000f0ff0300 08000000 02000000 00000000 0002",
+                "",
+            ),
+            (
+                "h 08000000 02000000 00000000 0405 04000000 84000000 00000000 00*132",
+                "",
+            ),
+            (
+                "c LIST",
+                "C 011100050000000000000001 2f75736272656469722f312d31 00*243 312d31 00*29 00000001 00000002 00000003 fff00003 0000000000020100",
+            ),
+            ("h.", ""),
+            ("c LIST", NO_DEVICE),
+        ],
+        NO_COUNTS,
+        Status::Done,
+    )
+}
+
+/// Runs a tape whose line of this number is the first bad one.
+fn expect_bad(
+    rt: &(impl Abort + AllocGlobal),
+    tape: &str,
+    printed: &str,
+    last: &str,
+    number: u64,
+) -> Result<(), Fail> {
+    let mut wanted = Bytes::new(rt.alloc());
+    push_lines(rt.alloc(), &mut wanted, "H GH")?;
+    push_lines(rt.alloc(), &mut wanted, printed)?;
+    push(&mut wanted, last, 1)?;
+    expect_run(
+        rt,
+        &["replay"],
+        tape.as_bytes(),
+        65_536,
+        wanted.as_slice(),
+        Status::BadTape(number),
+    )
 }
 
 #[test]
@@ -83,73 +116,16 @@ fn bad_lines_end_the_run(rt: HostRuntime) -> Result<(), Fail> {
         "c \n", "c 0\n", "c  00\n", "c 00 \n", "c\n", "x\n", "c 0g\n", "c 00\r\n", " c 00\n",
         "c.0\n", "h", "c 000",
     ] {
-        expect_short(&rt, tape, "", "bad tape 1\n", Status::BadTape(1))?;
+        expect_bad(&rt, tape, "", "bad tape 1\n", 1)?;
     }
-    for tape in ["c.\nc 00\n", "c.\nc.\n", "h.\nh 00\n", "h.\nh.\n", "# \n?"] {
-        expect_short(&rt, tape, "", "bad tape 2\n", Status::BadTape(2))?;
+    for tape in ["h.\nh 00\n", "h.\nh.\n", "c.\nh", "# \n?"] {
+        expect_bad(&rt, tape, "", "bad tape 2\n", 2)?;
     }
-    expect_short(
+    expect_bad(
         &rt,
         "c 0111800500000000\nc 0\nc 00\n",
         NO_DEVICE,
         "bad tape 2\n",
-        Status::BadTape(2),
-    )
-}
-
-#[test]
-fn a_count_is_refused_with_its_fourth_byte(rt: HostRuntime) -> Result<(), Fail> {
-    let mut digits = Bytes::new(rt.alloc());
-    push_hello(&mut digits)?;
-    push(&mut digits, "040000008400000000000000210000", 1)?;
-    let mut tape = Bytes::new(rt.alloc());
-    push_lines(&mut tape, "h", digits.as_slice(), 1)?;
-    let mut wanted = Bytes::new(rt.alloc());
-    push_made(&mut wanted)?;
-    push(&mut wanted, COUNTS, 1)?;
-    expect_replay(
-        &rt,
-        tape.as_slice(),
-        65_536,
-        wanted.as_slice(),
-        Status::Done,
-    )?;
-    push(&mut tape, "h 00\nh 00\n", 1)?;
-    wanted.clear();
-    push_made(&mut wanted)?;
-    push(&mut wanted, "! host 88 25 Count\n", 1)?;
-    push(&mut wanted, COUNTS, 1)?;
-    expect_replay(
-        &rt,
-        tape.as_slice(),
-        65_536,
-        wanted.as_slice(),
-        Status::Refused,
-    )
-}
-
-#[test]
-fn the_last_fact_counts_until_the_host_ends(rt: HostRuntime) -> Result<(), Fail> {
-    let mut host = Bytes::new(rt.alloc());
-    push_host(&mut host)?;
-    push(&mut host, "01000000080000000000000002000000f0ff0300", 1)?;
-    push(&mut host, "0800000002000000000000000002", 1)?;
-    push(&mut host, "0800000002000000000000000405", 1)?;
-    push(&mut host, "04000000840000000000000000000000", 1)?;
-    push(&mut host, "00", 128)?;
-    let mut tape = Bytes::new(rt.alloc());
-    push_lines(&mut tape, "h", host.as_slice(), 1000)?;
-    push(&mut tape, "c 0111800500000000\nh.\nc 0111800500000000\n", 1)?;
-    let mut wanted = Bytes::new(rt.alloc());
-    push_made(&mut wanted)?;
-    push_listed(&mut wanted, "0003", "020100", "")?;
-    push(&mut wanted, NO_DEVICE, 1)?;
-    push(&mut wanted, COUNTS, 1)?;
-    expect_replay(
-        &rt,
-        tape.as_slice(),
-        65_536,
-        wanted.as_slice(),
-        Status::Done,
+        2,
     )
 }
