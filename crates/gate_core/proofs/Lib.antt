@@ -22,3 +22,5 @@ pub mod Fronts
 pub mod Lost
 pub mod Left
 pub mod Steady
+pub mod Responding
+pub mod Answering

@@ -21,6 +21,7 @@ mod note;
 mod reply;
 mod request;
 mod response;
+mod told;
 mod translator;
 mod verdict;
 
