@@ -1,5 +1,5 @@
 -- What an answer of the host makes of what is kept, and what it sends and tells.
-use Rattle.std.proofs.Common.{◌≡◌, ℕ, ◌+◌, ◌^◌, ◌-◌, ◌≤◌, ◌&&◌, Bool, true, false, cond, not, eqb, List, [], ◌∷◌, ◌++◌, length, map, Option, Some, None, refl, sym, ap, subst, ◌∙◌, arith}
+use Rattle.std.proofs.Common.{◌≡◌, ℕ, ◌+◌, ◌^◌, ◌-◌, ◌≤◌, ◌&&◌, Bool, true, false, cond, not, eqb, List, [], ◌∷◌, ◌++◌, length, map, Option, Some, None, refl, sym, ap, subst, ◌∙◌, arith, suc}
 use Rattle.std.specs.Prelude.{is_none, unwrap_or, filter, option_map, IfSome}
 use Rattle.std.specs.List.{find, flat_map}
 use Rattle.std.specs.Option.{option_and_then, option_or, option_to_list}
@@ -88,6 +88,10 @@ Each-without P p [] h = tt
 Each-without P p (x ∷ xs) h =
     let rest = Each-without P p xs h.1 in
     elim (p x) as (λ b. Each P (cond b xs (x ∷ without_first p xs))) [ true ↦ h.1 | false ↦ (h.0, rest) ]
+
+pub length-without : {X : Type 0} (p : X → Bool) (xs : List X) → length (without_first p xs) ≤ length xs
+length-without p [] = omega arith
+length-without p (x ∷ xs) = let h = length-without p xs in elim (p x) as (λ b. length (cond b xs (x ∷ without_first p xs)) ≤ suc (length xs)) [ true ↦ omega arith | false ↦ omega (arith, h) ]
 
 map-none : {X Y : Type 0} (f : X → Y) (o : Option X) → option_map f o ≡ None → o ≡ None
 map-none f None e = refl

@@ -1,4 +1,4 @@
-use Rattle.std.proofs.Common.{◌≡◌, ◌∙◌, ◌+◌, ℕ, Bool, true, false, not, cond, refl, sym, ap, subst, arith}
+use Rattle.std.proofs.Common.{◌≡◌, ◌∙◌, ◌+◌, ℕ, Bool, true, false, not, cond, refl, sym, ap, subst, arith, ◌≤◌, length}
 use mir.Val.{bool_byte}
 use Rattle.std.specs.Option.{option_copied}
 use Rattle.unlink_race.specs.Searches.{has_id}
@@ -7,7 +7,7 @@ use Rattle.gate_core.specs.inner.Rows.{IsFine}
 use Rattle.gate_core.specs.inner.Responses.{response_view}
 use Rattle.gate_core.specs.Items.{capped}
 use Rattle.gate_core.proofs.Lists.{Each}
-use Rattle.gate_core.proofs.Answering.{does-live, does-late, Each-find, Each-without}
+use Rattle.gate_core.proofs.Answering.{does-live, does-late, Each-find, Each-without, length-without}
 use Rattle.gate_core.proofs.kept.Kept.complete.Goals as goal
 
 pub returns-in_default-clause-ok : goal.returns-in_default-clause-ok
@@ -33,6 +33,7 @@ returns-clause-kept c =
     record {
       fine = subst (λ (r : Requests). Each (IsFine old.caps) r.live) (sym c.finish.ensures.rest) (Each-without (IsFine old.caps) (has_id c.args.id) old.lives.live kept.fine);
       apart = λ h. ap (λ (r : Requests). r.abandoned) c.finish.ensures.rest ∙ kept.apart h;
+      few = omega (arith, kept.few, ap (λ (r : Requests). length r.live) c.finish.ensures.rest, length-without (has_id c.args.id) old.lives.live);
       answered_fits = omega (arith, c.saturating_add-self.ensures);
       unlinked_fits = omega (arith, c.saturating_add-self-2.ensures);
       dropped_fits = kept.dropped_fits;
