@@ -38,3 +38,5 @@ pub mod Coming
 pub mod Standing
 pub mod Ends
 pub mod Held
+pub mod Responding
+pub mod Answering

@@ -288,15 +288,19 @@ taking-halted {S = S} {P = P} first d takes old new t bytes piece before client_
       other_over = k.other_over;
     }
 
-pub some-more : {P : Type 0} (packet : ℕ → P → RawItem) (wrong : ℕ → Reason → RawItem) (answer : Result (Option (ℕ × P)) ReadError) (item : RawItem) → item_next packet wrong answer ≡ Ok (Some item) → IsMore answer
-some-more packet wrong (Ok None) item e = absurd cc
-some-more packet wrong (Ok (Some i)) item e = tt
-some-more packet wrong (Err e') item e = tt
+-- it answered an item, or that memory ran out
+abbrev pub IsAny : Result (Option RawItem) Memory → Type 0
+IsAny (Ok None) = ⊥
+IsAny (Ok (Some item)) = Unit {0}
+IsAny (Err memory) = Unit {0}
 
-pub err-more : {P : Type 0} (packet : ℕ → P → RawItem) (wrong : ℕ → Reason → RawItem) (answer : Result (Option (ℕ × P)) ReadError) (memory : Memory) → item_next packet wrong answer ≡ Err memory → IsMore answer
-err-more packet wrong (Ok None) memory e = absurd cc
-err-more packet wrong (Ok (Some i)) memory e = tt
-err-more packet wrong (Err e') memory e = tt
+pub any-more : {P : Type 0} (packet : ℕ → P → RawItem) (wrong : ℕ → Reason → RawItem) (answer : Result (Option (ℕ × P)) ReadError) → IsAny (item_next packet wrong answer) → IsMore answer
+any-more packet wrong (Ok None) any = any
+any-more packet wrong (Ok (Some i)) any = tt
+any-more packet wrong (Err e) any = tt
+
+pub nothing-done : (t : Translator) (client host : List ℕ) (notes : List Note) → DoesNothing t t client client host host notes notes
+nothing-done t client host notes = record { same = refl; client = refl; host = refl; notes = refl }
 
 -- for want of memory the translator has changed nothing
 pub halted-still : {S P Q : Type 0} (first : ℕ) (d : Side S P Q first) (kept : Kept S) (t u : Translator) (bytes piece : List ℕ) (before : List Item) (client_old client client_new host_old host host_new : List ℕ) (notes_old notes notes_new : List Note) →

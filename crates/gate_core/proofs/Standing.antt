@@ -1,5 +1,6 @@
 -- One event more: what each way of taking it makes of the gate.
-use Rattle.std.proofs.Common.{◌≡◌, ℕ, Bool, List, [], ◌∷◌, Result, Ok, Err, inl, inr, refl, sym, ap, subst, ◌∙◌}
+use Rattle.std.proofs.Common.{◌≡◌, ℕ, Bool, List, [], ◌∷◌, Option, None, Result, Ok, Err, inl, inr, refl, sym, ap, subst, ◌∙◌}
+use Rattle.usb_base.specs.Number.{AreBytes}
 use Rattle.std.specs.Prelude.{IsErr}
 use Rattle.std.proofs.lemmas.Bool.{true≢false}
 use Rattle.usb_base.specs.declared.memory.Memory.{Memory}
@@ -9,6 +10,10 @@ use Rattle.packet_stream.specs.Streams.{Kept, passed}
 use Rattle.packet_stream.proofs.Laws.{IsSteady}
 use Rattle.packet_stream.proofs.Following.{follows-holds}
 use Rattle.redir_data.specs.declared.state.RedirState.{RedirState}
+use Rattle.usbip_urb.specs.ClientPackets.{takes_memory as asked_takes_memory}
+use Rattle.redir_data.specs.Packets.{takes_memory as told_takes_memory}
+use Rattle.gate_core.specs.declared.item.Item.{Item as RawItem}
+use Rattle.gate_core.specs.declared.item.Item.TheVariants as raw
 use Rattle.gate_core.specs.declared.note.Note.{Note}
 use Rattle.gate_core.specs.declared.inner.Inner.{Inner}
 use Rattle.gate_core.specs.declared.kept.Kept.{Kept as Translator}
@@ -18,11 +23,12 @@ use Rattle.gate_core.specs.Streams.{client_reader, client_start, host_reader, ho
 use Rattle.gate_core.specs.Past.{past}
 use Rattle.gate_core.specs.History.{brought, onto, arrivals, history}
 use Rattle.gate_core.specs.Stands.{asked, told, IsLeftBy, StreamStands, StandsFor, HasAll, Stands, Stops}
-use Rattle.gate_core.specs.inner.Steps.{TakesOn, TakesEvent}
+use Rattle.gate_core.specs.inner.Holds.{DoesNothing}
+use Rattle.gate_core.specs.inner.Steps.{NextItem, raw_told, TakesOn, TakesEvent}
 use Rattle.gate_core.proofs.Taking.{follows-all, all-passed}
 use Rattle.gate_core.proofs.Translating.{gains-none}
 use Rattle.gate_core.proofs.Sides.{client_side, host_side}
-use Rattle.gate_core.proofs.Pieces.{Finished, Halted}
+use Rattle.gate_core.proofs.Pieces.{Taking, taking-all, taking-halted, halted-still, IsAny, any-more, Finished, Halted}
 
 -- ---- either side
 
@@ -123,6 +129,25 @@ unput-asked first old kept events piece client host stands is =
       host = (stands-for first old events stands).host;
     })
 
+-- ---- the loop over the items of that piece
+
+pub loops-asked : (first : ℕ) (old mid : Inner) (new : Kept (Unit {0})) (events : List Event) (piece client_old client_new host_old host_new : List ℕ) (notes_old notes_new : List Note) (result : Result (Option RawItem) Memory) → AreBytes piece → Stands first old events →
+    mid ≡ record old { client = mid.client; translator = mid.translator } → NextItem client_reader asked_takes_memory raw.Asked raw.ClientWrong result mid.client new → result ≡ Ok None →
+    Taking first (client_side first) mid.client mid.translator (client_bytes events) piece (arrivals events) client_old client_new host_old host_new notes_old notes_new → TakesOn first (record mid { client = new }) events (ClientPiece piece) client_old client_new host_old host_new notes_old notes_new
+loops-asked first old mid new events piece client_old client_new host_old host_new notes_old notes_new result are stands rest n is took =
+    takes-asked first old (record mid { client = new }) events piece client_old client_new host_old host_new notes_old notes_new stands (client-kept old mid (record mid { client = new }) new mid.translator rest refl)
+    (taking-all first (client_side first) asked_takes_memory mid.client new mid.translator (client_bytes events) piece (arrivals events) client_old client_new host_old host_new notes_old notes_new n.answer stands.client.fits are (sym n.result-is ∙ is) n.changes n.nexts took)
+
+-- memory ran out for the next item, which the translator may have been given
+pub stops-asked : (first : ℕ) (old mid : Inner) (new : Kept (Unit {0})) (t : Translator) (events : List Event) (piece client_old client client_new host_old host host_new : List ℕ) (notes_old notes notes_new : List Note) (result : Result (Option RawItem) Memory) → Stands first old events →
+    mid ≡ record old { client = mid.client; translator = mid.translator } → NextItem client_reader asked_takes_memory raw.Asked raw.ClientWrong result mid.client new → IsAny result → DoesNothing mid.translator t client client_new host host_new notes notes_new →
+    Taking first (client_side first) mid.client mid.translator (client_bytes events) piece (arrivals events) client_old client host_old host notes_old notes → Stops first (record mid { client = new; translator = t }) events (ClientPiece piece) client_old client_new host_old host_new
+stops-asked first old mid new t events piece client_old client client_new host_old host host_new notes_old notes notes_new result stands rest n any nothing took =
+    halts-asked first old (record mid { client = new; translator = t }) events piece client_old client_new host_old host_new notes_old notes_new stands (client-kept old mid (record mid { client = new; translator = t }) new t rest refl)
+    (halted-still first (client_side first) new mid.translator t (client_bytes events) piece (arrivals events) client_old client client_new host_old host host_new notes_old notes notes_new nothing
+    (taking-halted first (client_side first) asked_takes_memory mid.client new mid.translator (client_bytes events) piece (arrivals events) client_old client host_old host notes_old notes n.answer
+    (any-more raw.Asked raw.ClientWrong n.answer (subst IsAny n.result-is any)) n.changes n.nexts took))
+
 -- ---- a piece of the host
 
 pub host-kept : (old mid new : Inner) (kept : Kept RedirState) (t : Translator) → mid ≡ record old { host = mid.host; translator = mid.translator } → new ≡ record mid { host = kept; translator = t } →
@@ -175,3 +200,22 @@ unput-told first old kept events piece client host stands is =
       host = stands-all host_reader (host_side first).steady host_start kept (host_bytes events) (told (arrivals events)) (host_over (history first events))
           (all-passed host_reader (host_side first).steady host_start old.host kept (host_bytes events) (told (arrivals events)) (host_over (history first events)) stands.host is);
     })
+
+-- ---- the loop over the items of that piece
+
+pub loops-told : (first : ℕ) (old mid : Inner) (new : Kept RedirState) (events : List Event) (piece client_old client_new host_old host_new : List ℕ) (notes_old notes_new : List Note) (result : Result (Option RawItem) Memory) → AreBytes piece → Stands first old events →
+    mid ≡ record old { host = mid.host; translator = mid.translator } → NextItem host_reader told_takes_memory raw_told raw.HostWrong result mid.host new → result ≡ Ok None →
+    Taking first (host_side first) mid.host mid.translator (host_bytes events) piece (arrivals events) client_old client_new host_old host_new notes_old notes_new → TakesOn first (record mid { host = new }) events (HostPiece piece) client_old client_new host_old host_new notes_old notes_new
+loops-told first old mid new events piece client_old client_new host_old host_new notes_old notes_new result are stands rest n is took =
+    takes-told first old (record mid { host = new }) events piece client_old client_new host_old host_new notes_old notes_new stands (host-kept old mid (record mid { host = new }) new mid.translator rest refl)
+    (taking-all first (host_side first) told_takes_memory mid.host new mid.translator (host_bytes events) piece (arrivals events) client_old client_new host_old host_new notes_old notes_new n.answer stands.host.fits are (sym n.result-is ∙ is) n.changes n.nexts took)
+
+-- memory ran out for the next item, which the translator may have been given
+pub stops-told : (first : ℕ) (old mid : Inner) (new : Kept RedirState) (t : Translator) (events : List Event) (piece client_old client client_new host_old host host_new : List ℕ) (notes_old notes notes_new : List Note) (result : Result (Option RawItem) Memory) → Stands first old events →
+    mid ≡ record old { host = mid.host; translator = mid.translator } → NextItem host_reader told_takes_memory raw_told raw.HostWrong result mid.host new → IsAny result → DoesNothing mid.translator t client client_new host host_new notes notes_new →
+    Taking first (host_side first) mid.host mid.translator (host_bytes events) piece (arrivals events) client_old client host_old host notes_old notes → Stops first (record mid { host = new; translator = t }) events (HostPiece piece) client_old client_new host_old host_new
+stops-told first old mid new t events piece client_old client client_new host_old host host_new notes_old notes notes_new result stands rest n any nothing took =
+    halts-told first old (record mid { host = new; translator = t }) events piece client_old client_new host_old host_new notes_old notes_new stands (host-kept old mid (record mid { host = new; translator = t }) new t rest refl)
+    (halted-still first (host_side first) new mid.translator t (host_bytes events) piece (arrivals events) client_old client client_new host_old host host_new notes_old notes notes_new nothing
+    (taking-halted first (host_side first) told_takes_memory mid.host new mid.translator (host_bytes events) piece (arrivals events) client_old client host_old host notes_old notes n.answer
+    (any-more raw_told raw.HostWrong n.answer (subst IsAny n.result-is any)) n.changes n.nexts took))

@@ -1,10 +1,10 @@
 //! What the host has told of its device.
 
 ghost use Rattle.std.specs.Prelude.{◌≡◌};
+ghost use Rattle.redir_data.specs.declared.packet.RedirPacket.TheVariants.{Plain};
 ghost use Rattle.gate_core.specs.Facts.{no_facts, tell};
 ghost use Rattle.gate_core.specs.Meaning.{fact_of};
 
-use redir_data::RedirPacket;
 use redir_wire::{Connect, InterfaceInfo, RedirControl};
 use usb_base::EpTable;
 
@@ -34,12 +34,9 @@ impl Facts {
     }
 
     /// Takes in the fact that a packet of the host tells, if it tells one.
-    pub fn tell(&mut self, packet: &RedirPacket)
-        ensures { self.new ≡ tell self.old (fact_of packet.now) }
+    pub fn tell(&mut self, packet: &RedirControl)
+        ensures { self.new ≡ tell self.old (fact_of (Plain packet.now)) }
     {
-        let RedirPacket::Plain(packet) = packet else {
-            return;
-        };
         match packet {
             RedirControl::Connect(connect) => self.connect = Some(*connect),
             RedirControl::InterfaceInfo(info) => self.interfaces = Some(*info),

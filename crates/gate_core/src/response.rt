@@ -1,21 +1,20 @@
 //! The packets of the host that answer a request by its id: whether each is that of its request, and what came of the
 //! transfer.
 
-ghost use Rattle.std.specs.Prelude.{◌≡◌, ◌<◌, ◌+◌, true, option_map, IfOk, OnErr};
+ghost use Rattle.std.specs.Prelude.{◌≡◌, ◌<◌, ◌+◌, true, option_map, IfSome, IfOk, OnErr};
+ghost use Rattle.usb_base.specs.declared.side.Side.TheVariants.{Host};
 ghost use Rattle.gate_core.specs.Requests.{Request};
-ghost use Rattle.gate_core.specs.Verdict.{Verdict, Wire};
+ghost use Rattle.gate_core.specs.Verdict.{Verdict};
 ghost use Rattle.redir_data.specs.declared.packet.RedirPacket.TheVariants.{Plain, Carrying};
-ghost use Rattle.gate_core.specs.Marks.{Submission};
-ghost use Rattle.gate_core.specs.Responses.{Data, outcome, response_of, route_answer, answer_kind, mismatch, mismatched, route_gets, gets as gets_value, seen};
-ghost use Rattle.gate_core.specs.inner.Views.{pipe_view};
-ghost use Rattle.gate_core.specs.inner.Responses.{response_view, status_outcome};
+ghost use Rattle.gate_core.specs.Responses.{Data, outcome, response_of, route_answer, mismatched, route_gets, gets as gets_value, seen};
+ghost use Rattle.gate_core.specs.inner.Responses.{response_view, status_outcome, wire_answer, row_answer, row_ep, row_gets, row_mismatch};
 
-use crate::verdict::Pipe;
 use control_route::Route;
-use redir_data::{RedirData, RedirPacket};
+use redir_data::RedirData;
 use redir_wire::RedirControl;
 use std::alloc::Global;
-use usb_base::{Bytes, EpAddr, Memory, Outcome, Reason, Refusal, Side, UsbStatus};
+use unlink_race::{Live, LiveKind};
+use usb_base::{Bytes, EpKind, Memory, Outcome, Reason, Refusal, Side, UsbStatus};
 
 /// A packet of the host that answers a request by its id.
 #[derive(Debug, Drop)]
@@ -33,18 +32,8 @@ pub enum Response {
     },
 }
 
-/// What a packet is as an answer, if it is one. Its data are moved. An interrupt or isochronous packet of an IN
-/// endpoint is one of a stream.
-pub fn response_of(packet: RedirPacket) -> Option<Response>
-    ensures { option_map response_view result ≡ response_of packet }
-{
-    match packet {
-        RedirPacket::Plain(packet) => status_of(&packet),
-        RedirPacket::Carrying(packet) => data_of(packet),
-    }
-}
-
-fn status_of(packet: &RedirControl) -> Option<Response>
+/// What a packet that moves no data is as an answer, if it is one.
+pub fn status_of(packet: &RedirControl) -> Option<Response>
     ensures { option_map response_view result ≡ response_of (Plain packet.now) }
 {
     match packet {
@@ -63,7 +52,9 @@ fn status_of(packet: &RedirControl) -> Option<Response>
     }
 }
 
-fn data_of(packet: RedirData) -> Option<Response>
+/// What a data packet is as an answer, if it is one: an interrupt or isochronous packet of an IN endpoint is one of a
+/// stream. Its data are moved.
+pub fn data_of(packet: RedirData) -> Option<Response>
     ensures { option_map response_view result ≡ response_of (Carrying packet) }
 {
     match packet {
@@ -107,29 +98,30 @@ fn data(endpoint: u8, length_place: u64, status: u8, done: u32, body: Bytes) -> 
 
 // ---- whether it is the answer of the request that has its id
 
-/// What the answer of a request has to be.
-#[derive(Clone, Copy, Debug, PartialEq, Eq)]
-pub struct Expected {
-    /// The type of its packet.
-    pub kind: u32,
-    /// Where it is a data packet, the endpoint, and how many bytes it may tell at most.
-    pub ep: EpAddr,
-    pub wanted: u32,
-}
-
-/// The type of the packet that answers a transfer on the wire.
-pub fn pipe_answer(pipe: Pipe) -> u32
-    ensures { result ≡ answer_kind (Wire (pipe_view pipe)) }
+/// The type of the packet that answers a request in flight by its id.
+fn answer_kind(kind: &LiveKind) -> u32
+    ensures { result ≡ row_answer kind.now }
 {
-    match pipe {
-        Pipe::Control => 100,
-        Pipe::Bulk => 101,
-        Pipe::InterruptOut => 103,
+    match kind {
+        LiveKind::Wire { kind, .. } => wire_answer(*kind),
+        LiveKind::Routed(route) => route_answer(route),
+        LiveKind::Stream { .. } => 0,
     }
 }
 
-/// The type of the packet that answers a route's.
-pub fn route_answer(route: &Route) -> u32
+// The type of the packet that answers a transfer on the wire.
+fn wire_answer(kind: EpKind) -> u32
+    ensures { result ≡ wire_answer kind }
+{
+    match kind {
+        EpKind::Control => 100,
+        EpKind::Interrupt => 103,
+        EpKind::Bulk | EpKind::Iso | EpKind::Invalid => 101,
+    }
+}
+
+// The type of the packet that answers a route's.
+fn route_answer(route: &Route) -> u32
     ensures { result ≡ route_answer route.now }
 {
     match route {
@@ -138,36 +130,48 @@ pub fn route_answer(route: &Route) -> u32
     }
 }
 
-/// What is wrong of an answer first, its type, its endpoint or its length, if one of them is. The packet begins at
-/// `place`, and its header has `head` bytes and the type `kind`.
+// The endpoint of a request in flight, which for a route is 0.
+fn endpoint(kind: &LiveKind) -> u8
+    ensures { result ≡ row_ep kind.now }
+{
+    match kind {
+        LiveKind::Wire { ep, .. } | LiveKind::Stream { ep, .. } => ep.byte(),
+        LiveKind::Routed(_) => 0,
+    }
+}
+
+/// What is wrong of the answer of a request first, its type, its endpoint or its length, if one of them is. The packet
+/// begins at `place`, and its header has `head` bytes and the type `kind`.
 pub fn mismatch(
     place: u64,
     head: u64,
-    expected: &Expected,
+    live: &Live,
     kind: u32,
     response: &Response,
 ) -> Option<Refusal>
     requires { head < 256 }
-    ensures { (s : Submission) → answer_kind s.verdict ≡ expected.now.kind → s.request.transfer.ep ≡ expected.now.ep → s.request.transfer.wanted ≡ expected.now.wanted → result ≡ mismatch place head s kind (response_view response.now) }
+    ensures value { result ≡ row_mismatch place head live.now kind (response_view response.now) }
+    ensures side { IfSome result (λ refusal. refusal.side ≡ Host) }
 {
-    if kind != expected.kind {
-        return Some(mismatched(place, 0, expected.kind, kind));
+    let expected = answer_kind(&live.kind);
+    if kind != expected {
+        return Some(mismatched(place, 0, expected, kind));
     }
     let Response::Data {
-        endpoint,
+        endpoint: came,
         length_place,
         outcome,
     } = response
     else {
         return None;
     };
-    let ep = expected.ep.byte();
-    if *endpoint != ep {
-        return Some(mismatched(place, head, u32::from(ep), u32::from(*endpoint)));
+    let ep = endpoint(&live.kind);
+    if *came != ep {
+        return Some(mismatched(place, head, u32::from(ep), u32::from(*came)));
     }
-    if outcome.done > expected.wanted {
+    if outcome.done > live.wanted {
         let behind = head.saturating_add(*length_place);
-        return Some(mismatched(place, behind, expected.wanted, outcome.done));
+        return Some(mismatched(place, behind, live.wanted, outcome.done));
     }
     None
 }
@@ -186,8 +190,18 @@ fn mismatched(place: u64, behind: u64, expected: u32, came: u32) -> Refusal
 
 // ---- what came of the transfer
 
-/// Whether the answer of a route tells a value that was asked for.
-pub fn route_gets(route: &Route) -> bool
+/// Whether a request in flight asks for a value of one byte, which its status tells.
+pub fn gets(kind: &LiveKind) -> bool
+    ensures { result ≡ row_gets kind.now }
+{
+    match kind {
+        LiveKind::Routed(route) => route_gets(route),
+        LiveKind::Wire { .. } | LiveKind::Stream { .. } => false,
+    }
+}
+
+// Whether the answer of a route tells a value that was asked for.
+fn route_gets(route: &Route) -> bool
     ensures { result ≡ route_gets route.now }
 {
     matches!(route, Route::GetConfig | Route::GetAlt(_))

@@ -8,7 +8,6 @@ use crate::request::Request;
 use crate::verdict::{Pipe, Verdict, decide};
 use crate::{Counts, Event, Gate, Note};
 use control_route::Route;
-use redir_data::RedirPacket;
 use redir_wire::{ANNOUNCED, Caps, RedirControl};
 use std::alloc::Global;
 use std::test::Fail;
@@ -232,15 +231,15 @@ fn the_host_is_asked_by_packets(rt: HostRuntime) -> Result<(), Fail> {
 #[test]
 fn the_device_is_told_and_imported_by_its_bus_id(rt: HostRuntime) {
     let mut facts = Facts::none();
-    facts.tell(&RedirPacket::Plain(RedirControl::ConfigurationStatus {
+    facts.tell(&RedirControl::ConfigurationStatus {
         status: 4,
         configuration: 2,
-    }));
+    });
     assert_eq!(rt; facts.configuration, 0);
-    facts.tell(&RedirPacket::Plain(RedirControl::ConfigurationStatus {
+    facts.tell(&RedirControl::ConfigurationStatus {
         status: 0,
         configuration: 2,
-    }));
+    });
     assert_eq!(rt; facts.configuration, 2);
     let mut busid = [0; 32];
     busid[..3].copy_from_slice(b"1-1");

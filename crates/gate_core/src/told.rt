@@ -1,20 +1,43 @@
 //! What becomes of the host's packets.
 
-ghost use Rattle.std.specs.Prelude.{◌≡◌, ℕ, OnOk, OnErr};
+ghost use Rattle.std.specs.Prelude.{◌≡◌, ◌⊎◌, ◌++◌, ℕ, List, Some, None, [], ◌∷◌, false, map, if◌then◌else◌, option_map, option_copied, IfSome, OnOk, OnErr, IfOk};
+ghost use Rattle.std.specs.List.{find, flat_map};
+ghost use Rattle.std.specs.Option.{option_and_then, option_or};
+ghost use Rattle.usb_base.specs.declared.side.Side.TheVariants.{Host};
+ghost use Rattle.usbip_urb.specs.Spelling.{spelling};
+ghost use Rattle.usbip_urb.specs.declared.client.ClientPacket.TheVariants.{Urb};
+ghost use Rattle.redir_wire.specs.Capability.{announced, caps_of, agreed};
+ghost use Rattle.redir_wire.specs.Header.{head_size};
+ghost use Rattle.redir_data.specs.declared.packet.RedirPacket.TheVariants.{Plain};
+ghost use Rattle.unlink_race.specs.Searches.{has_id};
+ghost use Rattle.gate_core.specs.declared.note.Note.TheVariants.{Answered};
 ghost use Rattle.gate_core.specs.Items.{capped};
-ghost use Rattle.gate_core.specs.State.{State};
-ghost use Rattle.gate_core.specs.Meaning.{mark_as, told_meaning, fact_of};
+ghost use Rattle.gate_core.specs.Marks.{Submission};
+ghost use Rattle.gate_core.specs.Facts.{tell};
+ghost use Rattle.gate_core.specs.Flight.{wide_ids};
+ghost use Rattle.gate_core.specs.Submits.{has_id as submit_has_id};
+ghost use Rattle.gate_core.specs.State.{State, submits};
+ghost use Rattle.gate_core.specs.Responses.{response_of, seen};
+ghost use Rattle.gate_core.specs.Meaning.{mark_as, fact_of, by_response, told_meaning};
 ghost use Rattle.gate_core.specs.Sound.{IsSound};
-ghost use Rattle.gate_core.specs.inner.Holds.{IsKept, Holds, ToldFits, Does, Leaves};
+ghost use Rattle.gate_core.specs.Answers.{answers_by};
+ghost use Rattle.gate_core.specs.inner.Asked.{HasItsPackets};
+ghost use Rattle.gate_core.specs.inner.Responses.{response_view, row_mismatch, IsAnswer, IsCounted, has_won, completes};
+ghost use Rattle.gate_core.specs.inner.Rows.{row_of, IsRead};
+ghost use Rattle.gate_core.specs.inner.Holds.{IsKept, Holds, Does, Leaves, Extends, ResponseFits, ToldFits};
 
+use crate::finish::write_answers;
 use crate::kept::Kept;
-use crate::note::Notes;
+use crate::note::{Note, Notes};
+use crate::response::{Response, data_of, gets, mismatch, seen, status_of};
 use redir_data::RedirPacket;
-use redir_wire::Header;
-use usb_base::{Bytes, Memory};
+use redir_wire::{ANNOUNCED, Caps, Header, Hello, RedirControl, WIDE_IDS};
+use std::alloc::Global;
+use unlink_race::{Ending, Live, ending_of};
+use usb_base::{Bytes, Memory, Refusal};
 
 impl Kept {
-    /// Takes a packet of the host.
+    /// Takes a packet of the host, which begins at `place` of its stream.
     pub fn told(
         &mut self,
         place: u64,
@@ -27,10 +50,216 @@ impl Kept {
         requires kept { IsKept self.old }
         requires fits { ToldFits self.old.caps header packet }
         ensures kept { IsKept self.new }
-        ensures ok { (st : State) (at : ℕ) → place ≡ capped at → Holds self.old st → IsSound st
+        ensures ok { (st : State) (at : ℕ) → place ≡ capped at → Holds self.old st → IsSound st → st.host_over ≡ false
             → OnOk result (Does st (mark_as st (told_meaning st at header packet) (fact_of packet)) self.old self.new to_client.old to_client.new to_host.old to_host.new notes.old notes.new) }
         ensures err { OnErr result (Leaves self.old self.new to_client.old to_client.new to_host.old to_host.new notes.old notes.new) }
     {
-        Err(Memory)
+        match packet {
+            RedirPacket::Plain(packet) => {
+                self.told_control(place, &header, &packet, to_client, to_host, notes)
+            }
+            RedirPacket::Carrying(packet) => {
+                self.respond(place, &header, data_of(packet), to_client, notes)
+            }
+        }
     }
+
+    /// Takes a packet that moves no data.
+    fn told_control(
+        &mut self,
+        place: u64,
+        header: &Header,
+        packet: &RedirControl,
+        to_client: &mut Bytes,
+        to_host: &mut Bytes,
+        notes: &mut Notes,
+    ) -> Result<(), Memory>
+        requires kept { IsKept self.old }
+        requires fits { ToldFits self.old.caps header.now (Plain packet.now) }
+        ensures kept { IsKept self.new }
+        ensures ok { (st : State) (at : ℕ) → place ≡ capped at → Holds self.old st → IsSound st → st.host_over ≡ false
+            → OnOk result (Does st (mark_as st (told_meaning st at header.now (Plain packet.now)) (fact_of (Plain packet.now))) self.old self.new to_client.old to_client.new to_host.old to_host.new notes.old notes.new) }
+        ensures err { OnErr result (Leaves self.old self.new to_client.old to_client.new to_host.old to_host.new notes.old notes.new) }
+    {
+        match packet {
+            RedirControl::Hello(hello) => {
+                self.agree(hello);
+                Ok(())
+            }
+            RedirControl::Disconnect => self.disconnect(header.id, to_client, to_host, notes),
+            _ => self.told_fact(place, header, packet, to_client, notes),
+        }
+    }
+
+    /// The host's hello: what both sides have is agreed. Ids had 32 bits until then.
+    fn agree(&mut self, hello: &Hello)
+        requires kept { IsKept self.old }
+        requires narrow { wide_ids self.old.caps ≡ false }
+        ensures kept { IsKept self.new }
+        ensures agreed { self.new ≡ record self.old { caps = agreed (caps_of hello.now) announced } }
+    {
+        self.caps = hello.caps().agreed(Caps { bits: ANNOUNCED });
+    }
+
+    /// Takes a packet that may answer a request, and may tell a fact of the device.
+    fn told_fact(
+        &mut self,
+        place: u64,
+        header: &Header,
+        packet: &RedirControl,
+        to_client: &mut Bytes,
+        notes: &mut Notes,
+    ) -> Result<(), Memory>
+        requires kept { IsKept self.old }
+        requires fits { ResponseFits header.now.kind (response_of (Plain packet.now)) }
+        ensures kept { IsKept self.new }
+        ensures ok { (st : State) (at : ℕ) (host : List ℕ) → place ≡ capped at → Holds self.old st → IsSound st → st.host_over ≡ false
+            → OnOk result (Does st (mark_as st (by_response st at header.now (response_of (Plain packet.now))) (fact_of (Plain packet.now))) self.old self.new to_client.old to_client.new host host notes.old notes.new) }
+        ensures err { (host : List ℕ) → OnErr result (Leaves self.old self.new to_client.old to_client.new host host notes.old notes.new) }
+    {
+        self.respond(place, header, status_of(packet), to_client, notes)?;
+        self.learn(packet);
+        Ok(())
+    }
+
+    /// Takes in the fact that a packet tells. A host that was refused for it has no device any more.
+    fn learn(&mut self, packet: &RedirControl)
+        requires kept { IsKept self.old }
+        ensures kept { IsKept self.new }
+        ensures learned { self.new ≡ record self.old { facts = if self.old.host_over then self.old.facts else tell self.old.facts (fact_of (Plain packet.now)) } }
+    {
+        if !self.host_over {
+            self.facts.tell(packet);
+        }
+    }
+
+    /// Takes what a packet is as an answer, if it is one.
+    fn respond(
+        &mut self,
+        place: u64,
+        header: &Header,
+        response: Option<Response>,
+        to_client: &mut Bytes,
+        notes: &mut Notes,
+    ) -> Result<(), Memory>
+        requires kept { IsKept self.old }
+        requires fits { ResponseFits header.now.kind (option_map response_view response) }
+        ensures kept { IsKept self.new }
+        ensures ok { (st : State) (at : ℕ) (host : List ℕ) → place ≡ capped at → Holds self.old st → IsSound st
+            → OnOk result (Does st (mark_as st (by_response st at header.now (option_map response_view response)) None) self.old self.new to_client.old to_client.new host host notes.old notes.new) }
+        ensures err { (host : List ℕ) → OnErr result (Leaves self.old self.new to_client.old to_client.new host host notes.old notes.new) }
+    {
+        match response {
+            Some(response) => self.answer(place, header, response, to_client, notes),
+            None => Ok(()),
+        }
+    }
+
+    /// The host answers the request that has the packet's id. It is refused where the answer isn't that of the request; an
+    /// answer to nobody means nothing.
+    fn answer(
+        &mut self,
+        place: u64,
+        header: &Header,
+        response: Response,
+        to_client: &mut Bytes,
+        notes: &mut Notes,
+    ) -> Result<(), Memory>
+        requires kept { IsKept self.old }
+        requires fits { ResponseFits header.now.kind (Some (response_view response)) }
+        ensures kept { IsKept self.new }
+        ensures ok { (st : State) (at : ℕ) (host : List ℕ) → place ≡ capped at → Holds self.old st → IsSound st
+            → OnOk result (Does st (mark_as st (by_response st at header.now (Some (response_view response))) None) self.old self.new to_client.old to_client.new host host notes.old notes.new) }
+        ensures err { (host : List ℕ) → OnErr result (Leaves self.old self.new to_client.old to_client.new host host notes.old notes.new) }
+    {
+        if let Some(refusal) = self.mismatch_of(place, header, &response) {
+            return self.refuse_host(refusal, to_client, notes);
+        }
+        self.complete(header.id, response, to_client, notes)
+    }
+
+    /// What is wrong of an answer, if a request waits for it.
+    fn mismatch_of(&self, place: u64, header: &Header, response: &Response) -> Option<Refusal>
+        ensures value { result ≡ option_and_then (λ l. row_mismatch place (head_size (wide_ids self.now.caps)) l header.now.kind (response_view response.now)) (option_or (find (has_id header.now.id) self.now.lives.live) (find (has_id header.now.id) self.now.lives.abandoned)) }
+        ensures side { IfSome result (λ refusal. refusal.side ≡ Host) }
+    {
+        let live = self.waiting(header.id)?;
+        mismatch(place, head_size(self.caps), live, header.kind, response)
+    }
+
+    /// The request that waits for the answer with this id, whether its client is there or gone.
+    fn waiting(&self, id: u64) -> Option<&Live>
+        ensures { option_copied result ≡ option_or (find (has_id id) self.now.lives.live) (find (has_id id) self.now.lives.abandoned) }
+    {
+        match self.lives.find(id) {
+            Some(live) => Some(live),
+            None => self.lives.find_abandoned(id),
+        }
+    }
+
+    /// The request that has this id ends by its answer. Of one whose client is gone nothing is sent.
+    fn complete(
+        &mut self,
+        id: u64,
+        response: Response,
+        to_client: &mut Bytes,
+        notes: &mut Notes,
+    ) -> Result<(), Memory>
+        requires kept { IsKept self.old }
+        requires fits { IfSome (find (has_id id) self.old.lives.live) (λ l. IsAnswer l (response_view response)) }
+        ensures kept { IsKept self.new }
+        ensures ok { (st : State) (host : List ℕ) → Holds self.old st → IsSound st
+            → OnOk result (Does st (mark_as st (completes id (response_view response) (find (submit_has_id id) (submits st ++ st.abandoned))) None) self.old self.new to_client.old to_client.new host host notes.old notes.new) }
+        ensures err { (host : List ℕ) → OnErr result (Leaves self.old self.new to_client.old to_client.new host host notes.old notes.new) }
+    {
+        let Some(live) = self.lives.find(id) else {
+            self.lives.finish_abandoned(id);
+            return Ok(());
+        };
+        let won = write_completed(self.alloc, live, response, to_client, notes)?;
+        self.lives.finish(id);
+        self.answered = self.answered.saturating_add(u64::from(!won));
+        self.unlinked = self.unlinked.saturating_add(u64::from(won));
+        Ok(())
+    }
+}
+
+// Tells that a request was answered, and appends its answers. It gives whether its unlink has won.
+fn write_completed(
+    alloc: Global,
+    live: &Live,
+    response: Response,
+    to_client: &mut Bytes,
+    notes: &mut Notes,
+) -> Result<bool, Memory>
+    requires packets { HasItsPackets live.now.packets live.now.descs }
+    requires read { (live.now.wanted ≡ 0) ⊎ IsRead live.now.is_in live.now.kind }
+    requires answer { IsAnswer live.now (response_view response) }
+    ensures ok { (s : Submission) → row_of s live.now.unlinker ≡ live.now → OnOk result (to_client.new ≡ to_client.old ++ flat_map spelling (answers_by s (seen s.request s.verdict (response_view response)) live.now.unlinker)) }
+    ensures counted { (s : Submission) → row_of s live.now.unlinker ≡ live.now → IfOk result (IsCounted (map Urb (answers_by s (seen s.request s.verdict (response_view response)) live.now.unlinker))) }
+    ensures notes { OnOk result (notes.new ≡ notes.old ++ Answered live.now.seqnum ∷ []) }
+    ensures err { OnErr result (to_client.new ≡ to_client.old) }
+    ensures err_notes { OnErr result (Extends notes.old notes.new) }
+{
+    let outcome = seen(alloc, gets(&live.kind), live.wanted, response)?;
+    let ending = ending_of(live, outcome.status);
+    notes.push(Note::Answered {
+        seqnum: live.seqnum,
+    })?;
+    write_answers(alloc, live, outcome, to_client)?;
+    Ok(has_won(ending))
+}
+
+// Whether a request ends by its unlink.
+fn has_won(ending: Ending) -> bool
+    ensures { result ≡ has_won ending }
+{
+    matches!(ending, Ending::Unlinked { .. })
+}
+
+/// How many bytes a header has, by whether its id has 64 bits.
+fn head_size(caps: Caps) -> u64
+    ensures { result ≡ head_size (wide_ids caps) }
+{
+    if caps.has(WIDE_IDS) { 16 } else { 12 }
 }

@@ -1,15 +1,14 @@
 use Rattle.std.proofs.Common.{Ok, refl, sym, ap, subst, ◌∙◌, arith}
 use Rattle.usbip_urb.specs.ClientPackets.{takes_memory}
-use Rattle.gate_core.specs.declared.item.Item.TheVariants as raw
 use Rattle.gate_core.specs.declared.inner.Inner.{Inner}
 use Rattle.gate_core.specs.Events.{ClientPiece, client_bytes}
 use Rattle.gate_core.specs.History.{arrivals}
 use Rattle.gate_core.specs.inner.Holds.{ItemFits}
 use Rattle.gate_core.specs.inner.Steps.{ended_if}
 use Rattle.gate_core.proofs.Sides.{client_side}
-use Rattle.gate_core.proofs.Pieces.{Taking, taking-first, taking-item, taking-all, taking-halted, halted-still, some-more, err-more}
+use Rattle.gate_core.proofs.Pieces.{Taking, taking-first, taking-item, IsAny, nothing-done}
 use Rattle.gate_core.proofs.Coming.{next-holds, asked-readable}
-use Rattle.gate_core.proofs.Standing.{err-event, client-kept, takes-asked, halts-asked, unput-asked}
+use Rattle.gate_core.proofs.Standing.{err-event, client-kept, unput-asked, loops-asked, stops-asked}
 use Rattle.gate_core.proofs.inner.Inner.take_asked.Goals as goal
 
 pub items-init : goal.items-init
@@ -48,42 +47,21 @@ items-preserved c =
 
 pub returns-in_err-item : goal.returns-in_err-item
 returns-in_err-item c =
-    let old = c.args.self.now in
     let mid = c.items.self in
-    let new : Inner = record mid { client = c.next_asked.new.client } in
-    let n = c.next_asked.ensures.next in
-    err-event c.from_residual-in_err-item.result old new (ClientPiece c.args.piece.now) c.args.to_client.now c.items.to_client c.args.to_host.now c.items.to_host c.args.notes.now c.items.notes c.from_residual-in_err-item.ensures.0
+    err-event c.from_residual-in_err-item.result c.args.self.now (record mid { client = c.next_asked.new.client }) (ClientPiece c.args.piece.now) c.args.to_client.now c.items.to_client c.args.to_host.now c.items.to_host c.args.notes.now c.items.notes c.from_residual-in_err-item.ensures.0
     (λ first events stands.
-    halts-asked first old new events c.args.piece.now c.args.to_client.now c.items.to_client c.args.to_host.now c.items.to_host c.args.notes.now c.items.notes stands
-    (client-kept old mid new c.next_asked.new.client mid.translator c.items.invariant.rest refl)
-    (taking-halted first (client_side first) takes_memory mid.client c.next_asked.new.client mid.translator (client_bytes events) c.args.piece.now (arrivals events)
-    c.args.to_client.now c.items.to_client c.args.to_host.now c.items.to_host c.args.notes.now c.items.notes n.answer
-    (err-more raw.Asked raw.ClientWrong n.answer c.in_err-item.field-0.0 (sym n.result-is ∙ c.in_err-item.was)) n.changes n.nexts (c.items.invariant.took first events stands)))
+    stops-asked first c.args.self.now mid c.next_asked.new.client mid.translator events c.args.piece.now c.args.to_client.now c.items.to_client c.items.to_client c.args.to_host.now c.items.to_host c.items.to_host c.args.notes.now c.items.notes c.items.notes c.next_asked.result
+    stands c.items.invariant.rest c.next_asked.ensures.next (subst IsAny (sym c.in_err-item.was) tt) (nothing-done mid.translator c.items.to_client c.items.to_host c.items.notes) (c.items.invariant.took first events stands))
 
 pub returns-in_err-take : goal.returns-in_err-take
 returns-in_err-take c =
-    let old = c.args.self.now in
     let mid = c.items.self in
-    let new : Inner = record mid { client = c.next_asked.new.client; translator = c.take.new.self } in
-    let n = c.next_asked.ensures.next in
-    err-event c.from_residual-in_err-take.result old new (ClientPiece c.args.piece.now) c.args.to_client.now c.take.new.to_client c.args.to_host.now c.take.new.to_host c.args.notes.now c.take.new.notes c.from_residual-in_err-take.ensures.0
+    err-event c.from_residual-in_err-take.result c.args.self.now (record mid { client = c.next_asked.new.client; translator = c.take.new.self }) (ClientPiece c.args.piece.now) c.args.to_client.now c.take.new.to_client c.args.to_host.now c.take.new.to_host c.args.notes.now c.take.new.notes c.from_residual-in_err-take.ensures.0
     (λ first events stands.
-    halts-asked first old new events c.args.piece.now c.args.to_client.now c.take.new.to_client c.args.to_host.now c.take.new.to_host c.args.notes.now c.take.new.notes stands
-    (client-kept old mid new c.next_asked.new.client c.take.new.self c.items.invariant.rest refl)
-    (halted-still first (client_side first) c.next_asked.new.client mid.translator c.take.new.self (client_bytes events) c.args.piece.now (arrivals events)
-    c.args.to_client.now c.items.to_client c.take.new.to_client c.args.to_host.now c.items.to_host c.take.new.to_host c.args.notes.now c.items.notes c.take.new.notes c.in_err-take.ensures.err
-    (taking-halted first (client_side first) takes_memory mid.client c.next_asked.new.client mid.translator (client_bytes events) c.args.piece.now (arrivals events)
-    c.args.to_client.now c.items.to_client c.args.to_host.now c.items.to_host c.args.notes.now c.items.notes n.answer
-    (some-more raw.Asked raw.ClientWrong n.answer c.in-Some.item (sym n.result-is ∙ c.in_ok-item.was ∙ ap (λ o. Ok o) c.in-Some.is)) n.changes n.nexts (c.items.invariant.took first events stands))))
+    stops-asked first c.args.self.now mid c.next_asked.new.client c.take.new.self events c.args.piece.now c.args.to_client.now c.items.to_client c.take.new.to_client c.args.to_host.now c.items.to_host c.take.new.to_host c.args.notes.now c.items.notes c.take.new.notes c.next_asked.result
+    stands c.items.invariant.rest c.next_asked.ensures.next (subst IsAny (sym (c.in_ok-item.was ∙ ap (λ o. Ok o) c.in-Some.is)) tt) c.in_err-take.ensures.err (c.items.invariant.took first events stands))
 
 pub returns : goal.returns
 returns c first events stands =
-    let old = c.args.self.now in
-    let mid = c.items.self in
-    let new : Inner = record mid { client = c.next_asked.new.client } in
-    let n = c.next_asked.ensures.next in
-    takes-asked first old new events c.args.piece.now c.args.to_client.now c.items.to_client c.args.to_host.now c.items.to_host c.args.notes.now c.items.notes stands
-    (client-kept old mid new c.next_asked.new.client mid.translator c.items.invariant.rest refl)
-    (taking-all first (client_side first) takes_memory mid.client c.next_asked.new.client mid.translator (client_bytes events) c.args.piece.now (arrivals events)
-    c.args.to_client.now c.items.to_client c.args.to_host.now c.items.to_host c.args.notes.now c.items.notes n.answer stands.client.fits (λ i. omega (arith, c.type_inv.piece i))
-    (sym n.result-is ∙ c.in_ok-item.was ∙ ap (λ o. Ok o) c.in_default.is) n.changes n.nexts (c.items.invariant.took first events stands))
+    loops-asked first c.args.self.now c.items.self c.next_asked.new.client events c.args.piece.now c.args.to_client.now c.items.to_client c.args.to_host.now c.items.to_host c.args.notes.now c.items.notes c.next_asked.result
+    (λ i. omega (arith, c.type_inv.piece i)) stands c.items.invariant.rest c.next_asked.ensures.next (c.in_ok-item.was ∙ ap (λ o. Ok o) c.in_default.is) (c.items.invariant.took first events stands)

@@ -1,14 +1,13 @@
 use Rattle.std.proofs.Common.{Ok, refl, sym, ap, subst, ◌∙◌, arith}
 use Rattle.redir_data.specs.Packets.{takes_memory}
-use Rattle.gate_core.specs.declared.item.Item.TheVariants as raw
 use Rattle.gate_core.specs.declared.inner.Inner.{Inner}
 use Rattle.gate_core.specs.Events.{HostPiece, host_bytes}
 use Rattle.gate_core.specs.History.{arrivals}
-use Rattle.gate_core.specs.inner.Steps.{raw_told, ended_if}
+use Rattle.gate_core.specs.inner.Steps.{ended_if}
 use Rattle.gate_core.proofs.Sides.{host_side}
-use Rattle.gate_core.proofs.Pieces.{Taking, taking-first, taking-item, taking-all, taking-halted, halted-still, some-more, err-more}
+use Rattle.gate_core.proofs.Pieces.{Taking, taking-first, taking-item, IsAny, nothing-done}
 use Rattle.gate_core.proofs.Coming.{told-item}
-use Rattle.gate_core.proofs.Standing.{err-event, host-kept, takes-told, halts-told, unput-told}
+use Rattle.gate_core.proofs.Standing.{err-event, host-kept, unput-told, loops-told, stops-told}
 use Rattle.gate_core.proofs.inner.Inner.take_told.Goals as goal
 
 pub items-init : goal.items-init
@@ -47,42 +46,21 @@ items-preserved c =
 
 pub returns-in_err-item : goal.returns-in_err-item
 returns-in_err-item c =
-    let old = c.args.self.now in
     let mid = c.items.self in
-    let new : Inner = record mid { host = c.next_told.new.host } in
-    let n = c.next_told.ensures in
-    err-event c.from_residual-in_err-item.result old new (HostPiece c.args.piece.now) c.args.to_client.now c.items.to_client c.args.to_host.now c.items.to_host c.args.notes.now c.items.notes c.from_residual-in_err-item.ensures.0
+    err-event c.from_residual-in_err-item.result c.args.self.now (record mid { host = c.next_told.new.host }) (HostPiece c.args.piece.now) c.args.to_client.now c.items.to_client c.args.to_host.now c.items.to_host c.args.notes.now c.items.notes c.from_residual-in_err-item.ensures.0
     (λ first events stands.
-    halts-told first old new events c.args.piece.now c.args.to_client.now c.items.to_client c.args.to_host.now c.items.to_host c.args.notes.now c.items.notes stands
-    (host-kept old mid new c.next_told.new.host mid.translator c.items.invariant.rest refl)
-    (taking-halted first (host_side first) takes_memory mid.host c.next_told.new.host mid.translator (host_bytes events) c.args.piece.now (arrivals events)
-    c.args.to_client.now c.items.to_client c.args.to_host.now c.items.to_host c.args.notes.now c.items.notes n.answer
-    (err-more raw_told raw.HostWrong n.answer c.in_err-item.field-0.0 (sym n.result-is ∙ c.in_err-item.was)) n.changes n.nexts (c.items.invariant.took first events stands)))
+    stops-told first c.args.self.now mid c.next_told.new.host mid.translator events c.args.piece.now c.args.to_client.now c.items.to_client c.items.to_client c.args.to_host.now c.items.to_host c.items.to_host c.args.notes.now c.items.notes c.items.notes c.next_told.result
+    stands c.items.invariant.rest c.next_told.ensures (subst IsAny (sym c.in_err-item.was) tt) (nothing-done mid.translator c.items.to_client c.items.to_host c.items.notes) (c.items.invariant.took first events stands))
 
 pub returns-in_err-take : goal.returns-in_err-take
 returns-in_err-take c =
-    let old = c.args.self.now in
     let mid = c.items.self in
-    let new : Inner = record mid { host = c.next_told.new.host; translator = c.take.new.self } in
-    let n = c.next_told.ensures in
-    err-event c.from_residual-in_err-take.result old new (HostPiece c.args.piece.now) c.args.to_client.now c.take.new.to_client c.args.to_host.now c.take.new.to_host c.args.notes.now c.take.new.notes c.from_residual-in_err-take.ensures.0
+    err-event c.from_residual-in_err-take.result c.args.self.now (record mid { host = c.next_told.new.host; translator = c.take.new.self }) (HostPiece c.args.piece.now) c.args.to_client.now c.take.new.to_client c.args.to_host.now c.take.new.to_host c.args.notes.now c.take.new.notes c.from_residual-in_err-take.ensures.0
     (λ first events stands.
-    halts-told first old new events c.args.piece.now c.args.to_client.now c.take.new.to_client c.args.to_host.now c.take.new.to_host c.args.notes.now c.take.new.notes stands
-    (host-kept old mid new c.next_told.new.host c.take.new.self c.items.invariant.rest refl)
-    (halted-still first (host_side first) c.next_told.new.host mid.translator c.take.new.self (host_bytes events) c.args.piece.now (arrivals events)
-    c.args.to_client.now c.items.to_client c.take.new.to_client c.args.to_host.now c.items.to_host c.take.new.to_host c.args.notes.now c.items.notes c.take.new.notes c.in_err-take.ensures.err
-    (taking-halted first (host_side first) takes_memory mid.host c.next_told.new.host mid.translator (host_bytes events) c.args.piece.now (arrivals events)
-    c.args.to_client.now c.items.to_client c.args.to_host.now c.items.to_host c.args.notes.now c.items.notes n.answer
-    (some-more raw_told raw.HostWrong n.answer c.in-Some.item (sym n.result-is ∙ c.in_ok-item.was ∙ ap (λ o. Ok o) c.in-Some.is)) n.changes n.nexts (c.items.invariant.took first events stands))))
+    stops-told first c.args.self.now mid c.next_told.new.host c.take.new.self events c.args.piece.now c.args.to_client.now c.items.to_client c.take.new.to_client c.args.to_host.now c.items.to_host c.take.new.to_host c.args.notes.now c.items.notes c.take.new.notes c.next_told.result
+    stands c.items.invariant.rest c.next_told.ensures (subst IsAny (sym (c.in_ok-item.was ∙ ap (λ o. Ok o) c.in-Some.is)) tt) c.in_err-take.ensures.err (c.items.invariant.took first events stands))
 
 pub returns : goal.returns
 returns c first events stands =
-    let old = c.args.self.now in
-    let mid = c.items.self in
-    let new : Inner = record mid { host = c.next_told.new.host } in
-    let n = c.next_told.ensures in
-    takes-told first old new events c.args.piece.now c.args.to_client.now c.items.to_client c.args.to_host.now c.items.to_host c.args.notes.now c.items.notes stands
-    (host-kept old mid new c.next_told.new.host mid.translator c.items.invariant.rest refl)
-    (taking-all first (host_side first) takes_memory mid.host c.next_told.new.host mid.translator (host_bytes events) c.args.piece.now (arrivals events)
-    c.args.to_client.now c.items.to_client c.args.to_host.now c.items.to_host c.args.notes.now c.items.notes n.answer stands.host.fits (λ i. omega (arith, c.type_inv.piece i))
-    (sym n.result-is ∙ c.in_ok-item.was ∙ ap (λ o. Ok o) c.in_default.is) n.changes n.nexts (c.items.invariant.took first events stands))
+    loops-told first c.args.self.now c.items.self c.next_told.new.host events c.args.piece.now c.args.to_client.now c.items.to_client c.args.to_host.now c.items.to_host c.args.notes.now c.items.notes c.next_told.result
+    (λ i. omega (arith, c.type_inv.piece i)) stands c.items.invariant.rest c.next_told.ensures (c.in_ok-item.was ∙ ap (λ o. Ok o) c.in_default.is) (c.items.invariant.took first events stands)

@@ -1,0 +1,6 @@
+use Rattle.gate_core.proofs.Steady.{does-idle}
+use Rattle.gate_core.proofs.kept.Kept.respond.Goals as goal
+
+pub returns-in-None-clause-ok : goal.returns-in-None-clause-ok
+returns-in-None-clause-ok c st at host place h sound =
+    rw c.in-None.is (does-idle st c.args.self.now c.args.to_client.now host c.args.notes.now h c.requires.kept.answered_fits c.requires.kept.unlinked_fits c.requires.kept.dropped_fits)

@@ -1,0 +1,28 @@
+use Rattle.std.proofs.Common.{None, OnOk, sym, subst}
+use Rattle.redir_wire.specs.Capability.{announced, caps_of, agreed}
+use Rattle.redir_data.specs.declared.packet.RedirPacket.TheVariants.{Plain}
+use Rattle.gate_core.specs.declared.kept.Kept.{Kept}
+use Rattle.gate_core.specs.Marks.{Effect, Agrees}
+use Rattle.gate_core.specs.Meaning.{mark_as, fact_of}
+use Rattle.gate_core.specs.inner.Holds.{Does}
+use Rattle.gate_core.proofs.Answering.{does-agree, told-other}
+use Rattle.gate_core.proofs.kept.Kept.told_control.Goals as goal
+
+pub returns-in-Hello-clause-ok : goal.returns-in-Hello-clause-ok
+returns-in-Hello-clause-ok c st at place h sound going =
+    let caps = agreed (caps_of c.in-Hello.hello) announced in
+    let k = c.requires.kept in
+    rw c.in-Hello.is
+    (subst (λ (new : Kept). Does st (mark_as st (Agrees caps) None) c.args.self.now new c.args.to_client.now c.args.to_client.now c.args.to_host.now c.args.to_host.now c.args.notes.now c.args.notes.now) (sym c.agree.ensures.agreed)
+    (does-agree st c.args.self.now caps c.args.to_client.now c.args.to_host.now c.args.notes.now h k.answered_fits k.unlinked_fits k.dropped_fits))
+
+pub returns-in_default : goal.returns-in_default
+returns-in_default c =
+    record {
+      kept = c.told_fact.ensures.kept;
+      ok = λ st at place h sound going.
+          subst (λ (e : Effect). OnOk c.told_fact.result (Does st (mark_as st e (fact_of (Plain c.args.packet.now))) c.args.self.now c.told_fact.new.self c.args.to_client.now c.told_fact.new.to_client c.args.to_host.now c.args.to_host.now c.args.notes.now c.told_fact.new.notes))
+          (sym (told-other st at c.args.header.now c.args.packet.now c.in_default.not-Hello c.in_default.not-Disconnect))
+          (c.told_fact.ensures.ok st at c.args.to_host.now place h sound going);
+      err = c.told_fact.ensures.err c.args.to_host.now;
+    }
