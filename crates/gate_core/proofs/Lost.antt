@@ -4,28 +4,27 @@ use Rattle.std.specs.Prelude.{is_none, unwrap_or, filter, zip}
 use Rattle.std.specs.List.{flat_map}
 use Rattle.std.proofs.lemmas.List.{append-nil}
 use Rattle.usb_base.specs.declared.refusal.Refusal.{Refusal}
-use Rattle.usb_base.specs.declared.side.Side.TheVariants.{Client, Host}
+use Rattle.usb_base.specs.declared.side.Side.TheVariants.{Host}
 use Rattle.usbip_urb.specs.declared.client.ClientPacket.TheVariants.{Urb}
 use Rattle.usbip_urb.specs.ClientPackets.{client_spelling}
 use Rattle.usbip_urb.specs.Spelling.{spelling}
 use Rattle.redir_wire.specs.declared.packet.Caps.{Caps}
-use Rattle.redir_data.specs.declared.packet.RedirPacket.{RedirPacket}
 use Rattle.unlink_race.specs.declared.live.Live.{Live}
 use Rattle.unlink_race.specs.Requests.{no_requests}
 use Rattle.gate_core.specs.declared.note.Note.{Note}
 use Rattle.gate_core.specs.declared.note.Note.TheVariants as note
 use Rattle.gate_core.specs.declared.kept.Kept.{Kept}
 use Rattle.gate_core.specs.Items.{capped}
-use Rattle.gate_core.specs.Marks.{Submission, Fact, Effect, Disconnects, Ends, Refuses, Mark}
+use Rattle.gate_core.specs.Marks.{Submission, Fact, Effect, Disconnects, Ends, Refuses}
 use Rattle.gate_core.specs.Facts.{no_facts, tell}
 use Rattle.gate_core.specs.Sides.{refused_at, leaves, is_loss, closes_host, imports, refuses_client, ends_client, agrees, never, turned}
-use Rattle.gate_core.specs.Submits.{Pending, ByClient, ByLoss, opened, own_end, ends, is_answered}
+use Rattle.gate_core.specs.Submits.{Pending, ByLoss, opened, ends, is_answered}
 use Rattle.gate_core.specs.Ids.{last_of}
 use Rattle.gate_core.specs.State.{State, submits}
 use Rattle.gate_core.specs.Verdict.{is_wire, goes_by_id}
 use Rattle.gate_core.specs.Meaning.{mark_as, drawn_by}
 use Rattle.gate_core.specs.Answers.{lost_answer}
-use Rattle.gate_core.specs.Output.{fresh, present, answered, replies, cancels, cancel, asked_packets, acknowledgements, to_client}
+use Rattle.gate_core.specs.Output.{present, cancels, cancel, asked_packets, acknowledgements, to_client}
 use Rattle.gate_core.specs.Notes.{when, import_notes, submit_notes, unlink_notes, answer_notes, is_by_answer, refusal_notes, is_by_client, dropped}
 use Rattle.gate_core.specs.All.{is_ret_submit, is_won_unlink}
 use Rattle.gate_core.specs.Bytes.{host_packet_bytes}

@@ -1,15 +1,14 @@
 -- What an accepted submit makes of what is kept, and what it sends and tells.
-use Rattle.std.proofs.Common.{◌≡◌, ℕ, suc, ◌+◌, ◌^◌, ◌-◌, ◌<◌, ◌≤◌, ◌&&◌, eqb, Bool, true, false, cond, not, List, [], ◌∷◌, ◌++◌, length, map, Option, Some, None, refl, sym, ap, subst, ◌∙◌, arith}
-use Rattle.std.specs.Prelude.{is_none, unwrap_or, filter, zip}
+use Rattle.std.proofs.Common.{◌≡◌, ℕ, ◌+◌, ◌^◌, ◌-◌, ◌<◌, ◌≤◌, eqb, Bool, true, false, cond, List, [], ◌∷◌, ◌++◌, length, map, Option, None, refl, sym, ap, ◌∙◌, arith}
+use Rattle.std.specs.Prelude.{is_none, filter, zip}
 use Rattle.std.specs.List.{flat_map}
 use Rattle.std.proofs.lemmas.List.{append-nil, map-append}
 use Rattle.std.proofs.lemmas.List.Elements.{filter-append}
 use Rattle.std.proofs.lemmas.Grind.{flat_map-append}
 use Rattle.usbip_urb.specs.declared.packet.UrbPacket.{UrbPacket}
 use Rattle.usbip_urb.specs.declared.client.ClientPacket.{ClientPacket}
-use Rattle.usbip_urb.specs.declared.client.ClientPacket.TheVariants.{Op, Urb}
+use Rattle.usbip_urb.specs.declared.client.ClientPacket.TheVariants.{Urb}
 use Rattle.usbip_urb.specs.ClientPackets.{client_spelling}
-use Rattle.redir_wire.specs.declared.packet.Caps.{Caps}
 use Rattle.redir_data.specs.declared.packet.RedirPacket.{RedirPacket}
 use Rattle.unlink_race.specs.declared.live.Live.{Live}
 use Rattle.gate_core.specs.declared.note.Note.{Note}
@@ -19,19 +18,19 @@ use Rattle.gate_core.specs.Items.{capped}
 use Rattle.gate_core.specs.Marks.{Submission, Opens}
 use Rattle.gate_core.specs.Submits.{Pending, End, at_once, ends}
 use Rattle.gate_core.specs.Ids.{last_of}
-use Rattle.gate_core.specs.State.{State, submits}
+use Rattle.gate_core.specs.State.{State}
 use Rattle.gate_core.specs.Packets.{packets_of}
 use Rattle.gate_core.specs.Meaning.{mark_as, drawn_for}
 use Rattle.gate_core.specs.Sound.{IsSound}
 use Rattle.gate_core.specs.Answers.{answers_at}
-use Rattle.gate_core.specs.Output.{fresh, cancels, cancel}
+use Rattle.gate_core.specs.Output.{fresh}
 use Rattle.gate_core.specs.Notes.{is_by_answer, is_by_client}
 use Rattle.gate_core.specs.All.{is_ret_submit, is_won_unlink}
 use Rattle.gate_core.specs.Bytes.{host_packet_bytes}
 use Rattle.gate_core.specs.Machine.{ask}
 use Rattle.gate_core.specs.inner.Rows.{row, unmarked, left_row}
 use Rattle.gate_core.specs.inner.Holds.{Holds, Does}
-use Rattle.gate_core.proofs.Lists.{Each, Each-weaker, every, filter-same, filter-none, filter-all, flat_map-same, flat_map-none}
+use Rattle.gate_core.proofs.Lists.{Each, Each-weaker, filter-same, filter-none, filter-all, flat_map-same, flat_map-none}
 use Rattle.gate_core.proofs.Lost.{capped-same}
 use Rattle.gate_core.proofs.Steady.{asks-none, none-cancelled, stays-uncancelled}
 

@@ -1,9 +1,9 @@
 -- Which way the data of a transfer that goes by an id may move.
-use Rattle.std.proofs.Common.{rules, w32, ◌≡◌, ◌⊎◌, ◌&&◌, ◌==◌, ℕ, ◌<◌, Bool, true, false, cond, not, Option, Some, None, refl, sym, ap, subst, ◌∙◌, inl, inr, List, [], ◌∷◌, arith}
+use Rattle.std.proofs.Common.{rules, w32, ◌≡◌, ◌⊎◌, ◌&&◌, ◌==◌, ℕ, ◌<◌, Bool, true, false, cond, not, Option, Some, None, refl, sym, ap, ◌∙◌, inl, inr, List, [], ◌∷◌, arith}
 use Rattle.std.specs.Prelude.{nat_lt, nat_le, FitsSigned}
 use Rattle.unlink_race.specs.Searches.{is_stream}
 use Rattle.std.specs.List.{find}
-use Rattle.std.proofs.lemmas.Bool.{cases_Bool, false≢true, true≢false, eqb-true, leb-false}
+use Rattle.std.proofs.lemmas.Bool.{false≢true, true≢false, eqb-true, leb-false}
 use Rattle.std.proofs.lemmas.Bool.Decides.{eqb_tells}
 use Rattle.usb_base.specs.declared.setup.Setup.{Setup}
 use Rattle.usb_base.specs.declared.endpoint.EpKind.{EpKind}
@@ -17,7 +17,7 @@ use Rattle.control_route.specs.declared.route.Route.TheVariants as route
 use Rattle.control_route.specs.Routes.{Row, has_no_data, is_byte, by_row, is_for, rows, route_of}
 use Rattle.gate_core.specs.Errno.{enoent, ebusy, einval, emsgsize, eshutdown}
 use Rattle.gate_core.specs.Requests.{Request, address, is_in_setup}
-use Rattle.gate_core.specs.Verdict.{Pipe, Control, Bulk, InterruptOut, Verdict, Now, Wire, Routed, IsoOut, Stream, max_live, max_narrow, none_of, bool_eq, is_invalid, is_control, is_iso, is_narrow, by_route, by_setup, by_kind, by_endpoint, by_transfer, verdict, goes_by_id}
+use Rattle.gate_core.specs.Verdict.{InterruptOut, Verdict, Now, Wire, Routed, IsoOut, Stream, max_live, max_narrow, none_of, bool_eq, is_invalid, is_control, is_iso, is_narrow, by_route, by_setup, by_kind, by_endpoint, by_transfer, verdict, goes_by_id}
 use Rattle.gate_core.specs.Responses.{route_gets}
 use Rattle.gate_core.specs.inner.Carried.{IsDirected, IsRequest}
 use Rattle.gate_core.specs.inner.Rows.{kind_of, IsRead}

@@ -1,12 +1,12 @@
 -- What an effect that ends no submit and opens none makes of what is kept, and what it sends and tells.
-use Rattle.std.proofs.Common.{◌≡◌, ℕ, ◌+◌, ◌^◌, ◌-◌, ◌≤◌, ◌&&◌, Bool, true, false, cond, not, List, [], ◌∷◌, ◌++◌, length, map, Option, Some, None, refl, sym, ap, subst, ◌∙◌, arith}
-use Rattle.std.specs.Prelude.{is_none, unwrap_or, filter, zip}
+use Rattle.std.proofs.Common.{◌≡◌, ℕ, ◌+◌, ◌^◌, ◌-◌, ◌≤◌, ◌&&◌, Bool, true, false, cond, not, List, [], ◌∷◌, ◌++◌, length, map, Option, Some, None, refl, sym, ap, ◌∙◌}
+use Rattle.std.specs.Prelude.{is_none, filter, zip}
 use Rattle.std.specs.List.{flat_map}
 use Rattle.std.proofs.lemmas.List.{append-nil}
 use Rattle.usbip_urb.specs.declared.packet.UrbPacket.{UrbPacket}
 use Rattle.usbip_op.specs.declared.packet.OpPacket.{OpPacket}
 use Rattle.usbip_urb.specs.declared.client.ClientPacket.{ClientPacket}
-use Rattle.usbip_urb.specs.declared.client.ClientPacket.TheVariants.{Op, Urb}
+use Rattle.usbip_urb.specs.declared.client.ClientPacket.TheVariants.{Urb}
 use Rattle.usbip_urb.specs.ClientPackets.{client_spelling}
 use Rattle.redir_wire.specs.declared.packet.Caps.{Caps}
 use Rattle.redir_data.specs.declared.packet.RedirPacket.{RedirPacket}
@@ -15,24 +15,24 @@ use Rattle.gate_core.specs.declared.note.Note.{Note}
 use Rattle.gate_core.specs.declared.note.Note.TheVariants as note
 use Rattle.gate_core.specs.declared.kept.Kept.{Kept}
 use Rattle.gate_core.specs.Items.{capped}
-use Rattle.gate_core.specs.Marks.{Submission, Fact, Effect, Idle, Replies, Imports, Agrees, Unlinks, Mark}
+use Rattle.gate_core.specs.Marks.{Submission, Effect, Idle, Replies, Imports, Agrees}
 use Rattle.gate_core.specs.Facts.{no_facts, tell}
-use Rattle.gate_core.specs.Sides.{refused_at, leaves, is_loss, closes_host, imports, refuses_client, ends_client, agrees, agreed_after, never, turned}
-use Rattle.gate_core.specs.Submits.{Pending, End, ByClient, ByLoss, opened, own_end, ends, is_answered, asks}
+use Rattle.gate_core.specs.Sides.{refused_at, leaves, is_loss, closes_host, imports, refuses_client, ends_client, agreed_after, turned}
+use Rattle.gate_core.specs.Submits.{Pending, ByClient, ByLoss, opened, own_end, ends, is_answered, asks}
 use Rattle.gate_core.specs.Sides.{or_else}
 use Rattle.gate_core.specs.Ids.{last_of}
 use Rattle.gate_core.specs.State.{State, submits}
 use Rattle.gate_core.specs.Verdict.{goes_by_id, is_wire}
 use Rattle.gate_core.specs.Meaning.{mark_as, drawn_by}
 use Rattle.gate_core.specs.Answers.{answers_at}
-use Rattle.gate_core.specs.Output.{fresh, present, answered, replies, cancels, cancel, asked_packets, acknowledgements, to_client, to_host}
+use Rattle.gate_core.specs.Output.{fresh, present, replies, cancels, cancel, asked_packets, acknowledgements, to_client}
 use Rattle.gate_core.specs.Notes.{when, import_notes, submit_notes, unlink_notes, answer_notes, is_by_answer, refusal_notes, is_by_client, dropped}
 use Rattle.gate_core.specs.All.{is_ret_submit, is_won_unlink}
 use Rattle.gate_core.specs.Bytes.{host_packet_bytes}
 use Rattle.gate_core.specs.Machine.{ask}
 use Rattle.gate_core.specs.inner.Rows.{row, unmarked, left_row}
 use Rattle.gate_core.specs.inner.Holds.{Holds, Does}
-use Rattle.gate_core.proofs.Lists.{every, filter-same, filter-none, filter-all, flat_map-same, flat_map-none, map-same}
+use Rattle.gate_core.proofs.Lists.{every, filter-same, filter-none, filter-all, flat_map-same, flat_map-none}
 use Rattle.gate_core.proofs.Lost.{capped-same, and-false}
 
 pub record IsSteady (st : State) (e : Effect) : Type 0 where

@@ -21,7 +21,7 @@ use Rattle.gate_core.specs.Bytes.{host_packet_bytes}
 use Rattle.gate_core.specs.inner.Rows.{is_wire_row}
 use Rattle.gate_core.proofs.Lists.{Each}
 use Rattle.gate_core.proofs.Steady.{or_else-none}
-use Rattle.gate_core.specs.inner.Unlinked.{asked_kind, asked_live, asked_of, asked_row, is_target_row, cancel_row, left_told, is_late, told_bytes}
+use Rattle.gate_core.specs.inner.Unlinked.{asked_live, asked_of, asked_row, is_target_row, cancel_row, left_told, is_late, told_bytes}
 
 module _ (caps : Caps) (target by : ℕ) where
   pub record Told (ls : List Live) (told : Asked) : Type 0 where

@@ -1,5 +1,5 @@
 -- What an unlink makes of what is kept, and what it sends and tells.
-use Rattle.std.proofs.Common.{◌≡◌, ℕ, ◌+◌, ◌-◌, ◌^◌, ◌≤◌, ◌==◌, ◌&&◌, ◌||◌, Bool, true, false, cond, not, List, [], ◌∷◌, ◌++◌, length, map, Option, Some, None, pos, refl, sym, ap, subst, ◌∙◌, arith}
+use Rattle.std.proofs.Common.{◌≡◌, ℕ, ◌-◌, ◌^◌, ◌≤◌, ◌==◌, ◌&&◌, ◌||◌, Bool, true, false, cond, not, List, [], ◌∷◌, ◌++◌, length, map, Some, None, pos, refl, sym, ap, ◌∙◌, arith}
 use Rattle.std.specs.Prelude.{filter, is_none}
 use Rattle.std.specs.List.{list_any, flat_map}
 use Rattle.std.proofs.lemmas.List.{append-nil, length-map}
@@ -17,18 +17,17 @@ use Rattle.gate_core.specs.declared.note.Note.TheVariants as note
 use Rattle.gate_core.specs.declared.kept.Kept.{Kept}
 use Rattle.gate_core.specs.declared.unlink.Asked.{Asked}
 use Rattle.gate_core.specs.Sides.{or_else}
-use Rattle.gate_core.specs.Marks.{Submission, Unlinks}
-use Rattle.gate_core.specs.Verdict.{is_wire, goes_by_id}
+use Rattle.gate_core.specs.Marks.{Unlinks}
 use Rattle.gate_core.specs.Submits.{Pending}
 use Rattle.gate_core.specs.State.{State, is_number, submits}
 use Rattle.gate_core.specs.Meaning.{mark_as}
 use Rattle.gate_core.specs.Sound.{IsSound}
 use Rattle.gate_core.specs.Answers.{ret_unlink}
-use Rattle.gate_core.specs.Output.{is_target, replies, cancels, cancel}
+use Rattle.gate_core.specs.Output.{is_target, cancels, cancel}
 use Rattle.gate_core.specs.All.{is_ret_submit, is_won_unlink}
 use Rattle.gate_core.specs.Bytes.{host_packet_bytes}
 use Rattle.gate_core.specs.Machine.{ask}
-use Rattle.gate_core.specs.inner.Rows.{row, row_of, is_wire_row, kind_of}
+use Rattle.gate_core.specs.inner.Rows.{row, row_of}
 use Rattle.gate_core.specs.inner.Unlinked.{asked_row, is_target_row, cancel_row, left_told, is_late, told_bytes}
 use Rattle.gate_core.specs.inner.Holds.{Holds, Does}
 use Rattle.gate_core.proofs.Lists.{filter-map}

@@ -49,8 +49,9 @@ impl Gate {
     }
 
     /// Takes the next event: it appends what that sends to each side, and tells its notes. For want of memory
-    /// the items before the one that met it are taken, that one has changed nothing, and every later call
-    /// answers `Memory` and changes nothing. A piece of a side that is over does nothing.
+    /// the items before the one that met it are taken, that one has sent nothing, and every later call
+    /// answers `Memory` and changes nothing. A packet that met it is held; from a wrong place on nothing is.
+    /// A piece of a side that is over does nothing.
     pub fn take(
         &mut self,
         event: Event,

@@ -6,6 +6,7 @@ mod cuts;
 mod outside;
 mod packets;
 mod refusals;
+mod routes;
 mod sessions;
 mod tapes;
 mod unlinks;

@@ -1,7 +1,6 @@
 -- When what is kept stands for a state of the machine, and what it does with an item.
-use Rattle.std.specs.Prelude.{◌≡◌, ◌⊎◌, ◌∷◌, ◌<◌, not, ◌+◌, ◌-◌, ◌^◌, [], ◌++◌, ◌≤◌, ℕ, Bool, true, false, List, length, map, filter, Option, Some, None}
+use Rattle.std.specs.Prelude.{◌≡◌, ◌⊎◌, ◌∷◌, ◌<◌, not, ◌+◌, ◌-◌, ◌^◌, [], ◌++◌, ◌≤◌, ℕ, true, false, List, length, map, filter, Option, Some, None}
 use Rattle.std.specs.List.{AllByRecursion, list_any}
-use Rattle.usb_base.specs.declared.reason.Reason.{Reason}
 use Rattle.usbip_urb.specs.declared.code.TheConstants.{MAX_LENGTH}
 use Rattle.usbip_urb.specs.ClientPackets.{IsClientPacket}
 use Rattle.redir_wire.specs.declared.packet.Caps.{Caps}
@@ -10,7 +9,7 @@ use Rattle.redir_wire.specs.declared.packet.Way.TheVariants.{ToGuest}
 use Rattle.redir_wire.specs.declared.packet.RedirControl.TheVariants as plain
 use Rattle.redir_wire.specs.Header.{IdFits}
 use Rattle.redir_data.specs.declared.packet.RedirPacket.{RedirPacket}
-use Rattle.redir_data.specs.declared.packet.RedirPacket.TheVariants.{Plain, Carrying}
+use Rattle.redir_data.specs.declared.packet.RedirPacket.TheVariants.{Plain}
 use Rattle.redir_data.specs.Spelling.{data_count}
 use Rattle.unlink_race.specs.Requests.{no_requests}
 use Rattle.unlink_race.specs.declared.live.Live.{Live}
@@ -21,14 +20,13 @@ use Rattle.gate_core.specs.declared.kept.Kept.{Kept}
 use Rattle.gate_core.specs.declared.item.Item.{Item as RawItem}
 use Rattle.gate_core.specs.declared.item.Item.TheVariants as raw
 use Rattle.gate_core.specs.Items.{Item, Asked, ClientWrong, ClientLeft, Told, HostWrong, HostLeft, capped}
-use Rattle.gate_core.specs.Marks.{Mark, Submission}
+use Rattle.gate_core.specs.Marks.{Mark}
 use Rattle.gate_core.specs.Facts.{no_facts}
 use Rattle.gate_core.specs.Verdict.{Verdict, goes_by_id as goes_by_id_of}
 use Rattle.gate_core.specs.Flight.{wide_ids}
 use Rattle.gate_core.specs.Responses.{Response, Data, Status, response_of}
 use Rattle.gate_core.specs.Packets.{packets_of}
 use Rattle.gate_core.specs.State.{State}
-use Rattle.gate_core.specs.Meaning.{mark_of}
 use Rattle.gate_core.specs.Output.{to_client}
 use Rattle.gate_core.specs.Notes.{notes_of, dropped}
 use Rattle.gate_core.specs.All.{is_ret_submit, is_won_unlink}

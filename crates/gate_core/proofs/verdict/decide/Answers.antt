@@ -1,4 +1,4 @@
-use Rattle.std.proofs.Common.{◌≡◌, Option, Some, sym, subst}
+use Rattle.std.proofs.Common.{Option, sym, subst}
 use Rattle.usb_base.specs.declared.setup.Setup.{Setup}
 use Rattle.gate_core.specs.Verdict.{Verdict}
 use Rattle.gate_core.specs.inner.Views.{request_view}

@@ -1,4 +1,4 @@
-use Rattle.std.proofs.Common.{◌≡◌, cond, Bool, List, None, OnOk, sym, ap, subst, ◌∙◌}
+use Rattle.std.proofs.Common.{cond, Bool, None, OnOk, sym, ap, subst, ◌∙◌}
 use Rattle.usb_base.specs.declared.reason.Reason.TheVariants.{AlreadyImported}
 use Rattle.usb_base.specs.declared.side.Side.TheVariants.{Client}
 use Rattle.gate_core.specs.Marks.{Effect, Replies}

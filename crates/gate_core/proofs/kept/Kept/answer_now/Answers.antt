@@ -1,11 +1,9 @@
-use Rattle.std.proofs.Common.{◌≡◌, ℕ, List, [], ◌∷◌, ◌++◌, refl, sym, ap, ◌∙◌}
+use Rattle.std.proofs.Common.{[], ◌++◌, refl, sym, ◌∙◌}
 use Rattle.std.proofs.Common.{w32}
 use Rattle.std.proofs.lemmas.Int.{to_z-of_z}
 use Rattle.std.proofs.lemmas.List.{append-nil}
-use Rattle.gate_core.specs.declared.kept.Kept.{Kept}
 use Rattle.usbip_urb.specs.Spelling.{spelling}
 use Rattle.usbip_urb.specs.declared.client.ClientPacket.TheVariants.{Urb}
-use Rattle.gate_core.specs.Requests.{Request}
 use Rattle.gate_core.specs.Answers.{without_packets}
 use Rattle.gate_core.specs.Verdict.{Now}
 use Rattle.gate_core.specs.Meaning.{submission}

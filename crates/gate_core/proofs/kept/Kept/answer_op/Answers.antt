@@ -1,4 +1,3 @@
-use Rattle.std.proofs.Common.{◌≡◌, cond, Bool, List, None, OnOk, sym, ap, subst, ◌∙◌}
 use Rattle.gate_core.proofs.Steady.{does-idle}
 use Rattle.gate_core.proofs.kept.Kept.answer_op.Goals as goal
 

@@ -1,9 +1,7 @@
-use Rattle.std.proofs.Common.{◌≡◌, List, [], ◌++◌, refl, sym, ap, subst, ◌∙◌, w32}
+use Rattle.std.proofs.Common.{refl, sym, subst, ◌∙◌}
 use Rattle.std.proofs.lemmas.List.{append-nil}
 use Rattle.std.proofs.lemmas.Result.{on_ok_weaker}
 use Rattle.gate_core.specs.declared.unlink.Asked.{Asked}
-use Rattle.gate_core.specs.declared.unlink.Asked.TheVariants.{Late, Cancel, Waits}
-use Rattle.gate_core.specs.declared.kept.Kept.{Kept}
 use Rattle.gate_core.proofs.Unlinked.{Told, rows-told}
 use Rattle.gate_core.proofs.Unlinking.{one-numbered, does-unlink}
 use Rattle.gate_core.proofs.kept.Kept.ask_back.Goals as goal

@@ -1,4 +1,4 @@
-use Rattle.std.proofs.Common.{◌≡◌, ◌∙◌, ◌+◌, ℕ, Bool, true, false, not, cond, refl, sym, ap, subst, arith, ◌≤◌, length}
+use Rattle.std.proofs.Common.{◌≡◌, ◌∙◌, ◌+◌, ℕ, Bool, true, false, not, cond, refl, sym, ap, subst, arith, length}
 use mir.Val.{bool_byte}
 use Rattle.std.specs.Option.{option_copied}
 use Rattle.unlink_race.specs.Searches.{has_id}

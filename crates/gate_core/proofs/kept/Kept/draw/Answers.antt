@@ -1,5 +1,4 @@
-use Rattle.std.proofs.Common.{◌≡◌, ℕ, Bool, List, length, sym, ap, ◌∙◌, arith}
-use Rattle.redir_wire.specs.declared.packet.Caps.{Caps}
+use Rattle.std.proofs.Common.{Bool, length, ap, ◌∙◌, arith}
 use Rattle.gate_core.specs.Ids.{draw, greatest}
 use Rattle.gate_core.specs.Flight.{wide_ids}
 use Rattle.gate_core.specs.inner.Flying.{ids_in}

@@ -1,15 +1,10 @@
-use Rattle.std.proofs.Common.{◌≡◌, ℕ, ◌+◌, ◌&&◌, not, cond, Bool, true, false, List, [], ◌∷◌, ◌++◌, length, Option, Some, None, OnOk, refl, sym, ap, subst, ◌∙◌, append_assoc, arith}
-use Rattle.std.proofs.lemmas.List.{append-nil}
-use Rattle.gate_core.specs.declared.kept.Kept.{Kept}
-use Rattle.gate_core.specs.declared.note.Note.{Note}
+use Rattle.std.proofs.Common.{◌++◌, refl, ap, ◌∙◌}
 use Rattle.usbip_op.specs.declared.packet.OpPacket.{OpPacket}
 use Rattle.usbip_urb.specs.declared.client.ClientPacket.TheVariants.{Op}
 use Rattle.usbip_urb.specs.ClientPackets.{client_spelling}
 use Rattle.gate_core.specs.declared.facts.Facts.{Facts}
 use Rattle.gate_core.specs.Replies.{import_reply}
-use Rattle.gate_core.specs.Marks.{Effect, Refuses, Replies, Imports}
-use Rattle.gate_core.specs.Meaning.{mark_as}
-use Rattle.gate_core.specs.inner.Holds.{Does}
+use Rattle.gate_core.specs.Marks.{Imports}
 use Rattle.gate_core.proofs.Steady.{imports-steady, does-steady, rows-same, host-same, one-reply, stays-uncancelled}
 use Rattle.gate_core.proofs.kept.Kept.import.Goals as goal
 

@@ -1,4 +1,4 @@
-use Rattle.std.proofs.Common.{◌≡◌, ℕ, ◌≤◌, List, length, sym, ap, subst, ◌∙◌, arith}
+use Rattle.std.proofs.Common.{List, sym, ap, subst, ◌∙◌, arith}
 use Rattle.unlink_race.specs.Searches.{has_number}
 use Rattle.unlink_race.specs.Unlinking.{unlinked_by}
 use Rattle.std.specs.List.{find}

@@ -1,10 +1,6 @@
-use Rattle.std.proofs.Common.{◌≡◌, ℕ, ◌+◌, ◌&&◌, not, cond, Bool, true, false, List, [], ◌∷◌, ◌++◌, length, Option, Some, None, OnOk, refl, sym, ap, subst, ◌∙◌, append_assoc, arith}
+use Rattle.std.proofs.Common.{refl, sym}
 use Rattle.std.proofs.lemmas.List.{append-nil}
-use Rattle.gate_core.specs.declared.kept.Kept.{Kept}
-use Rattle.gate_core.specs.declared.note.Note.{Note}
-use Rattle.gate_core.specs.Marks.{Effect, Refuses, Replies, Imports}
-use Rattle.gate_core.specs.Meaning.{mark_as}
-use Rattle.gate_core.specs.inner.Holds.{Does}
+use Rattle.gate_core.specs.Marks.{Replies}
 use Rattle.usbip_urb.specs.declared.client.ClientPacket.TheVariants.{Op}
 use Rattle.gate_core.proofs.Steady.{replies-steady, does-steady, rows-same, host-same, one-reply, stays-uncancelled}
 use Rattle.gate_core.proofs.kept.Kept.reply.Goals as goal

@@ -1,18 +1,14 @@
-use Rattle.std.proofs.Common.{◌≡◌, ℕ, ◌+◌, List, [], ◌∷◌, ◌++◌, length, None, refl, sym, ap, ◌∙◌, arith}
-use Rattle.std.specs.Prelude.{zip}
+use Rattle.std.proofs.Common.{◌≡◌, ℕ, [], ◌∷◌, ◌++◌, refl, sym, ap, ◌∙◌}
 use Rattle.std.proofs.lemmas.List.{append-nil}
-use Rattle.redir_wire.specs.declared.packet.Caps.{Caps}
-use Rattle.unlink_race.specs.declared.live.Live.{Live}
-use Rattle.gate_core.specs.declared.kept.Kept.{Kept}
 use Rattle.unlink_race.specs.declared.live.LiveKind.TheVariants as live_kind
 use Rattle.gate_core.specs.declared.note.Note.TheVariants as note
 use Rattle.gate_core.specs.inner.Holds.{row_for}
 use Rattle.gate_core.proofs.Lost.{capped-same}
-use Rattle.gate_core.specs.Verdict.{Wire, Routed}
+use Rattle.gate_core.specs.Verdict.{Wire}
 use Rattle.gate_core.specs.Ids.{draw, greatest}
 use Rattle.gate_core.specs.Flight.{wide_ids}
 use Rattle.gate_core.specs.State.{flying, next_ids}
-use Rattle.gate_core.specs.Packets.{wire_packet, route_packets}
+use Rattle.gate_core.specs.Packets.{wire_packet}
 use Rattle.gate_core.specs.Meaning.{submission}
 use Rattle.gate_core.specs.Output.{fresh}
 use Rattle.gate_core.specs.Bytes.{host_packet_bytes}

@@ -1,4 +1,4 @@
-use Rattle.std.proofs.Common.{◌≡◌, Option, Some, sym, ap, ◌∙◌}
+use Rattle.std.proofs.Common.{sym, ap, ◌∙◌}
 use Rattle.std.specs.Option.{option_copied}
 use Rattle.gate_core.specs.inner.Rows.{cancel_bytes}
 use Rattle.gate_core.proofs.Fronts.{sent-next}

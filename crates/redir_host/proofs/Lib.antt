@@ -1,0 +1,8 @@
+mod Rows
+pub mod Columns
+pub mod Telling
+pub mod Firsts
+pub mod Sounds
+pub mod Answering
+pub mod Flushes
+pub mod Makings

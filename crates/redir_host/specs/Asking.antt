@@ -1,0 +1,41 @@
+-- What a packet that moves data asks of the device.
+use Rattle.std.specs.Prelude.{ℕ, ◌%◌, ◌==◌, ◌&&◌, not, nat_lt, nat_le, Bool, false, if◌then◌else◌, [], Some, None}
+use Rattle.usb_base.specs.Endpoint.{is_in_endpoint}
+use Rattle.usb_base.specs.declared.setup.Setup.{Setup}
+use Rattle.usb_base.specs.declared.transfer.Transfer.{Transfer}
+use Rattle.redir_data.specs.declared.packet.RedirData.{RedirData}
+use Rattle.redir_data.specs.declared.packet.RedirData.TheVariants as moving
+use Rattle.control_route.specs.declared.route.Route.{Route}
+use Rattle.model_device.specs.Transfer.{is_control}
+use Rattle.model_device.specs.Submit.{normal}
+use Rattle.redir_host.specs.declared.request.Asking.{Asking}
+use Rattle.redir_host.specs.declared.request.Asking.TheVariants.{Nothing, Refuses, Asks}
+use Rattle.redir_host.specs.declared.request.Form.{Form}
+use Rattle.redir_host.specs.declared.request.Form.TheVariants as form
+
+-- the largest transfer, of 16 MiB
+abbrev pub greatest : ℕ
+greatest = 16777216
+
+-- an address of an endpoint other than 0
+abbrev pub is_other : ℕ → Bool
+is_other ep = nat_lt (ep % 128) 16 && not (is_control ep)
+
+abbrev pub asked_if : Bool → Form → Transfer → Asking
+asked_if can f t = if can then Asks f t else Refuses f t.ep
+
+-- endpoint 0 has the direction of bit 7 of bmRequestType; an interrupt endpoint gives what it has by its stream
+abbrev pub asking_of : RedirData → Asking
+asking_of (moving.Control ep request kind status value index told body) =
+    let setup : Setup = record { kind = kind; request = request; value = value; index = index; length = told } in
+    asked_if (ep == (if nat_lt kind 128 then 0 else 128)) (form.Control setup) (record { ep = ep; setup = Some setup; wanted = told; body = body })
+asking_of (moving.Bulk ep status told stream body) =
+    asked_if (is_other ep && nat_le told greatest) (form.Bulk stream) (record { ep = ep; setup = None; wanted = told; body = body })
+asking_of (moving.Iso ep status told body) = Nothing
+asking_of (moving.Interrupt ep status told body) =
+    if is_in_endpoint ep then Nothing
+    else asked_if (is_other ep) form.Interrupt (record { ep = ep; setup = None; wanted = told; body = body })
+
+-- the transfer of a request that has a packet of its own
+abbrev pub routed : Route → Transfer
+routed route = normal route (record { kind = 0; request = 0; value = 0; index = 0; length = 0 }) 0 false 0 []

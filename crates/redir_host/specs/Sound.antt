@@ -1,0 +1,65 @@
+-- What is known of a host whatever its guest sends: its requests are transfers, and their answers can be written.
+use Rattle.std.specs.Prelude.{◌≡◌, ℕ, ◌<◌, ◌≤◌, ◌^◌, true, false, List, [], ◌∷◌}
+use Rattle.usb_base.specs.Endpoint.{is_in_endpoint}
+use Rattle.redir_wire.specs.declared.packet.Caps.{Caps}
+use Rattle.redir_wire.specs.declared.packet.Way.TheVariants.{ToGuest}
+use Rattle.redir_wire.specs.Capability.{has}
+use Rattle.redir_wire.specs.Header.{is_wide, IdFits}
+use Rattle.redir_wire.specs.Written.{CanWrite}
+use Rattle.redir_data.specs.declared.packet.RedirPacket.{RedirPacket}
+use Rattle.redir_data.specs.declared.packet.RedirPacket.TheVariants.{Plain, Carrying}
+use Rattle.redir_data.specs.declared.state.RedirState.{RedirState}
+use Rattle.redir_data.specs.Ranges.{BulkLengthFits}
+use Rattle.redir_data.specs.Written as carrying
+use Rattle.model_device.specs.Transfer.{IsTransfer, is_control}
+use Rattle.redir_host.specs.declared.host.Host.{Host}
+use Rattle.redir_host.specs.declared.request.Form.{Form}
+use Rattle.redir_host.specs.declared.request.Form.TheVariants as form
+use Rattle.redir_host.specs.declared.request.Request.{Request}
+use Rattle.redir_host.specs.declared.running.Running.{Running}
+
+abbrev pub Each : {A : Type 0} → (A → Type 0) → List A → Type 0
+Each P [] = Unit {0}
+Each P (x ∷ xs) = P x × Each P xs
+
+-- the guest can be told this packet
+abbrev pub CanTell : Caps → ℕ → RedirPacket → Type 0
+CanTell caps id (Plain p) = CanWrite id caps p
+CanTell caps id (Carrying d) = carrying.CanWrite id ToGuest caps d
+
+-- the length field of an answer has room for it
+abbrev pub DoneFits : Form → ℕ → Type 0
+DoneFits (form.Control setup) done = done < 2 ^ 16
+DoneFits (form.Bulk stream) done = Unit {0}
+DoneFits form.Interrupt done = done < 2 ^ 16
+DoneFits (form.SetConfiguration configuration) done = Unit {0}
+DoneFits form.GetConfiguration done = Unit {0}
+DoneFits (form.SetAlt interface alt) done = Unit {0}
+DoneFits (form.GetAlt interface) done = Unit {0}
+
+-- and so has that of its packet
+abbrev pub WantedFits : Caps → Form → ℕ → Type 0
+WantedFits caps (form.Control setup) wanted = wanted < 2 ^ 16
+WantedFits caps (form.Bulk stream) wanted = (wanted ≤ 16777216) × BulkLengthFits (has caps 6) wanted
+WantedFits caps form.Interrupt wanted = wanted < 2 ^ 16
+WantedFits caps (form.SetConfiguration configuration) wanted = wanted < 2 ^ 16
+WantedFits caps form.GetConfiguration wanted = wanted < 2 ^ 16
+WantedFits caps (form.SetAlt interface alt) wanted = wanted < 2 ^ 16
+WantedFits caps (form.GetAlt interface) wanted = wanted < 2 ^ 16
+
+pub record IsRequest (guest : RedirState) (q : Request) : Type 0 where
+  -- a request comes behind the hello
+  pub greeted : guest.first ≡ false
+  pub id_fits : IdFits (is_wide false guest.caps) q.id
+  pub transfer : IsTransfer q.transfer
+  pub wanted_fits : WantedFits guest.caps q.form q.transfer.wanted
+  -- only requests of endpoint 0 are marked
+  pub marked : q.reset ≡ true → is_control q.transfer.ep ≡ true
+
+pub record IsRunning (guest : RedirState) (s : Running) : Type 0 where
+  pub greeted : guest.first ≡ false
+  pub in_endpoint : is_in_endpoint s.ep ≡ true
+
+pub record IsSound {S : Type 0} (h : Host S) : Type 0 where
+  pub requests : Each (IsRequest h.guest) h.queue
+  pub streams : Each (IsRunning h.guest) h.running

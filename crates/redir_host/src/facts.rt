@@ -1,0 +1,107 @@
+//! What is told of the device.
+
+ghost use Rattle.std.specs.Prelude.{◌≡◌, ◌++◌, ◌≤◌, ◌<◌, get_or, if◌then◌else◌, OnOk, OnErr};
+ghost use Rattle.usb_base.specs.Endpoint.{no_endpoint};
+ghost use Rattle.redir_wire.specs.Begins.{Begins};
+ghost use Rattle.redir_wire.specs.Capability.{has};
+ghost use Rattle.redir_host.specs.Facts.{connect_of, ep_info_of, kind_byte};
+ghost use Rattle.redir_host.specs.Told.{facts_bytes, connect_bytes};
+
+use crate::write::write;
+use redir_data::RedirPacket;
+use redir_wire::{
+    CONNECT_VERSION, Caps, Connect, EpInfo, InterfaceInfo, MAX_PACKET_SIZE, RedirControl,
+};
+use usb_base::{Bytes, EpKind, EpRow, EpTable, Memory};
+
+/// Appends the endpoints and the interfaces. For want of memory what was there still stands at the front.
+pub fn write_facts(
+    table: &EpTable,
+    interfaces: InterfaceInfo,
+    caps: Caps,
+    out: &mut Bytes,
+) -> Result<(), Memory>
+    requires { interfaces.count ≤ 32 }
+    ensures ok { OnOk result (out.new ≡ out.old ++ facts_bytes caps table.now interfaces) }
+    ensures err { OnErr result (Begins out.old out.new) }
+{
+    let endpoints = RedirPacket::Plain(RedirControl::EpInfo(ep_info(table, caps)));
+    write(&endpoints, 0, caps, out)?;
+    let interfaces = RedirPacket::Plain(RedirControl::InterfaceInfo(interfaces));
+    write(&interfaces, 0, caps, out)?;
+    Ok(())
+}
+
+/// Appends what the device tells as it is plugged in. For want of memory `out` stands.
+pub fn write_connect(identity: Connect, caps: Caps, out: &mut Bytes) -> Result<(), Memory>
+    ensures ok { OnOk result (out.new ≡ out.old ++ connect_bytes caps identity) }
+    ensures err { OnErr result (out.new ≡ out.old) }
+{
+    let connect = RedirPacket::Plain(RedirControl::Connect(connect_of(identity, caps)));
+    write(&connect, 0, caps, out)
+}
+
+/// What the guest is told of the endpoints.
+fn ep_info(table: &EpTable, caps: Caps) -> EpInfo
+    ensures { result ≡ ep_info_of caps table.now }
+{
+    let mut info = EpInfo {
+        kinds: [0; 32],
+        interval: [0; 32],
+        interface: [0; 32],
+        max_packet: [0; 32],
+    };
+    for index in 0..32 {
+        let row = row_at(table, index);
+        info.kinds[index] = kind_byte(row.kind);
+        info.interval[index] = row.interval;
+        info.interface[index] = row.interface;
+        info.max_packet[index] = max_packet(row, caps);
+    }
+    info
+}
+
+/// The largest packet, 0 where it isn't sent.
+fn max_packet(row: EpRow, caps: Caps) -> u16
+    ensures { result ≡ (if has caps 4 then row.max_packet else 0) }
+{
+    if caps.has(MAX_PACKET_SIZE) {
+        row.max_packet
+    } else {
+        0
+    }
+}
+
+fn row_at(table: &EpTable, index: usize) -> EpRow
+    requires { index < 32 }
+    ensures { result ≡ get_or table.now.rows index no_endpoint }
+{
+    table.rows[index]
+}
+
+fn kind_byte(kind: EpKind) -> u8
+    ensures { result ≡ kind_byte kind }
+{
+    match kind {
+        EpKind::Control => 0,
+        EpKind::Iso => 1,
+        EpKind::Bulk => 2,
+        EpKind::Interrupt => 3,
+        EpKind::Invalid => 255,
+    }
+}
+
+/// What is told as the device is plugged in.
+fn connect_of(identity: Connect, caps: Caps) -> Connect
+    ensures { result ≡ connect_of caps identity }
+{
+    let version = if caps.has(CONNECT_VERSION) {
+        identity.version
+    } else {
+        0
+    };
+    Connect {
+        version,
+        ..identity
+    }
+}

@@ -1,0 +1,21 @@
+//! The host's hello.
+
+ghost use Rattle.std.specs.Prelude.{◌≡◌, ◌++◌, OnOk, OnErr};
+ghost use Rattle.redir_host.specs.Output.{hello_bytes};
+
+use redir_wire::{ANNOUNCED, Caps, Hello, RedirControl, Words, write_control};
+use std::alloc::Global;
+use usb_base::{Bytes, Memory};
+
+/// Appends the host's hello.
+pub fn write_hello(alloc: Global, out: &mut Bytes) -> Result<(), Memory>
+    ensures ok { OnOk result (out.new ≡ out.old ++ hello_bytes) }
+    ensures err { OnErr result (out.new ≡ out.old) }
+{
+    let mut version = [0; 64];
+    version[..14].copy_from_slice(b"usbgate host 1");
+    let mut words = Words::new(alloc);
+    words.push(ANNOUNCED)?;
+    let hello = RedirControl::Hello(Hello { version, words });
+    write_control(&hello, 0, Caps { bits: 0 }, out)
+}

@@ -1,0 +1,26 @@
+//! A usbredir host in memory: it has a modelled device, and lends it to a guest over one stream of bytes each way.
+#![tactic(auto)]
+
+mod answer;
+mod asking;
+mod change;
+mod facts;
+mod hello;
+mod host;
+mod note;
+mod perform;
+mod queue;
+mod request;
+mod routed;
+mod running;
+mod take;
+#[cfg(test)]
+mod tests;
+mod write;
+
+pub use hello::write_hello;
+pub use host::Host;
+pub use note::{HostNote, HostNotes, Offered, Performed};
+pub use queue::Queue;
+pub use request::{Form, Request};
+pub use running::{Running, StreamKind, Streams};

@@ -1,0 +1,311 @@
+//! Performs requests: changes with what they flush, resets, and answers.
+
+ghost use Rattle.std.specs.Prelude.{◌≡◌, ◌++◌, ◌<◌, length, remove, slice_get, true, Some, IfOk, IfSome, OnOk, OnErr};
+ghost use Rattle.std.specs.List.{flat_map};
+ghost use Rattle.control_route.specs.declared.route.Route.TheVariants as route;
+ghost use Rattle.model_device.specs.Device.{is_success as is_success_status};
+ghost use Rattle.model_device.specs.Transfer.{IsOutcome};
+ghost use Rattle.redir_wire.specs.Begins.{Begins};
+ghost use Rattle.redir_host.specs.declared.request.Request.{Request as Asked};
+ghost use Rattle.redir_host.specs.Answers.{answer};
+ghost use Rattle.redir_host.specs.Changes.{changed, cleared};
+ghost use Rattle.redir_host.specs.Facts.{facts_of};
+ghost use Rattle.redir_host.specs.Machine.{told_bytes};
+ghost use Rattle.redir_host.specs.Makes.{Makes, Performs};
+ghost use Rattle.redir_host.specs.Asking.{routed};
+ghost use Rattle.redir_host.specs.Performing.{does, done_by, performs, performs_marked, perform_move, resets, told_performed, with_id};
+ghost use Rattle.redir_host.specs.Resets.{PerformsNow, ResetsTo};
+ghost use Rattle.redir_host.specs.Sound.{IsRequest, IsSound};
+
+use crate::answer::{write_answer, write_flushed};
+use crate::change::change_of;
+use crate::facts::write_facts;
+use crate::host::Host;
+use crate::note::Performed;
+use crate::request::{Form, Request};
+use crate::routed::reset;
+use control_route::Route;
+use model_device::Gadget;
+use std::alloc::Global;
+use usb_base::{Bytes, EpAddr, EpTable, Memory, Outcome, UsbStatus};
+
+impl<G: Gadget> Host<G> {
+    /// Performs the first request of an endpoint, where the device is ready for it, and answers it. For want of
+    /// memory what was there of `out` still stands at its front.
+    pub fn perform(
+        &mut self,
+        alloc: Global,
+        ep: EpAddr,
+        out: &mut Bytes,
+    ) -> Result<Performed, Memory>
+        requires { IsSound self.old }
+        ensures told { IfOk result (λ told. told ≡ told_performed G.meaning self.old ep) }
+        ensures makes { OnOk result (Makes (perform_move G.meaning self.old ep) self.new out.old out.new) }
+        ensures err { OnErr result (Begins out.old out.new) }
+    {
+        if self.unplugged {
+            return Ok(Performed::Unplugged);
+        }
+        let Some(place) = self.queue.first_at(ep) else {
+            return Ok(Performed::NotReady);
+        };
+        if self.queue.as_slice()[place].reset {
+            self.perform_marked(alloc, place, out)
+        } else {
+            self.perform_unmarked(alloc, place, out)
+        }
+    }
+
+    /// Performs the request at a place.
+    fn perform_unmarked(
+        &mut self,
+        alloc: Global,
+        place: usize,
+        out: &mut Bytes,
+    ) -> Result<Performed, Memory>
+        requires sound { IsSound self.old }
+        requires there { place < length self.old.queue }
+        ensures ok { IfOk result (λ told. (q : Asked) → slice_get self.old.queue place ≡ Some q
+            → Performs (with_id q (performs G.meaning (record self.old { queue = remove self.old.queue place }) q)) self.old self.new told out.old out.new) }
+        ensures err { OnErr result (Begins out.old out.new) }
+    {
+        let table = self.gadget.table();
+        let transfer = &self.queue.as_slice()[place].transfer;
+        match self.gadget.perform(alloc, transfer)? {
+            Some(outcome) => {
+                let request = self.queue.remove(place);
+                let id = request.id;
+                let change = change_of(request.form);
+                self.finish(alloc, &request, change, &table, outcome, out)?;
+                Ok(Performed::Done { id })
+            }
+            None => Ok(Performed::NotReady),
+        }
+    }
+
+    /// Resets the device, and performs the request at a place.
+    fn perform_marked(
+        &mut self,
+        alloc: Global,
+        place: usize,
+        out: &mut Bytes,
+    ) -> Result<Performed, Memory>
+        requires sound { IsSound self.old }
+        requires there { place < length self.old.queue }
+        requires marked { IfSome (slice_get self.old.queue place) (λ q. q.reset ≡ true) }
+        ensures ok { IfOk result (λ told. (q : Asked) → slice_get self.old.queue place ≡ Some q
+            → Performs (with_id q (performs_marked G.meaning (record self.old { queue = remove self.old.queue place }) q q.form)) self.old self.new told out.old out.new) }
+        ensures err { OnErr result (Begins out.old out.new) }
+    {
+        let request = self.queue.remove(place);
+        let id = request.id;
+        self.perform_reset(alloc, &request, out)?;
+        Ok(Performed::Done { id })
+    }
+
+    /// Resets the device, and performs a request of endpoint 0. A get_configuration asks no more than the reset.
+    fn perform_reset(
+        &mut self,
+        alloc: Global,
+        request: &Request,
+        out: &mut Bytes,
+    ) -> Result<(), Memory>
+        requires sound { IsSound self.old }
+        requires request { IsRequest self.old.guest request.now }
+        requires marked { request.now.reset ≡ true }
+        ensures ok { OnOk result (PerformsNow (performs_marked G.meaning self.old request.now request.now.form) self.new out.old out.new) }
+        ensures err { OnErr result (Begins out.old out.new) }
+    {
+        match request.form {
+            Form::GetConfiguration => self.perform_by_reset(alloc, request, out),
+            Form::Control(_)
+            | Form::Bulk { .. }
+            | Form::Interrupt
+            | Form::SetConfiguration { .. }
+            | Form::SetAlt { .. }
+            | Form::GetAlt { .. } => self.perform_behind_reset(alloc, request, out),
+        }
+    }
+
+    /// Answers a request by the reset of the device alone.
+    fn perform_by_reset(
+        &mut self,
+        alloc: Global,
+        request: &Request,
+        out: &mut Bytes,
+    ) -> Result<(), Memory>
+        requires sound { IsSound self.old }
+        requires request { IsRequest self.old.guest request.now }
+        ensures ok { OnOk result (PerformsNow (does G.meaning self.old request.now (Some route.Reset) (G.meaning.perform self.old.gadget (routed route.Reset))) self.new out.old out.new) }
+        ensures err { OnErr result (Begins out.old out.new) }
+    {
+        let table = self.gadget.table();
+        let outcome = self.reset(alloc)?;
+        self.finish(alloc, request, Some(Route::Reset), &table, outcome, out)
+    }
+
+    /// Resets the device, and then performs a request.
+    fn perform_behind_reset(
+        &mut self,
+        alloc: Global,
+        request: &Request,
+        out: &mut Bytes,
+    ) -> Result<(), Memory>
+        requires sound { IsSound self.old }
+        requires request { IsRequest self.old.guest request.now }
+        requires marked { request.now.reset ≡ true }
+        ensures ok { OnOk result (PerformsNow (resets G.meaning self.old request.now (G.meaning.perform self.old.gadget (routed route.Reset))) self.new out.old out.new) }
+        ensures err { OnErr result (Begins out.old out.new) }
+    {
+        let table = self.gadget.table();
+        let outcome = self.reset(alloc)?;
+        let success = is_success(outcome.status);
+        self.change(alloc, &Route::Reset, &table, success, out)?;
+        self.perform_now(alloc, request, out)
+    }
+
+    /// Resets the device.
+    fn reset(&mut self, alloc: Global) -> Result<Outcome, Memory>
+        ensures { IfOk result (λ outcome. ResetsTo G.meaning self.old self.new outcome) }
+    {
+        match self.gadget.perform(alloc, &reset(alloc))? {
+            Some(outcome) => Ok(outcome),
+            None => unreachable!(),
+        }
+    }
+
+    /// Performs a request of endpoint 0, for which the device is always ready.
+    fn perform_now(
+        &mut self,
+        alloc: Global,
+        request: &Request,
+        out: &mut Bytes,
+    ) -> Result<(), Memory>
+        requires sound { IsSound self.old }
+        requires request { IsRequest self.old.guest request.now }
+        requires marked { request.now.reset ≡ true }
+        ensures ok { OnOk result (PerformsNow (performs G.meaning self.old request.now) self.new out.old out.new) }
+        ensures err { OnErr result (Begins out.old out.new) }
+    {
+        let table = self.gadget.table();
+        let change = change_of(request.form);
+        match self.gadget.perform(alloc, &request.transfer)? {
+            Some(outcome) => self.finish(alloc, request, change, &table, outcome, out),
+            None => unreachable!(),
+        }
+    }
+
+    /// Does what a change does, and answers a request. The table is that of before.
+    fn finish(
+        &mut self,
+        alloc: Global,
+        request: &Request,
+        change: Option<Route>,
+        table: &EpTable,
+        outcome: Outcome,
+        out: &mut Bytes,
+    ) -> Result<(), Memory>
+        requires sound { IsSound self.old }
+        requires request { IsRequest self.old.guest request.now }
+        requires outcome { IsOutcome request.now.transfer outcome }
+        ensures ok { OnOk result (Makes (done_by G.meaning table.now self.old request.now change outcome) self.new out.old out.new) }
+        ensures err { OnErr result (Begins out.old out.new) }
+    {
+        match change {
+            Some(route) => {
+                let success = is_success(outcome.status);
+                self.change(alloc, &route, table, success, out)?;
+                self.answer(request, outcome, out)
+            }
+            None => self.answer(request, outcome, out),
+        }
+    }
+
+    /// Answers a request.
+    fn answer(&self, request: &Request, outcome: Outcome, out: &mut Bytes) -> Result<(), Memory>
+        requires request { IsRequest self.now.guest request.now }
+        requires outcome { IsOutcome request.now.transfer outcome }
+        ensures ok { OnOk result (out.new ≡ out.old ++ told_bytes self.now.guest.caps (answer (G.meaning.configuration self.now.gadget) request.now outcome)) }
+        ensures err { OnErr result (out.new ≡ out.old) }
+    {
+        let configuration = self.gadget.configuration();
+        let endpoint = request.transfer.ep.byte();
+        let caps = self.guest.caps;
+        write_answer(
+            configuration,
+            request.id,
+            request.form,
+            endpoint,
+            outcome,
+            caps,
+            out,
+        )
+    }
+
+    /// Does what a change does that the device has carried out or refused. The table is that of before.
+    fn change(
+        &mut self,
+        alloc: Global,
+        route: &Route,
+        table: &EpTable,
+        success: bool,
+        out: &mut Bytes,
+    ) -> Result<(), Memory>
+        requires { IsSound self.old }
+        ensures ok { OnOk result (Makes (changed G.meaning route.now table.now success self.old) self.new out.old out.new) }
+        ensures err { OnErr result (Begins out.old out.new) }
+    {
+        self.clear(alloc, route, table, success, out)?;
+        self.tell_facts(out)
+    }
+
+    /// Tells the endpoints and the interfaces as they are now.
+    pub fn tell_facts(&self, out: &mut Bytes) -> Result<(), Memory>
+        ensures ok { OnOk result (out.new ≡ out.old ++ flat_map (told_bytes self.now.guest.caps) (facts_of self.now.guest.caps G.meaning self.now.gadget)) }
+        ensures err { OnErr result (Begins out.old out.new) }
+    {
+        write_facts(
+            &self.gadget.table(),
+            self.gadget.interfaces(),
+            self.guest.caps,
+            out,
+        )
+    }
+}
+
+impl<G> Host<G> {
+    /// With success, answers the requests that a change touches, and ends the streams that it touches.
+    fn clear(
+        &mut self,
+        alloc: Global,
+        route: &Route,
+        table: &EpTable,
+        success: bool,
+        out: &mut Bytes,
+    ) -> Result<(), Memory>
+        requires { IsSound self.old }
+        ensures ok { OnOk result (Makes (cleared success route.now table.now self.old) self.new out.old out.new) }
+        ensures err { OnErr result (Begins out.old out.new) }
+    {
+        if !success {
+            return Ok(());
+        }
+        write_flushed(
+            alloc,
+            self.queue.as_slice(),
+            route,
+            table,
+            self.guest.caps,
+            out,
+        )?;
+        self.queue.flush(route, table);
+        self.running.flush(route, table);
+        Ok(())
+    }
+}
+
+fn is_success(status: UsbStatus) -> bool
+    ensures { result ≡ is_success_status status }
+{
+    matches!(status, UsbStatus::Success)
+}
