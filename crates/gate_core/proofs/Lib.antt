@@ -38,5 +38,6 @@ pub mod Coming
 pub mod Standing
 pub mod Ends
 pub mod Held
+pub mod Bounds
 pub mod Responding
 pub mod Answering

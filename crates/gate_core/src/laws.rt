@@ -1,7 +1,8 @@
 //! Laws of the core's definitions, as contracts of functions that do nothing.
 
-ghost use Rattle.std.specs.Prelude.{◌≡◌, ◌<◌, ◌↔◌, ℕ, List, ◌∷◌, length, filter};
+ghost use Rattle.std.specs.Prelude.{◌≡◌, ◌<◌, ◌≤◌, ◌↔◌, ℕ, List, ◌∷◌, length, filter};
 ghost use Rattle.std.specs.List.{list_any};
+ghost use Rattle.usb_base.specs.Number.{AreBytes};
 ghost use Rattle.gate_core.specs.Events.{Event as PastEvent};
 ghost use Rattle.gate_core.specs.Items.{Item};
 ghost use Rattle.gate_core.specs.Ids.{draw, greatest, IsNext, AreFresh, Once};
@@ -10,7 +11,7 @@ ghost use Rattle.gate_core.specs.Flight.{wide_ids, in_flight};
 ghost use Rattle.gate_core.specs.State.{state_of, is_number};
 ghost use Rattle.gate_core.specs.Meaning.{mark_of};
 ghost use Rattle.gate_core.specs.Past.{past};
-ghost use Rattle.gate_core.specs.History.{brought, history};
+ghost use Rattle.gate_core.specs.History.{client_split, host_split, brought, history};
 ghost use Rattle.gate_core.specs.Output.{to_client, to_host};
 ghost use Rattle.gate_core.specs.Notes.{notes_of, dropped};
 ghost use Rattle.gate_core.specs.All.{all_of, counts_of};
@@ -73,4 +74,10 @@ pub fn ids_fly_once()
         (mark_of (state_of first (past first items)) item).drawn }
     ensures next { (m : ℕ) (flying : List ℕ) (last id : ℕ)
         → length flying < m → (id ≡ draw m flying last ↔ IsNext m flying last id) }
+{}
+
+/// A law: what is left of a side's stream of packets that aren't whole is shorter than its longest packet.
+pub fn rests_are_short()
+    ensures client { (bytes : List ℕ) → AreBytes bytes → length (client_split bytes).rest ≤ 16793647 }
+    ensures host { (bytes : List ℕ) → AreBytes bytes → length (host_split bytes).rest ≤ 16777295 }
 {}

@@ -33,8 +33,8 @@ pub use facts::Facts;
 pub use gate::Gate;
 pub use item::Item;
 pub use laws::{
-    events_add_items, ids_fly_once, losses_end_all, machine_is_past, states_are_sound,
-    submits_end_once,
+    events_add_items, ids_fly_once, losses_end_all, machine_is_past, rests_are_short,
+    states_are_sound, submits_end_once,
 };
 pub use note::{Counts, Note, Notes};
 pub use request::Request;

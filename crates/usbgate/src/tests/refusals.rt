@@ -107,10 +107,21 @@ fn of_a_host_in_a_session(rt: HostRuntime) -> Result<(), Fail> {
     expect_refusals(
         &rt,
         &IMPORTED,
-        &[(
-            "c SUB:1:1:1:0:13:0 00*8;h 63000000",
-            "H ASK:1;C RET:1:-108:0:0:0;! host 430 21 UnknownType",
-        )],
+        &[
+            (
+                "c SUB:1:1:1:0:13:0 00*8;h 63000000",
+                "H ASK:1;C RET:1:-108:0:0:0;! host 430 21 UnknownType",
+            ),
+            // An answer of another endpoint, and one that is a byte too long.
+            (
+                "c SUB:1:1:1:0:13:0 00*8;h 65000000 17000000 0100000000000000 82000d00000000000000 a5*13",
+                "H ASK:1;C RET:1:-108:0:0:0;! host 446 28 Mismatch 129 130",
+            ),
+            (
+                "c SUB:1:1:1:0:13:0 00*8;h 65000000 18000000 0100000000000000 81000e00000000000000 a5*14",
+                "H ASK:1;C RET:1:-108:0:0:0;! host 448 28 Mismatch 13 14",
+            ),
+        ],
         [1, 0, 0, 0],
     )?;
     expect_refusals(
