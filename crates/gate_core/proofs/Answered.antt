@@ -15,21 +15,10 @@ use Rattle.unlink_race.specs.declared.ending.Ending.{Ending}
 use Rattle.unlink_race.specs.declared.ending.Ending.TheVariants.{Completed, Unlinked, CompletedThenLate}
 use Rattle.unlink_race.specs.Endings.{ending_of}
 use Rattle.gate_core.specs.Errno.{econnreset, eshutdown}
-use Rattle.gate_core.specs.Requests.{Request}
 use Rattle.gate_core.specs.Verdict.{is_wire}
 use Rattle.gate_core.specs.Marks.{Submission}
 use Rattle.gate_core.specs.Answers.{is_cancelled, ret_unlink, without_packets, with_outcome, answers_by, lost_answer}
-use Rattle.gate_core.specs.inner.Rows.{is_wire_row, IsRowOf}
-
-abbrev pub row_request : Live → Request
-row_request l = record {
-  number = l.seqnum;
-  is_in = l.is_in;
-  flags = l.flags;
-  packets = l.packets;
-  descs = l.descs;
-  transfer = record { ep = 0; setup = None; wanted = l.wanted; body = [] };
-}
+use Rattle.gate_core.specs.inner.Rows.{is_wire_row, IsRowOf, row_request}
 
 pub row-without : (s : Submission) (l : Live) (st : ℤ) → IsRowOf s l → without_packets (row_request l) st ≡ without_packets s.request st
 row-without s l st row = λ i. without_packets (record {

@@ -1,13 +1,12 @@
 -- What is kept of a side's stream is shorter than its longest packet.
-use Rattle.std.proofs.Common.{◌≡◌, ◌⊎◌, ◌==◌, ◌||◌, ◌*◌, ℕ, suc, ◌+◌, ◌<◌, ◌≤◌, Bool, true, false, cond, not, List, [], ◌∷◌, length, IsTrue, Option, Some, None, refl, sym, ap, subst, ◌∙◌, inl, inr, arith}
+use Rattle.std.proofs.Common.{◌≡◌, ◌==◌, ◌||◌, ℕ, ◌+◌, ◌<◌, ◌≤◌, Bool, true, false, cond, List, ◌∷◌, length, IsTrue, Option, Some, None, refl, sym, ap, subst, ◌∙◌, inl, inr, arith}
 use Rattle.std.specs.Prelude.{nat_lt, nat_le}
 use Rattle.std.specs.Int.{w16, w32}
 use Rattle.std.proofs.lemmas.Bool.{cases_Bool, ltb-true, ltb-false, leb-true, eqb-true, false≢true}
 use Rattle.usb_base.specs.Number.{AreBytes, be_at, le_at}
-use Rattle.usb_base.specs.declared.reason.Reason.{Reason}
 use Rattle.usb_base.specs.declared.reason.Reason.TheVariants.{TooLong26, BadLength, WrongWay, NotAgreed, UnknownType, HelloFirst}
-use Rattle.packet_stream.specs.Format.{Format, IsSound, IsShort, Found, Whole, Short, Wrong, wrong_at, reading, reading_by}
-use Rattle.packet_stream.specs.Split.{Position, Ends, Splitting, IsSplitting, reads, split}
+use Rattle.packet_stream.specs.Format.{Format, IsSound, IsShort, Found, Whole, Short, Wrong, wrong_at, reading_by}
+use Rattle.packet_stream.specs.Split.{Position, Ends, reads, split}
 use Rattle.packet_stream.proofs.Formats.{none_first, none_later, short_reading}
 use Rattle.packet_stream.proofs.Following.{rest_bytes}
 use Rattle.packet_stream.proofs.Laws.{reads_steady}

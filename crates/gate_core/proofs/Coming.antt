@@ -26,7 +26,7 @@ use Rattle.gate_core.specs.Past.{past}
 use Rattle.gate_core.specs.History.{onto, arrivals}
 use Rattle.gate_core.specs.Stands.{told, Stands, HasPast}
 use Rattle.gate_core.specs.inner.Holds.{ToldFits, ItemFits}
-use Rattle.gate_core.specs.inner.Steps.{IsReadable, IfNext, item_next, raw_told}
+use Rattle.gate_core.specs.inner.Steps.{kept_of, IsReadable, IfNext, item_next, raw_told}
 use Rattle.gate_core.proofs.InStep.{told-fits, told_fits-prop}
 use Rattle.gate_core.proofs.Sides.{Side, client_side, host_side}
 use Rattle.gate_core.proofs.Pieces.{Taking, same-item, came-onto}
@@ -56,8 +56,8 @@ next-holds P result item h is = let Q : Result (Option RawItem) Memory → Type 
 
 -- ---- the client
 
-pub asked-readable : (old : Inner) (kept : Kept (Unit {0})) (t : Translator) (piece client_old client_new host_old host_new : List ℕ) (notes_old notes_new : List Note) → HasPast old →
-    ((first : ℕ) (events : List Event) → Stands first old events → Taking first (client_side first) kept t (client_bytes events) piece (arrivals events) client_old client_new host_old host_new notes_old notes_new) → IsReadable kept
+pub asked-readable : (old : Inner) (kept : Kept (Unit {0})) (t : Translator) (piece client_old client_new host_old host_new : List ℕ) (notes_old notes_new : List Note) → HasPast (kept_of old) →
+    ((first : ℕ) (events : List Event) → Stands first (kept_of old) events → Taking first (client_side first) kept t (client_bytes events) piece (arrivals events) client_old client_new host_old host_new notes_old notes_new) → IsReadable kept
 asked-readable old kept t piece client_old client_new host_old host_new notes_old notes_new has took =
     ∥∥₁_elim has (readable-prop kept)
     (λ w. readable w.0 (client_side w.0) kept t (client_bytes w.1.0) piece (arrivals w.1.0) client_old client_new host_old host_new notes_old notes_new (took w.0 w.1.0 w.1.1))
@@ -81,8 +81,8 @@ told-next first old new t bytes piece before client_old client_new host_old host
     let caps : t.caps ≡ agreed (past first xs) = k.translates.state.caps in
     subst (λ (c : Caps). ToldFits c i.1.0 i.1.1) (sym caps) (told-fits first xs (bytes ++ piece) front.0 (n.at, i.1) over g.follows.fits parts)
 
-pub told-item : (old : Inner) (kept new : Kept RedirState) (t : Translator) (piece client_old client_new host_old host_new : List ℕ) (notes_old notes_new : List Note) (takes : Header × RedirPacket → Bool) (item : RawItem) (answer : Result (Option (ℕ × (Header × RedirPacket))) ReadError) → HasPast old →
-    ((first : ℕ) (events : List Event) → Stands first old events → Taking first (host_side first) kept t (host_bytes events) piece (arrivals events) client_old client_new host_old host_new notes_old notes_new) →
+pub told-item : (old : Inner) (kept new : Kept RedirState) (t : Translator) (piece client_old client_new host_old host_new : List ℕ) (notes_old notes_new : List Note) (takes : Header × RedirPacket → Bool) (item : RawItem) (answer : Result (Option (ℕ × (Header × RedirPacket))) ReadError) → HasPast (kept_of old) →
+    ((first : ℕ) (events : List Event) → Stands first (kept_of old) events → Taking first (host_side first) kept t (host_bytes events) piece (arrivals events) client_old client_new host_old host_new notes_old notes_new) →
     item_next raw_told raw.HostWrong answer ≡ Ok (Some item) → Changes answer kept new → Nexts host_reader takes answer kept new → ItemFits t.caps item
 told-item old kept new t piece client_old client_new host_old host_new notes_old notes_new takes item (Ok None) has took is changes nexts = absurd cc
 told-item old kept new t piece client_old client_new host_old host_new notes_old notes_new takes item (Ok (Some i)) has took is changes nexts =

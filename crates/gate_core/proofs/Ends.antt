@@ -25,7 +25,7 @@ use Rattle.gate_core.specs.Past.{is_left_out, past}
 use Rattle.gate_core.specs.History.{arrivals}
 use Rattle.gate_core.specs.Stands.{asked, told, HasAll, Stands, Stops}
 use Rattle.gate_core.specs.inner.Holds.{IsFirst, DoesNothing}
-use Rattle.gate_core.specs.inner.Steps.{TakesOn}
+use Rattle.gate_core.specs.inner.Steps.{kept_of, TakesOn}
 use Rattle.gate_core.proofs.States.{state-sound}
 use Rattle.gate_core.proofs.Apart.{left-host, left-client}
 use Rattle.gate_core.proofs.InStep.{left-over}
@@ -78,7 +78,7 @@ host-first : (kept : Kept RedirState) → kept ≡ record { state = start; rest 
 host-first kept is = all-first host_format after (stream_sound ToGuest) start kept refl is
 
 pub stands-first : (first : ℕ) (g : Inner) → g.failed ≡ false → IsFirst g.translator first → g.client ≡ record { state = tt; rest = []; place = 0; held = []; at = 0; over = false } →
-    g.host ≡ record { state = start; rest = []; place = 0; held = []; at = 0; over = false } → Stands first g []
+    g.host ≡ record { state = start; rest = []; place = 0; held = []; at = 0; over = false } → Stands first (kept_of g) []
 stands-first first g works translator client host = record {
   works = works;
   translates = record { state = translator.holds; answered = translator.answered; unlinked = translator.unlinked; dropped = translator.dropped };
@@ -88,7 +88,7 @@ stands-first first g works translator client host = record {
 
 -- ---- a client's end
 
-pub ends-client : (first : ℕ) (old : Inner) (t : Translator) (kept : Kept (Unit {0})) (events : List Event) (client_old client_new host_old host_new : List ℕ) (notes_old notes_new : List Note) → Stands first old events →
+pub ends-client : (first : ℕ) (old : Inner) (t : Translator) (kept : Kept (Unit {0})) (events : List Event) (client_old client_new host_old host_new : List ℕ) (notes_old notes_new : List Note) → Stands first (kept_of old) events →
     TakesItem old.translator t raw.ClientLeft client_old client_new host_old host_new notes_old notes_new → kept ≡ record { state = tt; rest = []; place = 0; held = []; at = 0; over = false } →
     TakesOn first (record old { client = kept; translator = t }) events ClientEnd client_old client_new host_old host_new notes_old notes_new
 ends-client first old t kept events client_old client_new host_old host_new notes_old notes_new stands takes is =
@@ -108,7 +108,7 @@ ends-client first old t kept events client_old client_new host_old host_new note
 -- ---- the host's end
 
 -- it was over before
-pub ends-again : (first : ℕ) (g : Inner) (events : List Event) (client host : List ℕ) (notes : List Note) → Stands first g events → g.host.over ≡ true → TakesOn first g events HostEnd client client host host notes notes
+pub ends-again : (first : ℕ) (g : Inner) (events : List Event) (client host : List ℕ) (notes : List Note) → Stands first (kept_of g) events → g.host.over ≡ true → TakesOn first g events HostEnd client client host host notes notes
 ends-again first g events client host notes stands over =
     let xs = arrivals events in
     let ended : host_over (past first xs) ≡ true = sym stands.host.over_is ∙ over in
@@ -123,7 +123,7 @@ ends-again first g events client host notes stands over =
       sends = sends-past first client client host host notes notes xs xs (HostLeft ∷ xs) same (sends-none first client host notes xs);
     }
 
-pub ends-host : (first : ℕ) (old : Inner) (t : Translator) (kept : Kept RedirState) (events : List Event) (client_old client_new host_old host_new : List ℕ) (notes_old notes_new : List Note) → Stands first old events →
+pub ends-host : (first : ℕ) (old : Inner) (t : Translator) (kept : Kept RedirState) (events : List Event) (client_old client_new host_old host_new : List ℕ) (notes_old notes_new : List Note) → Stands first (kept_of old) events →
     old.host.over ≡ false → TakesItem old.translator t raw.HostLeft client_old client_new host_old host_new notes_old notes_new → kept ≡ ended old.host →
     TakesOn first (record old { host = kept; translator = t }) events HostEnd client_old client_new host_old host_new notes_old notes_new
 ends-host first old t kept events client_old client_new host_old host_new notes_old notes_new stands runs takes is =
@@ -152,10 +152,10 @@ ends-host first old t kept events client_old client_new host_old host_new notes_
 
 -- ---- memory ran out for an end
 
-pub stops-end : (first : ℕ) (old : Inner) (t : Translator) (events : List Event) (e : Event) (client_old client_new host_old host_new : List ℕ) (notes_old notes_new : List Note) → Stands first old events →
-    DoesNothing old.translator t client_old client_new host_old host_new notes_old notes_new → Stops first (record old { translator = t }) events e client_old client_new host_old host_new
+pub stops-end : (first : ℕ) (old : Inner) (t : Translator) (events : List Event) (e : Event) (client_old client_new host_old host_new : List ℕ) (notes_old notes_new : List Note) → Stands first (kept_of old) events →
+    DoesNothing old.translator t client_old client_new host_old host_new notes_old notes_new → Stops first (kept_of (record old { translator = t })) events e client_old client_new host_old host_new
 stops-end first old t events e client_old client_new host_old host_new notes_old notes_new stands nothing =
-    subst (λ (x : Translator). Stops first (record old { translator = x }) events e client_old client_new host_old host_new) (sym nothing.same)
-    (subst (λ (x : List ℕ). Stops first old events e client_old x host_old host_new) (sym nothing.client)
-    (subst (λ (x : List ℕ). Stops first old events e client_old client_old host_old x) (sym nothing.host)
+    subst (λ (x : Translator). Stops first (kept_of (record old { translator = x })) events e client_old client_new host_old host_new) (sym nothing.same)
+    (subst (λ (x : List ℕ). Stops first (kept_of old) events e client_old x host_old host_new) (sym nothing.client)
+    (subst (λ (x : List ℕ). Stops first (kept_of old) events e client_old client_old host_old x) (sym nothing.host)
     (stops-before first old events e client_old host_old (stands-for first old events stands))))

@@ -1,18 +1,19 @@
 -- For each number, submits and their ends alternate; and each end but the client's leaving sends one answer.
-use Rattle.std.proofs.Common.{◌≡◌, ℕ, ◌+◌, ◌≤◌, ◌||◌, ◌&&◌, Bool, true, false, cond, not, List, [], ◌∷◌, ◌++◌, length, map, Option, Some, None, refl, sym, ap, subst, ◌∙◌, arith}
+use Rattle.std.proofs.Common.{◌≡◌, ℕ, ◌≤◌, ◌||◌, ◌&&◌, Bool, true, false, cond, not, leb, List, [], ◌∷◌, ◌++◌, length, map, Option, Some, None, refl, sym, ap, subst, ◌∙◌, arith}
 use Rattle.std.specs.Prelude.{filter, is_none, is_some, pos}
 use Rattle.std.specs.List.{list_any, flat_map}
 use Rattle.std.proofs.lemmas.Bool.{eqb-true, false≢true}
-use Rattle.std.proofs.lemmas.List.{append-nil, length-append, length-map}
+use Rattle.std.proofs.lemmas.Grind.{flat_map-append}
+use Rattle.std.proofs.lemmas.List.{append-nil, map-append}
 use Rattle.std.proofs.lemmas.List.Elements.{filter-append}
-use Rattle.usbip_urb.specs.declared.packet.UrbPacket.{UrbPacket}
 use Rattle.usbip_urb.specs.declared.client.ClientPacket.{ClientPacket}
 use Rattle.usbip_urb.specs.declared.client.ClientPacket.TheVariants.{Urb}
 use Rattle.gate_core.specs.Items.{Item}
 use Rattle.gate_core.specs.Errno.{econnreset}
 use Rattle.gate_core.specs.Verdict.{is_wire}
 use Rattle.gate_core.specs.Marks.{Submission, Effect, Replies, Imports, Opens, Unbuilt, Unlinks, Mark}
-use Rattle.gate_core.specs.Submits.{End, AtOnce, ByClient, ByLoss, ByAnswer, opened, ends, end_of, live, ended, Pending, pending}
+use Rattle.gate_core.specs.Sides.{or_else}
+use Rattle.gate_core.specs.Submits.{End, AtOnce, ByClient, ByLoss, ByAnswer, opened, accepted, ends, end_of, is_live, live, ended, asks, unlinker, Pending, pending}
 use Rattle.gate_core.specs.State.{State, state_of, is_number, has_number}
 use Rattle.gate_core.specs.Meaning.{meaning, mark_of}
 use Rattle.gate_core.specs.Past.{is_left_out, past}
@@ -20,9 +21,9 @@ use Rattle.gate_core.specs.Answers.{is_cancelled, ret_unlink, with_outcome, answ
 use Rattle.gate_core.specs.Output.{present, answered, is_target, replies, to_client}
 use Rattle.gate_core.specs.Notes.{is_by_client}
 use Rattle.gate_core.specs.All.{all_of}
-use Rattle.gate_core.specs.Turns.{Turn, Begin, Finish, begins, turns, Alternate, is_answer, answered_ends}
-use Rattle.gate_core.proofs.Lists.{Each, every, Each-weaker, filter-same, filter-twice, filter-map, both}
-use Rattle.gate_core.proofs.Steps.{IsWell, submits-is, live-is, Present, present-each, present-is}
+use Rattle.gate_core.specs.Turns.{Turn, Begin, Finish, begins, turns, Alternate, Answer, answers_in, answered_ends, wins, answer, answer_of}
+use Rattle.gate_core.proofs.Lists.{Each, every, Each-weaker, Each-append, Each-filter, filter-same, filter-twice, filter-map, filter-passes, map-same, map-map, both}
+use Rattle.gate_core.proofs.Steps.{IsWell, submits-is, live-is, Present, present-each, present-is, asked}
 use Rattle.gate_core.proofs.Runs.{well}
 use Rattle.gate_core.proofs.Openings.{opening-meaning}
 use Rattle.gate_core.proofs.Ended.{end-at, ended-is}
@@ -152,11 +153,8 @@ few-numbered first xs n = few-one (of (past first xs) n) (goes (past first xs) n
 
 -- ---- answers
 
-abbrev count : List ClientPacket → ℕ
-count ps = length (filter is_answer ps)
-
-count-append : (xs ys : List ClientPacket) → count (xs ++ ys) ≡ count xs + count ys
-count-append xs ys = ap length (filter-append is_answer xs ys) ∙ length-append (filter is_answer xs) (filter is_answer ys)
+abbrev said : List ClientPacket → List Answer
+said ps = flat_map answers_in ps
 
 -- an end but the client's leaving
 abbrev is_counted : Option End → Bool
@@ -166,40 +164,37 @@ is_counted (Some ByClient) = false
 is_counted (Some ByLoss) = true
 is_counted (Some (ByAnswer outcome)) = true
 
-abbrev weight : Bool → ℕ
-weight b = cond b 1 0
+abbrev due : Submission → Option ℕ → Option End → Answer
+due s by e = answer s.request.number by (wins s e)
 
-one-answer : (s : Submission) (by : Option ℕ) (e : Option End) → count (map Urb (answers_at s by e)) ≡ weight (is_counted e)
+one-answer : (s : Submission) (by : Option ℕ) (e : Option End) → said (map Urb (answers_at s by e)) ≡ cond (is_counted e) (due s by e ∷ []) []
 one-answer s by None = refl
-one-answer s by (Some (AtOnce status)) = refl
+one-answer s None (Some (AtOnce status)) = refl
+one-answer s (Some by) (Some (AtOnce status)) = refl
 one-answer s by (Some ByClient) = refl
 one-answer s None (Some ByLoss) = refl
 one-answer s (Some by) (Some ByLoss) = refl
 one-answer s None (Some (ByAnswer o)) = refl
 one-answer s (Some by) (Some (ByAnswer o)) =
-    elim (is_wire s.verdict && is_cancelled o.status) as (λ b. count (map Urb (cond b (ret_unlink by econnreset ∷ []) (with_outcome s.request o ∷ ret_unlink by (pos 0) ∷ []))) ≡ 1)
+    elim (is_wire s.verdict && is_cancelled o.status) as (λ b. said (map Urb (cond b (ret_unlink by econnreset ∷ []) (with_outcome s.request o ∷ ret_unlink by (pos 0) ∷ []))) ≡ answer s.request.number (Some by) b ∷ [])
     [ true ↦ refl | false ↦ refl ]
 
-map-urb-append : (xs ys : List UrbPacket) → map Urb (xs ++ ys) ≡ map Urb xs ++ map Urb ys
-map-urb-append [] ys = refl
-map-urb-append (x ∷ xs) ys = ap (λ (l : List ClientPacket). Urb x ∷ l) (map-urb-append xs ys)
-
-joined : (e : Effect) (ps : List Pending) → count (map Urb (flat_map (λ p. answers_at p.submit p.unlinker (ends e p.submit)) ps)) ≡ length (filter (λ p. is_counted (ends e p.submit)) ps)
+joined : (e : Effect) (ps : List Pending) → said (map Urb (flat_map (λ p. answers_at p.submit p.unlinker (ends e p.submit)) ps)) ≡ map (λ p. due p.submit p.unlinker (ends e p.submit)) (filter (λ p. is_counted (ends e p.submit)) ps)
 joined e [] = refl
 joined e (p ∷ ps) =
     let rest = joined e ps in
     let here = one-answer p.submit p.unlinker (ends e p.submit) in
-    let parts = ap count (map-urb-append (answers_at p.submit p.unlinker (ends e p.submit)) (flat_map (λ p. answers_at p.submit p.unlinker (ends e p.submit)) ps))
-    ∙ count-append (map Urb (answers_at p.submit p.unlinker (ends e p.submit))) (map Urb (flat_map (λ p. answers_at p.submit p.unlinker (ends e p.submit)) ps)) in
-    parts ∙ (λ i. here i + rest i)
-    ∙ elim (is_counted (ends e p.submit)) as (λ b. weight b + length (filter (λ p. is_counted (ends e p.submit)) ps) ≡ length (cond b (p ∷ filter (λ p. is_counted (ends e p.submit)) ps) (filter (λ p. is_counted (ends e p.submit)) ps)))
-    [ true ↦ omega arith | false ↦ omega arith ]
+    let parts = ap said (map-append Urb (answers_at p.submit p.unlinker (ends e p.submit)) (flat_map (λ p. answers_at p.submit p.unlinker (ends e p.submit)) ps))
+    ∙ flat_map-append answers_in (map Urb (answers_at p.submit p.unlinker (ends e p.submit))) (map Urb (flat_map (λ p. answers_at p.submit p.unlinker (ends e p.submit)) ps)) in
+    parts ∙ (λ i. here i ++ rest i)
+    ∙ elim (is_counted (ends e p.submit)) as (λ b. cond b (due p.submit p.unlinker (ends e p.submit) ∷ []) [] ++ map (λ p. due p.submit p.unlinker (ends e p.submit)) (filter (λ p. is_counted (ends e p.submit)) ps) ≡ map (λ p. due p.submit p.unlinker (ends e p.submit)) (cond b (p ∷ filter (λ p. is_counted (ends e p.submit)) ps) (filter (λ p. is_counted (ends e p.submit)) ps)))
+    [ true ↦ refl | false ↦ refl ]
 
 -- replies answer no submit
-silent : (st : State) (e : Effect) → count (replies st e) ≡ 0
+silent : (st : State) (e : Effect) → said (replies st e) ≡ []
 silent st (Replies reply) = refl
 silent st (Imports reply) = refl
-silent st (Unlinks by target) = elim (list_any (is_target target) st.live) as (λ b. count (cond b [] (Urb (ret_unlink by (pos 0)) ∷ [])) ≡ 0) [ true ↦ refl | false ↦ refl ]
+silent st (Unlinks by target) = elim (list_any (is_target target) st.live) as (λ b. said (cond b [] (Urb (ret_unlink by (pos 0)) ∷ [])) ≡ []) [ true ↦ refl | false ↦ refl ]
 silent st _ = refl
 
 counted-is : (e : Option End) → both (is_some e) (not (is_by_client e)) ≡ is_counted e
@@ -209,16 +204,75 @@ counted-is (Some ByClient) = refl
 counted-is (Some ByLoss) = refl
 counted-is (Some (ByAnswer o)) = refl
 
-one-each : (first : ℕ) (ms : List Mark) (m : Mark) → IsWell (m ∷ ms) → count (to_client (state_of first ms) m) ≡ length (filter (λ s. not (is_by_client (end_of (m ∷ ms) s))) (ended ms m))
+-- ---- the end and the unlinker of a submit that has ended stay
+
+or_else-kept : {A : Type 0} (o x : Option A) → is_none o ≡ false → or_else o x ≡ o
+or_else-kept (Some a) x h = refl
+or_else-kept None x h = absurd (false≢true (sym h))
+
+or_else-none : {A : Type 0} (o : Option A) → or_else o None ≡ o
+or_else-none (Some a) = refl
+or_else-none None = refl
+
+never-asked : (b live : Bool) (asked : Option ℕ) → live ≡ false → cond (b && live) asked None ≡ None
+never-asked true live asked h = ap (λ (l : Bool). cond l asked None) h
+never-asked false live asked h = refl
+
+stays : (ms : List Mark) (m : Mark) (s : Submission) → is_live ms s ≡ false → is_live (m ∷ ms) s ≡ false
+stays ms m s h = ap is_none (or_else-kept (end_of ms s) (cond (leb s.place (length ms)) (ends m.what s) None) h) ∙ h
+
+same : (ms : List Mark) (m : Mark) (s : Submission) → is_live ms s ≡ false → answer_of (m ∷ ms) s ≡ answer_of ms s
+same ms m s h =
+    ap (λ (e : Option End). answer s.request.number (unlinker (m ∷ ms) s) (wins s e)) (or_else-kept (end_of ms s) (cond (leb s.place (length ms)) (ends m.what s) None) h)
+    ∙ ap (λ (u : Option ℕ). answer s.request.number u (wins s (end_of ms s)))
+    (ap (or_else (unlinker ms s)) (never-asked (leb s.place (length ms)) (is_live ms s) (asks m.what s) h) ∙ or_else-none (unlinker ms s))
+
+gone : (a b : Bool) → (a && not b) ≡ true → b ≡ false
+gone a true h = elim a as (λ a. (a && not true) ≡ true → true ≡ false) [ true ↦ λ h. absurd (false≢true h) | false ↦ λ h. absurd (false≢true h) ] h
+gone a false h = refl
+
+have-ended : (ms : List Mark) → Each (λ s. is_live ms s ≡ false) (answered_ends ms)
+have-ended [] = tt
+have-ended (m ∷ ms) =
+    Each-append (λ s. is_live (m ∷ ms) s ≡ false) (answered_ends ms) (filter (λ s. not (is_by_client (end_of (m ∷ ms) s))) (ended ms m))
+    (Each-weaker (λ s. is_live ms s ≡ false) (λ s. is_live (m ∷ ms) s ≡ false) (stays ms m) (answered_ends ms) (have-ended ms))
+    (Each-filter (λ s. is_live (m ∷ ms) s ≡ false) (λ s. not (is_by_client (end_of (m ∷ ms) s))) (ended ms m)
+    (Each-weaker (λ s. (is_live ms s && not (is_live (m ∷ ms) s)) ≡ true) (λ s. is_live (m ∷ ms) s ≡ false) (λ s. gone (is_live ms s) (is_live (m ∷ ms) s)) (ended ms m)
+    (filter-passes (λ s. is_live ms s && not (is_live (m ∷ ms) s)) (accepted (m ∷ ms)))))
+
+-- ---- of those that end at an item
+
+-- what asks a submit back doesn't end it
+unasked : (e : Effect) (s : Submission) → is_counted (ends e s) ≡ true → asks e s ≡ None
+unasked (Unlinks by target) s h = absurd (false≢true h)
+unasked _ s h = refl
+
+due-is : (ms : List Mark) (m : Mark) (s : Submission) → Present ms s → is_counted (ends m.what s) ≡ true → due s (unlinker ms s) (ends m.what s) ≡ answer_of (m ∷ ms) s
+due-is ms m s p h =
+    ap (λ (e : Option End). due s (unlinker ms s) e) (sym (end-at ms m s p))
+    ∙ ap (λ (u : Option ℕ). due s u (end_of (m ∷ ms) s))
+    (sym (ap (λ (q : Pending). q.unlinker) (asked ms m s p) ∙ ap (or_else (unlinker ms s)) (unasked m.what s h) ∙ or_else-none (unlinker ms s)))
+
+kept-each : (P : Submission → Type 0) (p : Submission → Bool) (s : Submission) (ss : List Submission) (b : Bool) → p s ≡ b → (p s ≡ true → P s) → Each P ss → Each P (cond b (s ∷ ss) ss)
+kept-each P p s ss true e here rest = (here e, rest)
+kept-each P p s ss false e here rest = rest
+
+due-each : (ms : List Mark) (m : Mark) (ss : List Submission) → Each (Present ms) ss → Each (λ s. due s (unlinker ms s) (ends m.what s) ≡ answer_of (m ∷ ms) s) (filter (λ s. is_counted (ends m.what s)) ss)
+due-each ms m [] p = tt
+due-each ms m (s ∷ ss) p =
+    kept-each (λ s. due s (unlinker ms s) (ends m.what s) ≡ answer_of (m ∷ ms) s) (λ s. is_counted (ends m.what s)) s (filter (λ s. is_counted (ends m.what s)) ss) (is_counted (ends m.what s)) refl
+    (due-is ms m s p.0) (due-each ms m ss p.1)
+
+one-each : (first : ℕ) (ms : List Mark) (m : Mark) → IsWell (m ∷ ms) → said (to_client (state_of first ms) m) ≡ map (answer_of (m ∷ ms)) (filter (λ s. not (is_by_client (end_of (m ∷ ms) s))) (ended ms m))
 one-each first ms m w =
-    count-append (replies (state_of first ms) m.what) (answered (state_of first ms) m.what)
-    ∙ ap (λ (n : ℕ). n + count (answered (state_of first ms) m.what)) (silent (state_of first ms) m.what)
-    ∙ zero-plus (count (answered (state_of first ms) m.what))
+    flat_map-append answers_in (replies (state_of first ms) m.what) (answered (state_of first ms) m.what)
+    ∙ ap (λ (l : List Answer). l ++ said (answered (state_of first ms) m.what)) (silent (state_of first ms) m.what)
     ∙ joined m.what (present (state_of first ms) m.what)
-    ∙ ap (λ (l : List Pending). length (filter (λ p. is_counted (ends m.what p.submit)) l)) (present-is first ms m.what w.0)
-    ∙ ap length (filter-map (λ p. is_counted (ends m.what p.submit)) (pending ms) those)
-    ∙ length-map (filter (λ s. is_counted (ends m.what s)) those) (pending ms)
-    ∙ ap length (sym (
+    ∙ ap (λ (l : List Pending). map (λ p. due p.submit p.unlinker (ends m.what p.submit)) (filter (λ p. is_counted (ends m.what p.submit)) l)) (present-is first ms m.what w.0)
+    ∙ ap (map (λ p. due p.submit p.unlinker (ends m.what p.submit))) (filter-map (λ p. is_counted (ends m.what p.submit)) (pending ms) those)
+    ∙ map-map (λ p. due p.submit p.unlinker (ends m.what p.submit)) (pending ms) (filter (λ s. is_counted (ends m.what s)) those)
+    ∙ map-same (λ s. due s (unlinker ms s) (ends m.what s)) (answer_of (m ∷ ms)) (filter (λ s. is_counted (ends m.what s)) those) (due-each ms m those (present-each ms m.what w.1 w.0))
+    ∙ ap (map (answer_of (m ∷ ms))) (sym (
     ap (filter (λ s. not (is_by_client (end_of (m ∷ ms) s)))) (ended-is ms m w)
     ∙ filter-twice (λ s. not (is_by_client (end_of (m ∷ ms) s))) (λ s. is_some (ends m.what s)) those
     ∙ filter-same (λ s. both (is_some (ends m.what s)) (not (is_by_client (end_of (m ∷ ms) s)))) (λ s. is_counted (ends m.what s)) those
@@ -229,12 +283,14 @@ one-each first ms m w =
     those : List Submission
     those = live ms ++ opened m.what
 
-    zero-plus : (n : ℕ) → 0 + n ≡ n
-    zero-plus n = omega arith
+due-stays : (ms : List Mark) (m : Mark) → map (answer_of ms) (answered_ends ms) ≡ map (answer_of (m ∷ ms)) (answered_ends ms)
+due-stays ms m =
+    sym (map-same (answer_of (m ∷ ms)) (answer_of ms) (answered_ends ms)
+    (Each-weaker (λ s. is_live ms s ≡ false) (λ s. answer_of (m ∷ ms) s ≡ answer_of ms s) (same ms m) (answered_ends ms) (have-ended ms)))
 
-pub answers-ends : (first : ℕ) (ms : List Mark) → IsWell ms → count (all_of to_client first ms) ≡ length (answered_ends ms)
+pub answers-ends : (first : ℕ) (ms : List Mark) → IsWell ms → said (all_of to_client first ms) ≡ map (answer_of ms) (answered_ends ms)
 answers-ends first [] w = refl
 answers-ends first (m ∷ ms) w =
-    count-append (all_of to_client first ms) (to_client (state_of first ms) m)
-    ∙ (λ i. answers-ends first ms w.1 i + one-each first ms m w i)
-    ∙ sym (length-append (answered_ends ms) (filter (λ s. not (is_by_client (end_of (m ∷ ms) s))) (ended ms m)))
+    flat_map-append answers_in (all_of to_client first ms) (to_client (state_of first ms) m)
+    ∙ (λ i. (answers-ends first ms w.1 ∙ due-stays ms m) i ++ one-each first ms m w i)
+    ∙ sym (map-append (answer_of (m ∷ ms)) (answered_ends ms) (filter (λ s. not (is_by_client (end_of (m ∷ ms) s))) (ended ms m)))

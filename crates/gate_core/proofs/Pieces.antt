@@ -23,7 +23,7 @@ use Rattle.gate_core.specs.Meaning.{mark_of}
 use Rattle.gate_core.specs.Past.{is_left_out, past}
 use Rattle.gate_core.specs.History.{onto}
 use Rattle.gate_core.specs.Stands.{Translates, StreamStands, HasAll, IsLeftBy}
-use Rattle.gate_core.specs.inner.Holds.{Holds, IsItem, Does, DoesNothing}
+use Rattle.gate_core.specs.inner.Holds.{items_of, Holds, IsItem, Does, DoesNothing}
 use Rattle.gate_core.specs.inner.Steps.{Sends, item_next, ended_if}
 use Rattle.gate_core.proofs.Lists.{Each, Each-append}
 use Rattle.gate_core.proofs.States.{state-sound}
@@ -93,13 +93,13 @@ pub record Taking {S P Q : Type 0} (first : ℕ) (d : Side S P Q first) (kept : 
   pub taken : List Item
   pub stream : Taken d.stream kept bytes piece (d.came before) taken
   pub over_is : kept.over ≡ d.stream.over (onto taken before)
-  pub translates : Translates first t (onto taken before)
+  pub translates : Translates first (items_of t) (onto taken before)
   pub sends : Sends first client_old client_new host_old host_new notes_old notes_new before (onto taken before)
   pub others_are : d.others (onto taken before) ≡ d.others before
   pub other_over : d.other_over (onto taken before) ≡ d.other_over before
 
 pub taking-first : {S P Q : Type 0} (first : ℕ) (d : Side S P Q first) (old new : Kept S) (t : Translator) (bytes piece : List ℕ) (before : List Item) (client host : List ℕ) (notes : List Note) → AreBytes piece →
-    HasAll d.stream.reader d.stream.start old bytes (d.came before) (d.stream.over before) → Translates first t before → new ≡ after_piece old piece → Puts d.stream.reader piece old new →
+    HasAll d.stream.reader d.stream.start old bytes (d.came before) (d.stream.over before) → Translates first (items_of t) before → new ≡ after_piece old piece → Puts d.stream.reader piece old new →
     Taking first d new t bytes piece before client client host host notes notes
 taking-first first d old new t bytes piece before client host notes are all translates is puts = record {
   taken = [];
@@ -136,7 +136,7 @@ taking-one first d old new t u bytes piece before client_old client client_new h
       taken = k.taken ++ x ∷ [];
       stream = taken-ended d.stream new bytes piece (d.came before) (k.taken ++ x ∷ []) stream (d.flag u);
       over_is = ended-over new (d.flag u) (d.stream.over (x ∷ xs)) (d.flag_is u (x ∷ xs) translates) (going xs) ∙ ap d.stream.over (sym behind);
-      translates = subst (Translates first u) (sym behind) translates;
+      translates = subst (Translates first (items_of u)) (sym behind) translates;
       sends = subst (Sends first client_old client_new host_old host_new notes_old notes_new before) (sym behind)
           (sends-item first t u before xs x client_old client client_new host_old host host_new notes_old notes notes_new k.sends taken does);
       others_are = ap d.others behind ∙ others xs ∙ k.others_are;
@@ -170,7 +170,7 @@ taking-item first d takes old new t u bytes piece before client_old client clien
 -- all that the piece brought was taken or is left out
 pub record Finished {S P Q : Type 0} (first : ℕ) (d : Side S P Q first) (kept : Kept S) (t : Translator) (bytes piece : List ℕ) (before : List Item) (client_old client_new host_old host_new : List ℕ) (notes_old notes_new : List Note) : Type 0 where
   pub all : HasAll d.stream.reader d.stream.start kept (bytes ++ piece) (d.came (onto (added d.stream bytes piece) before)) (d.stream.over (onto (added d.stream bytes piece) before))
-  pub translates : Translates first t (onto (added d.stream bytes piece) before)
+  pub translates : Translates first (items_of t) (onto (added d.stream bytes piece) before)
   pub sends : Sends first client_old client_new host_old host_new notes_old notes_new before (onto (added d.stream bytes piece) before)
   pub others_are : d.others (onto (added d.stream bytes piece) before) ≡ d.others before
   pub other_over : d.other_over (onto (added d.stream bytes piece) before) ≡ d.other_over before
@@ -189,7 +189,7 @@ finished-going {S = S} {P = P} first d takes old new t bytes piece before client
     (subst (HasAll d.stream.reader d.stream.start new (bytes ++ piece) (d.came before ++ a.more)) (sym over) a.all) in
     record {
       all = subst (λ (l : List Item). HasAll d.stream.reader d.stream.start new (bytes ++ piece) (d.came l) (d.stream.over l)) (sym same) all;
-      translates = subst (Translates first t) (sym same) k.translates;
+      translates = subst (Translates first (items_of t)) (sym same) k.translates;
       sends = subst (Sends first client_old client_new host_old host_new notes_old notes_new before) (sym same) k.sends;
       others_are = ap d.others same ∙ k.others_are;
       other_over = ap d.other_over same ∙ k.other_over;
@@ -253,7 +253,7 @@ pub record Halted {S P Q : Type 0} (first : ℕ) (d : Side S P Q first) (kept : 
   pub later : List Item
   pub parts : added d.stream bytes piece ≡ taken ++ later
   pub stands : StreamStands d.stream.reader d.stream.start kept (bytes ++ piece) (d.came (onto taken before)) (d.stream.over (onto taken before))
-  pub translates : Translates first t (onto taken before)
+  pub translates : Translates first (items_of t) (onto taken before)
   pub sends : Sends first client_old client_new host_old host_new notes_old notes_new before (onto taken before)
   pub others_are : d.others (onto taken before) ≡ d.others before
   pub other_over : d.other_over (onto taken before) ≡ d.other_over before

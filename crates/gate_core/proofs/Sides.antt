@@ -23,7 +23,7 @@ use Rattle.gate_core.specs.Meaning.{mark_of}
 use Rattle.gate_core.specs.Past.{is_left_out, past}
 use Rattle.gate_core.specs.Streams.{client_format, client_next, host_format}
 use Rattle.gate_core.specs.Stands.{asked, told, Translates}
-use Rattle.gate_core.specs.inner.Holds.{IsItem}
+use Rattle.gate_core.specs.inner.Holds.{items_of, IsItem}
 use Rattle.gate_core.specs.inner.Steps.{client_stream, host_stream, raw_told}
 use Rattle.gate_core.proofs.Apart.{asked-host, wrong-host, told-client, wrong-client}
 use Rattle.gate_core.proofs.InStep.{wrong-over}
@@ -42,7 +42,7 @@ pub record Side (S P Q : Type 0) (first : ℕ) : Type 0 where
   pub steady : IsSteady stream.reader
   pub over_past : (xs ys : List Item) → past first xs ≡ past first ys → stream.over xs ≡ stream.over ys
   pub other_past : (xs ys : List Item) → past first xs ≡ past first ys → other_over xs ≡ other_over ys
-  pub flag_is : (t : Translator) (xs : List Item) → Translates first t xs → flag t ≡ stream.over xs
+  pub flag_is : (t : Translator) (xs : List Item) → Translates first (items_of t) xs → flag t ≡ stream.over xs
   pub came_packet : (xs : List Item) (n : ℕ) (p : P) → came (stream.packet n p ∷ xs) ≡ came xs ++ (n, p) ∷ []
   -- its items are left out where it is over
   pub out_packet : (xs : List Item) (n : ℕ) (p : P) → is_left_out (state_of first (past first xs)) (stream.packet n p) ≡ stream.over xs

@@ -24,7 +24,7 @@ use Rattle.gate_core.specs.Past.{past}
 use Rattle.gate_core.specs.History.{brought, onto, arrivals, history}
 use Rattle.gate_core.specs.Stands.{asked, told, IsLeftBy, StreamStands, StandsFor, HasAll, Stands, Stops}
 use Rattle.gate_core.specs.inner.Holds.{DoesNothing}
-use Rattle.gate_core.specs.inner.Steps.{NextItem, raw_told, TakesOn, TakesEvent}
+use Rattle.gate_core.specs.inner.Steps.{kept_of, NextItem, raw_told, TakesOn, TakesEvent}
 use Rattle.gate_core.proofs.Taking.{follows-all, all-passed}
 use Rattle.gate_core.proofs.Translating.{gains-none}
 use Rattle.gate_core.proofs.Sides.{client_side, host_side}
@@ -51,12 +51,12 @@ stands-all r steady start kept bytes given over all = record {
 }
 
 pub err-event : (r : Result (Unit {0}) Memory) (old new : Inner) (e : Event) (client_old client_new host_old host_new : List ℕ) (notes_old notes_new : List Note) → IsErr r →
-    ((first : ℕ) (events : List Event) → Stands first old events → Stops first new events e client_old client_new host_old host_new) → TakesEvent r old new e client_old client_new host_old host_new notes_old notes_new
+    ((first : ℕ) (events : List Event) → Stands first (kept_of old) events → Stops first (kept_of new) events e client_old client_new host_old host_new) → TakesEvent r old new e client_old client_new host_old host_new notes_old notes_new
 err-event (Ok v) old new e client_old client_new host_old host_new notes_old notes_new is stops = absurd (true≢false (sym is))
 err-event (Err memory) old new e client_old client_new host_old host_new notes_old notes_new is stops = stops
 
 -- before anything of an event has come
-pub stops-before : (first : ℕ) (new : Inner) (events : List Event) (e : Event) (client host : List ℕ) → StandsFor first new events (arrivals events) → Stops first new events e client client host host
+pub stops-before : (first : ℕ) (new : Inner) (events : List Event) (e : Event) (client host : List ℕ) → StandsFor first (kept_of new) events (arrivals events) → Stops first (kept_of new) events e client client host host
 stops-before first new events e client host for = record {
   taken = [];
   later = brought events e;
@@ -69,7 +69,7 @@ stops-before first new events e client host for = record {
 }
 
 -- all of an event was taken, but not so that it can be told
-pub stands-for : (first : ℕ) (g : Inner) (events : List Event) → Stands first g events → StandsFor first g events (arrivals events)
+pub stands-for : (first : ℕ) (g : Inner) (events : List Event) → Stands first (kept_of g) events → StandsFor first (kept_of g) events (arrivals events)
 stands-for first g events stands = record {
   translates = stands.translates;
   client = stands-all client_reader (client_side first).steady client_start g.client (client_bytes events) (asked (arrivals events)) (client_over (history first events)) stands.client;
@@ -83,7 +83,7 @@ pub client-kept : (old mid new : Inner) (kept : Kept (Unit {0})) (t : Translator
 client-kept old mid new kept t was is =
     is ∙ ap (λ (g : Inner). record g { client = kept; translator = t }) was ∙ sym (λ i. record old { client = (is i).client; translator = (is i).translator })
 
-pub takes-asked : (first : ℕ) (old new : Inner) (events : List Event) (piece client_old client_new host_old host_new : List ℕ) (notes_old notes_new : List Note) → Stands first old events →
+pub takes-asked : (first : ℕ) (old new : Inner) (events : List Event) (piece client_old client_new host_old host_new : List ℕ) (notes_old notes_new : List Note) → Stands first (kept_of old) events →
     new ≡ record old { client = new.client; translator = new.translator } →
     Finished first (client_side first) new.client new.translator (client_bytes events) piece (arrivals events) client_old client_new host_old host_new notes_old notes_new →
     TakesOn first new events (ClientPiece piece) client_old client_new host_old host_new notes_old notes_new
@@ -98,10 +98,10 @@ takes-asked first old new events piece client_old client_new host_old host_new n
   sends = f.sends;
 }
 
-pub halts-asked : (first : ℕ) (old new : Inner) (events : List Event) (piece client_old client_new host_old host_new : List ℕ) (notes_old notes_new : List Note) → Stands first old events →
+pub halts-asked : (first : ℕ) (old new : Inner) (events : List Event) (piece client_old client_new host_old host_new : List ℕ) (notes_old notes_new : List Note) → Stands first (kept_of old) events →
     new ≡ record old { client = new.client; translator = new.translator } →
     Halted first (client_side first) new.client new.translator (client_bytes events) piece (arrivals events) client_old client_new host_old host_new notes_old notes_new →
-    Stops first new events (ClientPiece piece) client_old client_new host_old host_new
+    Stops first (kept_of new) events (ClientPiece piece) client_old client_new host_old host_new
 halts-asked first old new events piece client_old client_new host_old host_new notes_old notes_new stands rest h = record {
   taken = h.taken;
   later = h.later;
@@ -119,8 +119,8 @@ halts-asked first old new events piece client_old client_new host_old host_new n
   host = h.sends.host;
 }
 
-pub unput-asked : (first : ℕ) (old : Inner) (kept : Kept (Unit {0})) (events : List Event) (piece client host : List ℕ) → Stands first old events → kept ≡ passed old.client →
-    Stops first (record old { client = kept }) events (ClientPiece piece) client client host host
+pub unput-asked : (first : ℕ) (old : Inner) (kept : Kept (Unit {0})) (events : List Event) (piece client host : List ℕ) → Stands first (kept_of old) events → kept ≡ passed old.client →
+    Stops first (kept_of (record old { client = kept })) events (ClientPiece piece) client client host host
 unput-asked first old kept events piece client host stands is =
     stops-before first (record old { client = kept }) events (ClientPiece piece) client host (record {
       translates = stands.translates;
@@ -131,7 +131,7 @@ unput-asked first old kept events piece client host stands is =
 
 -- ---- the loop over the items of that piece
 
-pub loops-asked : (first : ℕ) (old mid : Inner) (new : Kept (Unit {0})) (events : List Event) (piece client_old client_new host_old host_new : List ℕ) (notes_old notes_new : List Note) (result : Result (Option RawItem) Memory) → AreBytes piece → Stands first old events →
+pub loops-asked : (first : ℕ) (old mid : Inner) (new : Kept (Unit {0})) (events : List Event) (piece client_old client_new host_old host_new : List ℕ) (notes_old notes_new : List Note) (result : Result (Option RawItem) Memory) → AreBytes piece → Stands first (kept_of old) events →
     mid ≡ record old { client = mid.client; translator = mid.translator } → NextItem client_reader asked_takes_memory raw.Asked raw.ClientWrong result mid.client new → result ≡ Ok None →
     Taking first (client_side first) mid.client mid.translator (client_bytes events) piece (arrivals events) client_old client_new host_old host_new notes_old notes_new → TakesOn first (record mid { client = new }) events (ClientPiece piece) client_old client_new host_old host_new notes_old notes_new
 loops-asked first old mid new events piece client_old client_new host_old host_new notes_old notes_new result are stands rest n is took =
@@ -139,9 +139,9 @@ loops-asked first old mid new events piece client_old client_new host_old host_n
     (taking-all first (client_side first) asked_takes_memory mid.client new mid.translator (client_bytes events) piece (arrivals events) client_old client_new host_old host_new notes_old notes_new n.answer stands.client.fits are (sym n.result-is ∙ is) n.changes n.nexts took)
 
 -- memory ran out for the next item, which the translator may have been given
-pub stops-asked : (first : ℕ) (old mid : Inner) (new : Kept (Unit {0})) (t : Translator) (events : List Event) (piece client_old client client_new host_old host host_new : List ℕ) (notes_old notes notes_new : List Note) (result : Result (Option RawItem) Memory) → Stands first old events →
+pub stops-asked : (first : ℕ) (old mid : Inner) (new : Kept (Unit {0})) (t : Translator) (events : List Event) (piece client_old client client_new host_old host host_new : List ℕ) (notes_old notes notes_new : List Note) (result : Result (Option RawItem) Memory) → Stands first (kept_of old) events →
     mid ≡ record old { client = mid.client; translator = mid.translator } → NextItem client_reader asked_takes_memory raw.Asked raw.ClientWrong result mid.client new → IsAny result → DoesNothing mid.translator t client client_new host host_new notes notes_new →
-    Taking first (client_side first) mid.client mid.translator (client_bytes events) piece (arrivals events) client_old client host_old host notes_old notes → Stops first (record mid { client = new; translator = t }) events (ClientPiece piece) client_old client_new host_old host_new
+    Taking first (client_side first) mid.client mid.translator (client_bytes events) piece (arrivals events) client_old client host_old host notes_old notes → Stops first (kept_of (record mid { client = new; translator = t })) events (ClientPiece piece) client_old client_new host_old host_new
 stops-asked first old mid new t events piece client_old client client_new host_old host host_new notes_old notes notes_new result stands rest n any nothing took =
     halts-asked first old (record mid { client = new; translator = t }) events piece client_old client_new host_old host_new notes_old notes_new stands (client-kept old mid (record mid { client = new; translator = t }) new t rest refl)
     (halted-still first (client_side first) new mid.translator t (client_bytes events) piece (arrivals events) client_old client client_new host_old host host_new notes_old notes notes_new nothing
@@ -155,7 +155,7 @@ pub host-kept : (old mid new : Inner) (kept : Kept RedirState) (t : Translator) 
 host-kept old mid new kept t was is =
     is ∙ ap (λ (g : Inner). record g { host = kept; translator = t }) was ∙ sym (λ i. record old { host = (is i).host; translator = (is i).translator })
 
-pub takes-told : (first : ℕ) (old new : Inner) (events : List Event) (piece client_old client_new host_old host_new : List ℕ) (notes_old notes_new : List Note) → Stands first old events →
+pub takes-told : (first : ℕ) (old new : Inner) (events : List Event) (piece client_old client_new host_old host_new : List ℕ) (notes_old notes_new : List Note) → Stands first (kept_of old) events →
     new ≡ record old { host = new.host; translator = new.translator } →
     Finished first (host_side first) new.host new.translator (host_bytes events) piece (arrivals events) client_old client_new host_old host_new notes_old notes_new →
     TakesOn first new events (HostPiece piece) client_old client_new host_old host_new notes_old notes_new
@@ -170,10 +170,10 @@ takes-told first old new events piece client_old client_new host_old host_new no
   sends = f.sends;
 }
 
-pub halts-told : (first : ℕ) (old new : Inner) (events : List Event) (piece client_old client_new host_old host_new : List ℕ) (notes_old notes_new : List Note) → Stands first old events →
+pub halts-told : (first : ℕ) (old new : Inner) (events : List Event) (piece client_old client_new host_old host_new : List ℕ) (notes_old notes_new : List Note) → Stands first (kept_of old) events →
     new ≡ record old { host = new.host; translator = new.translator } →
     Halted first (host_side first) new.host new.translator (host_bytes events) piece (arrivals events) client_old client_new host_old host_new notes_old notes_new →
-    Stops first new events (HostPiece piece) client_old client_new host_old host_new
+    Stops first (kept_of new) events (HostPiece piece) client_old client_new host_old host_new
 halts-told first old new events piece client_old client_new host_old host_new notes_old notes_new stands rest h = record {
   taken = h.taken;
   later = h.later;
@@ -191,8 +191,8 @@ halts-told first old new events piece client_old client_new host_old host_new no
   host = h.sends.host;
 }
 
-pub unput-told : (first : ℕ) (old : Inner) (kept : Kept RedirState) (events : List Event) (piece client host : List ℕ) → Stands first old events → kept ≡ passed old.host →
-    Stops first (record old { host = kept }) events (HostPiece piece) client client host host
+pub unput-told : (first : ℕ) (old : Inner) (kept : Kept RedirState) (events : List Event) (piece client host : List ℕ) → Stands first (kept_of old) events → kept ≡ passed old.host →
+    Stops first (kept_of (record old { host = kept })) events (HostPiece piece) client client host host
 unput-told first old kept events piece client host stands is =
     stops-before first (record old { host = kept }) events (HostPiece piece) client host (record {
       translates = stands.translates;
@@ -203,7 +203,7 @@ unput-told first old kept events piece client host stands is =
 
 -- ---- the loop over the items of that piece
 
-pub loops-told : (first : ℕ) (old mid : Inner) (new : Kept RedirState) (events : List Event) (piece client_old client_new host_old host_new : List ℕ) (notes_old notes_new : List Note) (result : Result (Option RawItem) Memory) → AreBytes piece → Stands first old events →
+pub loops-told : (first : ℕ) (old mid : Inner) (new : Kept RedirState) (events : List Event) (piece client_old client_new host_old host_new : List ℕ) (notes_old notes_new : List Note) (result : Result (Option RawItem) Memory) → AreBytes piece → Stands first (kept_of old) events →
     mid ≡ record old { host = mid.host; translator = mid.translator } → NextItem host_reader told_takes_memory raw_told raw.HostWrong result mid.host new → result ≡ Ok None →
     Taking first (host_side first) mid.host mid.translator (host_bytes events) piece (arrivals events) client_old client_new host_old host_new notes_old notes_new → TakesOn first (record mid { host = new }) events (HostPiece piece) client_old client_new host_old host_new notes_old notes_new
 loops-told first old mid new events piece client_old client_new host_old host_new notes_old notes_new result are stands rest n is took =
@@ -211,9 +211,9 @@ loops-told first old mid new events piece client_old client_new host_old host_ne
     (taking-all first (host_side first) told_takes_memory mid.host new mid.translator (host_bytes events) piece (arrivals events) client_old client_new host_old host_new notes_old notes_new n.answer stands.host.fits are (sym n.result-is ∙ is) n.changes n.nexts took)
 
 -- memory ran out for the next item, which the translator may have been given
-pub stops-told : (first : ℕ) (old mid : Inner) (new : Kept RedirState) (t : Translator) (events : List Event) (piece client_old client client_new host_old host host_new : List ℕ) (notes_old notes notes_new : List Note) (result : Result (Option RawItem) Memory) → Stands first old events →
+pub stops-told : (first : ℕ) (old mid : Inner) (new : Kept RedirState) (t : Translator) (events : List Event) (piece client_old client client_new host_old host host_new : List ℕ) (notes_old notes notes_new : List Note) (result : Result (Option RawItem) Memory) → Stands first (kept_of old) events →
     mid ≡ record old { host = mid.host; translator = mid.translator } → NextItem host_reader told_takes_memory raw_told raw.HostWrong result mid.host new → IsAny result → DoesNothing mid.translator t client client_new host host_new notes notes_new →
-    Taking first (host_side first) mid.host mid.translator (host_bytes events) piece (arrivals events) client_old client host_old host notes_old notes → Stops first (record mid { host = new; translator = t }) events (HostPiece piece) client_old client_new host_old host_new
+    Taking first (host_side first) mid.host mid.translator (host_bytes events) piece (arrivals events) client_old client host_old host notes_old notes → Stops first (kept_of (record mid { host = new; translator = t })) events (HostPiece piece) client_old client_new host_old host_new
 stops-told first old mid new t events piece client_old client client_new host_old host host_new notes_old notes notes_new result stands rest n any nothing took =
     halts-told first old (record mid { host = new; translator = t }) events piece client_old client_new host_old host_new notes_old notes_new stands (host-kept old mid (record mid { host = new; translator = t }) new t rest refl)
     (halted-still first (host_side first) new mid.translator t (host_bytes events) piece (arrivals events) client_old client client_new host_old host host_new notes_old notes notes_new nothing

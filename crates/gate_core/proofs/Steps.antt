@@ -105,7 +105,7 @@ present-is first ms e h =
     (Each-weaker (λ s. s.place ≡ length ms) (λ s. fresh s ≡ pending ms s) (λ s p. ap (λ (u : Option ℕ). record { submit = s; unlinker = u }) (sym (unopened-unlinker ms s (omega (arith, p))))) (opened e) h))
     ∙ sym (map-append (pending ms) (live ms) (opened e))
 
-asked : (ms : List Mark) (m : Mark) (s : Submission) → Present ms s → pending (m ∷ ms) s ≡ ask m.what (pending ms s)
+pub asked : (ms : List Mark) (m : Mark) (s : Submission) → Present ms s → pending (m ∷ ms) s ≡ ask m.what (pending ms s)
 asked ms m s p =
     ap (λ (b : Bool). record { submit = s; unlinker = or_else (unlinker ms s) (cond (b && is_live ms s) (asks m.what s) None) }) (within s.place (length ms) p.there)
     ∙ ap (λ (b : Bool). record { submit = s; unlinker = or_else (unlinker ms s) (cond b (asks m.what s) None) }) p.live

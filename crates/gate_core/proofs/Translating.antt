@@ -18,7 +18,7 @@ use Rattle.gate_core.specs.All.{all_of, is_ret_submit, is_won_unlink}
 use Rattle.gate_core.specs.Bytes.{host_packet_bytes, gateway_hello, client_bytes_of, host_bytes_of, out_client, out_host}
 use Rattle.gate_core.specs.Machine.{after, step}
 use Rattle.gate_core.specs.Stands.{Translates, Gains}
-use Rattle.gate_core.specs.inner.Holds.{Holds, Does}
+use Rattle.gate_core.specs.inner.Holds.{items_of, Holds, Does}
 use Rattle.gate_core.specs.inner.Steps.{Sends}
 use Rattle.gate_core.proofs.Runs.{state-run}
 
@@ -38,7 +38,7 @@ pub sends-none : (first : ℕ) (client host : List ℕ) (notes : List Note) (h :
 sends-none first client host notes h = record { client = gains-none client _; host = gains-none host _; told = gains-none notes _ }
 
 -- what depends on the past alone
-pub translates-past : (first : ℕ) (t : Translator) (xs ys : List Item) → past first ys ≡ past first xs → Translates first t xs → Translates first t ys
+pub translates-past : (first : ℕ) (t : Translator) (xs ys : List Item) → past first ys ≡ past first xs → Translates first (items_of t) xs → Translates first (items_of t) ys
 translates-past first t xs ys same h = record {
   state = subst (λ (ms : List Mark). Holds t (state_of first ms)) (sym same) h.state;
   answered = h.answered ∙ ap (λ (ms : List Mark). capped (length (filter is_ret_submit (all_of to_client first ms)))) (sym same);
@@ -84,9 +84,9 @@ dropped-more first ms m old new e f =
     let b = dropped (state_of first ms) m in
     capped-past old (length a) (length b) new e f ∙ ap capped (sym (length-append a b))
 
-pub translates-item : (first : ℕ) (old new : Translator) (xs : List Item) (x : Item) (client_old client_new host_old host_new : List ℕ) (notes_old notes_new : List Note) → Translates first old xs →
+pub translates-item : (first : ℕ) (old new : Translator) (xs : List Item) (x : Item) (client_old client_new host_old host_new : List ℕ) (notes_old notes_new : List Note) → Translates first (items_of old) xs →
     is_left_out (state_of first (past first xs)) x ≡ false →
-    Does (state_of first (past first xs)) (mark_of (state_of first (past first xs)) x) old new client_old client_new host_old host_new notes_old notes_new → Translates first new (x ∷ xs)
+    Does (state_of first (past first xs)) (mark_of (state_of first (past first xs)) x) old new client_old client_new host_old host_new notes_old notes_new → Translates first (items_of new) (x ∷ xs)
 translates-item first old new xs x client_old client_new host_old host_new notes_old notes_new t taken does =
     let ms = past first xs in
     let m = mark_of (state_of first ms) x in

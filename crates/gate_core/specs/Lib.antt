@@ -27,5 +27,7 @@ pub mod Machine
 pub mod Turns
 pub mod Losses
 pub mod Sound
+pub mod Rows
+pub mod Kept
 pub mod Stands
 pub mod inner

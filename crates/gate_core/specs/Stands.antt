@@ -1,5 +1,5 @@
 -- When the gate stands for items and for events, and what one event more makes of it.
-use Rattle.std.specs.Prelude.{◌≡◌, ◌⊎◌, ◌++◌, ◌∷◌, [], ℕ, Bool, true, false, List, length, filter}
+use Rattle.std.specs.Prelude.{◌≡◌, ◌⊎◌, ◌++◌, ◌∷◌, [], ℕ, Bool, true, false, List, length, map, filter}
 use Rattle.usb_base.specs.Number.{AreBytes}
 use Rattle.usb_base.specs.declared.reason.Reason.{Reason}
 use Rattle.usbip_urb.specs.declared.client.ClientPacket.{ClientPacket}
@@ -8,23 +8,22 @@ use Rattle.redir_data.specs.declared.packet.RedirPacket.{RedirPacket}
 use Rattle.packet_stream.specs.Split.{Reader, Position, Splitting, split}
 use Rattle.packet_stream.specs.Streams.{Kept, Drained, Closed, Holds as IsLeft}
 use Rattle.gate_core.specs.declared.note.Note.{Note}
-use Rattle.gate_core.specs.declared.kept.Kept.{Kept as Translator}
-use Rattle.gate_core.specs.declared.inner.Inner.{Inner}
 use Rattle.gate_core.specs.Events.{Event, client_bytes, host_bytes}
 use Rattle.gate_core.specs.Streams.{client_reader, client_start, host_reader, host_start}
 use Rattle.gate_core.specs.Items.{Item, Asked, ClientWrong, ClientLeft, Told, HostWrong, HostLeft, capped}
 use Rattle.gate_core.specs.Sides.{client_over, host_over}
-use Rattle.gate_core.specs.State.{state_of}
+use Rattle.gate_core.specs.State.{State, state_of}
 use Rattle.gate_core.specs.Past.{past}
 use Rattle.gate_core.specs.History.{brought, onto, arrivals, history}
 use Rattle.gate_core.specs.Output.{to_client}
 use Rattle.gate_core.specs.Notes.{notes_of, dropped}
 use Rattle.gate_core.specs.All.{all_of, is_ret_submit, is_won_unlink}
 use Rattle.gate_core.specs.Bytes.{out_client, out_host}
-use Rattle.gate_core.specs.inner.Holds.{Holds}
+use Rattle.gate_core.specs.Kept.{ItemsKept, GateKept}
+use Rattle.gate_core.specs.Rows.{row, left_row, unmarked}
 
 -- it met want of memory: from then on it does nothing
-abbrev pub HasFailed : Inner → Type 0
+abbrev pub HasFailed : GateKept → Type 0
 HasFailed g = g.failed ≡ true
 
 -- ---- the packets that came, with their places
@@ -50,9 +49,21 @@ told (HostLeft ∷ xs) = told xs
 
 -- ---- items
 
--- the translator stands for the past of these items, and has counted what they gave
-pub record Translates (first : ℕ) (t : Translator) (xs : List Item) : Type 0 where
-  pub state : Holds t (state_of first (past first xs))
+-- what is kept is that of this state
+pub record IsOf (t : ItemsKept) (st : State) : Type 0 where
+  pub facts : t.facts ≡ st.facts
+  pub caps : t.caps ≡ st.agreed
+  pub imported : t.imported ≡ st.imported
+  pub lost : t.lost ≡ st.lost
+  pub client_over : t.client_over ≡ st.client_over
+  pub host_over : t.host_over ≡ st.host_over
+  pub last : t.last ≡ st.last
+  pub live : t.live ≡ map row st.live
+  pub abandoned : map unmarked t.abandoned ≡ map left_row st.abandoned
+
+-- it is that of the past of these items, and what they gave is counted
+pub record Translates (first : ℕ) (t : ItemsKept) (xs : List Item) : Type 0 where
+  pub state : IsOf t (state_of first (past first xs))
   pub answered : t.answered ≡ capped (length (filter is_ret_submit (all_of to_client first (past first xs))))
   pub unlinked : t.unlinked ≡ capped (length (filter is_won_unlink (all_of to_client first (past first xs))))
   pub dropped : t.dropped ≡ capped (length (all_of dropped first (past first xs)))
@@ -70,8 +81,8 @@ pub record StreamStands {S P : Type 0} (r : Reader S P Reason) (start : Position
   pub none : kept.over ≡ true → kept.held ≡ []
 
 -- the gate stands for these items of what has come with these events
-pub record StandsFor (first : ℕ) (g : Inner) (events : List Event) (xs : List Item) : Type 0 where
-  pub translates : Translates first g.translator xs
+pub record StandsFor (first : ℕ) (g : GateKept) (events : List Event) (xs : List Item) : Type 0 where
+  pub translates : Translates first g.items xs
   pub client : StreamStands client_reader client_start g.client (client_bytes events) (asked xs) (client_over (past first xs))
   pub host : StreamStands host_reader host_start g.host (host_bytes events) (told xs) (host_over (past first xs))
 
@@ -88,17 +99,17 @@ pub record HasAll {S P : Type 0} (r : Reader S P Reason) (start : Position S) (k
   pub fits : AreBytes bytes
 
 -- the gate works, and stands for all items of these events
-pub record Stands (first : ℕ) (g : Inner) (events : List Event) : Type 0 where
+pub record Stands (first : ℕ) (g : GateKept) (events : List Event) : Type 0 where
   pub works : g.failed ≡ false
-  pub translates : Translates first g.translator (arrivals events)
+  pub translates : Translates first g.items (arrivals events)
   pub client : HasAll client_reader client_start g.client (client_bytes events) (asked (arrivals events)) (client_over (history first events))
   pub host : HasAll host_reader host_start g.host (host_bytes events) (told (arrivals events)) (host_over (history first events))
 
 -- it stands for some events
-abbrev pub HasPast : Inner → Type 0
+abbrev pub HasPast : GateKept → Type 0
 HasPast g = ∥ ((first : ℕ) × ((events : List Event) × Stands first g events)) ∥₁
 
-abbrev pub IsReady : Inner → Type 0
+abbrev pub IsReady : GateKept → Type 0
 IsReady g = g.failed ≡ false → HasPast g
 
 -- ---- one event more
@@ -109,7 +120,7 @@ pub record Gains {A : Type 0} (old new before after : List A) : Type 0 where
   pub new-is : new ≡ old ++ more
   pub after-is : after ≡ before ++ more
 
-pub record Takes (first : ℕ) (new : Inner) (events : List Event) (e : Event) (client_old client_new host_old host_new : List ℕ) (notes : List Note) : Type 0 where
+pub record Takes (first : ℕ) (new : GateKept) (events : List Event) (e : Event) (client_old client_new host_old host_new : List ℕ) (notes : List Note) : Type 0 where
   pub stands : Stands first new (e ∷ events)
   pub client : Gains client_old client_new (out_client first (history first events)) (out_client first (history first (e ∷ events)))
   pub host : Gains host_old host_new (out_host first (history first events)) (out_host first (history first (e ∷ events)))
@@ -117,7 +128,7 @@ pub record Takes (first : ℕ) (new : Inner) (events : List Event) (e : Event) (
 
 -- memory ran out within an event: the first of its items were taken, what they send was sent, and the gate stands for
 -- them; or not even its bytes have come
-pub record Stops (first : ℕ) (new : Inner) (events : List Event) (e : Event) (client_old client_new host_old host_new : List ℕ) : Type 0 where
+pub record Stops (first : ℕ) (new : GateKept) (events : List Event) (e : Event) (client_old client_new host_old host_new : List ℕ) : Type 0 where
   pub taken : List Item
   pub later : List Item
   pub parts : brought events e ≡ taken ++ later

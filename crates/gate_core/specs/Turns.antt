@@ -1,11 +1,15 @@
--- How the submits of a number and their ends follow each other, and which of the packets to a client answer one.
-use Rattle.std.specs.Prelude.{ℕ, ◌||◌, not, Bool, true, false, List, [], ◌∷◌, ◌++◌, map, filter}
+-- How the submits of a number and their ends follow each other, and which packets to a client answer which submit.
+use Rattle.std.specs.Prelude.{ℕ, ◌&&◌, not, Bool, true, false, if◌then◌else◌, List, [], ◌∷◌, ◌++◌, map, filter, Option, Some, None}
+use Rattle.usbip_urb.specs.declared.packet.UrbPacket.TheVariants as urb
 use Rattle.usbip_urb.specs.declared.client.ClientPacket.{ClientPacket}
+use Rattle.usbip_urb.specs.declared.client.ClientPacket.TheVariants.{Urb}
+use Rattle.gate_core.specs.Errno.{is_zero}
+use Rattle.gate_core.specs.Verdict.{is_wire}
 use Rattle.gate_core.specs.Marks.{Submission, Effect, Mark}
-use Rattle.gate_core.specs.Submits.{opened, end_of, ended}
+use Rattle.gate_core.specs.Submits.{End, ByLoss, ByAnswer, opened, end_of, ended, unlinker}
 use Rattle.gate_core.specs.State.{is_number}
+use Rattle.gate_core.specs.Answers.{is_cancelled}
 use Rattle.gate_core.specs.Notes.{is_by_client}
-use Rattle.gate_core.specs.All.{is_ret_submit, is_won_unlink}
 
 -- ---- of one number, the latest first
 
@@ -35,11 +39,32 @@ Alternate false (Begin ∷ ts) = ⊥
 
 -- ---- of all numbers
 
+-- what answers a submit: its completion, which has its number, or an unlink that won, which has the unlink's
+pub data Answer : Type 0 where
+  Completed : (number : ℕ) → Answer
+  Unlinked : (by : ℕ) → Answer
+
 -- the word to an unlink that came too late answers no submit
-abbrev pub is_answer : ClientPacket → Bool
-is_answer p = is_ret_submit p || is_won_unlink p
+abbrev pub answers_in : ClientPacket → List Answer
+answers_in (Urb (urb.RetSubmit r)) = Completed r.head.seqnum ∷ []
+answers_in (Urb (urb.RetUnlink r)) = if is_zero r.status then [] else Unlinked r.head.seqnum ∷ []
+answers_in _ = []
 
 -- the ends that aren't a client's leaving
 abbrev pub answered_ends : List Mark → List Submission
 answered_ends [] = []
 answered_ends (m ∷ ms) = answered_ends ms ++ filter (λ s. not (is_by_client (end_of (m ∷ ms) s))) (ended ms m)
+
+-- the ends with which an unlink wins: a loss, and the answer that its transfer was cancelled
+abbrev pub wins : Submission → Option End → Bool
+wins s (Some ByLoss) = true
+wins s (Some (ByAnswer outcome)) = is_wire s.verdict && is_cancelled outcome.status
+wins s _ = false
+
+abbrev pub answer : (number : ℕ) → (unlinker : Option ℕ) → (won : Bool) → Answer
+answer number None won = Completed number
+answer number (Some by) won = if won then Unlinked by else Completed number
+
+-- the one answer of a submit that has ended
+abbrev pub answer_of : List Mark → Submission → Answer
+answer_of ms s = answer s.request.number (unlinker ms s) (wins s (end_of ms s))

@@ -24,15 +24,15 @@ pub struct Gate {
 }
 
 impl Model for Gate {
-    ghost use Rattle.gate_core.specs.declared.inner.Inner.{Inner};
-
-    ghost Value = { Inner };
-
+    ghost use Rattle.gate_core.specs.Kept.{GateKept};
     ghost use Rattle.gate_core.specs.Stands.{IsReady};
+    ghost use Rattle.gate_core.specs.inner.Steps.{kept_of};
 
-    ghost view = { λ gate. gate.inner };
+    ghost Value = { GateKept };
 
-    ghost invariant = { λ gate. IsReady gate.inner };
+    ghost view = { λ gate. kept_of gate.inner };
+
+    ghost invariant = { λ gate. IsReady (kept_of gate.inner) };
 }
 
 impl Gate {

@@ -9,7 +9,7 @@ ghost use Rattle.gate_core.specs.Events.{ClientPiece, ClientEnd, HostPiece, Host
 ghost use Rattle.gate_core.specs.Streams.{client_reader, host_reader};
 ghost use Rattle.gate_core.specs.Stands.{HasPast, Stands};
 ghost use Rattle.gate_core.specs.inner.Holds.{ItemFits};
-ghost use Rattle.gate_core.specs.inner.Steps.{NextItem, IfNext, IsReadable, TakesEvent, ended_if, raw_told};
+ghost use Rattle.gate_core.specs.inner.Steps.{NextItem, IfNext, IsReadable, TakesEvent, kept_of, ended_if, raw_told};
 
 use crate::event::Event;
 use crate::item::Item;
@@ -37,7 +37,7 @@ impl Inner {
     /// The gate to which nothing has happened.
     pub fn make(alloc: Global, first_id: u64) -> Result<Inner, Memory>
         requires { 1 ≤ first_id }
-        ensures { IfOk result (λ gate. Stands first_id gate []) }
+        ensures { IfOk result (λ gate. Stands first_id (kept_of gate) []) }
     {
         Ok(Inner {
             alloc,
@@ -56,7 +56,7 @@ impl Inner {
         to_host: &mut Bytes,
         notes: &mut Notes,
     ) -> Result<(), Memory>
-        requires { HasPast self.old }
+        requires { HasPast (kept_of self.old) }
         ensures { TakesEvent result self.old self.new (event_of event.entry) to_client.old to_client.new to_host.old to_host.new notes.old notes.new }
     {
         match event {
@@ -75,7 +75,7 @@ impl Inner {
         to_host: &mut Bytes,
         notes: &mut Notes,
     ) -> Result<(), Memory>
-        requires { HasPast self.old }
+        requires { HasPast (kept_of self.old) }
         ensures { TakesEvent result self.old self.new (ClientPiece piece.now) to_client.old to_client.new to_host.old to_host.new notes.old notes.new }
     {
         self.client.put(piece)?;
@@ -94,7 +94,7 @@ impl Inner {
         to_host: &mut Bytes,
         notes: &mut Notes,
     ) -> Result<(), Memory>
-        requires { HasPast self.old }
+        requires { HasPast (kept_of self.old) }
         ensures { TakesEvent result self.old self.new (HostPiece piece.now) to_client.old to_client.new to_host.old to_host.new notes.old notes.new }
     {
         self.host.put(piece)?;
@@ -112,7 +112,7 @@ impl Inner {
         to_host: &mut Bytes,
         notes: &mut Notes,
     ) -> Result<(), Memory>
-        requires { HasPast self.old }
+        requires { HasPast (kept_of self.old) }
         ensures { TakesEvent result self.old self.new ClientEnd to_client.old to_client.new to_host.old to_host.new notes.old notes.new }
     {
         self.translator
@@ -128,7 +128,7 @@ impl Inner {
         to_host: &mut Bytes,
         notes: &mut Notes,
     ) -> Result<(), Memory>
-        requires { HasPast self.old }
+        requires { HasPast (kept_of self.old) }
         ensures { TakesEvent result self.old self.new HostEnd to_client.old to_client.new to_host.old to_host.new notes.old notes.new }
     {
         if self.host.is_over() {

@@ -1,7 +1,7 @@
 //! Laws of the core's definitions, as contracts of functions that do nothing.
 
-ghost use Rattle.std.specs.Prelude.{◌≡◌, ◌<◌, ◌≤◌, ◌↔◌, ℕ, List, ◌∷◌, length, filter};
-ghost use Rattle.std.specs.List.{list_any};
+ghost use Rattle.std.specs.Prelude.{◌≡◌, ◌<◌, ◌≤◌, ◌↔◌, ℕ, List, ◌∷◌, length, map};
+ghost use Rattle.std.specs.List.{list_any, flat_map};
 ghost use Rattle.usb_base.specs.Number.{AreBytes};
 ghost use Rattle.gate_core.specs.Events.{Event as PastEvent};
 ghost use Rattle.gate_core.specs.Items.{Item};
@@ -17,7 +17,7 @@ ghost use Rattle.gate_core.specs.Notes.{notes_of, dropped};
 ghost use Rattle.gate_core.specs.All.{all_of, counts_of};
 ghost use Rattle.gate_core.specs.Bytes.{client_bytes_of, host_bytes_of};
 ghost use Rattle.gate_core.specs.Machine.{run, run_counts, steps, GivesPast, AddsItems};
-ghost use Rattle.gate_core.specs.Turns.{turns, Alternate, is_answer, answered_ends};
+ghost use Rattle.gate_core.specs.Turns.{turns, Alternate, answers_in, answered_ends, answer_of};
 ghost use Rattle.gate_core.specs.Losses.{Loses, EndsAll};
 ghost use Rattle.gate_core.specs.Sound.{IsSound};
 
@@ -43,13 +43,14 @@ pub fn events_add_items()
     ensures dropped { AddsItems dropped }
 {}
 
-/// A law: of each number, submits and their ends alternate, a submit first. The answers that are sent are as many
-/// as the ends that aren't a client's leaving.
+/// A law: of each number, submits and their ends alternate, a submit first. The answers that are sent are, in order,
+/// one for each end that isn't a client's leaving: that submit's completion, or its unlink's success.
 pub fn submits_end_once()
     ensures alternate { (first : ℕ) (items : List Item) (number : ℕ)
         → Alternate (list_any (is_number number) (live (past first items))) (turns (past first items) number) }
     ensures answered { (first : ℕ) (items : List Item)
-        → length (filter is_answer (all_of to_client first (past first items))) ≡ length (answered_ends (past first items)) }
+        → flat_map answers_in (all_of to_client first (past first items))
+        ≡ map (answer_of (past first items)) (answered_ends (past first items)) }
 {}
 
 /// A law: with a loss of the device each submit that is live gets one answer, none is live after it, and none that

@@ -1,5 +1,5 @@
 -- When what is kept stands for a state of the machine, and what it does with an item.
-use Rattle.std.specs.Prelude.{◌≡◌, ◌⊎◌, ◌∷◌, ◌<◌, not, ◌+◌, ◌-◌, ◌^◌, [], ◌++◌, ◌≤◌, ℕ, true, false, List, length, map, filter, Option, Some, None}
+use Rattle.std.specs.Prelude.{◌≡◌, ◌⊎◌, ◌∷◌, ◌<◌, not, ◌+◌, ◌-◌, ◌^◌, [], ◌++◌, ◌≤◌, ℕ, true, false, List, length, filter, Option, Some, None}
 use Rattle.std.specs.List.{AllByRecursion, list_any}
 use Rattle.usbip_urb.specs.declared.code.TheConstants.{MAX_LENGTH}
 use Rattle.usbip_urb.specs.ClientPackets.{IsClientPacket}
@@ -33,8 +33,10 @@ use Rattle.gate_core.specs.All.{is_ret_submit, is_won_unlink}
 use Rattle.gate_core.specs.Bytes.{client_bytes_of, host_bytes_of}
 use Rattle.gate_core.specs.Machine.{start, after}
 use Rattle.gate_core.specs.Requests.{Request}
+use Rattle.gate_core.specs.Kept.{ItemsKept}
+use Rattle.gate_core.specs.Stands.{IsOf}
 use Rattle.gate_core.specs.inner.Asked.{HasItsPackets}
-use Rattle.gate_core.specs.inner.Rows.{row, unmarked, left_row, kind_of, IsFine, IsRead}
+use Rattle.gate_core.specs.inner.Rows.{kind_of, IsFine, IsRead}
 
 -- ---- standing for a state
 
@@ -48,16 +50,25 @@ pub record IsKept (t : Kept) : Type 0 where
   pub unlinked_fits : t.unlinked ≤ 2 ^ 64 - 1
   pub dropped_fits : t.dropped ≤ 2 ^ 64 - 1
 
-pub record Holds (t : Kept) (st : State) : Type 0 where
-  pub facts : t.facts ≡ st.facts
-  pub caps : t.caps ≡ st.agreed
-  pub imported : t.imported ≡ st.imported
-  pub lost : t.lost ≡ st.lost
-  pub client_over : t.client_over ≡ st.client_over
-  pub host_over : t.host_over ≡ st.host_over
-  pub last : t.last ≡ st.last
-  pub live : t.lives.live ≡ map row st.live
-  pub abandoned : map unmarked t.lives.abandoned ≡ map left_row st.abandoned
+-- without its allocator
+abbrev pub items_of : Kept → ItemsKept
+items_of t = record {
+  facts = t.facts;
+  caps = t.caps;
+  imported = t.imported;
+  lost = t.lost;
+  client_over = t.client_over;
+  host_over = t.host_over;
+  live = t.lives.live;
+  abandoned = t.lives.abandoned;
+  last = t.last;
+  answered = t.answered;
+  unlinked = t.unlinked;
+  dropped = t.dropped;
+}
+
+abbrev pub Holds : Kept → State → Type 0
+Holds t st = IsOf (items_of t) st
 
 -- nothing came yet
 pub record IsFirst (t : Kept) (first : ℕ) : Type 0 where

@@ -1,7 +1,5 @@
--- The rows of the requests in flight: what each has of its submit.
+-- The rows of the requests in flight: what holds of them, and what goes out for them.
 use Rattle.std.specs.Prelude.{◌≡◌, ◌⊎◌, ◌&&◌, not, ℕ, ◌≤◌, Bool, true, false, if◌then◌else◌, List, [], Option, Some, None, is_none}
-use Rattle.usb_base.specs.declared.endpoint.EpKind.{EpKind}
-use Rattle.usb_base.specs.declared.endpoint.EpKind.TheVariants as kind
 use Rattle.usb_base.specs.Endpoint.{is_in_endpoint}
 use Rattle.usbip_urb.specs.declared.code.TheConstants.{MAX_LENGTH}
 use Rattle.usbip_urb.specs.declared.packet.UrbPacket.{UrbPacket}
@@ -14,16 +12,16 @@ use Rattle.unlink_race.specs.declared.live.Live.{Live}
 use Rattle.unlink_race.specs.declared.live.LiveKind.{LiveKind}
 use Rattle.unlink_race.specs.declared.live.LiveKind.TheVariants as live_kind
 use Rattle.unlink_race.specs.Searches.{goes_by_id}
-use Rattle.gate_core.specs.Verdict.{Pipe, Control, Bulk, InterruptOut, Verdict, Now, Wire, Routed, IsoOut, Stream, is_wire}
+use Rattle.gate_core.specs.Verdict.{is_wire}
 use Rattle.gate_core.specs.Errno.{econnreset, eshutdown}
 use Rattle.gate_core.specs.Requests.{Request}
 use Rattle.gate_core.specs.Marks.{Submission}
-use Rattle.gate_core.specs.Submits.{Pending}
 use Rattle.gate_core.specs.Flight.{wide_ids}
 use Rattle.gate_core.specs.Responses.{route_gets}
 use Rattle.gate_core.specs.Answers.{without_packets, ret_unlink}
 use Rattle.gate_core.specs.Bytes.{host_packet_bytes}
 use Rattle.gate_core.specs.inner.Asked.{HasItsPackets}
+pub use Rattle.gate_core.specs.Rows.{pipe_kind, kind_of, row_of, row, unmarked, left_row}
 
 -- ---- what the answers of a submit have of it
 
@@ -40,44 +38,6 @@ pub record IsRowOf (s : Submission) (l : Live) : Type 0 where
   pub descs : l.descs ≡ s.request.descs
   pub wanted : l.wanted ≡ s.request.transfer.wanted
   pub wire : is_wire_row l.kind ≡ is_wire s.verdict
-
--- ---- the whole row
-
-abbrev pub pipe_kind : Pipe → EpKind
-pipe_kind Control = kind.Control
-pipe_kind Bulk = kind.Bulk
-pipe_kind InterruptOut = kind.Interrupt
-
--- what is answered at once is never in flight
-abbrev pub kind_of : Verdict → ℕ → LiveKind
-kind_of (Wire pipe) ep = live_kind.Wire ep (pipe_kind pipe)
-kind_of (Routed r) ep = live_kind.Routed r
-kind_of (Stream row) ep = live_kind.Stream ep row.interface
-kind_of (Now status) ep = live_kind.Stream ep 0
-kind_of IsoOut ep = live_kind.Stream ep 0
-
-abbrev pub row_of : Submission → Option ℕ → Live
-row_of s by = record {
-  seqnum = s.request.number;
-  id = s.id;
-  kind = kind_of s.verdict s.request.transfer.ep;
-  is_in = s.request.is_in;
-  wanted = s.request.transfer.wanted;
-  flags = s.request.flags;
-  packets = s.request.packets;
-  descs = s.request.descs;
-  unlinker = by;
-}
-
-abbrev pub row : Pending → Live
-row p = row_of p.submit p.unlinker
-
--- of a client that has left it doesn't matter what it asked back
-abbrev pub unmarked : Live → Live
-unmarked l = record l { unlinker = None }
-
-abbrev pub left_row : Submission → Live
-left_row s = row_of s None
 
 -- ---- what holds of each row
 

@@ -25,7 +25,13 @@ use Rattle.gate_core.specs.History.{arrivals}
 use Rattle.gate_core.specs.Notes.{notes_of}
 use Rattle.gate_core.specs.All.{all_of}
 use Rattle.gate_core.specs.Bytes.{out_client, out_host}
+use Rattle.gate_core.specs.Kept.{GateKept}
 use Rattle.gate_core.specs.Stands.{Stands, Gains, Stops}
+use Rattle.gate_core.specs.inner.Holds.{items_of}
+
+-- what the gate keeps, without its allocators
+abbrev pub kept_of : Inner → GateKept
+kept_of g = record { items = items_of g.translator; client = g.client; host = g.host; failed = g.failed }
 
 -- ---- both streams
 
@@ -80,12 +86,12 @@ pub record Sends (first : ℕ) (client_old client_new host_old host_new : List �
   pub told : Gains notes_old notes_new (all_of notes_of first (past first h)) (all_of notes_of first (past first k))
 
 pub record TakesOn (first : ℕ) (new : Inner) (events : List Event) (e : Event) (client_old client_new host_old host_new : List ℕ) (notes_old notes_new : List Note) : Type 0 where
-  pub stands : Stands first new (e ∷ events)
+  pub stands : Stands first (kept_of new) (e ∷ events)
   pub sends : Sends first client_old client_new host_old host_new notes_old notes_new (arrivals events) (arrivals (e ∷ events))
 
 -- whatever has come: the event was taken, or memory ran out
 abbrev pub TakesEvent : Result (Unit {0}) Memory → Inner → Inner → Event → List ℕ → List ℕ → List ℕ → List ℕ → List Note → List Note → Type 0
 TakesEvent (Ok v) old new e client_old client_new host_old host_new notes_old notes_new =
-    (first : ℕ) (events : List Event) → Stands first old events → TakesOn first new events e client_old client_new host_old host_new notes_old notes_new
+    (first : ℕ) (events : List Event) → Stands first (kept_of old) events → TakesOn first new events e client_old client_new host_old host_new notes_old notes_new
 TakesEvent (Err memory) old new e client_old client_new host_old host_new notes_old notes_new =
-    (first : ℕ) (events : List Event) → Stands first old events → Stops first new events e client_old client_new host_old host_new
+    (first : ℕ) (events : List Event) → Stands first (kept_of old) events → Stops first (kept_of new) events e client_old client_new host_old host_new

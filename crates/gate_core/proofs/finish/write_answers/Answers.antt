@@ -5,7 +5,8 @@ use Rattle.unlink_race.specs.declared.ending.Ending.TheVariants.{Completed, Unli
 use Rattle.gate_core.specs.Errno.{econnreset}
 use Rattle.gate_core.specs.Requests.{Request}
 use Rattle.gate_core.specs.Answers.{with_outcome, ret_unlink}
-use Rattle.gate_core.proofs.Answered.{row_request, bytes-one, bytes-two}
+use Rattle.gate_core.specs.inner.Rows.{row_request}
+use Rattle.gate_core.proofs.Answered.{bytes-one, bytes-two}
 use Rattle.gate_core.proofs.finish.write_answers.Goals as goal
 
 pub returns-in-Completed-clause-ok : goal.returns-in-Completed-clause-ok

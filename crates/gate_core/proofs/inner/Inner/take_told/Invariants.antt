@@ -2,14 +2,14 @@ use Rattle.std.proofs.Common.{◌≡◌, ℕ, List}
 use Rattle.gate_core.specs.Events.{Event, host_bytes}
 use Rattle.gate_core.specs.History.{arrivals}
 use Rattle.gate_core.specs.Stands.{Stands}
-use Rattle.gate_core.specs.inner.Steps.{left_of}
+use Rattle.gate_core.specs.inner.Steps.{kept_of, left_of}
 use Rattle.gate_core.proofs.Sides.{host_side}
 use Rattle.gate_core.proofs.Pieces.{Taking}
 use Rattle.gate_core.proofs.inner.Inner.take_told.Given as goal
 
 abbrev pub invariant-items : goal.invariant-items
 invariant-items l = record {
-  took : (first : ℕ) (events : List Event) → Stands first l.fn.self events → Taking first (host_side first) l.self.host l.self.translator (host_bytes events) l.piece (arrivals events) l.fn.to_client l.to_client l.fn.to_host l.to_host l.fn.notes l.notes;
+  took : (first : ℕ) (events : List Event) → Stands first (kept_of l.fn.self) events → Taking first (host_side first) l.self.host l.self.translator (host_bytes events) l.piece (arrivals events) l.fn.to_client l.to_client l.fn.to_host l.to_host l.fn.notes l.notes;
   rest : l.self ≡ record l.fn.self { host = l.self.host; translator = l.self.translator };
 }
 
