@@ -2,9 +2,9 @@
 
 ghost use Rattle.std.specs.Prelude.{◌≡◌, ◌++◌, ◌∷◌, [], List, ℕ, None, OnOk, option_map, true};
 ghost use Rattle.gate_core.specs.Events.{Event as PastEvent, event_of};
-ghost use Rattle.packet_show.specs.Tape.{tape_line, takes_memory};
+ghost use Rattle.packet_show.specs.Tape.{tape_line};
 ghost use Rattle.packet_show.specs.declared.tape.TapeKind.TheVariants as kind;
-ghost use Rattle.usbgate.specs.Tape.{event_said, host_ended, may_happen};
+ghost use Rattle.usbgate.specs.Tape.{event_said, IsEvent, host_ended, may_happen};
 ghost use Rattle.usbgate.specs.EventCommand.{EventCommand as Told, over_events};
 ghost use Rattle.usbgate.specs.inner.EventTape.{HasEvents};
 
@@ -94,6 +94,8 @@ impl<E: EventCommand> TapeCommand for EventTape<E> {
     ghost Kept = { List PastEvent };
 
     ghost Keeps = { HasEvents E.HasSeen };
+
+    ghost Wants = { λ line. IsEvent (tape_line kind.Replay line) };
 
     fn take_line(&mut self, alloc: Global, line: &[u8], text: &mut Bytes) -> Result<(), LineError> {
         let said = read_line(alloc, TapeKind::Replay, line)?;

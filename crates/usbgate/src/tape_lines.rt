@@ -46,6 +46,7 @@ impl<C: TapeCommand> TapeLines<C> {
         ensures goes { OnOk result ((command : Told C.Kept) (s : Progress C.Kept) → HasRead (C.Keeps command) self.old s → GoesOn (C.Keeps command) (next_line command s line.now) self.new text.old text.new) }
         ensures bad { result ≡ Err LineError.Bad → (command : Told C.Kept) (s : Progress C.Kept) → HasRead (C.Keeps command) self.old s → next_line command s line.now ≡ None }
         ensures same { result ≡ Err LineError.Bad → (self.new ≡ self.old) × (text.new ≡ text.old) }
+        ensures memory { result ≡ Err LineError.Memory → C.Wants (content_of line.now) }
     {
         let len = line.len() as u64;
         if len > self.room {
