@@ -18,7 +18,6 @@ use Rattle.gate_core.specs.Output.{present}
 use Rattle.gate_core.specs.Bytes.{out_client, out_host}
 use Rattle.gate_core.specs.Stands.{Gains, Takes}
 use Rattle.usbgate.specs.declared.replay.Replay.{Replay}
-use Rattle.usbgate.specs.Tape.{host_ended}
 use Rattle.usbgate.specs.Text.{told_notes, gained, sent_text}
 use Rattle.usbgate.specs.Replay.{has_refusal}
 use Rattle.usbgate.specs.inner.Replay.{is_refusal, HasSeen, Sees}
@@ -117,8 +116,8 @@ gains-is old new before after none g = more-is old new before after _ none g.new
 
 pub sees : (first : ℕ) (old new : Replay) (events : List Event) (e : Event) (client host text_old text_new : List ℕ) (notes : List Note) → HasSeen first old events
     → Takes first new.gate events e old.to_client client old.to_host host notes → text_new ≡ text_old ++ sent_text client host notes → new.to_client ≡ [] → new.to_host ≡ []
-    → new.host_ended ≡ host_ended (e ∷ events) → new.refused ≡ (old.refused || list_any is_refusal notes) → Sees first new events e text_old text_new
-sees first old new events e client host text_old text_new notes h t text no_client no_host host_end refused =
+    → new.refused ≡ (old.refused || list_any is_refusal notes) → Sees first new events e text_old text_new
+sees first old new events e client host text_old text_new notes h t text no_client no_host refused =
     let to_client : client ≡ gained out_client first events e = gains-is old.to_client client _ _ h.to_client t.client in
     let to_host : host ≡ gained out_host first events e = gains-is old.to_host host _ _ h.to_host t.host in
     let told : notes ≡ gained told_notes first events e =
@@ -130,7 +129,6 @@ sees first old new events e client host text_old text_new notes h t text no_clie
         gate = t.stands;
         to_client = no_client;
         to_host = no_host;
-        host_ended-is = host_end;
         refused = refused ∙ ap (λ (b : Bool). b || list_any is_refusal notes) h.refused ∙ refused-more first (history first events) (history first (e ∷ events)) notes t.told;
       };
     }

@@ -1,23 +1,18 @@
 -- In the middle of a run, and how it ends.
-use Rattle.std.proofs.Common.{◌≡◌, ◌⊎◌, inl, inr, ℕ, ◌+◌, ◌<◌, ◌≤◌, Bool, true, false, cond, List, [], ◌∷◌, ◌++◌, length, take, Option, Some, None, refl, sym, ap, subst, ◌∙◌, append_assoc}
+use Rattle.std.proofs.Common.{◌≡◌, ◌⊎◌, inl, inr, ℕ, ◌+◌, ◌<◌, ◌≤◌, Bool, true, false, cond, if◌then◌else◌, List, [], ◌∷◌, ◌++◌, length, take, Option, Some, None, refl, sym, ap, subst, ◌∙◌, append_assoc}
 use Rattle.std.proofs.lemmas.List.{append-nil, length-take-le}
 use Rattle.std.proofs.lemmas.Option.{none-some, same_Some}
-use Rattle.std.specs.Io.KnownBytes.{Appends, Consumes, Keeps, IsAtEnd}
+use Rattle.std.specs.Io.KnownBytes.{Appends, Consumes, Keeps as KeepsBytes, IsAtEnd}
 use Rattle.std.proofs.KnownBytes.{Appends-nil, Appends-trans, Consumes-nil, Consumes-trans, Consumes-kept}
 use Rattle.gate_outside.specs.Faults.{Rose}
 use Rattle.gate_outside.specs.Front.{AppendsFront}
 use Rattle.usbgate.specs.declared.tape_reader.TapeReader.{TapeReader}
 use Rattle.usbgate.specs.declared.status.Status.{Status}
 use Rattle.usbgate.specs.declared.status.Status.TheVariants.{Done, Usage, Refused, ReadFault, WriteFault, LinkFault, OutOfMemory, BadTape, Idle, Spent}
-use Rattle.gate_core.specs.History.{history}
 use Rattle.usbgate.specs.Tape.{lines_of}
-use Rattle.usbgate.specs.Text.{made_text, usage_line}
-use Rattle.usbgate.specs.TapeCommand.{tape_limit}
-use Rattle.usbgate.specs.Replay.{has_refusal}
-use Rattle.usbgate.specs.declared.words.Command.{Command}
-use Rattle.usbgate.specs.declared.words.Command.TheVariants.{Replay, Unknown}
-use Rattle.usbgate.specs.Prescribed.{prescribed_text}
-use Rattle.usbgate.specs.inner.Replay.{ReplayReading, replay_begin, replay_lines, replay_text, replay_status}
+use Rattle.usbgate.specs.Text.{usage_line}
+use Rattle.usbgate.specs.TapeCommand.{TapeCommand, tape_limit, begin, Reading, read_lines, tape_text, tape_status}
+use Rattle.usbgate.specs.Prescribed.{Prescribed, over_tape, usage}
 use Rattle.usbgate.specs.inner.Causes.{HasCauses}
 use Rattle.usbgate.specs.Run.{WrittenInPart, WrittenWhole, LeavesTold, Leaves, OpensNoLink}
 use Rattle.usbgate.specs.inner.TapeReader.{Stage, Closes}
@@ -42,16 +37,16 @@ at_end_told (Some x) rest end e = same_Some rest x (sym e) ∙ end
 
 -- ---- in the middle
 
-pub record Goes (first : ℕ) (remaining_old remaining contents_old contents : Option (List ℕ)) (p : TapeReader) : Type 0 where
+pub record Goes {C S : Type 0} (command : TapeCommand S) (Keeps : C → S → Type 0) (remaining_old remaining contents_old contents : Option (List ℕ)) (p : TapeReader C) : Type 0 where
   pub read : List ℕ
   pub written : List ℕ
   pub consumed : Consumes remaining_old remaining read
   pub wrote : Appends contents_old contents written
-  pub stage : Stage first p read written
+  pub stage : Stage command Keeps p read written
 
 -- nothing is written
-pub in_part-none : (command : Command) (contents : Option (List ℕ)) (tape text : List ℕ) → contents ≡ Some text → WrittenInPart command tape text contents
-in_part-none command contents tape text e = record { front = []; back = prescribed_text command tape; parts = refl; contents-is = e ∙ ap (λ (l : List ℕ). Some l) (sym (append-nil text)) }
+pub in_part-none : (p : Prescribed) (contents : Option (List ℕ)) (tape text : List ℕ) → contents ≡ Some text → WrittenInPart p tape text contents
+in_part-none p contents tape text e = record { front = []; back = p.text tape; parts = refl; contents-is = e ∙ ap (λ (l : List ℕ). Some l) (sym (append-nil text)) }
 
 -- ---- the end
 
@@ -83,35 +78,35 @@ refused-bad : {A : Type 0} (n : ℕ) → Refused ≡ BadTape n → A
 refused-bad n e = cc
 
 -- the tape has come to its end, or the status is that of a bad line
-ends_by : (status : Status) (command : Command) (tape text : List ℕ) (remaining contents : Option (List ℕ)) → is_quiet status ≡ true → WrittenWhole status command tape text contents
-    → ((number : ℕ) × (status ≡ BadTape number)) ⊎ (remaining ≡ Some []) → LeavesTold status command tape text remaining contents
-ends_by Done command tape text remaining contents e p (inl b) = done-bad b.0 b.1
-ends_by Done command tape text remaining contents e p (inr none) = (none, p)
-ends_by Refused command tape text remaining contents e p (inl b) = refused-bad b.0 b.1
-ends_by Refused command tape text remaining contents e p (inr none) = (none, p)
-ends_by (BadTape n) command tape text remaining contents e p either = p
-ends_by Usage command tape text remaining contents e p either = false-true e
-ends_by ReadFault command tape text remaining contents e p either = false-true e
-ends_by WriteFault command tape text remaining contents e p either = false-true e
-ends_by (LinkFault side) command tape text remaining contents e p either = false-true e
-ends_by OutOfMemory command tape text remaining contents e p either = record { front = prescribed_text command tape; back = []; parts = sym (append-nil (prescribed_text command tape)); contents-is = p.contents-is }
-ends_by Idle command tape text remaining contents e p either = false-true e
-ends_by Spent command tape text remaining contents e p either = false-true e
+ends_by : (status : Status) (p : Prescribed) (tape text : List ℕ) (remaining contents : Option (List ℕ)) → is_quiet status ≡ true → WrittenWhole status p tape text contents
+    → ((number : ℕ) × (status ≡ BadTape number)) ⊎ (remaining ≡ Some []) → LeavesTold status p tape text remaining contents
+ends_by Done p tape text remaining contents e written (inl b) = done-bad b.0 b.1
+ends_by Done p tape text remaining contents e written (inr none) = (none, written)
+ends_by Refused p tape text remaining contents e written (inl b) = refused-bad b.0 b.1
+ends_by Refused p tape text remaining contents e written (inr none) = (none, written)
+ends_by (BadTape n) p tape text remaining contents e written either = written
+ends_by Usage p tape text remaining contents e written either = false-true e
+ends_by ReadFault p tape text remaining contents e written either = false-true e
+ends_by WriteFault p tape text remaining contents e written either = false-true e
+ends_by (LinkFault side) p tape text remaining contents e written either = false-true e
+ends_by OutOfMemory p tape text remaining contents e written either = record { front = p.text tape; back = []; parts = sym (append-nil (p.text tape)); contents-is = written.contents-is }
+ends_by Idle p tape text remaining contents e written either = false-true e
+ends_by Spent p tape text remaining contents e written either = false-true e
 
 closed : (piece rest : List ℕ) (status : Status) (remaining : Option (List ℕ)) → ((piece ≡ [] → ⊥) → (number : ℕ) × (status ≡ BadTape number)) → (piece ≡ [] → rest ≡ []) → remaining ≡ Some rest
     → ((number : ℕ) × (status ≡ BadTape number)) ⊎ (remaining ≡ Some [])
 closed [] rest status remaining bad none e = inr (e ∙ ap (λ (l : List ℕ). Some l) (none refl))
 closed (b ∷ bs) rest status remaining bad none e = inl (bad (λ (e : b ∷ bs ≡ []). cc))
 
--- ---- of the replay that draws from the first id on
+-- ---- of a command, which keeps what Keeps says
 
-module _ (first : ℕ) where
-  pub goes-none : (remaining contents : Option (List ℕ)) (p : TapeReader) → Stage first p [] [] → Goes first remaining remaining contents contents p
+module _ {C S : Type 0} (command : TapeCommand S) (Keeps : C → S → Type 0) where
+  pub goes-none : (remaining contents : Option (List ℕ)) (p : TapeReader C) → Stage command Keeps p [] [] → Goes command Keeps remaining remaining contents contents p
   goes-none remaining contents p s = record { read = []; written = []; consumed = Consumes-nil remaining; wrote = Appends-nil contents; stage = s }
 
   -- all text is written
-  pub goes-written : (remaining_old remaining contents_old contents new : Option (List ℕ)) (p : TapeReader) (text none : List ℕ) → Goes first remaining_old remaining contents_old contents p → text ≡ p.text → Appends contents new text → none ≡ []
-      → Goes first remaining_old remaining contents_old new (record p { text = none })
+  pub goes-written : (remaining_old remaining contents_old contents new : Option (List ℕ)) (p : TapeReader C) (text none : List ℕ) → Goes command Keeps remaining_old remaining contents_old contents p → text ≡ p.text → Appends contents new text → none ≡ []
+      → Goes command Keeps remaining_old remaining contents_old new (record p { text = none })
   goes-written remaining_old remaining contents_old contents new p text none g is a e = record {
     read = g.read;
     written = g.written ++ p.text;
@@ -133,8 +128,8 @@ module _ (first : ℕ) where
   }
 
   -- a piece more was read
-  pub goes-read : (remaining_old remaining new contents_old contents : Option (List ℕ)) (p q : TapeReader) (piece : List ℕ) (g : Goes first remaining_old remaining contents_old contents p) → Consumes remaining new piece
-      → Stage first q (g.read ++ piece) g.written → Goes first remaining_old new contents_old contents q
+  pub goes-read : (remaining_old remaining new contents_old contents : Option (List ℕ)) (p q : TapeReader C) (piece : List ℕ) (g : Goes command Keeps remaining_old remaining contents_old contents p) → Consumes remaining new piece
+      → Stage command Keeps q (g.read ++ piece) g.written → Goes command Keeps remaining_old new contents_old contents q
   goes-read remaining_old remaining new contents_old contents p q piece g read s = record {
     read = g.read ++ piece;
     written = g.written;
@@ -145,86 +140,85 @@ module _ (first : ℕ) where
 
   -- ---- ends in the middle
 
-  in_part : (remaining_old remaining contents_old contents : Option (List ℕ)) (p : TapeReader) (g : Goes first remaining_old remaining contents_old contents p) (new : Option (List ℕ)) (front back : List ℕ)
-      → p.text ≡ front ++ back → Appends contents new front → (tape text : List ℕ) → remaining_old ≡ Some tape → contents_old ≡ Some text → WrittenInPart (Replay first) tape text new
+  in_part : (remaining_old remaining contents_old contents : Option (List ℕ)) (p : TapeReader C) (g : Goes command Keeps remaining_old remaining contents_old contents p) (new : Option (List ℕ)) (front back : List ℕ)
+      → p.text ≡ front ++ back → Appends contents new front → (tape text : List ℕ) → remaining_old ≡ Some tape → contents_old ≡ Some text → WrittenInPart (over_tape command) tape text new
   in_part remaining_old remaining contents_old contents p g new front back parts a tape text tape_told text_told =
       let t = remaining_told remaining_old remaining g.read tape g.consumed tape_told in
-      let begins = text_begins first g.stage t.0 in
+      let begins = text_begins command Keeps g.stage t.0 in
       record {
         front = g.written ++ front;
         back = back ++ begins.0;
-        parts = ap (replay_text first) t.2 ∙ begins.1
+        parts = ap (tape_text command) t.2 ∙ begins.1
             ∙ ap (λ (l : List ℕ). l ++ begins.0) (ap (λ (l : List ℕ). g.written ++ l) parts ∙ sym (append_assoc g.written front back)) ∙ append_assoc (g.written ++ front) back begins.0;
         contents-is = contents_told contents_old new (g.written ++ front) text (Appends-trans contents_old contents new g.written front g.wrote a) text_told;
       }
 
   -- the write of the text fails
-  pub ran-write : (remaining_old remaining contents_old contents new : Option (List ℕ)) (p : TapeReader) (bytes : List ℕ) → Goes first remaining_old remaining contents_old contents p → bytes ≡ p.text → AppendsFront contents new bytes
-      → Leaves WriteFault (Replay first) remaining_old remaining contents_old new
+  pub ran-write : (remaining_old remaining contents_old contents new : Option (List ℕ)) (p : TapeReader C) (bytes : List ℕ) → Goes command Keeps remaining_old remaining contents_old contents p → bytes ≡ p.text → AppendsFront contents new bytes
+      → Leaves WriteFault (over_tape command) remaining_old remaining contents_old new
   ran-write remaining_old remaining contents_old contents new p bytes g bytes-is f = λ tape text tape_told text_told.
       in_part remaining_old remaining contents_old contents p g new f.front f.back (sym bytes-is ∙ f.parts) f.appends tape text tape_told text_told
 
   -- memory runs out after a piece was read
-  pub ran-memory : (remaining_old remaining new contents_old contents : Option (List ℕ)) (p : TapeReader) → Goes first remaining_old remaining contents_old contents p
-      → Leaves OutOfMemory (Replay first) remaining_old new contents_old contents
+  pub ran-memory : (remaining_old remaining new contents_old contents : Option (List ℕ)) (p : TapeReader C) → Goes command Keeps remaining_old remaining contents_old contents p
+      → Leaves OutOfMemory (over_tape command) remaining_old new contents_old contents
   ran-memory remaining_old remaining new contents_old contents p g = λ tape text tape_told text_told.
       in_part remaining_old remaining contents_old contents p g contents [] p.text refl (Appends-nil contents) tape text tape_told text_told
 
   -- a read fails, and all text is written
-  pub ran-read : (remaining_old remaining new contents_old contents : Option (List ℕ)) (p : TapeReader) → Goes first remaining_old remaining contents_old contents p → p.text ≡ [] → Keeps remaining new
-      → Leaves ReadFault (Replay first) remaining_old new contents_old contents
+  pub ran-read : (remaining_old remaining new contents_old contents : Option (List ℕ)) (p : TapeReader C) → Goes command Keeps remaining_old remaining contents_old contents p → p.text ≡ [] → KeepsBytes remaining new
+      → Leaves ReadFault (over_tape command) remaining_old new contents_old contents
   ran-read remaining_old remaining new contents_old contents p g none kept = λ tape text tape_told text_told.
       let t = remaining_told remaining_old new g.read tape (Consumes-kept remaining_old remaining new g.read g.consumed kept) tape_told in
       let s = g.stage in
-      let plays : replay_lines first (replay_begin first) (lines_of s.whole) ≡ record { text = s.text; after = s.at; bad = false } =
-      ap (λ (l : List ℕ). replay_lines first (replay_begin first) (lines_of l)) (sym (append-nil s.whole)) ∙ s.reads [] ∙ ap (λ (l : List ℕ). record { text = l; after = s.at; bad = false }) (append-nil s.text) in
-      let written : g.written ≡ made_text first ++ (replay_lines first (replay_begin first) (lines_of s.whole)).text =
-      sym (append-nil g.written) ∙ ap (λ (l : List ℕ). g.written ++ l) (sym none) ∙ s.text-is ∙ ap (λ (x : ReplayReading). made_text first ++ x.text) (sym plays) in
+      let plays : read_lines command (begin command) (lines_of s.whole) ≡ record { text = s.text; after = s.at; bad = false } =
+      ap (λ (l : List ℕ). read_lines command (begin command) (lines_of l)) (sym (append-nil s.whole)) ∙ s.reads [] ∙ ap (λ (l : List ℕ). record { text = l; after = s.at; bad = false }) (append-nil s.text) in
+      let written : g.written ≡ command.opening ++ s.text = sym (append-nil g.written) ∙ ap (λ (l : List ℕ). g.written ++ l) (sym none) ∙ s.text-is in
       record {
         whole = s.whole;
         part = p.pending;
         rest = t.0;
+        front = command.opening ++ s.text;
         tape-is = t.2 ∙ ap (λ (l : List ℕ). l ++ t.0) s.read-is;
         whole_lines = s.whole_lines;
         part_of_line = s.part_of_line;
-        good = ap (λ (x : ReplayReading). x.bad) plays;
-        within = subst (λ (x : ReplayReading). x.after.bytes + length p.pending ≤ tape_limit) (sym plays) s.within;
+        good = ap (λ (x : Reading S). if x.bad then None else Some (command.opening ++ x.text)) plays;
+        within = subst (λ (n : ℕ). n + length p.pending ≤ tape_limit) s.bytes-is s.within;
         remaining-is = t.1;
-        contents-is = contents_told contents_old contents g.written text g.wrote text_told
-            ∙ ap (λ (l : List ℕ). Some l) (ap (λ (l : List ℕ). text ++ l) written ∙ sym (append_assoc text (made_text first) (replay_lines first (replay_begin first) (lines_of s.whole)).text));
+        contents-is = contents_told contents_old contents g.written text g.wrote text_told ∙ ap (λ (l : List ℕ). Some (text ++ l)) written;
       }
 
   -- ---- the end
 
-  pub closes-is_quiet : {status : Status} {p : TapeReader} {piece written : List ℕ} (read : List ℕ) → Closes first status p piece read written → is_quiet status ≡ true
+  pub closes-is_quiet : {status : Status} {p : TapeReader C} {piece written : List ℕ} (read : List ℕ) → Closes command status p piece read written → is_quiet status ≡ true
   closes-is_quiet {piece = piece} read c =
-      let x = replay_lines first (replay_begin first) (lines_of ((read ++ piece) ++ [])) in
-      ap is_quiet (sym (c.outcome [] (λ _. refl))) ∙ end_by x.bad (has_refusal (history first x.after.kept)) (x.after.lines + 1)
+      let x = read_lines command (begin command) (lines_of ((read ++ piece) ++ [])) in
+      ap is_quiet (sym (c.outcome [] (λ _. refl))) ∙ end_by x.bad (command.refused x.after.kept) (x.after.lines + 1)
 
   -- all text is written, and the run ends
-  pub ran-end : (remaining_old remaining new contents_old contents last : Option (List ℕ)) (p q : TapeReader) (status : Status) (piece bytes : List ℕ) (g : Goes first remaining_old remaining contents_old contents p) → Consumes remaining new piece
-      → (piece ≡ [] → IsAtEnd new) → Closes first status q piece g.read g.written → bytes ≡ q.text → Appends contents last bytes
-      → Leaves status (Replay first) remaining_old new contents_old last
+  pub ran-end : (remaining_old remaining new contents_old contents last : Option (List ℕ)) (p q : TapeReader C) (status : Status) (piece bytes : List ℕ) (g : Goes command Keeps remaining_old remaining contents_old contents p) → Consumes remaining new piece
+      → (piece ≡ [] → IsAtEnd new) → Closes command status q piece g.read g.written → bytes ≡ q.text → Appends contents last bytes
+      → Leaves status (over_tape command) remaining_old new contents_old last
   ran-end remaining_old remaining new contents_old contents last p q status piece bytes g read at_end c bytes-is a = λ tape text tape_told text_told.
       let t = remaining_told remaining_old new (g.read ++ piece) tape (Consumes-trans remaining_old remaining new g.read piece g.consumed read) tape_told in
       let none : piece ≡ [] → t.0 ≡ [] = λ e. at_end_told new t.0 (at_end e) t.1 in
-      ends_by status (Replay first) tape text new last (closes-is_quiet g.read c) (record {
+      ends_by status (over_tape command) tape text new last (closes-is_quiet g.read c) (record {
         contents-is = contents_told contents_old last (g.written ++ bytes) text (Appends-trans contents_old contents last g.written bytes g.wrote a) text_told
-            ∙ ap (λ (l : List ℕ). Some (text ++ l)) (ap (λ (l : List ℕ). g.written ++ l) bytes-is ∙ sym (c.text t.0 none) ∙ ap (replay_text first) (sym t.2));
-        status-is = sym (c.outcome t.0 none) ∙ ap (replay_status first) (sym t.2);
+            ∙ ap (λ (l : List ℕ). Some (text ++ l)) (ap (λ (l : List ℕ). g.written ++ l) bytes-is ∙ sym (c.text t.0 none) ∙ ap (tape_text command) (sym t.2));
+        status-is = sym (c.outcome t.0 none) ∙ ap (tape_status command) (sym t.2);
       }) (closed piece t.0 status new c.bad none t.1)
 
   -- the last write fails
-  pub ran-last : (remaining_old remaining new contents_old contents last : Option (List ℕ)) (p q : TapeReader) (status : Status) (piece bytes : List ℕ) (g : Goes first remaining_old remaining contents_old contents p) → Consumes remaining new piece
-      → (piece ≡ [] → IsAtEnd new) → Closes first status q piece g.read g.written → bytes ≡ q.text → AppendsFront contents last bytes
-      → Leaves WriteFault (Replay first) remaining_old new contents_old last
+  pub ran-last : (remaining_old remaining new contents_old contents last : Option (List ℕ)) (p q : TapeReader C) (status : Status) (piece bytes : List ℕ) (g : Goes command Keeps remaining_old remaining contents_old contents p) → Consumes remaining new piece
+      → (piece ≡ [] → IsAtEnd new) → Closes command status q piece g.read g.written → bytes ≡ q.text → AppendsFront contents last bytes
+      → Leaves WriteFault (over_tape command) remaining_old new contents_old last
   ran-last remaining_old remaining new contents_old contents last p q status piece bytes g read at_end c bytes-is f = λ tape text tape_told text_told.
       let t = remaining_told remaining_old new (g.read ++ piece) tape (Consumes-trans remaining_old remaining new g.read piece g.consumed read) tape_told in
       let none : piece ≡ [] → t.0 ≡ [] = λ e. at_end_told new t.0 (at_end e) t.1 in
       record {
         front = g.written ++ f.front;
         back = f.back;
-        parts = ap (replay_text first) t.2 ∙ c.text t.0 none ∙ ap (λ (l : List ℕ). g.written ++ l) (sym bytes-is ∙ f.parts) ∙ sym (append_assoc g.written f.front f.back);
+        parts = ap (tape_text command) t.2 ∙ c.text t.0 none ∙ ap (λ (l : List ℕ). g.written ++ l) (sym bytes-is ∙ f.parts) ∙ sym (append_assoc g.written f.front f.back);
         contents-is = contents_told contents_old last (g.written ++ f.front) text (Appends-trans contents_old contents last g.written f.front g.wrote f.appends) text_told;
       }
 
@@ -303,9 +297,9 @@ causes-usage a x y out = record {
 -- ---- words that are no command
 
 -- how they should be is written
-pub ran-usage : (remaining contents_old contents : Option (List ℕ)) → Appends contents_old contents usage_line → Leaves Usage Unknown remaining remaining contents_old contents
+pub ran-usage : (remaining contents_old contents : Option (List ℕ)) → Appends contents_old contents usage_line → Leaves Usage usage remaining remaining contents_old contents
 ran-usage remaining contents_old contents a = λ tape text tape_told text_told. (tape_told, record { contents-is = contents_told contents_old contents usage_line text a text_told; status-is = refl })
 
 -- a front of it is written
-pub ran-usage_failed : (remaining contents_old contents : Option (List ℕ)) → AppendsFront contents_old contents usage_line → Leaves WriteFault Unknown remaining remaining contents_old contents
+pub ran-usage_failed : (remaining contents_old contents : Option (List ℕ)) → AppendsFront contents_old contents usage_line → Leaves WriteFault usage remaining remaining contents_old contents
 ran-usage_failed remaining contents_old contents f = λ tape text tape_told text_told. record { front = f.front; back = f.back; parts = f.parts; contents-is = contents_told contents_old contents f.front text f.appends text_told }

@@ -1,6 +1,6 @@
-pub mod Numbers
-pub mod Digits
+pub mod FirstId
 pub mod Lines
-pub mod Events
 pub mod Stages
 pub mod Going
+pub mod Events
+pub mod Showing

@@ -1,8 +1,11 @@
+pub mod CommandLine
 pub mod Words
 pub mod Tape
 pub mod Text
 pub mod TapeCommand
+pub mod EventCommand
 pub mod Replay
+pub mod Show
 pub mod Prescribed
 pub mod Run
 pub mod Code

@@ -1,17 +1,29 @@
--- What a command prints for its tape, and how it ends that meets no fault and has memory.
-use Rattle.std.specs.Prelude.{ℕ, List}
+-- What each command is to print over a tape, and how it is to end, where it meets no fault and has memory.
+use Rattle.std.specs.Prelude.{List, ℕ, Option, None}
 use Rattle.usbgate.specs.declared.status.Status.{Status}
 use Rattle.usbgate.specs.declared.status.Status.TheVariants.{Usage}
 use Rattle.usbgate.specs.declared.words.Command.{Command}
-use Rattle.usbgate.specs.declared.words.Command.TheVariants.{Replay, Unknown}
+use Rattle.usbgate.specs.declared.words.Command.TheVariants.{Replay, Show, Unknown}
 use Rattle.usbgate.specs.Text.{usage_line}
-use Rattle.usbgate.specs.TapeCommand.{tape_text, tape_status}
+use Rattle.usbgate.specs.TapeCommand.{TapeCommand, tape_text, tape_status, front_text}
+use Rattle.usbgate.specs.EventCommand.{over_events}
 use Rattle.usbgate.specs.Replay.{replay}
+use Rattle.usbgate.specs.Show.{show}
 
-abbrev pub prescribed_text : Command → List ℕ → List ℕ
-prescribed_text Unknown tape = usage_line
-prescribed_text (Replay first) tape = tape_text (replay first) tape
+pub record Prescribed : Type 0 where
+  -- the whole text of a tape
+  pub text : List ℕ → List ℕ
+  pub status : List ℕ → Status
+  -- the text of whole lines, the first of a tape, without a last text; none where one is bad, and where no tape is read
+  pub front : List ℕ → Option (List ℕ)
 
-abbrev pub prescribed_status : Command → List ℕ → Status
-prescribed_status Unknown tape = Usage
-prescribed_status (Replay first) tape = tape_status (replay first) tape
+abbrev pub over_tape : {S : Type 0} → TapeCommand S → Prescribed
+over_tape command = record { text = λ tape. tape_text command tape; status = λ tape. tape_status command tape; front = λ whole. front_text command whole }
+
+abbrev pub usage : Prescribed
+usage = record { text = λ tape. usage_line; status = λ tape. Usage; front = λ whole. None }
+
+abbrev pub prescribed : Command → Prescribed
+prescribed (Replay first) = over_tape (over_events (replay first))
+prescribed (Show side) = over_tape (over_events (show side))
+prescribed Unknown = usage

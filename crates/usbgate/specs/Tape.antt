@@ -1,32 +1,14 @@
--- A tape: the lines of a text, and what each says. `c HEX` and `h HEX` are pieces of the present client's and of the
--- host's stream, `c.` and `h.` their ends. Empty lines and those that begin with `#` are skipped.
-use Rattle.std.specs.Prelude.{ℕ, ◌==◌, Bool, true, false, not, if◌then◌else◌, List, [], ◌∷◌, Result, Ok, Err}
+-- A replay tape: the lines of a text, and the event that each says.
+use Rattle.std.specs.Prelude.{ℕ, ◌==◌, Bool, true, false, not, if◌then◌else◌, List, [], ◌∷◌, Option, Some, None, IsSome}
 use Rattle.std.specs.Io.BufRead.{strip_last}
-use Rattle.hex.specs.Hex.{decode_of}
-use Rattle.hex.specs.declared.error.FromHexError.{FromHexError}
+use Rattle.packet_show.specs.declared.tape.TapeLine.{TapeLine}
+use Rattle.packet_show.specs.declared.tape.TapeLine.TheVariants as line
 use Rattle.gate_core.specs.Events.{Event, ClientPiece, ClientEnd, HostPiece, HostEnd}
 
--- ---- the bytes with a meaning, by ASCII
+-- ---- lines
 
 abbrev pub LF : ℕ
 LF = 10
-
-abbrev pub SPACE : ℕ
-SPACE = 32
-
-abbrev pub HASH : ℕ
-HASH = 35
-
-abbrev pub DOT : ℕ
-DOT = 46
-
-abbrev pub LETTER_C : ℕ
-LETTER_C = 99
-
-abbrev pub LETTER_H : ℕ
-LETTER_H = 104
-
--- ---- lines
 
 -- one byte more in front of the first line
 abbrev pub before_first : ℕ → List (List ℕ) → List (List ℕ)
@@ -42,53 +24,27 @@ lines_of (b ∷ bs) = if b == LF then (LF ∷ []) ∷ lines_of bs else before_fi
 abbrev pub content : List ℕ → List ℕ
 content line = strip_last LF line
 
--- what a line says
-pub data Says : Type 0 where
-  Skip : Says
-  Happens : Event → Says
-  Bad : Says
+-- ---- events
 
--- the line brings bytes, for which memory is needed
-abbrev pub IsPiece : Says → Type 0
-IsPiece Skip = ⊥
-IsPiece (Happens (ClientPiece b)) = Unit {0}
-IsPiece (Happens ClientEnd) = ⊥
-IsPiece (Happens (HostPiece b)) = Unit {0}
-IsPiece (Happens HostEnd) = ⊥
-IsPiece Bad = ⊥
+-- the event that a line says, or none; lines for a modelled host say none here
+abbrev pub event_said : TapeLine → Option Event
+event_said line.Skip = None
+event_said (line.Client piece) = Some (ClientPiece piece)
+event_said line.ClientEnd = Some ClientEnd
+event_said (line.Host piece) = Some (HostPiece piece)
+event_said line.HostEnd = Some HostEnd
+event_said (line.ToHost n) = None
+event_said (line.ToGate n) = None
+event_said (line.Perform ep) = None
+event_said (line.Offer ep) = None
+event_said line.Unplug = None
 
 -- an event stands on the line
-abbrev pub IsEvent : Says → Type 0
-IsEvent Skip = ⊥
-IsEvent (Happens e) = Unit {0}
-IsEvent Bad = ⊥
+abbrev pub IsEvent : Option TapeLine → Type 0
+IsEvent None = ⊥
+IsEvent (Some line) = IsSome (event_said line)
 
--- a piece has a byte at least: two hexadecimal digits, of either case
-abbrev pub piece_of : (List ℕ → Event) → Result (List ℕ) FromHexError → Says
-piece_of piece (Ok []) = Bad
-piece_of piece (Ok (b ∷ bs)) = Happens (piece (b ∷ bs))
-piece_of piece (Err e) = Bad
-
--- a `.` and nothing more
-abbrev pub end_of : Event → List ℕ → Says
-end_of end [] = Happens end
-end_of end (b ∷ bs) = Bad
-
--- what stands behind the letter of a side: a space and a piece, or a `.`
-abbrev pub of_side : (List ℕ → Event) → Event → List ℕ → Says
-of_side piece end [] = Bad
-of_side piece end (b ∷ bs) = if b == SPACE then piece_of piece (decode_of bs) else if b == DOT then end_of end bs else Bad
-
-abbrev pub says : List ℕ → Says
-says [] = Skip
-says (b ∷ bs) =
-    if b == HASH then Skip
-    else if b == LETTER_C then of_side ClientPiece ClientEnd bs
-    else if b == LETTER_H then of_side HostPiece HostEnd bs
-    else Bad
-
--- ---- nothing of the host comes after its end; after a client's comes the next client
-
+-- nothing of the host comes after its end; after a client's comes the next client
 abbrev pub host_ended : List Event → Bool
 host_ended [] = false
 host_ended (ClientPiece b ∷ events) = host_ended events

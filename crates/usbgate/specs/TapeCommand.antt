@@ -1,7 +1,7 @@
 -- Commands over a tape, as data: what each line gives, and what then stands on the tape's text and end.
 use Rattle.std.specs.Prelude.{ℕ, ◌+◌, Bool, true, false, nat_lt, if◌then◌else◌, List, [], ◌∷◌, ◌++◌, length, option_map, Option, Some, None}
 use Rattle.usbgate.specs.declared.status.Status.{Status}
-use Rattle.usbgate.specs.declared.status.Status.TheVariants.{BadTape}
+use Rattle.usbgate.specs.declared.status.Status.TheVariants.{Done, Refused, BadTape}
 use Rattle.usbgate.specs.Tape.{lines_of, content}
 use Rattle.usbgate.specs.Text.{bad_line}
 
@@ -18,8 +18,8 @@ pub record TapeCommand (S : Type 0) : Type 0 where
   pub line : S → List ℕ → Option (List ℕ × S)
   -- the text behind the last line
   pub closing : S → List ℕ
-  -- how it ends where no line is bad
-  pub status : S → Status
+  -- whether it ends in a refusal, where no line is bad
+  pub refused : S → Bool
 
 -- what has been read of a tape: how many lines, how many bytes, and what the command keeps
 pub record Progress (S : Type 0) : Type 0 where
@@ -65,7 +65,11 @@ abbrev pub tape_text : {S : Type 0} → TapeCommand S → List ℕ → List ℕ
 tape_text command tape = let x = read_tape command tape in command.opening ++ x.text ++ last_text command x
 
 abbrev pub status_of : {S : Type 0} → TapeCommand S → Reading S → Status
-status_of command x = if x.bad then BadTape (x.after.lines + 1) else command.status x.after.kept
+status_of command x = if x.bad then BadTape (x.after.lines + 1) else if command.refused x.after.kept then Refused else Done
 
 abbrev pub tape_status : {S : Type 0} → TapeCommand S → List ℕ → Status
 tape_status command tape = status_of command (read_tape command tape)
+
+-- the text of whole lines, the first of a tape, without the last text; none where one of them is bad
+abbrev pub front_text : {S : Type 0} → TapeCommand S → List ℕ → Option (List ℕ)
+front_text command whole = let x = read_tape command whole in if x.bad then None else Some (command.opening ++ x.text)

@@ -13,7 +13,10 @@ use Rattle.gate_core.specs.History.{history}
 use Rattle.gate_core.specs.Notes.{notes_of}
 use Rattle.gate_core.specs.All.{all_of}
 use Rattle.gate_core.specs.Bytes.{out_client, out_host}
-use Rattle.usbgate.specs.Tape.{LF, SPACE}
+use Rattle.usbgate.specs.Tape.{LF}
+
+abbrev pub SPACE : ℕ
+SPACE = 32
 
 -- a letter, the bytes in lower-case hexadecimal and LF; nothing where there are no bytes
 abbrev pub bytes_line : ℕ → List ℕ → List ℕ

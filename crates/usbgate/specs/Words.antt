@@ -1,42 +1,84 @@
 -- What the words ask for.
-use Rattle.std.specs.Prelude.{ℕ, ◌==◌, ◌&&◌, not, Bool, false, nat_le, if◌then◌else◌, List, [], ◌∷◌, map, codes, Option, Some, None}
+use Rattle.std.specs.Prelude.{ℕ, not, Bool, true, false, if◌then◌else◌, List, [], ◌∷◌, map, codes, find, Option, Some, None, is_some, option_map, option_and_then}
 use Rattle.std.specs.Borrow.{Bor}
-use Rattle.std.specs.Str.{bytes_eq, all_ascii_digits}
-use Rattle.std.specs.Str.Parse.{digits_value}
+use Rattle.std.specs.List.{list_all}
+use Rattle.std.specs.Str.{bytes_eq}
+use Rattle.clap.specs.Words.{Row as Found, Text, first_of}
+use Rattle.packet_show.specs.Number.{number_of}
+use Rattle.usb_base.specs.declared.side.Side.{Side}
+use Rattle.usb_base.specs.declared.side.Side.TheVariants.{Client, Host}
 use Rattle.usbgate.specs.declared.words.Command.{Command}
-use Rattle.usbgate.specs.declared.words.Command.TheVariants.{Replay, Unknown}
+use Rattle.usbgate.specs.declared.words.Command.TheVariants.{Replay, Show, Unknown}
+use Rattle.usbgate.specs.declared.command_table.Need.{Need}
+use Rattle.usbgate.specs.declared.command_table.Need.TheVariants.{Must, May, MustNot}
+use Rattle.usbgate.specs.declared.command_table.Verb.{Verb}
+use Rattle.usbgate.specs.declared.command_table.Verb.TheVariants as verb
+use Rattle.usbgate.specs.declared.command_table.Row.{Row}
+use Rattle.usbgate.specs.declared.command_table.TheConstants.{ROWS}
+use Rattle.usbgate.specs.CommandLine.{found}
 
 -- the words as texts
 abbrev pub texts : List (Bor (List ℕ)) → List (List ℕ)
 texts words = map (λ (word : Bor (List ℕ)). word.now) words
 
--- ---- numbers
+-- ---- a command's row is met
 
--- the digit 0, by ASCII
-abbrev pub ZERO : ℕ
-ZERO = 48
+abbrev pub admits : Need → Bool → Bool
+admits Must given = given
+admits May given = true
+admits MustNot given = not given
 
--- a number from 1 to 4294967295 in decimal, with neither a sign nor a leading zero
-abbrev pub is_number : List ℕ → Bool
-is_number [] = false
-is_number (b ∷ bs) = not (b == ZERO) && (all_ascii_digits (b ∷ bs) && nat_le (digits_value 10 (b ∷ bs)) 4294967295)
+-- the value that the words give an argument
+abbrev pub given_by : List Found → Text → Option Text
+given_by rows name = first_of name rows
 
-abbrev pub number_of : List ℕ → Option ℕ
-number_of word = if is_number word then Some (digits_value 10 word) else None
+abbrev pub is_met : Row → (Text → Option Text) → Bool
+is_met row given =
+    list_all (λ (word : Need × Option Text). admits word.0 (is_some word.1))
+    ((row.number, given (codes "number"))
+    ∷ (row.device, given (codes "device"))
+    ∷ (row.side, given (codes "side"))
+    ∷ (row.host, given (codes "host"))
+    ∷ (row.listen, given (codes "listen"))
+    ∷ (row.idle, given (codes "idle"))
+    ∷ (row.first_id, given (codes "first-id"))
+    ∷ [])
 
--- ---- commands
+abbrev pub name_of : Verb → Text
+name_of verb.Replay = codes "replay"
+name_of verb.Show = codes "show"
 
--- `--first-id N` may stand behind `replay`; without it the first id is 1
-abbrev pub replay_from : Option ℕ → Command
-replay_from None = Unknown
-replay_from (Some first) = Replay first
+abbrev pub row_named : Text → Option Row
+row_named name = find (λ row. bytes_eq (name_of row.verb) name) ROWS
 
-abbrev pub replay_of : List (List ℕ) → Command
-replay_of [] = Replay 1
-replay_of (option ∷ []) = Unknown
-replay_of (option ∷ value ∷ []) = if bytes_eq option (codes "--first-id") then replay_from (number_of value) else Unknown
-replay_of (option ∷ value ∷ other ∷ words) = Unknown
+-- ---- what the values say
 
-abbrev pub command_of : List (List ℕ) → Command
-command_of [] = Unknown
-command_of (name ∷ words) = if bytes_eq name (codes "replay") then replay_of words else Unknown
+-- without it the first id is 1
+abbrev pub first_id_of : Option Text → Option ℕ
+first_id_of None = Some 1
+first_id_of (Some text) = number_of text
+
+abbrev pub side_of : Text → Option Side
+side_of text = if bytes_eq text (codes "client") then Some Client else if bytes_eq text (codes "host") then Some Host else None
+
+abbrev pub asked_by : Verb → (Text → Option Text) → Option Command
+asked_by verb.Replay given = option_map Replay (first_id_of (given (codes "first-id")))
+asked_by verb.Show given = option_map Show (option_and_then side_of (given (codes "side")))
+
+abbrev pub by_row : Option Row → (Text → Option Text) → Option Command
+by_row None given = None
+by_row (Some row) given = if is_met row given then asked_by row.verb given else None
+
+abbrev pub command_in : (Text → Option Text) → Option Command
+command_in given = by_row (option_and_then row_named (given (codes "command"))) given
+
+abbrev pub or_unknown : Option Command → Command
+or_unknown None = Unknown
+or_unknown (Some command) = command
+
+abbrev pub command_by : Option (List Found) → Command
+command_by None = Unknown
+command_by (Some rows) = or_unknown (command_in (given_by rows))
+
+abbrev pub command_of : List Text → Command
+command_of words = command_by (found words)

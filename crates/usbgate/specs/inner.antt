@@ -1,5 +1,8 @@
 -- What the code keeps and reads, tied to the definitions.
-pub mod Line
+pub mod Given
+pub mod EventTape
 pub mod Replay
+pub mod Shown
+pub mod Show
 pub mod TapeReader
 pub mod Causes

@@ -1,10 +1,16 @@
 //! Runs of the gateway between USB/IP clients and a usbredir host.
 #![tactic(auto)]
 
+mod command_line;
+mod command_table;
+mod event_tape;
+mod given;
 mod program;
 mod replay;
+mod show;
 mod status;
-mod tape;
+mod tape_command;
+mod tape_lines;
 mod tape_reader;
 mod text;
 mod words;

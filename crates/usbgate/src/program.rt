@@ -1,25 +1,38 @@
 //! A run of the program, over a tape and a sink.
 
-ghost use Rattle.std.specs.Prelude.{◌≡◌, ◌≢◌, ◌<◌, ◌≤◌, ◌⊎◌, List, [], ℕ, length, false, Option};
+ghost use Rattle.std.specs.Prelude.{◌≡◌, ◌≢◌, ◌<◌, ◌≤◌, List, [], ℕ, length, false, Option};
 ghost use Rattle.gate_outside.specs.Faults.{Rose};
 ghost use Rattle.usb_base.specs.declared.side.Side.TheVariants.{Client, Host};
-ghost use Rattle.usbgate.specs.Run.{Leaves, OpensNoLink};
+ghost use Rattle.usbgate.specs.Run.{Leaves, OpensNoLink, IsOfNoCommand};
+ghost use Rattle.usbgate.specs.Prescribed.{prescribed, over_tape as tape_prescribed};
+ghost use Rattle.usbgate.specs.TapeCommand.{TapeCommand as Told};
+ghost use Rattle.usbgate.specs.EventCommand.{over_events};
+ghost use Rattle.usbgate.specs.Show.{show_side};
+ghost use Rattle.usbgate.specs.inner.Show.{shown_by};
 ghost use Rattle.usbgate.specs.Words.{texts, command_of};
 ghost use Rattle.usbgate.specs.inner.Causes.{HasCauses};
 ghost use Rattle.usbgate.specs.inner.TapeReader.{Stage};
 
+use crate::event_tape::EventTape;
+use crate::replay::Replay;
+use crate::show::{Show, ShownFormat};
 use crate::status::Status;
+use crate::tape_command::TapeCommand;
 use crate::tape_reader::TapeReader;
 use crate::text::USAGE;
 use crate::words::Command;
 use gate_outside::{Doors, Sink, Source, write_all};
+use redir_data::FromHost;
 use std::alloc::Global;
+use usb_base::{Bytes, Side};
+use usbip_urb::ClientFormat;
 
 /// How many bytes of a tape are read at a time.
 const CHUNK: usize = 65_536;
 
 /// Does what the words say: `replay` puts the tape to a gate, and prints what that sends and which sides it
-/// refuses. Words that are no command print how they should be.
+/// refuses; `show` prints the packets of one side's stream in it. Words that are no command print how they should
+/// be.
 pub fn run<S: Source, K: Sink, D: Doors>(
     alloc: Global,
     words: &[&str],
@@ -29,9 +42,9 @@ pub fn run<S: Source, K: Sink, D: Doors>(
 ) -> Status
     requires client_down { (D.link doors.old Client).up ≡ false }
     requires host_down { (D.link doors.old Host).up ≡ false }
-    ensures leaves { Leaves result (command_of (texts words.now)) (S.remaining tape.old) (S.remaining tape.new) (K.contents out.old) (K.contents out.new) }
+    ensures leaves { Leaves result (prescribed (command_of (texts words.now))) (S.remaining tape.old) (S.remaining tape.new) (K.contents out.old) (K.contents out.new) }
     ensures usage { result ≡ Status.Usage → command_of (texts words.now) ≡ Command.Unknown }
-    ensures no_command { command_of (texts words.now) ≡ Command.Unknown → (result ≡ Status.Usage) ⊎ (result ≡ Status.WriteFault) }
+    ensures no_command { command_of (texts words.now) ≡ Command.Unknown → IsOfNoCommand result }
     ensures untouched { command_of (texts words.now) ≡ Command.Unknown → tape.new ≡ tape.old }
     ensures read_fault { result ≡ Status.ReadFault → Rose (S.faults tape.old) (S.faults tape.new) }
     ensures write_fault { result ≡ Status.WriteFault → Rose (K.faults out.old) (K.faults out.new) }
@@ -41,17 +54,21 @@ pub fn run<S: Source, K: Sink, D: Doors>(
     ensures doors { doors.new ≡ doors.old }
 {
     let _ = doors;
-    match Command::read(words) {
+    let Ok(command) = Command::read(alloc, words) else {
+        return Status::OutOfMemory;
+    };
+    match command {
         Command::Replay { first_id } => replay(alloc, first_id, tape, out),
+        Command::Show { side } => show(alloc, side, tape, out),
         Command::Unknown => print_usage(out),
     }
 }
 
 /// Prints how the words should be.
 fn print_usage<K: Sink>(out: &mut K) -> Status
-    ensures leaves { (remaining : Option (List ℕ)) → Leaves result Command.Unknown remaining remaining (K.contents out.old) (K.contents out.new) }
+    ensures leaves { (remaining : Option (List ℕ)) → Leaves result (prescribed Command.Unknown) remaining remaining (K.contents out.old) (K.contents out.new) }
     ensures causes { (faults : ℕ) → HasCauses result faults faults (K.faults out.old) (K.faults out.new) }
-    ensures usage { (result ≡ Status.Usage) ⊎ (result ≡ Status.WriteFault) }
+    ensures usage { IsOfNoCommand result }
 {
     match write_all(out, USAGE) {
         Ok(()) => Status::Usage,
@@ -59,35 +76,81 @@ fn print_usage<K: Sink>(out: &mut K) -> Status
     }
 }
 
-/// Reads the tape to its end, and writes its text as it goes.
 fn replay<S: Source, K: Sink>(alloc: Global, first_id: u32, tape: &mut S, out: &mut K) -> Status
     requires { 1 ≤ first_id }
-    ensures leaves { Leaves result (Command.Replay first_id) (S.remaining tape.old) (S.remaining tape.new) (K.contents out.old) (K.contents out.new) }
+    ensures leaves { Leaves result (prescribed (Command.Replay first_id)) (S.remaining tape.old) (S.remaining tape.new) (K.contents out.old) (K.contents out.new) }
     ensures causes { HasCauses result (S.faults tape.old) (S.faults tape.new) (K.faults out.old) (K.faults out.new) }
     ensures command { result ≢ Status.Usage }
 {
-    let reader = match TapeReader::start(alloc, first_id) {
-        Ok(reader) => reader,
-        Err(_) => return Status::OutOfMemory,
-    };
+    let mut text = Bytes::new(alloc);
+    match Replay::start(alloc, first_id, &mut text) {
+        Ok(replay) => over_tape(alloc, EventTape::start(replay), text, tape, out),
+        Err(_) => Status::OutOfMemory,
+    }
+}
+
+fn show<S: Source, K: Sink>(alloc: Global, side: Side, tape: &mut S, out: &mut K) -> Status
+    ensures leaves { Leaves result (prescribed (Command.Show side)) (S.remaining tape.old) (S.remaining tape.new) (K.contents out.old) (K.contents out.new) }
+    ensures causes { HasCauses result (S.faults tape.old) (S.faults tape.new) (K.faults out.old) (K.faults out.new) }
+    ensures command { result ≢ Status.Usage }
+{
+    match side {
+        Side::Client => show_stream::<ClientFormat, S, K>(alloc, tape, out),
+        Side::Host => show_stream::<FromHost, S, K>(alloc, tape, out),
+    }
+}
+
+fn show_stream<F: ShownFormat, S: Source, K: Sink>(
+    alloc: Global,
+    tape: &mut S,
+    out: &mut K,
+) -> Status
+    ensures leaves { Leaves result (tape_prescribed (over_events (show_side (shown_by F.the_side F.format F.after F.first_state F.bytes F.line)))) (S.remaining tape.old) (S.remaining tape.new) (K.contents out.old) (K.contents out.new) }
+    ensures causes { HasCauses result (S.faults tape.old) (S.faults tape.new) (K.faults out.old) (K.faults out.new) }
+    ensures command { result ≢ Status.Usage }
+{
+    let show = Show::<F>::start(alloc);
+    over_tape(alloc, EventTape::start(show), Bytes::new(alloc), tape, out)
+}
+
+/// Reads the tape to its end, and writes its text as it goes, behind the text with which the command starts.
+fn over_tape<C: TapeCommand + Drop, S: Source, K: Sink>(
+    alloc: Global,
+    command: C,
+    text: Bytes,
+    tape: &mut S,
+    out: &mut K,
+) -> Status
+    requires { (told : Told C.Kept) × C.Keeps told command told.start × (text ≡ told.opening) }
+    ensures leaves { (told : Told C.Kept) → C.Keeps told command told.start → text ≡ told.opening
+        → Leaves result (tape_prescribed told) (S.remaining tape.old) (S.remaining tape.new) (K.contents out.old) (K.contents out.new) }
+    ensures causes { HasCauses result (S.faults tape.old) (S.faults tape.new) (K.faults out.old) (K.faults out.new) }
+    ensures command { result ≢ Status.Usage }
+{
     let mut buf = match vec![in alloc; 0; CHUNK] {
         Ok(buf) => buf,
         Err(_) => return Status::OutOfMemory,
     };
-    read_pieces(alloc, reader, &mut buf, tape, out)
+    read_pieces(
+        alloc,
+        TapeReader::start(alloc, command, text),
+        &mut buf,
+        tape,
+        out,
+    )
 }
 
 /// Reads the tape a buffer at a time. What text there is is written before each read.
-fn read_pieces<S: Source, K: Sink>(
+fn read_pieces<C: TapeCommand + Drop, S: Source, K: Sink>(
     alloc: Global,
-    mut reader: TapeReader,
+    mut reader: TapeReader<C>,
     buf: &mut [u8],
     tape: &mut S,
     out: &mut K,
 ) -> Status
-    requires start { (first : ℕ) × Stage first reader [] [] }
+    requires start { (told : Told C.Kept) × Stage told (C.Keeps told) reader [] [] }
     requires room { 0 < length buf.old }
-    ensures leaves { (first : ℕ) → Stage first reader [] [] → Leaves result (Command.Replay first) (S.remaining tape.old) (S.remaining tape.new) (K.contents out.old) (K.contents out.new) }
+    ensures leaves { (told : Told C.Kept) → Stage told (C.Keeps told) reader [] [] → Leaves result (tape_prescribed told) (S.remaining tape.old) (S.remaining tape.new) (K.contents out.old) (K.contents out.new) }
     ensures causes { HasCauses result (S.faults tape.old) (S.faults tape.new) (K.faults out.old) (K.faults out.new) }
     ensures command { result ≢ Status.Usage }
 {

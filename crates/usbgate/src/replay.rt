@@ -1,26 +1,19 @@
-//! A tape's lines, put to the gate one by one.
+//! The command `replay`: the events of a tape are put to a gate.
 
-ghost use Rattle.std.specs.Prelude.{◌≡◌, ◌++◌, ◌∷◌, ◌+◌, ◌<◌, ◌≤◌, ◌↔◌, ◌||◌, ℕ, List, length, IfOk, OnOk, IsTrue, None};
+ghost use Rattle.std.specs.Prelude.{◌≡◌, ◌++◌, ◌∷◌, ◌≤◌, ◌||◌, [], ℕ, List, IfOk, OnOk};
 ghost use Rattle.std.specs.List.{list_any};
 ghost use Rattle.gate_core.specs.Events.{Event as PastEvent, event_of};
-ghost use Rattle.gate_core.specs.History.{history};
-ghost use Rattle.gate_core.specs.All.{counts_of};
-ghost use Rattle.usbgate.specs.Tape.{host_ended, may_happen, content as content_of, says, IsEvent};
-ghost use Rattle.usbgate.specs.Text.{made_text, sent_text, counts_line};
-ghost use Rattle.usbgate.specs.TapeCommand.{tape_limit};
-ghost use Rattle.usbgate.specs.Replay.{has_refusal};
-ghost use Rattle.usbgate.specs.inner.Replay.{ReplayProgress, replay_begin, replay_line, HasSeen, HasRead, Sees, GoesOn, is_refusal};
+ghost use Rattle.usbgate.specs.Text.{made_text, sent_text};
+ghost use Rattle.usbgate.specs.Replay.{replay};
+ghost use Rattle.usbgate.specs.inner.Replay.{is_refusal, HasSeen as HasPast, Sees, Replays};
 
-use crate::tape::{LineError, content, read_line};
+use crate::event_tape::EventCommand;
 use crate::text::{push_bytes, push_counts, push_notes};
 use gate_core::{Event, Gate, Note, Notes};
 use std::alloc::Global;
 use usb_base::{Bytes, Memory};
 
-/// How many bytes a tape may have.
-const TAPE_LIMIT: u64 = 67_108_864;
-
-/// The gate, and what has been read of the tape that is put to it.
+/// A gate to which the events of a tape are put.
 #[derive(Drop)]
 pub struct Replay {
     gate: Gate,
@@ -28,20 +21,15 @@ pub struct Replay {
     to_client: Bytes,
     /// What the event at hand sends to the host.
     to_host: Bytes,
-    /// How many lines have been read.
-    lines: u64,
-    /// How many bytes the tape may still have.
-    room: u64,
-    host_ended: bool,
     /// A side was refused.
     refused: bool,
 }
 
 impl Replay {
-    /// The replay of which no line has been read. It appends the line of what the gate's making sends.
+    /// The replay to which nothing has happened. It appends the line of what the gate's making sends.
     pub fn start(alloc: Global, first_id: u32, text: &mut Bytes) -> Result<Replay, Memory>
         requires { 1 ≤ first_id }
-        ensures start { IfOk result (λ replay. HasRead first_id replay (replay_begin first_id)) }
+        ensures start { IfOk result (λ made. Replays (replay first_id) made []) }
         ensures text { OnOk result (text.new ≡ text.old ++ made_text first_id) }
     {
         let mut to_host = Bytes::new(alloc);
@@ -52,57 +40,13 @@ impl Replay {
             gate,
             to_client: Bytes::new(alloc),
             to_host,
-            lines: 0,
-            room: TAPE_LIMIT,
-            host_ended: false,
             refused: false,
         })
     }
 
-    /// Reads the next line, which may have its LF, and appends its text. A bad line changes nothing.
-    pub fn take_line(
-        &mut self,
-        alloc: Global,
-        line: &[u8],
-        text: &mut Bytes,
-    ) -> Result<(), LineError>
-        requires { 0 < length line.now }
-        ensures goes { OnOk result ((first : ℕ) (s : ReplayProgress) → HasRead first self.old s → GoesOn first (replay_line first s line.now) self.new text.old text.new) }
-        ensures bad { result ≡ Err LineError.Bad → (first : ℕ) (s : ReplayProgress) → HasRead first self.old s → replay_line first s line.now ≡ None }
-        ensures same { result ≡ Err LineError.Bad → (self.new ≡ self.old) × (text.new ≡ text.old) }
-        ensures memory { result ≡ Err LineError.Memory → IsEvent (says (content_of line.now)) }
-    {
-        let len = line.len() as u64;
-        if len > self.room {
-            return Err(LineError::Bad);
-        }
-        let said = read_line(alloc, content(line))?;
-        if let Some(event) = said.event() {
-            if !self.may_see(event) {
-                return Err(LineError::Bad);
-            }
-            self.see(alloc, event, text)?;
-        }
-        self.room -= len;
-        self.lines = self.lines.saturating_add(1);
-        Ok(())
-    }
-
-    /// Whether the event isn't one of a host that has ended.
-    fn may_see(&self, event: Event) -> bool
-        ensures { (first : ℕ) (events : List PastEvent) → HasSeen first self.now events → result ≡ may_happen events (event_of event.entry) }
-    {
-        match event {
-            Event::ClientPiece(_) | Event::ClientEnd => true,
-            Event::HostPiece(_) | Event::HostEnd => !self.host_ended,
-        }
-    }
-
     /// Puts the event to the gate, and appends what it sends and tells.
-    fn see(&mut self, alloc: Global, event: Event, text: &mut Bytes) -> Result<(), Memory>
-        ensures sees { OnOk result ((first : ℕ) (events : List PastEvent) → HasSeen first self.old events → Sees first self.new events (event_of event.entry) text.old text.new) }
-        ensures lines { self.new.lines ≡ self.old.lines }
-        ensures room { self.new.room ≡ self.old.room }
+    fn put(&mut self, alloc: Global, event: Event, text: &mut Bytes) -> Result<(), Memory>
+        ensures { OnOk result ((first : ℕ) (events : List PastEvent) → HasPast first self.old events → Sees first self.new events (event_of event.entry) text.old text.new) }
     {
         let notes = self
             .gate
@@ -111,7 +55,6 @@ impl Replay {
         self.to_client.clear();
         self.to_host.clear();
         self.refused |= tells_refusal(&notes);
-        self.see_end(event);
         Ok(())
     }
 
@@ -123,43 +66,21 @@ impl Replay {
         push_bytes(alloc, b'H', self.to_host.as_slice(), text)?;
         push_notes(alloc, notes, text)
     }
+}
 
-    /// Keeps that the host has ended, if the event says so.
-    fn see_end(&mut self, event: Event)
-        ensures host { (events : List PastEvent) → self.old.host_ended ≡ host_ended events → self.new.host_ended ≡ host_ended (event_of event.entry ∷ events) }
-        ensures rest { self.new ≡ record self.old { host_ended = self.new.host_ended } }
-    {
-        if let Event::HostEnd = event {
-            self.host_ended = true;
-        }
+impl EventCommand for Replay {
+    ghost HasSeen = { Replays };
+
+    fn see(&mut self, alloc: Global, event: Event, text: &mut Bytes) -> Result<(), Memory> {
+        self.put(alloc, event, text)
     }
 
-    /// How many lines have been read.
-    pub fn lines(&self) -> u64
-        ensures { (first : ℕ) (s : ReplayProgress) → HasRead first self.now s → result ≡ s.lines }
-    {
-        self.lines
-    }
-
-    /// Whether the tape may still have so many bytes.
-    pub fn has_room(&self, len: usize) -> bool
-        ensures { (first : ℕ) (s : ReplayProgress) → HasRead first self.now s → IsTrue result ↔ (s.bytes + len ≤ tape_limit) }
-    {
-        len as u64 <= self.room
-    }
-
-    /// Whether a side was refused.
-    pub fn has_refused(&self) -> bool
-        ensures { (first : ℕ) (s : ReplayProgress) → HasRead first self.now s → result ≡ has_refusal (history first s.kept) }
-    {
-        self.refused
-    }
-
-    /// Appends the line of the counts.
-    pub fn counts(&self, alloc: Global, text: &mut Bytes) -> Result<(), Memory>
-        ensures { OnOk result ((first : ℕ) (s : ReplayProgress) → HasRead first self.now s → text.new ≡ text.old ++ counts_line (counts_of first (history first s.kept))) }
-    {
+    fn close(&self, alloc: Global, text: &mut Bytes) -> Result<(), Memory> {
         push_counts(alloc, &self.gate.counts(), text)
+    }
+
+    fn has_refused(&self) -> bool {
+        self.refused
     }
 }
 

@@ -8,8 +8,10 @@ mod packets;
 mod refusals;
 mod routes;
 mod sessions;
+mod show;
 mod tapes;
 mod unlinks;
+mod words;
 
 use crate::{Status, run};
 use cuts::{push_cut, push_joined};

@@ -1,82 +1,104 @@
--- Where a reader stands in a tape, of which a part has been read, and a part of whose text has been written.
+-- Where a reader stands in a tape, of which a part has been read, and a part of whose text has been written. What the
+-- command keeps is said by Keeps.
 use Rattle.std.specs.Prelude.{◌≡◌, ◌≢◌, ℕ, ◌+◌, ◌<◌, ◌≤◌, false, List, [], ◌++◌, length, Option, Some, None}
+use Rattle.usbgate.specs.declared.tape_lines.TapeLines.{TapeLines}
 use Rattle.usbgate.specs.declared.tape_reader.TapeReader.{TapeReader}
 use Rattle.usbgate.specs.declared.status.Status.{Status}
 use Rattle.usbgate.specs.declared.status.Status.TheVariants.{BadTape}
 use Rattle.usbgate.specs.Tape.{lines_of}
-use Rattle.usbgate.specs.Text.{made_text, bad_line}
-use Rattle.usbgate.specs.TapeCommand.{tape_limit}
+use Rattle.usbgate.specs.Text.{bad_line}
+use Rattle.usbgate.specs.TapeCommand.{TapeCommand, tape_limit, Progress, begin, next_line, Reading, read_lines, tape_text, tape_status}
 use Rattle.usbgate.specs.Run.{EndsALine, HasNoLF}
-use Rattle.usbgate.specs.inner.Replay.{ReplayProgress, ReplayReading, replay_begin, replay_line, replay_lines, replay_text, replay_status, HasRead, GoesOn}
 
-abbrev pub with_text : List ℕ → ReplayReading → ReplayReading
+-- ---- lines
+
+-- A line has a byte at least, so there are no more lines than bytes.
+pub record HasRead {C S : Type 0} (Keeps : C → S → Type 0) (l : TapeLines C) (s : Progress S) : Type 0 where
+  pub keeps : Keeps l.command s.kept
+  pub lines : l.lines ≡ s.lines
+  pub bytes : s.bytes + l.room ≡ tape_limit
+  pub fewer : s.lines ≤ s.bytes
+
+-- of what a command makes of a line, the text is put behind the text
+abbrev pub TakesLine : {C S : Type 0} → (C → S → Type 0) → Option (List ℕ × S) → C → List ℕ → List ℕ → Type 0
+TakesLine Keeps None new text_old text_new = ⊥
+TakesLine Keeps (Some x) new text_old text_new = (text_new ≡ text_old ++ x.0) × Keeps new x.1
+
+-- of a line that is good its text is put behind the text
+abbrev pub GoesOn : {C S : Type 0} → (C → S → Type 0) → Option (List ℕ × Progress S) → TapeLines C → List ℕ → List ℕ → Type 0
+GoesOn Keeps None new text_old text_new = ⊥
+GoesOn Keeps (Some x) new text_old text_new = (text_new ≡ text_old ++ x.0) × HasRead Keeps new x.1
+
+-- ---- a tape
+
+abbrev pub with_text : {S : Type 0} → List ℕ → Reading S → Reading S
 with_text text x = record x { text = text ++ x.text }
 
 -- Whole lines were read, which are good, and a part of the next one, which doesn't pass the limit. However the tape
 -- goes on, its text begins with theirs.
-pub record Stage (first : ℕ) (p : TapeReader) (read written : List ℕ) : Type 0 where
+pub record Stage {C S : Type 0} (command : TapeCommand S) (Keeps : C → S → Type 0) (p : TapeReader C) (read written : List ℕ) : Type 0 where
   pub whole : List ℕ
   pub text : List ℕ
-  pub at : ReplayProgress
+  pub at : Progress S
   pub read-is : read ≡ whole ++ p.pending
   pub whole_lines : EndsALine whole
   pub part_of_line : HasNoLF p.pending
   pub bytes-is : at.bytes ≡ length whole
   pub within : at.bytes + length p.pending ≤ tape_limit
-  pub text-is : written ++ p.text ≡ made_text first ++ text
-  pub reads : (later : List ℕ) → replay_lines first (replay_begin first) (lines_of (whole ++ later)) ≡ with_text text (replay_lines first at (lines_of later))
-  pub has_read : HasRead first p.replay at
+  pub text-is : written ++ p.text ≡ command.opening ++ text
+  pub reads : (later : List ℕ) → read_lines command (begin command) (lines_of (whole ++ later)) ≡ with_text text (read_lines command at (lines_of later))
+  pub has_read : HasRead Keeps p.lines at
 
 -- a line is bad, however the tape goes on: its text ends here
-pub record Spoilt (first : ℕ) (status : Status) (p : TapeReader) (read written : List ℕ) : Type 0 where
+pub record Spoilt {C S : Type 0} (command : TapeCommand S) (status : Status) (p : TapeReader C) (read written : List ℕ) : Type 0 where
   pub number : ℕ
   pub status-is : status ≡ BadTape number
-  pub text : (later : List ℕ) → replay_text first (read ++ later) ≡ written ++ p.text
-  pub outcome : (later : List ℕ) → replay_status first (read ++ later) ≡ status
+  pub text : (later : List ℕ) → tape_text command (read ++ later) ≡ written ++ p.text
+  pub outcome : (later : List ℕ) → tape_status command (read ++ later) ≡ status
 
-abbrev pub Took : ℕ → Option Status → TapeReader → List ℕ → List ℕ → Type 0
-Took first None p read written = Stage first p read written
-Took first (Some status) p read written = Spoilt first status p read written
+abbrev pub Took : {C S : Type 0} → TapeCommand S → (C → S → Type 0) → Option Status → TapeReader C → List ℕ → List ℕ → Type 0
+Took command Keeps None p read written = Stage command Keeps p read written
+Took command Keeps (Some status) p read written = Spoilt command status p read written
 
 -- the tape has come to its end, and so has its text
-pub record Finished (first : ℕ) (status : Status) (p : TapeReader) (tape written : List ℕ) : Type 0 where
-  pub text : replay_text first tape ≡ written ++ p.text
-  pub outcome : replay_status first tape ≡ status
+pub record Finished {C S : Type 0} (command : TapeCommand S) (status : Status) (p : TapeReader C) (tape written : List ℕ) : Type 0 where
+  pub text : tape_text command tape ≡ written ++ p.text
+  pub outcome : tape_status command tape ≡ status
 
 -- the run ends: at the tape's end, where an empty piece comes, or at a bad line, however the tape goes on
-pub record Closes (first : ℕ) (status : Status) (p : TapeReader) (piece read written : List ℕ) : Type 0 where
-  pub text : (later : List ℕ) → (piece ≡ [] → later ≡ []) → replay_text first ((read ++ piece) ++ later) ≡ written ++ p.text
-  pub outcome : (later : List ℕ) → (piece ≡ [] → later ≡ []) → replay_status first ((read ++ piece) ++ later) ≡ status
+pub record Closes {C S : Type 0} (command : TapeCommand S) (status : Status) (p : TapeReader C) (piece read written : List ℕ) : Type 0 where
+  pub text : (later : List ℕ) → (piece ≡ [] → later ≡ []) → tape_text command ((read ++ piece) ++ later) ≡ written ++ p.text
+  pub outcome : (later : List ℕ) → (piece ≡ [] → later ≡ []) → tape_status command ((read ++ piece) ++ later) ≡ status
   pub bad : (piece ≡ [] → ⊥) → (number : ℕ) × (status ≡ BadTape number)
 
-abbrev pub Stepped : ℕ → Option Status → TapeReader → List ℕ → List ℕ → List ℕ → Type 0
-Stepped first None p piece read written = (piece ≢ []) × Stage first p (read ++ piece) written
-Stepped first (Some status) p piece read written = Closes first status p piece read written
+abbrev pub Stepped : {C S : Type 0} → TapeCommand S → (C → S → Type 0) → Option Status → TapeReader C → List ℕ → List ℕ → List ℕ → Type 0
+Stepped command Keeps None p piece read written = (piece ≢ []) × Stage command Keeps p (read ++ piece) written
+Stepped command Keeps (Some status) p piece read written = Closes command status p piece read written
 
 -- every line of the tape was read, and is good
-pub record AllRead (first : ℕ) (p : TapeReader) (tape written : List ℕ) : Type 0 where
+pub record AllRead {C S : Type 0} (command : TapeCommand S) (Keeps : C → S → Type 0) (p : TapeReader C) (tape written : List ℕ) : Type 0 where
   pub text : List ℕ
-  pub at : ReplayProgress
-  pub text-is : written ++ p.text ≡ made_text first ++ text
-  pub reads : replay_lines first (replay_begin first) (lines_of tape) ≡ record { text = text; after = at; bad = false }
-  pub has_read : HasRead first p.replay at
+  pub at : Progress S
+  pub text-is : written ++ p.text ≡ command.opening ++ text
+  pub reads : read_lines command (begin command) (lines_of tape) ≡ record { text = text; after = at; bad = false }
+  pub has_read : HasRead Keeps p.lines at
 
-abbrev pub TookLast : ℕ → Option Status → TapeReader → List ℕ → List ℕ → Type 0
-TookLast first None p tape written = AllRead first p tape written
-TookLast first (Some status) p tape written = Finished first status p tape written
+abbrev pub TookLast : {C S : Type 0} → TapeCommand S → (C → S → Type 0) → Option Status → TapeReader C → List ℕ → List ℕ → Type 0
+TookLast command Keeps None p tape written = AllRead command Keeps p tape written
+TookLast command Keeps (Some status) p tape written = Finished command status p tape written
 
 -- ---- one line
 
 -- the line after s is bad, and its text is put behind the text
-pub record Spoils (status : Status) (s : ReplayProgress) (text_old text_new : List ℕ) : Type 0 where
+pub record Spoils {S : Type 0} (status : Status) (s : Progress S) (text_old text_new : List ℕ) : Type 0 where
   pub status-is : status ≡ BadTape (s.lines + 1)
   pub text-is : text_new ≡ text_old ++ bad_line (s.lines + 1)
 
-abbrev pub TookLine : ℕ → Option Status → ReplayProgress → List ℕ → TapeReader → TapeReader → Type 0
-TookLine first None s line old new = GoesOn first (replay_line first s line) new.replay old.text new.text × (new.pending ≡ [])
-TookLine first (Some status) s line old new = (replay_line first s line ≡ None) × Spoils status s old.text new.text
+abbrev pub TookLine : {C S : Type 0} → TapeCommand S → (C → S → Type 0) → Option Status → Progress S → List ℕ → TapeReader C → TapeReader C → Type 0
+TookLine command Keeps None s line old new = GoesOn Keeps (next_line command s line) new.lines old.text new.text × (new.pending ≡ [])
+TookLine command Keeps (Some status) s line old new = (next_line command s line ≡ None) × Spoils status s old.text new.text
 
 -- a part of a line is kept, unless the line passes the limit
-abbrev pub Kept : Option Status → ReplayProgress → List ℕ → TapeReader → TapeReader → Type 0
+abbrev pub Kept : {C S : Type 0} → Option Status → Progress S → List ℕ → TapeReader C → TapeReader C → Type 0
 Kept None s part old new = (new ≡ record old { pending = part }) × (s.bytes + length part ≤ tape_limit)
 Kept (Some status) s part old new = (tape_limit < s.bytes + length part) × Spoils status s old.text new.text

@@ -1,4 +1,4 @@
-//! Faults of the outside, the limit of a tape, and words that are no command.
+//! Faults of the outside, and the limit of a tape.
 
 ghost use Rattle.std.specs.Prelude.{◌<◌};
 
@@ -9,8 +9,6 @@ use gate_outside::{NoDoors, TextSink, TextSource};
 use std::process::Abort;
 use std::test::Fail;
 use usb_base::Bytes;
-
-const USAGE: &str = "usage: usbgate COMMAND [options]\n";
 
 /// Runs a replay of one list request, where these calls of the source and the sink fail. Of its text so many
 /// bytes are printed.
@@ -111,43 +109,5 @@ fn a_tape_ends_at_its_limit(rt: HostRuntime) -> Result<(), Fail> {
         assert!(rt; before <= tape.len());
         tape.cut(before);
     }
-    Ok(())
-}
-
-#[test]
-fn words_that_are_no_command(rt: HostRuntime) -> Result<(), Fail> {
-    let table: [&[&str]; 13] = [
-        &[],
-        &["show"],
-        &["replay "],
-        &["replay", "replay"],
-        &["replay", "--first-id"],
-        &["replay", "--first-id", "0"],
-        &["replay", "--first-id", "4294967296"],
-        &["replay", "--first-id", "18446744073709551617"],
-        &["replay", "--first-id", "+1"],
-        &["replay", "--first-id", "01"],
-        &["replay", "--first-id", ""],
-        &["replay", "--first-id", "1", "1"],
-        &["replay", "1"],
-    ];
-    for words in table {
-        let mut source = TextSource::make(rt.alloc(), b"x\n", 9, &[0])?;
-        let mut sink = TextSink::make(rt.alloc(), 99, 9, &[])?;
-        let ended = run(
-            rt.alloc(),
-            words,
-            &mut source,
-            &mut sink,
-            &mut NoDoors::new(),
-        );
-        assert_eq!(rt; ended, Status::Usage);
-        assert_eq!(rt; ended.code(), 1);
-        assert_eq!(rt; sink.held(), USAGE.as_bytes());
-    }
-    let mut source = TextSource::make(rt.alloc(), b"", 9, &[])?;
-    let mut sink = TextSink::make(rt.alloc(), 10, 99, &[])?;
-    let ended = run(rt.alloc(), &[], &mut source, &mut sink, &mut NoDoors::new());
-    assert_eq!(rt; ended, Status::WriteFault);
     Ok(())
 }

@@ -77,7 +77,7 @@ fn value_of(number: &str) -> u64 {
 }
 
 /// Appends the digits of bytes, which may be followed by how many times they come.
-fn push_bytes(text: &mut Bytes, bytes: &str) -> Result<(), Memory> {
+pub fn push_bytes(text: &mut Bytes, bytes: &str) -> Result<(), Memory> {
     match bytes.split_once('*') {
         Some((digits, times)) => push(text, digits, times.parse().unwrap_or(0)),
         None => push(text, bytes, 1),

@@ -1,0 +1,14 @@
+use Rattle.std.proofs.Common.{◌≡◌, ◌∙◌, ap, sym, List, Option, option_map, Some}
+use Rattle.clap.specs.Words.{Row, found_of, rows_of}
+use Rattle.clap.specs.declared.parser.matches.ArgMatches.{ArgMatches}
+use Rattle.usbgate.specs.CommandLine.{found}
+use Rattle.usbgate.specs.Words.{texts, given_by, command_by}
+use Rattle.usbgate.proofs.words.Command.read.Goals as goal
+
+abbrev rows : ArgMatches → List Row
+rows m = rows_of (found_of m)
+
+pub returns-in-Some : goal.returns-in-Some
+returns-in-Some c =
+    c.meant_by.ensures (given_by (rows c.in-Some.matches)) c.of.ensures
+    ∙ ap command_by (sym (ap (option_map rows) c.in-Some.is) ∙ c.in_ok-matches.ensures)

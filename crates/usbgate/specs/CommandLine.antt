@@ -1,0 +1,30 @@
+-- How the words are read, by the library of command lines: `COMMAND`, which must be there, `NUMBER`, and options with one
+-- value each, in any order.
+use Rattle.std.specs.Prelude.{◌≡◌, true, List, [], ◌∷◌, codes, Option, Some, None}
+use Rattle.clap.specs.Words.{App, Row, Rule, Shape, Text, new_app, new_rule, with_rule, fault_of, matches_of, Kinds}
+
+abbrev pub option_named : Text → Rule
+option_named name = record (new_rule name) { long = Some name }
+
+abbrev pub program : App
+program = let a = new_app (codes "usbgate") in record a { top = record a.top { no_binary_name = true } }
+
+abbrev pub command_line : App
+command_line =
+    with_rule (with_rule (with_rule (with_rule (with_rule (with_rule (with_rule (with_rule program
+    (record (new_rule (codes "command")) { required = true }))
+    (new_rule (codes "number")))
+    (option_named (codes "device")))
+    (option_named (codes "side")))
+    (option_named (codes "host")))
+    (option_named (codes "listen")))
+    (option_named (codes "idle")))
+    (option_named (codes "first-id"))
+
+abbrev pub found_by : Kinds → List Row → Option (List Row)
+found_by [] rows = Some rows
+found_by (kind ∷ kinds) rows = None
+
+-- what is found in the words, or none where they are refused
+abbrev pub found : List Text → Option (List Row)
+found words = found_by (fault_of command_line words) (matches_of command_line words)
