@@ -30,14 +30,6 @@ gained before more = ap (λ (l : List ℕ). drop (length l) (before ++ more)) (a
 -- ---- the packets of a stream
 
 module _ {S P : Type 0} (shown : Shown S P) where
-  -- none yet
-  pub goes-none : (kept : Kept S) (text : List ℕ) → GoesOn shown kept kept text text
-  goes-none kept text = λ bytes given f. record {
-    more = [];
-    follows = subst (λ (g : List (ℕ × P)). Follows shown.reader shown.start kept bytes g) (sym (append-nil given)) f;
-    text-is = sym (append-nil text);
-  }
-
   next_at : (takes : P → Bool) (kept new : Kept S) (bytes : List ℕ) (given : List (ℕ × P)) (result answer : Result (Option (ℕ × P)) ReadError) → Nexts shown.reader takes result kept new → result ≡ answer
       → Follows shown.reader shown.start kept bytes given → Answered shown.reader takes shown.start answer new bytes given
   next_at takes kept new bytes given result answer next is f =
@@ -107,10 +99,6 @@ module _ {S P : Type 0} (shown : Shown S P) where
   shows-handed takes old kept new text_old text result e (Ok v) goes next is on = absurd on
   shows-handed takes old kept new text_old text result e (Err y) goes next is on =
       subst (λ (z : ReadError). ShowsPackets shown (Err z) old new text_old text) (sym on) (shows-err takes old kept new text_old text result e goes next is)
-
-  -- memory runs out for its line
-  pub shows-memory : (old new : Kept S) (text_old text : List ℕ) → ShowsPackets shown (Err Memory) old new text_old text
-  shows-memory old new text_old text = record { over = λ v is. err-ok Memory v is; shows = λ bytes given f. tt }
 
   -- ---- a stream that has had no bytes
 
