@@ -1,20 +1,18 @@
 -- A stream's packets are shown as they become whole, and what that adds is what its text gains.
 use Rattle.std.proofs.Common.{◌≡◌, ℕ, Bool, true, false, cond, ◌||◌, List, [], ◌∷◌, ◌++◌, length, drop, Option, Some, None, is_some, Result, Ok, Err, refl, sym, ap, subst, ◌∙◌, append_assoc}
-use Rattle.std.specs.List.{flat_map}
 use Rattle.std.specs.Result.{IsErrAnd}
 use Rattle.std.proofs.lemmas.List.{append-nil, drop_at}
-use Rattle.std.proofs.Math.Seq.{drop-nil}
 use Rattle.usb_base.specs.declared.reason.Reason.{Reason}
 use Rattle.usb_base.specs.Refusal.{refusal_line}
 use Rattle.packet_stream.specs.declared.read.ReadError.{ReadError}
 use Rattle.packet_stream.specs.declared.read.ReadError.TheVariants.{Refused, Memory}
-use Rattle.packet_stream.specs.Split.{Reader, Position, Splitting, split}
-use Rattle.packet_stream.specs.Streams.{Kept, capped, passed, Left, FollowsBy, Follows, Drained, Wrongs, Gives, Answered, Nexts, Changes, after_piece, after_piece_by, Puts}
+use Rattle.packet_stream.specs.Split.{Reader, Splitting, split}
+use Rattle.packet_stream.specs.Streams.{Kept, capped, passed, FollowsBy, Follows, Drained, Wrongs, Answered, Nexts, Changes, after_piece, after_piece_by, Puts}
 use Rattle.packet_stream.proofs.Loops.{changed_to}
 use Rattle.gate_core.specs.Events.{Event}
 use Rattle.usbgate.specs.Show.{Shown, packet_lines, wrong_line, split_text, stream_split, was_wrong, gained_lines, show_side}
 use Rattle.usbgate.specs.inner.Shown.{HasNone}
-use Rattle.usbgate.specs.inner.Show.{HasGiven, HasShown, IsShow, Sees, Shows, GoesOn, ShowsAll, ShowsWrong, Showed, ShowsPackets}
+use Rattle.usbgate.specs.inner.Show.{HasGiven, HasShown, Sees, Shows, GoesOn, Showed, ShowsPackets}
 
 -- ---- lines
 

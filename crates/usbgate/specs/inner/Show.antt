@@ -1,11 +1,11 @@
 -- What `show` keeps of the events that it has seen.
-use Rattle.std.specs.Prelude.{◌≡◌, ℕ, Bool, false, List, [], ◌∷◌, ◌++◌, None, Result, Ok, Err}
+use Rattle.std.specs.Prelude.{◌≡◌, ℕ, Bool, false, List, ◌∷◌, ◌++◌, None, Result, Ok, Err}
 use Rattle.usb_base.specs.declared.side.Side.{Side}
 use Rattle.usb_base.specs.declared.reason.Reason.{Reason}
 use Rattle.packet_stream.specs.declared.read.ReadError.{ReadError}
 use Rattle.packet_stream.specs.declared.read.ReadError.TheVariants.{Refused, Memory}
 use Rattle.packet_stream.specs.Format.{Format}
-use Rattle.packet_stream.specs.Split.{Reader, Position, reads, split}
+use Rattle.packet_stream.specs.Split.{reads, split}
 use Rattle.packet_stream.specs.Streams.{Kept, Follows, Drained, Wrongs}
 use Rattle.gate_core.specs.Events.{Event}
 use Rattle.usbgate.specs.EventCommand.{EventCommand}
