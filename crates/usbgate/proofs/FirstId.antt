@@ -1,5 +1,5 @@
 -- A first id is never 0.
-use Rattle.std.proofs.Common.{◌≡◌, ℕ, ◌≤◌, ◌<◌, ◌^◌, Bool, true, false, cond, ◌&&◌, List, nat_lt, Option, Some, None, option_map, refl, ap, arith}
+use Rattle.std.proofs.Common.{◌≡◌, ℕ, ◌≤◌, ◌^◌, Bool, true, false, cond, ◌&&◌, List, nat_lt, Option, Some, None, option_map, refl, ap, arith}
 use Rattle.std.specs.Prelude.{codes, option_and_then}
 use Rattle.std.specs.Str.{bytes_eq}
 use Rattle.std.specs.Str.Parse.{digits_value}
@@ -13,7 +13,7 @@ use Rattle.usbgate.specs.declared.command_table.Row.{Row}
 use Rattle.usbgate.specs.declared.command_table.Verb.{Verb}
 use Rattle.usbgate.specs.declared.command_table.Verb.TheVariants as verb
 use Rattle.usbgate.specs.declared.words.Command.{Command}
-use Rattle.usbgate.specs.declared.words.Command.TheVariants.{Replay, Show, Unknown}
+use Rattle.usbgate.specs.declared.words.Command.TheVariants.{Replay, Show}
 use Rattle.usbgate.specs.CommandLine.{found}
 use Rattle.usbgate.specs.Words.{is_met, first_id_of, side_of, asked_by, by_row, command_in, given_by, or_unknown, command_by, command_of}
 

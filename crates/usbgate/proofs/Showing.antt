@@ -1,20 +1,18 @@
 -- A stream's packets are shown as they become whole, and what that adds is what its text gains.
 use Rattle.std.proofs.Common.{◌≡◌, ℕ, Bool, true, false, cond, ◌||◌, List, [], ◌∷◌, ◌++◌, length, drop, Option, Some, None, is_some, Result, Ok, Err, refl, sym, ap, subst, ◌∙◌, append_assoc}
-use Rattle.std.specs.List.{flat_map}
 use Rattle.std.specs.Result.{IsErrAnd}
 use Rattle.std.proofs.lemmas.List.{append-nil, drop_at}
-use Rattle.std.proofs.Math.Seq.{drop-nil}
 use Rattle.usb_base.specs.declared.reason.Reason.{Reason}
 use Rattle.usb_base.specs.Refusal.{refusal_line}
 use Rattle.packet_stream.specs.declared.read.ReadError.{ReadError}
 use Rattle.packet_stream.specs.declared.read.ReadError.TheVariants.{Refused, Memory}
-use Rattle.packet_stream.specs.Split.{Reader, Position, Splitting, split}
-use Rattle.packet_stream.specs.Streams.{Kept, capped, passed, Left, FollowsBy, Follows, Drained, Wrongs, Gives, Answered, Nexts, Changes, after_piece, after_piece_by, Puts}
+use Rattle.packet_stream.specs.Split.{Reader, Splitting, split}
+use Rattle.packet_stream.specs.Streams.{Kept, capped, passed, FollowsBy, Follows, Drained, Wrongs, Answered, Nexts, Changes, after_piece, after_piece_by, Puts}
 use Rattle.packet_stream.proofs.Loops.{changed_to}
 use Rattle.gate_core.specs.Events.{Event}
 use Rattle.usbgate.specs.Show.{Shown, packet_lines, wrong_line, split_text, stream_split, was_wrong, gained_lines, show_side}
 use Rattle.usbgate.specs.inner.Shown.{HasNone}
-use Rattle.usbgate.specs.inner.Show.{HasGiven, HasShown, IsShow, Sees, Shows, GoesOn, ShowsAll, ShowsWrong, Showed, ShowsPackets}
+use Rattle.usbgate.specs.inner.Show.{HasGiven, HasShown, Sees, Shows, GoesOn, Showed, ShowsPackets}
 
 -- ---- lines
 
@@ -30,14 +28,6 @@ gained before more = ap (λ (l : List ℕ). drop (length l) (before ++ more)) (a
 -- ---- the packets of a stream
 
 module _ {S P : Type 0} (shown : Shown S P) where
-  -- none yet
-  pub goes-none : (kept : Kept S) (text : List ℕ) → GoesOn shown kept kept text text
-  goes-none kept text = λ bytes given f. record {
-    more = [];
-    follows = subst (λ (g : List (ℕ × P)). Follows shown.reader shown.start kept bytes g) (sym (append-nil given)) f;
-    text-is = sym (append-nil text);
-  }
-
   next_at : (takes : P → Bool) (kept new : Kept S) (bytes : List ℕ) (given : List (ℕ × P)) (result answer : Result (Option (ℕ × P)) ReadError) → Nexts shown.reader takes result kept new → result ≡ answer
       → Follows shown.reader shown.start kept bytes given → Answered shown.reader takes shown.start answer new bytes given
   next_at takes kept new bytes given result answer next is f =
@@ -107,10 +97,6 @@ module _ {S P : Type 0} (shown : Shown S P) where
   shows-handed takes old kept new text_old text result e (Ok v) goes next is on = absurd on
   shows-handed takes old kept new text_old text result e (Err y) goes next is on =
       subst (λ (z : ReadError). ShowsPackets shown (Err z) old new text_old text) (sym on) (shows-err takes old kept new text_old text result e goes next is)
-
-  -- memory runs out for its line
-  pub shows-memory : (old new : Kept S) (text_old text : List ℕ) → ShowsPackets shown (Err Memory) old new text_old text
-  shows-memory old new text_old text = record { over = λ v is. err-ok Memory v is; shows = λ bytes given f. tt }
 
   -- ---- a stream that has had no bytes
 

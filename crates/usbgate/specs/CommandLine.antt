@@ -1,7 +1,7 @@
 -- How the words are read, by the library of command lines: `COMMAND`, which must be there, `NUMBER`, and options with one
 -- value each, in any order.
-use Rattle.std.specs.Prelude.{◌≡◌, true, List, [], ◌∷◌, codes, Option, Some, None}
-use Rattle.clap.specs.Words.{App, Row, Rule, Shape, Text, new_app, new_rule, with_rule, fault_of, matches_of, Kinds}
+use Rattle.std.specs.Prelude.{true, List, [], ◌∷◌, codes, Option, Some, None}
+use Rattle.clap.specs.Words.{App, Row, Rule, Text, new_app, new_rule, with_rule, fault_of, matches_of, Kinds}
 
 abbrev pub option_named : Text → Rule
 option_named name = record (new_rule name) { long = Some name }

@@ -8,6 +8,7 @@ mod given;
 mod program;
 mod replay;
 mod show;
+mod shown_format;
 mod status;
 mod tape_command;
 mod tape_lines;

@@ -15,7 +15,8 @@ ghost use Rattle.usbgate.specs.inner.TapeReader.{Stage};
 
 use crate::event_tape::EventTape;
 use crate::replay::Replay;
-use crate::show::{Show, ShownFormat};
+use crate::show::Show;
+use crate::shown_format::ShownFormat;
 use crate::status::Status;
 use crate::tape_command::TapeCommand;
 use crate::tape_reader::TapeReader;

@@ -1,15 +1,13 @@
 -- What `show` keeps of the events that it has seen.
-use Rattle.std.specs.Prelude.{◌≡◌, ℕ, Bool, false, List, [], ◌∷◌, ◌++◌, None, Result, Ok, Err}
+use Rattle.std.specs.Prelude.{◌≡◌, ℕ, Bool, false, List, ◌∷◌, ◌++◌, None, Result, Ok, Err}
 use Rattle.usb_base.specs.declared.side.Side.{Side}
 use Rattle.usb_base.specs.declared.reason.Reason.{Reason}
 use Rattle.packet_stream.specs.declared.read.ReadError.{ReadError}
 use Rattle.packet_stream.specs.declared.read.ReadError.TheVariants.{Refused, Memory}
 use Rattle.packet_stream.specs.Format.{Format}
-use Rattle.packet_stream.specs.Split.{Reader, Position, reads, split}
+use Rattle.packet_stream.specs.Split.{reads, split}
 use Rattle.packet_stream.specs.Streams.{Kept, Follows, Drained, Wrongs}
 use Rattle.gate_core.specs.Events.{Event}
-use Rattle.usbgate.specs.declared.show.Part.{Part}
-use Rattle.usbgate.specs.declared.show.Part.TheVariants.{Piece, End, Other}
 use Rattle.usbgate.specs.EventCommand.{EventCommand}
 use Rattle.usbgate.specs.Show.{Shown, packet_lines, was_wrong, show_side}
 
@@ -34,12 +32,6 @@ pub record IsShow {S P : Type 0} (shown : Shown S P) (command : EventCommand) (r
 -- the lines of an event are put behind the text, and it has been shown
 pub record Sees {S P : Type 0} (shown : Shown S P) (events : List Event) (e : Event) (refused_old refused_new : Bool) (old new : Kept S) (text_old text_new : List ℕ) : Type 0 where
   pub sees : HasShown shown refused_old old events → (text_new ≡ text_old ++ (show_side shown).text events e) × HasShown shown refused_new new (e ∷ events)
-
--- what an event makes of a side's bytes
-abbrev pub IsPart : Part → List ℕ → List ℕ → Type 0
-IsPart (Piece piece) old new = new ≡ old ++ piece.now
-IsPart End old new = new ≡ []
-IsPart Other old new = new ≡ old
 
 -- ---- the packets that a piece makes whole
 

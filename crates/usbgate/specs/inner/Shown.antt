@@ -1,5 +1,5 @@
 -- No packet and no wrong place stands in no bytes, on either side.
-use Rattle.std.specs.Prelude.{◌≡◌, List, [], None, refl}
+use Rattle.std.specs.Prelude.{◌≡◌, [], None, refl}
 use Rattle.usb_base.specs.Number.{be_at, le_at}
 use Rattle.usb_base.specs.declared.reason.Reason.{Reason}
 use Rattle.packet_stream.specs.Split.{Reader, Position, split}

@@ -1,4 +1,4 @@
-use Rattle.std.proofs.Common.{◌≡◌, ℕ, ◌<◌, [], length}
+use Rattle.std.proofs.Common.{◌≡◌, ◌<◌, [], length}
 use Rattle.usbgate.specs.TapeCommand.{TapeCommand}
 use Rattle.usbgate.specs.inner.TapeReader.{Stage}
 use Rattle.usbgate.proofs.Stages.{room_of}

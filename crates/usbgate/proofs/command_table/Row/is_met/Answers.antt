@@ -1,4 +1,4 @@
-use Rattle.std.proofs.Common.{◌≡◌, ℕ, rules, tests, ◌∷◌, ◌∙◌, List, [], Bool, codes, Option, Some, None, is_some, option_map, refl, ap}
+use Rattle.std.proofs.Common.{◌≡◌, ℕ, rules, tests, ◌∷◌, ◌∙◌, List, [], Bool, Option, Some, None, is_some, ap}
 use Rattle.std.specs.Borrow.{Bor}
 use Rattle.std.specs.List.{list_all}
 use Rattle.std.proofs.lemmas.Iterator.{YieldsList-from_slice}

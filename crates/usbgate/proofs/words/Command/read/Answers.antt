@@ -1,8 +1,7 @@
-use Rattle.std.proofs.Common.{◌≡◌, ◌∙◌, ap, sym, List, Option, option_map, Some}
+use Rattle.std.proofs.Common.{◌∙◌, ap, sym, List, option_map}
 use Rattle.clap.specs.Words.{Row, found_of, rows_of}
 use Rattle.clap.specs.declared.parser.matches.ArgMatches.{ArgMatches}
-use Rattle.usbgate.specs.CommandLine.{found}
-use Rattle.usbgate.specs.Words.{texts, given_by, command_by}
+use Rattle.usbgate.specs.Words.{given_by, command_by}
 use Rattle.usbgate.proofs.words.Command.read.Goals as goal
 
 abbrev rows : ArgMatches → List Row
