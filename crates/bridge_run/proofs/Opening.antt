@@ -1,0 +1,66 @@
+-- The making, and the opening of both sides.
+use Rattle.std.proofs.Common.{◌≡◌, ℕ, true, false, List, [], ◌++◌, Option, Some, None, refl, sym, ap, ◌∙◌, subst, inl, append-nil}
+use Rattle.gate_outside.specs.Link.{Link, Door}
+use Rattle.gate_outside.specs.Doors.{opened, faulted}
+use Rattle.gate_core.specs.Events.{Event}
+use Rattle.bridge_run.specs.Prescribed.{Prescribed, first_of}
+use Rattle.bridge_run.specs.Course.{Setting, Course, Making}
+use Rattle.bridge_run.specs.Calls.{Goes, make}
+use Rattle.bridge_run.specs.Outside.{Outside, Shows, Tells, IsBetween, Cut}
+use Rattle.bridge_run.specs.Serves.{CutShort, Begins}
+use Rattle.bridge_run.specs.inner.Links.{WritesFront}
+use Rattle.bridge_run.specs.inner.Follows.{Follows}
+use Rattle.bridge_run.proofs.Reaching.{reaches-none, cut-next}
+use Rattle.bridge_run.proofs.Putting.{between-none, between-front}
+
+-- all that the making leaves, whatever of its hello is written
+opening-cut : (p : Prescribed) (c : Course) (w : Outside) (out : Option (List ℕ)) → w.client.turns ≡ Some c.client → w.host.turns ≡ Some c.host → w.door.to_come ≡ Some c.clients → w.client.written ≡ Some c.to_client → out ≡ Some c.told
+    → IsBetween c.to_host w.host.written (c.to_host ++ p.to_host []) → Cut w out c (make p c)
+opening-cut p c w out client host clients to_client told between = record {
+  client = inl client;
+  host = inl host;
+  clients = inl clients;
+  to_client = between-none c.to_client w.client.written c.to_client [] to_client (sym (append-nil c.to_client));
+  to_host = between;
+  told = between-none c.told out c.told [] told (sym (append-nil c.told));
+}
+
+pub opening-before : (p : Prescribed) (c : Course) (w : Outside) (out : Option (List ℕ)) → Tells w out c → Cut w out c (make p c)
+opening-before p c w out t =
+    opening-cut p c w out t.client.turns-is t.host.turns-is t.clients t.client.written-is t.told (between-none c.to_host w.host.written (c.to_host ++ p.to_host []) (p.to_host []) t.host.written-is refl)
+
+-- nothing was done
+pub making-short : (s : Setting) (c : Course) (w : Outside) (out : Option (List ℕ)) → Tells w out c → CutShort s (Goes Making c) w out
+making-short s c w out t = cut-next s (Goes Making c) Making c (make s.served c) w out (reaches-none s (Goes Making c)) refl (opening-before s.served c w out t)
+
+pub not_dialled : (p : Prescribed) (c : Course) (w w' : Outside) (out : Option (List ℕ)) → Tells w out c → w'.host ≡ faulted w.host → w'.client ≡ w.client → w'.door ≡ w.door → Cut w' out c (make p c)
+not_dialled p c w w' out t host client door =
+    opening-cut p c w' out (ap (λ (l : Link). l.turns) client ∙ t.client.turns-is) (ap (λ (l : Link). l.turns) host ∙ t.host.turns-is) (ap (λ (d : Door). d.to_come) door ∙ t.clients)
+    (ap (λ (l : Link). l.written) client ∙ t.client.written-is) t.told (between-none c.to_host w'.host.written (c.to_host ++ p.to_host []) (p.to_host []) (ap (λ (l : Link). l.written) host ∙ t.host.written-is) refl)
+
+pub not_listened : (p : Prescribed) (c : Course) (w w' : Outside) (out : Option (List ℕ)) → Tells w out c → w'.host ≡ opened w.host → w'.client ≡ faulted w.client → w'.door ≡ w.door → Cut w' out c (make p c)
+not_listened p c w w' out t host client door =
+    opening-cut p c w' out (ap (λ (l : Link). l.turns) client ∙ t.client.turns-is) (ap (λ (l : Link). l.turns) host ∙ t.host.turns-is) (ap (λ (d : Door). d.to_come) door ∙ t.clients)
+    (ap (λ (l : Link). l.written) client ∙ t.client.written-is) t.told (between-none c.to_host w'.host.written (c.to_host ++ p.to_host []) (p.to_host []) (ap (λ (l : Link). l.written) host ∙ t.host.written-is) refl)
+
+pub not_greeted : (p : Prescribed) (c : Course) (w w' : Outside) (mid : Link) (out : Option (List ℕ)) (hello : List ℕ) → hello ≡ p.to_host [] → Tells w out c → mid ≡ opened w.host → WritesFront true hello mid w'.host → w'.client ≡ w.client
+    → w'.door ≡ record w.door { made = true } → Cut w' out c (make p c)
+not_greeted p c w w' mid out hello is t host front client door =
+    let shows : Shows mid true c.host c.to_host = record { up-is = ap (λ (l : Link). l.up) host; turns-is = ap (λ (l : Link). l.turns) host ∙ t.host.turns-is; written-is = ap (λ (l : Link). l.written) host ∙ t.host.written-is } in
+    opening-cut p c w' out (ap (λ (l : Link). l.turns) client ∙ t.client.turns-is) (ap (λ (l : Link). l.turns) front.link ∙ shows.turns-is) (ap (λ (d : Door). d.to_come) door ∙ t.clients)
+    (ap (λ (l : Link). l.written) client ∙ t.client.written-is) t.told
+    (subst (λ (b : List ℕ). IsBetween c.to_host w'.host.written (c.to_host ++ b)) is (between-front true c.to_host hello mid w'.host c.host shows front))
+
+-- the rounds begin
+pub begun-follows : (stands : List Event → Type 0) (p : Prescribed) (idle budget : ℕ) (w : Outside) (out : Option (List ℕ)) (c : Course) → Begins idle budget c → stands [] → p.refusals [] ≡ [] → Tells w out (make p c)
+    → Follows stands p (record { client_up = false; host_up = true; busy = false; waits = idle; idle = idle; left = budget; refused = None }) w out (make p c)
+begun-follows stands p idle budget w out c b s none t = record {
+  stands_for = subst stands (sym b.events) s;
+  tells = t;
+  client_up = sym b.client_down;
+  host_up = refl;
+  busy = sym b.busy;
+  waits = sym b.waits;
+  left = sym b.left;
+  refused = ap first_of (sym none) ∙ ap (λ (es : List Event). first_of (p.refusals es)) (sym b.events);
+}

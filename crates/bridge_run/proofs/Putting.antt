@@ -1,0 +1,195 @@
+-- What one event makes of the links and of what they tell.
+use Rattle.std.proofs.Common.{◌≡◌, ℕ, ◌&&◌, not, Bool, true, false, cond, List, [], ◌∷◌, ◌++◌, Option, Some, None, refl, sym, ap, ◌∙◌, subst, inl, inr, append-nil, append_assoc}
+use Rattle.std.proofs.lemmas.Bool.{false≢true}
+use Rattle.std.specs.Io.KnownBytes.{append_known, Appends}
+use Rattle.std.specs.List.{flat_map}
+use Rattle.usb_base.specs.Refusal.{refusal_line}
+use Rattle.usb_base.specs.declared.side.Side.TheVariants.{Client, Host}
+use Rattle.usb_base.specs.declared.refusal.Refusal.{Refusal}
+use Rattle.gate_outside.specs.declared.turn.Turn.{Turn}
+use Rattle.gate_outside.specs.Link.{Link, Door}
+use Rattle.gate_outside.specs.Doors.{closes}
+use Rattle.gate_outside.specs.Front.{AppendsFront}
+use Rattle.gate_core.specs.Events.{Event}
+use Rattle.gate_core.specs.Sides.{or_else}
+use Rattle.bridge_run.specs.declared.kept.Kept.{Kept}
+use Rattle.bridge_run.specs.declared.sent.Sent.{Sent}
+use Rattle.bridge_run.specs.Prescribed.{Prescribed, gained, refuses, first_of}
+use Rattle.bridge_run.specs.Course.{Course}
+use Rattle.bridge_run.specs.Calls.{put}
+use Rattle.bridge_run.specs.Outside.{Outside, Shows, Tells, IsBetween, IsOneOf, Cut}
+use Rattle.bridge_run.specs.inner.Links.{wrote_if, WritesFront, closed_if}
+use Rattle.bridge_run.specs.inner.Keeping.{refusing}
+use Rattle.bridge_run.specs.inner.Follows.{Prepared, Follows}
+
+-- ---- a link
+
+wrote-shows : (u : Bool) (b : List ℕ) (l : Link) (t : List Turn) (x : List ℕ) → Shows l u t x → Shows (wrote_if u b l) u t (cond u (x ++ b) x)
+wrote-shows true b l t x s = record { up-is = s.up-is; turns-is = s.turns-is; written-is = ap (λ (k : Option (List ℕ)). append_known k b) s.written-is }
+wrote-shows false b l t x s = s
+
+closed-client : (r u : Bool) (l : Link) (t : List Turn) (x : List ℕ) → Shows l u t x → Shows (closed_if r Client l) (u && not r) (cond r [] t) x
+closed-client true true l t x s = record { up-is = refl; turns-is = ap (λ (k : Option (List Turn)). (closes Client (record l { turns = k })).turns) s.turns-is; written-is = s.written-is }
+closed-client true false l t x s = record { up-is = refl; turns-is = ap (λ (k : Option (List Turn)). (closes Client (record l { turns = k })).turns) s.turns-is; written-is = s.written-is }
+closed-client false true l t x s = s
+closed-client false false l t x s = s
+
+closed-host : (r u : Bool) (l : Link) (t : List Turn) (x : List ℕ) → Shows l u t x → Shows (closed_if r Host l) (u && not r) t x
+closed-host true true l t x s = record { up-is = refl; turns-is = s.turns-is; written-is = s.written-is }
+closed-host true false l t x s = record { up-is = refl; turns-is = s.turns-is; written-is = s.written-is }
+closed-host false true l t x s = s
+closed-host false false l t x s = s
+
+-- ---- what is written in part
+
+pub between-all : (x : List ℕ) (known : Option (List ℕ)) (y more : List ℕ) → known ≡ Some y → y ≡ x ++ more → IsBetween x known y
+between-all x known y more e f = record { more = more; lost = []; known-is = e ∙ ap Some f; most-is = f ∙ sym (append-nil (x ++ more)) }
+
+pub between-none : (x : List ℕ) (known : Option (List ℕ)) (y more : List ℕ) → known ≡ Some x → y ≡ x ++ more → IsBetween x known y
+between-none x known y more e f = record { more = []; lost = more; known-is = e ∙ ap Some (sym (append-nil x)); most-is = f ∙ ap (λ (l : List ℕ). l ++ more) (sym (append-nil x)) }
+
+more_if : (u : Bool) (x b : List ℕ) → cond u (x ++ b) x ≡ x ++ cond u b []
+more_if true x b = refl
+more_if false x b = sym (append-nil x)
+
+pub between-front : (u : Bool) (x b : List ℕ) (old new : Link) (t : List Turn) → Shows old u t x → WritesFront u b old new → IsBetween x new.written (cond u (x ++ b) x)
+between-front true x b old new t s w = record {
+  more = w.front;
+  lost = w.back;
+  known-is = ap (λ (l : Link). l.written) w.link ∙ ap (λ (k : Option (List ℕ)). append_known k w.front) s.written-is;
+  most-is = ap (λ (l : List ℕ). x ++ l) w.parts ∙ sym (append_assoc x w.front w.back);
+}
+between-front false x b old new t s w = absurd (false≢true w.is_up)
+
+-- ---- the course behind it
+
+pub put-client : (p : Prescribed) (c : Course) (e : Event) (sent : Sent) (lines : List ℕ) (old new : Link) (up : Bool) → Prepared p c.events e sent lines
+    → Shows old c.client_up c.client c.to_client → up ≡ c.client_up → new ≡ closed_if (refuses Client sent.refusals) Client (wrote_if up sent.to_client old)
+    → Shows new (put p e c).client_up (put p e c).client (put p e c).to_client
+put-client p c e sent lines old new up prepared s u is =
+    let closed = closed-client (refuses Client sent.refusals) c.client_up (wrote_if c.client_up sent.to_client old) c.client (cond c.client_up (c.to_client ++ sent.to_client) c.to_client)
+    (wrote-shows c.client_up sent.to_client old c.client c.to_client s) in
+    let there = subst (λ (l : Link). Shows l (c.client_up && not (refuses Client sent.refusals)) (cond (refuses Client sent.refusals) [] c.client) (cond c.client_up (c.to_client ++ sent.to_client) c.to_client))
+    (sym (is ∙ ap (λ (v : Bool). closed_if (refuses Client sent.refusals) Client (wrote_if v sent.to_client old)) u)) closed in
+    let first = subst (λ (rs : List Refusal). Shows new (c.client_up && not (refuses Client rs)) (cond (refuses Client rs) [] c.client) (cond c.client_up (c.to_client ++ sent.to_client) c.to_client)) prepared.refusals there in
+    subst (λ (b : List ℕ). Shows new (c.client_up && not (refuses Client (gained p.refusals c.events e))) (cond (refuses Client (gained p.refusals c.events e)) [] c.client) (cond c.client_up (c.to_client ++ b) c.to_client)) prepared.client first
+
+pub put-host : (p : Prescribed) (c : Course) (e : Event) (sent : Sent) (lines : List ℕ) (old new : Link) (up : Bool) → Prepared p c.events e sent lines
+    → Shows old c.host_up c.host c.to_host → up ≡ c.host_up → new ≡ closed_if (refuses Host sent.refusals) Host (wrote_if up sent.to_host old)
+    → Shows new (put p e c).host_up (put p e c).host (put p e c).to_host
+put-host p c e sent lines old new up prepared s u is =
+    let closed = closed-host (refuses Host sent.refusals) c.host_up (wrote_if c.host_up sent.to_host old) c.host (cond c.host_up (c.to_host ++ sent.to_host) c.to_host)
+    (wrote-shows c.host_up sent.to_host old c.host c.to_host s) in
+    let there = subst (λ (l : Link). Shows l (c.host_up && not (refuses Host sent.refusals)) c.host (cond c.host_up (c.to_host ++ sent.to_host) c.to_host))
+    (sym (is ∙ ap (λ (v : Bool). closed_if (refuses Host sent.refusals) Host (wrote_if v sent.to_host old)) u)) closed in
+    let first = subst (λ (rs : List Refusal). Shows new (c.host_up && not (refuses Host rs)) c.host (cond c.host_up (c.to_host ++ sent.to_host) c.to_host)) prepared.refusals there in
+    subst (λ (b : List ℕ). Shows new (c.host_up && not (refuses Host (gained p.refusals c.events e))) c.host (cond c.host_up (c.to_host ++ b) c.to_host)) prepared.host first
+
+-- ---- what is kept
+
+first_of-append : (xs ys : List Refusal) → first_of (xs ++ ys) ≡ or_else (first_of xs) (first_of ys)
+first_of-append [] ys = refl
+first_of-append (x ∷ xs) ys = refl
+
+told-all : (known new : Option (List ℕ)) (x b : List ℕ) → known ≡ Some x → Appends known new b → new ≡ Some (x ++ b)
+told-all (Some y) (Some z) x b e a = let same : y ≡ x = cc in ap Some (a ∙ ap (λ (l : List ℕ). l ++ b) same)
+told-all (Some y) None x b e a = absurd a
+told-all None new x b e a = cc
+
+pub put-follows : (stands : List Event → Type 0) (p : Prescribed) (k k' : Kept) (w w' : Outside) (out out' : Option (List ℕ)) (c : Course) (e : Event) (sent : Sent) (lines : List ℕ)
+    (old-stands : List Event → Type 0) → Follows old-stands p k w out c → Prepared p c.events e sent lines → stands (e ∷ c.events) → k' ≡ refusing sent.refusals k
+    → Shows w'.client (put p e c).client_up (put p e c).client (put p e c).to_client → Shows w'.host (put p e c).host_up (put p e c).host (put p e c).to_host
+    → w'.door ≡ w.door → Appends out out' lines → Follows stands p k' w' out' (put p e c)
+put-follows stands p k k' w w' out out' c e sent lines old-stands f prepared now kept client host door written =
+    let refusals = prepared.refusals in
+    record {
+      stands_for = now;
+      tells = record {
+        client = client;
+        host = host;
+        clients = ap (λ (d : Door). d.to_come) door ∙ f.tells.clients;
+        told = told-all out out' c.told lines f.tells.told written
+            ∙ ap (λ (l : List ℕ). Some (c.told ++ l)) (prepared.lines-is ∙ ap (flat_map refusal_line) refusals);
+      };
+      client_up = ap (λ (k : Kept). k.client_up) kept ∙ ap (λ (u : Bool). u && not (refuses Client sent.refusals)) f.client_up ∙ ap (λ (rs : List Refusal). c.client_up && not (refuses Client rs)) refusals;
+      host_up = ap (λ (k : Kept). k.host_up) kept ∙ ap (λ (u : Bool). u && not (refuses Host sent.refusals)) f.host_up ∙ ap (λ (rs : List Refusal). c.host_up && not (refuses Host rs)) refusals;
+      busy = ap (λ (k : Kept). k.busy) kept ∙ f.busy;
+      waits = ap (λ (k : Kept). k.waits) kept ∙ f.waits;
+      left = ap (λ (k : Kept). k.left) kept ∙ f.left;
+      refused = ap (λ (k : Kept). k.refused) kept
+          ∙ ap (λ (r : Option Refusal). or_else r (first_of sent.refusals)) f.refused
+          ∙ ap (λ (rs : List Refusal). or_else (first_of (p.refusals c.events)) (first_of rs)) refusals
+          ∙ sym (first_of-append (p.refusals c.events) (gained p.refusals c.events e))
+          ∙ ap first_of (sym prepared.grows);
+    }
+
+-- ---- cuts
+
+client-before : (p : Prescribed) (c : Course) (e : Event) (l : Link) → Shows l c.client_up c.client c.to_client → IsOneOf c.client l.turns (put p e c).client × IsBetween c.to_client l.written (put p e c).to_client
+client-before p c e l s = (inl s.turns-is, between-none c.to_client l.written (put p e c).to_client _ s.written-is (more_if c.client_up c.to_client (gained p.to_client c.events e)))
+
+host-before : (p : Prescribed) (c : Course) (e : Event) (l : Link) → Shows l c.host_up c.host c.to_host → IsOneOf c.host l.turns (put p e c).host × IsBetween c.to_host l.written (put p e c).to_host
+host-before p c e l s = (inl s.turns-is, between-none c.to_host l.written (put p e c).to_host _ s.written-is (more_if c.host_up c.to_host (gained p.to_host c.events e)))
+
+told-before : (p : Prescribed) (c : Course) (e : Event) (out : Option (List ℕ)) → out ≡ Some c.told → IsBetween c.told out (put p e c).told
+told-before p c e out s = between-none c.told out (put p e c).told _ s refl
+
+-- before anything is written
+pub put-before : (p : Prescribed) (c : Course) (e : Event) (w : Outside) (out : Option (List ℕ)) → Tells w out c → Cut w out c (put p e c)
+put-before p c e w out t =
+    let client = client-before p c e w.client t.client in
+    let host = host-before p c e w.host t.host in
+    record { client = client.0; host = host.0; clients = inl t.clients; to_client = client.1; to_host = host.1; told = told-before p c e out t.told }
+
+-- within what goes to the client
+pub put-in_client : (p : Prescribed) (c : Course) (e : Event) (sent : Sent) (lines : List ℕ) (w w' : Outside) (out : Option (List ℕ)) (up : Bool) → Prepared p c.events e sent lines → Tells w out c → up ≡ c.client_up
+    → WritesFront up sent.to_client w.client w'.client → w'.host ≡ w.host → w'.door ≡ w.door → Cut w' out c (put p e c)
+put-in_client p c e sent lines w w' out up prepared t u front host door =
+    let h = host-before p c e w'.host (subst (λ (l : Link). Shows l c.host_up c.host c.to_host) (sym host) t.host) in
+    record {
+      client = inl (ap (λ (l : Link). l.turns) front.link ∙ t.client.turns-is);
+      host = h.0;
+      clients = inl (ap (λ (d : Door). d.to_come) door ∙ t.clients);
+      to_client = subst (λ (b : List ℕ). IsBetween c.to_client w'.client.written (cond c.client_up (c.to_client ++ b) c.to_client)) prepared.client
+          (between-front c.client_up c.to_client sent.to_client w.client w'.client c.client t.client (subst (λ (v : Bool). WritesFront v sent.to_client w.client w'.client) u front));
+      to_host = h.1;
+      told = told-before p c e out t.told;
+    }
+
+-- within what goes to the host, behind all that goes to the client
+pub put-in_host : (p : Prescribed) (c : Course) (e : Event) (sent : Sent) (lines : List ℕ) (w w' : Outside) (out : Option (List ℕ)) (uc uh : Bool) → Prepared p c.events e sent lines → Tells w out c → uc ≡ c.client_up → uh ≡ c.host_up
+    → w'.client ≡ wrote_if uc sent.to_client w.client → WritesFront uh sent.to_host w.host w'.host → w'.door ≡ w.door → Cut w' out c (put p e c)
+put-in_host p c e sent lines w w' out uc uh prepared t vc vh client front door =
+    let all = subst (λ (b : List ℕ). Shows (wrote_if c.client_up sent.to_client w.client) c.client_up c.client (cond c.client_up (c.to_client ++ b) c.to_client)) prepared.client
+    (wrote-shows c.client_up sent.to_client w.client c.client c.to_client t.client) in
+    let is = client ∙ ap (λ (v : Bool). wrote_if v sent.to_client w.client) vc in
+    record {
+      client = inl (ap (λ (l : Link). l.turns) is ∙ all.turns-is);
+      host = inl (ap (λ (l : Link). l.turns) front.link ∙ t.host.turns-is);
+      clients = inl (ap (λ (d : Door). d.to_come) door ∙ t.clients);
+      to_client = between-all c.to_client w'.client.written (put p e c).to_client _ (ap (λ (l : Link). l.written) is ∙ all.written-is) (more_if c.client_up c.to_client (gained p.to_client c.events e));
+      to_host = subst (λ (b : List ℕ). IsBetween c.to_host w'.host.written (cond c.host_up (c.to_host ++ b) c.to_host)) prepared.host
+          (between-front c.host_up c.to_host sent.to_host w.host w'.host c.host t.host (subst (λ (v : Bool). WritesFront v sent.to_host w.host w'.host) vh front));
+      told = told-before p c e out t.told;
+    }
+
+told-front : (known new : Option (List ℕ)) (x b : List ℕ) → known ≡ Some x → AppendsFront known new b → IsBetween x new (x ++ b)
+told-front known new x b e a = record {
+  more = a.front;
+  lost = a.back;
+  known-is = told-all known new x a.front e a.appends;
+  most-is = ap (λ (l : List ℕ). x ++ l) a.parts ∙ sym (append_assoc x a.front a.back);
+}
+
+-- within the lines of refusals, behind all that goes to both sides
+pub put-in_lines : (p : Prescribed) (c : Course) (e : Event) (sent : Sent) (lines : List ℕ) (w w' : Outside) (out out' : Option (List ℕ)) → Prepared p c.events e sent lines → Tells w out c
+    → Shows w'.client (put p e c).client_up (put p e c).client (put p e c).to_client → Shows w'.host (put p e c).host_up (put p e c).host (put p e c).to_host
+    → w'.door ≡ w.door → AppendsFront out out' lines → Cut w' out' c (put p e c)
+put-in_lines p c e sent lines w w' out out' prepared t client host door front = record {
+  client = inr client.turns-is;
+  host = inr host.turns-is;
+  clients = inl (ap (λ (d : Door). d.to_come) door ∙ t.clients);
+  to_client = between-all c.to_client w'.client.written (put p e c).to_client _ client.written-is (more_if c.client_up c.to_client (gained p.to_client c.events e));
+  to_host = between-all c.to_host w'.host.written (put p e c).to_host _ host.written-is (more_if c.host_up c.to_host (gained p.to_host c.events e));
+  told = subst (λ (l : List ℕ). IsBetween c.told out' (c.told ++ l)) (prepared.lines-is ∙ ap (flat_map refusal_line) prepared.refusals) (told-front out out' c.told lines t.told front);
+}

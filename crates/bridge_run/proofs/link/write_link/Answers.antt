@@ -1,0 +1,34 @@
+use Rattle.std.proofs.Common.{ℕ, ◌-◌, List, take, drop, length, sym, ◌∙◌, ap, arith}
+use Rattle.std.proofs.lemmas.List.{take_rest, length-take, length-drop, take-append-drop}
+use Rattle.std.proofs.Math.Seq.{take-add}
+use Rattle.gate_outside.specs.Link.{Link}
+use Rattle.gate_outside.specs.Doors.{faulted}
+use Rattle.bridge_run.specs.inner.Links.{wrote}
+use Rattle.bridge_run.proofs.Links.{wrote-twice}
+use Rattle.bridge_run.proofs.link.write_link.Goals as goal
+
+pub loop-done-preserved : goal.loop-done-preserved
+loop-done-preserved g c =
+    let bytes = c.args.bytes.now in
+    let done = c.loop-done.done in
+    let n = c.in-Ok.n in
+    let before = g.D.Doors.link c.args.doors.now c.args.side in
+    record {
+      within = omega (arith, c.in-Ok.ensures.link.1, length-take (length bytes - done) (drop done bytes), length-drop done bytes);
+      wrote = c.in-Ok.ensures.link.2
+          ∙ ap (λ (l : List ℕ). wrote (take n l) (g.D.Doors.link c.loop-done.doors c.args.side)) (take_rest bytes done)
+          ∙ ap (λ (l : Link). wrote (take n (drop done bytes)) l) c.loop-done.invariant.wrote
+          ∙ wrote-twice (take done bytes) (take n (drop done bytes)) before
+          ∙ ap (λ (l : List ℕ). wrote l before) (sym (take-add done n bytes));
+      other = c.in-Ok.ensures.other ∙ c.loop-done.invariant.other;
+      door = c.in-Ok.ensures.door ∙ c.loop-done.invariant.door;
+    }
+
+pub returns-in-Err-clause-link : goal.returns-in-Err-clause-link
+returns-in-Err-clause-link g c = record {
+  front = take c.loop-done.done c.args.bytes.now;
+  back = drop c.loop-done.done c.args.bytes.now;
+  parts = sym (take-append-drop c.loop-done.done c.args.bytes.now);
+  link = c.in-Err.ensures.link ∙ ap (λ (l : Link). faulted l) c.loop-done.invariant.wrote;
+  is_up = c.if-not-up.false;
+}

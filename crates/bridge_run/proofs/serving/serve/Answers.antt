@@ -1,0 +1,40 @@
+use Rattle.std.proofs.Common.{ℕ, List, [], ◌++◌, Err, refl, ◌∙◌, ap}
+use Rattle.gate_core.specs.Bytes.{out_host}
+use Rattle.gate_core.specs.Stands.{Stands}
+use Rattle.bridge_run.specs.Course.{Setting, Making, AtDoor}
+use Rattle.bridge_run.specs.Calls.{Goes, make}
+use Rattle.bridge_run.specs.Outside.{outside}
+use Rattle.bridge_run.specs.Gate.{gate_sends}
+use Rattle.bridge_run.proofs.Reaching.{reaches-none, reaches-call, leaves-then, cut-leaves, cut-next}
+use Rattle.bridge_run.proofs.Resting.{faults-then}
+use Rattle.bridge_run.proofs.Opening.{making-short, begun-follows}
+use Rattle.bridge_run.proofs.serving.serve.Goals as goal
+
+pub returns-in-Err-clause-leaves : goal.returns-in-Err-clause-leaves
+returns-in-Err-clause-leaves g c = λ k b t. making-short (record { served = gate_sends c.args.first_id; idle = c.args.idle }) k (outside (g.D.Doors.link c.args.doors.now) (g.D.Doors.door c.args.doors.now)) (g.K.Sink.contents c.args.out.now) t
+
+pub returns-in-Err-vec-clause-leaves : goal.returns-in-Err-vec-clause-leaves
+returns-in-Err-vec-clause-leaves g c = λ k b t. making-short (record { served = gate_sends c.args.first_id; idle = c.args.idle }) k (outside (g.D.Doors.link c.args.doors.now) (g.D.Doors.door c.args.doors.now)) (g.K.Sink.contents c.args.out.now) t
+
+pub returns-in-Err-open-clause-leaves : goal.returns-in-Err-open-clause-leaves
+returns-in-Err-open-clause-leaves g c = λ k b t.
+    let p = gate_sends c.args.first_id in
+    let s : Setting = record { served = p; idle = c.args.idle } in
+    let w = (outside (g.D.Doors.link c.open.new.doors) (g.D.Doors.door c.open.new.doors)) in
+    let out = g.K.Sink.contents c.args.out.now in
+    cut-leaves c.in-Err-open.end s (Goes Making k) w out c.in-Err-open.ensures.cut
+    (cut-next s (Goes Making k) Making k (make p k) w out (reaches-none s (Goes Making k)) refl (c.in-Err-open.ensures.course p k out (c.as_slice.ensures ∙ c.in-Ok.ensures.sent ∙ ap (λ (l : List ℕ). l ++ out_host c.args.first_id []) c.new-hello.ensures) b.client_down t))
+
+pub returns-clause-leaves : goal.returns-clause-leaves
+returns-clause-leaves g c = λ k b t.
+    let p = gate_sends c.args.first_id in
+    let s : Setting = record { served = p; idle = c.args.idle } in
+    let out = g.K.Sink.contents c.args.out.now in
+    let tells = c.in_default.ensures.course p k out (c.as_slice.ensures ∙ c.in-Ok.ensures.sent ∙ ap (λ (l : List ℕ). l ++ out_host c.args.first_id []) c.new-hello.ensures) b.client_down t in
+    leaves-then c.run.result s (Goes Making k) AtDoor (make p k) (outside (g.D.Doors.link c.run.new.doors) (g.D.Doors.door c.run.new.doors)) (g.K.Sink.contents c.run.new.out)
+    (reaches-call s (Goes Making k) Making k (Goes AtDoor (make p k)) (reaches-none s (Goes Making k)) refl)
+    (c.run.ensures.course c.args.first_id (make p k) (begun-follows (λ events. Stands c.args.first_id c.in-Ok.core events) p c.args.idle c.args.budget (outside (g.D.Doors.link c.open.new.doors) (g.D.Doors.door c.open.new.doors)) out k b c.in-Ok.ensures.made refl tells))
+
+pub returns-clause-cause : goal.returns-clause-cause
+returns-clause-cause g c =
+    faults-then {T = Unit {0}} (Err c.run.result) (outside (g.D.Doors.link c.args.doors.now) (g.D.Doors.door c.args.doors.now)) (outside (g.D.Doors.link c.open.new.doors) (g.D.Doors.door c.open.new.doors)) (outside (g.D.Doors.link c.run.new.doors) (g.D.Doors.door c.run.new.doors)) (g.K.Sink.faults c.args.out.now) (g.K.Sink.faults c.args.out.now) (g.K.Sink.faults c.run.new.out) (c.in_default.ensures.faults (g.K.Sink.faults c.args.out.now)) c.run.ensures.cause

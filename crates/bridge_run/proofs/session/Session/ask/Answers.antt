@@ -1,0 +1,108 @@
+use Rattle.std.proofs.Common.{◌≡◌, ◌-◌, true, length, take, sym, ◌∙◌, ap, subst, arith}
+use Rattle.gate_outside.specs.declared.turn.Polled.TheVariants.{Took, NotYet, Ended}
+use Rattle.gate_outside.specs.Link.{Link}
+use Rattle.gate_core.specs.Events.{Event}
+use Rattle.bridge_run.specs.Course.{Setting, Takes}
+use Rattle.bridge_run.specs.Calls.{Goes, piece, end_of, down}
+use Rattle.bridge_run.specs.Calls.{turned as passed}
+use Rattle.bridge_run.specs.Outside.{outside}
+use Rattle.bridge_run.specs.inner.Follows.{Runs, setting, polls, behind}
+use Rattle.bridge_run.proofs.Reaching.{reaches-none, reaches-call, runs-then}
+use Rattle.bridge_run.proofs.Asking.{OneMoved, poll-call, passed-follows, took-follows, ended-follows, failed-cut, up-is, setting-down}
+use Rattle.bridge_run.proofs.session.Session.ask.Goals as goal
+
+pub returns-in-Took-clause-course : goal.returns-in-Took-clause-course
+returns-in-Took-clause-course g c = λ first k f.
+    let side = c.args.side in
+    let p = g.C.Served.sends first in
+    let s = setting p c.args.self.now.kept in
+    let stands = g.C.Served.stands first c.args.self.now.core in
+    let kept = c.args.self.now.kept in
+    let links = g.D.Doors.link c.args.doors.now in
+    let links' = g.D.Doors.link c.poll.new.self in
+    let door = g.D.Doors.door c.args.doors.now in
+    let door' = g.D.Doors.door c.poll.new.self in
+    let out = g.K.Sink.contents c.args.out.now in
+    let buf = c.poll.new.buf in
+    let len : length buf ≡ 65536 = omega (arith, c.poll.auto.buf, c.requires.room) in
+    let from = Goes (polls side) k in
+    let up = up-is side stands p kept (outside links door) out k true f (sym c.is_up.ensures ∙ c.if-not-is_up.false) in
+    let moved : OneMoved side links links' door door' = record { other-is = c.in-Took.ensures.other; door-is = c.in-Took.ensures.door } in
+    let n = c.in-Took.n in
+    let f1 = passed-follows side stands p kept links links' door door' out k (length buf) f len moved (ap (λ (l : Link). l.up) c.in-Took.ensures.link.1) (ap (λ (l : Link). l.turns) c.in-Took.ensures.link.1) (ap (λ (l : Link). l.written) c.in-Took.ensures.link.1) in
+    let f2 = took-follows stands p kept c.take.new.self (outside links' door') out (passed side k) n f1 c.take.ensures in
+    let d = record (passed side k) { busy = true; left = (passed side k).left - n } in
+    let next = Takes (piece side (take n buf)) (behind side) in
+    let run = subst (λ (e : Event). Runs c.happen.result (g.C.Served.stands first c.happen.new.self.core) (setting p c.take.new.self) c.happen.new.self.kept (outside (g.D.Doors.link c.happen.new.doors) (g.D.Doors.door c.happen.new.doors)) (g.K.Sink.contents c.happen.new.out) (Goes (Takes e (behind side)) d) (behind side))
+    c.piece.ensures (c.happen.ensures.course first (behind side) d f2) in
+    runs-then c.happen.result (g.C.Served.stands first c.happen.new.self.core) s c.happen.new.self.kept (outside (g.D.Doors.link c.happen.new.doors) (g.D.Doors.door c.happen.new.doors)) (g.K.Sink.contents c.happen.new.out) from next d (behind side)
+    (reaches-call s from (polls side) k (Goes next d) (reaches-none s from) (poll-call s side links door out k (Took n) buf f.tells up len c.in-Took.ensures.link.0))
+    (subst (λ (t : Setting). Runs c.happen.result (g.C.Served.stands first c.happen.new.self.core) t c.happen.new.self.kept (outside (g.D.Doors.link c.happen.new.doors) (g.D.Doors.door c.happen.new.doors)) (g.K.Sink.contents c.happen.new.out) (Goes next d) (behind side)) (ap (setting p) c.take.ensures) run)
+
+pub returns-in-NotYet-clause-course : goal.returns-in-NotYet-clause-course
+returns-in-NotYet-clause-course g c = λ first k f.
+    let side = c.args.side in
+    let p = g.C.Served.sends first in
+    let s = setting p c.args.self.now.kept in
+    let stands = g.C.Served.stands first c.args.self.now.core in
+    let kept = c.args.self.now.kept in
+    let links = g.D.Doors.link c.args.doors.now in
+    let links' = g.D.Doors.link c.poll.new.self in
+    let door = g.D.Doors.door c.args.doors.now in
+    let door' = g.D.Doors.door c.poll.new.self in
+    let out = g.K.Sink.contents c.args.out.now in
+    let buf = c.poll.new.buf in
+    let len : length buf ≡ 65536 = omega (arith, c.poll.auto.buf, c.requires.room) in
+    let from = Goes (polls side) k in
+    let up = up-is side stands p kept (outside links door) out k true f (sym c.is_up.ensures ∙ c.if-not-is_up.false) in
+    let moved : OneMoved side links links' door door' = record { other-is = c.in-NotYet.ensures.other; door-is = c.in-NotYet.ensures.door } in
+    record {
+      course = passed side k;
+      reaches = reaches-call s from (polls side) k (Goes (behind side) (passed side k)) (reaches-none s from) (poll-call s side links door out k NotYet buf f.tells up len c.in-NotYet.ensures.link.0);
+      follows = passed-follows side stands p kept links links' door door' out k (length buf) f len moved (ap (λ (l : Link). l.up) c.in-NotYet.ensures.link.1) (ap (λ (l : Link). l.turns) c.in-NotYet.ensures.link.1) (ap (λ (l : Link). l.written) c.in-NotYet.ensures.link.1);
+    }
+
+pub returns-in-Ended-clause-course : goal.returns-in-Ended-clause-course
+returns-in-Ended-clause-course g c = λ first k f.
+    let side = c.args.side in
+    let p = g.C.Served.sends first in
+    let s = setting p c.args.self.now.kept in
+    let stands = g.C.Served.stands first c.args.self.now.core in
+    let kept = c.args.self.now.kept in
+    let links = g.D.Doors.link c.args.doors.now in
+    let links' = g.D.Doors.link c.poll.new.self in
+    let door = g.D.Doors.door c.args.doors.now in
+    let door' = g.D.Doors.door c.poll.new.self in
+    let out = g.K.Sink.contents c.args.out.now in
+    let buf = c.poll.new.buf in
+    let len : length buf ≡ 65536 = omega (arith, c.poll.auto.buf, c.requires.room) in
+    let from = Goes (polls side) k in
+    let up = up-is side stands p kept (outside links door) out k true f (sym c.is_up.ensures ∙ c.if-not-is_up.false) in
+    let moved : OneMoved side links links' door door' = record { other-is = c.in-Ended.ensures.other; door-is = c.in-Ended.ensures.door } in
+    let f2 = ended-follows side stands p kept c.end.new.self links links' door door' out k (length buf) f len moved (ap (λ (l : Link). l.up) c.in-Ended.ensures.link.1) (ap (λ (l : Link). l.turns) c.in-Ended.ensures.link.1) (ap (λ (l : Link). l.written) c.in-Ended.ensures.link.1) c.end.ensures in
+    let d = record (down side (passed side k)) { busy = true } in
+    let next = Takes (end_of side) (behind side) in
+    let run = subst (λ (e : Event). Runs c.happen-in-Ended.result (g.C.Served.stands first c.happen-in-Ended.new.self.core) (setting p c.end.new.self) c.happen-in-Ended.new.self.kept (outside (g.D.Doors.link c.happen-in-Ended.new.doors) (g.D.Doors.door c.happen-in-Ended.new.doors)) (g.K.Sink.contents c.happen-in-Ended.new.out) (Goes (Takes e (behind side)) d) (behind side))
+    c.end_of.ensures (c.happen-in-Ended.ensures.course first (behind side) d f2) in
+    runs-then c.happen-in-Ended.result (g.C.Served.stands first c.happen-in-Ended.new.self.core) s c.happen-in-Ended.new.self.kept (outside (g.D.Doors.link c.happen-in-Ended.new.doors) (g.D.Doors.door c.happen-in-Ended.new.doors)) (g.K.Sink.contents c.happen-in-Ended.new.out) from next d (behind side)
+    (reaches-call s from (polls side) k (Goes next d) (reaches-none s from) (poll-call s side links door out k Ended buf f.tells up len c.in-Ended.ensures.link.0))
+    (subst (λ (t : Setting). Runs c.happen-in-Ended.result (g.C.Served.stands first c.happen-in-Ended.new.self.core) t c.happen-in-Ended.new.self.kept (outside (g.D.Doors.link c.happen-in-Ended.new.doors) (g.D.Doors.door c.happen-in-Ended.new.doors)) (g.K.Sink.contents c.happen-in-Ended.new.out) (Goes next d) (behind side)) (ap (setting p) c.end.ensures ∙ setting-down p side kept) run)
+
+pub returns-in-Failed-clause-course : goal.returns-in-Failed-clause-course
+returns-in-Failed-clause-course g c = λ first k f.
+    let side = c.args.side in
+    let p = g.C.Served.sends first in
+    let s = setting p c.args.self.now.kept in
+    let stands = g.C.Served.stands first c.args.self.now.core in
+    let kept = c.args.self.now.kept in
+    let links = g.D.Doors.link c.args.doors.now in
+    let links' = g.D.Doors.link c.poll.new.self in
+    let door = g.D.Doors.door c.args.doors.now in
+    let door' = g.D.Doors.door c.poll.new.self in
+    let out = g.K.Sink.contents c.args.out.now in
+    let buf = c.poll.new.buf in
+    let len : length buf ≡ 65536 = omega (arith, c.poll.auto.buf, c.requires.room) in
+    let from = Goes (polls side) k in
+    let up = up-is side stands p kept (outside links door) out k true f (sym c.is_up.ensures ∙ c.if-not-is_up.false) in
+    let moved : OneMoved side links links' door door' = record { other-is = c.in-Failed.ensures.other; door-is = c.in-Failed.ensures.door } in
+    record { next = polls side; course = k; reaches = reaches-none s from; cut = failed-cut side s links links' door door' out k f.tells up moved c.in-Failed.ensures.link }

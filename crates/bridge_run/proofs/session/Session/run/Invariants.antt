@@ -1,0 +1,21 @@
+use Rattle.std.proofs.Common.{◌≡◌, ℕ, length}
+use Rattle.bridge_run.specs.Course.{Course, AtDoor}
+use Rattle.bridge_run.specs.Calls.{Goes}
+use Rattle.bridge_run.specs.Outside.{outside, NoFault}
+use Rattle.bridge_run.specs.inner.Keeping.{Agrees, IsLive, rounds_of}
+use Rattle.bridge_run.specs.inner.Follows.{Follows, setting, Comes}
+use Rattle.bridge_run.proofs.session.Session.run.Given as goal
+
+abbrev pub invariant-rounds : goal.invariant-rounds
+invariant-rounds g l = record {
+  agrees : Agrees l.self.kept (outside (g.D.Doors.link l.doors) (g.D.Doors.door l.doors));
+  live : IsLive l.self.kept;
+  room : length l.buf ≡ 65536;
+  idle : l.self.kept.idle ≡ l.initial.self.kept.idle;
+  faults : NoFault (outside (g.D.Doors.link l.initial.doors) (g.D.Doors.door l.initial.doors)) (outside (g.D.Doors.link l.doors) (g.D.Doors.door l.doors)) (g.K.Sink.faults l.initial.out) (g.K.Sink.faults l.out);
+  comes : (first : ℕ) (c : Course) → Follows (g.C.Served.stands first l.initial.self.core) (g.C.Served.sends first) l.initial.self.kept (outside (g.D.Doors.link l.initial.doors) (g.D.Doors.door l.initial.doors)) (g.K.Sink.contents l.initial.out) c
+      → Comes (g.C.Served.stands first l.self.core) (setting (g.C.Served.sends first) l.initial.self.kept) l.self.kept (outside (g.D.Doors.link l.doors) (g.D.Doors.door l.doors)) (g.K.Sink.contents l.out) (Goes AtDoor c) AtDoor;
+}
+
+abbrev pub decreases-rounds : goal.decreases-rounds
+decreases-rounds g l = rounds_of l.self.kept

@@ -1,0 +1,86 @@
+-- What is known of the doors, and what they tell.
+use Rattle.std.specs.Prelude.{◌≡◌, ◌⊎◌, ℕ, Bool, List, ◌++◌, Option, Some}
+use Rattle.usb_base.specs.declared.side.Side.{Side}
+use Rattle.usb_base.specs.declared.side.Side.TheVariants.{Client, Host}
+use Rattle.gate_outside.specs.declared.turn.Turn.{Turn}
+use Rattle.gate_outside.specs.Faults.{Rose}
+use Rattle.gate_outside.specs.Link.{Link, Door}
+use Rattle.bridge_run.specs.declared.serve_end.ServeEnd.{ServeEnd}
+use Rattle.bridge_run.specs.declared.serve_end.ServeEnd.TheVariants.{Ended, LinkFault, WriteFault, Idle, Spent, Memory}
+use Rattle.bridge_run.specs.Course.{Course}
+
+pub record Outside : Type 0 where
+  pub client : Link
+  pub host : Link
+  pub door : Door
+
+abbrev pub outside : (Side → Link) → Door → Outside
+outside links door = record { client = links Client; host = links Host; door = door }
+
+-- ---- causes, by the counts of faults
+
+-- those of both sides and of the sink stand
+pub record NoFault (old new : Outside) (sink_old sink_new : ℕ) : Type 0 where
+  pub client : new.client.faults ≡ old.client.faults
+  pub host : new.host.faults ≡ old.host.faults
+  pub sink : sink_new ≡ sink_old
+
+pub record ClientFault (old new : Outside) (sink_old sink_new : ℕ) : Type 0 where
+  pub client : Rose old.client.faults new.client.faults
+  pub host : new.host.faults ≡ old.host.faults
+  pub sink : sink_new ≡ sink_old
+
+pub record HostFault (old new : Outside) (sink_old sink_new : ℕ) : Type 0 where
+  pub client : new.client.faults ≡ old.client.faults
+  pub host : Rose old.host.faults new.host.faults
+  pub sink : sink_new ≡ sink_old
+
+pub record SinkFault (old new : Outside) (sink_old sink_new : ℕ) : Type 0 where
+  pub client : new.client.faults ≡ old.client.faults
+  pub host : new.host.faults ≡ old.host.faults
+  pub sink : Rose sink_old sink_new
+
+-- each end has its cause: a fault comes with one more in its count, and no other count rises
+abbrev pub HasCause : ServeEnd → Outside → Outside → ℕ → ℕ → Type 0
+HasCause (LinkFault Client) old new sink_old sink_new = ClientFault old new sink_old sink_new
+HasCause (LinkFault Host) old new sink_old sink_new = HostFault old new sink_old sink_new
+HasCause WriteFault old new sink_old sink_new = SinkFault old new sink_old sink_new
+HasCause (Ended refused) old new sink_old sink_new = NoFault old new sink_old sink_new
+HasCause Idle old new sink_old sink_new = NoFault old new sink_old sink_new
+HasCause Spent old new sink_old sink_new = NoFault old new sink_old sink_new
+HasCause Memory old new sink_old sink_new = NoFault old new sink_old sink_new
+
+-- ---- what is told
+
+-- a link tells that it is up or not, the turns still to come, and what was written
+pub record Shows (link : Link) (up : Bool) (turns : List Turn) (written : List ℕ) : Type 0 where
+  pub up-is : link.up ≡ up
+  pub turns-is : link.turns ≡ Some turns
+  pub written-is : link.written ≡ Some written
+
+-- the doors and the sink tell that this is their course
+pub record Tells (w : Outside) (out : Option (List ℕ)) (c : Course) : Type 0 where
+  pub client : Shows w.client c.client_up c.client c.to_client
+  pub host : Shows w.host c.host_up c.host c.to_host
+  pub clients : w.door.to_come ≡ Some c.clients
+  pub told : out ≡ Some c.told
+
+-- at least the first bytes are written, and at most the last
+pub record IsBetween (least : List ℕ) (known : Option (List ℕ)) (most : List ℕ) : Type 0 where
+  pub more : List ℕ
+  pub lost : List ℕ
+  pub known-is : known ≡ Some (least ++ more)
+  pub most-is : most ≡ least ++ more ++ lost
+
+-- it is as before a call or as behind it
+abbrev pub IsOneOf : {X : Type 0} → X → Option X → X → Type 0
+IsOneOf before known behind = (known ≡ Some before) ⊎ (known ≡ Some behind)
+
+-- a call that the first course makes and that leads to the second was cut: what it writes is written in part
+pub record Cut (w : Outside) (out : Option (List ℕ)) (before behind : Course) : Type 0 where
+  pub client : IsOneOf before.client w.client.turns behind.client
+  pub host : IsOneOf before.host w.host.turns behind.host
+  pub clients : IsOneOf before.clients w.door.to_come behind.clients
+  pub to_client : IsBetween before.to_client w.client.written behind.to_client
+  pub to_host : IsBetween before.to_host w.host.written behind.to_host
+  pub told : IsBetween before.told out behind.told

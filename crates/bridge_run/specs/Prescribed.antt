@@ -1,0 +1,31 @@
+-- What is served: what its events send and which sides they refuse. Lists of events have the latest first.
+use Rattle.std.specs.Prelude.{ℕ, Bool, true, false, List, [], ◌∷◌, length, drop, Option, Some, None}
+use Rattle.std.specs.List.{list_any}
+use Rattle.usb_base.specs.declared.side.Side.{Side}
+use Rattle.usb_base.specs.declared.side.Side.TheVariants.{Client, Host}
+use Rattle.usb_base.specs.declared.refusal.Refusal.{Refusal}
+use Rattle.gate_core.specs.Events.{Event}
+
+-- all that these events, and the making before them, have sent and refused, the earliest first
+pub record Prescribed : Type 0 where
+  pub to_client : List Event → List ℕ
+  pub to_host : List Event → List ℕ
+  pub refusals : List Event → List Refusal
+
+-- what there is with an event, and without it isn't
+abbrev pub gained : {X : Type 0} → (List Event → List X) → List Event → Event → List X
+gained all events e = drop (length (all events)) (all (e ∷ events))
+
+abbrev pub is_of : Side → Side → Bool
+is_of Client Client = true
+is_of Client Host = false
+is_of Host Client = false
+is_of Host Host = true
+
+-- a side is among those that are refused
+abbrev pub refuses : Side → List Refusal → Bool
+refuses side refusals = list_any (λ r. is_of side r.side) refusals
+
+abbrev pub first_of : List Refusal → Option Refusal
+first_of [] = None
+first_of (r ∷ refusals) = Some r

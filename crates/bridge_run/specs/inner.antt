@@ -1,0 +1,4 @@
+pub mod Sends
+pub mod Links
+pub mod Keeping
+pub mod Follows

@@ -1,0 +1,90 @@
+-- When a session has come as far as a course, and what it makes of one event.
+use Rattle.std.specs.Prelude.{◌≡◌, ◌++◌, ◌∷◌, ℕ, Bool, true, false, List, Option, Result, Ok, Err}
+use Rattle.std.specs.List.{flat_map}
+use Rattle.usb_base.specs.Refusal.{refusal_line}
+use Rattle.gate_core.specs.Events.{Event}
+use Rattle.usb_base.specs.declared.side.Side.{Side}
+use Rattle.usb_base.specs.declared.side.Side.TheVariants.{Client, Host}
+use Rattle.bridge_run.specs.declared.serve_end.ServeEnd.{ServeEnd}
+use Rattle.bridge_run.specs.declared.serve_end.ServeEnd.TheVariants.{Ended, LinkFault, WriteFault, Idle, Spent, Memory}
+use Rattle.bridge_run.specs.declared.kept.Kept.{Kept}
+use Rattle.bridge_run.specs.declared.sent.Sent.{Sent}
+use Rattle.bridge_run.specs.Prescribed.{Prescribed, gained, refuses, first_of}
+use Rattle.bridge_run.specs.Course.{Setting, Course, Next, AtClient, AtHost, AtEnd}
+use Rattle.bridge_run.specs.Calls.{Outcome, Goes, put, make}
+use Rattle.bridge_run.specs.Outside.{Outside, NoFault, HasCause, Tells, Cut}
+use Rattle.bridge_run.specs.Serves.{Reaches, Leaves}
+
+-- what an event sends, and the lines that tell its refusals
+pub record Prepared (p : Prescribed) (events : List Event) (e : Event) (sent : Sent) (lines : List ℕ) : Type 0 where
+  pub client : sent.to_client ≡ gained p.to_client events e
+  pub host : sent.to_host ≡ gained p.to_host events e
+  pub refusals : sent.refusals ≡ gained p.refusals events e
+  pub grows : p.refusals (e ∷ events) ≡ p.refusals events ++ gained p.refusals events e
+  pub lines-is : lines ≡ flat_map refusal_line sent.refusals
+
+-- what is served stands for the course's events, the rest is kept, and the doors and the sink tell it
+pub record Follows (stands : List Event → Type 0) (p : Prescribed) (k : Kept) (w : Outside) (out : Option (List ℕ)) (c : Course) : Type 0 where
+  pub stands_for : stands c.events
+  pub tells : Tells w out c
+  pub client_up : k.client_up ≡ c.client_up
+  pub host_up : k.host_up ≡ c.host_up
+  pub busy : k.busy ≡ c.busy
+  pub waits : k.waits ≡ c.waits
+  pub left : k.left ≡ c.left
+  pub refused : k.refused ≡ first_of (p.refusals c.events)
+
+-- ---- causes
+
+abbrev pub HasFaults : {T : Type 0} → Result T ServeEnd → Outside → Outside → ℕ → ℕ → Type 0
+HasFaults (Ok _) old new sink_old sink_new = NoFault old new sink_old sink_new
+HasFaults (Err e) old new sink_old sink_new = HasCause e old new sink_old sink_new
+
+-- it isn't the course that has come to its end
+abbrev pub IsCutEnd : ServeEnd → Type 0
+IsCutEnd (LinkFault side) = Unit {0}
+IsCutEnd WriteFault = Unit {0}
+IsCutEnd Memory = Unit {0}
+IsCutEnd (Ended refused) = ⊥
+IsCutEnd Idle = ⊥
+IsCutEnd Spent = ⊥
+
+-- ---- one event
+
+abbrev pub Puts : Result Bool ServeEnd → (List Event → Type 0) → Prescribed → Event → Kept → Outside → Option (List ℕ) → Course → Type 0
+Puts (Ok refused) stands p e k w out c = Follows stands p k w out (put p e c) × (refused ≡ refuses Client (gained p.refusals c.events e))
+Puts (Err end) stands p e k w out c = Cut w out c (put p e c)
+
+-- ---- some calls
+
+abbrev pub setting : Prescribed → Kept → Setting
+setting p k = record { served = p; idle = k.idle }
+
+pub record Comes (stands : List Event → Type 0) (s : Setting) (k : Kept) (w : Outside) (out : Option (List ℕ)) (from : Outcome) (next : Next) : Type 0 where
+  pub course : Course
+  pub reaches : Reaches s from (Goes next course)
+  pub follows : Follows stands s.served k w out course
+
+abbrev pub Runs : {T : Type 0} → Result T ServeEnd → (List Event → Type 0) → Setting → Kept → Outside → Option (List ℕ) → Outcome → Next → Type 0
+Runs (Ok _) stands s k w out from next = Comes stands s k w out from next
+Runs (Err e) stands s k w out from next = Leaves e s from w out
+
+-- where a side is polled, and what comes behind that
+abbrev pub polls : Side → Next
+polls Client = AtClient
+polls Host = AtHost
+
+abbrev pub behind : Side → Next
+behind Client = AtHost
+behind Host = AtEnd
+
+-- ---- the opening
+
+pub record IsOpen (w : Outside) : Type 0 where
+  pub client : w.client.up ≡ false
+  pub host : w.host.up ≡ true
+  pub door : w.door.made ≡ true
+
+abbrev pub Opens : {T : Type 0} → Result T ServeEnd → Prescribed → Outside → Option (List ℕ) → Course → Type 0
+Opens (Ok _) p w out c = Tells w out (make p c)
+Opens (Err e) p w out c = Cut w out c (make p c)

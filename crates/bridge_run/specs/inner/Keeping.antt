@@ -1,0 +1,87 @@
+-- What is kept, and how it changes.
+use Rattle.std.specs.Prelude.{◌≡◌, ◌⊎◌, ◌<◌, ◌≤◌, ◌+◌, ◌*◌, ◌-◌, ℕ, ◌&&◌, not, Bool, true, false, List, Result, Ok, Err}
+use Rattle.usb_base.specs.declared.side.Side.{Side}
+use Rattle.usb_base.specs.declared.side.Side.TheVariants.{Client, Host}
+use Rattle.usb_base.specs.declared.refusal.Refusal.{Refusal}
+use Rattle.gate_core.specs.Sides.{or_else}
+use Rattle.bridge_run.specs.declared.serve_end.ServeEnd.{ServeEnd}
+use Rattle.bridge_run.specs.declared.serve_end.ServeEnd.TheVariants.{Ended, LinkFault, WriteFault, Idle, Spent, Memory}
+use Rattle.bridge_run.specs.declared.kept.Kept.{Kept}
+use Rattle.bridge_run.specs.Prescribed.{refuses, first_of}
+use Rattle.bridge_run.specs.Outside.{Outside}
+
+abbrev pub up_of : Side → Kept → Bool
+up_of Client k = k.client_up
+up_of Host k = k.host_up
+
+abbrev pub with_up : Side → Kept → Kept
+with_up Client k = record k { client_up = false }
+with_up Host k = record k { host_up = false }
+
+abbrev pub refusing : List Refusal → Kept → Kept
+refusing refusals k = record k {
+  client_up = k.client_up && not (refuses Client refusals);
+  host_up = k.host_up && not (refuses Host refusals);
+  refused = or_else k.refused (first_of refusals);
+}
+
+-- no side is there any more
+abbrev pub is_over : Kept → Bool
+is_over k = not k.client_up && not k.host_up
+
+abbrev pub Settles : Result (Unit {0}) ServeEnd → Kept → Type 0
+Settles (Ok _) k = (is_over k ≡ false) × (0 < k.left)
+Settles (Err (Ended refused)) k = (is_over k ≡ true) × (refused ≡ k.refused)
+Settles (Err Spent) k = (is_over k ≡ false) × (k.left ≡ 0)
+Settles (Err (LinkFault side)) k = ⊥
+Settles (Err WriteFault) k = ⊥
+Settles (Err Idle) k = ⊥
+Settles (Err Memory) k = ⊥
+
+abbrev pub RestsBusy : Bool → Kept → Kept → Type 0
+RestsBusy true old new = new ≡ record old { busy = false; waits = old.idle }
+RestsBusy false old new = (new ≡ record old { waits = old.waits - 1 }) × (0 < new.waits)
+
+abbrev pub Rests : Result (Unit {0}) ServeEnd → Kept → Kept → Type 0
+Rests (Ok _) old new = RestsBusy old.busy old new
+Rests (Err Idle) old new = (old.busy ≡ false) × (new ≡ record old { waits = old.waits - 1 }) × (new.waits ≡ 0)
+Rests (Err (Ended refused)) old new = ⊥
+Rests (Err Spent) old new = ⊥
+Rests (Err (LinkFault side)) old new = ⊥
+Rests (Err WriteFault) old new = ⊥
+Rests (Err Memory) old new = ⊥
+
+-- ---- what is always so
+
+-- the links are up as is kept, and the door is made
+pub record Agrees (k : Kept) (w : Outside) : Type 0 where
+  pub client : k.client_up ≡ w.client.up
+  pub host : k.host_up ≡ w.host.up
+  pub door : w.door.made ≡ true
+
+-- ---- how much can still come
+
+abbrev pub one_if : Bool → ℕ
+one_if true = 1
+one_if false = 0
+
+-- how many more rounds may bring something
+abbrev pub chances_of : Kept → ℕ
+chances_of k = 2 * k.left + one_if k.client_up + one_if k.host_up
+
+-- nothing has come, or a chance is gone
+pub record Wears (old new : Kept) : Type 0 where
+  pub idle : new.idle ≡ old.idle
+  pub waits : new.waits ≡ old.waits
+  pub fewer : (new.busy ≡ true) × (chances_of new < chances_of old) ⊎ (new.busy ≡ old.busy) × (chances_of new ≤ chances_of old)
+
+-- how many more rounds there may be
+abbrev pub rounds_of : Kept → ℕ
+rounds_of k = chances_of k * k.idle + k.waits
+
+-- as it is between rounds
+pub record IsLive (k : Kept) : Type 0 where
+  pub rests : k.busy ≡ false
+  pub left : 0 < k.left
+  pub waits : 0 < k.waits
+  pub within : k.waits ≤ k.idle

@@ -1,0 +1,38 @@
+//! Writing to a side's link, and closing it.
+
+ghost use Rattle.std.specs.Prelude.{◌≡◌, IsTrue};
+ghost use Rattle.gate_outside.specs.Link.{other};
+ghost use Rattle.bridge_run.specs.inner.Links.{WritesAll, closed_if};
+
+use gate_outside::{Doors, Failed, Side};
+
+/// Writes all of the bytes to the side's link, if it is up, or, where that fails, a front of them.
+pub fn write_link<D: Doors>(doors: &mut D, side: Side, up: bool, bytes: &[u8]) -> Result<(), Failed>
+    requires { up ≡ (D.link doors.old side).up }
+    ensures link { WritesAll result up bytes.now (D.link doors.old side) (D.link doors.new side) }
+    ensures other { D.link doors.new (other side) ≡ D.link doors.old (other side) }
+    ensures door { D.door doors.new ≡ D.door doors.old }
+{
+    if !up {
+        return Ok(());
+    }
+    let mut done = 0;
+    while done < bytes.len() {
+        match doors.write(side, &bytes[done..]) {
+            Ok(n) => done += n,
+            Err(failed) => return Err(failed),
+        }
+    }
+    Ok(())
+}
+
+/// Closes the side's link if the side is refused.
+pub fn close_link<D: Doors>(doors: &mut D, side: Side, refused: bool)
+    ensures link { D.link doors.new side ≡ closed_if refused side (D.link doors.old side) }
+    ensures other { D.link doors.new (other side) ≡ D.link doors.old (other side) }
+    ensures door { D.door doors.new ≡ D.door doors.old }
+{
+    if refused {
+        doors.close(side);
+    }
+}

@@ -1,0 +1,67 @@
+//! What an event sends.
+
+ghost use Rattle.std.specs.Prelude.{◌≡◌, ◌++◌, [], OnOk};
+ghost use Rattle.std.specs.List.{flat_map};
+ghost use Rattle.usb_base.specs.Refusal.{refusal_line};
+ghost use Rattle.bridge_run.specs.Prescribed.{refuses as among, first_of};
+
+use std::alloc::Global;
+use usb_base::{Bytes, List, Memory, Refusal, Side};
+
+/// The bytes that go to each side, and the sides that are refused.
+#[derive(Debug, Drop)]
+pub struct Sent {
+    pub to_client: Bytes,
+    pub to_host: Bytes,
+    pub refusals: List<Refusal>,
+}
+
+impl Sent {
+    /// Nothing yet, which takes no memory.
+    pub fn new(alloc: Global) -> Self
+        ensures client { result.to_client ≡ [] }
+        ensures host { result.to_host ≡ [] }
+        ensures refusals { result.refusals ≡ [] }
+    {
+        Sent {
+            to_client: Bytes::new(alloc),
+            to_host: Bytes::new(alloc),
+            refusals: List::new(alloc),
+        }
+    }
+
+    /// Nothing again. The room is kept.
+    pub fn clear(&mut self)
+        ensures client { self.new.to_client ≡ [] }
+        ensures host { self.new.to_host ≡ [] }
+        ensures refusals { self.new.refusals ≡ [] }
+    {
+        self.to_client.clear();
+        self.to_host.clear();
+        self.refusals.clear();
+    }
+
+    /// Whether the side is refused.
+    pub fn refuses(&self, side: Side) -> bool
+        ensures { result ≡ among side self.now.refusals }
+    {
+        self.refusals.as_slice().iter().any(|r| r.side == side)
+    }
+
+    /// The first refusal.
+    pub fn refusal(&self) -> Option<Refusal>
+        ensures { result ≡ first_of self.now.refusals }
+    {
+        self.refusals.as_slice().first().copied()
+    }
+
+    /// Appends the lines of the refusals.
+    pub fn lines(&self, alloc: Global, text: &mut Bytes) -> Result<(), Memory>
+        ensures { OnOk result (text.new ≡ text.old ++ flat_map refusal_line self.now.refusals) }
+    {
+        for refusal in self.refusals.as_slice() {
+            refusal.line(alloc, text)?;
+        }
+        Ok(())
+    }
+}

@@ -1,0 +1,102 @@
+//! The gateway between a host that is dialled and clients that come to a door.
+
+ghost use Rattle.std.specs.Prelude.{◌≡◌, ◌≤◌, [], ℕ, List, Option, false, true, OnOk, IfErr};
+ghost use Rattle.usb_base.specs.declared.side.Side.TheVariants.{Client, Host};
+ghost use Rattle.bridge_run.specs.Prescribed.{Prescribed};
+ghost use Rattle.bridge_run.specs.Course.{Course, Making};
+ghost use Rattle.bridge_run.specs.Calls.{Goes};
+ghost use Rattle.bridge_run.specs.Outside.{outside, Tells, HasCause};
+ghost use Rattle.bridge_run.specs.Gate.{gate_sends};
+ghost use Rattle.bridge_run.specs.Serves.{Begins, Leaves};
+ghost use Rattle.bridge_run.specs.inner.Follows.{HasFaults, IsCutEnd, IsOpen, Opens};
+
+use crate::kept::Kept;
+use crate::link::write_link;
+use crate::sent::Sent;
+use crate::serve_end::ServeEnd;
+use crate::session::Session;
+use gate_core::Gate;
+use gate_outside::{Doors, Side, Sink};
+use std::alloc::Global;
+use usb_base::Bytes;
+
+/// How many bytes a poll takes at most.
+const ROOM: usize = 65_536;
+
+/// Dials the host, makes the clients' door, and goes in rounds. A round asks for a client where none is there, and
+/// polls the client and then the host, whose link is up. What comes is an event of a gate that draws its ids from
+/// `first_id` on. What an event sends is written to the client and then to the host, where that link is up. Then a
+/// side that it refuses has its link closed, and its line is written to `out`; the end of a refused client comes
+/// next. It ends after `idle` rounds in a row that bring nothing, and once `budget` bytes have come, where each
+/// client counts as one. The first call that fails is the last.
+pub fn serve<D: Doors, K: Sink>(
+    alloc: Global,
+    host: &str,
+    listen: &str,
+    idle: u64,
+    budget: u64,
+    first_id: u64,
+    doors: &mut D,
+    out: &mut K,
+) -> ServeEnd
+    requires client_down { (D.link doors.old Client).up ≡ false }
+    requires host_down { (D.link doors.old Host).up ≡ false }
+    requires idle { 1 ≤ idle }
+    requires budget { 1 ≤ budget }
+    requires first_id { (1 ≤ first_id) × (first_id ≤ 4294967295) }
+    // Over doors and a sink that tell.
+    ensures leaves { (c : Course) → Begins idle budget c → Tells (outside (D.link doors.old) (D.door doors.old)) (K.contents out.old) c
+        → Leaves result (record { served = gate_sends first_id; idle = idle }) (Goes Making c) (outside (D.link doors.new) (D.door doors.new)) (K.contents out.new) }
+    ensures cause { HasCause result (outside (D.link doors.old) (D.door doors.old)) (outside (D.link doors.new) (D.door doors.new)) (K.faults out.old) (K.faults out.new) }
+{
+    let mut hello = Bytes::new(alloc);
+    let core = match Gate::make(alloc, first_id, &mut hello) {
+        Ok(core) => core,
+        Err(_) => return ServeEnd::Memory,
+    };
+    let mut buf = match vec![in alloc; 0; ROOM] {
+        Ok(buf) => buf,
+        Err(_) => return ServeEnd::Memory,
+    };
+    if let Err(end) = open(host, listen, hello.as_slice(), doors) {
+        return end;
+    }
+    let mut session = Session {
+        alloc,
+        core,
+        kept: Kept {
+            client_up: false,
+            host_up: true,
+            busy: false,
+            waits: idle,
+            idle,
+            left: budget,
+            refused: None,
+        },
+        sent: Sent::new(alloc),
+        lines: Bytes::new(alloc),
+    };
+    session.run(&mut buf, doors, out)
+}
+
+/// Dials the host, makes the clients' door, and writes the hello.
+fn open<D: Doors>(host: &str, listen: &str, hello: &[u8], doors: &mut D) -> Result<(), ServeEnd>
+    requires client_down { (D.link doors.old Client).up ≡ false }
+    requires host_down { (D.link doors.old Host).up ≡ false }
+    ensures course { (p : Prescribed) (c : Course) (out : Option (List ℕ)) → hello.now ≡ p.to_host [] → c.client_up ≡ false → Tells (outside (D.link doors.old) (D.door doors.old)) out c
+        → Opens result p (outside (D.link doors.new) (D.door doors.new)) out c }
+    ensures faults { (sink : ℕ) → HasFaults result (outside (D.link doors.old) (D.door doors.old)) (outside (D.link doors.new) (D.door doors.new)) sink sink }
+    ensures cut { IfErr result IsCutEnd }
+    ensures opened { OnOk result (IsOpen (outside (D.link doors.new) (D.door doors.new))) }
+{
+    if let Err(_) = doors.dial(host) {
+        return Err(ServeEnd::LinkFault(Side::Host));
+    }
+    if let Err(_) = doors.listen(listen) {
+        return Err(ServeEnd::LinkFault(Side::Client));
+    }
+    if let Err(_) = write_link(doors, Side::Host, true, hello) {
+        return Err(ServeEnd::LinkFault(Side::Host));
+    }
+    Ok(())
+}

@@ -1,0 +1,245 @@
+//! Serving, once both sides can come.
+
+ghost use Rattle.std.specs.Prelude.{◌≡◌, ◌<◌, ℕ, List, ◌∷◌, Option, OnOk, IfErr, length};
+ghost use Rattle.gate_core.specs.Events.{Event as PastEvent, event_of};
+ghost use Rattle.bridge_run.specs.Course.{Course, Next};
+ghost use Rattle.bridge_run.specs.Course.{AtDoor, AtClient, Takes};
+ghost use Rattle.bridge_run.specs.Calls.{Goes, ends_next as has_end_next, piece as piece_of, end_of as past_end_of};
+ghost use Rattle.bridge_run.specs.Outside.{outside};
+ghost use Rattle.bridge_run.specs.Serves.{Leaves};
+ghost use Rattle.bridge_run.specs.inner.Keeping.{Agrees, Wears, IsLive, rounds_of};
+ghost use Rattle.bridge_run.specs.inner.Follows.{Prepared, Follows, HasFaults, IsCutEnd, Puts, setting, Runs, polls, behind};
+ghost use Rattle.bridge_run.specs.Outside.{HasCause};
+
+use crate::kept::Kept;
+use crate::link::{close_link, write_link};
+use crate::sent::Sent;
+use crate::serve_end::ServeEnd;
+use crate::served::Served;
+use gate_core::Event;
+use gate_outside::{Doors, Polled, Side, Sink, write_all};
+use std::alloc::Global;
+use usb_base::{Bytes, Memory};
+
+/// What is served, and how far that has come.
+#[derive(Drop)]
+pub struct Session<C> {
+    pub alloc: Global,
+    pub core: C,
+    pub kept: Kept,
+    /// What the event at hand sends, and the lines that tell its refusals.
+    pub sent: Sent,
+    pub lines: Bytes,
+}
+
+impl<C: Served + Drop> Session<C> {
+    /// Has the event taken, and keeps what that sends.
+    fn prepare(&mut self, event: Event) -> Result<(), Memory>
+        ensures stands { OnOk result ((first : ℕ) (past : List PastEvent) → C.stands first self.old.core past → C.stands first self.new.core (event_of event.entry ∷ past)) }
+        ensures prepared { OnOk result ((first : ℕ) (past : List PastEvent) → C.stands first self.old.core past → Prepared (C.sends first) past (event_of event.entry) self.new.sent self.new.lines) }
+        ensures kept { self.new.kept ≡ self.old.kept }
+    {
+        self.sent.clear();
+        self.lines.clear();
+        self.core.take(event, &mut self.sent)?;
+        self.sent.lines(self.alloc, &mut self.lines)
+    }
+
+    /// Takes one event: what it sends is written to each side whose link is up, then a side that it refuses has
+    /// its link closed, and its line is written. Says whether the client was refused.
+    fn put<D: Doors, K: Sink>(
+        &mut self,
+        event: Event,
+        doors: &mut D,
+        out: &mut K,
+    ) -> Result<bool, ServeEnd>
+        requires { Agrees self.old.kept (outside (D.link doors.old) (D.door doors.old)) }
+        ensures course { (first : ℕ) (c : Course) → Follows (C.stands first self.old.core) (C.sends first) self.old.kept (outside (D.link doors.old) (D.door doors.old)) (K.contents out.old) c
+            → Puts result (C.stands first self.new.core) (C.sends first) (event_of event.entry) self.new.kept (outside (D.link doors.new) (D.door doors.new)) (K.contents out.new) c }
+        ensures faults { HasFaults result (outside (D.link doors.old) (D.door doors.old)) (outside (D.link doors.new) (D.door doors.new)) (K.faults out.old) (K.faults out.new) }
+        ensures cut { IfErr result IsCutEnd }
+        ensures agrees { OnOk result (Agrees self.new.kept (outside (D.link doors.new) (D.door doors.new))) }
+        ensures wears { Wears self.old.kept self.new.kept }
+        ensures left { self.new.kept.left ≡ self.old.kept.left }
+    {
+        if let Err(_) = self.prepare(event) {
+            return Err(ServeEnd::Memory);
+        }
+        let Kept {
+            client_up,
+            host_up,
+            ..
+        } = self.kept;
+        if let Err(_) = write_link(
+            doors,
+            Side::Client,
+            client_up,
+            self.sent.to_client.as_slice(),
+        ) {
+            return Err(ServeEnd::LinkFault(Side::Client));
+        }
+        if let Err(_) = write_link(doors, Side::Host, host_up, self.sent.to_host.as_slice()) {
+            return Err(ServeEnd::LinkFault(Side::Host));
+        }
+        let refused = self.sent.refuses(Side::Client);
+        close_link(doors, Side::Client, refused);
+        close_link(doors, Side::Host, self.sent.refuses(Side::Host));
+        self.kept.refuse(&self.sent);
+        if let Err(_) = write_all(out, self.lines.as_slice()) {
+            return Err(ServeEnd::WriteFault);
+        }
+        Ok(refused)
+    }
+
+    /// Takes an event, and behind it the end of a client that it refuses.
+    fn happen<D: Doors, K: Sink>(
+        &mut self,
+        event: Event,
+        doors: &mut D,
+        out: &mut K,
+    ) -> Result<(), ServeEnd>
+        requires { Agrees self.old.kept (outside (D.link doors.old) (D.door doors.old)) }
+        ensures course { (first : ℕ) (next : Next) (c : Course) → Follows (C.stands first self.old.core) (C.sends first) self.old.kept (outside (D.link doors.old) (D.door doors.old)) (K.contents out.old) c
+            → Runs result (C.stands first self.new.core) (setting (C.sends first) self.old.kept) self.new.kept (outside (D.link doors.new) (D.door doors.new)) (K.contents out.new) (Goes (Takes (event_of event.entry) next) c) next }
+        ensures faults { HasFaults result (outside (D.link doors.old) (D.door doors.old)) (outside (D.link doors.new) (D.door doors.new)) (K.faults out.old) (K.faults out.new) }
+        ensures agrees { OnOk result (Agrees self.new.kept (outside (D.link doors.new) (D.door doors.new))) }
+        ensures wears { Wears self.old.kept self.new.kept }
+        ensures left { OnOk result (0 < self.new.kept.left) }
+    {
+        let refused = self.put(event, doors, out)?;
+        if !ends_next(event, refused) {
+            return self.kept.settle();
+        }
+        self.put(Event::ClientEnd, doors, out)?;
+        self.kept.settle()
+    }
+
+    /// Asks for a client, where none is there.
+    fn ask_door<D: Doors>(&mut self, doors: &mut D) -> Result<(), ServeEnd>
+        requires agrees { Agrees self.old.kept (outside (D.link doors.old) (D.door doors.old)) }
+        requires left { 0 < self.old.kept.left }
+        ensures course { (first : ℕ) (c : Course) (out : Option (List ℕ)) → Follows (C.stands first self.old.core) (C.sends first) self.old.kept (outside (D.link doors.old) (D.door doors.old)) out c
+            → Runs result (C.stands first self.new.core) (setting (C.sends first) self.old.kept) self.new.kept (outside (D.link doors.new) (D.door doors.new)) out (Goes AtDoor c) AtClient }
+        ensures faults { (sink : ℕ) → HasFaults result (outside (D.link doors.old) (D.door doors.old)) (outside (D.link doors.new) (D.door doors.new)) sink sink }
+        ensures agrees { OnOk result (Agrees self.new.kept (outside (D.link doors.new) (D.door doors.new))) }
+        ensures wears { Wears self.old.kept self.new.kept }
+        ensures left { OnOk result (0 < self.new.kept.left) }
+    {
+        if self.kept.client_up {
+            return Ok(());
+        }
+        match doors.accept() {
+            Ok(true) => {
+                self.kept.come();
+                self.kept.settle()
+            }
+            Ok(false) => self.kept.settle(),
+            Err(_) => Err(ServeEnd::LinkFault(Side::Client)),
+        }
+    }
+
+    /// Polls the side, where its link is up.
+    fn ask<D: Doors, K: Sink>(
+        &mut self,
+        side: Side,
+        buf: &mut [u8],
+        doors: &mut D,
+        out: &mut K,
+    ) -> Result<(), ServeEnd>
+        requires agrees { Agrees self.old.kept (outside (D.link doors.old) (D.door doors.old)) }
+        requires left { 0 < self.old.kept.left }
+        requires room { length buf.old ≡ 65536 }
+        ensures course { (first : ℕ) (c : Course) → Follows (C.stands first self.old.core) (C.sends first) self.old.kept (outside (D.link doors.old) (D.door doors.old)) (K.contents out.old) c
+            → Runs result (C.stands first self.new.core) (setting (C.sends first) self.old.kept) self.new.kept (outside (D.link doors.new) (D.door doors.new)) (K.contents out.new) (Goes (polls side) c) (behind side) }
+        ensures faults { HasFaults result (outside (D.link doors.old) (D.door doors.old)) (outside (D.link doors.new) (D.door doors.new)) (K.faults out.old) (K.faults out.new) }
+        ensures agrees { OnOk result (Agrees self.new.kept (outside (D.link doors.new) (D.door doors.new))) }
+        ensures wears { Wears self.old.kept self.new.kept }
+        ensures left { OnOk result (0 < self.new.kept.left) }
+    {
+        if !self.kept.is_up(side) {
+            return Ok(());
+        }
+        match doors.poll(side, buf) {
+            Polled::Took(n) => {
+                self.kept.take(n);
+                self.happen(piece(side, &buf[..n]), doors, out)
+            }
+            Polled::NotYet => Ok(()),
+            Polled::Ended => {
+                self.kept.end(side);
+                self.happen(end_of(side), doors, out)
+            }
+            Polled::Failed => Err(ServeEnd::LinkFault(side)),
+        }
+    }
+
+    /// One round.
+    fn round<D: Doors, K: Sink>(
+        &mut self,
+        buf: &mut [u8],
+        doors: &mut D,
+        out: &mut K,
+    ) -> Result<(), ServeEnd>
+        requires agrees { Agrees self.old.kept (outside (D.link doors.old) (D.door doors.old)) }
+        requires live { IsLive self.old.kept }
+        requires room { length buf.old ≡ 65536 }
+        ensures course { (first : ℕ) (c : Course) → Follows (C.stands first self.old.core) (C.sends first) self.old.kept (outside (D.link doors.old) (D.door doors.old)) (K.contents out.old) c
+            → Runs result (C.stands first self.new.core) (setting (C.sends first) self.old.kept) self.new.kept (outside (D.link doors.new) (D.door doors.new)) (K.contents out.new) (Goes AtDoor c) AtDoor }
+        ensures faults { HasFaults result (outside (D.link doors.old) (D.door doors.old)) (outside (D.link doors.new) (D.door doors.new)) (K.faults out.old) (K.faults out.new) }
+        ensures agrees { OnOk result (Agrees self.new.kept (outside (D.link doors.new) (D.door doors.new))) }
+        ensures live { OnOk result (IsLive self.new.kept) }
+        ensures idle { OnOk result (self.new.kept.idle ≡ self.old.kept.idle) }
+        ensures fewer { OnOk result (rounds_of self.new.kept < rounds_of self.old.kept) }
+    {
+        self.ask_door(doors)?;
+        self.ask(Side::Client, buf, doors, out)?;
+        self.ask(Side::Host, buf, doors, out)?;
+        self.kept.rest()
+    }
+
+    /// Rounds, one after another, to the end.
+    pub fn run<D: Doors, K: Sink>(&mut self, buf: &mut [u8], doors: &mut D, out: &mut K) -> ServeEnd
+        requires agrees { Agrees self.old.kept (outside (D.link doors.old) (D.door doors.old)) }
+        requires live { IsLive self.old.kept }
+        requires room { length buf.old ≡ 65536 }
+        ensures course { (first : ℕ) (c : Course) → Follows (C.stands first self.old.core) (C.sends first) self.old.kept (outside (D.link doors.old) (D.door doors.old)) (K.contents out.old) c
+            → Leaves result (setting (C.sends first) self.old.kept) (Goes AtDoor c) (outside (D.link doors.new) (D.door doors.new)) (K.contents out.new) }
+        ensures cause { HasCause result (outside (D.link doors.old) (D.door doors.old)) (outside (D.link doors.new) (D.door doors.new)) (K.faults out.old) (K.faults out.new) }
+    {
+        'rounds: loop {
+            if let Err(end) = self.round(buf, doors, out) {
+                return end;
+            }
+        }
+    }
+}
+
+/// Whether a client's end comes behind the event that refused a side.
+fn ends_next(event: Event, refused: bool) -> bool
+    ensures { result ≡ has_end_next (event_of event.entry) refused }
+{
+    match event {
+        Event::ClientEnd => false,
+        _ => refused,
+    }
+}
+
+/// A piece of a side's stream.
+fn piece(side: Side, bytes: &[u8]) -> Event<'_>
+    ensures { event_of result ≡ piece_of side bytes.now }
+{
+    match side {
+        Side::Client => Event::ClientPiece(bytes),
+        Side::Host => Event::HostPiece(bytes),
+    }
+}
+
+/// The end of a side.
+fn end_of(side: Side) -> Event<'static>
+    ensures { event_of result ≡ past_end_of side }
+{
+    match side {
+        Side::Client => Event::ClientEnd,
+        Side::Host => Event::HostEnd,
+    }
+}
