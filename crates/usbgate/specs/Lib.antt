@@ -1,4 +1,5 @@
 pub mod CommandLine
+pub mod Serving
 pub mod Words
 pub mod Tape
 pub mod Text
@@ -8,5 +9,6 @@ pub mod Replay
 pub mod Show
 pub mod Prescribed
 pub mod Run
+pub mod Serves
 pub mod Code
 pub mod inner

@@ -1,9 +1,9 @@
 -- What each command is to print over a tape, and how it is to end, where it meets no fault and has memory.
-use Rattle.std.specs.Prelude.{List, ℕ, Option, None}
+use Rattle.std.specs.Prelude.{List, ℕ, Option, Some, None}
 use Rattle.usbgate.specs.declared.status.Status.{Status}
 use Rattle.usbgate.specs.declared.status.Status.TheVariants.{Usage}
 use Rattle.usbgate.specs.declared.words.Command.{Command}
-use Rattle.usbgate.specs.declared.words.Command.TheVariants.{Replay, Show, Unknown}
+use Rattle.usbgate.specs.declared.words.Command.TheVariants.{Replay, Show, Serve, Unknown}
 use Rattle.usbgate.specs.Text.{usage_line}
 use Rattle.usbgate.specs.TapeCommand.{TapeCommand, tape_text, tape_status, front_text}
 use Rattle.usbgate.specs.EventCommand.{over_events}
@@ -23,7 +23,9 @@ over_tape command = record { text = λ tape. tape_text command tape; status = λ
 abbrev pub usage : Prescribed
 usage = record { text = λ tape. usage_line; status = λ tape. Usage; front = λ whole. None }
 
-abbrev pub prescribed : Command → Prescribed
-prescribed (Replay first) = over_tape (over_events (replay first))
-prescribed (Show side) = over_tape (over_events (show side))
-prescribed Unknown = usage
+-- none where no tape is what it works on
+abbrev pub prescribed : Command → Option Prescribed
+prescribed (Replay first) = Some (over_tape (over_events (replay first)))
+prescribed (Show side) = Some (over_tape (over_events (show side)))
+prescribed (Serve asked) = None
+prescribed Unknown = Some usage

@@ -1,5 +1,5 @@
 -- What the words ask for.
-use Rattle.std.specs.Prelude.{ℕ, not, Bool, true, if◌then◌else◌, List, [], ◌∷◌, map, codes, find, Option, Some, None, is_some, option_map, option_and_then}
+use Rattle.std.specs.Prelude.{ℕ, ◌≤◌, ◌<◌, ◌^◌, not, Bool, true, if◌then◌else◌, List, [], ◌∷◌, map, codes, find, Option, Some, None, is_some, option_map, option_and_then}
 use Rattle.std.specs.Borrow.{Bor}
 use Rattle.std.specs.List.{list_all}
 use Rattle.std.specs.Str.{bytes_eq}
@@ -8,7 +8,7 @@ use Rattle.packet_show.specs.Number.{number_of}
 use Rattle.usb_base.specs.declared.side.Side.{Side}
 use Rattle.usb_base.specs.declared.side.Side.TheVariants.{Client, Host}
 use Rattle.usbgate.specs.declared.words.Command.{Command}
-use Rattle.usbgate.specs.declared.words.Command.TheVariants.{Replay, Show, Unknown}
+use Rattle.usbgate.specs.declared.words.Command.TheVariants.{Replay, Show, Serve, Unknown}
 use Rattle.usbgate.specs.declared.command_table.Need.{Need}
 use Rattle.usbgate.specs.declared.command_table.Need.TheVariants.{Must, May, MustNot}
 use Rattle.usbgate.specs.declared.command_table.Verb.{Verb}
@@ -16,6 +16,7 @@ use Rattle.usbgate.specs.declared.command_table.Verb.TheVariants as verb
 use Rattle.usbgate.specs.declared.command_table.Row.{Row}
 use Rattle.usbgate.specs.declared.command_table.TheConstants.{ROWS}
 use Rattle.usbgate.specs.CommandLine.{found}
+use Rattle.usbgate.specs.Serving.{Asked}
 
 -- the words as texts
 abbrev pub texts : List (Bor (List ℕ)) → List (List ℕ)
@@ -47,6 +48,7 @@ is_met row given =
 abbrev pub name_of : Verb → Text
 name_of verb.Replay = codes "replay"
 name_of verb.Show = codes "show"
+name_of verb.Serve = codes "serve"
 
 abbrev pub row_named : Text → Option Row
 row_named name = find (λ row. bytes_eq (name_of row.verb) name) ROWS
@@ -61,9 +63,14 @@ first_id_of (Some text) = number_of text
 abbrev pub side_of : Text → Option Side
 side_of text = if bytes_eq text (codes "client") then Some Client else if bytes_eq text (codes "host") then Some Host else None
 
+abbrev pub serving_of : (host listen : Option Text) → (idle first_id : Option ℕ) → Option Asked
+serving_of (Some host) (Some listen) (Some idle) (Some first_id) = Some (record { host = host; listen = listen; idle = idle; first_id = first_id })
+serving_of _ _ _ _ = None
+
 abbrev pub asked_by : Verb → (Text → Option Text) → Option Command
 asked_by verb.Replay given = option_map Replay (first_id_of (given (codes "first-id")))
 asked_by verb.Show given = option_map Show (option_and_then side_of (given (codes "side")))
+asked_by verb.Serve given = option_map Serve (serving_of (given (codes "host")) (given (codes "listen")) (option_and_then number_of (given (codes "idle"))) (first_id_of (given (codes "first-id"))))
 
 abbrev pub by_row : Option Row → (Text → Option Text) → Option Command
 by_row None given = None
@@ -82,3 +89,10 @@ command_by (Some rows) = or_unknown (command_in (given_by rows))
 
 abbrev pub command_of : List Text → Command
 command_of words = command_by (found words)
+
+-- its numbers are from 1 to 4294967295
+abbrev pub HasNumbers : Command → Type 0
+HasNumbers (Replay first) = (1 ≤ first) × (first < 2 ^ 32)
+HasNumbers (Show side) = Unit {0}
+HasNumbers (Serve asked) = (1 ≤ asked.idle) × ((1 ≤ asked.first_id) × (asked.first_id < 2 ^ 32))
+HasNumbers Unknown = Unit {0}

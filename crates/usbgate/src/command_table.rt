@@ -19,6 +19,7 @@ pub enum Need {
 pub enum Verb {
     Replay,
     Show,
+    Serve,
 }
 
 /// A command, and which words stand with it.
@@ -35,7 +36,7 @@ pub struct Row {
 }
 
 /// The commands that are built.
-pub const ROWS: [Row; 2] = [
+pub const ROWS: [Row; 3] = [
     Row {
         verb: Verb::Replay,
         number: Need::MustNot,
@@ -55,6 +56,16 @@ pub const ROWS: [Row; 2] = [
         listen: Need::MustNot,
         idle: Need::MustNot,
         first_id: Need::MustNot,
+    },
+    Row {
+        verb: Verb::Serve,
+        number: Need::MustNot,
+        device: Need::MustNot,
+        side: Need::MustNot,
+        host: Need::Must,
+        listen: Need::Must,
+        idle: Need::Must,
+        first_id: Need::May,
     },
 ];
 
@@ -79,6 +90,7 @@ impl Verb {
         match self {
             Verb::Replay => "replay",
             Verb::Show => "show",
+            Verb::Serve => "serve",
         }
     }
 }

@@ -7,6 +7,8 @@ mod event_tape;
 mod given;
 mod program;
 mod replay;
+mod serve;
+mod serving;
 mod show;
 mod shown_format;
 mod status;

@@ -1,13 +1,18 @@
 //! A run of the program, over a tape and a sink.
 
-ghost use Rattle.std.specs.Prelude.{◌≡◌, ◌≢◌, ◌<◌, ◌≤◌, List, [], ℕ, length, false, Option};
+ghost use Rattle.std.specs.Prelude.{◌≡◌, ◌≢◌, ◌<◌, ◌≤◌, List, [], ℕ, length, false, Option, Some};
 ghost use Rattle.gate_outside.specs.Faults.{Rose};
+ghost use Rattle.usb_base.specs.declared.side.Side.{Side as ASide};
 ghost use Rattle.usb_base.specs.declared.side.Side.TheVariants.{Client, Host};
+ghost use Rattle.bridge_run.specs.Outside.{outside};
 ghost use Rattle.usbgate.specs.Run.{Leaves, OpensNoLink, IsOfNoCommand};
-ghost use Rattle.usbgate.specs.Prescribed.{prescribed, over_tape as tape_prescribed};
+ghost use Rattle.usbgate.specs.Prescribed.{Prescribed, prescribed, usage as usage_prescribed, over_tape as tape_prescribed};
 ghost use Rattle.usbgate.specs.TapeCommand.{TapeCommand as Told};
 ghost use Rattle.usbgate.specs.EventCommand.{over_events};
-ghost use Rattle.usbgate.specs.Show.{show_side};
+ghost use Rattle.usbgate.specs.Replay.{replay as replaying};
+ghost use Rattle.usbgate.specs.Show.{show as showing, show_side};
+ghost use Rattle.usbgate.specs.Serving.{Asked};
+ghost use Rattle.usbgate.specs.Serves.{Serves};
 ghost use Rattle.usbgate.specs.inner.Show.{shown_by};
 ghost use Rattle.usbgate.specs.Words.{texts, command_of};
 ghost use Rattle.usbgate.specs.inner.Causes.{HasCauses};
@@ -15,6 +20,7 @@ ghost use Rattle.usbgate.specs.inner.TapeReader.{Stage};
 
 use crate::event_tape::EventTape;
 use crate::replay::Replay;
+use crate::serve::serve;
 use crate::show::Show;
 use crate::shown_format::ShownFormat;
 use crate::status::Status;
@@ -32,8 +38,8 @@ use usbip_urb::ClientFormat;
 const CHUNK: usize = 65_536;
 
 /// Does what the words say: `replay` puts the tape to a gate, and prints what that sends and which sides it
-/// refuses; `show` prints the packets of one side's stream in it. Words that are no command print how they should
-/// be.
+/// refuses; `show` prints the packets of one side's stream in it; `serve` puts what comes by the doors to a gate, and
+/// prints which sides it refuses. Words that are no command print how they should be.
 pub fn run<S: Source, K: Sink, D: Doors>(
     alloc: Global,
     words: &[&str],
@@ -43,31 +49,38 @@ pub fn run<S: Source, K: Sink, D: Doors>(
 ) -> Status
     requires client_down { (D.link doors.old Client).up ≡ false }
     requires host_down { (D.link doors.old Host).up ≡ false }
-    ensures leaves { Leaves result (prescribed (command_of (texts words.now))) (S.remaining tape.old) (S.remaining tape.new) (K.contents out.old) (K.contents out.new) }
+    ensures leaves { (p : Prescribed) → prescribed (command_of (texts words.now)) ≡ Some p
+        → Leaves result p (S.remaining tape.old) (S.remaining tape.new) (K.contents out.old) (K.contents out.new) }
+    ensures serves { (asked : Asked) → command_of (texts words.now) ≡ Command.Serve asked
+        → Serves result asked (outside (D.link doors.old) (D.door doors.old)) (outside (D.link doors.new) (D.door doors.new))
+        (K.faults out.old) (K.faults out.new) (K.contents out.old) (K.contents out.new) }
     ensures usage { result ≡ Status.Usage → command_of (texts words.now) ≡ Command.Unknown }
     ensures no_command { command_of (texts words.now) ≡ Command.Unknown → IsOfNoCommand result }
     ensures untouched { command_of (texts words.now) ≡ Command.Unknown → tape.new ≡ tape.old }
+    ensures unread { (asked : Asked) → command_of (texts words.now) ≡ Command.Serve asked → tape.new ≡ tape.old }
     ensures read_fault { result ≡ Status.ReadFault → Rose (S.faults tape.old) (S.faults tape.new) }
     ensures write_fault { result ≡ Status.WriteFault → Rose (K.faults out.old) (K.faults out.new) }
     ensures reads_stand { result ≢ Status.ReadFault → S.faults tape.new ≡ S.faults tape.old }
     ensures writes_stand { result ≢ Status.WriteFault → K.faults out.new ≡ K.faults out.old }
-    ensures no_links { OpensNoLink result }
-    ensures doors { doors.new ≡ doors.old }
+    ensures link_fault { (side : ASide) → result ≡ Status.LinkFault side → Rose (D.link doors.old side).faults (D.link doors.new side).faults }
+    ensures links_stand { (side : ASide) → result ≢ Status.LinkFault side → (D.link doors.new side).faults ≡ (D.link doors.old side).faults }
+    ensures no_links { (p : Prescribed) → prescribed (command_of (texts words.now)) ≡ Some p → OpensNoLink result }
+    ensures doors { (p : Prescribed) → prescribed (command_of (texts words.now)) ≡ Some p → doors.new ≡ doors.old }
 {
-    let _ = doors;
     let Ok(command) = Command::read(alloc, words) else {
         return Status::OutOfMemory;
     };
     match command {
         Command::Replay { first_id } => replay(alloc, first_id, tape, out),
         Command::Show { side } => show(alloc, side, tape, out),
+        Command::Serve(serving) => serve(alloc, &serving, doors, out),
         Command::Unknown => print_usage(out),
     }
 }
 
 /// Prints how the words should be.
 fn print_usage<K: Sink>(out: &mut K) -> Status
-    ensures leaves { (remaining : Option (List ℕ)) → Leaves result (prescribed Command.Unknown) remaining remaining (K.contents out.old) (K.contents out.new) }
+    ensures leaves { (remaining : Option (List ℕ)) → Leaves result usage_prescribed remaining remaining (K.contents out.old) (K.contents out.new) }
     ensures causes { (faults : ℕ) → HasCauses result faults faults (K.faults out.old) (K.faults out.new) }
     ensures usage { IsOfNoCommand result }
 {
@@ -79,7 +92,7 @@ fn print_usage<K: Sink>(out: &mut K) -> Status
 
 fn replay<S: Source, K: Sink>(alloc: Global, first_id: u32, tape: &mut S, out: &mut K) -> Status
     requires { 1 ≤ first_id }
-    ensures leaves { Leaves result (prescribed (Command.Replay first_id)) (S.remaining tape.old) (S.remaining tape.new) (K.contents out.old) (K.contents out.new) }
+    ensures leaves { Leaves result (tape_prescribed (over_events (replaying first_id))) (S.remaining tape.old) (S.remaining tape.new) (K.contents out.old) (K.contents out.new) }
     ensures causes { HasCauses result (S.faults tape.old) (S.faults tape.new) (K.faults out.old) (K.faults out.new) }
     ensures command { result ≢ Status.Usage }
 {
@@ -91,7 +104,7 @@ fn replay<S: Source, K: Sink>(alloc: Global, first_id: u32, tape: &mut S, out: &
 }
 
 fn show<S: Source, K: Sink>(alloc: Global, side: Side, tape: &mut S, out: &mut K) -> Status
-    ensures leaves { Leaves result (prescribed (Command.Show side)) (S.remaining tape.old) (S.remaining tape.new) (K.contents out.old) (K.contents out.new) }
+    ensures leaves { Leaves result (tape_prescribed (over_events (showing side))) (S.remaining tape.old) (S.remaining tape.new) (K.contents out.old) (K.contents out.new) }
     ensures causes { HasCauses result (S.faults tape.old) (S.faults tape.new) (K.faults out.old) (K.faults out.new) }
     ensures command { result ≢ Status.Usage }
 {

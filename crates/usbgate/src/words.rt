@@ -1,32 +1,36 @@
 //! The words behind the program's name.
 
-ghost use Rattle.std.specs.Prelude.{◌≡◌, ℕ, List, Option, IfOk};
+ghost use Rattle.std.specs.Prelude.{◌≡◌, ◌≤◌, ◌<◌, ◌^◌, ℕ, List, Option, IfOk, IfSome, codes};
 ghost use Rattle.usbgate.specs.declared.command_table.Verb.TheVariants as verb;
-ghost use Rattle.usbgate.specs.Words.{texts, asked_by, or_unknown, command_in, command_of};
+ghost use Rattle.usbgate.specs.Words.{texts, first_id_of, asked_by, or_unknown, command_in, command_of, HasNumbers};
 ghost use Rattle.usbgate.specs.inner.Given.{IsGiven};
 
 use crate::command_line::found;
 use crate::command_table::{Row, Verb};
 use crate::given::Given;
+use crate::serving::Serving;
 use packet_show::read_number;
 use std::alloc::Global;
 use usb_base::{Memory, Side};
 
 /// What the words ask for.
-#[derive(Clone, Copy, Debug, PartialEq, Eq)]
-pub enum Command {
+#[derive(Debug, Drop)]
+pub enum Command<'a> {
     /// Puts a tape to a gate. The first packet to the host gets the first id.
     Replay { first_id: u32 },
     /// Shows the packets of a side's stream in a tape.
     Show { side: Side },
+    /// Serves clients the device of a host, over sockets.
+    Serve(Serving<'a>),
     /// They are no command.
     Unknown,
 }
 
-impl Command {
+impl<'a> Command<'a> {
     /// Reads the words.
-    pub fn read(alloc: Global, words: &[&str]) -> Result<Command, Memory>
-        ensures { IfOk result (λ command. command ≡ command_of (texts words.now)) }
+    pub fn read(alloc: Global, words: &'a [&'a str]) -> Result<Command<'a>, Memory>
+        ensures value { IfOk result (λ command. command ≡ command_of (texts words.now)) }
+        ensures numbers { IfOk result HasNumbers }
     {
         match found(alloc, words)? {
             Some(matches) => Ok(Command::meant_by(&Given::of(&matches))),
@@ -35,16 +39,18 @@ impl Command {
     }
 
     /// The command that these words mean.
-    fn meant_by(given: &Given<'_>) -> Command
-        ensures { (words : List ℕ → Option (List ℕ)) → IsGiven given.now words → result ≡ or_unknown (command_in words) }
+    fn meant_by(given: &Given<'a>) -> Command<'a>
+        ensures value { (words : List ℕ → Option (List ℕ)) → IsGiven given.now words → result ≡ or_unknown (command_in words) }
+        ensures numbers { HasNumbers result }
     {
         known(given).unwrap_or(Command::Unknown)
     }
 }
 
 /// The command of the table whose row these words meet.
-fn known(given: &Given<'_>) -> Option<Command>
-    ensures { (words : List ℕ → Option (List ℕ)) → IsGiven given.now words → result ≡ command_in words }
+fn known<'a>(given: &Given<'a>) -> Option<Command<'a>>
+    ensures value { (words : List ℕ → Option (List ℕ)) → IsGiven given.now words → result ≡ command_in words }
+    ensures numbers { IfSome result HasNumbers }
 {
     let row = Row::named(given.command?)?;
     if !row.is_met(given) {
@@ -53,23 +59,23 @@ fn known(given: &Given<'_>) -> Option<Command>
     match row.verb {
         Verb::Replay => replay(given),
         Verb::Show => show(given),
+        Verb::Serve => serve(given),
     }
 }
 
-/// `replay [--first-id N]`; without the option the first id is 1.
-fn replay(given: &Given<'_>) -> Option<Command>
-    ensures { (words : List ℕ → Option (List ℕ)) → IsGiven given.now words → result ≡ asked_by verb.Replay words }
+/// `replay [--first-id N]`
+fn replay<'a>(given: &Given<'a>) -> Option<Command<'a>>
+    ensures value { (words : List ℕ → Option (List ℕ)) → IsGiven given.now words → result ≡ asked_by verb.Replay words }
+    ensures numbers { IfSome result HasNumbers }
 {
-    let first_id = match given.first_id {
-        Some(text) => read_number(text.as_bytes())?,
-        None => 1,
-    };
+    let first_id = first_id(given)?;
     Some(Command::Replay { first_id })
 }
 
 /// `show --side client` or `show --side host`.
-fn show(given: &Given<'_>) -> Option<Command>
-    ensures { (words : List ℕ → Option (List ℕ)) → IsGiven given.now words → result ≡ asked_by verb.Show words }
+fn show<'a>(given: &Given<'a>) -> Option<Command<'a>>
+    ensures value { (words : List ℕ → Option (List ℕ)) → IsGiven given.now words → result ≡ asked_by verb.Show words }
+    ensures numbers { IfSome result HasNumbers }
 {
     let side = match given.side? {
         "client" => Side::Client,
@@ -77,4 +83,29 @@ fn show(given: &Given<'_>) -> Option<Command>
         _ => return None,
     };
     Some(Command::Show { side })
+}
+
+/// `serve --host ADDR --listen ADDR --idle N [--first-id N]`
+fn serve<'a>(given: &Given<'a>) -> Option<Command<'a>>
+    ensures value { (words : List ℕ → Option (List ℕ)) → IsGiven given.now words → result ≡ asked_by verb.Serve words }
+    ensures numbers { IfSome result HasNumbers }
+{
+    let serving = Serving {
+        host: given.host?,
+        listen: given.listen?,
+        idle: read_number(given.idle?.as_bytes())?,
+        first_id: first_id(given)?,
+    };
+    Some(Command::Serve(serving))
+}
+
+/// The value of `--first-id`; without the option the first id is 1.
+fn first_id(given: &Given<'_>) -> Option<u32>
+    ensures value { (words : List ℕ → Option (List ℕ)) → IsGiven given.now words → result ≡ first_id_of (words (codes "first-id")) }
+    ensures fits { IfSome result (λ n. (1 ≤ n) × (n < 2 ^ 32)) }
+{
+    match given.first_id {
+        Some(text) => read_number(text.as_bytes()),
+        None => Some(1),
+    }
 }

@@ -1,18 +1,28 @@
-use Rattle.std.proofs.Common.{sym, subst, ◌∙◌}
-use Rattle.usbgate.specs.declared.words.Command.{Command}
-use Rattle.usbgate.specs.Prescribed.{prescribed}
+use Rattle.std.proofs.Common.{◌≡◌, sym, ap, subst, ◌∙◌}
+use Rattle.std.proofs.lemmas.Option.{same_Some}
+use Rattle.bridge_run.specs.Outside.{outside}
+use Rattle.usbgate.specs.declared.status.Status.TheVariants.{LinkFault}
+use Rattle.usbgate.specs.EventCommand.{over_events}
+use Rattle.usbgate.specs.Replay.{replay}
+use Rattle.usbgate.specs.Prescribed.{Prescribed, over_tape, prescribed}
 use Rattle.usbgate.specs.Run.{Leaves}
-use Rattle.usbgate.specs.Words.{texts}
-use Rattle.usbgate.proofs.FirstId.{first-id}
+use Rattle.usbgate.proofs.Served.{unserved, links-stand}
 use Rattle.usbgate.proofs.program.run.Goals as goal
 
-pub replay-requires : goal.replay-requires
-replay-requires g c = first-id (texts c.args.words.now) c.in-Replay.first_id (sym c.in-Ok.ensures ∙ c.in-Replay.is)
+pub returns-in_default-clause-serves : goal.returns-in_default-clause-serves
+returns-in_default-clause-serves g c = λ asked is.
+    unserved asked (outside (g.D.Doors.link c.args.doors.now) (g.D.Doors.door c.args.doors.now)) (g.K.Sink.faults c.args.out.now) (g.K.Sink.contents c.args.out.now)
 
 pub returns-in-Replay-clause-leaves : goal.returns-in-Replay-clause-leaves
-returns-in-Replay-clause-leaves g c =
-    subst (λ (command : Command). Leaves c.replay.result (prescribed command) (g.S.Source.remaining c.args.tape.now) (g.S.Source.remaining c.replay.new.tape) (g.K.Sink.contents c.args.out.now) (g.K.Sink.contents c.replay.new.out))
-    (sym c.in-Replay.is ∙ c.in-Ok.ensures) c.replay.ensures.leaves
+returns-in-Replay-clause-leaves g c = λ p is.
+    let command = over_tape (over_events (replay c.in-Replay.first_id)) in
+    subst (λ (q : Prescribed). Leaves c.replay.result q (g.S.Source.remaining c.args.tape.now) (g.S.Source.remaining c.replay.new.tape) (g.K.Sink.contents c.args.out.now) (g.K.Sink.contents c.replay.new.out))
+    (same_Some command p (ap prescribed (sym c.in-Replay.is ∙ c.in-Ok.ensures.value) ∙ is)) c.replay.ensures.leaves
+
+pub returns-in-Serve-clause-links_stand : goal.returns-in-Serve-clause-links_stand
+returns-in-Serve-clause-links_stand g c = λ side other.
+    let served = c.serve.ensures in
+    links-stand served.end (g.D.Doors.link c.args.doors.now) (g.D.Doors.link c.serve.new.doors) (g.D.Doors.door c.args.doors.now) (g.D.Doors.door c.serve.new.doors) (g.K.Sink.faults c.args.out.now) (g.K.Sink.faults c.serve.new.out) side served.cause (λ e. other (served.status-is ∙ e))
 
 pub returns-in-Unknown-clause-writes_stand : goal.returns-in-Unknown-clause-writes_stand
 returns-in-Unknown-clause-writes_stand g c = (c.print_usage.ensures.causes 0).writes_stand

@@ -7,7 +7,7 @@ use Rattle.usbgate.proofs.words.Command.read.Goals as goal
 abbrev rows : ArgMatches → List Row
 rows m = rows_of (found_of m)
 
-pub returns-in-Some : goal.returns-in-Some
-returns-in-Some c =
-    c.meant_by.ensures (given_by (rows c.in-Some.matches)) c.of.ensures
+pub returns-in-Some-clause-value : goal.returns-in-Some-clause-value
+returns-in-Some-clause-value c =
+    c.meant_by.ensures.value (given_by (rows c.in-Some.matches)) c.of.ensures
     ∙ ap command_by (sym (ap (option_map rows) c.in-Some.is) ∙ c.in_ok-matches.ensures)

@@ -1,0 +1,23 @@
+//! What the gateway between sockets is asked.
+
+use std::marker::Model;
+
+/// Where the host and the clients' door are, when to end, and the id of the first packet to the host.
+#[derive(Debug, Drop)]
+pub struct Serving<'a> {
+    /// The host's address.
+    pub host: &'a str,
+    /// The address of the clients' door.
+    pub listen: &'a str,
+    /// After how many rounds in a row in which nothing comes it ends.
+    pub idle: u32,
+    pub first_id: u32,
+}
+
+impl<'a> Model for Serving<'a> {
+    ghost use Rattle.usbgate.specs.Serving.{Asked};
+
+    ghost Value = { Asked };
+
+    ghost view = { λ serving. record { host = serving.host.now; listen = serving.listen.now; idle = serving.idle; first_id = serving.first_id } };
+}
