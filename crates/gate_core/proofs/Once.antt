@@ -12,7 +12,7 @@ use Rattle.gate_core.specs.Items.{Item}
 use Rattle.gate_core.specs.Errno.{econnreset}
 use Rattle.gate_core.specs.Verdict.{is_wire}
 use Rattle.gate_core.specs.Marks.{Submission, Effect, Replies, Imports, Opens, Unbuilt, Unlinks, Mark}
-use Rattle.gate_core.specs.Submits.{End, AtOnce, ByClient, ByLoss, ByAnswer, opened, ends, end_of, live, ended, Pending, pending}
+use Rattle.gate_core.specs.Submits.{End, AtOnce, Sent, ByClient, ByLoss, ByAnswer, opened, ends, end_of, live, ended, Pending, pending}
 use Rattle.gate_core.specs.State.{State, state_of, is_number, has_number}
 use Rattle.gate_core.specs.Meaning.{meaning, mark_of}
 use Rattle.gate_core.specs.Past.{is_left_out, past}
@@ -162,6 +162,7 @@ count-append xs ys = ap length (filter-append is_answer xs ys) ∙ length-append
 abbrev is_counted : Option End → Bool
 is_counted None = false
 is_counted (Some (AtOnce status)) = true
+is_counted (Some Sent) = true
 is_counted (Some ByClient) = false
 is_counted (Some ByLoss) = true
 is_counted (Some (ByAnswer outcome)) = true
@@ -172,6 +173,7 @@ weight b = cond b 1 0
 one-answer : (s : Submission) (by : Option ℕ) (e : Option End) → count (map Urb (answers_at s by e)) ≡ weight (is_counted e)
 one-answer s by None = refl
 one-answer s by (Some (AtOnce status)) = refl
+one-answer s by (Some Sent) = refl
 one-answer s by (Some ByClient) = refl
 one-answer s None (Some ByLoss) = refl
 one-answer s (Some by) (Some ByLoss) = refl
@@ -205,6 +207,7 @@ silent st _ = refl
 counted-is : (e : Option End) → both (is_some e) (not (is_by_client e)) ≡ is_counted e
 counted-is None = refl
 counted-is (Some (AtOnce status)) = refl
+counted-is (Some Sent) = refl
 counted-is (Some ByClient) = refl
 counted-is (Some ByLoss) = refl
 counted-is (Some (ByAnswer o)) = refl

@@ -17,15 +17,17 @@ use Rattle.unlink_race.specs.declared.live.LiveKind.{LiveKind}
 use Rattle.unlink_race.specs.Searches.{goes_by_id, has_number, is_stream}
 use Rattle.gate_core.specs.declared.note.Note.{Note}
 use Rattle.gate_core.specs.declared.kept.Kept.{Kept}
+use Rattle.gate_core.specs.declared.streams.Called.{Called}
 use Rattle.gate_core.specs.declared.item.Item.{Item as RawItem}
 use Rattle.gate_core.specs.declared.item.Item.TheVariants as raw
 use Rattle.gate_core.specs.Items.{Item, Asked, ClientWrong, ClientLeft, Told, HostWrong, HostLeft, capped}
 use Rattle.gate_core.specs.Marks.{Mark}
 use Rattle.gate_core.specs.Facts.{no_facts}
+use Rattle.gate_core.specs.Ups.{no_streams}
 use Rattle.gate_core.specs.Verdict.{Verdict, goes_by_id as goes_by_id_of}
 use Rattle.gate_core.specs.Flight.{wide_ids}
 use Rattle.gate_core.specs.Responses.{Response, Data, Status, response_of}
-use Rattle.gate_core.specs.Packets.{packets_of}
+use Rattle.gate_core.specs.Packets.{HasRoute}
 use Rattle.gate_core.specs.State.{State}
 use Rattle.gate_core.specs.Output.{to_client}
 use Rattle.gate_core.specs.Notes.{notes_of, dropped}
@@ -44,6 +46,11 @@ pub record IsKept (t : Kept) : Type 0 where
   -- a client has requests only once it has imported the device, and imports it only once nothing is left of the former
   pub apart : t.imported ≡ true → t.lives.abandoned ≡ []
   pub few : length t.lives.live ≤ 4096
+  pub left : length t.lives.abandoned ≤ 4096
+  -- each endpoint has its place
+  pub places : length t.streams ≡ 32
+  pub started : length t.calls.started ≡ 32
+  pub stopped : length t.calls.stopped ≡ 32
   pub answered_fits : t.answered ≤ 2 ^ 64 - 1
   pub unlinked_fits : t.unlinked ≤ 2 ^ 64 - 1
   pub dropped_fits : t.dropped ≤ 2 ^ 64 - 1
@@ -55,6 +62,9 @@ pub record Holds (t : Kept) (st : State) : Type 0 where
   pub lost : t.lost ≡ st.lost
   pub client_over : t.client_over ≡ st.client_over
   pub host_over : t.host_over ≡ st.host_over
+  pub streams : t.streams ≡ st.streams
+  pub calls : t.calls ≡ st.calls
+  pub fence : t.fence ≡ st.fence
   pub last : t.last ≡ st.last
   pub live : t.lives.live ≡ map row st.live
   pub abandoned : map unmarked t.lives.abandoned ≡ map left_row st.abandoned
@@ -136,15 +146,21 @@ pub record HasLost (unlinked : ℕ) (old new : Kept) : Type 0 where
     lives = no_requests;
     facts = no_facts;
     lost = true;
+    streams = no_streams;
+    fence = None;
     answered = capped (old.answered + (length old.lives.live - unlinked));
     unlinked = capped (old.unlinked + unlinked);
   }
 
--- with their client
-pub record HasLeft (old new : Kept) : Type 0 where
+-- with their client, whose streams are stopped
+pub record HasLeft (called : Called) (old new : Kept) : Type 0 where
   pub is : new ≡ record old {
     lives = record { live = []; abandoned = old.lives.abandoned ++ filter goes_by_id old.lives.live };
     imported = false;
+    streams = no_streams;
+    calls = called.calls;
+    fence = called.fence;
+    last = called.last;
     dropped = capped (old.dropped + length old.lives.live);
   }
 
@@ -185,4 +201,4 @@ pub record CanAnswer (r : Request) (kind : LiveKind) : Type 0 where
 pub record CanGo (t : Kept) (r : Request) (v : Verdict) : Type 0 where
   pub answered : goes_by_id_of v ≡ true → CanAnswer r (kind_of v r.transfer.ep)
   pub room : goes_by_id_of v ≡ true → length t.lives.live < 4096
-  pub sends : goes_by_id_of v ≡ true → 1 ≤ length (packets_of v r.transfer)
+  pub sends : HasRoute v
