@@ -262,6 +262,9 @@ module _ (st : State) (id : ℕ) (o : Outcome) where
           lost = ap (λ (k : Kept). k.lost) is ∙ h.lost;
           client_over = ap (λ (k : Kept). k.client_over) is ∙ h.client_over;
           host_over = ap (λ (k : Kept). k.host_over) is ∙ h.host_over;
+          streams = ap (λ (k : Kept). k.streams) is ∙ h.streams;
+          calls = ap (λ (k : Kept). k.calls) is ∙ h.calls;
+          fence = ap (λ (k : Kept). k.fence) is ∙ h.fence;
           last = ap (λ (k : Kept). k.last) is ∙ h.last;
           live = ap (λ (k : Kept). k.lives.live) is ∙ live_is ∙ ap (map row) (sym live-is);
           abandoned = ap (λ (k : Kept). map unmarked k.lives.abandoned) is ∙ left_is;
@@ -425,6 +428,9 @@ does-tell st at header response fact old mid client_old client_new host_old host
         lost = d.holds.lost;
         client_over = d.holds.client_over;
         host_over = d.holds.host_over;
+        streams = d.holds.streams;
+        calls = d.holds.calls;
+        fence = d.holds.fence;
         last = d.holds.last;
         live = d.holds.live;
         abandoned = d.holds.abandoned;
@@ -453,7 +459,10 @@ does-agree st old caps client host notes h answered_fits unlinked_fits dropped_f
     (rows-same (Agrees caps) old.lives.live st.live (λ s. refl) h.live) refl (sym (append-nil client)) (host-same st.agreed (Agrees caps) host st.live stays-uncancelled) (sym (append-nil notes))
 
 pub told-other : (st : State) (at : ℕ) (h : Header) (p : RedirControl) → ((hello : Hello) → p ≡ plain.Hello hello → ⊥) → (p ≡ plain.Disconnect → ⊥) →
+    ((status endpoint : ℕ) → p ≡ plain.IsoStatus status endpoint → ⊥) → ((status endpoint : ℕ) → p ≡ plain.InterruptStatus status endpoint → ⊥) →
     told_meaning st at h (Plain p) ≡ by_response st at h (response_of (Plain p))
-told-other st at h (plain.Hello hello) no_hello no_disconnect = absurd (no_hello hello refl)
-told-other st at h plain.Disconnect no_hello no_disconnect = absurd (no_disconnect refl)
-told-other st at h p no_hello no_disconnect = refl
+told-other st at h (plain.Hello hello) no_hello no_disconnect no_iso no_interrupt = absurd (no_hello hello refl)
+told-other st at h plain.Disconnect no_hello no_disconnect no_iso no_interrupt = absurd (no_disconnect refl)
+told-other st at h (plain.IsoStatus status endpoint) no_hello no_disconnect no_iso no_interrupt = absurd (no_iso status endpoint refl)
+told-other st at h (plain.InterruptStatus status endpoint) no_hello no_disconnect no_iso no_interrupt = absurd (no_interrupt status endpoint refl)
+told-other st at h p no_hello no_disconnect no_iso no_interrupt = refl

@@ -98,6 +98,8 @@ host-response st place h (Some response) = host-answer st place h response _
 host-told : (st : State) (place : ℕ) (h : Header) (p : RedirPacket) → SparesClient (told_meaning st place h p)
 host-told st place h (Plain (plain.Hello hello)) = record { refuses = refl; ends = refl }
 host-told st place h (Plain plain.Disconnect) = record { refuses = refl; ends = refl }
+host-told st place h (Plain (plain.IsoStatus status endpoint)) = record { refuses = refl; ends = refl }
+host-told st place h (Plain (plain.InterruptStatus status endpoint)) = record { refuses = refl; ends = refl }
 host-told st place h p = host-response st place h (response_of p)
 
 -- only a hello agrees to anything

@@ -59,39 +59,49 @@ is_request s is = record {
 -- ---- its verdict
 
 -- a rule that answers at once lets nothing on the wire
-unless : (wide b : Bool) (status : _) (v : Verdict) (t : Transfer) → (b ≡ false → IsCarried wide v t) → IsCarried wide (if b then Now status else v) t
+unless : (wide b : Bool) (status : _) (v : Verdict) (t : Request) → (b ≡ false → IsCarried wide v t) → IsCarried wide (if b then Now status else v) t
 unless wide true status v t h = tt
 unless wide false status v t h = h refl
 
 data-way : (is_in : Bool) (ep wanted n : ℕ) → is_in_endpoint ep ≡ is_in → n ≡ body_size (not is_in) wanted → n ≡ data_count ToHost ep wanted
 data-way is_in ep wanted n way e = e ∙ ap (λ (b : Bool). body_size (not b) wanted) (sym way)
 
-interrupt : (wide : Bool) (row : EpRow) (is_in : Bool) (t : Transfer) → t.wanted ≤ 16777216 → length t.body ≡ data_count ToHost t.ep t.wanted →
-    (not is_in && nat_lt max_narrow t.wanted) ≡ false → IsCarried wide (if is_in then Stream row else Wire InterruptOut) t
-interrupt wide row true t few there fits = tt
-interrupt wide row false t few there fits = record { setup = tt; length_fits = (let h = ltb-false _ _ fits in omega arith); few_bytes = few; data_there = there }
+interrupt : (wide : Bool) (row : EpRow) (is_in : Bool) (r : Request) → r.transfer.wanted ≤ 16777216 → length r.transfer.body ≡ data_count ToHost r.transfer.ep r.transfer.wanted →
+    (not is_in && nat_lt max_narrow r.transfer.wanted) ≡ false → IsCarried wide (if is_in then Stream row else Wire InterruptOut) r
+interrupt wide row true r few there fits = tt
+interrupt wide row false r few there fits = record { setup = tt; length_fits = (let h = ltb-false _ _ fits in omega arith); few_bytes = few; data_there = there }
 
-by_kind-carried : (wide : Bool) (r : Request) (row : EpRow) (k : EpKind) → r.transfer.wanted ≤ 16777216 → length r.transfer.body ≡ data_count ToHost r.transfer.ep r.transfer.wanted →
-    (is_narrow wide r.is_in k && nat_lt max_narrow r.transfer.wanted) ≡ false → IsCarried wide (by_kind r row k) r.transfer
-by_kind-carried wide r row kind.Control few there fits = tt
-by_kind-carried wide r row kind.Iso few there fits = elim r.is_in as (λ b. IsCarried wide (if b then Stream row else IsoOut) r.transfer) [ true ↦ tt | false ↦ tt ]
-by_kind-carried true r row kind.Bulk few there fits = record { setup = tt; length_fits = tt; few_bytes = few; data_there = there }
-by_kind-carried false r row kind.Bulk few there fits = record { setup = tt; length_fits = (let h = ltb-false _ _ fits in omega arith); few_bytes = few; data_there = there }
-by_kind-carried wide r row kind.Interrupt few there fits = interrupt wide row r.is_in r.transfer few there fits
-by_kind-carried wide r row kind.Invalid few there fits = tt
+-- an isochronous transfer lies over its buffer
+isochronous : (wide : Bool) (row : EpRow) (is_in : Bool) (r : Request) → r.is_in ≡ is_in → is_in_endpoint r.transfer.ep ≡ is_in → length r.transfer.body ≡ body_size (not is_in) r.transfer.wanted →
+    laid r.descs r.transfer.wanted ≡ true → IsCarried wide (if is_in then Stream row else IsoOut row) r
+isochronous wide row true r same way whole lies = tt
+isochronous wide row false r same way whole lies = record { out = way; to_device = same; lies = lies; whole = whole }
 
-by_endpoint-carried : (wide : Bool) (r : Request) (row : EpRow) → IsRequest r → is_in_endpoint r.transfer.ep ≡ r.is_in → IsCarried wide (by_endpoint wide r row) r.transfer
+by_kind-carried : (wide : Bool) (r : Request) (row : EpRow) (k : EpKind) → is_in_endpoint r.transfer.ep ≡ r.is_in → length r.transfer.body ≡ body_size (not r.is_in) r.transfer.wanted → laid r.descs r.transfer.wanted ≡ true → r.transfer.wanted ≤ 16777216 → length r.transfer.body ≡ data_count ToHost r.transfer.ep r.transfer.wanted →
+    (is_narrow wide r.is_in k && nat_lt max_narrow r.transfer.wanted) ≡ false → IsCarried wide (by_kind r row k) r
+by_kind-carried wide r row kind.Control way whole lies few there fits = tt
+by_kind-carried wide r row kind.Iso way whole lies few there fits = isochronous wide row r.is_in r refl way whole lies
+by_kind-carried true r row kind.Bulk way whole lies few there fits = record { setup = tt; length_fits = tt; few_bytes = few; data_there = there }
+by_kind-carried false r row kind.Bulk way whole lies few there fits = record { setup = tt; length_fits = (let h = ltb-false _ _ fits in omega arith); few_bytes = few; data_there = there }
+by_kind-carried wide r row kind.Interrupt way whole lies few there fits = interrupt wide row r.is_in r few there fits
+by_kind-carried wide r row kind.Invalid way whole lies few there fits = tt
+
+not-not-false : (b : Bool) → not b ≡ false → b ≡ true
+not-not-false true e = refl
+not-not-false false e = absurd (true≢false e)
+
+by_endpoint-carried : (wide : Bool) (r : Request) (row : EpRow) → IsRequest r → is_in_endpoint r.transfer.ep ≡ r.is_in → IsCarried wide (by_endpoint wide r row) r
 by_endpoint-carried wide r row is way =
-    unless wide (is_invalid row.kind) enoent _ r.transfer (λ valid.
-    unless wide (is_control row.kind) einval _ r.transfer (λ other.
-    unless wide (bool_eq (is_iso row.kind) (none_of r.descs)) einval _ r.transfer (λ iso.
-    unless wide (not (laid r.descs r.transfer.wanted)) einval _ r.transfer (λ lies.
-    unless wide (is_narrow wide r.is_in row.kind && nat_lt max_narrow r.transfer.wanted) emsgsize _ r.transfer (λ fits.
-    by_kind-carried wide r row row.kind is.few_bytes (data-way r.is_in r.transfer.ep r.transfer.wanted _ way is.body) fits)))))
+    unless wide (is_invalid row.kind) enoent _ r (λ valid.
+    unless wide (is_control row.kind) einval _ r (λ other.
+    unless wide (bool_eq (is_iso row.kind) (none_of r.descs)) einval _ r (λ iso.
+    unless wide (not (laid r.descs r.transfer.wanted)) einval _ r (λ lies.
+    unless wide (is_narrow wide r.is_in row.kind && nat_lt max_narrow r.transfer.wanted) emsgsize _ r (λ fits.
+    by_kind-carried wide r row row.kind way is.body (not-not-false _ lies) is.few_bytes (data-way r.is_in r.transfer.ep r.transfer.wanted _ way is.body) fits)))))
 
 -- ---- endpoint 0
 
-by_route-carried : (wide : Bool) (rt : Route) (t : Transfer) → IsSent wide Control t → IsCarried wide (by_route rt) t
+by_route-carried : (wide : Bool) (rt : Route) (t : Request) → IsSent wide Control t.transfer → IsCarried wide (by_route rt) t
 by_route-carried wide route.Local t sent = tt
 by_route-carried wide (route.SetConfig configuration) t sent = tt
 by_route-carried wide route.GetConfig t sent = tt
@@ -116,13 +126,13 @@ setup-data false false length wanted n one same e = e
 setup-data true false length wanted n one same e = e ∙ sym same ∙ no-length length one
 setup-data false true length wanted n one same e = e ∙ sym (sym same ∙ no-length length one)
 
-by_setup-carried : (wide : Bool) (r : Request) (s : Setup) → IsRequest r → r.transfer.setup ≡ Some s → r.transfer.ep ≡ address (is_in_setup s) 0 → IsCarried wide (by_setup r s) r.transfer
+pub by_setup-carried : (wide : Bool) (r : Request) (s : Setup) → IsRequest r → r.transfer.setup ≡ Some s → r.transfer.ep ≡ address (is_in_setup s) 0 → IsCarried wide (by_setup r s) r
 by_setup-carried wide r s is has way =
-    unless wide (not (none_of r.descs)) einval _ r.transfer (λ none.
-    unless wide (not (s.length == 0) && not (bool_eq (is_in_setup s) r.is_in)) einval _ r.transfer (λ one.
-    unless wide (not (s.length == r.transfer.wanted)) einval _ r.transfer (λ same.
+    unless wide (not (none_of r.descs)) einval _ r (λ none.
+    unless wide (not (s.length == 0) && not (bool_eq (is_in_setup s) r.is_in)) einval _ r (λ one.
+    unless wide (not (s.length == r.transfer.wanted)) einval _ r (λ same.
     let length : s.length ≡ r.transfer.wanted = eqb-true s.length r.transfer.wanted (not-false _ same) in
-    by_route-carried wide (route_of s) r.transfer (record {
+    by_route-carried wide (route_of s) r (record {
       setup = subst (λ (o : Option Setup). HasItsSetup Control o r.transfer.wanted) (sym has) (sym length);
       length_fits = tt;
       few_bytes = is.few_bytes;
@@ -134,17 +144,17 @@ by_setup-carried wide r s is has way =
 -- ---- both
 
 by_transfer-carried : (changing : Bool) (table : EpTable) (wide : Bool) (r : Request) (o : Option Setup) → IsRequest r → r.transfer.setup ≡ o → IsDirected r.is_in o r.transfer.ep →
-    IsCarried wide (by_transfer changing table wide r o) r.transfer
+    IsCarried wide (by_transfer changing table wide r o) r
 by_transfer-carried changing table wide r None is has way =
-    unless wide changing enoent _ r.transfer (λ still. by_endpoint-carried wide r (row_of table r.transfer.ep) is way)
+    unless wide changing enoent _ r (λ still. by_endpoint-carried wide r (row_of table r.transfer.ep) is way)
 by_transfer-carried changing table wide r (Some s) is has way = by_setup-carried wide r s is has way
 
 -- what a verdict lets on the wire a packet can carry
 pub carried : (lost : Bool) (live : ℕ) (changing : Bool) (table : EpTable) (wide : Bool) (r : Request) → IsRequest r →
-    IsCarried wide (verdict lost live changing table wide r) r.transfer
+    IsCarried wide (verdict lost live changing table wide r) r
 carried lost live changing table wide r is =
-    unless wide lost eshutdown _ r.transfer (λ there.
-    unless wide (nat_le max_live live) ebusy _ r.transfer (λ room.
+    unless wide lost eshutdown _ r (λ there.
+    unless wide (nat_le max_live live) ebusy _ r (λ room.
     by_transfer-carried changing table wide r r.transfer.setup is refl is.directed))
 
 -- ---- its packet

@@ -1,37 +1,52 @@
 -- No id is in flight twice, and the ids that an item draws are fresh.
-use Rattle.std.proofs.Common.{◌≡◌, ℕ, suc, ◌+◌, ◌<◌, ◌≤◌, ◌&&◌, Bool, true, false, cond, if◌then◌else◌, not, eqb, List, [], ◌∷◌, ◌++◌, length, map, Some, refl, sym, ap, subst, ◌∙◌, arith, inl, inr}
-use Rattle.std.specs.Prelude.{filter, is_none}
+use Rattle.std.proofs.Common.{◌≡◌, ℕ, suc, ◌+◌, ◌<◌, ◌≤◌, ◌&&◌, Bool, true, false, cond, if◌then◌else◌, not, eqb, List, [], ◌∷◌, ◌++◌, length, map, set, Option, Some, None, refl, sym, ap, subst, ◌∙◌, arith, inl, inr}
+use Rattle.std.specs.Prelude.{◌%◌, ◌||◌, nat_lt, nat_eq, filter, is_none, zip}
 use Rattle.std.specs.List.{AllByRecursion, IsDistinct}
 use Rattle.std.proofs.lemmas.Bool.{cases_Bool, false≢true}
 use Rattle.std.proofs.lemmas.Bool.Decides.{nat_tests}
-use Rattle.std.proofs.lemmas.List.{length-append, length-map}
+use Rattle.std.proofs.lemmas.List.{length-append, length-map, length-set}
 use Rattle.std.proofs.lemmas.List.Elements.{filter-append}
-use Rattle.std.proofs.lemmas.List.Filters.{length-filter_both}
-use Rattle.usb_base.specs.declared.transfer.Transfer.{Transfer}
 use Rattle.control_route.specs.declared.route.Route.{Route}
 use Rattle.control_route.specs.declared.route.Route.TheVariants as route
-use Rattle.gate_core.specs.Items.{Item}
-use Rattle.gate_core.specs.Ids.{holds, last_of, greatest, AreFresh, times, Once}
+use Rattle.usb_base.specs.declared.refusal.Refusal.{Refusal}
+use Rattle.usb_base.specs.declared.transfer.Outcome.{Outcome}
+use Rattle.usbip_op.specs.declared.packet.OpPacket.{OpPacket}
+use Rattle.usbip_op.specs.declared.packet.OpPacket.TheVariants as op
+use Rattle.usbip_urb.specs.declared.packet.UrbPacket.TheVariants as urb
+use Rattle.usbip_urb.specs.declared.client.ClientPacket.TheVariants.{Op, Urb}
+use Rattle.redir_wire.specs.declared.packet.Connect.{Connect}
+use Rattle.redir_wire.specs.declared.packet.Header.{Header}
+use Rattle.redir_wire.specs.declared.packet.RedirControl.TheVariants as plain
+use Rattle.redir_data.specs.declared.packet.RedirPacket.TheVariants.{Plain}
+use Rattle.gate_core.specs.Items.{Item, Asked, ClientWrong, ClientLeft, Told, HostWrong, HostLeft}
+use Rattle.gate_core.specs.Built.{is_built}
+use Rattle.gate_core.specs.Responses.{Response, response_of}
+use Rattle.gate_core.specs.Sound.{HasFewPackets}
+use Rattle.gate_core.specs.Ids.{holds, draws, last_of, greatest, AreFresh, times, Once}
 use Rattle.gate_core.specs.Verdict.{Verdict, Now, Wire, Routed, IsoOut, Stream, goes_by_id}
-use Rattle.gate_core.specs.Marks.{Submission, Effect, Idle, Replies, Imports, Opens, Unbuilt, Unlinks, Agrees, Answers, Disconnects, Ends, Refuses, Mark}
-use Rattle.gate_core.specs.Sides.{leaves, is_loss, imports, imported}
+use Rattle.gate_core.specs.Marks.{Submission, Effect, Idle, Replies, Imports, Opens, Unbuilt, Unlinks, Agrees, Answers, StreamTold, Disconnects, Ends, Refuses, Mark}
+use Rattle.gate_core.specs.Sides.{is_client, leaves, is_loss, imports, imported}
 use Rattle.gate_core.specs.Submits.{End, ByClient, ByLoss, pending, opened, own_end, ends, live, is_answered, abandoned}
 use Rattle.gate_core.specs.Flight.{wide_ids, ids_of, in_flight}
-use Rattle.gate_core.specs.State.{state_of, flying, next_ids}
-use Rattle.gate_core.specs.Packets.{route_packets, packets_of}
-use Rattle.gate_core.specs.Meaning.{meaning, drawn_by, mark_of}
+use Rattle.gate_core.specs.State.{State, state_of, flying, next_ids, has_number}
+use Rattle.usb_base.specs.Endpoint.{endpoint_index}
+use Rattle.redir_data.specs.declared.packet.RedirPacket.{RedirPacket}
+use Rattle.gate_core.specs.declared.streams.Up.{Up}
+use Rattle.gate_core.specs.declared.streams.Calls.{Calls}
+use Rattle.gate_core.specs.Requests.{Request, request_of}
+use Rattle.gate_core.specs.Ups.{no_streams, stream_at, raised, unless, lower_at, is_ended, is_success, opened_streams, moved_streams, streams_after, streams}
+use Rattle.gate_core.specs.Calls.{called, asking, calls, call_ids}
+use Rattle.gate_core.specs.Packets.{HasRoute, wire_packet, starts, stops, iso_packet, iso_packets, route_packets, packets_of, asked_packets}
+use Rattle.gate_core.proofs.Called.{AreLong, IsSilent, few-ids, long-called, few-stops, few-starts, draws-append, zip-append, last-append, called-append, called-silent, wire-silent, route-silent, iso-silent, times-append, times-called, times-last}
+use Rattle.gate_core.specs.Meaning.{importable, imported_as, op_meaning, verdict_of, answered_as, answer_to, by_response, told_meaning, meaning, drawn_for, drawn_by, mark_of}
 use Rattle.gate_core.specs.Past.{is_left_out, past}
-use Rattle.gate_core.proofs.Lists.{Each, every, Each-weaker, filter-same, filter-twice, both, filter-none}
+use Rattle.gate_core.proofs.Lists.{length-filter, Each, every, Each-weaker, filter-same, filter-twice, both, filter-none}
 use Rattle.gate_core.proofs.Steps.{IsWell, submits-is, live-is}
 use Rattle.gate_core.proofs.Runs.{placed-meaning, well}
-use Rattle.gate_core.proofs.Openings.{IsDrawn, IsOpening, opening-meaning}
-use Rattle.gate_core.proofs.Draws.{draws-fresh}
+use Rattle.gate_core.proofs.Openings.{IsOpening, opening-meaning}
+use Rattle.gate_core.proofs.Draws.{length-draws, draws-fresh}
 
 -- ---- how often an id is there
-
-pub times-append : (q : ℕ) (xs ys : List ℕ) → times q (xs ++ ys) ≡ times q xs + times q ys
-times-append q [] ys = omega arith
-times-append q (x ∷ xs) ys = let rest = times-append q xs ys in omega arith
 
 times-none : (q : ℕ) (xs : List ℕ) → holds xs q ≡ false → times q xs ≡ 0
 times-none q [] h = refl
@@ -66,9 +81,6 @@ times-filter q p (s ∷ ss) =
     let here = times-cons q s (filter p ss) in
     elim (p s) as (λ (b : Bool). times q (ids_of (cond b (s ∷ filter p ss) (filter p ss))) ≤ times q (ids_of (s ∷ ss))) [ true ↦ omega arith | false ↦ omega arith ]
 
-length-filter : {X : Type 0} (p : X → Bool) (xs : List X) → length (filter p xs) ≤ length xs
-length-filter p xs = let both = length-filter_both p (λ x. not (p x)) (λ x. refl) xs in omega arith
-
 length-ids : (ss : List Submission) → length (ids_of ss) ≤ length ss
 length-ids ss = omega (arith, length-map (filter (λ (s : Submission). goes_by_id s.verdict) ss) (λ (s : Submission). s.id), length-filter (λ (s : Submission). goes_by_id s.verdict) ss)
 
@@ -82,10 +94,42 @@ pub record Sound (ms : List Mark) : Type 0 where
   pub once : Once (in_flight ms)
 
 flying-is : (first : ℕ) (ms : List Mark) → flying (state_of first ms) ≡ in_flight ms
-flying-is first ms = ap (λ (l : List Submission). ids_of l ++ ids_of (abandoned ms)) (submits-is ms (live ms))
+flying-is first ms = ap (λ (l : List Submission). ids_of l ++ ids_of (abandoned ms) ++ call_ids (calls ms)) (submits-is ms (live ms))
 
-few-flying : (ms : List Mark) → Sound ms → length (in_flight ms) ≤ 8192
-few-flying ms s = omega (arith, length-append (ids_of (live ms)) (ids_of (abandoned ms)), length-ids (live ms), length-ids (abandoned ms), s.few, s.left)
+calls-long : (ms : List Mark) → AreLong (calls ms)
+calls-long [] = record { started = refl; stopped = refl }
+calls-long (m ∷ ms) = long-called (asking (streams ms) m) (calls ms) (calls-long ms)
+
+pub streams-long : (ms : List Mark) → length (streams ms) ≡ 32
+streams-long [] = refl
+streams-long (m ∷ ms) = after-long m.what (streams ms) (streams-long ms)
+  where
+    opened-long : (v : Verdict) (ep : ℕ) (ups : List (Option Up)) → length ups ≡ 32 → length (opened_streams v ep ups) ≡ 32
+    opened-long (Now status) ep ups h = h
+    opened-long (Wire pipe) ep ups h = h
+    opened-long (Routed r) ep ups h = length-map ups (unless (is_ended (Some r))) ∙ h
+    opened-long (IsoOut row) ep ups h = raised-long (stream_at ups ep)
+      where
+        raised-long : (o : Option Up) → length (raised ups (record { ep = ep; row = row }) o) ≡ 32
+        raised-long None = length-set ups (endpoint_index ep) (Some (record { ep = ep; row = row })) ∙ h
+        raised-long (Some up) = h
+    opened-long (Stream row) ep ups h = h
+
+    lower-long : (b : Bool) (ep : ℕ) (ups : List (Option Up)) → length ups ≡ 32 → length (cond b (set ups (endpoint_index ep) None) ups) ≡ 32
+    lower-long true ep ups h = length-set ups (endpoint_index ep) None ∙ h
+    lower-long false ep ups h = h
+
+    moved-long : (e : Effect) (ups : List (Option Up)) → length ups ≡ 32 → length (moved_streams e ups) ≡ 32
+    moved-long (Opens s) ups h = opened-long s.verdict s.request.transfer.ep ups h
+    moved-long (StreamTold id ep status) ups h = elim (is_success status) as (λ b. length (cond b ups (lower_at ep ups)) ≡ 32) [ true ↦ h | false ↦ lower-long (nat_lt (ep % 128) 16) ep ups h ]
+    moved-long _ ups h = h
+
+    after-long : (e : Effect) (ups : List (Option Up)) → length ups ≡ 32 → length (streams_after e ups) ≡ 32
+    after-long e ups h = elim (leaves e || is_loss e) as (λ b. length (cond b no_streams (moved_streams e ups)) ≡ 32) [ true ↦ refl | false ↦ moved-long e ups h ]
+
+few-flying : (ms : List Mark) → Sound ms → length (in_flight ms) ≤ 8256
+few-flying ms s =
+    omega (arith, length-append (ids_of (live ms) ++ ids_of (abandoned ms)) (call_ids (calls ms)), length-append (ids_of (live ms)) (ids_of (abandoned ms)), length-ids (live ms), length-ids (abandoned ms), few-ids (calls ms) (calls-long ms), s.few, s.left)
 
 large : (wide : Bool) → 4294967295 ≤ greatest wide
 large true = omega arith
@@ -96,15 +140,36 @@ fresh-ids first ms n s short =
     draws-fresh (greatest (wide_ids (state_of first ms).agreed)) (flying (state_of first ms)) (state_of first ms).last n
     (omega (arith, large (wide_ids (state_of first ms).agreed), few-flying ms s, ap length (flying-is first ms), short))
 
-last-all : (P : ℕ → Type 0) (id : ℕ) (ids : List ℕ) → P id → AllByRecursion P ids → P (last_of id ids)
-last-all P id [] here all = here
-last-all P id (x ∷ xs) here all = last-all P x xs all.0 all.1
+-- ---- ids that are fresh are there once, and not among those in flight
 
-free-drawn : (first : ℕ) (ms : List Mark) (id : ℕ) → Sound ms → IsDrawn (state_of first ms) id → holds (in_flight ms) id ≡ false
-free-drawn first ms id s d =
-    let all = (fresh-ids first ms (suc d.more) s (omega (arith, d.few))).free in
-    subst (λ (ids : List ℕ). holds ids id ≡ false) (flying-is first ms)
-    (subst (λ (i : ℕ). holds (flying (state_of first ms)) i ≡ false) (sym d.is) (last-all (λ i. holds (flying (state_of first ms)) i ≡ false) _ _ all.0 all.1))
+times-apart : (q : ℕ) (ids : List ℕ) → AllByRecursion (λ x. eqb q x ≡ false) ids → times q ids ≡ 0
+times-apart q [] all = refl
+times-apart q (x ∷ xs) all = rw all.0 (omega (arith, times-apart q xs all.1))
+
+times-distinct : (q : ℕ) (ids : List ℕ) → IsDistinct nat_eq ids → times q ids ≤ 1
+unfolding IsDistinct
+times-distinct q [] d = omega arith
+times-distinct q (x ∷ xs) d = by (times-distinct q xs d.1) (eqb q x) refl
+  where
+    by : times q xs ≤ 1 → (b : Bool) → eqb q x ≡ b → one b + times q xs ≤ 1
+    by rest true same = let i : q ≡ x = grind (arith, nat_tests) in let none : times q xs ≡ 0 = rw i (times-apart x xs d.0) in omega arith
+    by rest false other = omega arith
+
+times-free : (held : List ℕ) (q : ℕ) (ids : List ℕ) → AllByRecursion (λ id. holds held id ≡ false) ids → holds held q ≡ true → times q ids ≡ 0
+times-free held q [] all here = refl
+times-free held q (x ∷ xs) all here = by (times-free held q xs all.1 here) (eqb q x) refl
+  where
+    by : times q xs ≡ 0 → (b : Bool) → eqb q x ≡ b → one b + times q xs ≡ 0
+    by rest true same = let i : x ≡ q = grind (arith, nat_tests) in absurd (false≢true (sym (rw i at all.0) ∙ here))
+    by rest false other = omega arith
+
+-- so adding them keeps each once
+still-once : (m q : ℕ) (flying ids : List ℕ) (n : ℕ) → AreFresh m flying ids → times q flying ≤ 1 → n ≤ times q flying + times q ids → n ≤ 1
+still-once m q flying ids n fresh once few =
+    elim (cases_Bool (holds flying q)) [
+      | inl here ↦ omega (arith, times-free flying q ids fresh.free here)
+      | inr free ↦ omega (arith, times-none q flying free, times-distinct q ids fresh.differ)
+    ]
 
 -- ---- an import is nothing else
 
@@ -121,6 +186,7 @@ alone (Unbuilt s place) h = absurd (false≢true h)
 alone (Unlinks by target) h = absurd (false≢true h)
 alone (Agrees caps) h = absurd (false≢true h)
 alone (Answers id outcome) h = absurd (false≢true h)
+alone (StreamTold id ep status) h = absurd (false≢true h)
 alone (Disconnects id) h = absurd (false≢true h)
 alone (Ends side) h = absurd (false≢true h)
 alone (Refuses r) h = absurd (false≢true h)
@@ -145,9 +211,149 @@ filter-same-twice ss q =
     (filter-twice (λ s. goes_by_id s.verdict) (λ s. goes_by_id s.verdict) ss
     ∙ filter-same (λ s. both (goes_by_id s.verdict) (goes_by_id s.verdict)) (λ s. goes_by_id s.verdict) ss (every (λ s. both (goes_by_id s.verdict) (goes_by_id s.verdict) ≡ goes_by_id s.verdict) (λ s. both-same (goes_by_id s.verdict)) ss))
 
+-- ---- the ids that an effect adds to those in flight are some that it draws
+
+few-route : (r : Route) → length (route_packets r) ≤ 2
+few-route (route.SetConfig configuration) = omega arith
+few-route route.GetConfig = omega arith
+few-route (route.SetAlt interface alt) = omega arith
+few-route (route.GetAlt interface) = omega arith
+few-route route.Reset = omega arith
+few-route route.Local = omega arith
+few-route route.Plain = omega arith
+few-route route.Bad = omega arith
+
+record Adds (st : State) (e : Effect) : Type 0 where
+  count : ℕ
+  few : count ≤ 1025
+  adds : (q : ℕ) → times q (ids_of (filter (λ t. is_none (ends e t)) (opened e))) + times q (call_ids (called (zip (drawn_by st e) (asked_packets st.streams e)) st.calls))
+      ≤ times q (call_ids st.calls) + times q (next_ids st count)
+
+no-more : (st : State) (e : Effect) → opened e ≡ [] → asked_packets st.streams e ≡ [] → Adds st e
+no-more st e nil silent = record {
+  count = 0;
+  few = omega arith;
+  adds = λ q.
+      let a : times q (ids_of (filter (λ t. is_none (ends e t)) (opened e))) ≡ 0 = ap (λ (l : List Submission). times q (ids_of (filter (λ t. is_none (ends e t)) l))) nil in
+      let b : times q (call_ids (called (zip (drawn_by st e) (asked_packets st.streams e)) st.calls)) ≡ times q (call_ids st.calls) =
+      ap (λ (ps : List RedirPacket). times q (call_ids (called (zip (next_ids st (length ps)) ps) st.calls))) silent in
+      omega (arith, a, b);
+}
+
+-- with its client gone
+all-stops : (st : State) (e : Effect) → length st.streams ≡ 32 → ids_of (filter (λ t. is_none (ends e t)) (opened e)) ≡ [] → asked_packets st.streams e ≡ stops (is_ended None) st.streams → Adds st e
+all-stops st e long none are = record {
+  count = length (asked_packets st.streams e);
+  few = omega (arith, ap length are, few-stops (is_ended None) st.streams, long);
+  adds = λ q. omega (arith, ap (times q) none, times-called q (drawn_by st e) (asked_packets st.streams e) st.calls);
+}
+
+side-stops : (st : State) (e : Effect) (b : Bool) → length st.streams ≡ 32 → opened e ≡ [] → asked_packets st.streams e ≡ cond b (stops (is_ended None) st.streams) [] → Adds st e
+side-stops st e true long nil are = all-stops st e long (ap (λ (l : List Submission). ids_of (filter (λ t. is_none (ends e t)) l)) nil) are
+side-stops st e false long nil are = no-more st e nil are
+
+one-kept : (e : Effect) (s : Submission) (q : ℕ) → times q (ids_of (filter (λ t. is_none (ends e t)) (s ∷ []))) ≤ times q (ids_of (s ∷ []))
+one-kept e s q = times-filter q (λ t. is_none (ends e t)) (s ∷ [])
+
+none-by-id : (s : Submission) → goes_by_id s.verdict ≡ false → ids_of (s ∷ []) ≡ []
+none-by-id s e = ap (λ (b : Bool). map (λ (t : Submission). t.id) (cond b (s ∷ []) [])) e
+
+lives-on : (b : Bool) → is_none (cond {A = Option End} b None None) ≡ true
+lives-on true = refl
+lives-on false = refl
+
+opens-more : (st : State) (s : Submission) (v : Verdict) → length st.streams ≡ 32 → HasRoute v →
+    (is_none (ends (Opens (record s { verdict = v })) (record s { verdict = v })) ≡ true → goes_by_id v ≡ true → s.id ≡ last_of 0 (drawn_for st s.request v)) → Adds st (Opens (record s { verdict = v }))
+opens-more st s (Now status) long some drawn = record {
+  count = 0;
+  few = omega arith;
+  adds = λ q. omega (arith, one-kept (Opens (record s { verdict = Now status })) (record s { verdict = Now status }) q);
+}
+opens-more st s (Stream row) long some drawn = record {
+  count = 0;
+  few = omega arith;
+  adds = λ q. omega (arith, one-kept (Opens (record s { verdict = Stream row })) (record s { verdict = Stream row }) q);
+}
+opens-more st s (Wire pipe) long some drawn = record {
+  count = 1;
+  few = omega arith;
+  adds = λ q.
+      let id : s.id ≡ last_of 0 (next_ids st 1) = drawn (lives-on (eqb s.place s.place)) refl in
+      let own : times q (s.id ∷ []) ≡ times q (next_ids st 1) = ap (λ (n : ℕ). times q (n ∷ [])) id in
+      let same : times q (call_ids (called (zip (next_ids st 1) (wire_packet pipe s.request.transfer ∷ [])) st.calls)) ≡ times q (call_ids st.calls) =
+      ap (λ (c : Calls). times q (call_ids c)) (called-silent (next_ids st 1) (wire_packet pipe s.request.transfer ∷ []) st.calls (wire-silent pipe s.request.transfer, tt)) in
+      omega (arith, one-kept (Opens (record s { verdict = Wire pipe })) (record s { verdict = Wire pipe }) q, own, same);
+}
+opens-more st s (IsoOut row) long some drawn =
+    let start = starts (stream_at st.streams s.request.transfer.ep) s.request.transfer.ep row in
+    let isos = iso_packets s.request in
+    let m = greatest (wide_ids st.agreed) in
+    let f = flying st in
+    record {
+      count = length start;
+      few = omega (arith, few-starts (stream_at st.streams s.request.transfer.ep) s.request.transfer.ep row);
+      adds = λ q.
+          let parts = ap (λ (ps : List (ℕ × RedirPacket)). times q (call_ids (called ps st.calls))) (zip-append m f st.last start isos)
+          ∙ ap (λ (c : Calls). times q (call_ids c)) (called-append (zip (next_ids st (length start)) start) (zip (draws m f (last_of st.last (next_ids st (length start))) (length isos)) isos) st.calls
+          ∙ called-silent (draws m f (last_of st.last (next_ids st (length start))) (length isos)) isos (called (zip (next_ids st (length start)) start) st.calls) (iso-silent s.request)) in
+          omega (arith, one-kept (Opens (record s { verdict = IsoOut row })) (record s { verdict = IsoOut row }) q, parts, times-called q (next_ids st (length start)) start st.calls);
+    }
+opens-more st s (Routed r) long some drawn =
+    let stopping = stops (is_ended (Some r)) st.streams in
+    let asking = route_packets r in
+    let m = greatest (wide_ids st.agreed) in
+    let f = flying st in
+    let first = next_ids st (length stopping) in
+    let later = draws m f (last_of st.last first) (length asking) in
+    record {
+      count = length (stopping ++ asking);
+      few = omega (arith, length-append stopping asking, few-stops (is_ended (Some r)) st.streams, long, few-route r);
+      adds = λ q.
+          let all : next_ids st (length (stopping ++ asking)) ≡ first ++ later = draws-append m f st.last stopping asking in
+          let parts = ap (λ (ps : List (ℕ × RedirPacket)). times q (call_ids (called ps st.calls))) (zip-append m f st.last stopping asking)
+          ∙ ap (λ (c : Calls). times q (call_ids c)) (called-append (zip first stopping) (zip later asking) st.calls ∙ called-silent later asking (called (zip first stopping) st.calls) (route-silent r)) in
+          let id : s.id ≡ last_of (last_of 0 first) later = drawn (lives-on (eqb s.place s.place)) refl ∙ ap (last_of 0) all ∙ last-append 0 first later in
+          let own : times q (s.id ∷ []) ≡ times q (last_of (last_of 0 first) later ∷ []) = ap (λ (n : ℕ). times q (n ∷ [])) id in
+          let long : length later ≡ length asking = length-draws m f (last_of st.last first) (length asking) in
+          let last = times-last q (last_of 0 first) later (omega (arith, long, some)) in
+          let both_parts : times q (next_ids st (length (stopping ++ asking))) ≡ times q first + times q later = ap (times q) all ∙ times-append q first later in
+          omega (arith, one-kept (Opens (record s { verdict = Routed r })) (record s { verdict = Routed r }) q, own, parts, times-called q first stopping st.calls, last, both_parts);
+    }
+
+more : (st : State) (e : Effect) → length st.streams ≡ 32 → IsOpening st e → Adds st e
+more st (Opens s) long o = opens-more st s s.verdict long o.routes.0 o.drawn.0
+more st (Unbuilt s place) long o = all-stops st (Unbuilt s place) long refl refl
+more st (Ends side) long o = side-stops st (Ends side) (is_client side) long refl (either (is_client side) (stops (is_ended None) st.streams))
+  where
+    either : (b : Bool) (ps : List RedirPacket) → cond (b || false) ps [] ≡ cond b ps []
+    either true ps = refl
+    either false ps = refl
+more st (Refuses r) long o = side-stops st (Refuses r) (is_client r.side) long refl refl
+more st Idle long o = no-more st Idle refl refl
+more st (Replies reply) long o = no-more st (Replies reply) refl refl
+more st (Imports reply) long o = no-more st (Imports reply) refl refl
+more st (Unlinks by target) long o = no-more st (Unlinks by target) refl refl
+more st (Agrees caps) long o = no-more st (Agrees caps) refl refl
+more st (Answers id outcome) long o = no-more st (Answers id outcome) refl refl
+more st (StreamTold id ep status) long o = no-more st (StreamTold id ep status) refl refl
+more st (Disconnects id) long o = no-more st (Disconnects id) refl refl
+
 -- ---- one item
 
-module _ (first : ℕ) (ms : List Mark) (m : Mark) (w : IsWell (m ∷ ms)) (o : IsOpening (state_of first ms) m.what) (s : Sound ms) where
+module _ (first : ℕ) (ms : List Mark) (m : Mark) (w : IsWell (m ∷ ms)) (o : IsOpening (state_of first ms) m.what) (d : m.drawn ≡ drawn_by (state_of first ms) m.what) (s : Sound ms) where
+  -- at most those in flight, and some that were drawn
+  kept-once : (q n : ℕ) → n + times q (ids_of (filter (λ t. is_none (ends m.what t)) (opened m.what))) + times q (call_ids (calls (m ∷ ms))) ≤
+      times q (ids_of (live ms) ++ ids_of (abandoned ms)) + times q (ids_of (filter (λ t. is_none (ends m.what t)) (opened m.what))) + times q (call_ids (calls (m ∷ ms))) →
+      n + times q (ids_of (filter (λ t. is_none (ends m.what t)) (opened m.what))) + times q (call_ids (calls (m ∷ ms))) ≤ 1
+  kept-once q n few =
+      let a = more (state_of first ms) m.what (streams-long ms) o in
+      let fresh = fresh-ids first ms a.count s a.few in
+      let drawn : times q (call_ids (calls (m ∷ ms))) ≡ times q (call_ids (called (zip (drawn_by (state_of first ms) m.what) (asked_packets (streams ms) m.what)) (calls ms))) =
+      ap (λ (ids : List ℕ). times q (call_ids (called (zip ids (asked_packets (streams ms) m.what)) (calls ms)))) d in
+      let same = ap (times q) (flying-is first ms) in
+      let parts = times-append q (ids_of (live ms) ++ ids_of (abandoned ms)) (call_ids (calls ms)) in
+      still-once (greatest (wide_ids (state_of first ms).agreed)) q (flying (state_of first ms)) (next_ids (state_of first ms) a.count) _ fresh (omega (arith, same, s.once q)) (omega (arith, few, a.adds q, drawn, same, parts))
+
   keeps : Submission → Bool
   keeps t = is_none (ends m.what t)
 
@@ -181,12 +387,14 @@ module _ (first : ℕ) (ms : List Mark) (m : Mark) (w : IsWell (m ∷ ms)) (o : 
         gone = λ k. empty;
         once = λ q.
             let a = times-append q (ids_of (live ms)) (ids_of (abandoned ms)) in
-            let b = times-append q (ids_of (live (m ∷ ms))) (ids_of (abandoned (m ∷ ms))) in
+            let b = times-append q (ids_of (live (m ∷ ms)) ++ ids_of (abandoned (m ∷ ms))) (call_ids (calls (m ∷ ms))) in
+            let b' = times-append q (ids_of (live (m ∷ ms))) (ids_of (abandoned (m ∷ ms))) in
             let c : times q (ids_of (live (m ∷ ms))) ≡ 0 = ap (λ (l : List Submission). times q (ids_of l)) empty in
-            let d : times q (ids_of (abandoned (m ∷ ms))) ≡ times q (ids_of (abandoned ms ++ filter (λ t. goes_by_id t.verdict) (live ms))) = ap (λ (l : List Submission). times q (ids_of l)) rest in
+            let d' : times q (ids_of (abandoned (m ∷ ms))) ≡ times q (ids_of (abandoned ms ++ filter (λ t. goes_by_id t.verdict) (live ms))) = ap (λ (l : List Submission). times q (ids_of l)) rest in
             let e = times-ids q (abandoned ms) (filter (λ (t : Submission). goes_by_id t.verdict) (live ms)) in
             let f = filter-same-twice (live ms) q in
-            omega (arith, s.once q, a, b, c, d, e, f);
+            let k = kept-once q (times q (ids_of (abandoned (m ∷ ms)))) (omega (arith, a, d', e, f)) in
+            omega (arith, b, b', c, k);
       }
 
   sound-loses : leaves m.what ≡ false → is_loss m.what ≡ true → Sound (m ∷ ms)
@@ -200,10 +408,12 @@ module _ (first : ℕ) (ms : List Mark) (m : Mark) (w : IsWell (m ∷ ms)) (o : 
         apart = λ k. rest;
         gone = λ k. empty;
         once = λ q.
-            let b = times-append q (ids_of (live (m ∷ ms))) (ids_of (abandoned (m ∷ ms))) in
+            let b = times-append q (ids_of (live (m ∷ ms)) ++ ids_of (abandoned (m ∷ ms))) (call_ids (calls (m ∷ ms))) in
+            let b' = times-append q (ids_of (live (m ∷ ms))) (ids_of (abandoned (m ∷ ms))) in
             let c : times q (ids_of (live (m ∷ ms))) ≡ 0 = ap (λ (l : List Submission). times q (ids_of l)) empty in
-            let d : times q (ids_of (abandoned (m ∷ ms))) ≡ 0 = ap (λ (l : List Submission). times q (ids_of l)) rest in
-            omega (arith, b, c, d);
+            let d' : times q (ids_of (abandoned (m ∷ ms))) ≡ 0 = ap (λ (l : List Submission). times q (ids_of l)) rest in
+            let k = kept-once q 0 (omega arith) in
+            omega (arith, b, b', c, d', k);
       }
 
   -- the new one finds room, and its id is free
@@ -216,25 +426,6 @@ module _ (first : ℕ) (ms : List Mark) (m : Mark) (w : IsWell (m ∷ ms)) (o : 
       by true e = let h = r.0 e in omega arith
       by false e = omega (arith, s.few)
   room-kept (t ∷ u ∷ os) a r = absurd a
-
-  free-kept : (q : ℕ) (os : List Submission) → AtMostOne os → Each (λ t. keeps t ≡ true → goes_by_id t.verdict ≡ true → IsDrawn (state_of first ms) t.id) os →
-      times q (ids_of (filter keeps os)) + times q (in_flight ms) ≤ 1
-  unfolding keeps own
-  free-kept q [] a d = omega (arith, s.once q)
-  free-kept q (t ∷ []) a d = by (is_none (ends m.what t)) refl
-    where
-      free : goes_by_id t.verdict ≡ true → is_none (ends m.what t) ≡ true → (b : Bool) → eqb q t.id ≡ b → one b + times q (in_flight ms) ≤ 1
-      free g e true same = let z = free-drawn first ms t.id s (d.0 e g) in let i : q ≡ t.id = grind (arith, nat_tests) in let y = times-none t.id (in_flight ms) z in let x : times q (in_flight ms) ≡ 0 = rw i y in omega arith
-      free g e false other = omega (arith, s.once q)
-
-      kind : (g : Bool) → goes_by_id t.verdict ≡ g → is_none (ends m.what t) ≡ true → one (g && eqb q t.id) + times q (in_flight ms) ≤ 1
-      kind true g e = free g e (eqb q t.id) refl
-      kind false g e = omega (arith, s.once q)
-
-      by : (b : Bool) → is_none (ends m.what t) ≡ b → times q (ids_of (cond b (t ∷ []) [])) + times q (in_flight ms) ≤ 1
-      by true e = let c = times-cons q t [] in let k = kind (goes_by_id t.verdict) refl e in omega (arith, c, k)
-      by false e = omega (arith, s.once q)
-  free-kept q (t ∷ u ∷ os) a d = absurd a
 
   none-opened : (os : List Submission) → Each (λ t. imported ms ≡ true) os → imported ms ≡ false → os ≡ []
   none-opened [] h k = refl
@@ -272,14 +463,15 @@ module _ (first : ℕ) (ms : List Mark) (m : Mark) (w : IsWell (m ∷ ms)) (o : 
             ];
         once = λ q.
             let a = times-append q (ids_of (live ms)) (ids_of (abandoned ms)) in
-            let b = times-append q (ids_of (live (m ∷ ms))) (ids_of (abandoned (m ∷ ms))) in
+            let b = times-append q (ids_of (live (m ∷ ms)) ++ ids_of (abandoned (m ∷ ms))) (call_ids (calls (m ∷ ms))) in
+            let b' = times-append q (ids_of (live (m ∷ ms))) (ids_of (abandoned (m ∷ ms))) in
             let c : times q (ids_of (live (m ∷ ms))) ≡ times q (ids_of (filter (λ t. is_none (ends m.what t)) (live ms) ++ filter (λ t. is_none (ends m.what t)) (opened m.what))) = ap (λ (l : List Submission). times q (ids_of l)) (kept ∙ parts) in
-            let d = times-ids q (filter (λ t. is_none (ends m.what t)) (live ms)) (filter (λ t. is_none (ends m.what t)) (opened m.what)) in
+            let d' = times-ids q (filter (λ t. is_none (ends m.what t)) (live ms)) (filter (λ t. is_none (ends m.what t)) (opened m.what)) in
             let e = times-filter q (λ t. is_none (ends m.what t)) (live ms) in
             let f : times q (ids_of (abandoned (m ∷ ms))) ≡ times q (ids_of (filter (λ t. not (is_answered m.what t)) (abandoned ms))) = ap (λ (l : List Submission). times q (ids_of l)) rest in
             let g = times-filter q (λ t. not (is_answered m.what t)) (abandoned ms) in
-            let j = free-kept q (opened m.what) (opened-one m.what) o.drawn in
-            omega (arith, a, b, c, d, e, f, g, j);
+            let k = kept-once q (times q (ids_of (filter (λ t. is_none (ends m.what t)) (live ms))) + times q (ids_of (abandoned (m ∷ ms)))) (omega (arith, a, e, f, g)) in
+            omega (arith, b, b', c, d', k);
       }
 
   sound-after : Sound (m ∷ ms)
@@ -296,7 +488,7 @@ sound first [] = record { few = omega arith; left = omega arith; apart = λ e. r
 sound first (x ∷ xs) =
     elim (is_left_out (state_of first (past first xs)) x) as (λ b. Sound (cond b (past first xs) (mark_of (state_of first (past first xs)) x ∷ past first xs))) [
       | true ↦ sound first xs
-      | false ↦ sound-after first (past first xs) (mark_of (state_of first (past first xs)) x) (placed-meaning (state_of first (past first xs)) x, well first xs) (opening-meaning (state_of first (past first xs)) x) (sound first xs)
+      | false ↦ sound-after first (past first xs) (mark_of (state_of first (past first xs)) x) (placed-meaning (state_of first (past first xs)) x, well first xs) (opening-meaning (state_of first (past first xs)) x) refl (sound first xs)
     ]
 
 pub flights-once : (first : ℕ) (xs : List Item) → Once (in_flight (past first xs))
@@ -304,33 +496,83 @@ flights-once first xs = (sound first xs).once
 
 -- ---- what an item draws
 
--- the packets of an item are few
-few-packets : (v : Verdict) (t : Transfer) → length (packets_of v t) ≤ 2
-few-packets (Now status) t = omega arith
-few-packets (Wire pipe) t = omega arith
-few-packets (Routed r) t = few-routed r
-  where
-    few-routed : (r : Route) → length (route_packets r) ≤ 2
-    few-routed (route.SetConfig configuration) = omega arith
-    few-routed route.GetConfig = omega arith
-    few-routed (route.SetAlt interface alt) = omega arith
-    few-routed (route.GetAlt interface) = omega arith
-    few-routed route.Reset = omega arith
-    few-routed route.Local = omega arith
-    few-routed route.Plain = omega arith
-    few-routed route.Bad = omega arith
-few-packets IsoOut t = omega arith
-few-packets (Stream row) t = omega arith
+-- a submit has few descriptors
+few-packets : (ups : List (Option Up)) (v : Verdict) (r : Request) → length ups ≡ 32 → length r.descs ≤ 1024 → length (packets_of ups v r) ≤ 1025
+few-packets ups (Now status) r long few = omega arith
+few-packets ups (Wire pipe) r long few = omega arith
+few-packets ups (Routed route) r long few = omega (arith, length-append (stops (is_ended (Some route)) ups) (route_packets route), few-stops (is_ended (Some route)) ups, long, few-route route)
+few-packets ups (IsoOut row) r long few =
+    omega (arith, length-append (starts (stream_at ups r.transfer.ep) r.transfer.ep row) (iso_packets r), few-starts (stream_at ups r.transfer.ep) r.transfer.ep row, length-map r.descs (iso_packet r.transfer.ep r.transfer.body), few)
+few-packets ups (Stream row) r long few = omega arith
 
 none-fresh : (m : ℕ) (flying : List ℕ) → AreFresh m flying []
 unfolding IsDistinct
 none-fresh m flying = record { fit = tt; free = tt; differ = tt }
 
-drawn-fresh : (first : ℕ) (ms : List Mark) (e : Effect) → Sound ms → AreFresh (greatest (wide_ids (state_of first ms).agreed)) (flying (state_of first ms)) (drawn_by (state_of first ms) e)
-drawn-fresh first ms (Opens t) s = fresh-ids first ms (length (packets_of t.verdict t.request.transfer)) s (omega (arith, few-packets t.verdict t.request.transfer))
-drawn-fresh first ms _ s = none-fresh _ _
+drawn-fresh : (first : ℕ) (ms : List Mark) (e : Effect) → Sound ms → Each (λ t. length t.request.descs ≤ 1024) (opened e) → AreFresh (greatest (wide_ids (state_of first ms).agreed)) (flying (state_of first ms)) (drawn_by (state_of first ms) e)
+drawn-fresh first ms (Opens t) s few = fresh-ids first ms (length (packets_of (streams ms) t.verdict t.request)) s (few-packets (streams ms) t.verdict t.request (streams-long ms) few.0)
+drawn-fresh first ms (Unbuilt t place) s few = fresh-ids first ms (length (stops (is_ended None) (streams ms))) s (omega (arith, few-stops (is_ended None) (streams ms), streams-long ms))
+drawn-fresh first ms (Ends side) s few = fresh-ids first ms (length (asked_packets (streams ms) (Ends side))) s (few-left (is_client side || false))
+  where
+    few-left : (b : Bool) → length (cond b (stops (is_ended None) (streams ms)) []) ≤ 1025
+    few-left true = omega (arith, few-stops (is_ended None) (streams ms), streams-long ms)
+    few-left false = omega arith
+drawn-fresh first ms (Refuses r) s few = fresh-ids first ms (length (asked_packets (streams ms) (Refuses r))) s (few-left (is_client r.side))
+  where
+    few-left : (b : Bool) → length (cond b (stops (is_ended None) (streams ms)) []) ≤ 1025
+    few-left true = omega (arith, few-stops (is_ended None) (streams ms), streams-long ms)
+    few-left false = omega arith
+drawn-fresh first ms _ s few = none-fresh _ _
 
-pub item-fresh : (first : ℕ) (xs : List Item) (x : Item) → AreFresh (greatest (wide_ids (state_of first (past first xs)).agreed)) (in_flight (past first xs)) (mark_of (state_of first (past first xs)) x).drawn
-item-fresh first xs x =
+-- what is accepted is a packet's request
+abbrev OpensFew : Effect → Type 0
+OpensFew e = Each (λ t. length t.request.descs ≤ 1024) (opened e)
+
+either : (b : Bool) (e f : Effect) → OpensFew e → OpensFew f → OpensFew (cond b e f)
+either true e f h k = h
+either false e f h k = k
+
+few-import : (st : State) (o : Option Connect) → OpensFew (imported_as st o)
+few-import st None = tt
+few-import st (Some c) = tt
+
+few-op : (st : State) (place : ℕ) (p : OpPacket) → OpensFew (op_meaning st place p)
+few-op st place (op.ReqDevlist status) = either st.imported _ _ tt tt
+few-op st place (op.ReqImport status busid) = either st.imported _ _ tt (few-import st (importable st busid))
+few-op st place (op.RepDevlist status devices) = tt
+few-op st place (op.RepImport status device) = tt
+
+few-answered : (id : ℕ) (o : Outcome) (r : Option Refusal) → OpensFew (answered_as id o r)
+few-answered id o None = tt
+few-answered id o (Some r) = tt
+
+few-answer : (st : State) (place : ℕ) (h : Header) (response : Response) (s : Option Submission) → OpensFew (answer_to st place h response s)
+few-answer st place h response None = tt
+few-answer st place h response (Some s) = few-answered h.id _ _
+
+few-response : (st : State) (place : ℕ) (h : Header) (response : Option Response) → OpensFew (by_response st place h response)
+few-response st place h None = tt
+few-response st place h (Some response) = few-answer st place h response _
+
+few-told : (st : State) (place : ℕ) (h : Header) (p : RedirPacket) → OpensFew (told_meaning st place h p)
+few-told st place h (Plain (plain.Hello hello)) = tt
+few-told st place h (Plain plain.Disconnect) = tt
+few-told st place h p = few-response st place h (response_of p)
+
+few-opened : (st : State) (x : Item) → HasFewPackets x → OpensFew (meaning st x)
+few-opened st (Asked place (Op p)) few = few-op st place p
+few-opened st (Asked place (Urb (urb.Submit s))) few =
+    either (not st.imported) _ _ tt (either (has_number st s.head.seqnum) _ _ tt (either (is_built (verdict_of st (request_of s))) _ _ (few, tt) (few, tt)))
+few-opened st (Asked place (Urb (urb.Unlink u))) few = either (not st.imported) _ _ tt tt
+few-opened st (Asked place (Urb (urb.RetSubmit r))) few = tt
+few-opened st (Asked place (Urb (urb.RetUnlink r))) few = tt
+few-opened st (ClientWrong place reason) few = tt
+few-opened st ClientLeft few = tt
+few-opened st (Told place header packet) few = few-told st place header packet
+few-opened st (HostWrong place reason) few = tt
+few-opened st HostLeft few = tt
+
+pub item-fresh : (first : ℕ) (xs : List Item) (x : Item) → HasFewPackets x → AreFresh (greatest (wide_ids (state_of first (past first xs)).agreed)) (in_flight (past first xs)) (mark_of (state_of first (past first xs)) x).drawn
+item-fresh first xs x few =
     subst (λ (ids : List ℕ). AreFresh (greatest (wide_ids (state_of first (past first xs)).agreed)) ids (mark_of (state_of first (past first xs)) x).drawn) (flying-is first (past first xs))
-    (drawn-fresh first (past first xs) (meaning (state_of first (past first xs)) x) (sound first xs))
+    (drawn-fresh first (past first xs) (meaning (state_of first (past first xs)) x) (sound first xs) (few-opened (state_of first (past first xs)) x few))

@@ -1,21 +1,29 @@
 -- The ids in flight of what is kept are those of the state.
-use Rattle.std.proofs.Common.{◌≡◌, ℕ, ◌-◌, ◌≤◌, take, get_or, length, ◌==◌, ◌||◌, Bool, true, false, cond, List, [], ◌∷◌, ◌++◌, map, None, refl, sym, ap, ◌∙◌, arith}
-use Rattle.std.specs.Prelude.{filter}
+use Rattle.std.proofs.Common.{◌≡◌, ℕ, ◌-◌, ◌≤◌, take, get_or, length, ◌==◌, ◌||◌, Bool, true, false, cond, List, [], ◌∷◌, ◌++◌, map, Option, None, refl, sym, ap, ◌∙◌, append_assoc, arith}
+use Rattle.std.specs.Prelude.{filter, zip}
 use Rattle.unlink_race.specs.declared.live.Live.{Live}
-use Rattle.std.specs.List.{list_any}
+use Rattle.std.specs.List.{list_any, flat_map}
 use Rattle.unlink_race.specs.Searches.{goes_by_id as is_answered_by_id, is_change, changes as changes_row, has_number as has_number_row}
 use Rattle.control_route.specs.declared.route.Route.{Route}
 use Rattle.control_route.specs.declared.route.Route.TheVariants as route
-use Rattle.gate_core.specs.Ids.{draw, draws, last_of}
-use Rattle.gate_core.specs.Packets.{route_packets}
+use Rattle.gate_core.specs.Ids.{draw, draws, greatest, last_of}
+use Rattle.gate_core.specs.Packets.{stops, route_packets, asked_packets}
 use Rattle.gate_core.specs.declared.kept.Kept.{Kept}
 use Rattle.gate_core.specs.Verdict.{Verdict, Now, Wire, Routed, IsoOut, Stream, goes_by_id, changes}
 use Rattle.gate_core.specs.Marks.{Submission}
 use Rattle.gate_core.specs.Submits.{Pending}
-use Rattle.gate_core.specs.Flight.{ids_of}
-use Rattle.gate_core.specs.State.{State, flying, is_number}
-use Rattle.gate_core.specs.inner.Flying.{row_ids, ids_in}
-use Rattle.gate_core.specs.inner.Rows.{kind_of, row, unmarked, left_row}
+use Rattle.gate_core.specs.Flight.{wide_ids, ids_of}
+use Rattle.redir_data.specs.declared.packet.RedirPacket.{RedirPacket}
+use Rattle.gate_core.specs.declared.streams.Called.{Called}
+use Rattle.gate_core.specs.Marks.{Effect}
+use Rattle.gate_core.specs.Ups.{is_ended}
+use Rattle.gate_core.specs.Calls.{called, call_ids, last_or}
+use Rattle.gate_core.specs.Meaning.{drawn_by}
+use Rattle.gate_core.specs.State.{State, flying, next_ids, is_number}
+use Rattle.gate_core.specs.inner.Flying.{row_ids}
+use Rattle.gate_core.specs.inner.Calling.{flying_in, ids_after, with_ids, stops_of, called_of, after_stops, bytes_of, HasParted}
+use Rattle.gate_core.specs.Bytes.{host_packet_bytes}
+use Rattle.gate_core.specs.inner.Rows.{kind_of, row, unmarked, left_row, cancel_bytes}
 use Rattle.gate_core.specs.inner.Holds.{Holds}
 use Rattle.gate_core.proofs.Left.{by_id-row}
 
@@ -44,9 +52,47 @@ ids-unmarked : (ls : List Live) → row_ids (map unmarked ls) ≡ row_ids ls
 ids-unmarked [] = refl
 ids-unmarked (l ∷ ls) = same-ids (is_answered_by_id l) l _ _ (ids-unmarked ls)
 
-pub flying-rows : (t : Kept) (st : State) → Holds t st → ids_in t.lives ≡ flying st
+pub flying-rows : (t : Kept) (st : State) → Holds t st → flying_in t ≡ flying st
 flying-rows t st h =
-    (λ i. (ap row_ids h.live ∙ ids-live st.live) i ++ (sym (ids-unmarked t.lives.abandoned) ∙ ap row_ids h.abandoned ∙ ids-left st.abandoned) i)
+    (λ i. ((ap row_ids h.live ∙ ids-live st.live) i ++ (sym (ids-unmarked t.lives.abandoned) ∙ ap row_ids h.abandoned ∙ ids-left st.abandoned) i) ++ call_ids (h.calls i))
+
+-- ---- what is drawn and sent of what is kept is that of the state
+
+module _ (t : Kept) (st : State) (h : Holds t st) where
+  pub draw-is : draw (greatest (wide_ids t.caps)) (flying_in t) t.last ≡ draw (greatest (wide_ids st.agreed)) (flying st) st.last
+  draw-is = λ i. draw (greatest (wide_ids (h.caps i))) (flying-rows t st h i) (h.last i)
+
+  pub ids-are : (ps qs : List RedirPacket) → ps ≡ qs → ids_after t t.last (length ps) ≡ next_ids st (length qs)
+  ids-are ps qs e = λ i. draws (greatest (wide_ids (h.caps i))) (flying-rows t st h i) (h.last i) (length (e i))
+
+  pub asked-are : (ps qs : List RedirPacket) → ps ≡ qs → with_ids t t.last ps ≡ zip (next_ids st (length qs)) qs
+  asked-are ps qs e = λ i. zip (draws (greatest (wide_ids (h.caps i))) (flying-rows t st h i) (h.last i) (length (e i))) (e i)
+
+  pub stops-are : (by : Option Route) → stops_of t by ≡ stops (is_ended by) st.streams
+  stops-are by = ap (stops (is_ended by)) h.streams
+
+  -- with its client gone
+  pub parts-are : (e : Effect) (c : Called) → asked_packets st.streams e ≡ stops (is_ended None) st.streams → c ≡ after_stops t (called_of t) (stops_of t None) → HasParted st e c
+  parts-are e c asked stopped =
+      let same : stops_of t None ≡ asked_packets st.streams e = stops-are None ∙ sym asked in
+      let ids : ids_after t t.last (length (stops_of t None)) ≡ drawn_by st e = ids-are (stops_of t None) (asked_packets st.streams e) same in
+      record {
+        calls = ap (λ (c : Called). c.calls) stopped ∙ (λ i. called (asked-are (stops_of t None) (asked_packets st.streams e) same i) (h.calls i));
+        last = ap (λ (c : Called). c.last) stopped ∙ (λ i. last_of (h.last i) (ids i));
+        fence = ap (λ (c : Called). c.fence) stopped ∙ (λ i. last_or (h.fence i) (ids i));
+      }
+
+  pub parts-sent : (e : Effect) → asked_packets st.streams e ≡ stops (is_ended None) st.streams → with_ids t t.last (stops_of t None) ≡ zip (drawn_by st e) (asked_packets st.streams e)
+  parts-sent e asked = asked-are (stops_of t None) (asked_packets st.streams e) (stops-are None ∙ sym asked)
+
+  -- behind what was sent before
+  pub leaving-sent : (e : Effect) → asked_packets st.streams e ≡ stops (is_ended None) st.streams → (old mid new : List ℕ) →
+      mid ≡ old ++ flat_map (cancel_bytes t.caps) t.lives.live →
+      new ≡ mid ++ bytes_of t t.last (stops_of t None) →
+      new ≡ old ++ (flat_map (cancel_bytes t.caps) t.lives.live ++ flat_map (host_packet_bytes t.caps) (zip (drawn_by st e) (asked_packets st.streams e)))
+  leaving-sent e asked old mid new a b =
+      b ∙ (λ i. a i ++ flat_map (host_packet_bytes t.caps) (parts-sent e asked i))
+      ∙ append_assoc old (flat_map (cancel_bytes t.caps) t.lives.live) (flat_map (host_packet_bytes t.caps) (zip (drawn_by st e) (asked_packets st.streams e)))
 
 -- ---- the ids of a route's packets, of two that are drawn in turn
 
@@ -71,16 +117,16 @@ route-id m f last route.Local some = absurd (omega arith)
 route-id m f last route.Plain some = absurd (omega arith)
 route-id m f last route.Bad some = absurd (omega arith)
 
--- where some are drawn, what was drawn before doesn't matter
-pub last-drawn : (m : ℕ) (f : List ℕ) (last : ℕ) (r : Route) (a b : ℕ) → 1 ≤ length (route_packets r) → last_of a (draws m f last (length (route_packets r))) ≡ last_of b (draws m f last (length (route_packets r)))
-last-drawn m f last (route.SetConfig configuration) a b some = refl
-last-drawn m f last route.GetConfig a b some = refl
-last-drawn m f last (route.SetAlt interface alt) a b some = refl
-last-drawn m f last (route.GetAlt interface) a b some = refl
-last-drawn m f last route.Reset a b some = refl
-last-drawn m f last route.Local a b some = absurd (omega arith)
-last-drawn m f last route.Plain a b some = absurd (omega arith)
-last-drawn m f last route.Bad a b some = absurd (omega arith)
+-- the last of them is one of the two
+pub route-one : (P : ℕ → Type 0) (a b : ℕ) (r : Route) → 1 ≤ length (route_packets r) → P a → P b → P (get_or (a ∷ b ∷ []) (length (route_packets r) - 1) 0)
+route-one P a b (route.SetConfig configuration) some h k = h
+route-one P a b route.GetConfig some h k = h
+route-one P a b (route.SetAlt interface alt) some h k = h
+route-one P a b (route.GetAlt interface) some h k = h
+route-one P a b route.Reset some h k = k
+route-one P a b route.Local some h k = absurd (omega arith)
+route-one P a b route.Plain some h k = absurd (omega arith)
+route-one P a b route.Bad some h k = absurd (omega arith)
 
 -- ---- what the searches of the rows find
 
@@ -88,7 +134,7 @@ change-row : (v : Verdict) (ep : ℕ) → is_change (kind_of v ep) ≡ changes v
 change-row (Now status) ep = refl
 change-row (Wire pipe) ep = refl
 change-row (Routed r) ep = refl
-change-row IsoOut ep = refl
+change-row (IsoOut r) ep = refl
 change-row (Stream r) ep = refl
 
 pub change-rows : (ps : List Pending) → list_any changes_row (map row ps) ≡ list_any (λ s. changes s.verdict) (map (λ (p : Pending). p.submit) ps)

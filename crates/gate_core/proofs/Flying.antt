@@ -1,5 +1,5 @@
 -- The ids of rows in flight.
-use Rattle.std.proofs.Common.{◌≡◌, ℕ, ◌+◌, ◌≤◌, ◌||◌, ◌&&◌, Bool, true, false, cond, not, eqb, List, [], ◌∷◌, length, map, filter, refl, sym, ap, ◌∙◌, arith}
+use Rattle.std.proofs.Common.{◌≡◌, ℕ, ◌+◌, ◌≤◌, ◌||◌, ◌&&◌, Bool, true, false, cond, not, eqb, List, [], ◌∷◌, ◌++◌, Option, Some, None, length, map, filter, refl, sym, ap, ◌∙◌, arith}
 use Rattle.std.specs.List.{list_any}
 use Rattle.std.proofs.lemmas.Bool.Decides.{nat_tests}
 use Rattle.std.proofs.lemmas.List.{length-append, length-map}
@@ -10,7 +10,12 @@ use Rattle.unlink_race.specs.declared.live.Live.{Live}
 use Rattle.unlink_race.specs.Requests.{Requests}
 use Rattle.unlink_race.specs.Searches.{has_id, goes_by_id}
 use Rattle.gate_core.specs.Ids.{holds, greatest, Fits}
+use Rattle.gate_core.specs.declared.streams.Calls.{Calls}
+use Rattle.gate_core.specs.Calls.{call_ids}
 use Rattle.gate_core.specs.inner.Flying.{row_ids, ids_in}
+use Rattle.gate_core.specs.inner.Calling.{is_id}
+use Rattle.gate_core.proofs.Called.{some}
+use Rattle.std.specs.Option.{option_to_list}
 
 swap : (a b : ℕ) → eqb a b ≡ eqb b a
 swap a b = grind (arith, nat_tests)
@@ -44,6 +49,25 @@ few-in r =
     let b = length-rows r.live in
     let c = length-rows r.abandoned in
     omega arith
+
+-- those of starts and stops, too
+
+holds-one : (id : ℕ) (o : Option ℕ) (rest : Bool) (ids : List ℕ) → rest ≡ holds ids id → (is_id id o || rest) ≡ holds (option_to_list o ++ ids) id
+holds-one id None rest ids e = e
+holds-one id (Some x) rest ids e = λ i. swap x id i || e i
+
+holds-some : (id : ℕ) (l : List (Option ℕ)) → list_any (is_id id) l ≡ holds (some l) id
+holds-some id [] = refl
+holds-some id (o ∷ l) = holds-one id o (list_any (is_id id) l) (some l) (holds-some id l)
+
+pub holds-calls : (id : ℕ) (c : Calls) → (list_any (is_id id) c.started || list_any (is_id id) c.stopped) ≡ holds (call_ids c) id
+holds-calls id c = (λ i. holds-some id c.started i || holds-some id c.stopped i) ∙ sym (list_any-append (eqb id) (some c.started) (some c.stopped))
+
+pub holds-all : (id : ℕ) (r : Requests) (c : Calls) → ((list_any (has_id id) r.live || list_any (has_id id) r.abandoned) || holds (call_ids c) id) ≡ holds (ids_in r ++ call_ids c) id
+holds-all id r c = ap (λ (b : Bool). b || holds (call_ids c) id) (holds-in id r) ∙ sym (list_any-append (eqb id) (ids_in r) (call_ids c))
+
+pub few-all : (r : Requests) (c : Calls) → length (ids_in r ++ call_ids c) ≤ length r.live + length r.abandoned + length (call_ids c)
+few-all r c = omega (arith, length-append (ids_in r) (call_ids c), few-in r)
 
 pub large : (wide : Bool) → 4294967295 ≤ greatest wide
 large true = omega arith

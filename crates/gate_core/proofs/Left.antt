@@ -1,5 +1,5 @@
 -- What a client's leaving makes of what is kept, and what it sends and tells.
-use Rattle.std.proofs.Common.{◌≡◌, ℕ, ◌+◌, ◌^◌, ◌-◌, ◌≤◌, ◌&&◌, Bool, true, false, cond, not, List, [], ◌∷◌, ◌++◌, length, map, Option, Some, None, refl, sym, ap, subst, ◌∙◌, arith}
+use Rattle.std.proofs.Common.{◌≡◌, ℕ, ◌+◌, ◌^◌, ◌-◌, ◌≤◌, ◌&&◌, ◌||◌, Bool, true, false, cond, not, List, [], ◌∷◌, ◌++◌, length, map, Option, Some, None, refl, sym, ap, subst, ◌∙◌, arith}
 use Rattle.std.specs.Prelude.{min, is_none, unwrap_or, filter, zip}
 use Rattle.std.specs.List.{flat_map}
 use Rattle.std.proofs.lemmas.List.{append-nil, map-append, length-append, length-map}
@@ -21,12 +21,18 @@ use Rattle.gate_core.specs.Marks.{Submission, Effect, Ends, Refuses, Unbuilt}
 use Rattle.gate_core.specs.Facts.{no_facts, tell}
 use Rattle.gate_core.specs.Sides.{refused_at, leaves, is_loss, closes_host, imports, refuses_client, ends_client, agrees, turned}
 use Rattle.gate_core.specs.Submits.{Pending, ByClient, ByLoss, opened, own_end, ends, is_answered}
-use Rattle.gate_core.specs.Ids.{last_of}
+use Rattle.std.proofs.lemmas.Grind.{flat_map-append}
+use Rattle.redir_data.specs.declared.packet.RedirPacket.{RedirPacket}
+use Rattle.gate_core.specs.declared.streams.Called.{Called}
+use Rattle.gate_core.specs.Ups.{no_streams, is_ended, moved_streams}
+use Rattle.gate_core.specs.Packets.{stops, asked_packets}
+use Rattle.gate_core.specs.Calls.{last_or, moved_fence}
+use Rattle.gate_core.specs.inner.Calling.{HasParted}
 use Rattle.gate_core.specs.State.{State, submits}
 use Rattle.gate_core.specs.Verdict.{Verdict, Now, Wire, Routed, IsoOut, Stream, is_wire, goes_by_id}
 use Rattle.gate_core.specs.Meaning.{mark_as, drawn_by}
 use Rattle.gate_core.specs.Answers.{answers_at}
-use Rattle.gate_core.specs.Output.{fresh, present, answered, replies, cancels, cancel, asked_packets, acknowledgements, to_client}
+use Rattle.gate_core.specs.Output.{fresh, present, answered, replies, cancels, cancel, acknowledgements, to_client}
 use Rattle.gate_core.specs.Notes.{when, import_notes, submit_notes, unlink_notes, answer_notes, is_by_answer, refusal_notes, is_by_client, dropped}
 use Rattle.gate_core.specs.All.{is_ret_submit, is_won_unlink}
 use Rattle.gate_core.specs.Bytes.{host_packet_bytes}
@@ -42,7 +48,7 @@ pub wire-row : (v : Verdict) (ep : ℕ) → is_wire_row (kind_of v ep) ≡ is_wi
 wire-row (Now status) ep = refl
 wire-row (Wire pipe) ep = refl
 wire-row (Routed r) ep = refl
-wire-row IsoOut ep = refl
+wire-row (IsoOut r) ep = refl
 wire-row (Stream r) ep = refl
 
 pub by_id-row : (s : Submission) (by : Option ℕ) → is_answered_by_id (row_of s by) ≡ goes_by_id s.verdict
@@ -52,7 +58,7 @@ by_id-row s by = of s.verdict
     of (Now status) = refl
     of (Wire pipe) = refl
     of (Routed r) = refl
-    of IsoOut = refl
+    of (IsoOut r) = refl
     of (Stream r) = refl
 
 -- what is left at the host
@@ -79,20 +85,24 @@ cancel-rows caps test h (p ∷ ps) =
     ]
 
 -- what is kept once the client is gone, but whether it is over; so many submits are dropped that were never live
-abbrev pub left_of : Kept → ℕ → Kept
-left_of old more = record old {
+abbrev pub left_of : Kept → Called → ℕ → Kept
+left_of old c more = record old {
   lives = record { live = []; abandoned = old.lives.abandoned ++ filter is_answered_by_id old.lives.live };
   imported = false;
+  streams = no_streams;
+  calls = c.calls;
+  fence = c.fence;
+  last = c.last;
   dropped = capped (old.dropped + (length old.lives.live + more));
 }
 
-pub left-none : (old new : Kept) → HasLeft old new → new ≡ left_of old 0
-left-none old new h = h.is ∙ ap (λ (n : ℕ). record (left_of old 0) { dropped = capped n }) (omega arith)
+pub left-none : (c : Called) (old new : Kept) → HasLeft c old new → new ≡ left_of old c 0
+left-none c old new h = h.is ∙ ap (λ (n : ℕ). record (left_of old c 0) { dropped = capped n }) (omega arith)
 
-pub left-one : (old new : Kept) → HasLeft old new → record new { dropped = min (new.dropped + 1) (2 ^ 64 - 1) } ≡ left_of old 1
-left-one old new h =
+pub left-one : (c : Called) (old new : Kept) → HasLeft c old new → record new { dropped = min (new.dropped + 1) (2 ^ 64 - 1) } ≡ left_of old c 1
+left-one c old new h =
     ap (λ (k : Kept). record k { dropped = min (k.dropped + 1) (2 ^ 64 - 1) }) h.is
-    ∙ ap (λ (n : ℕ). record (left_of old 1) { dropped = n }) (omega arith)
+    ∙ ap (λ (n : ℕ). record (left_of old c 1) { dropped = n }) (omega arith)
 
 -- ---- an effect with which the client is gone, and that does nothing else; it may open a submit, and tell so first
 
@@ -104,8 +114,7 @@ pub record IsLeaving (st : State) (e : Effect) (first : List Note) : Type 0 wher
   pub no_import : imports e ≡ false
   pub silent : replies st e ≡ []
   pub cancel_is : (p : Pending) → cancels e p ≡ (is_wire p.submit.verdict && is_none p.unlinker)
-  pub no_packets : asked_packets e ≡ []
-  pub no_ids : drawn_by st e ≡ []
+  pub asked : asked_packets st.streams e ≡ stops (is_ended None) st.streams
   pub no_word : (caps : Caps) → acknowledgements caps e ≡ []
   pub told_first : import_notes e ++ submit_notes e ++ unlink_notes e ≡ first
 
@@ -122,8 +131,7 @@ end-leaves st = record {
   no_import = refl;
   silent = refl;
   cancel_is = λ p. and-true (is_wire p.submit.verdict && is_none p.unlinker);
-  no_packets = refl;
-  no_ids = refl;
+  asked = refl;
   no_word = λ caps. refl;
   told_first = refl;
 }
@@ -139,8 +147,7 @@ refusal-leaves st r e =
       no_import = refl;
       silent = refl;
       cancel_is = λ p. and-true (is_wire p.submit.verdict && is_none p.unlinker);
-      no_packets = refl;
-      no_ids = refl;
+      asked = refl;
       no_word = λ caps. refl;
       told_first = refl;
     })
@@ -154,8 +161,7 @@ unbuilt-leaves st s place = record {
   no_import = refl;
   silent = refl;
   cancel_is = λ p. and-true (is_wire p.submit.verdict && is_none p.unlinker);
-  no_packets = refl;
-  no_ids = refl;
+  asked = refl;
   no_word = λ caps. refl;
   told_first = refl;
 }
@@ -189,13 +195,13 @@ module _ (st : State) (e : Effect) (first : List Note) (l : IsLeaving st e first
       ∙ flat_map-none (present st e))
 
   -- what is kept, sent and told
-  pub does-leave : (old new : Kept) (client host_old host_new : List ℕ) (notes_old notes_new : List Note) → Holds old st → old.answered ≤ 2 ^ 64 - 1 → old.unlinked ≤ 2 ^ 64 - 1 →
-      new ≡ record (left_of old (length (opened e))) { client_over = turned refuses_client ends_client e old.client_over } →
-      host_new ≡ host_old ++ flat_map (cancel_bytes old.caps) old.lives.live →
+  pub does-leave : (c : Called) (old new : Kept) (client host_old host_new : List ℕ) (notes_old notes_new : List Note) → Holds old st → old.answered ≤ 2 ^ 64 - 1 → old.unlinked ≤ 2 ^ 64 - 1 → HasParted st e c →
+      new ≡ record (left_of old c (length (opened e))) { client_over = turned refuses_client ends_client e old.client_over } →
+      host_new ≡ host_old ++ (flat_map (cancel_bytes old.caps) old.lives.live ++ flat_map (host_packet_bytes old.caps) (zip (drawn_by st e) (asked_packets st.streams e))) →
       notes_new ≡ notes_old ++ (first ++ when (not old.client_over) note.ClientGone ++ refusal_notes (refused_at e)) →
       Does st (mark_as st e None) old new client client host_old host_new notes_old notes_new
-  does-leave old new client host_old host_new notes_old notes_new h answered_fits unlinked_fits is host notes =
-      let m = mark_as st e None in
+  does-leave c old new client host_old host_new notes_old notes_new h answered_fits unlinked_fits parted is host notes =
+      let asking : List (ℕ × RedirPacket) = zip (drawn_by st e) (asked_packets st.streams e) in
       let rows : length old.lives.live ≡ length st.live = ap length h.live ∙ length-map st.live row in
       record {
         holds = record {
@@ -205,7 +211,10 @@ module _ (st : State) (e : Effect) (first : List Note) (l : IsLeaving st e first
           lost = ap (λ (k : Kept). k.lost) is ∙ h.lost ∙ (λ i. cond (sym l.keeps i) true (cond (sym l.no_import i) false st.lost));
           client_over = ap (λ (k : Kept). k.client_over) is ∙ ap (turned refuses_client ends_client e) h.client_over;
           host_over = ap (λ (k : Kept). k.host_over) is ∙ h.host_over ∙ sym (ap (λ (b : Bool). cond b true st.host_over) l.open_host);
-          last = ap (λ (k : Kept). k.last) is ∙ h.last ∙ ap (last_of st.last) (sym l.no_ids);
+          streams = ap (λ (k : Kept). k.streams) is ∙ (λ i. cond (sym l.gone i || is_loss e) no_streams (moved_streams e st.streams));
+          calls = ap (λ (k : Kept). k.calls) is ∙ parted.calls;
+          fence = ap (λ (k : Kept). k.fence) is ∙ parted.fence ∙ (λ i. cond (sym l.gone i) (last_or st.fence (drawn_by st e)) (cond (is_loss e) None (moved_fence e st.fence)));
+          last = ap (λ (k : Kept). k.last) is ∙ parted.last;
           live = ap (λ (k : Kept). k.lives.live) is ∙ sym left-live;
           abandoned = ap (λ (k : Kept). map unmarked k.lives.abandoned) is
               ∙ map-append unmarked old.lives.abandoned (filter is_answered_by_id old.lives.live)
@@ -216,9 +225,9 @@ module _ (st : State) (e : Effect) (first : List Note) (l : IsLeaving st e first
         };
         client = sym (append-nil client) ∙ ap (λ (ps : List ClientPacket). client ++ flat_map client_spelling ps) (sym left-answers);
         host = host ∙ ap (λ (bs : List ℕ). host_old ++ bs)
-            ((λ i. flat_map (cancel_bytes (h.caps i)) (h.live i)) ∙ cancel-rows st.agreed (cancels e) l.cancel_is st.live
-            ∙ ap (flat_map (host_packet_bytes st.agreed)) (sym (append-nil (map cancel (filter (cancels e) st.live))) ∙ sym (append-nil (map cancel (filter (cancels e) st.live) ++ []))
-            ∙ (λ i. (map cancel (filter (cancels e) st.live) ++ zip (sym l.no_ids i) (sym l.no_packets i)) ++ sym (l.no_word st.agreed) i)));
+            ((λ i. flat_map (cancel_bytes (h.caps i)) (h.live i) ++ flat_map (host_packet_bytes (h.caps i)) asking) ∙ ap (λ (bs : List ℕ). bs ++ flat_map (host_packet_bytes st.agreed) asking) (cancel-rows st.agreed (cancels e) l.cancel_is st.live)
+            ∙ sym (flat_map-append (host_packet_bytes st.agreed) (map cancel (filter (cancels e) st.live)) asking)
+            ∙ ap (flat_map (host_packet_bytes st.agreed)) (sym (append-nil (map cancel (filter (cancels e) st.live) ++ asking)) ∙ (λ i. (map cancel (filter (cancels e) st.live) ++ asking) ++ sym (l.no_word st.agreed) i)));
         notes = notes ∙ ap (λ (ns : List Note). notes_old ++ ns)
             (ap (λ (ns : List Note). (ns ++ when (not old.client_over) note.ClientGone) ++ refusal_notes (refused_at e)) (sym (append-nil first) ∙ sym (append-nil (first ++ [])))
             ∙ (λ i. (((sym l.told_first i ++ sym left-notes i) ++ when ((sym l.keeps i && st.imported) && not st.lost) note.DeviceGone) ++ when (sym l.gone i && not (h.client_over i)) note.ClientGone) ++ refusal_notes (refused_at e)));

@@ -5,6 +5,10 @@ pub mod Runs
 pub mod Openings
 pub mod Cycle
 pub mod Draws
+pub mod Called
+pub mod Mapped
+pub mod Stopping
+pub mod Laid
 pub mod Search
 pub mod Ended
 pub mod Once

@@ -1,5 +1,6 @@
 -- Filters, maps and joins that agree on the elements.
-use Rattle.std.proofs.Common.{◌≡◌, ◌||◌, Bool, true, false, cond, List, [], ◌∷◌, ◌++◌, map, refl, ap, ◌∙◌}
+use Rattle.std.proofs.Common.{◌≡◌, ◌≤◌, ◌||◌, Bool, true, false, cond, not, List, [], ◌∷◌, ◌++◌, length, map, refl, ap, ◌∙◌, arith}
+use Rattle.std.proofs.lemmas.List.Filters.{length-filter_both}
 use Rattle.std.specs.Prelude.{filter}
 use Rattle.std.specs.List.{list_any, flat_map, AllByRecursion}
 
@@ -98,3 +99,7 @@ keep-pass p x l false e h = h
 pub filter-passes : {X : Type 0} (p : X → Bool) (xs : List X) → Each (λ x. p x ≡ true) (filter p xs)
 filter-passes p [] = tt
 filter-passes p (x ∷ xs) = keep-pass p x (filter p xs) (p x) refl (filter-passes p xs)
+
+-- a filter leaves no more
+pub length-filter : {X : Type 0} (p : X → Bool) (xs : List X) → length (filter p xs) ≤ length xs
+length-filter p xs = let both = length-filter_both p (λ x. not (p x)) (λ x. refl) xs in omega arith

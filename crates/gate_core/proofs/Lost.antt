@@ -1,5 +1,5 @@
 -- What the loss of the device makes of what is kept, and what it sends and tells.
-use Rattle.std.proofs.Common.{◌≡◌, ℕ, suc, ◌+◌, ◌-◌, ◌^◌, ◌≤◌, ◌&&◌, Bool, true, false, cond, not, List, [], ◌∷◌, ◌++◌, length, map, Option, Some, None, refl, sym, ap, subst, ◌∙◌, arith}
+use Rattle.std.proofs.Common.{◌≡◌, ℕ, suc, ◌+◌, ◌-◌, ◌^◌, ◌≤◌, ◌&&◌, ◌||◌, Bool, true, false, cond, not, List, [], ◌∷◌, ◌++◌, length, map, Option, Some, None, refl, sym, ap, subst, ◌∙◌, arith}
 use Rattle.std.specs.Prelude.{is_none, unwrap_or, filter, zip}
 use Rattle.std.specs.List.{flat_map}
 use Rattle.std.proofs.lemmas.List.{append-nil}
@@ -20,11 +20,14 @@ use Rattle.gate_core.specs.Facts.{no_facts, tell}
 use Rattle.gate_core.specs.Sides.{refused_at, leaves, is_loss, closes_host, imports, refuses_client, ends_client, agrees, never, turned}
 use Rattle.gate_core.specs.Submits.{Pending, ByLoss, opened, ends, is_answered}
 use Rattle.gate_core.specs.Ids.{last_of}
+use Rattle.gate_core.specs.Ups.{no_streams, moved_streams}
+use Rattle.gate_core.specs.Packets.{asked_packets}
+use Rattle.gate_core.specs.Calls.{called, last_or, moved_fence}
 use Rattle.gate_core.specs.State.{State, submits}
 use Rattle.gate_core.specs.Verdict.{is_wire, goes_by_id}
 use Rattle.gate_core.specs.Meaning.{mark_as, drawn_by}
 use Rattle.gate_core.specs.Answers.{lost_answer}
-use Rattle.gate_core.specs.Output.{present, cancels, cancel, asked_packets, acknowledgements, to_client}
+use Rattle.gate_core.specs.Output.{present, cancels, cancel, acknowledgements, to_client}
 use Rattle.gate_core.specs.Notes.{when, import_notes, submit_notes, unlink_notes, answer_notes, is_by_answer, refusal_notes, is_by_client, dropped}
 use Rattle.gate_core.specs.All.{is_ret_submit, is_won_unlink}
 use Rattle.gate_core.specs.Bytes.{host_packet_bytes}
@@ -68,13 +71,15 @@ lost_of old = record old {
   lives = no_requests;
   facts = no_facts;
   lost = true;
+  streams = no_streams;
+  fence = None;
   answered = capped (old.answered + (length old.lives.live - length (filter is_asked_back old.lives.live)));
   unlinked = capped (old.unlinked + length (filter is_asked_back old.lives.live));
 }
 
 pub lost-is : (n : ℕ) (old new : Kept) → HasLost n old new → n ≡ length (filter is_asked_back old.lives.live) → new ≡ lost_of old
 lost-is n old new h e =
-    h.is ∙ ap (λ (k : ℕ). record old { lives = no_requests; facts = no_facts; lost = true; answered = capped (old.answered + (length old.lives.live - k)); unlinked = capped (old.unlinked + k) }) e
+    h.is ∙ ap (λ (k : ℕ). record old { lives = no_requests; facts = no_facts; lost = true; streams = no_streams; fence = None; answered = capped (old.answered + (length old.lives.live - k)); unlinked = capped (old.unlinked + k) }) e
 
 -- ---- an effect that loses the device, and does nothing else
 
@@ -87,7 +92,7 @@ pub record IsLoss (st : State) (e : Effect) : Type 0 where
   pub no_refusal : refuses_client e ≡ false
   pub no_end : ends_client e ≡ false
   pub no_cancel : (p : Pending) → cancels e p ≡ false
-  pub no_packets : asked_packets e ≡ []
+  pub no_packets : asked_packets st.streams e ≡ []
   pub no_ids : drawn_by st e ≡ []
   pub no_notes : import_notes e ++ submit_notes e ++ unlink_notes e ≡ []
 
@@ -188,6 +193,9 @@ module _ (st : State) (e : Effect) (told : Option Fact) (l : IsLoss st e) where
           lost = ap (λ (k : Kept). k.lost) is ∙ sym (ap (λ (b : Bool). cond b true (cond (imports e) false st.lost)) l.loss);
           client_over = ap (λ (k : Kept). k.client_over) is ∙ h.client_over ∙ (λ i. cond (sym l.no_refusal i) true (cond (sym l.no_end i) false st.client_over));
           host_over = ap (λ (k : Kept). k.host_over) is ∙ ap (turned closes_host never e) h.host_over;
+          streams = ap (λ (k : Kept). k.streams) is ∙ (λ i. cond (sym l.stays i || sym l.loss i) no_streams (moved_streams e st.streams));
+          calls = ap (λ (k : Kept). k.calls) is ∙ h.calls ∙ (λ i. called (zip (sym l.no_ids i) (sym l.no_packets i)) st.calls);
+          fence = ap (λ (k : Kept). k.fence) is ∙ (λ i. cond (sym l.stays i) (last_or st.fence (drawn_by st e)) (cond (sym l.loss i) None (moved_fence e st.fence)));
           last = ap (λ (k : Kept). k.last) is ∙ h.last ∙ ap (last_of st.last) (sym l.no_ids);
           live = ap (λ (k : Kept). k.lives.live) is ∙ sym lost-live;
           abandoned = ap (λ (k : Kept). map unmarked k.lives.abandoned) is

@@ -13,7 +13,7 @@ use Rattle.gate_core.specs.Errno.{econnreset}
 use Rattle.gate_core.specs.Verdict.{is_wire}
 use Rattle.gate_core.specs.Marks.{Submission, Effect, Replies, Imports, Opens, Unbuilt, Unlinks, Mark}
 use Rattle.gate_core.specs.Sides.{or_else}
-use Rattle.gate_core.specs.Submits.{End, AtOnce, ByClient, ByLoss, ByAnswer, opened, accepted, ends, end_of, is_live, live, ended, asks, unlinker, Pending, pending}
+use Rattle.gate_core.specs.Submits.{End, AtOnce, Sent, ByClient, ByLoss, ByAnswer, opened, accepted, ends, end_of, is_live, live, ended, asks, unlinker, Pending, pending}
 use Rattle.gate_core.specs.State.{State, state_of, is_number, has_number}
 use Rattle.gate_core.specs.Meaning.{meaning, mark_of}
 use Rattle.gate_core.specs.Past.{is_left_out, past}
@@ -160,6 +160,7 @@ said ps = flat_map answers_in ps
 abbrev is_counted : Option End → Bool
 is_counted None = false
 is_counted (Some (AtOnce status)) = true
+is_counted (Some Sent) = true
 is_counted (Some ByClient) = false
 is_counted (Some ByLoss) = true
 is_counted (Some (ByAnswer outcome)) = true
@@ -171,6 +172,8 @@ one-answer : (s : Submission) (by : Option ℕ) (e : Option End) → said (map U
 one-answer s by None = refl
 one-answer s None (Some (AtOnce status)) = refl
 one-answer s (Some by) (Some (AtOnce status)) = refl
+one-answer s None (Some Sent) = refl
+one-answer s (Some by) (Some Sent) = refl
 one-answer s by (Some ByClient) = refl
 one-answer s None (Some ByLoss) = refl
 one-answer s (Some by) (Some ByLoss) = refl
@@ -200,6 +203,7 @@ silent st _ = refl
 counted-is : (e : Option End) → both (is_some e) (not (is_by_client e)) ≡ is_counted e
 counted-is None = refl
 counted-is (Some (AtOnce status)) = refl
+counted-is (Some Sent) = refl
 counted-is (Some ByClient) = refl
 counted-is (Some ByLoss) = refl
 counted-is (Some (ByAnswer o)) = refl

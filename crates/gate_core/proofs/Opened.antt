@@ -18,6 +18,8 @@ use Rattle.gate_core.specs.Items.{capped}
 use Rattle.gate_core.specs.Marks.{Submission, Opens}
 use Rattle.gate_core.specs.Submits.{Pending, End, at_once, ends}
 use Rattle.gate_core.specs.Ids.{last_of}
+use Rattle.gate_core.specs.Ups.{opened_streams}
+use Rattle.gate_core.specs.Calls.{called}
 use Rattle.gate_core.specs.State.{State}
 use Rattle.gate_core.specs.Packets.{packets_of}
 use Rattle.gate_core.specs.Meaning.{mark_as, drawn_for}
@@ -78,11 +80,13 @@ module _ (st : State) (s : Submission) (placed : s.place ≡ st.items) (sound : 
       filter is_won_unlink (map Urb (answers_at s None (at_once s.verdict))) ≡ [] →
       new ≡ record old {
         lives = record { live = old.lives.live ++ map row more; abandoned = old.lives.abandoned };
+        streams = opened_streams s.verdict s.request.transfer.ep old.streams;
+        calls = called (zip (drawn_for st s.request s.verdict) (packets_of st.streams s.verdict s.request)) old.calls;
         last = last_of old.last (drawn_for st s.request s.verdict);
         answered = capped (old.answered + length (filter is_ret_submit (map Urb (answers_at s None (at_once s.verdict)))));
       } →
       client_new ≡ client_old ++ flat_map client_spelling (map Urb (answers_at s None (at_once s.verdict))) →
-      host_new ≡ host_old ++ flat_map (host_packet_bytes old.caps) (zip (drawn_for st s.request s.verdict) (packets_of s.verdict s.request.transfer)) →
+      host_new ≡ host_old ++ flat_map (host_packet_bytes old.caps) (zip (drawn_for st s.request s.verdict) (packets_of st.streams s.verdict s.request)) →
       notes_new ≡ notes_old ++ note.Submitted s.request.number s.id ∷ [] →
       Does st (mark_as st (Opens s) None) old new client_old client_new host_old host_new notes_old notes_new
   does-open old new more client_old client_new host_old host_new notes_old notes_new h unlinked_fits dropped_fits kept by_answer by_client none_won is client host notes =
@@ -95,6 +99,9 @@ module _ (st : State) (s : Submission) (placed : s.place ≡ st.items) (sound : 
           lost = ap (λ (k : Kept). k.lost) is ∙ h.lost;
           client_over = ap (λ (k : Kept). k.client_over) is ∙ h.client_over;
           host_over = ap (λ (k : Kept). k.host_over) is ∙ h.host_over;
+          streams = ap (λ (k : Kept). k.streams) is ∙ ap (opened_streams s.verdict s.request.transfer.ep) h.streams;
+          calls = ap (λ (k : Kept). k.calls) is ∙ ap (called (zip (drawn_for st s.request s.verdict) (packets_of st.streams s.verdict s.request))) h.calls;
+          fence = ap (λ (k : Kept). k.fence) is ∙ h.fence;
           last = ap (λ (k : Kept). k.last) is ∙ ap (λ (n : ℕ). last_of n (drawn_for st s.request s.verdict)) h.last;
           live = ap (λ (k : Kept). k.lives.live) is ∙ ap (λ (ls : List Live). ls ++ map row more) h.live ∙ sym (map-append row st.live more)
               ∙ ap (map row) (sym (asks-none e (λ t. refl) (st.live ++ more))
@@ -104,9 +111,9 @@ module _ (st : State) (s : Submission) (placed : s.place ≡ st.items) (sound : 
         };
         client = client ∙ ap (λ (ps : List UrbPacket). client_old ++ flat_map client_spelling (map Urb ps)) (sym opened-answers);
         host = host ∙ ap (λ (bs : List ℕ). host_old ++ bs)
-            ((λ i. flat_map (host_packet_bytes (h.caps i)) (zip (drawn_for st s.request s.verdict) (packets_of s.verdict s.request.transfer)))
-            ∙ ap (flat_map (host_packet_bytes st.agreed)) (sym (append-nil (zip (drawn_for st s.request s.verdict) (packets_of s.verdict s.request.transfer)))
-            ∙ ap (λ (ps : List (ℕ × RedirPacket)). (ps ++ zip (drawn_for st s.request s.verdict) (packets_of s.verdict s.request.transfer)) ++ []) (sym (none-cancelled e stays-uncancelled st.live))));
+            ((λ i. flat_map (host_packet_bytes (h.caps i)) (zip (drawn_for st s.request s.verdict) (packets_of st.streams s.verdict s.request)))
+            ∙ ap (flat_map (host_packet_bytes st.agreed)) (sym (append-nil (zip (drawn_for st s.request s.verdict) (packets_of st.streams s.verdict s.request)))
+            ∙ ap (λ (ps : List (ℕ × RedirPacket)). (ps ++ zip (drawn_for st s.request s.verdict) (packets_of st.streams s.verdict s.request)) ++ []) (sym (none-cancelled e stays-uncancelled st.live))));
         notes = notes ∙ ap (λ (ps : List Pending). notes_old ++ note.Submitted s.request.number s.id ∷ map (λ (p : Pending). note.Answered p.submit.request.number) ps) (sym (none-so is_by_answer refl by_answer)) ∙ closing (map (λ (p : Pending). note.Answered p.submit.request.number) (filter (λ p. is_by_answer (ends e p.submit)) (st.live ++ fresh s ∷ [])));
         answered = ap (λ (k : Kept). k.answered) is ∙ ap (λ (ps : List UrbPacket). capped (old.answered + length (filter is_ret_submit (map Urb ps)))) (sym opened-answers);
         unlinked = ap (λ (k : Kept). k.unlinked) is ∙ capped-same old.unlinked unlinked_fits ∙ ap (λ (ps : List ClientPacket). capped (old.unlinked + length ps)) (sym none_won ∙ ap (λ (ps : List UrbPacket). filter is_won_unlink (map Urb ps)) (sym opened-answers));

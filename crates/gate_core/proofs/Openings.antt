@@ -37,7 +37,7 @@ use Rattle.gate_core.specs.Submits.{opened, at_once, ends}
 use Rattle.gate_core.specs.Ids.{last_of}
 use Rattle.gate_core.specs.State.{State, next_ids, has_number}
 use Rattle.gate_core.specs.Replies.{is_exported}
-use Rattle.gate_core.specs.Packets.{packets_of}
+use Rattle.gate_core.specs.Packets.{HasRoute}
 use Rattle.gate_core.specs.Responses.{Response, response_of}
 use Rattle.gate_core.specs.Meaning.{may_import, imported_as, op_meaning, verdict_of, drawn_for, submission, accepts, urb_meaning, asked_meaning, answered_as, answer_to, by_response, told_meaning, meaning}
 use Rattle.gate_core.proofs.Lists.{Each}
@@ -53,74 +53,52 @@ verdict-room lost n changing t wide r h = go lost (leb 4096 n) refl h
     go false true e k = absurd (false≢true k)
     go false false e k = leb-false 4096 n e
 
--- one packet at least and two at most
-pub record AreSome {A : Type 0} (xs : List A) : Type 0 where
-  pub more : ℕ
-  pub few : more ≤ 1
-  pub is : length xs ≡ suc more
+-- a request that goes by its route has packets
 
-record Sends (t : Transfer) (v : Verdict) : Type 0 where
-  packets : goes_by_id v ≡ true → AreSome (packets_of v t)
+sends-if : (b : Bool) (v w : Verdict) → HasRoute v → HasRoute w → HasRoute (cond b v w)
+sends-if true v w h k = h
+sends-if false v w h k = k
 
-one : {A : Type 0} (x : A) → AreSome (x ∷ [])
-one x = record { more = 0; few = omega arith; is = refl }
+sends-route : (r : Route) → HasRoute (by_route r)
+sends-route route.Local = tt
+sends-route (route.SetConfig configuration) = omega arith
+sends-route route.GetConfig = omega arith
+sends-route (route.SetAlt interface alt) = omega arith
+sends-route (route.GetAlt interface) = omega arith
+sends-route route.Reset = omega arith
+sends-route route.Plain = tt
+sends-route route.Bad = tt
 
-silent : (t : Transfer) (v : Verdict) → goes_by_id v ≡ false → Sends t v
-silent t v e = record { packets = λ h. absurd (false≢true (sym e ∙ h)) }
-
-sends-if : (t : Transfer) (b : Bool) (v w : Verdict) → Sends t v → Sends t w → Sends t (cond b v w)
-sends-if t true v w h k = h
-sends-if t false v w h k = k
-
-sends-route : (t : Transfer) (r : Route) → Sends t (by_route r)
-sends-route t route.Local = silent t _ refl
-sends-route t (route.SetConfig configuration) = record { packets = λ h. one _ }
-sends-route t route.GetConfig = record { packets = λ h. one _ }
-sends-route t (route.SetAlt interface alt) = record { packets = λ h. one _ }
-sends-route t (route.GetAlt interface) = record { packets = λ h. one _ }
-sends-route t route.Reset = record { packets = λ h. record { more = 1; few = omega arith; is = refl } }
-sends-route t route.Plain = record { packets = λ h. one _ }
-sends-route t route.Bad = silent t _ refl
-
-sends-kind : (t : Transfer) (r : Request) (row : EpRow) (k : EpKind) → Sends t (by_kind r row k)
-sends-kind t r row kind.Control = silent t _ refl
-sends-kind t r row kind.Iso = sends-if t r.is_in _ _ (silent t _ refl) (silent t _ refl)
-sends-kind t r row kind.Bulk = record { packets = λ h. one _ }
-sends-kind t r row kind.Interrupt = sends-if t r.is_in _ _ (silent t _ refl) (record { packets = λ h. one _ })
-sends-kind t r row kind.Invalid = silent t _ refl
+sends-kind : (r : Request) (row : EpRow) (k : EpKind) → HasRoute (by_kind r row k)
+sends-kind r row kind.Control = tt
+sends-kind r row kind.Iso = sends-if r.is_in _ _ tt tt
+sends-kind r row kind.Bulk = tt
+sends-kind r row kind.Interrupt = sends-if r.is_in _ _ tt tt
+sends-kind r row kind.Invalid = tt
 
 -- else it is answered at once
-unless : (t : Transfer) (b : Bool) (status : ℤ) (w : Verdict) → Sends t w → Sends t (cond b (Now status) w)
-unless t b status w h = sends-if t b (Now status) w (silent t (Now status) refl) h
+unless : (b : Bool) (status : ℤ) (w : Verdict) → HasRoute w → HasRoute (cond b (Now status) w)
+unless b status w h = sends-if b (Now status) w tt h
 
-sends-transfer : (t : Transfer) (changing : Bool) (table : EpTable) (wide : Bool) (r : Request) (o : Option Setup) → Sends t (by_transfer changing table wide r o)
-sends-transfer t changing table wide r (Some s) =
-    unless t (not (none_of r.descs)) einval _
-    (unless t (not (eqb s.length 0) && not (bool_eq (is_in_setup s) r.is_in)) einval _
-    (unless t (not (eqb s.length r.transfer.wanted)) einval _ (sends-route t (route_of s))))
-sends-transfer t changing table wide r None = unless t changing enoent _ (by_row (row_of table r.transfer.ep))
+sends-transfer : (changing : Bool) (table : EpTable) (wide : Bool) (r : Request) (o : Option Setup) → HasRoute (by_transfer changing table wide r o)
+sends-transfer changing table wide r (Some s) =
+    unless (not (none_of r.descs)) einval _
+    (unless (not (eqb s.length 0) && not (bool_eq (is_in_setup s) r.is_in)) einval _
+    (unless (not (eqb s.length r.transfer.wanted)) einval _ (sends-route (route_of s))))
+sends-transfer changing table wide r None = unless changing enoent _ (by_row (row_of table r.transfer.ep))
   where
-    by_row : (row : EpRow) → Sends t (by_endpoint wide r row)
+    by_row : (row : EpRow) → HasRoute (by_endpoint wide r row)
     by_row row =
-        unless t (is_invalid row.kind) enoent _
-        (unless t (is_control row.kind) einval _
-        (unless t (bool_eq (is_iso row.kind) (none_of r.descs)) einval _
-        (unless t (not (laid r.descs r.transfer.wanted)) einval _
-        (unless t (is_narrow wide r.is_in row.kind && nat_lt max_narrow r.transfer.wanted) emsgsize _ (sends-kind t r row row.kind)))))
+        unless (is_invalid row.kind) enoent _
+        (unless (is_control row.kind) einval _
+        (unless (bool_eq (is_iso row.kind) (none_of r.descs)) einval _
+        (unless (not (laid r.descs r.transfer.wanted)) einval _
+        (unless (is_narrow wide r.is_in row.kind && nat_lt max_narrow r.transfer.wanted) emsgsize _ (sends-kind r row row.kind)))))
 
-pub verdict-sends : (t : Transfer) (lost : Bool) (n : ℕ) (changing : Bool) (table : EpTable) (wide : Bool) (r : Request) → goes_by_id (verdict lost n changing table wide r) ≡ true → AreSome (packets_of (verdict lost n changing table wide r) t)
-verdict-sends t lost n changing table wide r = all.packets
-  where
-    all : Sends t (verdict lost n changing table wide r)
-    all = unless t lost eshutdown _ (unless t (leb 4096 n) ebusy _ (sends-transfer t changing table wide r r.transfer.setup))
+pub verdict-sends : (lost : Bool) (n : ℕ) (changing : Bool) (table : EpTable) (wide : Bool) (r : Request) → HasRoute (verdict lost n changing table wide r)
+verdict-sends lost n changing table wide r = unless lost eshutdown _ (unless (leb 4096 n) ebusy _ (sends-transfer changing table wide r r.transfer.setup))
 
 -- ---- of an effect
-
--- the id was drawn
-pub record IsDrawn (st : State) (id : ℕ) : Type 0 where
-  pub more : ℕ
-  pub few : more ≤ 1
-  pub is : id ≡ last_of 0 (next_ids st (suc more))
 
 pub record IsOpening (st : State) (e : Effect) : Type 0 where
   -- a client that has imported accepts, a number that isn't live is accepted, and an import finds nothing abandoned
@@ -129,7 +107,8 @@ pub record IsOpening (st : State) (e : Effect) : Type 0 where
   pub alone : imports e ≡ true → st.abandoned ≡ []
   -- one that lives on finds room, and its id was drawn
   pub room : Each (λ s. is_none (ends e s) ≡ true → length st.live < 4096) (opened e)
-  pub drawn : Each (λ s. is_none (ends e s) ≡ true → goes_by_id s.verdict ≡ true → IsDrawn st s.id) (opened e)
+  pub drawn : Each (λ s. is_none (ends e s) ≡ true → goes_by_id s.verdict ≡ true → s.id ≡ last_of 0 (drawn_for st s.request s.verdict)) (opened e)
+  pub routes : Each (λ s. HasRoute s.verdict) (opened e)
 
 -- one that opens nothing and imports nothing
 none : (st : State) (e : Effect) → opened e ≡ [] → imports e ≡ false → IsOpening st e
@@ -138,7 +117,8 @@ none st e nil k = record {
   new = subst (Each (λ s. has_number st s.request.number ≡ false)) (sym nil) tt;
   alone = λ h. absurd (false≢true (sym k ∙ h));
   room = subst (Each (λ s. is_none (ends e s) ≡ true → length st.live < 4096)) (sym nil) tt;
-  drawn = subst (Each (λ s. is_none (ends e s) ≡ true → goes_by_id s.verdict ≡ true → IsDrawn st s.id)) (sym nil) tt;
+  drawn = subst (Each (λ s. is_none (ends e s) ≡ true → goes_by_id s.verdict ≡ true → s.id ≡ last_of 0 (drawn_for st s.request s.verdict))) (sym nil) tt;
+  routes = subst (Each (λ s. HasRoute s.verdict)) (sym nil) tt;
 }
 
 -- by a test
@@ -146,9 +126,10 @@ when : (st : State) (b : Bool) (e f : Effect) → (b ≡ true → IsOpening st e
 when st true e f h k = h refl
 when st false e f h k = k refl
 
-both-right : (a b : Bool) → (a && b) ≡ true → b ≡ true
-both-right true b e = e
-both-right false b e = absurd (false≢true e)
+middle : (a b c : Bool) → (a && b && c) ≡ true → b ≡ true
+middle true true c e = refl
+middle true false c e = absurd (false≢true e)
+middle false b c e = absurd (false≢true e)
 
 none-nil : {A : Type 0} (xs : List A) → none_of xs ≡ true → xs ≡ []
 none-nil [] e = refl
@@ -156,14 +137,14 @@ none-nil (x ∷ xs) e = absurd (false≢true e)
 
 opening-import : (st : State) (o : Option Connect) → st.abandoned ≡ [] → IsOpening st (imported_as st o)
 opening-import st None h = none st (imported_as st None) refl refl
-opening-import st (Some c) h = record { imported = tt; new = tt; alone = λ k. h; room = tt; drawn = tt }
+opening-import st (Some c) h = record { imported = tt; new = tt; alone = λ k. h; room = tt; drawn = tt; routes = tt }
 
 opening-op : (st : State) (place : ℕ) (p : OpPacket) → IsOpening st (op_meaning st place p)
 opening-op st place (op.ReqDevlist status) = when st st.imported _ _ (λ h. none st _ refl refl) (λ h. none st _ refl refl)
 opening-op st place (op.ReqImport status busid) = when st st.imported _ _ (λ h. none st _ refl refl) (λ h. by (may_import st busid) refl)
   where
     by : (b : Bool) → may_import st busid ≡ b → IsOpening st (imported_as st (cond b st.facts.connect None))
-    by true e = opening-import st st.facts.connect (none-nil st.abandoned (both-right (is_exported busid) (none_of st.abandoned) e))
+    by true e = opening-import st st.facts.connect (none-nil st.abandoned (middle (is_exported busid) (none_of st.abandoned) (is_none st.fence) e))
     by false e = none st _ refl refl
 opening-op st place (op.RepDevlist status devices) = none st _ refl refl
 opening-op st place (op.RepImport status device) = none st _ refl refl
@@ -183,7 +164,8 @@ opening-submit st place r in_session new =
       new = (new, tt);
       alone = λ k. absurd (false≢true k);
       room = (λ k. verdict-room st.lost (length st.live) _ st.facts.table _ r (lives-on s k), tt);
-      drawn = (λ k by. id-drawn (verdict-sends r.transfer st.lost (length st.live) _ st.facts.table _ r by), tt);
+      drawn = (λ k by. ap (λ (b : Bool). cond b (last_of 0 (drawn_for st r v)) 0) by, tt);
+      routes = (verdict-sends st.lost (length st.live) _ st.facts.table _ r, tt);
     })
     (λ h. record {
       imported = (in_session, tt);
@@ -191,6 +173,7 @@ opening-submit st place r in_session new =
       alone = λ k. absurd (false≢true k);
       room = (λ k. absurd (false≢true k), tt);
       drawn = (λ k by. absurd (false≢true k), tt);
+      routes = (verdict-sends st.lost (length st.live) _ st.facts.table _ r, tt);
     })
   where
     v : Verdict
@@ -198,9 +181,6 @@ opening-submit st place r in_session new =
 
     s : Submission
     s = submission st r v (drawn_for st r v)
-
-    id-drawn : AreSome (packets_of v r.transfer) → IsDrawn st s.id
-    id-drawn a = record { more = a.more; few = a.few; is = ap (λ (n : ℕ). last_of 0 (next_ids st n)) a.is }
 
 not-false : (b : Bool) → not b ≡ false → b ≡ true
 not-false true e = refl
@@ -233,6 +213,8 @@ opening-response st place h (Some response) = opening-answer st place h response
 opening-told : (st : State) (place : ℕ) (h : Header) (p : RedirPacket) → IsOpening st (told_meaning st place h p)
 opening-told st place h (Plain (plain.Hello hello)) = none st (told_meaning st place h (Plain (plain.Hello hello))) refl refl
 opening-told st place h (Plain plain.Disconnect) = none st (told_meaning st place h (Plain plain.Disconnect)) refl refl
+opening-told st place h (Plain (plain.IsoStatus status endpoint)) = none st (told_meaning st place h (Plain (plain.IsoStatus status endpoint))) refl refl
+opening-told st place h (Plain (plain.InterruptStatus status endpoint)) = none st (told_meaning st place h (Plain (plain.InterruptStatus status endpoint))) refl refl
 opening-told st place h p = opening-response st place h (response_of p)
 
 pub opening-meaning : (st : State) (x : Item) → IsOpening st (meaning st x)

@@ -110,7 +110,7 @@ by_setup-reads r s at =
 
 by_kind-reads : (r : Request) (row : EpRow) (k : EpKind) → is_in_endpoint r.transfer.ep ≡ r.is_in → Reads r.is_in r.transfer.ep r.transfer.wanted (by_kind r row k)
 by_kind-reads r row kind.Control way = λ k. absurd (false≢true k)
-by_kind-reads r row kind.Iso way = elim r.is_in as (λ b. goes_by_id (cond b (Stream row) IsoOut) ≡ true → (r.transfer.wanted ≡ 0) ⊎ IsRead r.is_in (kind_of (cond b (Stream row) IsoOut) r.transfer.ep)) [ true ↦ (λ k. absurd (false≢true k)) | false ↦ (λ k. absurd (false≢true k)) ]
+by_kind-reads r row kind.Iso way = elim r.is_in as (λ b. goes_by_id (cond b (Stream row) (IsoOut row)) ≡ true → (r.transfer.wanted ≡ 0) ⊎ IsRead r.is_in (kind_of (cond b (Stream row) (IsoOut row)) r.transfer.ep)) [ true ↦ (λ k. absurd (false≢true k)) | false ↦ (λ k. absurd (false≢true k)) ]
 by_kind-reads r row kind.Bulk way = λ k. inr way
 by_kind-reads r row kind.Interrupt way = elim r.is_in as (λ b. goes_by_id (cond b (Stream row) (Wire InterruptOut)) ≡ true → (r.transfer.wanted ≡ 0) ⊎ IsRead r.is_in (kind_of (cond b (Stream row) (Wire InterruptOut)) r.transfer.ep)) [ true ↦ (λ k. absurd (false≢true k)) | false ↦ (λ k. inr way) ]
 by_kind-reads r row kind.Invalid way = λ k. absurd (false≢true k)
@@ -152,7 +152,7 @@ abbrev pub StatusFits : Verdict → Type 0
 StatusFits (Now status) = FitsSigned w32 status
 StatusFits (Wire pipe) = Unit {0}
 StatusFits (Routed r) = Unit {0}
-StatusFits IsoOut = Unit {0}
+StatusFits (IsoOut row) = Unit {0}
 StatusFits (Stream row) = Unit {0}
 
 either-fits : (b : Bool) (v w : Verdict) → StatusFits v → StatusFits w → StatusFits (cond b v w)
@@ -171,7 +171,7 @@ by_route-fits route.Bad = (search rules)
 
 by_kind-fits : (r : Request) (row : EpRow) (k : EpKind) → StatusFits (by_kind r row k)
 by_kind-fits r row kind.Control = (search rules)
-by_kind-fits r row kind.Iso = either-fits r.is_in (Stream row) IsoOut tt tt
+by_kind-fits r row kind.Iso = either-fits r.is_in (Stream row) (IsoOut row) tt tt
 by_kind-fits r row kind.Bulk = tt
 by_kind-fits r row kind.Interrupt = either-fits r.is_in (Stream row) (Wire InterruptOut) tt tt
 by_kind-fits r row kind.Invalid = (search rules)
@@ -204,5 +204,5 @@ pub not-stream : (v : Verdict) (ep : ℕ) → goes_by_id v ≡ true → not (is_
 not-stream (Now status) ep h = absurd (false≢true h)
 not-stream (Wire pipe) ep h = refl
 not-stream (Routed r) ep h = refl
-not-stream IsoOut ep h = absurd (false≢true h)
+not-stream (IsoOut row) ep h = absurd (false≢true h)
 not-stream (Stream row) ep h = absurd (false≢true h)

@@ -47,14 +47,14 @@ row-answer (Wire Control) ep = refl
 row-answer (Wire Bulk) ep = refl
 row-answer (Wire InterruptOut) ep = refl
 row-answer (Routed r) ep = refl
-row-answer IsoOut ep = refl
+row-answer (IsoOut r) ep = refl
 row-answer (Stream row) ep = refl
 
 pub row-gets : (v : Verdict) (ep : ℕ) → row_gets (kind_of v ep) ≡ gets v
 row-gets (Now status) ep = refl
 row-gets (Wire pipe) ep = refl
 row-gets (Routed r) ep = refl
-row-gets IsoOut ep = refl
+row-gets (IsoOut r) ep = refl
 row-gets (Stream row) ep = refl
 
 -- ---- what is wrong
@@ -89,7 +89,7 @@ row-mismatch place head s by kind (Data endpoint length_place o) h = of s.verdic
         ∙ sym (ap (λ (b : Bool). cond (not b) (Some (mismatched place (route_answer r) kind))
         (cond (not (eqb endpoint s.request.transfer.ep)) (Some (mismatched (place + head) s.request.transfer.ep endpoint))
         (cond (ltb s.request.transfer.wanted o.done) (Some (mismatched (place + head + length_place) s.request.transfer.wanted o.done)) None))) (no-route kind r h.0))
-    of IsoOut = refl
+    of (IsoOut r) = refl
     of (Stream row) = refl
 
 -- a place past the greatest number is that number

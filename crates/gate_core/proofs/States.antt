@@ -1,5 +1,5 @@
 -- The state after every past is sound.
-use Rattle.std.proofs.Common.{◌≡◌, ℕ, ◌<◌, ◌+◌, ◌&&◌, Bool, true, false, cond, if◌then◌else◌, eqb, List, [], ◌∷◌, length, map, refl, sym, ap, subst, ◌∙◌, arith}
+use Rattle.std.proofs.Common.{◌≡◌, ℕ, ◌<◌, ◌+◌, ◌&&◌, Bool, true, false, cond, if◌then◌else◌, eqb, List, [], ◌∷◌, ◌++◌, length, map, refl, sym, ap, subst, ◌∙◌, arith}
 use Rattle.std.specs.Prelude.{filter}
 use Rattle.std.proofs.lemmas.Bool.Decides.{nat_tests}
 use Rattle.std.proofs.lemmas.List.{length-append, length-map}
@@ -9,6 +9,7 @@ use Rattle.gate_core.specs.Ids.{times}
 use Rattle.gate_core.specs.Verdict.{goes_by_id}
 use Rattle.gate_core.specs.Marks.{Submission}
 use Rattle.gate_core.specs.Submits.{has_id, accepted, is_live, live, abandoned, pending}
+use Rattle.gate_core.specs.Calls.{calls, call_ids}
 use Rattle.gate_core.specs.Flight.{ids_of}
 use Rattle.gate_core.specs.State.{state_of, submits, is_number}
 use Rattle.gate_core.specs.Past.{past}
@@ -17,7 +18,8 @@ use Rattle.gate_core.proofs.Lists.{Each, Each-filter}
 use Rattle.gate_core.proofs.Steps.{submits-is, placed}
 use Rattle.gate_core.proofs.Runs.{well}
 use Rattle.gate_core.proofs.Once.{few-numbered}
-use Rattle.gate_core.proofs.Flights.{sound, times-append}
+use Rattle.gate_core.proofs.Called.{times-append}
+use Rattle.gate_core.proofs.Flights.{sound}
 
 swap : (a b : ℕ) → eqb a b ≡ eqb b a
 swap a b = grind (arith, nat_tests)
@@ -51,7 +53,8 @@ state-sound first xs =
           let d = have-id id (live ms) in
           let e = have-id id (abandoned ms) in
           let f = times-append id (ids_of (live ms)) (ids_of (abandoned ms)) in
-          omega (arith, a, b, c, d, e, f, s.once id);
+          let g = times-append id (ids_of (live ms) ++ ids_of (abandoned ms)) (call_ids (calls ms)) in
+          omega (arith, a, b, c, d, e, f, g, s.once id);
       places = subst (Each (λ s. s.place < length ms)) (sym (submits-is ms (live ms))) (Each-filter (λ s. s.place < length ms) (is_live ms) (accepted ms) (placed ms (well first xs)));
       numbers = λ n. omega (arith, ap (λ (l : List Submission). length (filter (is_number n) l)) (submits-is ms (live ms)), few-numbered first xs n);
     }

@@ -1,5 +1,5 @@
 -- What an effect that ends no submit and opens none makes of what is kept, and what it sends and tells.
-use Rattle.std.proofs.Common.{◌≡◌, ℕ, ◌+◌, ◌^◌, ◌-◌, ◌≤◌, ◌&&◌, Bool, true, false, cond, not, List, [], ◌∷◌, ◌++◌, length, map, Option, Some, None, refl, sym, ap, ◌∙◌}
+use Rattle.std.proofs.Common.{◌≡◌, ℕ, ◌+◌, ◌^◌, ◌-◌, ◌≤◌, ◌&&◌, ◌||◌, Bool, true, false, cond, not, List, [], ◌∷◌, ◌++◌, length, map, Option, Some, None, refl, sym, ap, ◌∙◌}
 use Rattle.std.specs.Prelude.{is_none, filter, zip}
 use Rattle.std.specs.List.{flat_map}
 use Rattle.std.proofs.lemmas.List.{append-nil}
@@ -15,17 +15,21 @@ use Rattle.gate_core.specs.declared.note.Note.{Note}
 use Rattle.gate_core.specs.declared.note.Note.TheVariants as note
 use Rattle.gate_core.specs.declared.kept.Kept.{Kept}
 use Rattle.gate_core.specs.Items.{capped}
-use Rattle.gate_core.specs.Marks.{Submission, Effect, Idle, Replies, Imports, Agrees}
+use Rattle.gate_core.specs.Marks.{Submission, Effect, Idle, Replies, Imports, Agrees, StreamTold}
 use Rattle.gate_core.specs.Facts.{no_facts, tell}
 use Rattle.gate_core.specs.Sides.{refused_at, leaves, is_loss, closes_host, imports, refuses_client, ends_client, agreed_after, turned}
 use Rattle.gate_core.specs.Submits.{Pending, ByClient, ByLoss, opened, own_end, ends, is_answered, asks}
 use Rattle.gate_core.specs.Sides.{or_else}
 use Rattle.gate_core.specs.Ids.{last_of}
+use Rattle.gate_core.specs.Ups.{no_streams, is_success, lower_at, moved_streams}
+use Rattle.gate_core.specs.Packets.{asked_packets}
+use Rattle.gate_core.specs.Calls.{called, last_or, lifted, moved_fence}
+use Rattle.usb_base.specs.declared.status.UsbStatus.{UsbStatus}
 use Rattle.gate_core.specs.State.{State, submits}
 use Rattle.gate_core.specs.Verdict.{goes_by_id, is_wire}
 use Rattle.gate_core.specs.Meaning.{mark_as, drawn_by}
 use Rattle.gate_core.specs.Answers.{answers_at}
-use Rattle.gate_core.specs.Output.{fresh, present, replies, cancels, cancel, asked_packets, acknowledgements, to_client}
+use Rattle.gate_core.specs.Output.{fresh, present, replies, cancels, cancel, acknowledgements, to_client}
 use Rattle.gate_core.specs.Notes.{when, import_notes, submit_notes, unlink_notes, answer_notes, is_by_answer, refusal_notes, is_by_client, dropped}
 use Rattle.gate_core.specs.All.{is_ret_submit, is_won_unlink}
 use Rattle.gate_core.specs.Bytes.{host_packet_bytes}
@@ -44,7 +48,7 @@ pub record IsSteady (st : State) (e : Effect) : Type 0 where
   pub opens : opened e ≡ []
   pub ends_none : (p : Pending) → own_end e p.submit ≡ None
   pub answers_none : (s : Submission) → is_answered e s ≡ false
-  pub no_packets : asked_packets e ≡ []
+  pub no_packets : asked_packets st.streams e ≡ []
   pub no_ids : drawn_by st e ≡ []
   pub no_word : (caps : Caps) → acknowledgements caps e ≡ []
   pub no_place : refused_at e ≡ None
@@ -88,6 +92,8 @@ module _ (st : State) (e : Effect) (l : IsSteady st e) where
         caps = agreed_after e old.caps;
         imported = turned imports leaves e old.imported;
         lost = turned is_loss imports e old.lost;
+        streams = moved_streams e old.streams;
+        fence = moved_fence e old.fence;
       } →
       client_new ≡ client_old ++ flat_map client_spelling (replies st e) →
       host_new ≡ host_old ++ flat_map (host_packet_bytes st.agreed) (map cancel (filter (cancels e) st.live)) →
@@ -102,6 +108,9 @@ module _ (st : State) (e : Effect) (l : IsSteady st e) where
           lost = ap (λ (k : Kept). k.lost) is ∙ ap (turned is_loss imports e) h.lost;
           client_over = ap (λ (k : Kept). k.client_over) is ∙ h.client_over ∙ (λ i. cond (sym l.no_refusal i) true (cond (sym l.no_end i) false st.client_over));
           host_over = ap (λ (k : Kept). k.host_over) is ∙ h.host_over ∙ sym (ap (λ (b : Bool). cond b true st.host_over) l.open_host);
+          streams = ap (λ (k : Kept). k.streams) is ∙ ap (moved_streams e) h.streams ∙ (λ i. cond (sym l.stays i || sym l.keeps i) no_streams (moved_streams e st.streams));
+          calls = ap (λ (k : Kept). k.calls) is ∙ h.calls ∙ (λ i. called (zip (sym l.no_ids i) (sym l.no_packets i)) st.calls);
+          fence = ap (λ (k : Kept). k.fence) is ∙ ap (moved_fence e) h.fence ∙ (λ i. cond (sym l.stays i) (last_or st.fence (drawn_by st e)) (cond (sym l.keeps i) None (moved_fence e st.fence)));
           last = ap (λ (k : Kept). k.last) is ∙ h.last ∙ ap (last_of st.last) (sym l.no_ids);
           live = ap (λ (k : Kept). k.lives.live) is ∙ asked ∙ ap (λ (ps : List Pending). map row (map (ask e) ps)) (sym steady-live);
           abandoned = ap (λ (k : Kept). map unmarked k.lives.abandoned) is ∙ h.abandoned
@@ -207,6 +216,24 @@ agrees-steady st caps = record {
   none_won = refl;
 }
 
+pub stream_told-steady : (st : State) (id ep : ℕ) (status : UsbStatus) → IsSteady st (StreamTold id ep status)
+stream_told-steady st id ep status = record {
+  stays = refl;
+  keeps = refl;
+  open_host = refl;
+  no_refusal = refl;
+  no_end = refl;
+  opens = refl;
+  ends_none = λ p. refl;
+  answers_none = λ s. refl;
+  no_packets = refl;
+  no_ids = refl;
+  no_word = λ caps. refl;
+  no_place = refl;
+  no_answer = refl;
+  none_won = refl;
+}
+
 -- nobody is cancelled where the client stays
 pub none-cancelled : (e : Effect) → ((p : Pending) → cancels e p ≡ false) → (ps : List Pending) → map cancel (filter (cancels e) ps) ≡ []
 none-cancelled e h ps = ap (map cancel) (filter-same (cancels e) (λ p. false) ps (every (λ p. cancels e p ≡ false) h ps) ∙ filter-none ps)
@@ -229,3 +256,11 @@ pub does-idle : (st : State) (old : Kept) (client host : List ℕ) (notes : List
 does-idle st old client host notes h a u d =
     does-steady st Idle (idle-steady st) old old old.lives.live client client host host notes notes h a u d
     (rows-same Idle old.lives.live st.live (λ s. refl) h.live) refl (sym (append-nil client)) (host-same st.agreed Idle host st.live stays-uncancelled) (sym (append-nil notes))
+
+-- the host tells of a stream
+pub does-tell_stream : (st : State) (id ep : ℕ) (status : UsbStatus) (old : Kept) (client host : List ℕ) (notes : List Note) → Holds old st → old.answered ≤ 2 ^ 64 - 1 → old.unlinked ≤ 2 ^ 64 - 1 → old.dropped ≤ 2 ^ 64 - 1 →
+    Does st (mark_as st (StreamTold id ep status) None) old (record old { streams = cond (is_success status) old.streams (lower_at ep old.streams); fence = lifted id old.fence }) client client host host notes notes
+does-tell_stream st id ep status old client host notes h a u d =
+    let e = StreamTold id ep status in
+    does-steady st e (stream_told-steady st id ep status) old _ old.lives.live client client host host notes notes h a u d
+    (rows-same e old.lives.live st.live (λ s. refl) h.live) refl (sym (append-nil client)) (host-same st.agreed e host st.live stays-uncancelled) (sym (append-nil notes))

@@ -8,11 +8,12 @@ use Rattle.usbip_urb.specs.declared.packet.Head.{Head}
 use Rattle.usbip_urb.specs.declared.packet.IsoDesc.{IsoDesc}
 use Rattle.usbip_urb.specs.declared.packet.UrbPacket.{UrbPacket}
 use Rattle.usbip_urb.specs.declared.packet.UrbPacket.TheVariants as urb
+use Rattle.usbip_urb.specs.Buffers.{total}
 use Rattle.gate_core.specs.Errno.{econnreset, eshutdown, eremoteio, is_zero}
 use Rattle.gate_core.specs.Requests.{Request}
 use Rattle.gate_core.specs.Verdict.{none_of, is_wire}
 use Rattle.gate_core.specs.Marks.{Submission}
-use Rattle.gate_core.specs.Submits.{End, AtOnce, ByClient, ByLoss, ByAnswer}
+use Rattle.gate_core.specs.Submits.{End, AtOnce, Sent, ByClient, ByLoss, ByAnswer}
 
 -- ---- the packets
 
@@ -51,6 +52,13 @@ echoed status descs = map (λ (d : IsoDesc). record d { actual = 0; status = sta
 abbrev pub without_packets : Request → ℤ → UrbPacket
 without_packets r status = ret_submit r status 0 [] (echoed status r.descs)
 
+-- isochronous packets that were all sent
+abbrev pub sent_whole : List IsoDesc → List IsoDesc
+sent_whole descs = map (λ (d : IsoDesc). record d { actual = d.length; status = pos 0 }) descs
+
+abbrev pub all_sent : Request → UrbPacket
+all_sent r = ret_submit r (pos 0) (total (sent_whole r.descs)) [] (sent_whole r.descs)
+
 abbrev pub with_outcome : Request → Outcome → UrbPacket
 with_outcome r o = ret_submit r (errno_of o.status) o.done o.body (echoed (errno_of o.status) r.descs)
 
@@ -74,6 +82,7 @@ lost_answer s (Some by) = ret_unlink by econnreset
 -- nothing goes to a client that is gone
 abbrev pub answers : Submission → Option ℕ → End → List UrbPacket
 answers s by (AtOnce status) = without_packets s.request status ∷ []
+answers s by Sent = all_sent s.request ∷ []
 answers s by ByClient = []
 answers s by ByLoss = lost_answer s by ∷ []
 answers s by (ByAnswer outcome) = answers_by s outcome by

@@ -6,5 +6,5 @@ abbrev pub is_built : Verdict → Bool
 is_built (Now status) = true
 is_built (Wire pipe) = true
 is_built (Routed r) = true
-is_built IsoOut = false
+is_built (IsoOut row) = true
 is_built (Stream row) = false

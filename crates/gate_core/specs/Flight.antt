@@ -6,6 +6,7 @@ use Rattle.gate_core.specs.Ids.{last_of}
 use Rattle.gate_core.specs.Verdict.{goes_by_id}
 use Rattle.gate_core.specs.Marks.{Submission, Mark}
 use Rattle.gate_core.specs.Submits.{live, abandoned}
+use Rattle.gate_core.specs.Calls.{calls, call_ids}
 
 -- capability 5: ids have 64 bits
 abbrev pub wide_ids : Caps → Bool
@@ -19,7 +20,7 @@ abbrev pub ids_of : List Submission → List ℕ
 ids_of ss = map (λ s. s.id) (filter (λ s. goes_by_id s.verdict) ss)
 
 abbrev pub in_flight : List Mark → List ℕ
-in_flight ms = ids_of (live ms) ++ ids_of (abandoned ms)
+in_flight ms = ids_of (live ms) ++ ids_of (abandoned ms) ++ call_ids (calls ms)
 
 -- the last id that was drawn; the first of all is the first id, which stands after `first - 1`
 abbrev pub last_drawn : ℕ → List Mark → ℕ

@@ -1,10 +1,12 @@
 -- What a gate keeps, as plain data.
-use Rattle.std.specs.Prelude.{ℕ, Bool, List}
+use Rattle.std.specs.Prelude.{ℕ, Bool, List, Option}
 use Rattle.packet_stream.specs.Streams.{Kept}
 use Rattle.redir_wire.specs.declared.packet.Caps.{Caps}
 use Rattle.redir_data.specs.declared.state.RedirState.{RedirState}
 use Rattle.unlink_race.specs.declared.live.Live.{Live}
 use Rattle.gate_core.specs.declared.facts.Facts.{Facts}
+use Rattle.gate_core.specs.declared.streams.Up.{Up}
+use Rattle.gate_core.specs.declared.streams.Calls.{Calls}
 
 -- of the items that have come
 pub record ItemsKept : Type 0 where
@@ -15,6 +17,11 @@ pub record ItemsKept : Type 0 where
   pub lost : Bool
   pub client_over : Bool
   pub host_over : Bool
+  -- the streams that are up, by their endpoints' places in a table; the ids of what started and stopped them; and the
+  -- last stop of a client's leaving, while no import passes it
+  pub streams : List (Option Up)
+  pub calls : Calls
+  pub fence : Option ℕ
   -- the live submits in order, and those that a client left at the host: what their answers need of them
   pub live : List Live
   pub abandoned : List Live

@@ -9,10 +9,12 @@ pub mod Sides
 pub mod Facts
 pub mod Submits
 pub mod Ids
+pub mod Ups
+pub mod Packets
+pub mod Calls
 pub mod Flight
 pub mod State
 pub mod Replies
-pub mod Packets
 pub mod Responses
 pub mod Built
 pub mod Meaning

@@ -1,6 +1,6 @@
 -- The same as a machine: a state that steps with each item, and keeps no past. First what the item means, by the whole
 -- state; then each part steps by itself.
-use Rattle.std.specs.Prelude.{◌≡◌, ℕ, suc, ◌-◌, false, if◌then◌else◌, List, [], ◌∷◌, ◌++◌, map, filter, is_none}
+use Rattle.std.specs.Prelude.{◌≡◌, ℕ, suc, ◌-◌, false, if◌then◌else◌, List, [], ◌∷◌, ◌++◌, map, filter, is_none, None}
 use Rattle.redir_wire.specs.Capability.{no_caps}
 use Rattle.gate_core.specs.declared.note.Counts.{Counts}
 use Rattle.gate_core.specs.Events.{Event}
@@ -10,6 +10,8 @@ use Rattle.gate_core.specs.Sides.{turned, imports, leaves, is_loss, refuses_clie
 use Rattle.gate_core.specs.Facts.{no_facts, facts_after}
 use Rattle.gate_core.specs.Submits.{Pending, ends, asks, abandoned_after}
 use Rattle.gate_core.specs.Ids.{last_of}
+use Rattle.gate_core.specs.Ups.{no_streams, streams_after}
+use Rattle.gate_core.specs.Calls.{no_calls, called, asking, fence_after}
 use Rattle.gate_core.specs.State.{State, state_of, submits}
 use Rattle.gate_core.specs.Meaning.{mark_of}
 use Rattle.gate_core.specs.Past.{is_left_out, past}
@@ -30,6 +32,9 @@ start first = record {
   host_over = false;
   live = [];
   abandoned = [];
+  streams = no_streams;
+  calls = no_calls;
+  fence = None;
   last = first - 1;
 }
 
@@ -51,6 +56,9 @@ after st m = record {
   host_over = turned closes_host never m.what st.host_over;
   live = live_after st m.what;
   abandoned = abandoned_after m.what (submits st) st.abandoned;
+  streams = streams_after m.what st.streams;
+  calls = called (asking st.streams m) st.calls;
+  fence = fence_after m.what m.drawn st.fence;
   last = last_of st.last m.drawn;
 }
 

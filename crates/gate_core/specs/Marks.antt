@@ -2,6 +2,7 @@
 use Rattle.std.specs.Prelude.{ℕ, List, Option}
 use Rattle.usb_base.specs.declared.side.Side.{Side}
 use Rattle.usb_base.specs.declared.refusal.Refusal.{Refusal}
+use Rattle.usb_base.specs.declared.status.UsbStatus.{UsbStatus}
 use Rattle.usb_base.specs.declared.endpoint.EpTable.{EpTable}
 use Rattle.usb_base.specs.declared.transfer.Outcome.{Outcome}
 use Rattle.usbip_op.specs.declared.packet.OpPacket.{OpPacket}
@@ -16,7 +17,7 @@ pub record Submission : Type 0 where
   pub place : ℕ
   pub request : Request
   pub verdict : Verdict
-  -- of the last packet that it sends to the host, 0 where it sends none
+  -- of the last packet that it sends to the host, where its answer has that; else 0
   pub id : ℕ
 
 -- what the host tells of its device
@@ -43,6 +44,8 @@ pub data Effect : Type 0 where
   Agrees : Caps → Effect
   -- the host answers the request that has this id
   Answers : (id : ℕ) → Outcome → Effect
+  -- the host tells of the stream of an endpoint, by the id of what started or stopped it
+  StreamTold : (id ep : ℕ) → UsbStatus → Effect
   -- the device is gone, and the host waits for this to be acknowledged
   Disconnects : (id : ℕ) → Effect
   -- a side ends

@@ -1,5 +1,5 @@
 -- What an item means, by what the past says: its effect, the fact that it tells, and the ids of its packets.
-use Rattle.std.specs.Prelude.{ℕ, ◌+◌, ◌==◌, ◌&&◌, not, Bool, if◌then◌else◌, List, [], ◌++◌, length, Option, Some, None}
+use Rattle.std.specs.Prelude.{ℕ, ◌+◌, ◌==◌, ◌&&◌, not, Bool, if◌then◌else◌, List, [], ◌++◌, length, Option, Some, None, is_none}
 use Rattle.std.specs.List.{find}
 use Rattle.usb_base.specs.declared.side.Side.{Side}
 use Rattle.usb_base.specs.declared.side.Side.TheVariants.{Client, Host}
@@ -7,6 +7,7 @@ use Rattle.usb_base.specs.declared.reason.Reason.{Reason}
 use Rattle.usb_base.specs.declared.reason.Reason.TheVariants.{NotImported, AlreadyImported, DuplicateSeq}
 use Rattle.usb_base.specs.declared.refusal.Refusal.{Refusal}
 use Rattle.usb_base.specs.declared.transfer.Outcome.{Outcome}
+use Rattle.usb_base.specs.Status.{status_of}
 use Rattle.usbip_op.specs.declared.packet.OpPacket.{OpPacket}
 use Rattle.usbip_op.specs.declared.packet.OpPacket.TheVariants as op
 use Rattle.usbip_urb.specs.declared.packet.UrbPacket.{UrbPacket}
@@ -22,15 +23,15 @@ use Rattle.usbip_urb.specs.declared.client.ClientPacket.{ClientPacket}
 use Rattle.usbip_urb.specs.declared.client.ClientPacket.TheVariants.{Op, Urb}
 use Rattle.gate_core.specs.Items.{Item, Asked, ClientWrong, ClientLeft, Told, HostWrong, HostLeft}
 use Rattle.gate_core.specs.Requests.{Request, request_of}
-use Rattle.gate_core.specs.Verdict.{Verdict, verdict, none_of}
-use Rattle.gate_core.specs.Marks.{Submission, Fact, Connected, Interfaces, Endpoints, Configuration, Effect, Idle, Replies, Imports, Opens, Unbuilt, Unlinks, Agrees, Answers, Disconnects, Ends, Refuses, Mark}
+use Rattle.gate_core.specs.Verdict.{Verdict, verdict, none_of, goes_by_id}
+use Rattle.gate_core.specs.Marks.{Submission, Fact, Connected, Interfaces, Endpoints, Configuration, Effect, Idle, Replies, Imports, Opens, Unbuilt, Unlinks, Agrees, Answers, StreamTold, Disconnects, Ends, Refuses, Mark}
 use Rattle.gate_core.specs.Sides.{refusal}
 use Rattle.gate_core.specs.Ids.{last_of}
 use Rattle.gate_core.specs.Submits.{has_id}
 use Rattle.gate_core.specs.Flight.{wide_ids, wide_bulk}
 use Rattle.gate_core.specs.State.{State, submits, next_ids, has_number, change_waits}
 use Rattle.gate_core.specs.Replies.{list_reply, import_reply, failed_import, is_exported}
-use Rattle.gate_core.specs.Packets.{packets_of}
+use Rattle.gate_core.specs.Packets.{packets_of, asked_packets}
 use Rattle.gate_core.specs.Responses.{Response, response_of, mismatch, seen}
 use Rattle.gate_core.specs.Built.{is_built}
 use Rattle.redir_wire.specs.EpTable.{table_of}
@@ -40,9 +41,9 @@ refused side place reason = Refuses (refusal side place reason)
 
 -- ---- list and import requests
 
--- an import waits until the host has answered all that an earlier client left
+-- an import waits until the host has answered all that an earlier client left, and the last stop of its streams
 abbrev pub may_import : State → List ℕ → Bool
-may_import st busid = is_exported busid && none_of st.abandoned
+may_import st busid = is_exported busid && none_of st.abandoned && is_none st.fence
 
 abbrev pub imported_as : State → Option Connect → Effect
 imported_as st None = Replies failed_import
@@ -69,10 +70,11 @@ verdict_of st r = verdict st.lost (length st.live) (change_waits st) st.facts.ta
 
 -- the ids of the packets that ask the host for it
 abbrev pub drawn_for : State → Request → Verdict → List ℕ
-drawn_for st r v = next_ids st (length (packets_of v r.transfer))
+drawn_for st r v = next_ids st (length (packets_of st.streams v r))
 
+-- only some are answered by their ids
 abbrev pub submission : State → Request → Verdict → List ℕ → Submission
-submission st r v ids = record { place = st.items; request = r; verdict = v; id = last_of 0 ids }
+submission st r v ids = record { place = st.items; request = r; verdict = v; id = if goes_by_id v then last_of 0 ids else 0 }
 
 abbrev pub accepts : State → ℕ → Request → Verdict → Effect
 accepts st place r v = if is_built v then Opens (submission st r v (drawn_for st r v)) else Unbuilt (submission st r v []) place
@@ -110,6 +112,8 @@ by_response st place h (Some response) = answer_to st place h response (find (ha
 abbrev pub told_meaning : State → ℕ → Header → RedirPacket → Effect
 told_meaning st place h (Plain (plain.Hello hello)) = Agrees (agreed (caps_of hello) announced)
 told_meaning st place h (Plain plain.Disconnect) = Disconnects h.id
+told_meaning st place h (Plain (plain.IsoStatus status endpoint)) = StreamTold h.id endpoint (status_of status)
+told_meaning st place h (Plain (plain.InterruptStatus status endpoint)) = StreamTold h.id endpoint (status_of status)
 told_meaning st place h p = by_response st place h (response_of p)
 
 abbrev pub meaning : State → Item → Effect
@@ -136,8 +140,7 @@ told_by _ = None
 -- ---- the ids of its packets
 
 abbrev pub drawn_by : State → Effect → List ℕ
-drawn_by st (Opens s) = drawn_for st s.request s.verdict
-drawn_by st _ = []
+drawn_by st e = next_ids st (length (asked_packets st.streams e))
 
 abbrev pub mark_as : State → Effect → Option Fact → Mark
 mark_as st e told = record { what = e; told = told; drawn = drawn_by st e }

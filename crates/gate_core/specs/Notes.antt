@@ -5,7 +5,7 @@ use Rattle.gate_core.specs.declared.note.Note.{Note}
 use Rattle.gate_core.specs.declared.note.Note.TheVariants as note
 use Rattle.gate_core.specs.Marks.{Submission, Effect, Imports, Unlinks, Mark}
 use Rattle.gate_core.specs.Sides.{refused_at, leaves, is_loss}
-use Rattle.gate_core.specs.Submits.{End, AtOnce, ByClient, ByLoss, ByAnswer, opened, ends}
+use Rattle.gate_core.specs.Submits.{End, AtOnce, Sent, ByClient, ByLoss, ByAnswer, opened, ends}
 use Rattle.gate_core.specs.State.{State}
 use Rattle.gate_core.specs.Output.{present}
 
@@ -28,6 +28,7 @@ unlink_notes _ = []
 abbrev pub is_by_answer : Option End → Bool
 is_by_answer None = false
 is_by_answer (Some (AtOnce status)) = false
+is_by_answer (Some Sent) = false
 is_by_answer (Some ByClient) = false
 is_by_answer (Some ByLoss) = false
 is_by_answer (Some (ByAnswer outcome)) = true
@@ -52,6 +53,7 @@ notes_of st m =
 abbrev pub is_by_client : Option End → Bool
 is_by_client None = false
 is_by_client (Some (AtOnce status)) = false
+is_by_client (Some Sent) = false
 is_by_client (Some ByClient) = true
 is_by_client (Some ByLoss) = false
 is_by_client (Some (ByAnswer outcome)) = false

@@ -1,5 +1,5 @@
 -- What an item sends to each side, by what the past says.
-use Rattle.std.specs.Prelude.{ℕ, ◌==◌, ◌&&◌, Bool, if◌then◌else◌, List, [], ◌∷◌, ◌++◌, map, filter, zip, None, is_none, pos}
+use Rattle.std.specs.Prelude.{ℕ, ◌==◌, ◌&&◌, Bool, if◌then◌else◌, List, [], ◌∷◌, ◌++◌, map, filter, None, is_none, pos}
 use Rattle.std.specs.List.{list_any, flat_map}
 use Rattle.redir_wire.specs.declared.packet.Caps.{Caps}
 use Rattle.redir_wire.specs.declared.packet.RedirControl.TheVariants as plain
@@ -13,7 +13,7 @@ use Rattle.gate_core.specs.Marks.{Submission, Effect, Replies, Imports, Opens, U
 use Rattle.gate_core.specs.Sides.{leaves}
 use Rattle.gate_core.specs.Submits.{Pending, opened, ends}
 use Rattle.gate_core.specs.State.{State}
-use Rattle.gate_core.specs.Packets.{packets_of}
+use Rattle.gate_core.specs.Calls.{asking}
 use Rattle.gate_core.specs.Answers.{answers_at, ret_unlink}
 
 -- ---- to the client
@@ -54,14 +54,10 @@ cancels e p = is_wire p.submit.verdict && is_none p.unlinker && leaves e
 abbrev pub cancel : Pending → ℕ × RedirPacket
 cancel p = (p.submit.id, Plain plain.Cancel)
 
-abbrev pub asked_packets : Effect → List RedirPacket
-asked_packets (Opens s) = packets_of s.verdict s.request.transfer
-asked_packets _ = []
-
 -- capability 3: a disconnect is acknowledged, with its id
 abbrev pub acknowledgements : Caps → Effect → List (ℕ × RedirPacket)
 acknowledgements caps (Disconnects id) = if has caps 3 then (id, Plain plain.DisconnectAck) ∷ [] else []
 acknowledgements caps _ = []
 
 abbrev pub to_host : State → Mark → List (ℕ × RedirPacket)
-to_host st m = map cancel (filter (cancels m.what) st.live) ++ zip m.drawn (asked_packets m.what) ++ acknowledgements st.agreed m.what
+to_host st m = map cancel (filter (cancels m.what) st.live) ++ asking st.streams m ++ acknowledgements st.agreed m.what

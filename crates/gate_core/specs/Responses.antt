@@ -52,7 +52,7 @@ answer_kind (Wire Bulk) = 101
 answer_kind (Wire InterruptOut) = 103
 answer_kind (Routed r) = route_answer r
 answer_kind (Now status) = 0
-answer_kind IsoOut = 0
+answer_kind (IsoOut row) = 0
 answer_kind (Stream row) = 0
 
 abbrev pub mismatched : ℕ → ℕ → ℕ → Refusal

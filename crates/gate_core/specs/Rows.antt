@@ -20,7 +20,7 @@ kind_of (Wire pipe) ep = live_kind.Wire ep (pipe_kind pipe)
 kind_of (Routed r) ep = live_kind.Routed r
 kind_of (Stream row) ep = live_kind.Stream ep row.interface
 kind_of (Now status) ep = live_kind.Stream ep 0
-kind_of IsoOut ep = live_kind.Stream ep 0
+kind_of (IsoOut row) ep = live_kind.Stream ep 0
 
 abbrev pub row_of : Submission → Option ℕ → Live
 row_of s by = record {

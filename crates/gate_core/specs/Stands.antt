@@ -57,6 +57,9 @@ pub record IsOf (t : ItemsKept) (st : State) : Type 0 where
   pub lost : t.lost ≡ st.lost
   pub client_over : t.client_over ≡ st.client_over
   pub host_over : t.host_over ≡ st.host_over
+  pub streams : t.streams ≡ st.streams
+  pub calls : t.calls ≡ st.calls
+  pub fence : t.fence ≡ st.fence
   pub last : t.last ≡ st.last
   pub live : t.live ≡ map row st.live
   pub abandoned : map unmarked t.abandoned ≡ map left_row st.abandoned

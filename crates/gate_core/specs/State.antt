@@ -1,14 +1,18 @@
 -- What a past says, as one value: the results of all searches. What an item means depends on nothing else.
-use Rattle.std.specs.Prelude.{ℕ, ◌==◌, Bool, List, ◌++◌, length, map}
+use Rattle.std.specs.Prelude.{ℕ, ◌==◌, Bool, List, ◌++◌, length, map, Option}
 use Rattle.std.specs.List.{list_any}
 use Rattle.redir_wire.specs.declared.packet.Caps.{Caps}
 use Rattle.gate_core.specs.declared.facts.Facts.{Facts}
+use Rattle.gate_core.specs.declared.streams.Up.{Up}
+use Rattle.gate_core.specs.declared.streams.Calls.{Calls}
 use Rattle.gate_core.specs.Ids.{draws, greatest}
 use Rattle.gate_core.specs.Verdict.{changes}
 use Rattle.gate_core.specs.Marks.{Submission, Mark}
 use Rattle.gate_core.specs.Sides.{imported, lost, client_over, host_over, agreed}
 use Rattle.gate_core.specs.Facts.{facts}
 use Rattle.gate_core.specs.Submits.{Pending, pendings, abandoned}
+use Rattle.gate_core.specs.Ups.{streams}
+use Rattle.gate_core.specs.Calls.{calls, call_ids, fence}
 use Rattle.gate_core.specs.Flight.{wide_ids, ids_of, last_drawn}
 
 pub record State : Type 0 where
@@ -23,6 +27,10 @@ pub record State : Type 0 where
   -- the live submits in order, and those that a client left at the host
   pub live : List Pending
   pub abandoned : List Submission
+  -- the streams that are up, the ids of what started and stopped them, and the one that no import passes
+  pub streams : List (Option Up)
+  pub calls : Calls
+  pub fence : Option ℕ
   -- the id that was drawn last
   pub last : ℕ
 
@@ -37,6 +45,9 @@ state_of first ms = record {
   host_over = host_over ms;
   live = pendings ms;
   abandoned = abandoned ms;
+  streams = streams ms;
+  calls = calls ms;
+  fence = fence ms;
   last = last_drawn first ms;
 }
 
@@ -46,7 +57,7 @@ abbrev pub submits : State → List Submission
 submits st = map (λ p. p.submit) st.live
 
 abbrev pub flying : State → List ℕ
-flying st = ids_of (submits st) ++ ids_of st.abandoned
+flying st = ids_of (submits st) ++ ids_of st.abandoned ++ call_ids st.calls
 
 -- the ids of an item's first n packets
 abbrev pub next_ids : State → ℕ → List ℕ

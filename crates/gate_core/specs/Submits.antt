@@ -9,6 +9,8 @@ use Rattle.gate_core.specs.Sides.{leaves, is_loss, or_else}
 pub data End : Type 0 where
   -- where it is accepted, with its verdict's status
   AtOnce : (status : ℤ) → End
+  -- where it is accepted, with its packets sent to the host
+  Sent : End
   ByClient : End
   ByLoss : End
   ByAnswer : Outcome → End
@@ -29,7 +31,7 @@ accepted (m ∷ ms) = accepted ms ++ opened m.what
 
 abbrev pub at_once : Verdict → Option End
 at_once (Now status) = Some (AtOnce status)
-at_once IsoOut = None
+at_once (IsoOut row) = Some Sent
 at_once (Wire pipe) = None
 at_once (Routed r) = None
 at_once (Stream row) = None

@@ -28,8 +28,8 @@ pub data Verdict : Type 0 where
   Wire : Pipe → Verdict
   -- it goes to the host by the packets of its route
   Routed : Route → Verdict
-  -- it goes to the host as isochronous packets, and is answered at once
-  IsoOut : Verdict
+  -- it goes to the host as isochronous packets by the stream of an endpoint that has this row, and is answered at once
+  IsoOut : EpRow → Verdict
   -- it waits for the packets of its endpoint's stream, which keeps this row
   Stream : EpRow → Verdict
 
@@ -70,7 +70,7 @@ by_setup r s =
 
 abbrev pub by_kind : Request → EpRow → EpKind → Verdict
 by_kind r row kind.Control = Now einval
-by_kind r row kind.Iso = if r.is_in then Stream row else IsoOut
+by_kind r row kind.Iso = if r.is_in then Stream row else IsoOut row
 by_kind r row kind.Bulk = Wire Bulk
 by_kind r row kind.Interrupt = if r.is_in then Stream row else Wire InterruptOut
 by_kind r row kind.Invalid = Now enoent
@@ -134,14 +134,14 @@ abbrev pub goes_by_id : Verdict → Bool
 goes_by_id (Now status) = false
 goes_by_id (Wire pipe) = true
 goes_by_id (Routed r) = true
-goes_by_id IsoOut = false
+goes_by_id (IsoOut row) = false
 goes_by_id (Stream row) = false
 
 abbrev pub is_wire : Verdict → Bool
 is_wire (Now status) = false
 is_wire (Wire pipe) = true
 is_wire (Routed r) = false
-is_wire IsoOut = false
+is_wire (IsoOut row) = false
 is_wire (Stream row) = false
 
 -- the device's interfaces may be others once it ends
@@ -149,5 +149,5 @@ abbrev pub changes : Verdict → Bool
 changes (Now status) = false
 changes (Wire pipe) = false
 changes (Routed r) = is_change r
-changes IsoOut = false
+changes (IsoOut row) = false
 changes (Stream row) = false

@@ -4,6 +4,7 @@ pub mod Asked
 pub mod Responses
 pub mod Carried
 pub mod Flying
+pub mod Calling
 pub mod Rows
 pub mod Holds
 pub mod Unlinked

@@ -1,17 +1,19 @@
 //! The answers of submits and unlinks ("usbip_protocol", USBIP_RET_SUBMIT and USBIP_RET_UNLINK).
 
-ghost use Rattle.std.specs.Prelude.{◌≡◌, ◌++◌, ◌≤◌, ◌<◌, None, [], filter, length, not, OnOk, OnErr, IfOk};
+ghost use Rattle.usbip_urb.specs.declared.code.TheConstants.{MAX_LENGTH};
+ghost use Rattle.usbip_urb.specs.Buffers.{laid};
+ghost use Rattle.std.specs.Prelude.{◌≡◌, false, IsTrue, ◌++◌, ◌≤◌, ◌<◌, None, [], filter, length, not, OnOk, OnErr, IfOk};
 ghost use Rattle.usbip_urb.specs.Spelling.{spelling};
 ghost use Rattle.usbip_urb.specs.declared.packet.UrbPacket.TheVariants.{RetSubmit as RetSubmitPacket};
 ghost use Rattle.gate_core.specs.Errno.{is_zero};
-ghost use Rattle.gate_core.specs.Answers.{answer_head, told_status, ret_submit, ret_unlink, echoed, without_packets, with_outcome};
+ghost use Rattle.gate_core.specs.Answers.{answer_head, told_status, ret_submit, ret_unlink, echoed, without_packets, sent_whole, all_sent, with_outcome};
 ghost use Rattle.gate_core.specs.inner.Asked.{asked_view, HasItsPackets, IsMoved};
 
 use crate::errno::EREMOTEIO;
 use crate::request::Request;
 use std::alloc::Global;
 use usb_base::{Bytes, Memory, Outcome};
-use usbip_urb::{Descs, Head, IsoDesc, RetSubmit, RetUnlink, UrbPacket, write_urb};
+use usbip_urb::{Descs, Head, IsoDesc, RetSubmit, RetUnlink, UrbPacket, total, write_urb};
 
 /// URB_SHORT_NOT_OK in transfer_flags: a read that gives fewer bytes than were asked for has failed.
 const URB_SHORT_NOT_OK: u32 = 0x0001;
@@ -62,6 +64,21 @@ pub fn write_without_packets(
 {
     let descs = echoed(alloc, asked.descs, status)?;
     let answer = ret_submit(asked, status, 0, Bytes::new(alloc), descs);
+    write_urb(&UrbPacket::RetSubmit(answer), out)
+}
+
+/// Appends the answer of an isochronous submit whose packets were all sent to the host. For want of memory `out` stands.
+pub fn write_all_sent(alloc: Global, asked: &Asked, out: &mut Bytes) -> Result<(), Memory>
+    requires packets { HasItsPackets asked.now.packets asked.now.descs.now }
+    requires to_device { asked.now.is_in ≡ false }
+    requires lies { IsTrue (laid asked.now.descs.now asked.now.wanted) }
+    requires few_bytes { asked.now.wanted ≤ MAX_LENGTH }
+    ensures ok { OnOk result (out.new ≡ out.old ++ spelling (all_sent (asked_view asked.now))) }
+    ensures err { OnErr result (out.new ≡ out.old) }
+{
+    let descs = sent_whole(alloc, asked.descs)?;
+    let actual = total(&descs) as u32;
+    let answer = ret_submit(asked, 0, actual, Bytes::new(alloc), descs);
     write_urb(&UrbPacket::RetSubmit(answer), out)
 }
 
@@ -161,4 +178,20 @@ fn echoed(alloc: Global, descs: &[IsoDesc], status: i32) -> Result<Descs, Memory
         })?;
     }
     Ok(echo)
+}
+
+// Isochronous packets that were all sent.
+fn sent_whole(alloc: Global, descs: &[IsoDesc]) -> Result<Descs, Memory>
+    ensures ok { IfOk result (λ sent. sent ≡ sent_whole descs.now) }
+    ensures err { OnErr result (0 < length descs.now) }
+{
+    let mut sent = Descs::new(alloc);
+    for desc in descs {
+        sent.push(IsoDesc {
+            actual: desc.length,
+            status: 0,
+            ..*desc
+        })?;
+    }
+    Ok(sent)
 }

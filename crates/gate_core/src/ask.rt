@@ -1,24 +1,27 @@
 //! The packets to the host: its hello, those that ask for a transfer, cancels and acknowledgements.
 
-ghost use Rattle.std.specs.Prelude.{◌≡◌, ◌≤◌, ◌++◌, ◌∷◌, [], true, length, zip, All, OnOk, OnErr};
+ghost use Rattle.std.specs.Prelude.{◌≡◌, ◌≤◌, ◌++◌, ◌∷◌, [], true, false, length, zip, All, OnOk, OnErr};
 ghost use Rattle.std.specs.List.{flat_map};
 ghost use Rattle.redir_wire.specs.Header.{IdFits};
 ghost use Rattle.redir_wire.specs.Capability.{has, no_caps};
 ghost use Rattle.redir_wire.specs.declared.packet.RedirControl.TheVariants.{Cancel, DisconnectAck, Reset as ResetPacket, GetConfiguration as GetConfigurationPacket};
 ghost use Rattle.redir_data.specs.declared.packet.RedirPacket.TheVariants.{Plain, Carrying};
-ghost use Rattle.gate_core.specs.Packets.{wire_packet, route_packets};
+ghost use Rattle.usb_base.specs.Endpoint.{is_in_endpoint};
+ghost use Rattle.redir_data.specs.declared.packet.RedirData.TheVariants as data_packet;
+ghost use Rattle.gate_core.specs.Packets.{wire_packet, route_packets, start_packet, stop_packet};
 ghost use Rattle.gate_core.specs.Bytes.{host_packet_bytes, gateway_hello};
 ghost use Rattle.gate_core.specs.Flight.{wide_ids, wide_bulk};
 ghost use Rattle.gate_core.specs.inner.Views.{pipe_view};
 ghost use Rattle.gate_core.specs.inner.Carried.{HasItsSetup, LengthFits, IsSent};
 
 use crate::field::field;
+use crate::streams::Up;
 use crate::verdict::Pipe;
 use control_route::Route;
 use redir_data::{RedirData, write_data};
 use redir_wire::{ANNOUNCED, Caps, Hello, RedirControl, Way, Words, write_control};
 use std::alloc::Global;
-use usb_base::{Bytes, Memory, Transfer};
+use usb_base::{Bytes, EpAddr, EpKind, EpRow, Memory, Transfer};
 
 /// Appends the packet that carries a transfer to the host, with this id. The transfer's body is moved into the packet,
 /// and copied once, to `out`, which stands for want of memory.
@@ -145,6 +148,71 @@ fn write_reset(first: u64, second: u64, caps: Caps, out: &mut Bytes) -> Result<(
             Err(memory)
         }
     }
+}
+
+/// Appends the start of an endpoint's stream. For want of memory `out` stands.
+pub fn write_start(
+    ep: EpAddr,
+    row: EpRow,
+    id: u64,
+    caps: Caps,
+    out: &mut Bytes,
+) -> Result<(), Memory>
+    requires { IdFits (wide_ids caps) id }
+    ensures ok { OnOk result (out.new ≡ out.old ++ host_packet_bytes caps (id, start_packet ep row)) }
+    ensures err { OnErr result (out.new ≡ out.old) }
+{
+    let endpoint = ep.byte();
+    if row.kind == EpKind::Iso {
+        let start = RedirControl::StartIso {
+            endpoint,
+            pkts_per_urb: 8,
+            no_urbs: 4,
+        };
+        write_control(&start, id, caps, out)
+    } else {
+        write_control(&RedirControl::StartInterrupt { endpoint }, id, caps, out)
+    }
+}
+
+/// Appends the stop of a stream. For want of memory `out` stands.
+pub fn write_stop(up: &Up, id: u64, caps: Caps, out: &mut Bytes) -> Result<(), Memory>
+    requires { IdFits (wide_ids caps) id }
+    ensures ok { OnOk result (out.new ≡ out.old ++ host_packet_bytes caps (id, stop_packet up.now)) }
+    ensures err { OnErr result (out.new ≡ out.old) }
+{
+    let endpoint = up.ep.byte();
+    if up.row.kind == EpKind::Iso {
+        write_control(&RedirControl::StopIso { endpoint }, id, caps, out)
+    } else {
+        write_control(&RedirControl::StopInterrupt { endpoint }, id, caps, out)
+    }
+}
+
+/// Appends an isochronous packet to the device with these data. For want of memory `out` stands.
+pub fn write_iso(
+    alloc: Global,
+    ep: EpAddr,
+    data: &[u8],
+    id: u64,
+    caps: Caps,
+    out: &mut Bytes,
+) -> Result<(), Memory>
+    requires to_device { is_in_endpoint ep ≡ false }
+    requires few { length data.now ≤ 65535 }
+    requires id_fits { IdFits (wide_ids caps) id }
+    ensures ok { OnOk result (out.new ≡ out.old ++ host_packet_bytes caps (id, Carrying (data_packet.Iso ep 0 (length data.now) data.now))) }
+    ensures err { OnErr result (out.new ≡ out.old) }
+{
+    let mut body = Bytes::new(alloc);
+    body.append(data)?;
+    let packet = RedirData::Iso {
+        endpoint: ep.byte(),
+        status: 0,
+        length: data.len() as u16,
+        body,
+    };
+    write_data(&packet, id, Way::ToHost, caps, out)
 }
 
 /// Appends the cancel of the packet that has this id. For want of memory `out` stands.

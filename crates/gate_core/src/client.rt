@@ -100,12 +100,12 @@ impl Kept {
     }
 
     /// The device that an import of this bus id gets: it is there, and the host has answered all that an earlier client
-    /// left.
+    /// left, and the last stop of its streams.
     fn importable(&self, busid: &[u8; 32]) -> Option<Connect>
         ensures value { (st : State) → Holds self.now st → result ≡ importable_in st busid.now }
         ensures free { IfSome result (λ connect. self.now.lives.abandoned ≡ []) }
     {
-        if is_exported(busid) && self.lives.abandoned() == 0 {
+        if is_exported(busid) && self.lives.abandoned() == 0 && self.fence.is_none() {
             self.facts.connect
         } else {
             None

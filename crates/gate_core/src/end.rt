@@ -1,14 +1,16 @@
 //! How submits end together: with the loss of the device, and with their client.
 
-ghost use Rattle.std.specs.Prelude.{◌≡◌, ◌++◌, ◌&&◌, not, ℕ, List, None, false, OnOk, OnErr, IfOk, length, filter};
+ghost use Rattle.std.specs.Prelude.{◌≡◌, ◌++◌, ◌&&◌, not, ℕ, List, [], None, false, OnOk, OnErr, IfOk, length, filter};
 ghost use Rattle.std.specs.List.{flat_map};
 ghost use Rattle.usb_base.specs.declared.side.Side.TheVariants.{Client, Host};
 ghost use Rattle.redir_wire.specs.Header.{IdFits};
+ghost use Rattle.unlink_race.specs.Searches.{goes_by_id};
 ghost use Rattle.gate_core.specs.Flight.{wide_ids};
 ghost use Rattle.gate_core.specs.declared.note.Note.TheVariants.{DeviceGone, ClientGone};
 ghost use Rattle.gate_core.specs.Items.{capped};
 ghost use Rattle.gate_core.specs.Marks.{Submission, Disconnects, Ends, Refuses, Unbuilt};
 ghost use Rattle.gate_core.specs.Sides.{refusal};
+ghost use Rattle.gate_core.specs.Ups.{no_streams};
 ghost use Rattle.gate_core.specs.Output.{acknowledgements};
 ghost use Rattle.gate_core.specs.Bytes.{host_packet_bytes};
 ghost use Rattle.gate_core.specs.State.{State};
@@ -22,6 +24,7 @@ use crate::facts::Facts;
 use crate::finish::write_lost;
 use crate::kept::Kept;
 use crate::note::{Note, Notes};
+use crate::streams::{Called, no_streams};
 use redir_wire::{Caps, DISCONNECT_ACK};
 use unlink_race::{Live, LiveKind};
 use usb_base::{Bytes, Memory, Reason, Refusal, Side};
@@ -72,6 +75,8 @@ impl Kept {
         }
         self.lives.forget_abandoned();
         self.facts = Facts::none();
+        self.streams = no_streams();
+        self.fence = None;
         self.lost = true;
     }
 
@@ -139,8 +144,9 @@ impl Kept {
         ensures err { (client : List ℕ) → OnErr result (Leaves self.old self.new client client to_host.old to_host.new notes.old notes.new) }
     {
         self.write_cancels(to_host)?;
+        let called = self.write_stops(None, to_host)?;
         self.tell_gone(notes)?;
-        self.leave();
+        self.leave(called);
         self.client_over = false;
         Ok(())
     }
@@ -159,9 +165,10 @@ impl Kept {
         ensures err { (client : List ℕ) → OnErr result (Leaves self.old self.new client client to_host.old to_host.new notes.old notes.new) }
     {
         self.write_cancels(to_host)?;
+        let called = self.write_stops(None, to_host)?;
         notes.push(Note::ClientGone)?;
         notes.push(Note::Refused(refusal))?;
-        self.leave();
+        self.leave(called);
         self.client_over = true;
         Ok(())
     }
@@ -181,13 +188,14 @@ impl Kept {
         ensures err { (client : List ℕ) → OnErr result (Leaves self.old self.new client client to_host.old to_host.new notes.old notes.new) }
     {
         self.write_cancels(to_host)?;
+        let called = self.write_stops(None, to_host)?;
         notes.push(Note::Submitted {
             seqnum: number,
             id: 0,
         })?;
         notes.push(Note::ClientGone)?;
         notes.push(Note::Refused(client_refusal(place, Reason::NotBuilt)))?;
-        self.leave();
+        self.leave(called);
         self.client_over = true;
         self.dropped = self.dropped.saturating_add(1);
         Ok(())
@@ -215,17 +223,40 @@ impl Kept {
         Ok(())
     }
 
-    /// The client is gone: the host still has its transfers, which are abandoned.
-    pub fn leave(&mut self)
+    /// The client is gone: the host still has its transfers, which are abandoned, and its streams were stopped.
+    pub fn leave(&mut self, called: Called)
         requires kept { IsKept self.old }
         ensures kept { IsKept self.new }
-        ensures left { HasLeft self.old self.new }
+        ensures left { HasLeft called self.old self.new }
     {
         self.dropped = self.dropped.saturating_add(self.lives.len() as u64);
+        self.imported = false;
+        self.abandon();
+        self.forget_streams(called);
+    }
+
+    /// What the client has at the host is abandoned.
+    fn abandon(&mut self)
+        requires kept { IsKept self.old }
+        requires gone { self.old.imported ≡ false }
+        ensures kept { IsKept self.new }
+        ensures abandoned { self.new ≡ record self.old { lives = record { live = []; abandoned = self.old.lives.abandoned ++ filter goes_by_id self.old.lives.live } } }
+    {
         if self.lives.abandoned() == 0 {
             self.lives.abandon();
         }
-        self.imported = false;
+    }
+
+    /// The streams were stopped.
+    fn forget_streams(&mut self, called: Called)
+        requires kept { IsKept self.old }
+        ensures kept { IsKept self.new }
+        ensures forgot { self.new ≡ record self.old { streams = no_streams; calls = called.calls; fence = called.fence; last = called.last } }
+    {
+        self.streams = no_streams();
+        self.calls = called.calls;
+        self.fence = called.fence;
+        self.last = called.last;
     }
 }
 

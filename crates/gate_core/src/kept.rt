@@ -4,6 +4,7 @@ ghost use Rattle.std.specs.Prelude.{◌≡◌, ◌≤◌, IfOk};
 ghost use Rattle.gate_core.specs.inner.Holds.{IsFirst, IsKept};
 
 use crate::facts::Facts;
+use crate::streams::{Calls, Up, no_streams};
 use redir_wire::Caps;
 use std::alloc::Global;
 use unlink_race::Lives;
@@ -26,6 +27,12 @@ pub struct Kept {
     pub client_over: bool,
     /// The host has ended or was refused.
     pub host_over: bool,
+    /// The streams that are up, by their endpoints' places in a table.
+    pub streams: [Option<Up>; 32],
+    /// The ids of what started and stopped them.
+    pub calls: Calls,
+    /// The id of the last stop that a client's leaving sent, until the host has answered it: no import passes it.
+    pub fence: Option<u64>,
     /// The id that was drawn last.
     pub last: u64,
     /// RET_SUBMITs that were sent.
@@ -52,6 +59,9 @@ impl Kept {
             lost: false,
             client_over: false,
             host_over: false,
+            streams: no_streams(),
+            calls: Calls::none(),
+            fence: None,
             last: first_id - 1,
             answered: 0,
             unlinked: 0,

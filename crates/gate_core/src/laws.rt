@@ -19,7 +19,7 @@ ghost use Rattle.gate_core.specs.Bytes.{client_bytes_of, host_bytes_of};
 ghost use Rattle.gate_core.specs.Machine.{run, run_counts, steps, GivesPast, AddsItems};
 ghost use Rattle.gate_core.specs.Turns.{turns, Alternate, answers_in, answered_ends, answer_of};
 ghost use Rattle.gate_core.specs.Losses.{Loses, EndsAll};
-ghost use Rattle.gate_core.specs.Sound.{IsSound};
+ghost use Rattle.gate_core.specs.Sound.{IsSound, HasFewPackets};
 
 /// A law: the machine's state is what the searches of the past find, and it sends, tells and counts the same.
 pub fn machine_is_past()
@@ -66,11 +66,11 @@ pub fn states_are_sound()
     ensures { (first : ℕ) (items : List Item) → IsSound (state_of first (past first items)) }
 {}
 
-/// A law: no id is in flight twice. The ids that an item draws are in range and in flight nowhere, and no two are
-/// one. A drawn id is the first after the last one that isn't in flight.
+/// A law: no id is in flight twice. The ids that an item draws, but for a submit with more descriptors than any that
+/// is read, are in range and in flight nowhere, and no two are one. A drawn id is the first after the last one that isn't in flight.
 pub fn ids_fly_once()
     ensures once { (first : ℕ) (items : List Item) → Once (in_flight (past first items)) }
-    ensures fresh { (first : ℕ) (items : List Item) (item : Item)
+    ensures fresh { (first : ℕ) (items : List Item) (item : Item) → HasFewPackets item
         → AreFresh (greatest (wide_ids (state_of first (past first items)).agreed)) (in_flight (past first items))
         (mark_of (state_of first (past first items)) item).drawn }
     ensures next { (m : ℕ) (flying : List ℕ) (last id : ℕ)

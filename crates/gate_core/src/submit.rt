@@ -1,10 +1,11 @@
 //! What becomes of a client's submits.
 
-ghost use Rattle.std.specs.Prelude.{◌≡◌, ◌≤◌, length, ℕ, List, [], None, true, false, OnOk, OnErr};
+ghost use Rattle.std.specs.Prelude.{◌≡◌, ◌≤◌, ◌++◌, length, ℕ, List, [], None, Some, true, false, OnOk, OnErr, IfOk};
 ghost use Rattle.gate_core.specs.Marks.{Opens};
 ghost use Rattle.gate_core.specs.Verdict.{Now, Wire};
 ghost use Rattle.gate_core.specs.Verdict as verdict;
-ghost use Rattle.gate_core.specs.Ids.{draw, greatest};
+ghost use Rattle.gate_core.specs.Ups.{lower, is_ended};
+ghost use Rattle.gate_core.specs.Ids.{draw, greatest, last_of};
 ghost use Rattle.gate_core.specs.Flight.{wide_ids, wide_bulk};
 ghost use Rattle.gate_core.specs.Packets.{route_packets};
 ghost use Rattle.redir_wire.specs.Header.{IdFits};
@@ -14,10 +15,11 @@ ghost use Rattle.usbip_urb.specs.Ranges.{IsSubmit};
 ghost use Rattle.unlink_race.specs.Searches.{has_number};
 ghost use Rattle.gate_core.specs.Items.{capped};
 ghost use Rattle.unlink_race.specs.declared.live.LiveKind.TheVariants.{Routed};
-ghost use Rattle.gate_core.specs.State.{State, flying, next_ids};
-ghost use Rattle.gate_core.specs.Meaning.{mark_as, submission, accepts, verdict_of, urb_meaning};
+ghost use Rattle.gate_core.specs.State.{State, next_ids};
+ghost use Rattle.gate_core.specs.Meaning.{mark_as, submission, drawn_for, accepts, verdict_of, urb_meaning};
 ghost use Rattle.gate_core.specs.Sound.{IsSound};
 ghost use Rattle.gate_core.specs.inner.Asked.{HasItsPackets};
+ghost use Rattle.gate_core.specs.inner.Calling.{flying_in, ids_after, bytes_of};
 ghost use Rattle.gate_core.specs.inner.Views.{request_view, pipe_view, verdict_view};
 ghost use Rattle.gate_core.specs.inner.Carried.{IsRequest, IsSent, IsCarried};
 ghost use Rattle.gate_core.specs.inner.Rows.{kind_of, IsFine};
@@ -30,6 +32,7 @@ use crate::id::draw;
 use crate::kept::Kept;
 use crate::note::{Note, Notes};
 use crate::request::Request;
+use crate::streams::{Calls, lower};
 use crate::verdict::{Pipe, Verdict, decide};
 use control_route::Route;
 use redir_wire::{WIDE_BULK_LENGTH, WIDE_IDS};
@@ -86,7 +89,7 @@ impl Kept {
             Verdict::Now(status) => self.answer_now(&request, status, to_client, notes),
             Verdict::Wire(pipe) => self.send(pipe, request, to_host, notes),
             Verdict::Routed(route) => self.send_route(route, request, to_host, notes),
-            Verdict::IsoOut => self.refuse_unbuilt(request.number, place, to_host, notes),
+            Verdict::IsoOut(row) => self.send_iso(row, &request, to_client, to_host, notes),
             Verdict::Stream(_) => self.refuse_unbuilt(request.number, place, to_host, notes),
         }
     }
@@ -95,7 +98,7 @@ impl Kept {
     fn verdict(&self, request: &Request) -> Verdict
         requires whole { IsRequest (request_view request.now) }
         ensures value { (st : State) → Holds self.now st → verdict_view result ≡ verdict_of st (request_view request.now) }
-        ensures carried { IsCarried (wide_bulk self.now.caps) (verdict_view result) request.now.transfer }
+        ensures carried { IsCarried (wide_bulk self.now.caps) (verdict_view result) (request_view request.now) }
         ensures answered { CanGo self.now (request_view request.now) (verdict_view result) }
     {
         let changing = self.lives.change_waits();
@@ -185,7 +188,7 @@ impl Kept {
         Ok(())
     }
 
-    /// A transfer goes to the host by the packets of its route.
+    /// A transfer goes to the host by the packets of its route, once the streams that end with it are stopped.
     fn send_route(
         &mut self,
         route: Route,
@@ -199,32 +202,55 @@ impl Kept {
         requires some { 1 ≤ length (route_packets route) }
         ensures kept { IsKept self.new }
         ensures ok { (st : State) (client : List ℕ) → Holds self.old st → IsSound st
-            → OnOk result (Does st (mark_as st (Opens (submission st (request_view request) (verdict.Routed route) (next_ids st (length (route_packets route))))) None) self.old self.new client client to_host.old to_host.new notes.old notes.new) }
+            → OnOk result (Does st (mark_as st (Opens (submission st (request_view request) (verdict.Routed route) (drawn_for st (request_view request) (verdict.Routed route)))) None) self.old self.new client client to_host.old to_host.new notes.old notes.new) }
         ensures err { (client : List ℕ) → OnErr result (Leaves self.old self.new client client to_host.old to_host.new notes.old notes.new) }
     {
-        let first = self.draw(self.last);
-        let second = self.draw(first);
-        let ids = [first, second];
-        let count = packet_count(&route);
-        let id = ids[count - 1];
+        let called = self.write_stops(Some(route), to_host)?;
+        let id = self.ask_route(&route, called.last, to_host)?;
         notes.push(Note::Submitted {
             seqnum: request.number,
             id,
         })?;
-        write_route(&route, &ids[..count], self.caps, to_host)?;
         let live = row_of(request, LiveKind::Routed(route), id);
         self.open(live, id);
+        self.end_streams(route, called.calls);
         Ok(())
     }
 
-    /// The first id after this one that is in flight nowhere.
-    fn draw(&self, last: u64) -> u64
+    /// Appends the packets of a route, and gives the id of the last.
+    fn ask_route(&self, route: &Route, last: u64, to_host: &mut Bytes) -> Result<u64, Memory>
         requires kept { IsKept self.now }
-        requires imported { self.now.imported ≡ true }
-        ensures value { (st : State) → Holds self.now st → result ≡ draw (greatest (wide_ids st.agreed)) (flying st) last }
+        requires some { 1 ≤ length (route_packets route.now) }
+        ensures sent { OnOk result (to_host.new ≡ to_host.old ++ bytes_of self.now last (route_packets route.now)) }
+        ensures id { IfOk result (λ id. id ≡ last_of last (ids_after self.now last (length (route_packets route.now)))) }
+        ensures fits { IfOk result (λ id. IdFits (wide_ids self.now.caps) id) }
+        ensures err { OnErr result (to_host.new ≡ to_host.old) }
+    {
+        let first = self.draw(last);
+        let second = self.draw(first);
+        let ids = [first, second];
+        let count = packet_count(route);
+        write_route(route, &ids[..count], self.caps, to_host)?;
+        Ok(ids[count - 1])
+    }
+
+    /// The streams that end with a route go down, and were stopped.
+    fn end_streams(&mut self, route: Route, calls: Calls)
+        requires kept { IsKept self.old }
+        ensures kept { IsKept self.new }
+        ensures ended { self.new ≡ record self.old { streams = lower (is_ended (Some route)) self.old.streams; calls = calls } }
+    {
+        lower(&mut self.streams, route);
+        self.calls = calls;
+    }
+
+    /// The first id after this one that is in flight nowhere.
+    pub fn draw(&self, last: u64) -> u64
+        requires { IsKept self.now }
+        ensures value { result ≡ draw (greatest (wide_ids self.now.caps)) (flying_in self.now) last }
         ensures fits { IdFits (wide_ids self.now.caps) result }
     {
-        draw(&self.lives, self.caps.has(WIDE_IDS), last)
+        draw(&self.lives, &self.calls, self.caps.has(WIDE_IDS), last)
     }
 
     /// Takes a request in, the last of those in flight, for which this id was drawn last.

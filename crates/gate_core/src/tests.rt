@@ -1,5 +1,7 @@
 //! The core's functions on worked values.
 
+mod streams;
+
 use crate::answer::{Asked, write_outcome, write_ret_unlink, write_without_packets};
 use crate::ask::{write_cancel, write_hello, write_route};
 use crate::facts::Facts;

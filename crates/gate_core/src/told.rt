@@ -14,6 +14,9 @@ ghost use Rattle.gate_core.specs.declared.note.Note.TheVariants.{Answered};
 ghost use Rattle.gate_core.specs.Items.{capped};
 ghost use Rattle.gate_core.specs.Marks.{Submission};
 ghost use Rattle.gate_core.specs.Facts.{tell};
+ghost use Rattle.usb_base.specs.Status.{status_of};
+ghost use Rattle.gate_core.specs.Ups.{is_success, lower_at};
+ghost use Rattle.gate_core.specs.Calls.{lifted};
 ghost use Rattle.gate_core.specs.Flight.{wide_ids};
 ghost use Rattle.gate_core.specs.Submits.{has_id as submit_has_id};
 ghost use Rattle.gate_core.specs.State.{State, submits};
@@ -30,11 +33,12 @@ use crate::finish::write_answers;
 use crate::kept::Kept;
 use crate::note::{Note, Notes};
 use crate::response::{Response, data_of, gets, mismatch, seen, status_of};
+use crate::streams::lower_at;
 use redir_data::RedirPacket;
 use redir_wire::{ANNOUNCED, Caps, Header, Hello, RedirControl, WIDE_IDS};
 use std::alloc::Global;
 use unlink_race::{Ending, Live, ending_of};
-use usb_base::{Bytes, Memory, Refusal};
+use usb_base::{Bytes, Memory, Refusal, UsbStatus};
 
 impl Kept {
     /// Takes a packet of the host, which begins at `place` of its stream.
@@ -87,6 +91,14 @@ impl Kept {
                 Ok(())
             }
             RedirControl::Disconnect => self.disconnect(header.id, to_client, to_host, notes),
+            RedirControl::IsoStatus { status, endpoint } => {
+                self.told_stream(header.id, *endpoint, *status);
+                Ok(())
+            }
+            RedirControl::InterruptStatus { status, endpoint } => {
+                self.told_stream(header.id, *endpoint, *status);
+                Ok(())
+            }
             _ => self.told_fact(place, header, packet, to_client, notes),
         }
     }
@@ -99,6 +111,21 @@ impl Kept {
         ensures agreed { self.new ≡ record self.old { caps = agreed (caps_of hello.now) announced } }
     {
         self.caps = hello.caps().agreed(Caps { bits: ANNOUNCED });
+    }
+
+    /// The host tells of an endpoint's stream, by the id of what started or stopped it: any status but success ends it.
+    fn told_stream(&mut self, id: u64, endpoint: u8, status: u8)
+        requires kept { IsKept self.old }
+        ensures kept { IsKept self.new }
+        ensures told { self.new ≡ record self.old {
+          streams = if is_success (status_of status) then self.old.streams else lower_at endpoint self.old.streams;
+          fence = lifted id self.old.fence;
+        } }
+    {
+        self.fence = lifted(id, self.fence);
+        if !matches!(UsbStatus::from_byte(status), UsbStatus::Success) {
+            lower_at(&mut self.streams, endpoint);
+        }
     }
 
     /// Takes a packet that may answer a request, and may tell a fact of the device.
@@ -255,6 +282,16 @@ fn has_won(ending: Ending) -> bool
     ensures { result ≡ has_won ending }
 {
     matches!(ending, Ending::Unlinked { .. })
+}
+
+// The id that no import passes, once the host has told of this one.
+fn lifted(id: u64, fence: Option<u64>) -> Option<u64>
+    ensures { result ≡ lifted id fence }
+{
+    match fence {
+        Some(fence) if fence != id => Some(fence),
+        _ => None,
+    }
 }
 
 /// How many bytes a header has, by whether its id has 64 bits.

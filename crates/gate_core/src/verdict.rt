@@ -42,8 +42,8 @@ pub enum Verdict {
     Wire(Pipe),
     /// It goes to the host by the packets of its route.
     Routed(Route),
-    /// It goes to the host as isochronous packets, and is answered at once.
-    IsoOut,
+    /// It goes to the host as isochronous packets by the stream of an endpoint that has this row, and is answered at once.
+    IsoOut(EpRow),
     /// It waits for the packets of its endpoint's stream, which keeps this row.
     Stream(EpRow),
 }
@@ -66,7 +66,7 @@ pub fn decide(
     request: &Request,
 ) -> Verdict
     ensures value { verdict_view result ≡ verdict lost live changing table.now wide (request_view request.now) }
-    ensures carried { IsRequest (request_view request.now) → IsCarried wide (verdict_view result) request.now.transfer }
+    ensures carried { IsRequest (request_view request.now) → IsCarried wide (verdict_view result) (request_view request.now) }
     ensures reads { IsRequest (request_view request.now) → goes_by_id (verdict_view result) ≡ true
         → (request.now.transfer.wanted ≡ 0) ⊎ IsRead request.now.is_in (kind_of (verdict_view result) request.now.transfer.ep) }
     ensures room { goes_by_id (verdict_view result) ≡ true → live < 4096 }
@@ -149,7 +149,7 @@ fn by_kind(request: &Request, row: EpRow) -> Verdict
 {
     match row.kind {
         EpKind::Bulk => Verdict::Wire(Pipe::Bulk),
-        EpKind::Iso if !request.is_in => Verdict::IsoOut,
+        EpKind::Iso if !request.is_in => Verdict::IsoOut(row),
         EpKind::Interrupt if !request.is_in => Verdict::Wire(Pipe::InterruptOut),
         EpKind::Iso | EpKind::Interrupt => Verdict::Stream(row),
         EpKind::Control => Verdict::Now(EINVAL),

@@ -8,7 +8,7 @@ use Rattle.usb_base.specs.declared.refusal.Refusal.{Refusal}
 use Rattle.gate_core.specs.declared.note.Note.{Note}
 use Rattle.gate_core.specs.declared.note.Note.TheVariants as note
 use Rattle.gate_core.specs.Events.{Event}
-use Rattle.gate_core.specs.Marks.{Submission, Effect, Idle, Replies, Imports, Opens, Unbuilt, Unlinks, Agrees, Answers, Disconnects, Ends, Refuses, Mark}
+use Rattle.gate_core.specs.Marks.{Submission, Effect, Idle, Replies, Imports, Opens, Unbuilt, Unlinks, Agrees, Answers, StreamTold, Disconnects, Ends, Refuses, Mark}
 use Rattle.gate_core.specs.Sides.{refused_at, leaves, is_loss}
 use Rattle.gate_core.specs.Submits.{Pending, opened, ends}
 use Rattle.gate_core.specs.State.{State, state_of}
@@ -44,6 +44,7 @@ quiet-import Idle = refl
 quiet-import (Replies reply) = refl
 quiet-import (Opens s) = refl
 quiet-import (Unbuilt s place) = refl
+quiet-import (StreamTold id ep status) = refl
 quiet-import (Unlinks by target) = refl
 quiet-import (Agrees caps) = refl
 quiet-import (Answers id outcome) = refl
@@ -62,6 +63,7 @@ quiet-unlink (Replies reply) = refl
 quiet-unlink (Imports reply) = refl
 quiet-unlink (Opens s) = refl
 quiet-unlink (Unbuilt s place) = refl
+quiet-unlink (StreamTold id ep status) = refl
 quiet-unlink (Agrees caps) = refl
 quiet-unlink (Answers id outcome) = refl
 quiet-unlink (Disconnects id) = refl

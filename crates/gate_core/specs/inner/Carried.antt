@@ -4,6 +4,7 @@ use Rattle.usb_base.specs.declared.setup.Setup.{Setup}
 use Rattle.usb_base.specs.declared.transfer.Transfer.{Transfer}
 use Rattle.usb_base.specs.Endpoint.{is_in_endpoint}
 use Rattle.usbip_urb.specs.declared.code.TheConstants.{MAX_LENGTH}
+use Rattle.usbip_urb.specs.Buffers.{laid}
 use Rattle.usbip_urb.specs.Sizes.{body_size, count_of}
 use Rattle.usbip_urb.specs.Ranges.{is_packet_count}
 use Rattle.redir_wire.specs.declared.packet.Way.TheVariants.{ToHost}
@@ -47,9 +48,16 @@ pub record IsSent (wide : Bool) (pipe : Pipe) (t : Transfer) : Type 0 where
   pub few_bytes : t.wanted ≤ MAX_LENGTH
   pub data_there : length t.body ≡ data_count ToHost t.ep t.wanted
 
-abbrev pub IsCarried : Bool → Verdict → Transfer → Type 0
-IsCarried wide (Now status) t = Unit {0}
-IsCarried wide (Wire pipe) t = IsSent wide pipe t
-IsCarried wide (Routed r) t = Unit {0}
-IsCarried wide IsoOut t = Unit {0}
-IsCarried wide (Stream row) t = Unit {0}
+-- isochronous packets lie over a buffer that goes to the device
+pub record IsLaid (r : Request) : Type 0 where
+  pub out : is_in_endpoint r.transfer.ep ≡ false
+  pub to_device : r.is_in ≡ false
+  pub lies : IsTrue (laid r.descs r.transfer.wanted)
+  pub whole : length r.transfer.body ≡ r.transfer.wanted
+
+abbrev pub IsCarried : Bool → Verdict → Request → Type 0
+IsCarried wide (Now status) r = Unit {0}
+IsCarried wide (Wire pipe) r = IsSent wide pipe r.transfer
+IsCarried wide (Routed route) r = Unit {0}
+IsCarried wide (IsoOut row) r = IsLaid r
+IsCarried wide (Stream row) r = Unit {0}

@@ -17,15 +17,17 @@ use Rattle.unlink_race.specs.declared.live.LiveKind.{LiveKind}
 use Rattle.unlink_race.specs.Searches.{goes_by_id, has_number, is_stream}
 use Rattle.gate_core.specs.declared.note.Note.{Note}
 use Rattle.gate_core.specs.declared.kept.Kept.{Kept}
+use Rattle.gate_core.specs.declared.streams.Called.{Called}
 use Rattle.gate_core.specs.declared.item.Item.{Item as RawItem}
 use Rattle.gate_core.specs.declared.item.Item.TheVariants as raw
 use Rattle.gate_core.specs.Items.{Item, Asked, ClientWrong, ClientLeft, Told, HostWrong, HostLeft, capped}
 use Rattle.gate_core.specs.Marks.{Mark}
 use Rattle.gate_core.specs.Facts.{no_facts}
+use Rattle.gate_core.specs.Ups.{no_streams}
 use Rattle.gate_core.specs.Verdict.{Verdict, goes_by_id as goes_by_id_of}
 use Rattle.gate_core.specs.Flight.{wide_ids}
 use Rattle.gate_core.specs.Responses.{Response, Data, Status, response_of}
-use Rattle.gate_core.specs.Packets.{packets_of}
+use Rattle.gate_core.specs.Packets.{HasRoute}
 use Rattle.gate_core.specs.State.{State}
 use Rattle.gate_core.specs.Output.{to_client}
 use Rattle.gate_core.specs.Notes.{notes_of, dropped}
@@ -46,6 +48,11 @@ pub record IsKept (t : Kept) : Type 0 where
   -- a client has requests only once it has imported the device, and imports it only once nothing is left of the former
   pub apart : t.imported ≡ true → t.lives.abandoned ≡ []
   pub few : length t.lives.live ≤ 4096
+  pub left : length t.lives.abandoned ≤ 4096
+  -- each endpoint has its place
+  pub places : length t.streams ≡ 32
+  pub started : length t.calls.started ≡ 32
+  pub stopped : length t.calls.stopped ≡ 32
   pub answered_fits : t.answered ≤ 2 ^ 64 - 1
   pub unlinked_fits : t.unlinked ≤ 2 ^ 64 - 1
   pub dropped_fits : t.dropped ≤ 2 ^ 64 - 1
@@ -59,6 +66,9 @@ items_of t = record {
   lost = t.lost;
   client_over = t.client_over;
   host_over = t.host_over;
+  streams = t.streams;
+  calls = t.calls;
+  fence = t.fence;
   live = t.lives.live;
   abandoned = t.lives.abandoned;
   last = t.last;
@@ -147,15 +157,21 @@ pub record HasLost (unlinked : ℕ) (old new : Kept) : Type 0 where
     lives = no_requests;
     facts = no_facts;
     lost = true;
+    streams = no_streams;
+    fence = None;
     answered = capped (old.answered + (length old.lives.live - unlinked));
     unlinked = capped (old.unlinked + unlinked);
   }
 
--- with their client
-pub record HasLeft (old new : Kept) : Type 0 where
+-- with their client, whose streams are stopped
+pub record HasLeft (called : Called) (old new : Kept) : Type 0 where
   pub is : new ≡ record old {
     lives = record { live = []; abandoned = old.lives.abandoned ++ filter goes_by_id old.lives.live };
     imported = false;
+    streams = no_streams;
+    calls = called.calls;
+    fence = called.fence;
+    last = called.last;
     dropped = capped (old.dropped + length old.lives.live);
   }
 
@@ -196,4 +212,4 @@ pub record CanAnswer (r : Request) (kind : LiveKind) : Type 0 where
 pub record CanGo (t : Kept) (r : Request) (v : Verdict) : Type 0 where
   pub answered : goes_by_id_of v ≡ true → CanAnswer r (kind_of v r.transfer.ep)
   pub room : goes_by_id_of v ≡ true → length t.lives.live < 4096
-  pub sends : goes_by_id_of v ≡ true → 1 ≤ length (packets_of v r.transfer)
+  pub sends : HasRoute v

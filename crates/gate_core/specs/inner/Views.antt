@@ -19,5 +19,5 @@ abbrev pub verdict_view : RawVerdict → Verdict
 verdict_view (raw.Now status) = Now status
 verdict_view (raw.Wire pipe) = Wire (pipe_view pipe)
 verdict_view (raw.Routed route) = Routed route
-verdict_view raw.IsoOut = IsoOut
+verdict_view (raw.IsoOut row) = IsoOut row
 verdict_view (raw.Stream row) = Stream row

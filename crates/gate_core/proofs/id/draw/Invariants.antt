@@ -1,5 +1,6 @@
-use Rattle.std.proofs.Common.{◌≡◌, length}
+use Rattle.std.proofs.Common.{◌≡◌, ◌++◌, length}
 use Rattle.gate_core.specs.Ids.{free_from, draw, greatest, Fits}
+use Rattle.gate_core.specs.Calls.{call_ids}
 use Rattle.gate_core.specs.inner.Flying.{ids_in}
 use Rattle.gate_core.proofs.Search.{passes}
 use Rattle.gate_core.proofs.id.draw.Given as goal
@@ -9,8 +10,8 @@ abbrev pub invariant-loop-id : goal.invariant-loop-id
 invariant-loop-id l = record {
   most : l.greatest ≡ greatest l.wide;
   fits : Fits l.greatest l.id;
-  same : free_from l.greatest (ids_in l.lives) (length (ids_in l.lives)) l.id ≡ draw (greatest l.wide) (ids_in l.lives) l.last;
+  same : free_from l.greatest (ids_in l.lives ++ call_ids l.calls) (length (ids_in l.lives ++ call_ids l.calls)) l.id ≡ draw (greatest l.wide) (ids_in l.lives ++ call_ids l.calls) l.last;
 }
 
 abbrev pub decreases-loop-id : goal.decreases-loop-id
-decreases-loop-id l = passes l.greatest (ids_in l.lives) (length (ids_in l.lives)) l.id
+decreases-loop-id l = passes l.greatest (ids_in l.lives ++ call_ids l.calls) (length (ids_in l.lives ++ call_ids l.calls)) l.id

@@ -1,18 +1,18 @@
 use Rattle.std.proofs.Common.{◌≡◌, None, OnOk, sym, ap, subst, ◌∙◌, refl}
-use Rattle.std.proofs.Common.{w32, length}
+use Rattle.std.proofs.Common.{w32, length, []}
 use Rattle.std.specs.Prelude.{FitsSigned}
 use Rattle.std.proofs.lemmas.Int.{to_z-of_z}
-use Rattle.gate_core.specs.Verdict.{Verdict, Now}
+use Rattle.gate_core.specs.Verdict.{Verdict, Now, Stream}
 use Rattle.gate_core.specs.Flight.{wide_bulk}
 use Rattle.gate_core.specs.State.{change_waits}
 use Rattle.gate_core.proofs.Reading.{StatusFits, verdict-fits}
-use Rattle.gate_core.specs.Meaning.{mark_as, accepts, verdict_of}
+use Rattle.gate_core.specs.Meaning.{mark_as, submission, accepts, verdict_of}
 use Rattle.gate_core.specs.inner.Views.{request_view, verdict_view}
 use Rattle.gate_core.specs.inner.Holds.{Does}
 use Rattle.gate_core.proofs.kept.Kept.accept.Goals as goal
 
 pub send_route-requires-clause-some : goal.send_route-requires-clause-some
-send_route-requires-clause-some c = c.in-Routed.ensures.answered.sends refl
+send_route-requires-clause-some c = c.in-Routed.ensures.answered.sends
 
 pub returns-in-Now-clause-ok : goal.returns-in-Now-clause-ok
 returns-in-Now-clause-ok c st at place h sound going =
@@ -26,3 +26,14 @@ pub returns-in-Routed-clause-ok : goal.returns-in-Routed-clause-ok
 returns-in-Routed-clause-ok c st at place h sound going =
     subst (λ (v : Verdict). OnOk c.send_route.result (Does st (mark_as st (accepts st at (request_view c.args.request) v) None) c.args.self.now c.send_route.new.self c.args.to_client.now c.args.to_client.now c.args.to_host.now c.send_route.new.to_host c.args.notes.now c.send_route.new.notes))
     (sym (ap verdict_view c.in-Routed.is) ∙ c.verdict.ensures.value st h) (c.send_route.ensures.ok st c.args.to_client.now h sound)
+
+pub returns-in-Wire-clause-ok : goal.returns-in-Wire-clause-ok
+returns-in-Wire-clause-ok c st at place h sound going =
+    subst (λ (v : Verdict). OnOk c.send.result (Does st (mark_as st (accepts st at (request_view c.args.request) v) None) c.args.self.now c.send.new.self c.args.to_client.now c.args.to_client.now c.args.to_host.now c.send.new.to_host c.args.notes.now c.send.new.notes))
+    (sym (ap verdict_view c.in-Wire.is) ∙ c.verdict.ensures.value st h) (c.send.ensures.ok st c.args.to_client.now h sound)
+
+pub returns-in-Stream-clause-ok : goal.returns-in-Stream-clause-ok
+returns-in-Stream-clause-ok c st at place h sound going =
+    subst (λ (v : Verdict). OnOk c.refuse_unbuilt.result (Does st (mark_as st (accepts st at (request_view c.args.request) v) None) c.args.self.now c.refuse_unbuilt.new.self c.args.to_client.now c.args.to_client.now c.args.to_host.now c.refuse_unbuilt.new.to_host c.args.notes.now c.refuse_unbuilt.new.notes))
+    (sym (ap verdict_view c.in-Stream.is) ∙ c.verdict.ensures.value st h)
+    (c.refuse_unbuilt.ensures.ok st c.args.to_client.now (submission st (request_view c.args.request) (Stream c.in-Stream.field-0) []) at h going refl refl place)

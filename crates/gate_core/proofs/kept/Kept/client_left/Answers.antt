@@ -1,14 +1,29 @@
-use Rattle.std.proofs.Common.{not, false, List, [], ◌++◌, sym, ap, ◌∙◌}
+use Rattle.std.proofs.Common.{not, false, List, [], ◌++◌, refl, sym, ap, ◌∙◌}
 use Rattle.std.proofs.lemmas.List.{append-nil}
 use Rattle.gate_core.specs.declared.kept.Kept.{Kept}
 use Rattle.gate_core.specs.declared.note.Note.{Note}
 use Rattle.gate_core.specs.declared.note.Note.TheVariants as note
+use Rattle.usb_base.specs.declared.side.Side.TheVariants.{Client}
+use Rattle.gate_core.specs.Marks.{Ends}
 use Rattle.gate_core.specs.Notes.{when}
 use Rattle.gate_core.proofs.Left.{end-leaves, left-none, does-leave}
+use Rattle.gate_core.proofs.Flown.{parts-are, leaving-sent}
+use Rattle.gate_core.proofs.Stopping.{extends-after, on-err}
 use Rattle.gate_core.proofs.kept.Kept.client_left.Goals as goal
 
 pub returns-clause-ok : goal.returns-clause-ok
 returns-clause-ok c st client h =
     let old = c.args.self.now in
-    does-leave st _ [] (end-leaves st) old _ client _ _ _ _ h c.requires.kept.answered_fits c.requires.kept.unlinked_fits (ap (λ (k : Kept). record k { client_over = false }) (left-none old c.leave.new.self c.leave.ensures.left)) c.in_ok-write_cancels.ensures.ok
+    does-leave st _ [] (end-leaves st) c.in_ok-called.called old _ client _ _ _ _ h c.requires.kept.answered_fits c.requires.kept.unlinked_fits
+    (parts-are old st h (Ends Client) c.in_ok-called.called refl c.in_ok-called.ensures.called)
+    (ap (λ (k : Kept). record k { client_over = false }) (left-none c.in_ok-called.called old c.leave.new.self c.leave.ensures.left))
+    (leaving-sent old st h (Ends Client) refl c.args.to_host.now _ _ c.in_ok-write_cancels.ensures.ok c.in_ok-called.ensures.sent)
     (c.in_ok-tell_gone.ensures.ok ∙ ap (λ (ns : List Note). c.args.notes.now ++ ns) (sym (append-nil (when (not old.client_over) note.ClientGone))))
+
+pub returns-in_err-called-clause-err : goal.returns-in_err-called-clause-err
+returns-in_err-called-clause-err c client = on-err c.from_residual-in_err-called.result _ (record {
+  same = refl;
+  client = record { more = []; is = sym (append-nil client) };
+  host = extends-after c.args.to_host.now c.write_cancels.new.to_host c.write_stops.new.to_host _ c.in_ok-write_cancels.ensures.ok c.in_err-called.ensures.err;
+  notes = record { more = []; is = sym (append-nil c.args.notes.now) };
+})

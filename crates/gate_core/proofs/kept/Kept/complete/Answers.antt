@@ -3,6 +3,8 @@ use mir.Val.{bool_byte}
 use Rattle.std.specs.Option.{option_copied}
 use Rattle.unlink_race.specs.Searches.{has_id}
 use Rattle.unlink_race.specs.Requests.{Requests}
+use Rattle.unlink_race.specs.Firsts.{without_first}
+use Rattle.gate_core.specs.inner.Holds.{IsKept}
 use Rattle.gate_core.specs.inner.Rows.{IsFine}
 use Rattle.gate_core.specs.inner.Responses.{response_view}
 use Rattle.gate_core.specs.Items.{capped}
@@ -34,6 +36,10 @@ returns-clause-kept c =
       fine = subst (λ (r : Requests). Each (IsFine old.caps) r.live) (sym c.finish.ensures.rest) (Each-without (IsFine old.caps) (has_id c.args.id) old.lives.live kept.fine);
       apart = λ h. ap (λ (r : Requests). r.abandoned) c.finish.ensures.rest ∙ kept.apart h;
       few = omega (arith, kept.few, ap (λ (r : Requests). length r.live) c.finish.ensures.rest, length-without (has_id c.args.id) old.lives.live);
+      left = omega (arith, kept.left, ap (λ (r : Requests). length r.abandoned) c.finish.ensures.rest);
+      places = kept.places;
+      started = kept.started;
+      stopped = kept.stopped;
       answered_fits = omega (arith, c.saturating_add-self.ensures);
       unlinked_fits = omega (arith, c.saturating_add-self-2.ensures);
       dropped_fits = kept.dropped_fits;
@@ -54,3 +60,21 @@ returns-clause-ok c st host h sound =
     c.in_ok-won.ensures.ok c.in_ok-won.ensures.counted c.in_ok-won.ensures.notes
     (c.saturating_add-self.ensures ∙ ap (λ (n : ℕ). capped (c.args.self.now.answered + n)) (c.from.ensures ∙ lost-one c.in_ok-won.won))
     (c.saturating_add-self-2.ensures ∙ ap (λ (n : ℕ). capped (c.args.self.now.unlinked + n)) (c.from-2.ensures ∙ won-one c.in_ok-won.won))
+
+pub returns-in_default-clause-kept : goal.returns-in_default-clause-kept
+returns-in_default-clause-kept c =
+    let old = c.args.self.now in
+    let kept = c.requires.kept in
+    let rest = c.finish_abandoned.ensures.rest in
+    subst (λ (r : Requests). IsKept (record old { lives = r })) (sym rest) (record {
+      fine = kept.fine;
+      apart = λ h. ap (without_first (has_id c.args.id)) (kept.apart h);
+      few = kept.few;
+      left = omega (arith, kept.left, length-without (has_id c.args.id) old.lives.abandoned);
+      places = kept.places;
+      started = kept.started;
+      stopped = kept.stopped;
+      answered_fits = kept.answered_fits;
+      unlinked_fits = kept.unlinked_fits;
+      dropped_fits = kept.dropped_fits;
+    })

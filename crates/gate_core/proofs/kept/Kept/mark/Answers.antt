@@ -18,6 +18,10 @@ returns-clause-kept c =
           (λ l f. record { packets = f.packets; few_bytes = f.few_bytes; read = f.read; id_fits = f.id_fits; by_id = f.by_id }) c.requires.kept.fine;
       apart = c.requires.kept.apart;
       few = omega (arith, c.requires.kept.few, length-changed (has_number c.args.target) (unlinked_by c.args.by) old.lives.live);
+      left = c.requires.kept.left;
+      places = c.requires.kept.places;
+      started = c.requires.kept.started;
+      stopped = c.requires.kept.stopped;
       answered_fits = c.requires.kept.answered_fits;
       unlinked_fits = c.requires.kept.unlinked_fits;
       dropped_fits = c.requires.kept.dropped_fits;

@@ -13,6 +13,8 @@ use Rattle.gate_core.specs.Meaning.{submission}
 use Rattle.gate_core.specs.Output.{fresh}
 use Rattle.gate_core.specs.Bytes.{host_packet_bytes}
 use Rattle.gate_core.specs.inner.Views.{request_view, pipe_view}
+use Rattle.gate_core.proofs.Called.{called-silent, wire-silent}
+use Rattle.gate_core.proofs.Flown.{draw-is}
 use Rattle.gate_core.proofs.Opened.{does-open}
 use Rattle.gate_core.proofs.kept.Kept.send.Goals as goal
 
@@ -22,10 +24,11 @@ returns-clause-ok c st client h sound =
     let r = request_view c.args.request in
     let v = Wire (pipe_view c.args.pipe) in
     let s = submission st r v (next_ids st 1) in
-    let id : c.draw-id.result ≡ draw (greatest (wide_ids st.agreed)) (flying st) st.last = c.draw-id.ensures.value st h ∙ ap (draw (greatest (wide_ids st.agreed)) (flying st)) h.last in
+    let id : c.draw-id.result ≡ draw (greatest (wide_ids st.agreed)) (flying st) st.last = c.draw-id.ensures.value ∙ draw-is old st h in
     does-open st s refl sound old _ (fresh s ∷ []) client client _ _ _ _ h c.requires.kept.unlinked_fits c.requires.kept.dropped_fits refl refl refl refl
     (c.open.ensures.opened.is ∙ (λ i. record old {
       lives = record { live = old.lives.live ++ row_for r (live_kind.Wire r.transfer.ep (c.kind.ensures i)) (id i) ∷ []; abandoned = old.lives.abandoned };
+      calls = sym (called-silent (id i ∷ []) (wire_packet (pipe_view c.args.pipe) r.transfer ∷ []) old.calls (wire-silent (pipe_view c.args.pipe) r.transfer, tt)) i;
       last = id i;
       answered = capped-same old.answered c.requires.kept.answered_fits i;
     }))

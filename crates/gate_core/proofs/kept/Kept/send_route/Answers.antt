@@ -1,22 +1,31 @@
-use Rattle.std.proofs.Common.{◌≡◌, ℕ, ◌-◌, take, get_or, List, [], ◌∷◌, ◌++◌, length, refl, sym, ap, ◌∙◌}
+use Rattle.std.proofs.Common.{◌≡◌, ◌≤◌, ℕ, Some, List, [], ◌∷◌, ◌++◌, length, refl, sym, ap, ◌∙◌, append_assoc, arith}
 use Rattle.std.specs.Prelude.{zip}
-use Rattle.std.proofs.lemmas.List.{append-nil}
-use Rattle.unlink_race.specs.declared.live.Live.{Live}
 use Rattle.std.specs.List.{flat_map}
+use Rattle.std.proofs.lemmas.List.{append-nil, length-append}
+use Rattle.redir_data.specs.declared.packet.RedirPacket.{RedirPacket}
+use Rattle.unlink_race.specs.declared.live.Live.{Live}
 use Rattle.unlink_race.specs.declared.live.LiveKind.TheVariants as live_kind
+use Rattle.gate_core.specs.declared.kept.Kept.{Kept}
 use Rattle.gate_core.specs.declared.note.Note.TheVariants as note
-use Rattle.gate_core.specs.inner.Holds.{row_for}
-use Rattle.gate_core.proofs.Lost.{capped-same}
-use Rattle.gate_core.proofs.Flown.{route-ids, route-id, last-drawn}
+use Rattle.gate_core.specs.declared.streams.Called.{Called}
+use Rattle.gate_core.specs.Ids.{greatest, last_of}
 use Rattle.gate_core.specs.Verdict.{Routed}
-use Rattle.gate_core.specs.Ids.{draw, greatest}
+use Rattle.gate_core.specs.Ups.{lower, is_ended}
 use Rattle.gate_core.specs.Flight.{wide_ids}
-use Rattle.gate_core.specs.State.{flying, next_ids}
-use Rattle.gate_core.specs.Packets.{route_packets}
-use Rattle.gate_core.specs.Meaning.{submission}
+use Rattle.gate_core.specs.State.{next_ids}
+use Rattle.gate_core.specs.Packets.{stops, route_packets}
+use Rattle.gate_core.specs.Calls.{called}
+use Rattle.gate_core.specs.Meaning.{drawn_for, submission}
 use Rattle.gate_core.specs.Output.{fresh}
 use Rattle.gate_core.specs.Bytes.{host_packet_bytes}
 use Rattle.gate_core.specs.inner.Views.{request_view}
+use Rattle.gate_core.specs.inner.Calling.{flying_in, ids_after, with_ids, stops_of, called_of, after_stops, bytes_of}
+use Rattle.gate_core.specs.inner.Holds.{row_for}
+use Rattle.gate_core.proofs.Called.{last-any, route-silent}
+use Rattle.gate_core.proofs.Draws.{length-draws}
+use Rattle.gate_core.proofs.Lost.{capped-same}
+use Rattle.gate_core.proofs.Flown.{ids-are, asked-are, stops-are}
+use Rattle.gate_core.proofs.Stopping.{last-more, bytes-more, calls-silent, extends-after, on-err}
 use Rattle.gate_core.proofs.Opened.{does-open}
 use Rattle.gate_core.proofs.kept.Kept.send_route.Goals as goal
 
@@ -25,22 +34,57 @@ returns-clause-ok c st client h sound =
     let old = c.args.self.now in
     let r = request_view c.args.request in
     let v = Routed c.args.route in
-    let s = submission st r v (next_ids st (length (route_packets c.args.route))) in
-    let m = greatest (wide_ids st.agreed) in
-    let f = flying st in
-    let first : c.draw-first.result ≡ draw m f st.last = c.draw-first.ensures.value st h ∙ ap (draw m f) h.last in
-    let second : c.draw-second.result ≡ draw m f (draw m f st.last) = c.draw-second.ensures.value st h ∙ ap (draw m f) first in
-    let count = c.packet_count-count.ensures.count in
-    let ids : take c.packet_count-count.result (c.draw-first.result ∷ c.draw-second.result ∷ []) ≡ next_ids st (length (route_packets c.args.route)) =
-    (λ i. take (count i) (first i ∷ second i ∷ [])) ∙ route-ids m f st.last c.args.route in
-    let id : get_or (c.draw-first.result ∷ c.draw-second.result ∷ []) (c.packet_count-count.result - 1) 0 ≡ s.id =
-    (λ i. get_or (first i ∷ second i ∷ []) (count i - 1) 0) ∙ route-id m f st.last c.args.route c.requires.some in
+    let s = submission st r v (drawn_for st r v) in
+    let before : List RedirPacket = stops_of old (Some c.args.route) in
+    let asks : List RedirPacket = route_packets c.args.route in
+    let all : List RedirPacket = stops (is_ended (Some c.args.route)) st.streams ++ asks in
+    let same : before ++ asks ≡ all = ap (λ (ps : List RedirPacket). ps ++ asks) (stops-are old st h (Some c.args.route)) in
+    let stopped = c.in_ok-called.ensures.called in
+    let some : 1 ≤ length (ids_after old old.last (length (before ++ asks))) =
+    let n = length-draws (greatest (wide_ids old.caps)) (flying_in old) old.last (length (before ++ asks)) in
+    omega (arith, n, length-append before asks, c.requires.some) in
+    let last : c.in_ok-id.id ≡ last_of old.last (ids_after old old.last (length (before ++ asks))) =
+    c.in_ok-id.ensures.id ∙ ap (λ (k : Called). last_of k.last (ids_after old k.last (length asks))) stopped ∙ sym (last-more old old.last before asks) in
+    let drawn : ids_after old old.last (length (before ++ asks)) ≡ drawn_for st r v = ids-are old st h (before ++ asks) all same in
+    let id : c.in_ok-id.id ≡ s.id = last ∙ last-any old.last 0 (ids_after old old.last (length (before ++ asks))) some ∙ ap (last_of 0) drawn in
+    let asked : with_ids old old.last (before ++ asks) ≡ zip (drawn_for st r v) all = asked-are old st h (before ++ asks) all same in
     does-open st s refl sound old _ (fresh s ∷ []) client client _ _ _ _ h c.requires.kept.unlinked_fits c.requires.kept.dropped_fits refl refl refl refl
-    (c.open.ensures.opened.is ∙ ap (λ (l : Live). record old { lives = record { live = old.lives.live ++ l ∷ []; abandoned = old.lives.abandoned }; last = get_or (c.draw-first.result ∷ c.draw-second.result ∷ []) (c.packet_count-count.result - 1) 0 }) c.row_of-live.ensures ∙ (λ i. record old {
+    (c.end_streams.ensures.ended
+    ∙ ap (λ (k : Kept). record k { streams = lower (is_ended (Some c.args.route)) k.streams; calls = c.in_ok-called.called.calls }) c.open.ensures.opened.is
+    ∙ ap (λ (l : Live). record old { lives = record { live = old.lives.live ++ l ∷ []; abandoned = old.lives.abandoned }; streams = lower (is_ended (Some c.args.route)) old.streams; calls = c.in_ok-called.called.calls; last = c.in_ok-id.id }) c.row_of-live.ensures
+    ∙ (λ i. record old {
       lives = record { live = old.lives.live ++ row_for r (live_kind.Routed c.args.route) (id i) ∷ []; abandoned = old.lives.abandoned };
-      last = (id ∙ last-drawn m f st.last c.args.route 0 old.last c.requires.some) i;
+      streams = lower (is_ended (Some c.args.route)) old.streams;
+      calls = (ap (λ (k : Called). k.calls) stopped ∙ sym (calls-silent old before asks (route-silent c.args.route)) ∙ ap (λ l. called l old.calls) asked) i;
+      last = (last ∙ ap (last_of old.last) drawn) i;
       answered = capped-same old.answered c.requires.kept.answered_fits i;
     }))
     (sym (append-nil client))
-    (c.in_ok-write_route.ensures.ok ∙ ap (λ (ns : List ℕ). c.args.to_host.now ++ flat_map (host_packet_bytes old.caps) (zip ns (route_packets c.args.route))) ids)
+    (c.in_ok-id.ensures.sent ∙ (λ i. c.in_ok-called.ensures.sent i ++ bytes_of old (stopped i).last asks)
+    ∙ append_assoc c.args.to_host.now (bytes_of old old.last before) (bytes_of old (after_stops old (called_of old) before).last asks)
+    ∙ ap (λ (bs : List ℕ). c.args.to_host.now ++ bs) (sym (bytes-more old old.last before asks) ∙ ap (flat_map (host_packet_bytes old.caps)) asked))
     (c.in_ok-push.ensures.ok ∙ ap (λ (n : ℕ). c.args.notes.now ++ note.Submitted r.number n ∷ []) id)
+
+pub returns-in_err-called-clause-err : goal.returns-in_err-called-clause-err
+returns-in_err-called-clause-err c client = on-err c.from_residual.result _ (record {
+  same = refl;
+  client = record { more = []; is = sym (append-nil client) };
+  host = c.in_err-called.ensures.err;
+  notes = record { more = []; is = sym (append-nil c.args.notes.now) };
+})
+
+pub returns-in_err-id-clause-err : goal.returns-in_err-id-clause-err
+returns-in_err-id-clause-err c client = on-err c.from_residual-in_err-id.result _ (record {
+  same = refl;
+  client = record { more = []; is = sym (append-nil client) };
+  host = record { more = bytes_of c.args.self.now c.args.self.now.last (stops_of c.args.self.now (Some c.args.route)); is = c.in_err-id.ensures.err ∙ c.in_ok-called.ensures.sent };
+  notes = record { more = []; is = sym (append-nil c.args.notes.now) };
+})
+
+pub returns-in_err-push-clause-err : goal.returns-in_err-push-clause-err
+returns-in_err-push-clause-err c client = on-err c.from_residual-in_err-push.result _ (record {
+  same = refl;
+  client = record { more = []; is = sym (append-nil client) };
+  host = extends-after c.args.to_host.now c.write_stops.new.to_host c.ask_route.new.to_host _ c.in_ok-called.ensures.sent (record { more = bytes_of c.args.self.now c.in_ok-called.called.last (route_packets c.args.route); is = c.in_ok-id.ensures.sent });
+  notes = record { more = []; is = c.in_err-push.ensures.err ∙ sym (append-nil c.args.notes.now) };
+})

@@ -6,6 +6,7 @@ use Rattle.unlink_race.specs.Searches.{has_number}
 use Rattle.gate_core.specs.Items.{capped}
 use Rattle.gate_core.specs.Requests.{Request, request_of}
 use Rattle.gate_core.specs.Marks.{Effect, Refuses}
+use Rattle.gate_core.specs.State.{is_number, submits}
 use Rattle.gate_core.specs.Meaning.{mark_as, refused, accepts, verdict_of}
 use Rattle.gate_core.specs.inner.Holds.{Does}
 use Rattle.gate_core.proofs.Flown.{number-rows}
@@ -33,3 +34,11 @@ returns-clause-ok c st at place h sound going =
     (ap (λ (r : Request). accepts st at r (verdict_of st r)) c.of.ensures.value
     ∙ (λ i. cond (not (sym here i)) (refused Client at NotImported) (cond (sym (sym live ∙ sym c.has.ensures ∙ c.if-has.false) i) (refused Client (at + 4) DuplicateSeq) (accepts st at (request_of s) (verdict_of st (request_of s))))))
     (c.accept.ensures.ok st at place h sound going)
+
+pub returns-then-not-self-clause-ok : goal.returns-then-not-self-clause-ok
+returns-then-not-self-clause-ok c st at place h sound going =
+    let s = c.args.submit in
+    subst (λ (e : Effect). OnOk c.refuse_client.result (Does st (mark_as st e None) c.args.self.now c.refuse_client.new.self c.args.to_client.now c.args.to_client.now c.args.to_host.now c.refuse_client.new.to_host c.args.notes.now c.refuse_client.new.notes))
+    (ap (λ r. Refuses r) (c.client_refusal.ensures.value at place)
+    ∙ (λ i. cond (not (sym (sym h.imported ∙ c.if-not-self.true) i)) (refused Client at NotImported) (cond (list_any (is_number s.head.seqnum) (submits st)) (refused Client (at + 4) DuplicateSeq) (accepts st at (request_of s) (verdict_of st (request_of s))))))
+    (c.refuse_client.ensures.ok st c.args.to_client.now h going)

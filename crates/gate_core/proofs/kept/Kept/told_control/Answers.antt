@@ -2,7 +2,9 @@ use Rattle.std.proofs.Common.{None, OnOk, sym, subst}
 use Rattle.redir_wire.specs.Capability.{announced, caps_of, agreed}
 use Rattle.redir_data.specs.declared.packet.RedirPacket.TheVariants.{Plain}
 use Rattle.gate_core.specs.declared.kept.Kept.{Kept}
-use Rattle.gate_core.specs.Marks.{Effect, Agrees}
+use Rattle.usb_base.specs.Status.{status_of}
+use Rattle.gate_core.specs.Marks.{Effect, Agrees, StreamTold}
+use Rattle.gate_core.proofs.Steady.{does-tell_stream}
 use Rattle.gate_core.specs.Meaning.{mark_as, fact_of}
 use Rattle.gate_core.specs.inner.Holds.{Does}
 use Rattle.gate_core.proofs.Answering.{does-agree, told-other}
@@ -22,7 +24,21 @@ returns-in_default c =
       kept = c.told_fact.ensures.kept;
       ok = λ st at place h sound going.
           subst (λ (e : Effect). OnOk c.told_fact.result (Does st (mark_as st e (fact_of (Plain c.args.packet.now))) c.args.self.now c.told_fact.new.self c.args.to_client.now c.told_fact.new.to_client c.args.to_host.now c.args.to_host.now c.args.notes.now c.told_fact.new.notes))
-          (sym (told-other st at c.args.header.now c.args.packet.now c.in_default.not-Hello c.in_default.not-Disconnect))
+          (sym (told-other st at c.args.header.now c.args.packet.now c.in_default.not-Hello c.in_default.not-Disconnect c.in_default.not-IsoStatus c.in_default.not-InterruptStatus))
           (c.told_fact.ensures.ok st at c.args.to_host.now place h sound going);
       err = c.told_fact.ensures.err c.args.to_host.now;
     }
+
+pub returns-in-IsoStatus-clause-ok : goal.returns-in-IsoStatus-clause-ok
+returns-in-IsoStatus-clause-ok c st at place h sound going =
+    let k = c.requires.kept in
+    rw c.in-IsoStatus.is
+    (subst (λ (new : Kept). Does st (mark_as st (StreamTold c.args.header.now.id c.in-IsoStatus.endpoint (status_of c.in-IsoStatus.status)) None) c.args.self.now new c.args.to_client.now c.args.to_client.now c.args.to_host.now c.args.to_host.now c.args.notes.now c.args.notes.now) (sym c.told_stream.ensures.told)
+    (does-tell_stream st c.args.header.now.id c.in-IsoStatus.endpoint (status_of c.in-IsoStatus.status) c.args.self.now c.args.to_client.now c.args.to_host.now c.args.notes.now h k.answered_fits k.unlinked_fits k.dropped_fits))
+
+pub returns-in-InterruptStatus-clause-ok : goal.returns-in-InterruptStatus-clause-ok
+returns-in-InterruptStatus-clause-ok c st at place h sound going =
+    let k = c.requires.kept in
+    rw c.in-InterruptStatus.is
+    (subst (λ (new : Kept). Does st (mark_as st (StreamTold c.args.header.now.id c.in-InterruptStatus.endpoint (status_of c.in-InterruptStatus.status)) None) c.args.self.now new c.args.to_client.now c.args.to_client.now c.args.to_host.now c.args.to_host.now c.args.notes.now c.args.notes.now) (sym c.told_stream-in-InterruptStatus.ensures.told)
+    (does-tell_stream st c.args.header.now.id c.in-InterruptStatus.endpoint (status_of c.in-InterruptStatus.status) c.args.self.now c.args.to_client.now c.args.to_host.now c.args.notes.now h k.answered_fits k.unlinked_fits k.dropped_fits))

@@ -1,10 +1,10 @@
-use Rattle.std.proofs.Common.{◌≡◌, suc, length, sym, ap, ◌∙◌, arith}
+use Rattle.std.proofs.Common.{◌≡◌, suc, length, sym, ap, subst, ◌∙◌, arith}
 use Rattle.std.proofs.lemmas.List.{length-map}
 use Rattle.unlink_race.specs.Searches.{changes}
 use Rattle.std.specs.List.{list_any}
 use Rattle.gate_core.specs.Verdict.{Verdict, verdict, goes_by_id}
 use Rattle.gate_core.specs.Flight.{wide_bulk}
-use Rattle.gate_core.specs.Packets.{packets_of}
+use Rattle.gate_core.specs.Packets.{HasRoute}
 use Rattle.gate_core.specs.inner.Views.{request_view, verdict_view}
 use Rattle.gate_core.specs.inner.Rows.{row}
 use Rattle.gate_core.proofs.Flown.{change-rows}
@@ -28,9 +28,5 @@ returns-clause-answered c =
     record {
       answered = λ by. record { packets = record { few = w.few_packets; counted = w.descs }; few_bytes = w.few_bytes; read = c.decide.ensures.reads w by; by_id = not-stream (verdict_view c.decide.result) r.transfer.ep by };
       room = λ by. omega (arith, c.decide.ensures.room by, c.len.ensures.len);
-      sends = λ by.
-          let v = verdict t.lost c.len.result c.change_waits-changing.result t.facts.table c.has-wide.result r in
-          let some = verdict-sends r.transfer t.lost c.len.result c.change_waits-changing.result t.facts.table c.has-wide.result r (sym (ap goes_by_id c.decide.ensures.value) ∙ by) in
-          let is : length (packets_of (verdict_view c.decide.result) r.transfer) ≡ suc some.more = ap (λ (x : Verdict). length (packets_of x r.transfer)) c.decide.ensures.value ∙ some.is in
-          omega (arith, is);
+      sends = subst HasRoute (sym c.decide.ensures.value) (verdict-sends t.lost c.len.result c.change_waits-changing.result t.facts.table c.has-wide.result r);
     }

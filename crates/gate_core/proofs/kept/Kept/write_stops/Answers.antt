@@ -1,0 +1,26 @@
+use Rattle.std.proofs.Common.{◌∙◌, ◌++◌, get_or, take, sym, ap, append_assoc, arith}
+use Rattle.std.proofs.lemmas.List.{append-nil}
+use Rattle.gate_core.specs.declared.streams.Called.{Called}
+use Rattle.gate_core.specs.Ups.{is_ended}
+use Rattle.gate_core.specs.Packets.{stop_of, stops}
+use Rattle.gate_core.specs.inner.Calling.{called_of, after_stops, bytes_of}
+use Rattle.gate_core.proofs.Stopping.{bytes-more, stops-more, next-stops}
+use Rattle.gate_core.proofs.kept.Kept.write_stops.Goals as goal
+
+pub loop-stream-init : goal.loop-stream-init
+loop-stream-init c = record { called = c.called-called.ensures; sent = sym (append-nil c.args.to_host.now) }
+
+pub loop-stream-preserved : goal.loop-stream-preserved
+loop-stream-preserved c =
+    let t = c.args.self.now in
+    let test = is_ended c.args.by in
+    let before = stops test (take c.loop-stream.stream-index t.streams) in
+    let one = stop_of test (get_or t.streams c.loop-stream.stream-index c.stream-item.result) in
+    let next = next-stops test t.streams c.loop-stream.stream-index c.stream-item.result (omega arith) c.stream-item.is in
+    record {
+      called = c.in_ok-write_stop_of.ensures.called ∙ ap (λ (k : Called). after_stops t k one) c.loop-stream.invariant.called
+          ∙ sym (stops-more t (called_of t) before one) ∙ ap (after_stops t (called_of t)) (sym next);
+      sent = c.in_ok-write_stop_of.ensures.sent ∙ (λ i. c.loop-stream.invariant.sent i ++ bytes_of t (c.loop-stream.invariant.called i).last one)
+          ∙ append_assoc c.args.to_host.now (bytes_of t t.last before) (bytes_of t (after_stops t (called_of t) before).last one)
+          ∙ ap (λ bs. c.args.to_host.now ++ bs) (sym (bytes-more t t.last before one) ∙ ap (bytes_of t t.last) (sym next));
+    }
