@@ -18,3 +18,5 @@ pub mod Sound
 pub mod Cancels
 pub mod Makes
 pub mod Resets
+pub mod Stands
+pub mod Takings

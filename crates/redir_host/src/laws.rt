@@ -1,0 +1,34 @@
+//! Laws of a host's definitions, as contracts of functions that do nothing.
+
+ghost use Rattle.std.specs.Prelude.{◌≡◌, ◌∷◌, ◌++◌, ℕ, List};
+ghost use Rattle.redir_wire.specs.declared.packet.Header.{Header};
+ghost use Rattle.redir_data.specs.declared.packet.RedirPacket.{RedirPacket};
+ghost use Rattle.redir_host.specs.declared.host.Host.{Host};
+ghost use Rattle.redir_host.specs.Acts.{Act};
+ghost use Rattle.redir_host.specs.History.{brought};
+ghost use Rattle.redir_host.specs.Machine.{steps};
+ghost use Rattle.redir_host.specs.Makes.{IsTaken};
+ghost use Rattle.redir_host.specs.Offering.{offer_move, unplug_move};
+ghost use Rattle.redir_host.specs.Output.{act_bytes, host_of, host_out};
+ghost use Rattle.redir_host.specs.Packets.{packet_move};
+ghost use Rattle.redir_host.specs.Performing.{perform_move};
+ghost use Rattle.redir_host.specs.Sound.{IsSound};
+
+use model_device::Gadget;
+
+/// A law: one act more is the items that it brings, one after another, to the host and to all that was sent.
+pub fn acts_add_items<G: Gadget>()
+    ensures host { (first : G) (acts : List Act) (act : Act)
+        → host_of G.meaning first (act ∷ acts) ≡ steps G.meaning (host_of G.meaning first acts) (brought acts act) }
+    ensures out { (first : G) (acts : List Act) (act : Act)
+        → host_out G.meaning first (act ∷ acts) ≡ host_out G.meaning first acts ++ act_bytes G.meaning first acts act }
+{}
+
+/// A law: what is known of a host stays known, whatever its guest can send and whatever is done with it.
+pub fn hosts_stay_sound<G: Gadget>()
+    ensures take { (host : Host G) (header : Header) (packet : RedirPacket)
+        → IsSound host → IsTaken host.guest header packet → IsSound (packet_move G.meaning host header.id packet).host }
+    ensures perform { (host : Host G) (ep : ℕ) → IsSound host → IsSound (perform_move G.meaning host ep).host }
+    ensures offer { (host : Host G) (ep : ℕ) → IsSound host → IsSound (offer_move G.meaning host ep).host }
+    ensures unplug { (host : Host G) → IsSound host → IsSound (unplug_move host).host }
+{}
