@@ -132,7 +132,7 @@ keeps-offer {S = S} m h ep sound =
 
 -- ---- the end
 
-abbrev unplugged-by : {S : Type 0} → Host S → Bool → Move S
+abbrev pub unplugged-by : {S : Type 0} → Host S → Bool → Move S
 unplugged-by h b = cond b (quiet h) (unplug_move (record h { unplugged = false }))
 
 pub keeps-unplug : {S : Type 0} (h : Host S) → IsSound h → Keeps h (unplug_move h).host

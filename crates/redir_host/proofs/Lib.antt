@@ -12,3 +12,5 @@ pub mod Runs
 pub mod Pieces
 pub mod Standing
 pub mod Ends
+pub mod Lines
+pub mod Lined

@@ -20,3 +20,4 @@ pub mod Makes
 pub mod Resets
 pub mod Stands
 pub mod Takings
+pub mod Line

@@ -1,12 +1,14 @@
 //! Laws of a host's definitions, as contracts of functions that do nothing.
 
-ghost use Rattle.std.specs.Prelude.{◌≡◌, ◌∷◌, ◌++◌, ℕ, List};
+ghost use Rattle.std.specs.Prelude.{◌≡◌, ◌∷◌, ◌++◌, false, ℕ, List};
 ghost use Rattle.redir_wire.specs.declared.packet.Header.{Header};
 ghost use Rattle.redir_data.specs.declared.packet.RedirPacket.{RedirPacket};
 ghost use Rattle.redir_host.specs.declared.host.Host.{Host};
 ghost use Rattle.redir_host.specs.Acts.{Act};
 ghost use Rattle.redir_host.specs.History.{brought};
-ghost use Rattle.redir_host.specs.Machine.{steps};
+ghost use Rattle.redir_host.specs.Items.{Item};
+ghost use Rattle.redir_host.specs.Line.{line, queue_in, reset_in};
+ghost use Rattle.redir_host.specs.Machine.{run, steps};
 ghost use Rattle.redir_host.specs.Makes.{IsTaken};
 ghost use Rattle.redir_host.specs.Offering.{offer_move, unplug_move};
 ghost use Rattle.redir_host.specs.Output.{act_bytes, host_of, host_out};
@@ -31,4 +33,12 @@ pub fn hosts_stay_sound<G: Gadget>()
     ensures perform { (host : Host G) (ep : ℕ) → IsSound host → IsSound (perform_move G.meaning host ep).host }
     ensures offer { (host : Host G) (ep : ℕ) → IsSound host → IsSound (offer_move G.meaning host ep).host }
     ensures unplug { (host : Host G) → IsSound host → IsSound (unplug_move host).host }
+{}
+
+/// A law: the requests that a host keeps, with their marks, and the mark of the next one are read off a line of requests
+/// and resets in order of arrival: a reset stands in it as a request does, and goes with the first request of endpoint 0
+/// behind it.
+pub fn queues_are_lines<G: Gadget>()
+    ensures queue { (first : G) (items : List Item) → (run G.meaning first items).queue ≡ queue_in false (line G.meaning first items) }
+    ensures reset { (first : G) (items : List Item) → (run G.meaning first items).resets_next ≡ reset_in false (line G.meaning first items) }
 {}
