@@ -14,3 +14,5 @@ pub mod Standing
 pub mod Ends
 pub mod Lines
 pub mod Lined
+pub mod Arrivals
+pub mod Silent

@@ -32,7 +32,7 @@ use Rattle.redir_host.proofs.Keeps.{keeps-perform}
 short-by : {P : Type 0} (p : P) (n : ℕ) → 0 < n → ◌≡◌ {A = Found P Reason} (cond (nat_lt 0 n) Short (Whole p n)) Short
 short-by {P = P} p n some = ap (λ (b : Bool). cond {A = Found P Reason} b Short (Whole p n)) (lt-ltb 0 n some)
 
-split-none : guest_split [] ≡ record { packets = []; wrong = None; position = guest_start; rest = [] }
+pub split-none : guest_split [] ≡ record { packets = []; wrong = None; position = guest_start; rest = [] }
 split-none =
     split-is guest_reader (reads_steady (stream_format ToHost) after (stream_sound ToHost)) guest_start [] Short
     (short-by ((stream_format ToHost start).packet []) ((stream_format ToHost start).size []) ((stream_sound ToHost start).some []))

@@ -4,7 +4,6 @@ ghost use Rattle.std.specs.Prelude.{◌≡◌, [], List, not, IfOk, OnOk, OnErr}
 ghost use Rattle.packet_stream.specs.Loops.{TakesPackets};
 ghost use Rattle.redir_host.specs.Acts.{Act, Piece, Perform, Offer, Unplug};
 ghost use Rattle.redir_host.specs.Guest.{guest_reader};
-ghost use Rattle.redir_host.specs.Machine.{bytes_of};
 ghost use Rattle.redir_host.specs.Makes.{IsTaken, Takes};
 ghost use Rattle.redir_host.specs.Offering.{told_offered};
 ghost use Rattle.redir_host.specs.Output.{host_of};

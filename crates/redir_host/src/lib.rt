@@ -24,7 +24,9 @@ mod write;
 pub use hello::write_hello;
 pub use host::Host;
 pub use host_core::HostCore;
-pub use laws::{acts_add_items, hosts_stay_sound, queues_are_lines};
+pub use laws::{
+    acts_add_items, acts_bring_the_split, hosts_stay_sound, only_bytes_are_noted, queues_are_lines,
+};
 pub use note::{HostNote, HostNotes, Offered, Performed};
 pub use queue::Queue;
 pub use request::{Form, Request};

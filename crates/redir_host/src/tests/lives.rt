@@ -137,6 +137,20 @@ fn lives_configured(
 }
 
 #[test]
+fn a_guest_that_asks_nothing_is_told_of_the_device_alone(rt: HostRuntime) -> Result<(), Fail> {
+    let rows = [
+        ("p 00", "", "not ready"),
+        ("o 81", "", "closed"),
+        ("g GH", "EPU IIU DCL", ""),
+        ("p 00", "", "not ready"),
+        ("p 01", "", "not ready"),
+        ("p 81", "", "not ready"),
+        ("o 81", "", "closed"),
+    ];
+    lives(&rt, Loopback::make(rt.alloc())?, &rows)
+}
+
+#[test]
 fn a_guest_reads_and_writes_the_loop_until_it_is_unplugged(rt: HostRuntime) -> Result<(), Fail> {
     lives_configured(
         &rt,
