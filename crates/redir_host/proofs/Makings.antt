@@ -145,16 +145,16 @@ first_none {S = S} m h ep o0 plugged is =
 
 -- ---- with a reset
 
-changed_guest : {S : Type 0} (m : Meaning S) (r : Route) (t : EpTable) (b : Bool) (h : Host S) → (changed m r t b h).host.guest ≡ h.guest
+pub changed_guest : {S : Type 0} (m : Meaning S) (r : Route) (t : EpTable) (b : Bool) (h : Host S) → (changed m r t b h).host.guest ≡ h.guest
 changed_guest m r t true h = refl
 changed_guest m r t false h = refl
 
-done_guest : {S : Type 0} (m : Meaning S) (t : EpTable) (h : Host S) (q : Request) (r : Option Route) (o : Outcome) → (done_by m t h q r o).host.guest ≡ h.guest
+pub done_guest : {S : Type 0} (m : Meaning S) (t : EpTable) (h : Host S) (q : Request) (r : Option Route) (o : Outcome) → (done_by m t h q r o).host.guest ≡ h.guest
 done_guest m t h q None o = refl
 done_guest m t h q (Some r) o = changed_guest m r t (is_success o.status) h
 
 -- the guest's requests stand as before, or some of them do
-cleared_sound : {S : Type 0} (m : Meaning S) (r : Route) (t : EpTable) (b : Bool) (h : Host S) → IsSound h → IsSound (changed m r t b h).host
+pub cleared_sound : {S : Type 0} (m : Meaning S) (r : Route) (t : EpTable) (b : Bool) (h : Host S) → IsSound h → IsSound (changed m r t b h).host
 cleared_sound m r t true h s = record { requests = each_filtered (IsRequest h.guest) (stays r t) h.queue s.requests; streams = each_filtered (IsRunning h.guest) (runs_on r t) h.running s.streams }
 cleared_sound m r t false h s = s
 
@@ -207,7 +207,7 @@ reset_alone {S = S} m h after new q t o o0 o1 reset table made =
     subst Says (sym reset.performed)
     (subst (λ (g : Host S). Makes (done_by m (m.table h.gadget) g q (Some route.Reset) o) new o0 o1) reset.rest (subst (λ (x : EpTable). Makes (done_by m x after q (Some route.Reset) o) new o0 o1) table made))
 
-reset_transfer : IsTransfer (routed route.Reset)
+pub reset_transfer : IsTransfer (routed route.Reset)
 reset_transfer = record { address = lit< tt; has_setup = refl; direction = refl; from_device = λ into. absurd (let no : false ≡ true = into in cc); to_device = λ way. refl }
 
 -- a reset moves nothing, so that it is an outcome of each transfer

@@ -18,3 +18,6 @@ pub mod Sound
 pub mod Cancels
 pub mod Makes
 pub mod Resets
+pub mod Stands
+pub mod Takings
+pub mod Line

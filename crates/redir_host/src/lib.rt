@@ -7,6 +7,9 @@ mod change;
 mod facts;
 mod hello;
 mod host;
+mod host_core;
+mod kept;
+mod laws;
 mod note;
 mod perform;
 mod queue;
@@ -20,6 +23,10 @@ mod write;
 
 pub use hello::write_hello;
 pub use host::Host;
+pub use host_core::HostCore;
+pub use laws::{
+    acts_add_items, acts_bring_the_split, hosts_stay_sound, only_bytes_are_noted, queues_are_lines,
+};
 pub use note::{HostNote, HostNotes, Offered, Performed};
 pub use queue::Queue;
 pub use request::{Form, Request};

@@ -7,6 +7,9 @@ ghost use Rattle.redir_data.specs.Streams.{start};
 ghost use Rattle.redir_host.specs.Makes.{IsTaken};
 ghost use Rattle.redir_host.specs.Sound.{IsSound};
 
+mod laid_out;
+mod lives;
+
 use crate::routed::set_configuration;
 use crate::{Form, Host, HostNotes, Offered, Performed, Request, StreamKind, write_hello};
 use model_device::{Gadget, Keyboard, Loopback};

@@ -1,0 +1,55 @@
+use Rattle.std.proofs.Common.{Ok, ap, ◌∙◌}
+use Rattle.packet_stream.proofs.Loops.{goes-more, takes-all, takes-err, takes-memory, takes-weaker}
+use Rattle.redir_data.specs.Packets.{takes_memory}
+use Rattle.redir_host.specs.Guest.{guest_reader}
+use Rattle.redir_host.specs.Takings.{TookPackets}
+use Rattle.redir_host.proofs.Pieces.{Going, going-one, going-given, going-ended, going-stopped, next-taken}
+use Rattle.redir_host.proofs.kept.take_packets.Goals as goal
+
+pub returns-in_err-header : goal.returns-in_err-header
+returns-in_err-header g c =
+    let m = g.G.Gadget.meaning in
+    let l = c.loop-header in
+    let r = c.from_residual.result in
+    takes-weaker guest_reader c.args.stream.now c.next.new.self (Going m c.args.host.now l.host c.args.out.now l.out c.args.notes.now l.notes) (TookPackets r m c.args.host.now l.host c.args.out.now l.out c.args.notes.now l.notes) r
+    (λ more went. going-ended r m c.args.host.now l.host c.args.out.now l.out c.args.notes.now l.notes more went)
+    (takes-err guest_reader takes_memory c.args.stream.now l.stream c.next.new.self (Going m c.args.host.now l.host c.args.out.now l.out c.args.notes.now l.notes) c.next.result c.in_err-header.field-0.0 r l.invariant c.next.ensures.changes c.next.ensures.follows c.in_err-header.was c.from_residual.ensures.1)
+
+pub take_packet-requires-clause-sound : goal.take_packet-requires-clause-sound
+take_packet-requires-clause-sound g c =
+    let l = c.loop-header in
+    let read = c.requires.read in
+    (going-given g.G.Gadget.meaning c.args.stream.now l.stream c.args.host.now l.host c.args.out.now l.out c.args.notes.now l.notes read.0 read.1.0 l.invariant read.1.1).1.1
+
+pub take_packet-requires-clause-taken : goal.take_packet-requires-clause-taken
+take_packet-requires-clause-taken g c =
+    let l = c.loop-header in
+    let read = c.requires.read in
+    let now = going-given g.G.Gadget.meaning c.args.stream.now l.stream c.args.host.now l.host c.args.out.now l.out c.args.notes.now l.notes read.0 read.1.0 l.invariant read.1.1 in
+    next-taken takes_memory l.stream c.next.new.self l.host.guest read.0 _ c.next.result (c.in-Some.field-0-0, (c.in-Some.header, c.in-Some.packet)) now.1.0 c.next.ensures.follows (c.in_ok-header.was ∙ ap (λ o. Ok o) c.in-Some.is)
+
+pub loop-header-preserved : goal.loop-header-preserved
+loop-header-preserved g c =
+    let m = g.G.Gadget.meaning in
+    let l = c.loop-header in
+    let read = c.requires.read in
+    let is = c.in_ok-header.was ∙ ap (λ o. Ok o) c.in-Some.is in
+    let now = going-given m c.args.stream.now l.stream c.args.host.now l.host c.args.out.now l.out c.args.notes.now l.notes read.0 read.1.0 l.invariant read.1.1 in
+    let taken = next-taken takes_memory l.stream c.next.new.self l.host.guest read.0 _ c.next.result (c.in-Some.field-0-0, (c.in-Some.header, c.in-Some.packet)) now.1.0 c.next.ensures.follows is in
+    goes-more guest_reader takes_memory c.args.stream.now l.stream c.next.new.self _ _ c.next.result (c.in-Some.field-0-0, (c.in-Some.header, c.in-Some.packet)) l.invariant c.next.ensures.changes c.next.ensures.follows is
+    (going-one m c.args.host.now l.host c.take_packet.new.host c.in-Some.header c.in-Some.packet c.args.out.now l.out c.take_packet.new.out c.args.notes.now l.notes c.take_packet.new.notes taken c.in_ok-take_packet.ensures.ok)
+
+pub returns-in_err-take_packet : goal.returns-in_err-take_packet
+returns-in_err-take_packet g c =
+    let m = g.G.Gadget.meaning in
+    let l = c.loop-header in
+    let r = c.from_residual-in_err-take_packet.result in
+    let on = c.from_residual-in_err-take_packet.ensures.1 in
+    takes-weaker guest_reader c.args.stream.now c.next.new.self (Going m c.args.host.now l.host c.args.out.now l.out c.args.notes.now l.notes) (TookPackets r m c.args.host.now c.take_packet.new.host c.args.out.now c.take_packet.new.out c.args.notes.now c.take_packet.new.notes) r
+    (going-stopped r m c.args.host.now l.host c.take_packet.new.host c.args.out.now l.out c.take_packet.new.out c.args.notes.now l.notes c.take_packet.new.notes on c.in_err-take_packet.ensures.err)
+    (takes-memory guest_reader c.args.stream.now l.stream c.next.new.self (Going m c.args.host.now l.host c.args.out.now l.out c.args.notes.now l.notes) c.next.result (c.in-Some.field-0-0, (c.in-Some.header, c.in-Some.packet)) r l.invariant c.next.ensures.changes (c.in_ok-header.was ∙ ap (λ o. Ok o) c.in-Some.is) on)
+
+pub returns : goal.returns
+returns g c =
+    let l = c.loop-header in
+    takes-all tt guest_reader takes_memory c.args.stream.now l.stream c.next.new.self _ c.next.result l.invariant c.next.ensures.changes c.next.ensures.follows (c.in_ok-header.was ∙ ap (λ o. Ok o) c.in_default.is)

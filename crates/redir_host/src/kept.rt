@@ -1,0 +1,159 @@
+//! What a host core keeps, and how acts change it.
+
+ghost use Rattle.std.specs.Prelude.{◌≡◌, [], List, not, IfOk, OnOk, OnErr};
+ghost use Rattle.packet_stream.specs.Loops.{TakesPackets};
+ghost use Rattle.redir_host.specs.Acts.{Act, Piece, Perform, Offer, Unplug};
+ghost use Rattle.redir_host.specs.Guest.{guest_reader};
+ghost use Rattle.redir_host.specs.Makes.{IsTaken, Takes};
+ghost use Rattle.redir_host.specs.Offering.{told_offered};
+ghost use Rattle.redir_host.specs.Output.{host_of};
+ghost use Rattle.redir_host.specs.Packets.{packet_move};
+ghost use Rattle.redir_host.specs.Performing.{told_performed};
+ghost use Rattle.redir_host.specs.Sound.{IsSound};
+ghost use Rattle.redir_host.specs.Stands.{DoesAct, HasPast, Stands, Stops, TakesAct};
+ghost use Rattle.redir_host.specs.Takings.{HasRead, TookPackets};
+
+use crate::host::Host;
+use crate::note::{HostNote, HostNotes, Offered, Performed};
+use model_device::Gadget;
+use packet_stream::{ReadError, Stream};
+use redir_data::{FromGuest, RedirPacket, RedirState};
+use redir_wire::Header;
+use std::alloc::Global;
+use usb_base::{Bytes, EpAddr, Memory};
+
+/// The guest's stream, and the host that takes its packets.
+#[derive(Debug, Drop)]
+pub struct Kept<G> {
+    pub alloc: Global,
+    pub stream: Stream<FromGuest>,
+    pub host: Host<G>,
+    /// Memory ran out in an earlier call.
+    pub failed: bool,
+}
+
+impl<G: Gadget> Kept<G> {
+    /// The host of a device that was just plugged in.
+    pub fn new(alloc: Global, gadget: G) -> Self
+        ensures { Stands G.meaning gadget result [] }
+    {
+        Kept {
+            alloc,
+            stream: Stream::new(alloc, RedirState::start()),
+            host: Host::new(alloc, gadget),
+            failed: false,
+        }
+    }
+
+    /// Takes a piece of the guest's bytes. Those behind a wrong place are dropped. For want of memory the packets before
+    /// the one that met it are taken, and that one has sent nothing.
+    pub fn take(
+        &mut self,
+        piece: &[u8],
+        out: &mut Bytes,
+        notes: &mut HostNotes,
+    ) -> Result<(), Memory>
+        requires { HasPast G.meaning self.old }
+        ensures ok { OnOk result ((first : G) (acts : List Act) → Stands G.meaning first self.old acts
+            → TakesAct G.meaning first self.new acts (Piece piece.now) out.old out.new notes.old notes.new) }
+        ensures err { OnErr result ((first : G) (acts : List Act) → Stands G.meaning first self.old acts
+            → Stops G.meaning first acts (Piece piece.now) out.old out.new) }
+    {
+        if self.stream.is_over() {
+            return Ok(());
+        }
+        self.stream.put(piece)?;
+        match take_packets(self.alloc, &mut self.stream, &mut self.host, out, notes) {
+            Ok(()) => Ok(()),
+            Err(ReadError::Refused { place, reason }) => {
+                notes.push(HostNote::Refused { place, reason })?;
+                Ok(())
+            }
+            Err(ReadError::Memory) => Err(Memory),
+        }
+    }
+
+    /// Performs the first request of an endpoint. For want of memory `out` stands.
+    pub fn perform(&mut self, ep: EpAddr, out: &mut Bytes) -> Result<Performed, Memory>
+        requires { HasPast G.meaning self.old }
+        ensures told { IfOk result (λ told. (first : G) (acts : List Act) → Stands G.meaning first self.old acts
+            → told ≡ told_performed G.meaning (host_of G.meaning first acts) ep) }
+        ensures does { OnOk result ((first : G) (acts : List Act) → Stands G.meaning first self.old acts
+            → DoesAct G.meaning first self.new acts (Perform ep) out.old out.new) }
+        ensures err { OnErr result (out.new ≡ out.old) }
+    {
+        let before = out.len();
+        match self.host.perform(self.alloc, ep, out) {
+            Ok(told) => Ok(told),
+            Err(memory) => {
+                out.cut(before);
+                Err(memory)
+            }
+        }
+    }
+
+    /// Offers the guest what the device has for an endpoint. For want of memory `out` stands.
+    pub fn offer(&mut self, ep: EpAddr, out: &mut Bytes) -> Result<Offered, Memory>
+        requires { HasPast G.meaning self.old }
+        ensures told { IfOk result (λ told. (first : G) (acts : List Act) → Stands G.meaning first self.old acts
+            → told ≡ told_offered G.meaning (host_of G.meaning first acts) ep) }
+        ensures does { OnOk result ((first : G) (acts : List Act) → Stands G.meaning first self.old acts
+            → DoesAct G.meaning first self.new acts (Offer ep) out.old out.new) }
+        ensures err { OnErr result (out.new ≡ out.old) }
+    {
+        self.host.offer(self.alloc, ep, out)
+    }
+
+    /// Takes the device away; false where it was taken away before. For want of memory `out` stands.
+    pub fn unplug(&mut self, out: &mut Bytes) -> Result<bool, Memory>
+        requires { HasPast G.meaning self.old }
+        ensures told { IfOk result (λ told. told ≡ not self.old.host.unplugged) }
+        ensures does { OnOk result ((first : G) (acts : List Act) → Stands G.meaning first self.old acts
+            → DoesAct G.meaning first self.new acts Unplug out.old out.new) }
+        ensures err { OnErr result (out.new ≡ out.old) }
+    {
+        self.host.unplug(out)
+    }
+}
+
+/// Takes the packets that are whole, one by one.
+fn take_packets<G: Gadget>(
+    alloc: Global,
+    stream: &mut Stream<FromGuest>,
+    host: &mut Host<G>,
+    out: &mut Bytes,
+    notes: &mut HostNotes,
+) -> Result<(), ReadError>
+    requires read { HasRead stream.old host.old.guest }
+    requires sound { IsSound host.old }
+    ensures { TakesPackets guest_reader result stream.old stream.new (TookPackets result G.meaning host.old host.new out.old out.new notes.old notes.new) }
+{
+    while let Some((_, (header, packet))) = stream.next(alloc)? {
+        take_packet(alloc, host, header, packet, out, notes)?;
+    }
+    Ok(())
+}
+
+/// Takes a packet. For want of memory it has sent nothing.
+fn take_packet<G: Gadget>(
+    alloc: Global,
+    host: &mut Host<G>,
+    header: Header,
+    packet: RedirPacket,
+    out: &mut Bytes,
+    notes: &mut HostNotes,
+) -> Result<(), Memory>
+    requires sound { IsSound host.old }
+    requires taken { IsTaken host.old.guest header packet }
+    ensures ok { OnOk result (Takes (packet_move G.meaning host.old header.id packet) host.new out.old out.new notes.old notes.new) }
+    ensures err { OnErr result (out.new ≡ out.old) }
+{
+    let before = out.len();
+    match host.take(alloc, header, packet, out, notes) {
+        Ok(()) => Ok(()),
+        Err(memory) => {
+            out.cut(before);
+            Err(memory)
+        }
+    }
+}

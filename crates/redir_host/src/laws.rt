@@ -1,0 +1,59 @@
+//! Laws of a host's definitions, as contracts of functions that do nothing.
+
+ghost use Rattle.std.specs.Prelude.{◌≡◌, [], ◌∷◌, ◌++◌, false, ℕ, List};
+ghost use Rattle.usb_base.specs.Number.{AreBytes};
+ghost use Rattle.redir_wire.specs.declared.packet.Header.{Header};
+ghost use Rattle.redir_data.specs.declared.packet.RedirPacket.{RedirPacket};
+ghost use Rattle.redir_host.specs.declared.host.Host.{Host};
+ghost use Rattle.redir_host.specs.Acts.{Act, Perform, Offer, Unplug, guest_bytes};
+ghost use Rattle.redir_host.specs.Guest.{guest_items};
+ghost use Rattle.redir_host.specs.History.{brought, history, of_guest};
+ghost use Rattle.redir_host.specs.Items.{Item};
+ghost use Rattle.redir_host.specs.Line.{line, queue_in, reset_in};
+ghost use Rattle.redir_host.specs.Machine.{run, steps};
+ghost use Rattle.redir_host.specs.Makes.{IsTaken};
+ghost use Rattle.redir_host.specs.Offering.{offer_move, unplug_move};
+ghost use Rattle.redir_host.specs.Output.{act_bytes, act_notes, host_of, host_out};
+ghost use Rattle.redir_host.specs.Packets.{packet_move};
+ghost use Rattle.redir_host.specs.Performing.{perform_move};
+ghost use Rattle.redir_host.specs.Sound.{IsSound};
+
+use model_device::Gadget;
+
+/// A law: one act more is the items that it brings, one after another, to the host and to all that was sent.
+pub fn acts_add_items<G: Gadget>()
+    ensures host { (first : G) (acts : List Act) (act : Act)
+        → host_of G.meaning first (act ∷ acts) ≡ steps G.meaning (host_of G.meaning first acts) (brought acts act) }
+    ensures out { (first : G) (acts : List Act) (act : Act)
+        → host_out G.meaning first (act ∷ acts) ≡ host_out G.meaning first acts ++ act_bytes G.meaning first acts act }
+{}
+
+/// A law: what acts bring of the guest, its packets and its wrong place, is what all its bytes split into, in order,
+/// however they were cut.
+pub fn acts_bring_the_split()
+    ensures { (acts : List Act) → AreBytes (guest_bytes acts) → of_guest (history acts) ≡ guest_items (guest_bytes acts) }
+{}
+
+/// A law: performs, offers and the end tell nothing beside their answers, so that all notes come of the guest's bytes.
+pub fn only_bytes_are_noted<G: Gadget>()
+    ensures perform { (first : G) (acts : List Act) (ep : ℕ) → act_notes G.meaning first acts (Perform ep) ≡ [] }
+    ensures offer { (first : G) (acts : List Act) (ep : ℕ) → act_notes G.meaning first acts (Offer ep) ≡ [] }
+    ensures unplug { (first : G) (acts : List Act) → act_notes G.meaning first acts Unplug ≡ [] }
+{}
+
+/// A law: what is known of a host stays known, whatever its guest can send and whatever is done with it.
+pub fn hosts_stay_sound<G: Gadget>()
+    ensures take { (host : Host G) (header : Header) (packet : RedirPacket)
+        → IsSound host → IsTaken host.guest header packet → IsSound (packet_move G.meaning host header.id packet).host }
+    ensures perform { (host : Host G) (ep : ℕ) → IsSound host → IsSound (perform_move G.meaning host ep).host }
+    ensures offer { (host : Host G) (ep : ℕ) → IsSound host → IsSound (offer_move G.meaning host ep).host }
+    ensures unplug { (host : Host G) → IsSound host → IsSound (unplug_move host).host }
+{}
+
+/// A law: the requests that a host keeps, with their marks, and the mark of the next one are read off a line of requests
+/// and resets in order of arrival: a reset stands in it as a request does, and goes with the first request of endpoint 0
+/// behind it.
+pub fn queues_are_lines<G: Gadget>()
+    ensures queue { (first : G) (items : List Item) → (run G.meaning first items).queue ≡ queue_in false (line G.meaning first items) }
+    ensures reset { (first : G) (items : List Item) → (run G.meaning first items).resets_next ≡ reset_in false (line G.meaning first items) }
+{}
