@@ -1,5 +1,5 @@
 -- Ids that are drawn in turn for packets, and what is noted of those that start and stop streams.
-use Rattle.std.proofs.Common.{◌≡◌, ℕ, zero, suc, ◌+◌, ◌≤◌, Bool, true, false, cond, eqb, List, [], ◌∷◌, ◌++◌, length, map, set, Option, Some, None, refl, sym, ap, ◌∙◌, arith, append_assoc}
+use Rattle.std.proofs.Common.{◌≡◌, ℕ, zero, suc, ◌+◌, ◌≤◌, Bool, true, false, cond, List, [], ◌∷◌, ◌++◌, length, map, set, Option, Some, None, refl, ap, ◌∙◌, arith}
 use Rattle.std.specs.Prelude.{zip}
 use Rattle.std.specs.List.{flat_map}
 use Rattle.std.specs.Option.{option_to_list}
@@ -19,7 +19,7 @@ use Rattle.gate_core.specs.Ids.{draw, draws, last_of, times}
 use Rattle.gate_core.specs.Verdict.{Pipe, Control, Bulk, InterruptOut, is_iso}
 use Rattle.gate_core.specs.Requests.{Request}
 use Rattle.gate_core.specs.Packets.{wire_packet, start_packet, starts, stop_packet, stop_of, stops, iso_packet, iso_packets, route_packets}
-use Rattle.gate_core.specs.Calls.{no_calls, started, stopped, called_by, called, call_ids, last_or}
+use Rattle.gate_core.specs.Calls.{started, stopped, called_by, called, call_ids, last_or}
 use Rattle.gate_core.proofs.Lists.{Each}
 
 -- ---- ids in turn

@@ -1,5 +1,5 @@
 -- No id is in flight twice, and the ids that an item draws are fresh.
-use Rattle.std.proofs.Common.{◌≡◌, ℕ, suc, ◌+◌, ◌<◌, ◌≤◌, ◌&&◌, Bool, true, false, cond, if◌then◌else◌, not, eqb, List, [], ◌∷◌, ◌++◌, length, map, set, Option, Some, None, refl, sym, ap, subst, ◌∙◌, arith, inl, inr}
+use Rattle.std.proofs.Common.{◌≡◌, ℕ, ◌+◌, ◌<◌, ◌≤◌, ◌&&◌, Bool, true, false, cond, if◌then◌else◌, not, eqb, List, [], ◌∷◌, ◌++◌, length, map, set, Option, Some, None, refl, sym, ap, subst, ◌∙◌, arith, inl, inr}
 use Rattle.std.specs.Prelude.{◌%◌, ◌||◌, nat_lt, nat_eq, filter, is_none, zip}
 use Rattle.std.specs.List.{AllByRecursion, IsDistinct}
 use Rattle.std.proofs.lemmas.Bool.{cases_Bool, false≢true}
@@ -37,7 +37,7 @@ use Rattle.gate_core.specs.Requests.{Request, request_of}
 use Rattle.gate_core.specs.Ups.{no_streams, stream_at, raised, unless, lower_at, is_ended, is_success, opened_streams, moved_streams, streams_after, streams}
 use Rattle.gate_core.specs.Calls.{called, asking, calls, call_ids}
 use Rattle.gate_core.specs.Packets.{HasRoute, wire_packet, starts, stops, iso_packet, iso_packets, route_packets, packets_of, asked_packets}
-use Rattle.gate_core.proofs.Called.{AreLong, IsSilent, few-ids, long-called, few-stops, few-starts, draws-append, zip-append, last-append, called-append, called-silent, wire-silent, route-silent, iso-silent, times-append, times-called, times-last}
+use Rattle.gate_core.proofs.Called.{AreLong, few-ids, long-called, few-stops, few-starts, draws-append, zip-append, last-append, called-append, called-silent, wire-silent, route-silent, iso-silent, times-append, times-called, times-last}
 use Rattle.gate_core.specs.Meaning.{importable, imported_as, op_meaning, verdict_of, answered_as, answer_to, by_response, told_meaning, meaning, drawn_for, drawn_by, mark_of}
 use Rattle.gate_core.specs.Past.{is_left_out, past}
 use Rattle.gate_core.proofs.Lists.{length-filter, Each, every, Each-weaker, filter-same, filter-twice, both, filter-none}

@@ -1,5 +1,5 @@
 -- What is true of a submit where an item accepts it, and of an import.
-use Rattle.std.proofs.Common.{◌≡◌, ℕ, suc, ◌<◌, ◌≤◌, ◌&&◌, Bool, true, false, cond, not, eqb, leb, List, [], ◌∷◌, length, Option, Some, None, refl, sym, ap, subst, ◌∙◌, arith}
+use Rattle.std.proofs.Common.{◌≡◌, ℕ, ◌<◌, ◌&&◌, Bool, true, false, cond, not, eqb, leb, List, [], ◌∷◌, length, Option, Some, None, refl, sym, ap, subst, ◌∙◌, arith}
 use Rattle.std.specs.Prelude.{nat_lt, is_none, ℤ}
 use Rattle.std.proofs.lemmas.Bool.{leb-false, false≢true}
 use Rattle.usb_base.specs.declared.setup.Setup.{Setup}
@@ -8,7 +8,6 @@ use Rattle.usb_base.specs.declared.endpoint.EpKind.TheVariants as kind
 use Rattle.usb_base.specs.declared.endpoint.EpRow.{EpRow}
 use Rattle.usb_base.specs.declared.endpoint.EpTable.{EpTable}
 use Rattle.usb_base.specs.declared.refusal.Refusal.{Refusal}
-use Rattle.usb_base.specs.declared.transfer.Transfer.{Transfer}
 use Rattle.usb_base.specs.declared.transfer.Outcome.{Outcome}
 use Rattle.usb_base.specs.Endpoint.{row_of}
 use Rattle.usbip_op.specs.declared.packet.OpPacket.{OpPacket}
@@ -35,7 +34,7 @@ use Rattle.gate_core.specs.Marks.{Submission, Effect, Opens}
 use Rattle.gate_core.specs.Sides.{imports}
 use Rattle.gate_core.specs.Submits.{opened, at_once, ends}
 use Rattle.gate_core.specs.Ids.{last_of}
-use Rattle.gate_core.specs.State.{State, next_ids, has_number}
+use Rattle.gate_core.specs.State.{State, has_number}
 use Rattle.gate_core.specs.Replies.{is_exported}
 use Rattle.gate_core.specs.Packets.{HasRoute}
 use Rattle.gate_core.specs.Responses.{Response, response_of}

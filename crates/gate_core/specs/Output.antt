@@ -9,7 +9,7 @@ use Rattle.redir_data.specs.declared.packet.RedirPacket.TheVariants.{Plain}
 use Rattle.usbip_urb.specs.declared.client.ClientPacket.{ClientPacket}
 use Rattle.usbip_urb.specs.declared.client.ClientPacket.TheVariants.{Op, Urb}
 use Rattle.gate_core.specs.Verdict.{goes_by_id, is_wire}
-use Rattle.gate_core.specs.Marks.{Submission, Effect, Replies, Imports, Opens, Unlinks, Disconnects, Mark}
+use Rattle.gate_core.specs.Marks.{Submission, Effect, Replies, Imports, Unlinks, Disconnects, Mark}
 use Rattle.gate_core.specs.Sides.{leaves}
 use Rattle.gate_core.specs.Submits.{Pending, opened, ends}
 use Rattle.gate_core.specs.State.{State}

@@ -1,5 +1,5 @@
-//! The program: it runs the command that its words name, over standard input and output, and ends with the
-//! run's exit code.
+//! The program: it runs the command that its words name, over standard input and output and over sockets, and ends
+//! with the run's exit code.
 #![tactic(auto)]
 
 ghost use Rattle.std.specs.Prelude.{◌≡◌, IfOk, drop, map, string_bytes};
@@ -8,10 +8,12 @@ ghost use Rattle.usbgate.specs.Code.{code_of};
 ghost use Rattle.usbgate.specs.Words.{texts};
 
 use gate_outside::{NoDoors, StdSink, StdSource};
+use gate_sockets::TcpDoors;
 use std::alloc::Global;
+use std::net::Net;
 use std::process::ExitCode;
 use std::rt::Env;
-use std::{env, io};
+use std::{env, io, net};
 use usb_base::Memory;
 use usbgate::{Status, run};
 
@@ -26,8 +28,15 @@ fn exit_code(status: Status) -> ExitCode
     ExitCode::from(status.code())
 }
 
-/// Runs the command that the arguments name over the standard streams.
-fn run_args(rt: &(impl Env + Input + Print + AllocGlobal)) -> Status {
+/// Runs the command that the arguments name, over the standard streams and over sockets. Where the system gives none
+/// that can be waited for, no link comes up.
+fn run_args(
+    rt: &(impl Env
+        + Input
+        + Print
+        + AllocGlobal
+        + Net<Stream = net::TcpStream, Listener = net::TcpListener>),
+) -> Status {
     let args = match args(rt) {
         Ok(args) => args,
         Err(Memory) => return Status::OutOfMemory,
@@ -38,7 +47,10 @@ fn run_args(rt: &(impl Env + Input + Print + AllocGlobal)) -> Status {
     };
     let mut tape = StdSource::new(rt.reader());
     let mut out = StdSink::new(io::writer(rt));
-    run(rt.alloc(), &words, &mut tape, &mut out, &mut NoDoors::new())
+    match TcpDoors::new(rt, rt.alloc()) {
+        Ok(mut doors) => run(rt.alloc(), &words, &mut tape, &mut out, &mut doors),
+        Err(_) => run(rt.alloc(), &words, &mut tape, &mut out, &mut NoDoors::new()),
+    }
 }
 
 /// The program's name and its words. Where one isn't UTF-8 there are none, and none are no command.

@@ -1,8 +1,7 @@
-use Rattle.std.proofs.Common.{◌≡◌, ◌∙◌, false, refl, sym, ap, subst, length, arith}
+use Rattle.std.proofs.Common.{◌∙◌, false, sym, ap, subst, length, arith}
 use Rattle.std.proofs.lemmas.List.{length-map}
 use Rattle.usbip_urb.specs.Buffers.{total}
 use Rattle.usbip_urb.specs.Ranges.{IsWritable}
-use Rattle.usbip_urb.specs.declared.packet.IsoDesc.{IsoDesc}
 use Rattle.gate_core.proofs.Laid.{laid-fits}
 use Rattle.gate_core.proofs.answer.write_all_sent.Goals as goal
 

@@ -12,7 +12,6 @@ use Rattle.gate_core.specs.Ids.{greatest, last_of}
 use Rattle.gate_core.specs.Verdict.{Routed}
 use Rattle.gate_core.specs.Ups.{lower, is_ended}
 use Rattle.gate_core.specs.Flight.{wide_ids}
-use Rattle.gate_core.specs.State.{next_ids}
 use Rattle.gate_core.specs.Packets.{stops, route_packets}
 use Rattle.gate_core.specs.Calls.{called}
 use Rattle.gate_core.specs.Meaning.{drawn_for, submission}

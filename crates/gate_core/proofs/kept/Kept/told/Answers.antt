@@ -1,5 +1,4 @@
 use Rattle.std.proofs.Common.{Option, None, OnOk, subst}
-use Rattle.redir_data.specs.declared.packet.RedirPacket.TheVariants.{Carrying}
 use Rattle.gate_core.specs.Responses.{Response}
 use Rattle.gate_core.specs.Meaning.{mark_as, by_response}
 use Rattle.gate_core.specs.inner.Holds.{Does}

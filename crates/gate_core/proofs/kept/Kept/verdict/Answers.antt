@@ -1,8 +1,8 @@
-use Rattle.std.proofs.Common.{◌≡◌, suc, length, sym, ap, subst, ◌∙◌, arith}
+use Rattle.std.proofs.Common.{length, sym, ap, subst, ◌∙◌, arith}
 use Rattle.std.proofs.lemmas.List.{length-map}
 use Rattle.unlink_race.specs.Searches.{changes}
 use Rattle.std.specs.List.{list_any}
-use Rattle.gate_core.specs.Verdict.{Verdict, verdict, goes_by_id}
+use Rattle.gate_core.specs.Verdict.{verdict}
 use Rattle.gate_core.specs.Flight.{wide_bulk}
 use Rattle.gate_core.specs.Packets.{HasRoute}
 use Rattle.gate_core.specs.inner.Views.{request_view, verdict_view}

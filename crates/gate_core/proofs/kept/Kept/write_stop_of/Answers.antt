@@ -1,1 +1,0 @@
-use Rattle.gate_core.proofs.kept.Kept.write_stop_of.Goals as goal
