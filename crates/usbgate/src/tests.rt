@@ -7,6 +7,7 @@ mod outside;
 mod packets;
 mod refusals;
 mod routes;
+mod serve;
 mod sessions;
 mod show;
 mod tapes;

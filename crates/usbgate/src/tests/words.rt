@@ -91,14 +91,44 @@ fn words_of_a_show(rt: HostRuntime) -> Result<(), Fail> {
 }
 
 #[test]
+fn words_of_a_serve(rt: HostRuntime) -> Result<(), Fail> {
+    let table: [&[&str]; 9] = [
+        &["serve"],
+        &["serve", "--listen", "b:2", "--idle", "5"],
+        &["serve", "--host", "a:1", "--idle", "5"],
+        &["serve", "--host", "a:1", "--listen", "b:2"],
+        &["serve", "--host", "a:1", "--listen", "b:2", "--idle", "0"],
+        &["serve", "--host", "a:1", "--listen", "b:2", "--idle", "05"],
+        &["serve", "1", "--host=a:1", "--listen=b:2", "--idle=5"],
+        &[
+            "serve",
+            "--host=a:1",
+            "--listen=b:2",
+            "--idle=5",
+            "--side=host",
+        ],
+        &[
+            "serve",
+            "--host=a:1",
+            "--listen=b:2",
+            "--idle=5",
+            "--first-id=0",
+        ],
+    ];
+    for words in table {
+        expect_usage(&rt, words)?;
+    }
+    Ok(())
+}
+
+#[test]
 fn other_words(rt: HostRuntime) -> Result<(), Fail> {
-    let table: [&[&str]; 15] = [
+    let table: [&[&str]; 14] = [
         &[],
         &[""],
         &["--"],
         &["model"],
         &["model", "--device", "loop"],
-        &["serve", "--host", "a:1", "--listen", "b:2", "--idle", "5"],
         &["host", "--device", "loop", "--listen", "b:2", "--idle", "5"],
         &["make", "1"],
         &["load", "1"],
