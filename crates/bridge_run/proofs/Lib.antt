@@ -5,3 +5,5 @@ mod Settling
 mod Asking
 mod Resting
 mod Opening
+mod Idling
+mod Toys

@@ -17,7 +17,7 @@ use Rattle.bridge_run.specs.Serves.{Reaches}
 use Rattle.bridge_run.specs.inner.Keeping.{chances_of, Wears, rounds_of, IsLive, RestsBusy, Rests}
 use Rattle.bridge_run.specs.inner.Follows.{Follows, HasFaults, setting, Comes, Runs}
 use Rattle.bridge_run.proofs.Reaching.{reaches-call, runs-then}
-use Rattle.bridge_run.proofs.Settling.{positive-not_zero}
+use Rattle.bridge_run.proofs.Settling.{positive-not_zero, choice}
 
 -- ---- faults
 
@@ -62,9 +62,6 @@ rested stands p k k' w out c busy waits f kept n is = record {
   left = ap (λ (k : Kept). k.left) kept ∙ f.left;
   refused = ap (λ (k : Kept). k.refused) kept ∙ f.refused;
 }
-
-choice : (a b u v : Bool) (x y z : Outcome) → a ≡ u → b ≡ v → cond a x (cond b y z) ≡ cond u x (cond v y z)
-choice a b u v x y z p q = ap (λ (k : Bool). cond k x (cond b y z)) p ∙ ap (λ (k : Bool). cond u x (cond k y z)) q
 
 rest-is : (s : Setting) (c : Course) (b last : Bool) → c.busy ≡ b → (c.waits - 1 == 0) ≡ last
     → rest s c ≡ cond b (Goes AtDoor (record c { busy = false; waits = s.idle })) (cond last (Stops Idle (record c { waits = c.waits - 1 })) (Goes AtDoor (record c { waits = c.waits - 1 })))

@@ -35,7 +35,7 @@ take-course s e next c =
 pub positive-not_zero : (n : ℕ) → 0 < n → (n == 0) ≡ false
 positive-not_zero n h = grind (arith, nat_tests)
 
-choice : (a b : Bool) (u v : Bool) (x y z : Outcome) → a ≡ u → b ≡ v → cond a x (cond b y z) ≡ cond u x (cond v y z)
+pub choice : (a b : Bool) (u v : Bool) (x y z : Outcome) → a ≡ u → b ≡ v → cond a x (cond b y z) ≡ cond u x (cond v y z)
 choice a b u v x y z p q = ap (λ (k : Bool). cond k x (cond b y z)) p ∙ ap (λ (k : Bool). cond u x (cond k y z)) q
 
 over-is : (k : Kept) (c : Course) (b : Bool) → k.client_up ≡ c.client_up → k.host_up ≡ c.host_up → is_over k ≡ b → (not c.client_up && not c.host_up) ≡ b

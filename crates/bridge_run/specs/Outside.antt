@@ -1,5 +1,5 @@
 -- What is known of the doors, and what they tell.
-use Rattle.std.specs.Prelude.{◌≡◌, ◌⊎◌, ℕ, Bool, List, ◌++◌, Option, Some}
+use Rattle.std.specs.Prelude.{◌≡◌, ◌⊎◌, ◌≤◌, ◌+◌, ◌-◌, ◌^◌, ℕ, min, Bool, true, false, List, ◌++◌, Option, Some}
 use Rattle.usb_base.specs.declared.side.Side.{Side}
 use Rattle.usb_base.specs.declared.side.Side.TheVariants.{Client, Host}
 use Rattle.gate_outside.specs.declared.turn.Turn.{Turn}
@@ -49,6 +49,30 @@ HasCause (Ended refused) old new sink_old sink_new = NoFault old new sink_old si
 HasCause Idle old new sink_old sink_new = NoFault old new sink_old sink_new
 HasCause Spent old new sink_old sink_new = NoFault old new sink_old sink_new
 HasCause Memory old new sink_old sink_new = NoFault old new sink_old sink_new
+
+-- ---- causes, by links and idle answers
+
+-- a count rose by so much at least, or has come to its greatest number
+abbrev pub RoseBy : ℕ → ℕ → ℕ → Type 0
+RoseBy n old new = min (old + n) (2 ^ 64 - 1) ≤ new
+
+-- each side that is asked in every round was idle in so many
+pub record WasIdle (idle : ℕ) (old new : Outside) : Type 0 where
+  pub client : RoseBy idle old.client.idle new.client.idle
+  pub host : new.host.up ≡ true → RoseBy idle old.host.idle new.host.idle
+
+-- no link is up
+pub record IsDown (w : Outside) : Type 0 where
+  pub client : w.client.up ≡ false
+  pub host : w.host.up ≡ false
+
+abbrev pub HasReason : ServeEnd → ℕ → Outside → Outside → Type 0
+HasReason (Ended refused) idle old new = IsDown new
+HasReason Idle idle old new = WasIdle idle old new
+HasReason Spent idle old new = Unit {0}
+HasReason (LinkFault side) idle old new = Unit {0}
+HasReason WriteFault idle old new = Unit {0}
+HasReason Memory idle old new = Unit {0}
 
 -- ---- what is told
 

@@ -2,3 +2,4 @@ pub mod Sends
 pub mod Links
 pub mod Keeping
 pub mod Follows
+pub mod Idling

@@ -5,10 +5,11 @@ ghost use Rattle.usb_base.specs.declared.side.Side.TheVariants.{Client, Host};
 ghost use Rattle.bridge_run.specs.Prescribed.{Prescribed};
 ghost use Rattle.bridge_run.specs.Course.{Course, Making};
 ghost use Rattle.bridge_run.specs.Calls.{Goes};
-ghost use Rattle.bridge_run.specs.Outside.{outside, Tells, HasCause};
+ghost use Rattle.bridge_run.specs.Outside.{outside, Tells, HasCause, HasReason};
 ghost use Rattle.bridge_run.specs.Gate.{gate_sends};
 ghost use Rattle.bridge_run.specs.Serves.{Begins, Leaves};
 ghost use Rattle.bridge_run.specs.inner.Follows.{HasFaults, IsCutEnd, IsOpen, Opens};
+ghost use Rattle.bridge_run.specs.inner.Idling.{NotIdle};
 
 use crate::kept::Kept;
 use crate::link::write_link;
@@ -47,7 +48,9 @@ pub fn serve<D: Doors, K: Sink>(
     // Over doors and a sink that tell.
     ensures leaves { (c : Course) → Begins idle budget c → Tells (outside (D.link doors.old) (D.door doors.old)) (K.contents out.old) c
         → Leaves result (record { served = gate_sends first_id; idle = idle }) (Goes Making c) (outside (D.link doors.new) (D.door doors.new)) (K.contents out.new) }
+    // Over any doors.
     ensures cause { HasCause result (outside (D.link doors.old) (D.door doors.old)) (outside (D.link doors.new) (D.door doors.new)) (K.faults out.old) (K.faults out.new) }
+    ensures reason { HasReason result idle (outside (D.link doors.old) (D.door doors.old)) (outside (D.link doors.new) (D.door doors.new)) }
 {
     let mut hello = Bytes::new(alloc);
     let core = match Gate::make(alloc, first_id, &mut hello) {
@@ -87,6 +90,7 @@ fn open<D: Doors>(host: &str, listen: &str, hello: &[u8], doors: &mut D) -> Resu
         → Opens result p (outside (D.link doors.new) (D.door doors.new)) out c }
     ensures faults { (sink : ℕ) → HasFaults result (outside (D.link doors.old) (D.door doors.old)) (outside (D.link doors.new) (D.door doors.new)) sink sink }
     ensures cut { IfErr result IsCutEnd }
+    ensures idles { OnOk result (NotIdle (outside (D.link doors.old) (D.door doors.old)) (outside (D.link doors.new) (D.door doors.new))) }
     ensures opened { OnOk result (IsOpen (outside (D.link doors.new) (D.door doors.new))) }
 {
     if let Err(_) = doors.dial(host) {

@@ -1,15 +1,18 @@
 //! Serving, once both sides can come.
 
-ghost use Rattle.std.specs.Prelude.{◌≡◌, ◌<◌, ℕ, List, ◌∷◌, Option, OnOk, IfErr, length};
+ghost use Rattle.std.specs.Prelude.{◌≡◌, ◌<◌, ℕ, List, ◌∷◌, Option, not, OnOk, IfErr, length};
 ghost use Rattle.gate_core.specs.Events.{Event as PastEvent, event_of};
 ghost use Rattle.bridge_run.specs.Course.{Course, Next};
 ghost use Rattle.bridge_run.specs.Course.{AtDoor, AtClient, Takes};
 ghost use Rattle.bridge_run.specs.Calls.{Goes, ends_next as has_end_next, piece as piece_of, end_of as past_end_of};
 ghost use Rattle.bridge_run.specs.Outside.{outside};
 ghost use Rattle.bridge_run.specs.Serves.{Leaves};
-ghost use Rattle.bridge_run.specs.inner.Keeping.{Agrees, Wears, IsLive, rounds_of};
+ghost use Rattle.bridge_run.specs.inner.Keeping.{Agrees, Wears, IsLive, rounds_of, up_of};
 ghost use Rattle.bridge_run.specs.inner.Follows.{Prepared, Follows, HasFaults, IsCutEnd, Puts, setting, Runs, polls, behind};
-ghost use Rattle.bridge_run.specs.Outside.{HasCause};
+ghost use Rattle.bridge_run.specs.Outside.{HasCause, HasReason};
+ghost use Rattle.bridge_run.specs.inner.Idling.{NotIdle, Asked, EndsWithin, RoundIdles};
+ghost use Rattle.usb_base.specs.declared.side.Side.TheVariants.{Client, Host};
+ghost use Rattle.gate_outside.specs.Link.{other};
 
 use crate::kept::Kept;
 use crate::link::{close_link, write_link};
@@ -61,6 +64,7 @@ impl<C: Served + Drop> Session<C> {
         ensures agrees { OnOk result (Agrees self.new.kept (outside (D.link doors.new) (D.door doors.new))) }
         ensures wears { Wears self.old.kept self.new.kept }
         ensures left { self.new.kept.left ≡ self.old.kept.left }
+        ensures idles { OnOk result (NotIdle (outside (D.link doors.old) (D.door doors.old)) (outside (D.link doors.new) (D.door doors.new))) }
     {
         if let Err(_) = self.prepare(event) {
             return Err(ServeEnd::Memory);
@@ -105,6 +109,8 @@ impl<C: Served + Drop> Session<C> {
         ensures agrees { OnOk result (Agrees self.new.kept (outside (D.link doors.new) (D.door doors.new))) }
         ensures wears { Wears self.old.kept self.new.kept }
         ensures left { OnOk result (0 < self.new.kept.left) }
+        ensures idles { OnOk result (NotIdle (outside (D.link doors.old) (D.door doors.old)) (outside (D.link doors.new) (D.door doors.new))) }
+        ensures within { EndsWithin result (outside (D.link doors.new) (D.door doors.new)) }
     {
         let refused = self.put(event, doors, out)?;
         if !ends_next(event, refused) {
@@ -124,6 +130,9 @@ impl<C: Served + Drop> Session<C> {
         ensures agrees { OnOk result (Agrees self.new.kept (outside (D.link doors.new) (D.door doors.new))) }
         ensures wears { Wears self.old.kept self.new.kept }
         ensures left { OnOk result (0 < self.new.kept.left) }
+        ensures idles { OnOk result (Asked (not self.old.kept.client_up) self.old.kept self.new.kept (D.link doors.old Client).idle (D.link doors.new Client).idle) }
+        ensures host { (D.link doors.new Host) ≡ (D.link doors.old Host) }
+        ensures within { EndsWithin result (outside (D.link doors.new) (D.door doors.new)) }
     {
         if self.kept.client_up {
             return Ok(());
@@ -155,6 +164,9 @@ impl<C: Served + Drop> Session<C> {
         ensures agrees { OnOk result (Agrees self.new.kept (outside (D.link doors.new) (D.door doors.new))) }
         ensures wears { Wears self.old.kept self.new.kept }
         ensures left { OnOk result (0 < self.new.kept.left) }
+        ensures idles { OnOk result (Asked (up_of side self.old.kept) self.old.kept self.new.kept (D.link doors.old side).idle (D.link doors.new side).idle) }
+        ensures other { OnOk result ((D.link doors.new (other side)).idle ≡ (D.link doors.old (other side)).idle) }
+        ensures within { EndsWithin result (outside (D.link doors.new) (D.door doors.new)) }
     {
         if !self.kept.is_up(side) {
             return Ok(());
@@ -189,6 +201,7 @@ impl<C: Served + Drop> Session<C> {
         ensures agrees { OnOk result (Agrees self.new.kept (outside (D.link doors.new) (D.door doors.new))) }
         ensures live { OnOk result (IsLive self.new.kept) }
         ensures idle { OnOk result (self.new.kept.idle ≡ self.old.kept.idle) }
+        ensures idles { RoundIdles result self.old.kept self.new.kept (outside (D.link doors.old) (D.door doors.old)) (outside (D.link doors.new) (D.door doors.new)) }
         ensures fewer { OnOk result (rounds_of self.new.kept < rounds_of self.old.kept) }
     {
         self.ask_door(doors)?;
@@ -202,9 +215,11 @@ impl<C: Served + Drop> Session<C> {
         requires agrees { Agrees self.old.kept (outside (D.link doors.old) (D.door doors.old)) }
         requires live { IsLive self.old.kept }
         requires room { length buf.old ≡ 65536 }
+        requires fresh { self.old.kept.waits ≡ self.old.kept.idle }
         ensures course { (first : ℕ) (c : Course) → Follows (C.stands first self.old.core) (C.sends first) self.old.kept (outside (D.link doors.old) (D.door doors.old)) (K.contents out.old) c
             → Leaves result (setting (C.sends first) self.old.kept) (Goes AtDoor c) (outside (D.link doors.new) (D.door doors.new)) (K.contents out.new) }
         ensures cause { HasCause result (outside (D.link doors.old) (D.door doors.old)) (outside (D.link doors.new) (D.door doors.new)) (K.faults out.old) (K.faults out.new) }
+        ensures reason { HasReason result self.old.kept.idle (outside (D.link doors.old) (D.door doors.old)) (outside (D.link doors.new) (D.door doors.new)) }
     {
         'rounds: loop {
             if let Err(end) = self.round(buf, doors, out) {

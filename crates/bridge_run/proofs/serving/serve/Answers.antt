@@ -7,6 +7,7 @@ use Rattle.bridge_run.specs.Outside.{outside}
 use Rattle.bridge_run.specs.Gate.{gate_sends}
 use Rattle.bridge_run.proofs.Reaching.{reaches-none, reaches-call, leaves-then, cut-leaves, cut-next}
 use Rattle.bridge_run.proofs.Resting.{faults-then}
+use Rattle.bridge_run.proofs.Idling.{cut-reason, reason-from}
 use Rattle.bridge_run.proofs.Opening.{making-short, begun-follows}
 use Rattle.bridge_run.proofs.serving.serve.Goals as goal
 
@@ -38,3 +39,9 @@ returns-clause-leaves g c = λ k b t.
 pub returns-clause-cause : goal.returns-clause-cause
 returns-clause-cause g c =
     faults-then {T = Unit {0}} (Err c.run.result) (outside (g.D.Doors.link c.args.doors.now) (g.D.Doors.door c.args.doors.now)) (outside (g.D.Doors.link c.open.new.doors) (g.D.Doors.door c.open.new.doors)) (outside (g.D.Doors.link c.run.new.doors) (g.D.Doors.door c.run.new.doors)) (g.K.Sink.faults c.args.out.now) (g.K.Sink.faults c.args.out.now) (g.K.Sink.faults c.run.new.out) (c.in_default.ensures.faults (g.K.Sink.faults c.args.out.now)) c.run.ensures.cause
+
+pub returns-in-Err-open-clause-reason : goal.returns-in-Err-open-clause-reason
+returns-in-Err-open-clause-reason g c = cut-reason c.in-Err-open.end c.args.idle (outside (g.D.Doors.link c.args.doors.now) (g.D.Doors.door c.args.doors.now)) (outside (g.D.Doors.link c.open.new.doors) (g.D.Doors.door c.open.new.doors)) c.in-Err-open.ensures.cut
+
+pub returns-clause-reason : goal.returns-clause-reason
+returns-clause-reason g c = reason-from c.run.result c.args.idle (outside (g.D.Doors.link c.args.doors.now) (g.D.Doors.door c.args.doors.now)) (outside (g.D.Doors.link c.open.new.doors) (g.D.Doors.door c.open.new.doors)) (outside (g.D.Doors.link c.run.new.doors) (g.D.Doors.door c.run.new.doors)) c.in_default.ensures.idles c.run.ensures.reason

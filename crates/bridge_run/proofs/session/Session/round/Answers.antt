@@ -1,10 +1,13 @@
-use Rattle.std.proofs.Common.{Result, Ok, Err, sym, ◌∙◌, subst}
+use Rattle.std.proofs.Common.{Result, Ok, Err, sym, ap, ◌∙◌, subst}
+use Rattle.gate_outside.specs.Link.{Link}
 use Rattle.bridge_run.specs.declared.serve_end.ServeEnd.{ServeEnd}
 use Rattle.bridge_run.specs.Course.{AtDoor, AtClient, AtHost, AtEnd}
 use Rattle.bridge_run.specs.Calls.{Goes}
 use Rattle.bridge_run.specs.Outside.{outside}
 use Rattle.bridge_run.specs.inner.Follows.{HasFaults, setting, Runs}
 use Rattle.bridge_run.proofs.Reaching.{is-err}
+use Rattle.bridge_run.specs.inner.Idling.{RoundIdles}
+use Rattle.bridge_run.proofs.Idling.{ends-idles, round-idles}
 use Rattle.bridge_run.proofs.Resting.{faults-then, rests, rests-faults, wears-then, fewer-if_ok, goes-on}
 use Rattle.bridge_run.proofs.session.Session.round.Goals as goal
 
@@ -95,3 +98,34 @@ pub returns-clause-fewer : goal.returns-clause-fewer
 returns-clause-fewer g c = fewer-if_ok c.rest.result c.args.self.now.kept c.ask-2.new.self.kept c.rest.new.self
     (wears-then c.args.self.now.kept c.ask_door.new.self.kept c.ask-2.new.self.kept c.ask_door.ensures.wears (wears-then c.ask_door.new.self.kept c.ask.new.self.kept c.ask-2.new.self.kept c.ask.ensures.wears c.ask-2.ensures.wears))
     c.requires.live c.rest.ensures
+
+pub returns-in_err-ask_door-clause-idles : goal.returns-in_err-ask_door-clause-idles
+returns-in_err-ask_door-clause-idles g c = let e = c.in_err-ask_door.field-0.0 in
+    subst (λ (r : Result (Unit {0}) ServeEnd). RoundIdles r c.args.self.now.kept c.ask_door.new.self.kept (outside (g.D.Doors.link c.args.doors.now) (g.D.Doors.door c.args.doors.now)) (outside (g.D.Doors.link c.ask_door.new.doors) (g.D.Doors.door c.ask_door.new.doors))) (sym (is-err c.from_residual.result e c.from_residual.ensures.1))
+    (ends-idles e c.args.self.now.kept c.ask_door.new.self.kept (outside (g.D.Doors.link c.args.doors.now) (g.D.Doors.door c.args.doors.now)) (outside (g.D.Doors.link c.ask_door.new.doors) (g.D.Doors.door c.ask_door.new.doors)) c.in_err-ask_door.ensures.within)
+
+pub returns-in_err-ask-clause-idles : goal.returns-in_err-ask-clause-idles
+returns-in_err-ask-clause-idles g c = let e = c.in_err-ask.field-0.0 in
+    subst (λ (r : Result (Unit {0}) ServeEnd). RoundIdles r c.args.self.now.kept c.ask.new.self.kept (outside (g.D.Doors.link c.args.doors.now) (g.D.Doors.door c.args.doors.now)) (outside (g.D.Doors.link c.ask.new.doors) (g.D.Doors.door c.ask.new.doors))) (sym (is-err c.from_residual-in_err-ask.result e c.from_residual-in_err-ask.ensures.1))
+    (ends-idles e c.args.self.now.kept c.ask.new.self.kept (outside (g.D.Doors.link c.args.doors.now) (g.D.Doors.door c.args.doors.now)) (outside (g.D.Doors.link c.ask.new.doors) (g.D.Doors.door c.ask.new.doors)) c.in_err-ask.ensures.within)
+
+pub returns-in_err-ask-2-clause-idles : goal.returns-in_err-ask-2-clause-idles
+returns-in_err-ask-2-clause-idles g c = let e = c.in_err-ask-2.field-0.0 in
+    subst (λ (r : Result (Unit {0}) ServeEnd). RoundIdles r c.args.self.now.kept c.ask-2.new.self.kept (outside (g.D.Doors.link c.args.doors.now) (g.D.Doors.door c.args.doors.now)) (outside (g.D.Doors.link c.ask-2.new.doors) (g.D.Doors.door c.ask-2.new.doors))) (sym (is-err c.from_residual-in_err-ask-2.result e c.from_residual-in_err-ask-2.ensures.1))
+    (ends-idles e c.args.self.now.kept c.ask-2.new.self.kept (outside (g.D.Doors.link c.args.doors.now) (g.D.Doors.door c.args.doors.now)) (outside (g.D.Doors.link c.ask-2.new.doors) (g.D.Doors.door c.ask-2.new.doors)) c.in_err-ask-2.ensures.within)
+
+pub returns-clause-idles : goal.returns-clause-idles
+returns-clause-idles g c = round-idles c.rest.result c.args.self.now.kept c.ask_door.new.self.kept c.ask.new.self.kept c.ask-2.new.self.kept c.rest.new.self (outside (g.D.Doors.link c.args.doors.now) (g.D.Doors.door c.args.doors.now)) (outside (g.D.Doors.link c.ask_door.new.doors) (g.D.Doors.door c.ask_door.new.doors)) (outside (g.D.Doors.link c.ask.new.doors) (g.D.Doors.door c.ask.new.doors)) (outside (g.D.Doors.link c.ask-2.new.doors) (g.D.Doors.door c.ask-2.new.doors)) c.requires.live
+    (record {
+      door = c.in_ok-ask_door.ensures.idles;
+      door_host = ap (λ (l : Link). l.idle) c.ask_door.ensures.host;
+      client = c.in_ok-ask.ensures.idles;
+      client_host = c.in_ok-ask.ensures.other;
+      host = c.in_ok-ask-2.ensures.idles;
+      host_client = c.in_ok-ask-2.ensures.other;
+      wears1 = c.ask_door.ensures.wears;
+      wears2 = c.ask.ensures.wears;
+      wears3 = c.ask-2.ensures.wears;
+      before = c.requires.agrees;
+      behind = c.in_ok-ask-2.ensures.agrees;
+    }) c.rest.ensures

@@ -1,8 +1,11 @@
-use Rattle.std.proofs.Common.{Ok, Err, ◌∙◌, arith}
+use Rattle.std.proofs.Common.{Ok, Err, refl, ◌∙◌, arith}
 use Rattle.bridge_run.specs.Course.{AtDoor}
 use Rattle.bridge_run.specs.Calls.{Goes}
 use Rattle.bridge_run.specs.Outside.{outside}
-use Rattle.bridge_run.proofs.Resting.{faults-then, goes-on}
+use Rattle.bridge_run.specs.inner.Follows.{setting}
+use Rattle.bridge_run.proofs.Reaching.{reaches-none}
+use Rattle.bridge_run.proofs.Resting.{faults-then, no-fault, goes-on}
+use Rattle.bridge_run.proofs.Idling.{waited-none, waited-more, reason}
 use Rattle.bridge_run.proofs.session.Session.run.Goals as goal
 
 pub returns-in-Err-clause-course : goal.returns-in-Err-clause-course
@@ -17,9 +20,24 @@ rounds-preserved g c = record {
   live = c.in_default.ensures.live;
   room = omega (arith, c.round.auto.buf, c.rounds.invariant.room);
   idle = c.in_default.ensures.idle ∙ c.rounds.invariant.idle;
+  waited = waited-more c.args.self.now.kept.idle c.rounds.self.kept c.round.new.self.kept (outside (g.D.Doors.link c.args.doors.now) (g.D.Doors.door c.args.doors.now)) (outside (g.D.Doors.link c.rounds.doors) (g.D.Doors.door c.rounds.doors)) (outside (g.D.Doors.link c.round.new.doors) (g.D.Doors.door c.round.new.doors)) c.rounds.invariant.idle c.rounds.invariant.live c.rounds.invariant.waited c.in_default.ensures.idles;
   faults = faults-then {T = Unit {0}} (Ok tt) (outside (g.D.Doors.link c.args.doors.now) (g.D.Doors.door c.args.doors.now)) (outside (g.D.Doors.link c.rounds.doors) (g.D.Doors.door c.rounds.doors)) (outside (g.D.Doors.link c.round.new.doors) (g.D.Doors.door c.round.new.doors)) (g.K.Sink.faults c.args.out.now) (g.K.Sink.faults c.rounds.out) (g.K.Sink.faults c.round.new.out) c.rounds.invariant.faults c.in_default.ensures.faults;
   comes = λ first k f.
       let a = c.rounds.invariant.comes first k f in
       goes-on {T = Unit {0}} (Ok tt) (g.C.Served.stands first c.rounds.self.core) (g.C.Served.stands first c.round.new.self.core) (g.C.Served.sends first) c.args.self.now.kept c.rounds.self.kept c.round.new.self.kept (outside (g.D.Doors.link c.rounds.doors) (g.D.Doors.door c.rounds.doors)) (outside (g.D.Doors.link c.round.new.doors) (g.D.Doors.door c.round.new.doors))
       (g.K.Sink.contents c.rounds.out) (g.K.Sink.contents c.round.new.out) (Goes AtDoor k) AtDoor AtDoor a c.rounds.invariant.idle (c.in_default.ensures.course first a.course a.follows);
+}
+
+pub returns-in-Err-clause-reason : goal.returns-in-Err-clause-reason
+returns-in-Err-clause-reason g c = reason c.in-Err.end c.args.self.now.kept.idle c.rounds.self.kept c.round.new.self.kept (outside (g.D.Doors.link c.args.doors.now) (g.D.Doors.door c.args.doors.now)) (outside (g.D.Doors.link c.rounds.doors) (g.D.Doors.door c.rounds.doors)) (outside (g.D.Doors.link c.round.new.doors) (g.D.Doors.door c.round.new.doors)) c.rounds.invariant.idle c.rounds.invariant.live c.rounds.invariant.waited c.in-Err.ensures.idles
+
+pub rounds-init : goal.rounds-init
+rounds-init g c = record {
+  agrees = c.requires.agrees;
+  live = c.requires.live;
+  room = c.requires.room;
+  idle = refl;
+  waited = waited-none c.args.self.now.kept.idle c.args.self.now.kept (outside (g.D.Doors.link c.args.doors.now) (g.D.Doors.door c.args.doors.now)) c.requires.fresh;
+  faults = no-fault (outside (g.D.Doors.link c.args.doors.now) (g.D.Doors.door c.args.doors.now)) (g.K.Sink.faults c.args.out.now);
+  comes = λ first k f. record { course = k; reaches = reaches-none (setting (g.C.Served.sends first) c.args.self.now.kept) (Goes AtDoor k); follows = f };
 }

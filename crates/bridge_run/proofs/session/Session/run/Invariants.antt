@@ -4,6 +4,7 @@ use Rattle.bridge_run.specs.Calls.{Goes}
 use Rattle.bridge_run.specs.Outside.{outside, NoFault}
 use Rattle.bridge_run.specs.inner.Keeping.{Agrees, IsLive, rounds_of}
 use Rattle.bridge_run.specs.inner.Follows.{Follows, setting, Comes}
+use Rattle.bridge_run.proofs.Idling.{HasWaited}
 use Rattle.bridge_run.proofs.session.Session.run.Given as goal
 
 abbrev pub invariant-rounds : goal.invariant-rounds
@@ -12,6 +13,7 @@ invariant-rounds g l = record {
   live : IsLive l.self.kept;
   room : length l.buf ≡ 65536;
   idle : l.self.kept.idle ≡ l.initial.self.kept.idle;
+  waited : HasWaited l.initial.self.kept.idle l.self.kept (outside (g.D.Doors.link l.initial.doors) (g.D.Doors.door l.initial.doors)) (outside (g.D.Doors.link l.doors) (g.D.Doors.door l.doors));
   faults : NoFault (outside (g.D.Doors.link l.initial.doors) (g.D.Doors.door l.initial.doors)) (outside (g.D.Doors.link l.doors) (g.D.Doors.door l.doors)) (g.K.Sink.faults l.initial.out) (g.K.Sink.faults l.out);
   comes : (first : ℕ) (c : Course) → Follows (g.C.Served.stands first l.initial.self.core) (g.C.Served.sends first) l.initial.self.kept (outside (g.D.Doors.link l.initial.doors) (g.D.Doors.door l.initial.doors)) (g.K.Sink.contents l.initial.out) c
       → Comes (g.C.Served.stands first l.self.core) (setting (g.C.Served.sends first) l.initial.self.kept) l.self.kept (outside (g.D.Doors.link l.doors) (g.D.Doors.door l.doors)) (g.K.Sink.contents l.out) (Goes AtDoor c) AtDoor;

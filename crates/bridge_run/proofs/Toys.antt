@@ -1,0 +1,52 @@
+-- Small runs of the calls, worked out by hand: what is served sends each piece of a client back to it.
+use Rattle.std.proofs.Common.{◌≡◌, ℕ, true, false, List, [], ◌∷◌, ◌++◌, None, refl}
+use Rattle.gate_outside.specs.declared.turn.Turn.{Turn}
+use Rattle.gate_outside.specs.declared.turn.Turn.TheVariants.{Piece}
+use Rattle.gate_core.specs.Events.{Event, ClientPiece, ClientEnd, HostPiece, HostEnd}
+use Rattle.bridge_run.specs.declared.serve_end.ServeEnd.TheVariants.{Ended}
+use Rattle.bridge_run.specs.Course.{Setting, Course, Making}
+use Rattle.bridge_run.specs.Calls.{Goes, Stops, calls}
+
+abbrev echo : List Event → List ℕ
+echo [] = []
+echo (ClientPiece b ∷ events) = echo events ++ b
+echo (ClientEnd ∷ events) = echo events
+echo (HostPiece b ∷ events) = echo events
+echo (HostEnd ∷ events) = echo events
+
+abbrev toy : ℕ → Setting
+toy idle = record { served = record { to_client = echo; to_host = λ events. 9 ∷ []; refusals = λ events. [] }; idle = idle }
+
+abbrev start : ℕ → List (List Turn) → List Turn → Course
+start idle clients host = record {
+  events = [];
+  client_up = false;
+  host_up = false;
+  client = [];
+  clients = clients;
+  host = host;
+  busy = false;
+  waits = idle;
+  left = 99;
+  to_client = [];
+  to_host = [];
+  told = [];
+}
+
+-- A host's three pieces and its end, and a client's one.
+toy-ended : calls (toy 5) 22 (Goes Making (start 5 ((Piece (7 ∷ []) ∷ []) ∷ []) (Piece (1 ∷ []) ∷ Piece (2 ∷ []) ∷ Piece (3 ∷ []) ∷ [])))
+    ≡ Stops (Ended None) (record {
+      events = HostEnd ∷ HostPiece (3 ∷ []) ∷ HostPiece (2 ∷ []) ∷ ClientEnd ∷ HostPiece (1 ∷ []) ∷ ClientPiece (7 ∷ []) ∷ [];
+      client_up = false;
+      host_up = false;
+      client = [];
+      clients = [];
+      host = [];
+      busy = true;
+      waits = 5;
+      left = 94;
+      to_client = 7 ∷ [];
+      to_host = 9 ∷ [];
+      told = [];
+    })
+toy-ended = refl
