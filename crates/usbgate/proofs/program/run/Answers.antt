@@ -1,7 +1,6 @@
-use Rattle.std.proofs.Common.{◌≡◌, sym, ap, subst, ◌∙◌}
+use Rattle.std.proofs.Common.{sym, ap, subst, ◌∙◌}
 use Rattle.std.proofs.lemmas.Option.{same_Some}
 use Rattle.bridge_run.specs.Outside.{outside}
-use Rattle.usbgate.specs.declared.status.Status.TheVariants.{LinkFault}
 use Rattle.usbgate.specs.EventCommand.{over_events}
 use Rattle.usbgate.specs.Replay.{replay}
 use Rattle.usbgate.specs.Prescribed.{Prescribed, over_tape, prescribed}
