@@ -36,32 +36,40 @@ const ENDED: Case<'_> = Case {
     printed: "",
 };
 
-fn doors(alloc: Global, case: &Case<'_>) -> Result<ScriptDoors, Memory> {
-    let mut host = Script::new(alloc);
-    for _ in 0..case.host_waits {
-        host.push(Turn::Wait)?;
+/// A host that is quiet for so many polls.
+fn quiet(alloc: Global, waits: usize) -> Result<Script, Memory> {
+    let mut script = Script::new(alloc);
+    for _ in 0..waits {
+        script.push(Turn::Wait)?;
     }
-    let mut piece = Bytes::new(alloc);
-    piece.append(case.client)?;
-    let mut client = Script::new(alloc);
-    client.push(Turn::Piece(piece))?;
-    let mut clients = Scripts::new(alloc);
-    clients.push(client)?;
-    ScriptDoors::make_many(
-        alloc,
+    Ok(script)
+}
+
+/// One client, which sends one piece.
+fn one_client(alloc: Global, piece: &[u8]) -> Result<Scripts, Memory> {
+    let mut sent = Bytes::new(alloc);
+    sent.append(piece)?;
+    let mut script = Script::new(alloc);
+    script.push(Turn::Piece(sent))?;
+    let mut scripts = Scripts::new(alloc);
+    scripts.push(script)?;
+    Ok(scripts)
+}
+
+fn expect(rt: &(impl Abort + AllocGlobal), case: &Case<'_>) -> Result<(), Fail> {
+    let words = ["serve", "--host", "a:1", "--listen", "b:2", "--idle", "3"];
+    let host = quiet(rt.alloc(), case.host_waits)?;
+    let clients = one_client(rt.alloc(), case.client)?;
+    let mut tape = TextSource::make(rt.alloc(), b"c 00\n", 9, &[0])?;
+    let mut out = TextSink::make(rt.alloc(), 99, 99, &[])?;
+    let mut doors = ScriptDoors::make_many(
+        rt.alloc(),
         4096,
         host,
         clients,
         case.host_fails,
         case.client_fails,
-    )
-}
-
-fn expect(rt: &(impl Abort + AllocGlobal), case: &Case<'_>) -> Result<(), Fail> {
-    let words = ["serve", "--host", "a:1", "--listen", "b:2", "--idle", "3"];
-    let mut doors = doors(rt.alloc(), case)?;
-    let mut tape = TextSource::make(rt.alloc(), b"c 00\n", 9, &[0])?;
-    let mut out = TextSink::make(rt.alloc(), 99, 99, &[])?;
+    )?;
     let status = run(rt.alloc(), &words, &mut tape, &mut out, &mut doors);
     assert_eq!(rt; status, case.status);
     assert_eq!(rt; doors.written(Side::Client), case.to_client);
