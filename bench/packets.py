@@ -1,7 +1,7 @@
 """Packets of both protocols, as the scripts of this folder send and expect them."""
 import struct
 
-BULK, INVALID = 2, 255
+ISO, BULK, INTERRUPT, INVALID = 1, 2, 3, 255
 OUT, IN = 0, 1
 
 # ---- usbredir, with 64-bit ids behind a hello
@@ -22,9 +22,22 @@ def answer(ident, direction, length, byte=0xA5, status=0):
     return redir(101, ident, fields + (bytes([byte]) * length if direction == IN else b""))
 
 
+def interrupt_packet(length, byte=0xA5):
+    """A packet from interrupt endpoint 2."""
+    return redir(103, 0, struct.pack("<BBH", 0x82, 0, length) + bytes([byte]) * length)
+
+
+def iso_packet(length, byte=0xA5):
+    """A packet from isochronous endpoint 3."""
+    return redir(102, 0, struct.pack("<BBH", 0x83, 0, length) + bytes([byte]) * length)
+
+
 def device():
-    """A host's hello with all that the gateway announces, and a device whose endpoint 1 is bulk both ways."""
-    endpoints = bytes([0, BULK] + [INVALID] * 14) * 2 + bytes(128)
+    """A host's hello with all that the gateway announces, and a device whose endpoints 1 are bulk, 2 interrupt and 3
+    isochronous, both ways; the largest packets of 2 have 64 bytes, and of 3 1,024."""
+    kinds = bytes([0, BULK, INTERRUPT, ISO] + [INVALID] * 12)
+    sizes = struct.pack("<16H", 64, 512, 64, 1_024, *[0] * 12)
+    endpoints = kinds * 2 + bytes(64) + sizes * 2
     facts = struct.pack("<BBBBHHH", 2, 0, 0, 0, 0xFFF0, 2, 0x0100)
     return HOST_HELLO + redir(5, 0, endpoints) + redir(1, 0, facts)
 
@@ -37,6 +50,13 @@ IMPORT = struct.pack(">HHI", 0x0111, 0x8003, 0) + b"1-1".ljust(32, b"\0")
 def submit(number, direction, length, byte=0x5A):
     head = struct.pack(">10I", 1, number, 0x00010002, direction, 1, 0, length, 0, 0, 0)
     return head + bytes(8) + (bytes([byte]) * length if direction == OUT else b"")
+
+
+def submit_stream(number, ep, length, packets=()):
+    """A request of an endpoint from the device, with the lengths of its isochronous packets."""
+    head = struct.pack(">10I", 1, number, 0x00010002, IN, ep, 0, length, 0, len(packets), 0) + bytes(8)
+    places = [sum(packets[:place]) for place in range(len(packets))]
+    return head + b"".join(struct.pack(">4I", place, size, 0, 0) for place, size in zip(places, packets))
 
 
 def ret_submit(number, direction, length, byte=0xA5, status=0):

@@ -9,13 +9,13 @@ use Rattle.gate_outside.specs.declared.turn.Polled.TheVariants.{Took, NotYet, En
 use Rattle.gate_outside.specs.Link.{Link, Door, other}
 use Rattle.gate_outside.specs.Turns.{pending, answer, given, after, taken}
 use Rattle.gate_outside.specs.Doors.{faulted, first, Accepts, Gives, PollFails, FailTaken}
-use Rattle.gate_core.specs.Events.{Event}
+use Rattle.bridge_run.specs.Events.{Event, ClientComes}
 use Rattle.bridge_run.specs.declared.kept.Kept.{Kept}
 use Rattle.bridge_run.specs.Prescribed.{Prescribed}
-use Rattle.bridge_run.specs.Course.{Setting, Course, Next, AtDoor, AtClient, AtHost, AtEnd}
-use Rattle.bridge_run.specs.Calls.{Goes, room, come, down, heard, poll, settle, call, course_of}
+use Rattle.bridge_run.specs.Course.{Setting, Course, Next, AtDoor, AtClient, AtHost, AtEnd, Takes}
+use Rattle.bridge_run.specs.Calls.{Goes, room, come, down, heard, poll, call, course_of}
 use Rattle.bridge_run.specs.Calls.{turned as passed}
-use Rattle.bridge_run.specs.Outside.{Outside, outside, Shows, Tells, IsBetween, IsOneOf, Cut}
+use Rattle.bridge_run.specs.Outside.{Outside, outside, NoFault, Shows, Tells, IsBetween, IsOneOf, Cut}
 use Rattle.bridge_run.specs.inner.Keeping.{up_of, with_up}
 use Rattle.bridge_run.specs.inner.Follows.{Follows, setting, polls, behind}
 use Rattle.bridge_run.proofs.Putting.{between-none}
@@ -35,34 +35,47 @@ accepted-turns None clients e some = absurd (none-some e)
 accepted-turns (Some []) clients e some = absurd (omega (arith, some))
 accepted-turns (Some (turns ∷ later)) clients e some = (turns, later, sym (some-is (turns ∷ later) clients e), refl, refl)
 
-come-is : (clients : List (List Turn)) (turns : List Turn) (later : List (List Turn)) (c : Course) → clients ≡ turns ∷ later
-    → come clients c ≡ record c { client_up = true; client = turns; clients = later; busy = true; left = c.left - 1 }
+-- the course behind the coming of a client that has these turns
+abbrev pub come_course : List Turn → List (List Turn) → Course → Course
+come_course turns later c = record c { client_up = true; client = turns; clients = later; busy = true; left = c.left - 1 }
+
+come-is : (clients : List (List Turn)) (turns : List Turn) (later : List (List Turn)) (c : Course) → clients ≡ turns ∷ later → come clients c ≡ Goes (Takes ClientComes AtClient) (come_course turns later c)
 come-is clients turns later c e = ap (λ (cs : List (List Turn)). come cs c) e
+
+-- a client has come, whose coming is the next event
+pub record HasCome (stands : List Event → Type 0) (p : Prescribed) (k : Kept) (w : Outside) (out : Option (List ℕ)) (c : Course) : Type 0 where
+  pub course : Course
+  pub is : come c.clients c ≡ Goes (Takes ClientComes AtClient) course
+  pub follows : Follows stands p k w out course
 
 pub accepted : (stands : List Event → Type 0) (p : Prescribed) (k k' : Kept) (w w' : Outside) (out : Option (List ℕ)) (c : Course) → Follows stands p k w out c
     → Accepts {E = Fault} (Ok true) w.door w'.door w.client w'.client → w'.host ≡ w.host → k' ≡ record k { client_up = true; busy = true; left = k.left - 1 }
-    → Follows stands p k' w' out (come c.clients c)
+    → HasCome stands p k' w' out c
 accepted stands p k k' w w' out c f a host kept =
     let t = accepted-turns w.door.to_come c.clients f.tells.clients a.0 in
-    subst (λ (d : Course). Follows stands p k' w' out d) (sym (come-is c.clients t.0 t.1 c t.2)) (record {
-      stands_for = f.stands_for;
-      tells = record {
-        client = record {
-          up-is = ap (λ (l : Link). l.up) a.1;
-          turns-is = ap (λ (l : Link). l.turns) a.1 ∙ t.3;
-          written-is = ap (λ (l : Link). l.written) a.1 ∙ f.tells.client.written-is;
+    record {
+      course = come_course t.0 t.1 c;
+      is = come-is c.clients t.0 t.1 c t.2;
+      follows = record {
+        stands_for = f.stands_for;
+        tells = record {
+          client = record {
+            up-is = ap (λ (l : Link). l.up) a.1;
+            turns-is = ap (λ (l : Link). l.turns) a.1 ∙ t.3;
+            written-is = ap (λ (l : Link). l.written) a.1 ∙ f.tells.client.written-is;
+          };
+          host = subst (λ (l : Link). Shows l c.host_up c.host c.to_host) (sym host) f.tells.host;
+          clients = ap (λ (d : Door). d.to_come) a.2 ∙ t.4;
+          told = f.tells.told;
         };
-        host = subst (λ (l : Link). Shows l c.host_up c.host c.to_host) (sym host) f.tells.host;
-        clients = ap (λ (d : Door). d.to_come) a.2 ∙ t.4;
-        told = f.tells.told;
+        client_up = ap (λ (k : Kept). k.client_up) kept;
+        host_up = ap (λ (k : Kept). k.host_up) kept ∙ f.host_up;
+        busy = ap (λ (k : Kept). k.busy) kept;
+        waits = ap (λ (k : Kept). k.waits) kept ∙ f.waits;
+        left = ap (λ (k : Kept). k.left) kept ∙ ap (λ (n : ℕ). n - 1) f.left;
+        refused = ap (λ (k : Kept). k.refused) kept ∙ f.refused;
       };
-      client_up = ap (λ (k : Kept). k.client_up) kept;
-      host_up = ap (λ (k : Kept). k.host_up) kept ∙ f.host_up;
-      busy = ap (λ (k : Kept). k.busy) kept;
-      waits = ap (λ (k : Kept). k.waits) kept ∙ f.waits;
-      left = ap (λ (k : Kept). k.left) kept ∙ ap (λ (n : ℕ). n - 1) f.left;
-      refused = ap (λ (k : Kept). k.refused) kept ∙ f.refused;
-    })
+    }
 
 none-come : (known : Option (List (List Turn))) (clients : List (List Turn)) → known ≡ Some clients → IfSome known (λ cs. cs ≡ []) → clients ≡ []
 none-come None clients e none = absurd (none-some e)
@@ -76,23 +89,25 @@ same-shows : (old new : Link) (up : Bool) (turns : List Turn) (written : List �
 same-shows old new up turns written a b d s = record { up-is = a ∙ s.up-is; turns-is = b ∙ s.turns-is; written-is = d ∙ s.written-is }
 
 pub waited : (stands : List Event → Type 0) (p : Prescribed) (k : Kept) (w w' : Outside) (out : Option (List ℕ)) (c : Course) → Follows stands p k w out c
-    → Accepts {E = Fault} (Ok false) w.door w'.door w.client w'.client → w'.host ≡ w.host → Follows stands p k w' out (come c.clients c)
-waited stands p k w w' out c f a host =
-    subst (λ (cs : List (List Turn)). Follows stands p k w' out (come cs c)) (sym (none-come w.door.to_come c.clients f.tells.clients a.0)) (record {
-      stands_for = f.stands_for;
-      tells = record {
-        client = same-shows w.client w'.client c.client_up c.client c.to_client (ap (λ (l : Link). l.up) a.1) (ap (λ (l : Link). l.turns) a.1) (ap (λ (l : Link). l.written) a.1) f.tells.client;
-        host = subst (λ (l : Link). Shows l c.host_up c.host c.to_host) (sym host) f.tells.host;
-        clients = ap (λ (d : Door). d.to_come) a.2 ∙ f.tells.clients;
-        told = f.tells.told;
-      };
-      client_up = f.client_up;
-      host_up = f.host_up;
-      busy = f.busy;
-      waits = f.waits;
-      left = f.left;
-      refused = f.refused;
-    })
+    → Accepts {E = Fault} (Ok false) w.door w'.door w.client w'.client → w'.host ≡ w.host → (come c.clients c ≡ Goes AtClient c) × Follows stands p k w' out c
+waited stands p k w w' out c f a host = (
+  ap (λ (cs : List (List Turn)). come cs c) (none-come w.door.to_come c.clients f.tells.clients a.0),
+  record {
+    stands_for = f.stands_for;
+    tells = record {
+      client = same-shows w.client w'.client c.client_up c.client c.to_client (ap (λ (l : Link). l.up) a.1) (ap (λ (l : Link). l.turns) a.1) (ap (λ (l : Link). l.written) a.1) f.tells.client;
+      host = subst (λ (l : Link). Shows l c.host_up c.host c.to_host) (sym host) f.tells.host;
+      clients = ap (λ (d : Door). d.to_come) a.2 ∙ f.tells.clients;
+      told = f.tells.told;
+    };
+    client_up = f.client_up;
+    host_up = f.host_up;
+    busy = f.busy;
+    waits = f.waits;
+    left = f.left;
+    refused = f.refused;
+  },
+)
 
 -- the course behind a call wrote nothing
 pub record WroteNothing (c d : Course) : Type 0 where
@@ -103,21 +118,29 @@ pub record WroteNothing (c d : Course) : Type 0 where
 between-same : (x : List ℕ) (known : Option (List ℕ)) (y : List ℕ) → known ≡ Some x → y ≡ x → IsBetween x known y
 between-same x known y e f = between-none x known y [] e (f ∙ sym (append-nil x))
 
-come-writes : (clients : List (List Turn)) (c : Course) → WroteNothing c (come clients c)
+come-writes : (clients : List (List Turn)) (c : Course) → WroteNothing c (course_of (come clients c))
 come-writes [] c = record { to_client = refl; to_host = refl; told = refl }
 come-writes (turns ∷ later) c = record { to_client = refl; to_host = refl; told = refl }
 
-pub not_accepted : (w w' : Outside) (out : Option (List ℕ)) (c : Course) → Tells w out c → w'.client ≡ faulted w.client → w'.host ≡ w.host → w'.door ≡ w.door → Cut w' out c (come c.clients c)
-not_accepted w w' out c t client host door =
+-- nobody has come, and the turns and all that was written are as they were
+pub door-cut : (w : Outside) (out : Option (List ℕ)) (c : Course) → w.client.turns ≡ Some c.client → w.host.turns ≡ Some c.host → w.door.to_come ≡ Some c.clients
+    → w.client.written ≡ Some c.to_client → w.host.written ≡ Some c.to_host → out ≡ Some c.told → Cut w out c (course_of (come c.clients c))
+door-cut w out c client host clients to_client to_host told =
+    let d = course_of (come c.clients c) in
     let same = come-writes c.clients c in
     record {
-      client = inl (ap (λ (l : Link). l.turns) client ∙ t.client.turns-is);
-      host = inl (ap (λ (l : Link). l.turns) host ∙ t.host.turns-is);
-      clients = inl (ap (λ (d : Door). d.to_come) door ∙ t.clients);
-      to_client = between-same c.to_client w'.client.written (come c.clients c).to_client (ap (λ (l : Link). l.written) client ∙ t.client.written-is) same.to_client;
-      to_host = between-same c.to_host w'.host.written (come c.clients c).to_host (ap (λ (l : Link). l.written) host ∙ t.host.written-is) same.to_host;
-      told = between-same c.told out (come c.clients c).told t.told same.told;
+      client = inl client;
+      host = inl host;
+      clients = inl clients;
+      to_client = between-same c.to_client w.client.written d.to_client to_client same.to_client;
+      to_host = between-same c.to_host w.host.written d.to_host to_host same.to_host;
+      told = between-same c.told out d.told told same.told;
     }
+
+pub not_accepted : (w w' : Outside) (out : Option (List ℕ)) (c : Course) → Tells w out c → w'.client ≡ faulted w.client → w'.host ≡ w.host → w'.door ≡ w.door → Cut w' out c (course_of (come c.clients c))
+not_accepted w w' out c t client host door =
+    door-cut w' out c (ap (λ (l : Link). l.turns) client ∙ t.client.turns-is) (ap (λ (l : Link). l.turns) host ∙ t.host.turns-is) (ap (λ (d : Door). d.to_come) door ∙ t.clients)
+    (ap (λ (l : Link). l.written) client ∙ t.client.written-is) (ap (λ (l : Link). l.written) host ∙ t.host.written-is) t.told
 
 -- ---- a side
 
@@ -176,6 +199,11 @@ turned-shows old new up down turns written len is u t w s = record {
 pub record OneMoved (side : Side) (links links' : Side → Link) (door door' : Door) : Type 0 where
   pub other-is : links' (other side) ≡ links (other side)
   pub door-is : door' ≡ door
+
+-- no fault was counted
+pub moved-no_fault : (side : Side) (links links' : Side → Link) (door door' : Door) (sink : ℕ) → OneMoved side links links' door door' → (links' side).faults ≡ (links side).faults → NoFault (outside links door) (outside links' door') sink sink
+moved-no_fault Client links links' door door' sink moved same = record { client = same; host = ap (λ (l : Link). l.faults) moved.other-is; sink = refl }
+moved-no_fault Host links links' door door' sink moved same = record { client = ap (λ (l : Link). l.faults) moved.other-is; host = same; sink = refl }
 
 -- the course of which the polled side's link is up or not
 abbrev pub held_up : Side → Bool → Course → Course
@@ -302,8 +330,8 @@ pub up-is : (side : Side) (stands : List Event → Type 0) (p : Prescribed) (k :
 up-is Client stands p k w out c b f e = sym f.client_up ∙ e
 up-is Host stands p k w out c b f e = sym f.host_up ∙ e
 
-pub call-door : (s : Setting) (c : Course) → c.client_up ≡ false → call s AtDoor c ≡ settle s AtClient (come c.clients c)
-call-door s c up = ap (λ (b : Bool). cond b (Goes AtClient c) (settle s AtClient (come c.clients c))) up
+pub call-door : (s : Setting) (c : Course) → c.client_up ≡ false → call s AtDoor c ≡ come c.clients c
+call-door s c up = ap (λ (b : Bool). cond b (Goes AtClient c) (come c.clients c)) up
 
 pub setting-down : (p : Prescribed) (side : Side) (k : Kept) → setting p (record (with_up side k) { busy = true }) ≡ setting p k
 setting-down p Client k = refl

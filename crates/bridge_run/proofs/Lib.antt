@@ -6,4 +6,5 @@ mod Asking
 mod Resting
 mod Opening
 mod Idling
+mod Acting
 mod Toys

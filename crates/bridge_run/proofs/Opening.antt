@@ -2,16 +2,17 @@
 use Rattle.std.proofs.Common.{◌≡◌, ℕ, true, false, List, [], ◌++◌, Option, Some, None, refl, sym, ap, ◌∙◌, subst, inl, append-nil}
 use Rattle.gate_outside.specs.Link.{Link, Door}
 use Rattle.gate_outside.specs.Doors.{opened, faulted}
-use Rattle.gate_core.specs.Events.{Event}
+use Rattle.bridge_run.specs.Events.{Event}
 use Rattle.bridge_run.specs.Prescribed.{Prescribed, first_of}
-use Rattle.bridge_run.specs.Course.{Setting, Course, Making}
-use Rattle.bridge_run.specs.Calls.{Goes, make}
+use Rattle.bridge_run.specs.Course.{Setting, Course, Making, AtDoor}
+use Rattle.bridge_run.specs.Calls.{Goes, make, come, course_of}
 use Rattle.bridge_run.specs.Outside.{Outside, Shows, Tells, IsBetween, Cut}
 use Rattle.bridge_run.specs.Serves.{CutShort, Begins}
 use Rattle.bridge_run.specs.inner.Links.{WritesFront}
 use Rattle.bridge_run.specs.inner.Follows.{Follows}
 use Rattle.bridge_run.proofs.Reaching.{reaches-none, cut-next}
 use Rattle.bridge_run.proofs.Putting.{between-none, between-front}
+use Rattle.bridge_run.proofs.Asking.{door-cut, not_accepted, call-door}
 
 -- all that the making leaves, whatever of its hello is written
 opening-cut : (p : Prescribed) (c : Course) (w : Outside) (out : Option (List ℕ)) → w.client.turns ≡ Some c.client → w.host.turns ≡ Some c.host → w.door.to_come ≡ Some c.clients → w.client.written ≡ Some c.to_client → out ≡ Some c.told
@@ -59,6 +60,39 @@ begun-follows stands p idle budget w out c b s none t = record {
   tells = t;
   client_up = sym b.client_down;
   host_up = refl;
+  busy = sym b.busy;
+  waits = sym b.waits;
+  left = sym b.left;
+  refused = ap first_of (sym none) ∙ ap (λ (es : List Event). first_of (p.refusals es)) (sym b.events);
+}
+
+-- ---- with a door alone
+
+-- nothing was done
+pub door-short : (s : Setting) (c : Course) (w : Outside) (out : Option (List ℕ)) → c.client_up ≡ false → Tells w out c → CutShort s (Goes AtDoor c) w out
+door-short s c w out down t =
+    cut-next s (Goes AtDoor c) AtDoor c (course_of (come c.clients c)) w out (reaches-none s (Goes AtDoor c)) (ap course_of (call-door s c down))
+    (door-cut w out c t.client.turns-is t.host.turns-is t.clients t.client.written-is t.host.written-is t.told)
+
+-- the door could not be made
+pub door-unmade : (s : Setting) (c : Course) (w w' : Outside) (out : Option (List ℕ)) → c.client_up ≡ false → Tells w out c → w'.client ≡ faulted w.client → w'.host ≡ w.host → w'.door ≡ w.door → CutShort s (Goes AtDoor c) w' out
+door-unmade s c w w' out down t client host door =
+    cut-next s (Goes AtDoor c) AtDoor c (course_of (come c.clients c)) w' out (reaches-none s (Goes AtDoor c)) (ap course_of (call-door s c down)) (not_accepted w w' out c t client host door)
+
+-- the rounds begin
+pub door-follows : (stands : List Event → Type 0) (p : Prescribed) (idle budget : ℕ) (w w' : Outside) (out : Option (List ℕ)) (c : Course) → Begins idle budget c → stands [] → p.refusals [] ≡ [] → Tells w out c
+    → w'.client ≡ w.client → w'.host ≡ w.host → w'.door ≡ record w.door { made = true }
+    → Follows stands p (record { client_up = false; host_up = false; busy = false; waits = idle; idle = idle; left = budget; refused = None }) w' out c
+door-follows stands p idle budget w w' out c b s none t client host door = record {
+  stands_for = subst stands (sym b.events) s;
+  tells = record {
+    client = subst (λ (l : Link). Shows l c.client_up c.client c.to_client) (sym client) t.client;
+    host = subst (λ (l : Link). Shows l c.host_up c.host c.to_host) (sym host) t.host;
+    clients = ap (λ (d : Door). d.to_come) door ∙ t.clients;
+    told = t.told;
+  };
+  client_up = sym b.client_down;
+  host_up = sym b.host_down;
   busy = sym b.busy;
   waits = sym b.waits;
   left = sym b.left;

@@ -10,7 +10,7 @@ use Rattle.gate_outside.specs.declared.turn.Turn.{Turn}
 use Rattle.gate_outside.specs.Link.{Link, Door}
 use Rattle.gate_outside.specs.Doors.{closes}
 use Rattle.gate_outside.specs.Front.{AppendsFront}
-use Rattle.gate_core.specs.Events.{Event}
+use Rattle.bridge_run.specs.Events.{Event}
 use Rattle.gate_core.specs.Sides.{or_else}
 use Rattle.bridge_run.specs.declared.kept.Kept.{Kept}
 use Rattle.bridge_run.specs.declared.sent.Sent.{Sent}
@@ -193,3 +193,20 @@ put-in_lines p c e sent lines w w' out out' prepared t client host door front = 
   to_host = between-all c.to_host w'.host.written (put p e c).to_host _ host.written-is (more_if c.host_up c.to_host (gained p.to_host c.events e));
   told = subst (λ (l : List ℕ). IsBetween c.told out' (c.told ++ l)) (prepared.lines-is ∙ ap (flat_map refusal_line) prepared.refusals) (told-front out out' c.told lines t.told front);
 }
+
+-- ---- a side that isn't refused
+
+and-not_false : (b : Bool) → (b && not false) ≡ b
+and-not_false true = refl
+and-not_false false = refl
+
+or_else-none : (o : Option Refusal) → or_else o None ≡ o
+or_else-none None = refl
+or_else-none (Some r) = refl
+
+pub refusing-none : (refusals : List Refusal) (k k' : Kept) → refusals ≡ [] → k' ≡ refusing refusals k → k' ≡ k
+refusing-none refusals k k' none is =
+    is ∙ ap (λ (rs : List Refusal). refusing rs k) none
+    ∙ ap (λ (u : Bool). record k { client_up = u; host_up = k.host_up && not false; refused = or_else k.refused None }) (and-not_false k.client_up)
+    ∙ ap (λ (u : Bool). record k { host_up = u; refused = or_else k.refused None }) (and-not_false k.host_up)
+    ∙ ap (λ (r : Option Refusal). record k { refused = r }) (or_else-none k.refused)

@@ -1,7 +1,7 @@
 -- Calls one after another.
 use Rattle.std.proofs.Common.{◌≡◌, ℕ, zero, suc, ◌+◌, List, Option, Result, Ok, Err, refl, sym, ap, ◌∙◌, subst, add-zero, add-suc}
 use Rattle.std.specs.Result.{IsErrAnd}
-use Rattle.gate_core.specs.Events.{Event}
+use Rattle.bridge_run.specs.Events.{Event}
 use Rattle.bridge_run.specs.declared.serve_end.ServeEnd.{ServeEnd}
 use Rattle.bridge_run.specs.declared.serve_end.ServeEnd.TheVariants.{Ended, LinkFault, WriteFault, Idle, Spent, Memory}
 use Rattle.bridge_run.specs.declared.kept.Kept.{Kept}

@@ -3,9 +3,10 @@ use Rattle.std.proofs.Common.{◌≡◌, ◌⊎◌, ℕ, ◌+◌, ◌*◌, ◌-�
 use Rattle.std.specs.Result.{OnOk}
 use Rattle.std.proofs.lemmas.Bool.{false≢true}
 use Rattle.std.proofs.Math.Nat.{mul-le-mul_left}
+use Rattle.usb_base.specs.declared.side.Side.{Side}
 use Rattle.usb_base.specs.declared.side.Side.TheVariants.{Client, Host}
 use Rattle.gate_outside.specs.Faults.{Rose}
-use Rattle.gate_core.specs.Events.{Event}
+use Rattle.bridge_run.specs.Events.{Event}
 use Rattle.bridge_run.specs.declared.serve_end.ServeEnd.{ServeEnd}
 use Rattle.bridge_run.specs.declared.serve_end.ServeEnd.TheVariants.{Ended, LinkFault, WriteFault, Idle, Spent, Memory}
 use Rattle.bridge_run.specs.declared.kept.Kept.{Kept}
@@ -14,7 +15,7 @@ use Rattle.bridge_run.specs.Course.{Setting, Course, Next, AtDoor, AtEnd}
 use Rattle.bridge_run.specs.Calls.{Outcome, Goes, Stops, rest}
 use Rattle.bridge_run.specs.Outside.{Outside, NoFault}
 use Rattle.bridge_run.specs.Serves.{Reaches}
-use Rattle.bridge_run.specs.inner.Keeping.{chances_of, Wears, rounds_of, IsLive, RestsBusy, Rests}
+use Rattle.bridge_run.specs.inner.Keeping.{up_of, with_up, one_if, chances_of, Wears, rounds_of, IsLive, RestsBusy, Rests}
 use Rattle.bridge_run.specs.inner.Follows.{Follows, HasFaults, setting, Comes, Runs}
 use Rattle.bridge_run.proofs.Reaching.{reaches-call, runs-then}
 use Rattle.bridge_run.proofs.Settling.{positive-not_zero, choice}
@@ -121,6 +122,11 @@ wears-then a b c p q = record { idle = q.idle ∙ p.idle; waits = q.waits ∙ p.
     go (inl x) (inr y) = inl (y.0 ∙ x.0, omega (arith, x.1, y.1))
     go (inr x) (inl y) = inl (y.0, omega (arith, x.1, y.1))
     go (inr x) (inr y) = inr (y.0 ∙ x.0, omega (arith, x.1, y.1))
+
+-- a link that has ended is a chance gone
+pub end-wears : (side : Side) (k k' : Kept) → up_of side k ≡ true → k' ≡ record (with_up side k) { busy = true } → Wears k k'
+end-wears Client k k' up is = subst (λ (x : Kept). Wears k x) (sym is) (record { idle = refl; waits = refl; fewer = inl (refl, omega (arith, ap one_if up)) })
+end-wears Host k k' up is = subst (λ (x : Kept). Wears k x) (sym is) (record { idle = refl; waits = refl; fewer = inl (refl, omega (arith, ap one_if up)) })
 
 -- with fewer chances there are fewer rounds, whatever waits
 falls : (x y idle waits : ℕ) → x < y → 0 < waits → x * idle + idle < y * idle + waits

@@ -1,9 +1,10 @@
 -- What an event comes to.
 use Rattle.std.proofs.Common.{◌≡◌, ℕ, ◌<◌, ◌==◌, ◌&&◌, not, Bool, true, false, cond, List, Option, Result, Ok, Err, refl, sym, ap, ◌∙◌, arith}
+use Rattle.std.specs.Result.{OnOk}
 use Rattle.std.proofs.lemmas.Bool.Decides.{nat_tests}
 use Rattle.usb_base.specs.declared.refusal.Refusal.{Refusal}
 use Rattle.usb_base.specs.declared.side.Side.TheVariants.{Client}
-use Rattle.gate_core.specs.Events.{Event, ClientEnd}
+use Rattle.bridge_run.specs.Events.{Event, ClientComes, ClientPiece, ClientQuiet, ClientEnd, HostPiece, HostEnd}
 use Rattle.bridge_run.specs.declared.serve_end.ServeEnd.{ServeEnd}
 use Rattle.bridge_run.specs.declared.serve_end.ServeEnd.TheVariants.{Ended, LinkFault, WriteFault, Idle, Spent, Memory}
 use Rattle.bridge_run.specs.declared.kept.Kept.{Kept}
@@ -81,3 +82,17 @@ take-settles s e next c refused is none = ap (λ (b : Bool). cond b (Goes (Takes
 pub take-ends : (s : Setting) (e : Event) (next : Next) (c : Course) (refused : Bool) → refused ≡ refuses Client (gained s.served.refusals c.events e) → ends_next e refused ≡ true
     → call s (Takes e next) c ≡ Goes (Takes ClientEnd next) (put s.served e c)
 take-ends s e next c refused is some = ap (λ (b : Bool). cond b (Goes (Takes ClientEnd next) (put s.served e c)) (settle s next (put s.served e c))) (ap (λ (b : Bool). ends_next e b) (sym is) ∙ some)
+
+-- ---- a quiet client
+
+pub quiet-on : (e : Event) (refused : Bool) → refused ≡ false → ends_next e refused ≡ false
+quiet-on ClientComes refused r = r
+quiet-on (ClientPiece b) refused r = r
+quiet-on ClientQuiet refused r = r
+quiet-on ClientEnd refused r = refl
+quiet-on (HostPiece b) refused r = r
+quiet-on HostEnd refused r = r
+
+pub on-all : {T E : Type 0} (r : Result T E) (P : Type 0) → P → OnOk r P
+on-all (Ok x) P p = p
+on-all (Err e) P p = tt

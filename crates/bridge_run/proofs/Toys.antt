@@ -1,15 +1,17 @@
 -- Small runs of the calls, worked out by hand: what is served sends each piece of a client back to it.
 use Rattle.std.proofs.Common.{◌≡◌, ℕ, true, false, List, [], ◌∷◌, ◌++◌, None, refl}
 use Rattle.gate_outside.specs.declared.turn.Turn.{Turn}
-use Rattle.gate_outside.specs.declared.turn.Turn.TheVariants.{Piece}
-use Rattle.gate_core.specs.Events.{Event, ClientPiece, ClientEnd, HostPiece, HostEnd}
+use Rattle.gate_outside.specs.declared.turn.Turn.TheVariants.{Piece, Wait}
+use Rattle.bridge_run.specs.Events.{Event, ClientComes, ClientPiece, ClientQuiet, ClientEnd, HostPiece, HostEnd}
 use Rattle.bridge_run.specs.declared.serve_end.ServeEnd.TheVariants.{Ended}
 use Rattle.bridge_run.specs.Course.{Setting, Course, Making}
 use Rattle.bridge_run.specs.Calls.{Goes, Stops, calls}
 
 abbrev echo : List Event → List ℕ
 echo [] = []
+echo (ClientComes ∷ events) = echo events
 echo (ClientPiece b ∷ events) = echo events ++ b
+echo (ClientQuiet ∷ events) = echo events
 echo (ClientEnd ∷ events) = echo events
 echo (HostPiece b ∷ events) = echo events
 echo (HostEnd ∷ events) = echo events
@@ -33,10 +35,10 @@ start idle clients host = record {
   told = [];
 }
 
--- A host's three pieces and its end, and a client's one.
-toy-ended : calls (toy 5) 22 (Goes Making (start 5 ((Piece (7 ∷ []) ∷ []) ∷ []) (Piece (1 ∷ []) ∷ Piece (2 ∷ []) ∷ Piece (3 ∷ []) ∷ [])))
+-- A host's three pieces and its end, and a client's one, behind which it waits once.
+toy-ended : calls (toy 5) 24 (Goes Making (start 5 ((Piece (7 ∷ []) ∷ Wait ∷ []) ∷ []) (Piece (1 ∷ []) ∷ Piece (2 ∷ []) ∷ Piece (3 ∷ []) ∷ [])))
     ≡ Stops (Ended None) (record {
-      events = HostEnd ∷ HostPiece (3 ∷ []) ∷ HostPiece (2 ∷ []) ∷ ClientEnd ∷ HostPiece (1 ∷ []) ∷ ClientPiece (7 ∷ []) ∷ [];
+      events = HostEnd ∷ HostPiece (3 ∷ []) ∷ ClientEnd ∷ HostPiece (2 ∷ []) ∷ ClientQuiet ∷ HostPiece (1 ∷ []) ∷ ClientPiece (7 ∷ []) ∷ ClientComes ∷ [];
       client_up = false;
       host_up = false;
       client = [];

@@ -8,7 +8,7 @@ use Rattle.gate_outside.specs.declared.turn.Turn.{Turn}
 use Rattle.gate_outside.specs.declared.turn.Polled.{Polled}
 use Rattle.gate_outside.specs.declared.turn.Polled.TheVariants.{Took, NotYet, Ended, Failed}
 use Rattle.gate_outside.specs.Turns.{pending, answer, given, after}
-use Rattle.gate_core.specs.Events.{Event, ClientPiece, ClientEnd, HostPiece, HostEnd}
+use Rattle.bridge_run.specs.Events.{Event, ClientComes, ClientPiece, ClientQuiet, ClientEnd, HostPiece, HostEnd}
 use Rattle.bridge_run.specs.declared.serve_end.ServeEnd.{ServeEnd}
 use Rattle.bridge_run.specs.declared.serve_end.ServeEnd.TheVariants as end
 use Rattle.bridge_run.specs.Prescribed.{Prescribed, gained, refuses, first_of}
@@ -47,7 +47,9 @@ settle s next c =
 
 -- a client that was refused has its end next
 abbrev pub ends_next : Event → Bool → Bool
+ends_next ClientComes refused = refused
 ends_next (ClientPiece b) refused = refused
+ends_next ClientQuiet refused = refused
 ends_next ClientEnd refused = false
 ends_next (HostPiece b) refused = refused
 ends_next HostEnd refused = refused
@@ -59,9 +61,10 @@ take_event s e next c =
 
 -- ---- a round
 
-abbrev pub come : List (List Turn) → Course → Course
-come [] c = c
-come (turns ∷ clients) c = record c { client_up = true; client = turns; clients = clients; busy = true; left = c.left - 1 }
+-- the next client comes, where one is still to come
+abbrev pub come : List (List Turn) → Course → Outcome
+come [] c = Goes AtClient c
+come (turns ∷ clients) c = Goes (Takes ClientComes AtClient) (record c { client_up = true; client = turns; clients = clients; busy = true; left = c.left - 1 })
 
 abbrev pub piece : Side → List ℕ → Event
 piece Client b = ClientPiece b
@@ -80,10 +83,15 @@ abbrev pub down : Side → Course → Course
 down Client c = record c { client_up = false }
 down Host c = record c { host_up = false }
 
+-- a client that has nothing is an event, too
+abbrev pub quiet : Side → Next → Next
+quiet Client next = Takes ClientQuiet next
+quiet Host next = next
+
 -- what comes of a poll's answer
 abbrev pub heard : Side → Next → Polled → List ℕ → Course → Outcome
 heard side next (Took n) bytes c = Goes (Takes (piece side bytes) next) (record c { busy = true; left = c.left - n })
-heard side next NotYet bytes c = Goes next c
+heard side next NotYet bytes c = Goes (quiet side next) c
 heard side next Ended bytes c = Goes (Takes (end_of side) next) (record (down side c) { busy = true })
 heard side next Failed bytes c = Stops (end.LinkFault side) c
 
@@ -104,7 +112,7 @@ make p c = record c { host_up = true; to_host = c.to_host ++ p.to_host [] }
 
 abbrev pub call : Setting → Next → Course → Outcome
 call s Making c = Goes AtDoor (make s.served c)
-call s AtDoor c = if c.client_up then Goes AtClient c else settle s AtClient (come c.clients c)
+call s AtDoor c = if c.client_up then Goes AtClient c else come c.clients c
 call s AtClient c = if c.client_up then poll Client c.client AtHost c else Goes AtHost c
 call s AtHost c = if c.host_up then poll Host c.host AtEnd c else Goes AtEnd c
 call s AtEnd c = rest s c

@@ -1,7 +1,7 @@
 -- The course of serving: what has happened, and what is still to come.
 use Rattle.std.specs.Prelude.{ℕ, Bool, List}
 use Rattle.gate_outside.specs.declared.turn.Turn.{Turn}
-use Rattle.gate_core.specs.Events.{Event}
+use Rattle.bridge_run.specs.Events.{Event}
 use Rattle.bridge_run.specs.Prescribed.{Prescribed}
 
 -- what is served, and how long
@@ -34,7 +34,7 @@ pub record Course : Type 0 where
 pub data Next : Type 0 where
   -- the host is dialled, the door made, and what the making sends is written
   Making : Next
-  -- a round asks for a client, where none is there, and then polls both sides
+  -- a round asks for a client, where none is there, and then polls each side whose link is up
   AtDoor : Next
   AtClient : Next
   AtHost : Next

@@ -1,7 +1,9 @@
+pub mod Events
 pub mod Prescribed
 pub mod Course
 pub mod Calls
 pub mod Outside
 pub mod Gate
+pub mod Lent
 pub mod Serves
 pub mod inner

@@ -4,7 +4,7 @@ use Rattle.std.specs.List.{list_any}
 use Rattle.usb_base.specs.declared.side.Side.{Side}
 use Rattle.usb_base.specs.declared.side.Side.TheVariants.{Client, Host}
 use Rattle.usb_base.specs.declared.refusal.Refusal.{Refusal}
-use Rattle.gate_core.specs.Events.{Event}
+use Rattle.bridge_run.specs.Events.{Event}
 
 -- all that these events, and the making before them, have sent and refused, the earliest first
 pub record Prescribed : Type 0 where

@@ -1,5 +1,7 @@
+-- What the calls, and the rounds of a session, keep of links and of what is sent.
 pub mod Sends
 pub mod Links
 pub mod Keeping
 pub mod Follows
 pub mod Idling
+pub mod Lending

@@ -1,9 +1,12 @@
-//! The gateway between sockets: events come from the links of both sides in turn, and what the gate sends for
-//! them goes back to these.
+//! The loop between sockets: events come from the links of both sides in turn, and what is served, the gateway or a
+//! modelled device that is lent to a guest, sends back to these.
 #![tactic(auto)]
 
+mod event;
 mod gate;
 mod kept;
+mod lending;
+mod lent;
 mod link;
 mod sent;
 mod serve_end;
@@ -11,6 +14,7 @@ mod served;
 mod serving;
 mod session;
 
+pub use lending::serve_host;
 pub use serve_end::ServeEnd;
 pub use serving::serve;
 

@@ -22,7 +22,7 @@ use std::alloc::Global;
 use usb_base::Bytes;
 
 /// How many bytes a poll takes at most.
-const ROOM: usize = 65_536;
+pub const ROOM: usize = 65_536;
 
 /// Dials the host, makes the clients' door, and goes in rounds. A round asks for a client where none is there, and
 /// polls the client and then the host, whose link is up. What comes is an event of a gate that draws its ids from

@@ -1,10 +1,10 @@
 //! Serving, once both sides can come.
 
-ghost use Rattle.std.specs.Prelude.{◌≡◌, ◌<◌, ℕ, List, ◌∷◌, Option, not, OnOk, IfErr, length};
-ghost use Rattle.gate_core.specs.Events.{Event as PastEvent, event_of};
+ghost use Rattle.std.specs.Prelude.{◌≡◌, ◌<◌, List, [], ◌∷◌, not, true, false, OnOk, IfOk, IfErr, length};
+ghost use Rattle.bridge_run.specs.Events.{Event as PastEvent, event_of, is_quiet};
 ghost use Rattle.bridge_run.specs.Course.{Course, Next};
 ghost use Rattle.bridge_run.specs.Course.{AtDoor, AtClient, Takes};
-ghost use Rattle.bridge_run.specs.Calls.{Goes, ends_next as has_end_next, piece as piece_of, end_of as past_end_of};
+ghost use Rattle.bridge_run.specs.Calls.{Goes, ends_next as has_end_next, piece as piece_of, end_of as past_end_of, quiet};
 ghost use Rattle.bridge_run.specs.Outside.{outside};
 ghost use Rattle.bridge_run.specs.Serves.{Leaves};
 ghost use Rattle.bridge_run.specs.inner.Keeping.{Agrees, Wears, IsLive, rounds_of, up_of};
@@ -14,12 +14,12 @@ ghost use Rattle.bridge_run.specs.inner.Idling.{NotIdle, Asked, EndsWithin, Roun
 ghost use Rattle.usb_base.specs.declared.side.Side.TheVariants.{Client, Host};
 ghost use Rattle.gate_outside.specs.Link.{other};
 
+use crate::event::Event;
 use crate::kept::Kept;
 use crate::link::{close_link, write_link};
 use crate::sent::Sent;
 use crate::serve_end::ServeEnd;
 use crate::served::Served;
-use gate_core::Event;
 use gate_outside::{Doors, Polled, Side, Sink, write_all};
 use std::alloc::Global;
 use usb_base::{Bytes, Memory};
@@ -38,8 +38,9 @@ pub struct Session<C> {
 impl<C: Served + Drop> Session<C> {
     /// Has the event taken, and keeps what that sends.
     fn prepare(&mut self, event: Event) -> Result<(), Memory>
-        ensures stands { OnOk result ((first : ℕ) (past : List PastEvent) → C.stands first self.old.core past → C.stands first self.new.core (event_of event.entry ∷ past)) }
-        ensures prepared { OnOk result ((first : ℕ) (past : List PastEvent) → C.stands first self.old.core past → Prepared (C.sends first) past (event_of event.entry) self.new.sent self.new.lines) }
+        ensures stands { OnOk result ((first : C.First) (past : List PastEvent) → C.stands first self.old.core past → C.stands first self.new.core (event_of event.entry ∷ past)) }
+        ensures prepared { OnOk result ((first : C.First) (past : List PastEvent) → C.stands first self.old.core past → Prepared (C.sends first) past (event_of event.entry) self.new.sent self.new.lines) }
+        ensures quiet { OnOk result (is_quiet (event_of event.entry) ≡ true → self.new.sent.refusals ≡ []) }
         ensures kept { self.new.kept ≡ self.old.kept }
     {
         self.sent.clear();
@@ -57,13 +58,14 @@ impl<C: Served + Drop> Session<C> {
         out: &mut K,
     ) -> Result<bool, ServeEnd>
         requires { Agrees self.old.kept (outside (D.link doors.old) (D.door doors.old)) }
-        ensures course { (first : ℕ) (c : Course) → Follows (C.stands first self.old.core) (C.sends first) self.old.kept (outside (D.link doors.old) (D.door doors.old)) (K.contents out.old) c
+        ensures course { (first : C.First) (c : Course) → Follows (C.stands first self.old.core) (C.sends first) self.old.kept (outside (D.link doors.old) (D.door doors.old)) (K.contents out.old) c
             → Puts result (C.stands first self.new.core) (C.sends first) (event_of event.entry) self.new.kept (outside (D.link doors.new) (D.door doors.new)) (K.contents out.new) c }
         ensures faults { HasFaults result (outside (D.link doors.old) (D.door doors.old)) (outside (D.link doors.new) (D.door doors.new)) (K.faults out.old) (K.faults out.new) }
         ensures cut { IfErr result IsCutEnd }
         ensures agrees { OnOk result (Agrees self.new.kept (outside (D.link doors.new) (D.door doors.new))) }
         ensures wears { Wears self.old.kept self.new.kept }
         ensures left { self.new.kept.left ≡ self.old.kept.left }
+        ensures quiet { IfOk result (λ refused. is_quiet (event_of event.entry) ≡ true → (refused ≡ false) × (self.new.kept ≡ self.old.kept)) }
         ensures idles { OnOk result (NotIdle (outside (D.link doors.old) (D.door doors.old)) (outside (D.link doors.new) (D.door doors.new))) }
     {
         if let Err(_) = self.prepare(event) {
@@ -103,12 +105,13 @@ impl<C: Served + Drop> Session<C> {
         out: &mut K,
     ) -> Result<(), ServeEnd>
         requires { Agrees self.old.kept (outside (D.link doors.old) (D.door doors.old)) }
-        ensures course { (first : ℕ) (next : Next) (c : Course) → Follows (C.stands first self.old.core) (C.sends first) self.old.kept (outside (D.link doors.old) (D.door doors.old)) (K.contents out.old) c
+        ensures course { (first : C.First) (next : Next) (c : Course) → Follows (C.stands first self.old.core) (C.sends first) self.old.kept (outside (D.link doors.old) (D.door doors.old)) (K.contents out.old) c
             → Runs result (C.stands first self.new.core) (setting (C.sends first) self.old.kept) self.new.kept (outside (D.link doors.new) (D.door doors.new)) (K.contents out.new) (Goes (Takes (event_of event.entry) next) c) next }
         ensures faults { HasFaults result (outside (D.link doors.old) (D.door doors.old)) (outside (D.link doors.new) (D.door doors.new)) (K.faults out.old) (K.faults out.new) }
         ensures agrees { OnOk result (Agrees self.new.kept (outside (D.link doors.new) (D.door doors.new))) }
         ensures wears { Wears self.old.kept self.new.kept }
         ensures left { OnOk result (0 < self.new.kept.left) }
+        ensures quiet { OnOk result (is_quiet (event_of event.entry) ≡ true → self.new.kept ≡ self.old.kept) }
         ensures idles { OnOk result (NotIdle (outside (D.link doors.old) (D.door doors.old)) (outside (D.link doors.new) (D.door doors.new))) }
         ensures within { EndsWithin result (outside (D.link doors.new) (D.door doors.new)) }
     {
@@ -121,17 +124,17 @@ impl<C: Served + Drop> Session<C> {
     }
 
     /// Asks for a client, where none is there.
-    fn ask_door<D: Doors>(&mut self, doors: &mut D) -> Result<(), ServeEnd>
+    fn ask_door<D: Doors, K: Sink>(&mut self, doors: &mut D, out: &mut K) -> Result<(), ServeEnd>
         requires agrees { Agrees self.old.kept (outside (D.link doors.old) (D.door doors.old)) }
         requires left { 0 < self.old.kept.left }
-        ensures course { (first : ℕ) (c : Course) (out : Option (List ℕ)) → Follows (C.stands first self.old.core) (C.sends first) self.old.kept (outside (D.link doors.old) (D.door doors.old)) out c
-            → Runs result (C.stands first self.new.core) (setting (C.sends first) self.old.kept) self.new.kept (outside (D.link doors.new) (D.door doors.new)) out (Goes AtDoor c) AtClient }
-        ensures faults { (sink : ℕ) → HasFaults result (outside (D.link doors.old) (D.door doors.old)) (outside (D.link doors.new) (D.door doors.new)) sink sink }
+        ensures course { (first : C.First) (c : Course) → Follows (C.stands first self.old.core) (C.sends first) self.old.kept (outside (D.link doors.old) (D.door doors.old)) (K.contents out.old) c
+            → Runs result (C.stands first self.new.core) (setting (C.sends first) self.old.kept) self.new.kept (outside (D.link doors.new) (D.door doors.new)) (K.contents out.new) (Goes AtDoor c) AtClient }
+        ensures faults { HasFaults result (outside (D.link doors.old) (D.door doors.old)) (outside (D.link doors.new) (D.door doors.new)) (K.faults out.old) (K.faults out.new) }
         ensures agrees { OnOk result (Agrees self.new.kept (outside (D.link doors.new) (D.door doors.new))) }
         ensures wears { Wears self.old.kept self.new.kept }
         ensures left { OnOk result (0 < self.new.kept.left) }
         ensures idles { OnOk result (Asked (not self.old.kept.client_up) self.old.kept self.new.kept (D.link doors.old Client).idle (D.link doors.new Client).idle) }
-        ensures host { (D.link doors.new Host) ≡ (D.link doors.old Host) }
+        ensures other { OnOk result ((D.link doors.new Host).idle ≡ (D.link doors.old Host).idle) }
         ensures within { EndsWithin result (outside (D.link doors.new) (D.door doors.new)) }
     {
         if self.kept.client_up {
@@ -140,10 +143,34 @@ impl<C: Served + Drop> Session<C> {
         match doors.accept() {
             Ok(true) => {
                 self.kept.come();
-                self.kept.settle()
+                self.happen(Event::ClientComes, doors, out)
             }
-            Ok(false) => self.kept.settle(),
+            Ok(false) => Ok(()),
             Err(_) => Err(ServeEnd::LinkFault(Side::Client)),
+        }
+    }
+
+    /// The side had nothing, which is an event where it is the client.
+    fn be_quiet<D: Doors, K: Sink>(
+        &mut self,
+        side: Side,
+        doors: &mut D,
+        out: &mut K,
+    ) -> Result<(), ServeEnd>
+        requires agrees { Agrees self.old.kept (outside (D.link doors.old) (D.door doors.old)) }
+        requires left { 0 < self.old.kept.left }
+        ensures course { (first : C.First) (next : Next) (c : Course) → Follows (C.stands first self.old.core) (C.sends first) self.old.kept (outside (D.link doors.old) (D.door doors.old)) (K.contents out.old) c
+            → Runs result (C.stands first self.new.core) (setting (C.sends first) self.old.kept) self.new.kept (outside (D.link doors.new) (D.door doors.new)) (K.contents out.new) (Goes (quiet side next) c) next }
+        ensures faults { HasFaults result (outside (D.link doors.old) (D.door doors.old)) (outside (D.link doors.new) (D.door doors.new)) (K.faults out.old) (K.faults out.new) }
+        ensures agrees { OnOk result (Agrees self.new.kept (outside (D.link doors.new) (D.door doors.new))) }
+        ensures wears { Wears self.old.kept self.new.kept }
+        ensures kept { OnOk result (self.new.kept ≡ self.old.kept) }
+        ensures idles { OnOk result (NotIdle (outside (D.link doors.old) (D.door doors.old)) (outside (D.link doors.new) (D.door doors.new))) }
+        ensures within { EndsWithin result (outside (D.link doors.new) (D.door doors.new)) }
+    {
+        match side {
+            Side::Client => self.happen(Event::ClientQuiet, doors, out),
+            Side::Host => Ok(()),
         }
     }
 
@@ -158,7 +185,7 @@ impl<C: Served + Drop> Session<C> {
         requires agrees { Agrees self.old.kept (outside (D.link doors.old) (D.door doors.old)) }
         requires left { 0 < self.old.kept.left }
         requires room { length buf.old ≡ 65536 }
-        ensures course { (first : ℕ) (c : Course) → Follows (C.stands first self.old.core) (C.sends first) self.old.kept (outside (D.link doors.old) (D.door doors.old)) (K.contents out.old) c
+        ensures course { (first : C.First) (c : Course) → Follows (C.stands first self.old.core) (C.sends first) self.old.kept (outside (D.link doors.old) (D.door doors.old)) (K.contents out.old) c
             → Runs result (C.stands first self.new.core) (setting (C.sends first) self.old.kept) self.new.kept (outside (D.link doors.new) (D.door doors.new)) (K.contents out.new) (Goes (polls side) c) (behind side) }
         ensures faults { HasFaults result (outside (D.link doors.old) (D.door doors.old)) (outside (D.link doors.new) (D.door doors.new)) (K.faults out.old) (K.faults out.new) }
         ensures agrees { OnOk result (Agrees self.new.kept (outside (D.link doors.new) (D.door doors.new))) }
@@ -176,7 +203,7 @@ impl<C: Served + Drop> Session<C> {
                 self.kept.take(n);
                 self.happen(piece(side, &buf[..n]), doors, out)
             }
-            Polled::NotYet => Ok(()),
+            Polled::NotYet => self.be_quiet(side, doors, out),
             Polled::Ended => {
                 self.kept.end(side);
                 self.happen(end_of(side), doors, out)
@@ -195,7 +222,7 @@ impl<C: Served + Drop> Session<C> {
         requires agrees { Agrees self.old.kept (outside (D.link doors.old) (D.door doors.old)) }
         requires live { IsLive self.old.kept }
         requires room { length buf.old ≡ 65536 }
-        ensures course { (first : ℕ) (c : Course) → Follows (C.stands first self.old.core) (C.sends first) self.old.kept (outside (D.link doors.old) (D.door doors.old)) (K.contents out.old) c
+        ensures course { (first : C.First) (c : Course) → Follows (C.stands first self.old.core) (C.sends first) self.old.kept (outside (D.link doors.old) (D.door doors.old)) (K.contents out.old) c
             → Runs result (C.stands first self.new.core) (setting (C.sends first) self.old.kept) self.new.kept (outside (D.link doors.new) (D.door doors.new)) (K.contents out.new) (Goes AtDoor c) AtDoor }
         ensures faults { HasFaults result (outside (D.link doors.old) (D.door doors.old)) (outside (D.link doors.new) (D.door doors.new)) (K.faults out.old) (K.faults out.new) }
         ensures agrees { OnOk result (Agrees self.new.kept (outside (D.link doors.new) (D.door doors.new))) }
@@ -204,7 +231,7 @@ impl<C: Served + Drop> Session<C> {
         ensures idles { RoundIdles result self.old.kept self.new.kept (outside (D.link doors.old) (D.door doors.old)) (outside (D.link doors.new) (D.door doors.new)) }
         ensures fewer { OnOk result (rounds_of self.new.kept < rounds_of self.old.kept) }
     {
-        self.ask_door(doors)?;
+        self.ask_door(doors, out)?;
         self.ask(Side::Client, buf, doors, out)?;
         self.ask(Side::Host, buf, doors, out)?;
         self.kept.rest()
@@ -216,7 +243,7 @@ impl<C: Served + Drop> Session<C> {
         requires live { IsLive self.old.kept }
         requires room { length buf.old ≡ 65536 }
         requires fresh { self.old.kept.waits ≡ self.old.kept.idle }
-        ensures course { (first : ℕ) (c : Course) → Follows (C.stands first self.old.core) (C.sends first) self.old.kept (outside (D.link doors.old) (D.door doors.old)) (K.contents out.old) c
+        ensures course { (first : C.First) (c : Course) → Follows (C.stands first self.old.core) (C.sends first) self.old.kept (outside (D.link doors.old) (D.door doors.old)) (K.contents out.old) c
             → Leaves result (setting (C.sends first) self.old.kept) (Goes AtDoor c) (outside (D.link doors.new) (D.door doors.new)) (K.contents out.new) }
         ensures cause { HasCause result (outside (D.link doors.old) (D.door doors.old)) (outside (D.link doors.new) (D.door doors.new)) (K.faults out.old) (K.faults out.new) }
         ensures reason { HasReason result self.old.kept.idle (outside (D.link doors.old) (D.door doors.old)) (outside (D.link doors.new) (D.door doors.new)) }

@@ -1,5 +1,6 @@
 //! Serving over doors in memory. What is expected was laid out by hand.
 
+mod lent;
 mod packets;
 
 use crate::{ServeEnd, serve};
@@ -10,7 +11,8 @@ use std::process::Abort;
 use std::test::Fail;
 use usb_base::{Bytes, Memory, Reason, Refusal};
 
-/// Doors, how long they are served, and what that leaves. A script's turns are packets by name, and `-` waits.
+/// Doors, how long they are served, and what that leaves. A script's turns are packets by name, with `|`
+/// between them, and `-` waits.
 #[derive(Clone, Copy)]
 struct Case<'a> {
     host: &'a [&'a str],
@@ -51,6 +53,13 @@ fn listed<'a>() -> Case<'a> {
     }
 }
 
+fn push_packets(out: &mut Bytes, names: &str) -> Result<(), Memory> {
+    for name in names.split('|') {
+        push_packet(out, name)?;
+    }
+    Ok(())
+}
+
 fn script(alloc: Global, turns: &[&str]) -> Result<Script, Memory> {
     let mut script = Script::new(alloc);
     for turn in turns {
@@ -58,7 +67,7 @@ fn script(alloc: Global, turns: &[&str]) -> Result<Script, Memory> {
             script.push(Turn::Wait)?;
         } else {
             let mut piece = Bytes::new(alloc);
-            push_packet(&mut piece, turn)?;
+            push_packets(&mut piece, turn)?;
             script.push(Turn::Piece(piece))?;
         }
     }
@@ -75,8 +84,8 @@ fn scripts(alloc: Global, clients: &[&[&str]]) -> Result<Scripts, Memory> {
 
 fn bytes(alloc: Global, packets: &[&str]) -> Result<Bytes, Memory> {
     let mut bytes = Bytes::new(alloc);
-    for name in packets {
-        push_packet(&mut bytes, name)?;
+    for names in packets {
+        push_packets(&mut bytes, names)?;
     }
     Ok(bytes)
 }

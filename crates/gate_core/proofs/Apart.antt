@@ -13,18 +13,22 @@ use Rattle.redir_wire.specs.declared.packet.Caps.{Caps}
 use Rattle.redir_wire.specs.declared.packet.Header.{Header}
 use Rattle.redir_wire.specs.declared.packet.RedirControl.TheVariants as plain
 use Rattle.redir_data.specs.declared.packet.RedirPacket.{RedirPacket}
-use Rattle.redir_data.specs.declared.packet.RedirPacket.TheVariants.{Plain}
+use Rattle.redir_data.specs.declared.packet.RedirData.{RedirData}
+use Rattle.redir_data.specs.declared.packet.RedirData.TheVariants as data_packet
+use Rattle.redir_data.specs.declared.packet.RedirPacket.TheVariants.{Plain, Carrying}
+use Rattle.usb_base.specs.declared.transfer.StreamPacket.{StreamPacket}
+use Rattle.usb_base.specs.Endpoint.{is_in_endpoint}
 use Rattle.usbip_urb.specs.declared.client.ClientPacket.{ClientPacket}
 use Rattle.usbip_urb.specs.declared.client.ClientPacket.TheVariants.{Op, Urb}
 use Rattle.gate_core.specs.Items.{Item, Asked, ClientWrong, ClientLeft, Told, HostWrong, HostLeft}
-use Rattle.gate_core.specs.Requests.{Request}
-use Rattle.gate_core.specs.Verdict.{Verdict}
-use Rattle.gate_core.specs.Built.{is_built}
+use Rattle.gate_core.specs.Requests.{Request, request_of}
+use Rattle.gate_core.specs.Verdict.{Verdict, Now, Wire, Routed, IsoOut, Stream}
 use Rattle.gate_core.specs.Marks.{Submission, Effect, Mark}
 use Rattle.gate_core.specs.Sides.{is_client, agrees, refuses_client, ends_client, closes_host, client_over, host_over, agreed}
+use Rattle.gate_core.specs.Ups.{Up, stream_at, stream_of}
 use Rattle.gate_core.specs.State.{State, state_of, has_number}
 use Rattle.gate_core.specs.Responses.{Response, Data, Status, response_of, answer_kind, mismatch}
-use Rattle.gate_core.specs.Meaning.{importable, imported_as, op_meaning, accepts, urb_meaning, asked_meaning, answered_as, answer_to, by_response, told_meaning, meaning, mark_of}
+use Rattle.gate_core.specs.Meaning.{importable, imported_as, op_meaning, verdict_of, drawn_for, submission, by_stream, accepted_as, accepts, urb_meaning, asked_meaning, answered_as, answer_to, by_response, arrives, data_meaning, told_meaning, meaning, mark_of}
 use Rattle.gate_core.specs.Past.{is_left_out, past}
 
 -- ---- effects of the client's items
@@ -47,13 +51,22 @@ client-op st place (op.ReqImport status busid) = either SparesHost st.imported _
 client-op st place (op.RepDevlist status devices) = record { closes = refl; agrees-none = refl }
 client-op st place (op.RepImport status device) = record { closes = refl; agrees-none = refl }
 
-client-submit : (st : State) (place : ℕ) (r : Request) (v : Verdict) → SparesHost (accepts st place r v)
-client-submit st place r v = either SparesHost (is_built v) _ _ (record { closes = refl; agrees-none = refl }) (record { closes = refl; agrees-none = refl })
+client-accepted : (st : State) (s : Submission) (v : Verdict) → SparesHost (accepted_as st s v)
+client-accepted st s (Now status) = record { closes = refl; agrees-none = refl }
+client-accepted st s (Wire pipe) = record { closes = refl; agrees-none = refl }
+client-accepted st s (Routed r) = record { closes = refl; agrees-none = refl }
+client-accepted st s (IsoOut row) = record { closes = refl; agrees-none = refl }
+client-accepted st s (Stream row) = record { closes = refl; agrees-none = refl }
+
+client-submit : (st : State) (r : Request) (v : Verdict) → SparesHost (accepts st r v)
+client-submit st r v =
+    let kept = by_stream (stream_at st.streams r.transfer.ep) v in
+    client-accepted st (submission st r kept (drawn_for st r kept)) kept
 
 client-urb : (st : State) (place : ℕ) (p : UrbPacket) → SparesHost (urb_meaning st place p)
 client-urb st place (urb.Submit s) =
     either SparesHost (not st.imported) _ _ (record { closes = refl; agrees-none = refl })
-    (either SparesHost (has_number st s.head.seqnum) _ _ (record { closes = refl; agrees-none = refl }) (client-submit st place _ _))
+    (either SparesHost (has_number st s.head.seqnum) _ _ (record { closes = refl; agrees-none = refl }) (client-submit st (request_of s) (verdict_of st (request_of s))))
 client-urb st place (urb.Unlink u) = either SparesHost (not st.imported) _ _ (record { closes = refl; agrees-none = refl }) (record { closes = refl; agrees-none = refl })
 client-urb st place (urb.RetSubmit r) = record { closes = refl; agrees-none = refl }
 client-urb st place (urb.RetUnlink r) = record { closes = refl; agrees-none = refl }
@@ -95,11 +108,23 @@ host-response : (st : State) (place : ℕ) (h : Header) (response : Option Respo
 host-response st place h None = record { refuses = refl; ends = refl }
 host-response st place h (Some response) = host-answer st place h response _
 
+host-arrival : (st : State) (ep : ℕ) (iso : Bool) (packet : StreamPacket) (o : Option Up) → SparesClient (arrives st ep iso packet o)
+host-arrival st ep iso packet None = record { refuses = refl; ends = refl }
+host-arrival st ep iso packet (Some up) = record { refuses = refl; ends = refl }
+
+host-data : (st : State) (place : ℕ) (h : Header) (d : RedirData) → SparesClient (data_meaning st place h d)
+host-data st place h (data_packet.Interrupt endpoint status length body) =
+    either SparesClient (is_in_endpoint endpoint) _ _ (host-arrival st endpoint false _ (stream_of st.streams endpoint)) (host-response st place h _)
+host-data st place h (data_packet.Iso endpoint status length body) =
+    either SparesClient (is_in_endpoint endpoint) _ _ (host-arrival st endpoint true _ (stream_of st.streams endpoint)) (record { refuses = refl; ends = refl })
+host-data st place h d = host-response st place h (response_of (Carrying d))
+
 host-told : (st : State) (place : ℕ) (h : Header) (p : RedirPacket) → SparesClient (told_meaning st place h p)
 host-told st place h (Plain (plain.Hello hello)) = record { refuses = refl; ends = refl }
 host-told st place h (Plain plain.Disconnect) = record { refuses = refl; ends = refl }
 host-told st place h (Plain (plain.IsoStatus status endpoint)) = record { refuses = refl; ends = refl }
 host-told st place h (Plain (plain.InterruptStatus status endpoint)) = record { refuses = refl; ends = refl }
+host-told st place h (Carrying d) = host-data st place h d
 host-told st place h p = host-response st place h (response_of p)
 
 -- only a hello agrees to anything
@@ -114,6 +139,20 @@ answer-agrees st place h response (Some s) = answered-agrees h.id _ _
 pub response-agrees : (st : State) (place : ℕ) (h : Header) (response : Option Response) → agrees (by_response st place h response) ≡ None
 response-agrees st place h None = refl
 response-agrees st place h (Some response) = answer-agrees st place h response _
+
+arrival-agrees : (st : State) (ep : ℕ) (iso : Bool) (packet : StreamPacket) (o : Option Up) → agrees (arrives st ep iso packet o) ≡ None
+arrival-agrees st ep iso packet None = refl
+arrival-agrees st ep iso packet (Some up) = refl
+
+none-agreed : (b : Bool) (e f : Effect) → agrees e ≡ None → agrees f ≡ None → agrees (cond b e f) ≡ None
+none-agreed b e f h k = either (λ x. agrees x ≡ None) b e f h k
+
+pub data-agrees : (st : State) (place : ℕ) (h : Header) (d : RedirData) → agrees (data_meaning st place h d) ≡ None
+data-agrees st place h (data_packet.Interrupt endpoint status length body) =
+    none-agreed (is_in_endpoint endpoint) _ _ (arrival-agrees st endpoint false _ (stream_of st.streams endpoint)) (response-agrees st place h _)
+data-agrees st place h (data_packet.Iso endpoint status length body) =
+    none-agreed (is_in_endpoint endpoint) _ _ (arrival-agrees st endpoint true _ (stream_of st.streams endpoint)) refl
+data-agrees st place h d = response-agrees st place h (response_of (Carrying d))
 
 -- ---- items
 

@@ -13,8 +13,8 @@ use Rattle.redir_data.specs.declared.packet.RedirPacket.{RedirPacket}
 use Rattle.redir_data.specs.declared.packet.RedirPacket.TheVariants.{Plain, Carrying}
 use Rattle.control_route.specs.declared.route.Route.{Route}
 use Rattle.control_route.specs.declared.route.Route.TheVariants as route
-use Rattle.gate_core.specs.declared.streams.Up.{Up}
-use Rattle.gate_core.specs.declared.streams.Calls.{Calls}
+use Rattle.gate_core.specs.Ups.{Up}
+use Rattle.gate_core.specs.Calls.{Calls}
 use Rattle.gate_core.specs.Ids.{draw, draws, last_of, times}
 use Rattle.gate_core.specs.Verdict.{Pipe, Control, Bulk, InterruptOut, is_iso}
 use Rattle.gate_core.specs.Requests.{Request}

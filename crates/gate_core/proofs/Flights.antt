@@ -1,6 +1,6 @@
 -- No id is in flight twice, and the ids that an item draws are fresh.
 use Rattle.std.proofs.Common.{◌≡◌, ℕ, ◌+◌, ◌<◌, ◌≤◌, ◌&&◌, Bool, true, false, cond, if◌then◌else◌, not, eqb, List, [], ◌∷◌, ◌++◌, length, map, set, Option, Some, None, refl, sym, ap, subst, ◌∙◌, arith, inl, inr}
-use Rattle.std.specs.Prelude.{◌%◌, ◌||◌, nat_lt, nat_eq, filter, is_none, zip}
+use Rattle.std.specs.Prelude.{◌%◌, ◌||◌, nat_lt, nat_eq, filter, is_none, option_map, zip}
 use Rattle.std.specs.List.{AllByRecursion, IsDistinct}
 use Rattle.std.proofs.lemmas.Bool.{cases_Bool, false≢true}
 use Rattle.std.proofs.lemmas.Bool.Decides.{nat_tests}
@@ -8,39 +8,40 @@ use Rattle.std.proofs.lemmas.List.{length-append, length-map, length-set}
 use Rattle.std.proofs.lemmas.List.Elements.{filter-append}
 use Rattle.control_route.specs.declared.route.Route.{Route}
 use Rattle.control_route.specs.declared.route.Route.TheVariants as route
-use Rattle.usb_base.specs.declared.refusal.Refusal.{Refusal}
-use Rattle.usb_base.specs.declared.transfer.Outcome.{Outcome}
-use Rattle.usbip_op.specs.declared.packet.OpPacket.{OpPacket}
-use Rattle.usbip_op.specs.declared.packet.OpPacket.TheVariants as op
 use Rattle.usbip_urb.specs.declared.packet.UrbPacket.TheVariants as urb
 use Rattle.usbip_urb.specs.declared.client.ClientPacket.TheVariants.{Op, Urb}
-use Rattle.redir_wire.specs.declared.packet.Connect.{Connect}
 use Rattle.redir_wire.specs.declared.packet.Header.{Header}
 use Rattle.redir_wire.specs.declared.packet.RedirControl.TheVariants as plain
-use Rattle.redir_data.specs.declared.packet.RedirPacket.TheVariants.{Plain}
+use Rattle.redir_data.specs.declared.packet.RedirData.{RedirData}
+use Rattle.redir_data.specs.declared.packet.RedirData.TheVariants as data_packet
+use Rattle.redir_data.specs.declared.packet.RedirPacket.TheVariants.{Plain, Carrying}
 use Rattle.gate_core.specs.Items.{Item, Asked, ClientWrong, ClientLeft, Told, HostWrong, HostLeft}
-use Rattle.gate_core.specs.Built.{is_built}
-use Rattle.gate_core.specs.Responses.{Response, response_of}
+use Rattle.gate_core.specs.Fillings.{Fill}
+use Rattle.usb_base.specs.declared.endpoint.EpRow.{EpRow}
+use Rattle.gate_core.specs.Responses.{response_of}
 use Rattle.gate_core.specs.Sound.{HasFewPackets}
 use Rattle.gate_core.specs.Ids.{holds, draws, last_of, greatest, AreFresh, times, Once}
 use Rattle.gate_core.specs.Verdict.{Verdict, Now, Wire, Routed, IsoOut, Stream, goes_by_id}
-use Rattle.gate_core.specs.Marks.{Submission, Effect, Idle, Replies, Imports, Opens, Unbuilt, Unlinks, Agrees, Answers, StreamTold, Disconnects, Ends, Refuses, Mark}
+use Rattle.gate_core.specs.Marks.{Submission, Effect, Idle, Replies, Imports, Opens, Waits, Unlinks, Agrees, Answers, Arrives, StreamTold, Disconnects, Ends, Refuses, Mark}
 use Rattle.gate_core.specs.Sides.{is_client, leaves, is_loss, imports, imported}
-use Rattle.gate_core.specs.Submits.{End, ByClient, ByLoss, pending, opened, own_end, ends, live, is_answered, abandoned}
+use Rattle.gate_core.specs.Submits.{End, ByClient, ByLoss, at_once, is_waiting, pending, opened, own_end, ends, live, is_answered, abandoned}
 use Rattle.gate_core.specs.Flight.{wide_ids, ids_of, in_flight}
 use Rattle.gate_core.specs.State.{State, state_of, flying, next_ids, has_number}
-use Rattle.usb_base.specs.Endpoint.{endpoint_index}
+use Rattle.usb_base.specs.declared.transfer.StreamPacket.{StreamPacket}
+use Rattle.usb_base.specs.Endpoint.{endpoint_index, is_in_endpoint}
 use Rattle.redir_data.specs.declared.packet.RedirPacket.{RedirPacket}
-use Rattle.gate_core.specs.declared.streams.Up.{Up}
-use Rattle.gate_core.specs.declared.streams.Calls.{Calls}
+use Rattle.gate_core.specs.Ups.{Up}
+use Rattle.gate_core.specs.Calls.{Calls}
 use Rattle.gate_core.specs.Requests.{Request, request_of}
-use Rattle.gate_core.specs.Ups.{no_streams, stream_at, raised, unless, lower_at, is_ended, is_success, opened_streams, moved_streams, streams_after, streams}
+use Rattle.stream_buffers.specs.Interrupt.{is_success}
+use Rattle.gate_core.specs.Ups.{no_streams, stream_at, stream_of, raised, unless, lower_at, hold, is_ended, opened_streams, moved_streams, streams_after, streams}
 use Rattle.gate_core.specs.Calls.{called, asking, calls, call_ids}
 use Rattle.gate_core.specs.Packets.{HasRoute, wire_packet, starts, stops, iso_packet, iso_packets, route_packets, packets_of, asked_packets}
 use Rattle.gate_core.proofs.Called.{AreLong, few-ids, long-called, few-stops, few-starts, draws-append, zip-append, last-append, called-append, called-silent, wire-silent, route-silent, iso-silent, times-append, times-called, times-last}
-use Rattle.gate_core.specs.Meaning.{importable, imported_as, op_meaning, verdict_of, answered_as, answer_to, by_response, told_meaning, meaning, drawn_for, drawn_by, mark_of}
+use Rattle.gate_core.specs.Meaning.{verdict_of, by_stream, submission, accepted_as, accepts, arrives, data_meaning, told_meaning, meaning, drawn_for, drawn_by, mark_of}
 use Rattle.gate_core.specs.Past.{is_left_out, past}
-use Rattle.gate_core.proofs.Lists.{length-filter, Each, every, Each-weaker, filter-same, filter-twice, both, filter-none}
+use Rattle.gate_core.proofs.Aside.{HoldsAside, by-test, of-op, of-response}
+use Rattle.gate_core.proofs.Lists.{length-filter, Each, every, Each-weaker, Each-append, Each-filter, filter-same, filter-twice, both, filter-none}
 use Rattle.gate_core.proofs.Steps.{IsWell, submits-is, live-is}
 use Rattle.gate_core.proofs.Runs.{placed-meaning, well}
 use Rattle.gate_core.proofs.Openings.{IsOpening, opening-meaning}
@@ -92,6 +93,7 @@ pub record Sound (ms : List Mark) : Type 0 where
   pub apart : imported ms ≡ true → abandoned ms ≡ []
   pub gone : imported ms ≡ false → live ms ≡ []
   pub once : Once (in_flight ms)
+  pub going : Each (λ s. at_once s.verdict ≡ None) (live ms)
 
 flying-is : (first : ℕ) (ms : List Mark) → flying (state_of first ms) ≡ in_flight ms
 flying-is first ms = ap (λ (l : List Submission). ids_of l ++ ids_of (abandoned ms) ++ call_ids (calls ms)) (submits-is ms (live ms))
@@ -104,16 +106,19 @@ pub streams-long : (ms : List Mark) → length (streams ms) ≡ 32
 streams-long [] = refl
 streams-long (m ∷ ms) = after-long m.what (streams ms) (streams-long ms)
   where
+    raised-long : (up : Up) (ups : List (Option Up)) (o : Option Up) → length ups ≡ 32 → length (raised ups up o) ≡ 32
+    raised-long up ups None h = length-set ups (endpoint_index up.ep) (Some up) ∙ h
+    raised-long up ups (Some before) h = h
+
+    held-long : (ep : ℕ) (packets : List StreamPacket) (ups : List (Option Up)) → length ups ≡ 32 → length (hold ep packets ups) ≡ 32
+    held-long ep packets ups h = length-set ups (endpoint_index ep) (option_map (λ (up : Up). record up { held = packets }) (stream_at ups ep)) ∙ h
+
     opened-long : (v : Verdict) (ep : ℕ) (ups : List (Option Up)) → length ups ≡ 32 → length (opened_streams v ep ups) ≡ 32
     opened-long (Now status) ep ups h = h
     opened-long (Wire pipe) ep ups h = h
     opened-long (Routed r) ep ups h = length-map ups (unless (is_ended (Some r))) ∙ h
-    opened-long (IsoOut row) ep ups h = raised-long (stream_at ups ep)
-      where
-        raised-long : (o : Option Up) → length (raised ups (record { ep = ep; row = row }) o) ≡ 32
-        raised-long None = length-set ups (endpoint_index ep) (Some (record { ep = ep; row = row })) ∙ h
-        raised-long (Some up) = h
-    opened-long (Stream row) ep ups h = h
+    opened-long (IsoOut row) ep ups h = raised-long (record { ep = ep; row = row; held = [] }) ups (stream_at ups ep) h
+    opened-long (Stream row) ep ups h = raised-long (record { ep = ep; row = row; held = [] }) ups (stream_at ups ep) h
 
     lower-long : (b : Bool) (ep : ℕ) (ups : List (Option Up)) → length ups ≡ 32 → length (cond b (set ups (endpoint_index ep) None) ups) ≡ 32
     lower-long true ep ups h = length-set ups (endpoint_index ep) None ∙ h
@@ -121,6 +126,8 @@ streams-long (m ∷ ms) = after-long m.what (streams ms) (streams-long ms)
 
     moved-long : (e : Effect) (ups : List (Option Up)) → length ups ≡ 32 → length (moved_streams e ups) ≡ 32
     moved-long (Opens s) ups h = opened-long s.verdict s.request.transfer.ep ups h
+    moved-long (Waits s fill) ups h = held-long s.request.transfer.ep fill.left (opened_streams s.verdict s.request.transfer.ep ups) (opened-long s.verdict s.request.transfer.ep ups h)
+    moved-long (Arrives ep fill) ups h = held-long ep fill.left ups h
     moved-long (StreamTold id ep status) ups h = elim (is_success status) as (λ b. length (cond b ups (lower_at ep ups)) ≡ 32) [ true ↦ h | false ↦ lower-long (nat_lt (ep % 128) 16) ep ups h ]
     moved-long _ ups h = h
 
@@ -182,10 +189,11 @@ alone (Imports reply) h = record { stays = refl; keeps = refl }
 alone Idle h = absurd (false≢true h)
 alone (Replies reply) h = absurd (false≢true h)
 alone (Opens s) h = absurd (false≢true h)
-alone (Unbuilt s place) h = absurd (false≢true h)
+alone (Waits s fill) h = absurd (false≢true h)
 alone (Unlinks by target) h = absurd (false≢true h)
 alone (Agrees caps) h = absurd (false≢true h)
 alone (Answers id outcome) h = absurd (false≢true h)
+alone (Arrives ep fill) h = absurd (false≢true h)
 alone (StreamTold id ep status) h = absurd (false≢true h)
 alone (Disconnects id) h = absurd (false≢true h)
 alone (Ends side) h = absurd (false≢true h)
@@ -198,7 +206,7 @@ AtMostOne (s ∷ t ∷ ss) = ⊥
 
 opened-one : (e : Effect) → AtMostOne (opened e)
 opened-one (Opens s) = tt
-opened-one (Unbuilt s place) = tt
+opened-one (Waits s fill) = tt
 opened-one _ = tt
 
 both-same : (b : Bool) → both b b ≡ b
@@ -262,6 +270,25 @@ lives-on : (b : Bool) → is_none (cond {A = Option End} b None None) ≡ true
 lives-on true = refl
 lives-on false = refl
 
+-- one that waits for a stream's packets draws an id where the stream is started
+starts-more : (st : State) (e : Effect) (s : Submission) (row : EpRow) → opened e ≡ s ∷ [] → goes_by_id s.verdict ≡ false →
+    asked_packets st.streams e ≡ starts (stream_at st.streams s.request.transfer.ep) s.request.transfer.ep row → Adds st e
+starts-more st e s row one by_id are = record {
+  count = length (asked_packets st.streams e);
+  few = omega (arith, ap length are, few-starts (stream_at st.streams s.request.transfer.ep) s.request.transfer.ep row);
+  adds = λ q.
+      let none : times q (ids_of (filter (λ t. is_none (ends e t)) (opened e))) ≡ times q (ids_of (filter (λ t. is_none (ends e t)) (s ∷ []))) = ap (λ (l : List Submission). times q (ids_of (filter (λ t. is_none (ends e t)) l))) one in
+      let nobody : times q (ids_of (s ∷ [])) ≡ 0 = ap (times q) (none-by-id s by_id) in
+      omega (arith, none, nobody, one-kept e s q, times-called q (drawn_by st e) (asked_packets st.streams e) st.calls);
+}
+
+waits-more : (st : State) (s : Submission) (fill : Fill) (v : Verdict) → is_waiting v ≡ true → Adds st (Waits (record s { verdict = v }) fill)
+waits-more st s fill (Now status) h = absurd (false≢true h)
+waits-more st s fill (Wire pipe) h = absurd (false≢true h)
+waits-more st s fill (Routed r) h = absurd (false≢true h)
+waits-more st s fill (IsoOut row) h = absurd (false≢true h)
+waits-more st s fill (Stream row) h = starts-more st (Waits (record s { verdict = Stream row }) fill) (record s { verdict = Stream row }) row refl refl refl
+
 opens-more : (st : State) (s : Submission) (v : Verdict) → length st.streams ≡ 32 → HasRoute v →
     (is_none (ends (Opens (record s { verdict = v })) (record s { verdict = v })) ≡ true → goes_by_id v ≡ true → s.id ≡ last_of 0 (drawn_for st s.request v)) → Adds st (Opens (record s { verdict = v }))
 opens-more st s (Now status) long some drawn = record {
@@ -269,11 +296,7 @@ opens-more st s (Now status) long some drawn = record {
   few = omega arith;
   adds = λ q. omega (arith, one-kept (Opens (record s { verdict = Now status })) (record s { verdict = Now status }) q);
 }
-opens-more st s (Stream row) long some drawn = record {
-  count = 0;
-  few = omega arith;
-  adds = λ q. omega (arith, one-kept (Opens (record s { verdict = Stream row })) (record s { verdict = Stream row }) q);
-}
+opens-more st s (Stream row) long some drawn = starts-more st (Opens (record s { verdict = Stream row })) (record s { verdict = Stream row }) row refl refl refl
 opens-more st s (Wire pipe) long some drawn = record {
   count = 1;
   few = omega arith;
@@ -322,7 +345,8 @@ opens-more st s (Routed r) long some drawn =
 
 more : (st : State) (e : Effect) → length st.streams ≡ 32 → IsOpening st e → Adds st e
 more st (Opens s) long o = opens-more st s s.verdict long o.routes.0 o.drawn.0
-more st (Unbuilt s place) long o = all-stops st (Unbuilt s place) long refl refl
+more st (Waits s fill) long o = waits-more st s fill s.verdict o.waits
+more st (Arrives ep fill) long o = no-more st (Arrives ep fill) refl refl
 more st (Ends side) long o = side-stops st (Ends side) (is_client side) long refl (either (is_client side) (stops (is_ended None) st.streams))
   where
     either : (b : Bool) (ps : List RedirPacket) → cond (b || false) ps [] ≡ cond b ps []
@@ -395,6 +419,7 @@ module _ (first : ℕ) (ms : List Mark) (m : Mark) (w : IsWell (m ∷ ms)) (o : 
             let f = filter-same-twice (live ms) q in
             let k = kept-once q (times q (ids_of (abandoned (m ∷ ms)))) (omega (arith, a, d', e, f)) in
             omega (arith, b, b', c, k);
+        going = subst (Each (λ t. at_once t.verdict ≡ None)) (sym empty) tt;
       }
 
   sound-loses : leaves m.what ≡ false → is_loss m.what ≡ true → Sound (m ∷ ms)
@@ -414,6 +439,7 @@ module _ (first : ℕ) (ms : List Mark) (m : Mark) (w : IsWell (m ∷ ms)) (o : 
             let d' : times q (ids_of (abandoned (m ∷ ms))) ≡ 0 = ap (λ (l : List Submission). times q (ids_of l)) rest in
             let k = kept-once q 0 (omega arith) in
             omega (arith, b, b', c, d', k);
+        going = subst (Each (λ t. at_once t.verdict ≡ None)) (sym empty) tt;
       }
 
   -- the new one finds room, and its id is free
@@ -426,6 +452,16 @@ module _ (first : ℕ) (ms : List Mark) (m : Mark) (w : IsWell (m ∷ ms)) (o : 
       by true e = let h = r.0 e in omega arith
       by false e = omega (arith, s.few)
   room-kept (t ∷ u ∷ os) a r = absurd a
+
+  -- nor is it answered at once where it lives on
+  still-going : (os : List Submission) → Each (λ t. is_none (ends m.what t) ≡ true → at_once t.verdict ≡ None) os → Each (λ t. at_once t.verdict ≡ None) (filter (λ t. is_none (ends m.what t)) os)
+  still-going [] r = tt
+  still-going (t ∷ os) r = by (still-going os r.1) (is_none (ends m.what t)) refl
+    where
+      by : Each (λ t. at_once t.verdict ≡ None) (filter (λ t. is_none (ends m.what t)) os) → (b : Bool) → is_none (ends m.what t) ≡ b →
+          Each (λ t. at_once t.verdict ≡ None) (cond b (t ∷ filter (λ t. is_none (ends m.what t)) os) (filter (λ t. is_none (ends m.what t)) os))
+      by rest true e = (r.0 e, rest)
+      by rest false e = rest
 
   none-opened : (os : List Submission) → Each (λ t. imported ms ≡ true) os → imported ms ≡ false → os ≡ []
   none-opened [] h k = refl
@@ -472,6 +508,10 @@ module _ (first : ℕ) (ms : List Mark) (m : Mark) (w : IsWell (m ∷ ms)) (o : 
             let g = times-filter q (λ t. not (is_answered m.what t)) (abandoned ms) in
             let k = kept-once q (times q (ids_of (filter (λ t. is_none (ends m.what t)) (live ms))) + times q (ids_of (abandoned (m ∷ ms)))) (omega (arith, a, e, f, g)) in
             omega (arith, b, b', c, d', k);
+        going = subst (Each (λ t. at_once t.verdict ≡ None)) (sym (kept ∙ parts))
+            (Each-append (λ t. at_once t.verdict ≡ None) (filter (λ t. is_none (ends m.what t)) (live ms)) (filter (λ t. is_none (ends m.what t)) (opened m.what))
+            (Each-filter (λ t. at_once t.verdict ≡ None) (λ t. is_none (ends m.what t)) (live ms) s.going)
+            (still-going (opened m.what) o.going));
       }
 
   sound-after : Sound (m ∷ ms)
@@ -484,7 +524,7 @@ module _ (first : ℕ) (ms : List Mark) (m : Mark) (w : IsWell (m ∷ ms)) (o : 
 -- ---- all items
 
 pub sound : (first : ℕ) (xs : List Item) → Sound (past first xs)
-sound first [] = record { few = omega arith; left = omega arith; apart = λ e. refl; gone = λ e. refl; once = λ q. omega arith }
+sound first [] = record { few = omega arith; left = omega arith; apart = λ e. refl; gone = λ e. refl; once = λ q. omega arith; going = tt }
 sound first (x ∷ xs) =
     elim (is_left_out (state_of first (past first xs)) x) as (λ b. Sound (cond b (past first xs) (mark_of (state_of first (past first xs)) x ∷ past first xs))) [
       | true ↦ sound first xs
@@ -503,7 +543,7 @@ few-packets ups (Wire pipe) r long few = omega arith
 few-packets ups (Routed route) r long few = omega (arith, length-append (stops (is_ended (Some route)) ups) (route_packets route), few-stops (is_ended (Some route)) ups, long, few-route route)
 few-packets ups (IsoOut row) r long few =
     omega (arith, length-append (starts (stream_at ups r.transfer.ep) r.transfer.ep row) (iso_packets r), few-starts (stream_at ups r.transfer.ep) r.transfer.ep row, length-map r.descs (iso_packet r.transfer.ep r.transfer.body), few)
-few-packets ups (Stream row) r long few = omega arith
+few-packets ups (Stream row) r long few = omega (arith, few-starts (stream_at ups r.transfer.ep) r.transfer.ep row)
 
 none-fresh : (m : ℕ) (flying : List ℕ) → AreFresh m flying []
 unfolding IsDistinct
@@ -511,7 +551,7 @@ none-fresh m flying = record { fit = tt; free = tt; differ = tt }
 
 drawn-fresh : (first : ℕ) (ms : List Mark) (e : Effect) → Sound ms → Each (λ t. length t.request.descs ≤ 1024) (opened e) → AreFresh (greatest (wide_ids (state_of first ms).agreed)) (flying (state_of first ms)) (drawn_by (state_of first ms) e)
 drawn-fresh first ms (Opens t) s few = fresh-ids first ms (length (packets_of (streams ms) t.verdict t.request)) s (few-packets (streams ms) t.verdict t.request (streams-long ms) few.0)
-drawn-fresh first ms (Unbuilt t place) s few = fresh-ids first ms (length (stops (is_ended None) (streams ms))) s (omega (arith, few-stops (is_ended None) (streams ms), streams-long ms))
+drawn-fresh first ms (Waits t fill) s few = fresh-ids first ms (length (packets_of (streams ms) t.verdict t.request)) s (few-packets (streams ms) t.verdict t.request (streams-long ms) few.0)
 drawn-fresh first ms (Ends side) s few = fresh-ids first ms (length (asked_packets (streams ms) (Ends side))) s (few-left (is_client side || false))
   where
     few-left : (b : Bool) → length (cond b (stops (is_ended None) (streams ms)) []) ≤ 1025
@@ -528,42 +568,42 @@ drawn-fresh first ms _ s few = none-fresh _ _
 abbrev OpensFew : Effect → Type 0
 OpensFew e = Each (λ t. length t.request.descs ≤ 1024) (opened e)
 
-either : (b : Bool) (e f : Effect) → OpensFew e → OpensFew f → OpensFew (cond b e f)
-either true e f h k = h
-either false e f h k = k
+few-aside : HoldsAside OpensFew
+few-aside = record { idle = tt; replies = λ p. tt; imports = λ p. tt; answers = λ id o. tt; refuses = λ r. tt }
 
-few-import : (st : State) (o : Option Connect) → OpensFew (imported_as st o)
-few-import st None = tt
-few-import st (Some c) = tt
+few-arrival : (st : State) (ep : ℕ) (iso : Bool) (packet : StreamPacket) (o : Option Up) → OpensFew (arrives st ep iso packet o)
+few-arrival st ep iso packet None = tt
+few-arrival st ep iso packet (Some up) = tt
 
-few-op : (st : State) (place : ℕ) (p : OpPacket) → OpensFew (op_meaning st place p)
-few-op st place (op.ReqDevlist status) = either st.imported _ _ tt tt
-few-op st place (op.ReqImport status busid) = either st.imported _ _ tt (few-import st (importable st busid))
-few-op st place (op.RepDevlist status devices) = tt
-few-op st place (op.RepImport status device) = tt
-
-few-answered : (id : ℕ) (o : Outcome) (r : Option Refusal) → OpensFew (answered_as id o r)
-few-answered id o None = tt
-few-answered id o (Some r) = tt
-
-few-answer : (st : State) (place : ℕ) (h : Header) (response : Response) (s : Option Submission) → OpensFew (answer_to st place h response s)
-few-answer st place h response None = tt
-few-answer st place h response (Some s) = few-answered h.id _ _
-
-few-response : (st : State) (place : ℕ) (h : Header) (response : Option Response) → OpensFew (by_response st place h response)
-few-response st place h None = tt
-few-response st place h (Some response) = few-answer st place h response _
+few-data : (st : State) (place : ℕ) (h : Header) (d : RedirData) → OpensFew (data_meaning st place h d)
+few-data st place h (data_packet.Interrupt endpoint status length body) =
+    by-test OpensFew (is_in_endpoint endpoint) _ _ (few-arrival st endpoint false _ (stream_of st.streams endpoint)) (of-response OpensFew few-aside st place h _)
+few-data st place h (data_packet.Iso endpoint status length body) = by-test OpensFew (is_in_endpoint endpoint) _ _ (few-arrival st endpoint true _ (stream_of st.streams endpoint)) tt
+few-data st place h d = of-response OpensFew few-aside st place h (response_of (Carrying d))
 
 few-told : (st : State) (place : ℕ) (h : Header) (p : RedirPacket) → OpensFew (told_meaning st place h p)
 few-told st place h (Plain (plain.Hello hello)) = tt
 few-told st place h (Plain plain.Disconnect) = tt
-few-told st place h p = few-response st place h (response_of p)
+few-told st place h (Carrying d) = few-data st place h d
+few-told st place h p = of-response OpensFew few-aside st place h (response_of p)
+
+few-accepted : (st : State) (s : Submission) (v : Verdict) → length s.request.descs ≤ 1024 → OpensFew (accepted_as st s v)
+few-accepted st s (Now status) few = (few, tt)
+few-accepted st s (Wire pipe) few = (few, tt)
+few-accepted st s (Routed r) few = (few, tt)
+few-accepted st s (IsoOut row) few = (few, tt)
+few-accepted st s (Stream row) few = (few, tt)
+
+few-submit : (st : State) (r : Request) (v : Verdict) → length r.descs ≤ 1024 → OpensFew (accepts st r v)
+few-submit st r v few =
+    let kept = by_stream (stream_at st.streams r.transfer.ep) v in
+    few-accepted st (submission st r kept (drawn_for st r kept)) kept few
 
 few-opened : (st : State) (x : Item) → HasFewPackets x → OpensFew (meaning st x)
-few-opened st (Asked place (Op p)) few = few-op st place p
+few-opened st (Asked place (Op p)) few = of-op OpensFew few-aside st place p
 few-opened st (Asked place (Urb (urb.Submit s))) few =
-    either (not st.imported) _ _ tt (either (has_number st s.head.seqnum) _ _ tt (either (is_built (verdict_of st (request_of s))) _ _ (few, tt) (few, tt)))
-few-opened st (Asked place (Urb (urb.Unlink u))) few = either (not st.imported) _ _ tt tt
+    by-test OpensFew (not st.imported) _ _ tt (by-test OpensFew (has_number st s.head.seqnum) _ _ tt (few-submit st (request_of s) (verdict_of st (request_of s)) few))
+few-opened st (Asked place (Urb (urb.Unlink u))) few = by-test OpensFew (not st.imported) _ _ tt tt
 few-opened st (Asked place (Urb (urb.RetSubmit r))) few = tt
 few-opened st (Asked place (Urb (urb.RetUnlink r))) few = tt
 few-opened st (ClientWrong place reason) few = tt

@@ -14,7 +14,7 @@ use Rattle.gate_core.specs.Marks.{Submission}
 use Rattle.gate_core.specs.Submits.{Pending}
 use Rattle.gate_core.specs.Flight.{wide_ids, ids_of}
 use Rattle.redir_data.specs.declared.packet.RedirPacket.{RedirPacket}
-use Rattle.gate_core.specs.declared.streams.Called.{Called}
+use Rattle.gate_core.specs.declared.calls.Called.{Called}
 use Rattle.gate_core.specs.Marks.{Effect}
 use Rattle.gate_core.specs.Ups.{is_ended}
 use Rattle.gate_core.specs.Calls.{called, call_ids, last_or}

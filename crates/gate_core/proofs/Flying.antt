@@ -10,7 +10,7 @@ use Rattle.unlink_race.specs.declared.live.Live.{Live}
 use Rattle.unlink_race.specs.Requests.{Requests}
 use Rattle.unlink_race.specs.Searches.{has_id, goes_by_id}
 use Rattle.gate_core.specs.Ids.{holds, greatest, Fits}
-use Rattle.gate_core.specs.declared.streams.Calls.{Calls}
+use Rattle.gate_core.specs.Calls.{Calls}
 use Rattle.gate_core.specs.Calls.{call_ids}
 use Rattle.gate_core.specs.inner.Flying.{row_ids, ids_in}
 use Rattle.gate_core.specs.inner.Calling.{is_id}

@@ -14,7 +14,7 @@ use Rattle.redir_wire.specs.declared.packet.RedirControl.TheVariants as plain
 use Rattle.redir_wire.specs.declared.packet.Way.TheVariants.{ToGuest}
 use Rattle.redir_wire.specs.Header.{IdFits}
 use Rattle.redir_data.specs.declared.packet.RedirPacket.{RedirPacket}
-use Rattle.redir_data.specs.declared.packet.RedirPacket.TheVariants.{Plain}
+use Rattle.redir_data.specs.declared.packet.RedirPacket.TheVariants.{Plain, Carrying}
 use Rattle.redir_data.specs.declared.state.RedirState.{RedirState}
 use Rattle.redir_data.specs.Streams.{start, advanced, after}
 use Rattle.redir_data.specs.sound.Joined.{stream_sound}
@@ -29,7 +29,7 @@ use Rattle.gate_core.specs.Meaning.{told_meaning, mark_of}
 use Rattle.gate_core.specs.Past.{is_left_out, past}
 use Rattle.gate_core.specs.Stands.{told}
 use Rattle.gate_core.specs.inner.Holds.{ResponseFits, HelloFits, ToldFits}
-use Rattle.gate_core.proofs.Apart.{asked-host, wrong-host, left-host, asked-agreed, wrong-agreed, left-agreed, response-agrees}
+use Rattle.gate_core.proofs.Apart.{asked-host, wrong-host, left-host, asked-agreed, wrong-agreed, left-agreed, response-agrees, data-agrees}
 use Rattle.gate_core.proofs.Fitting.{IsInStep, told_fits}
 
 -- ---- any stream
@@ -64,6 +64,7 @@ fits-at {P = P} format next sound a bytes given left i are is =
 told-step : (st : State) (place : ℕ) (h : Header) (p : RedirPacket) (s : RedirState) (caps : Caps) → IsInStep s caps → IsInStep (advanced s p) (agreed_after (told_meaning st place h p) caps)
 told-step st place h (Plain (plain.Hello hello)) s caps step = record { caps_are = refl; none_yet = λ e. absurd (true≢false (sym e)) }
 told-step st place h (Plain plain.Disconnect) s caps step = step
+told-step st place h (Carrying d) s caps step = subst (IsInStep s) (sym (ap (λ (o : Option Caps). unwrap_or o caps) (data-agrees st place h d))) step
 told-step st place h p s caps step = subst (IsInStep s) (sym (ap (λ (o : Option Caps). unwrap_or o caps) (response-agrees st place h (response_of p)))) step
 
 before-by : (ms : List Mark) (m : Mark) (b : Bool) → host_over (cond b ms (m ∷ ms)) ≡ false → host_over ms ≡ false

@@ -17,13 +17,13 @@ use Rattle.gate_core.specs.declared.note.Note.{Note}
 use Rattle.gate_core.specs.declared.note.Note.TheVariants as note
 use Rattle.gate_core.specs.declared.kept.Kept.{Kept}
 use Rattle.gate_core.specs.Items.{capped}
-use Rattle.gate_core.specs.Marks.{Submission, Effect, Ends, Refuses, Unbuilt}
+use Rattle.gate_core.specs.Marks.{Submission, Effect, Ends, Refuses}
 use Rattle.gate_core.specs.Facts.{no_facts, tell}
 use Rattle.gate_core.specs.Sides.{refused_at, leaves, is_loss, closes_host, imports, refuses_client, ends_client, agrees, turned}
 use Rattle.gate_core.specs.Submits.{Pending, ByClient, ByLoss, opened, own_end, ends, is_answered}
 use Rattle.std.proofs.lemmas.Grind.{flat_map-append}
 use Rattle.redir_data.specs.declared.packet.RedirPacket.{RedirPacket}
-use Rattle.gate_core.specs.declared.streams.Called.{Called}
+use Rattle.gate_core.specs.declared.calls.Called.{Called}
 use Rattle.gate_core.specs.Ups.{no_streams, is_ended, moved_streams}
 use Rattle.gate_core.specs.Packets.{stops, asked_packets}
 use Rattle.gate_core.specs.Calls.{last_or, moved_fence}
@@ -33,7 +33,7 @@ use Rattle.gate_core.specs.Verdict.{Verdict, Now, Wire, Routed, IsoOut, Stream, 
 use Rattle.gate_core.specs.Meaning.{mark_as, drawn_by}
 use Rattle.gate_core.specs.Answers.{answers_at}
 use Rattle.gate_core.specs.Output.{fresh, present, answered, replies, cancels, cancel, acknowledgements, to_client}
-use Rattle.gate_core.specs.Notes.{when, import_notes, submit_notes, unlink_notes, answer_notes, is_by_answer, refusal_notes, is_by_client, dropped}
+use Rattle.gate_core.specs.Notes.{when, import_notes, submit_notes, unlink_notes, arrival_notes, answer_notes, is_by_answer, refusal_notes, is_by_client, dropped}
 use Rattle.gate_core.specs.All.{is_ret_submit, is_won_unlink}
 use Rattle.gate_core.specs.Bytes.{host_packet_bytes}
 use Rattle.gate_core.specs.Machine.{ask}
@@ -116,7 +116,7 @@ pub record IsLeaving (st : State) (e : Effect) (first : List Note) : Type 0 wher
   pub cancel_is : (p : Pending) → cancels e p ≡ (is_wire p.submit.verdict && is_none p.unlinker)
   pub asked : asked_packets st.streams e ≡ stops (is_ended None) st.streams
   pub no_word : (caps : Caps) → acknowledgements caps e ≡ []
-  pub told_first : import_notes e ++ submit_notes e ++ unlink_notes e ≡ first
+  pub told_first : import_notes e ++ submit_notes e ++ unlink_notes e ++ arrival_notes e ≡ first
 
 and-true : (b : Bool) → (b && true) ≡ b
 and-true true = refl
@@ -151,20 +151,6 @@ refusal-leaves st r e =
       no_word = λ caps. refl;
       told_first = refl;
     })
-
-pub unbuilt-leaves : (st : State) (s : Submission) (place : ℕ) → IsLeaving st (Unbuilt s place) (note.Submitted s.request.number s.id ∷ [])
-unbuilt-leaves st s place = record {
-  gone = refl;
-  keeps = refl;
-  open_host = refl;
-  no_caps = refl;
-  no_import = refl;
-  silent = refl;
-  cancel_is = λ p. and-true (is_wire p.submit.verdict && is_none p.unlinker);
-  asked = refl;
-  no_word = λ caps. refl;
-  told_first = refl;
-}
 
 module _ (st : State) (e : Effect) (first : List Note) (l : IsLeaving st e first) where
   none-pass : (test : Pending → Bool) → ((p : Pending) → test p ≡ false) → (ps : List Pending) → filter test ps ≡ []

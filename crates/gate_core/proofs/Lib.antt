@@ -3,6 +3,7 @@ mod Rows
 pub mod Steps
 pub mod Runs
 pub mod Openings
+mod Aside
 pub mod Cycle
 pub mod Draws
 pub mod Called
@@ -24,9 +25,15 @@ pub mod Flying
 pub mod Answered
 pub mod Fronts
 pub mod Lost
+pub mod Waiting
+pub mod Enders
+pub mod StreamEnds
+pub mod Changed
 pub mod Left
 pub mod Steady
 pub mod Reading
+pub mod Sorting
+pub mod Accepting
 pub mod Opened
 pub mod Flown
 pub mod Unlinked
@@ -45,3 +52,11 @@ pub mod Held
 pub mod Bounds
 pub mod Responding
 pub mod Answering
+mod Places
+mod SoFar
+mod Filled
+mod Fillers
+mod Arrived
+mod Joined
+mod Room
+pub mod Lent

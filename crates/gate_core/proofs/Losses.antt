@@ -8,7 +8,7 @@ use Rattle.std.proofs.lemmas.List.Concat.{flat_map_single}
 use Rattle.usb_base.specs.declared.side.Side.TheVariants.{Client, Host}
 use Rattle.usbip_urb.specs.declared.client.ClientPacket.TheVariants.{Urb}
 use Rattle.gate_core.specs.Items.{Item}
-use Rattle.gate_core.specs.Marks.{Submission, Effect, Idle, Replies, Imports, Opens, Unbuilt, Unlinks, Agrees, Answers, StreamTold, Disconnects, Ends, Refuses, Mark}
+use Rattle.gate_core.specs.Marks.{Submission, Effect, Idle, Replies, Imports, Opens, Waits, Unlinks, Agrees, Answers, Arrives, StreamTold, Disconnects, Ends, Refuses, Mark}
 use Rattle.gate_core.specs.Sides.{is_client, leaves, is_loss}
 use Rattle.gate_core.specs.Submits.{ByClient, ByLoss, opened, own_end, ends, live}
 use Rattle.gate_core.specs.State.{State, state_of}
@@ -40,10 +40,11 @@ quiet st Idle h = absurd (false≢true h)
 quiet st (Replies reply) h = absurd (false≢true h)
 quiet st (Imports reply) h = absurd (false≢true h)
 quiet st (Opens s) h = absurd (false≢true h)
-quiet st (Unbuilt s place) h = absurd (false≢true h)
+quiet st (Waits s fill) h = absurd (false≢true h)
 quiet st (Unlinks by target) h = absurd (false≢true h)
 quiet st (Agrees caps) h = absurd (false≢true h)
 quiet st (Answers id outcome) h = absurd (false≢true h)
+quiet st (Arrives ep fill) h = absurd (false≢true h)
 quiet st (StreamTold id ep status) h = absurd (false≢true h)
 
 -- so it ends each submit as lost

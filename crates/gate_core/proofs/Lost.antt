@@ -28,7 +28,7 @@ use Rattle.gate_core.specs.Verdict.{is_wire, goes_by_id}
 use Rattle.gate_core.specs.Meaning.{mark_as, drawn_by}
 use Rattle.gate_core.specs.Answers.{lost_answer}
 use Rattle.gate_core.specs.Output.{present, cancels, cancel, acknowledgements, to_client}
-use Rattle.gate_core.specs.Notes.{when, import_notes, submit_notes, unlink_notes, answer_notes, is_by_answer, refusal_notes, is_by_client, dropped}
+use Rattle.gate_core.specs.Notes.{when, import_notes, submit_notes, unlink_notes, arrival_notes, answer_notes, is_by_answer, refusal_notes, is_by_client, dropped}
 use Rattle.gate_core.specs.All.{is_ret_submit, is_won_unlink}
 use Rattle.gate_core.specs.Bytes.{host_packet_bytes}
 use Rattle.gate_core.specs.Machine.{ask}
@@ -94,7 +94,7 @@ pub record IsLoss (st : State) (e : Effect) : Type 0 where
   pub no_cancel : (p : Pending) → cancels e p ≡ false
   pub no_packets : asked_packets st.streams e ≡ []
   pub no_ids : drawn_by st e ≡ []
-  pub no_notes : import_notes e ++ submit_notes e ++ unlink_notes e ≡ []
+  pub no_notes : import_notes e ++ submit_notes e ++ unlink_notes e ++ arrival_notes e ≡ []
 
 pub and-false : (b : Bool) → (b && false) ≡ false
 and-false true = refl

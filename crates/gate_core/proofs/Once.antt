@@ -1,5 +1,5 @@
 -- For each number, submits and their ends alternate; and each end but the client's leaving sends one answer.
-use Rattle.std.proofs.Common.{◌≡◌, ℕ, ◌≤◌, ◌||◌, ◌&&◌, Bool, true, false, cond, not, leb, List, [], ◌∷◌, ◌++◌, length, map, Option, Some, None, refl, sym, ap, subst, ◌∙◌, arith}
+use Rattle.std.proofs.Common.{◌≡◌, ℕ, ◌≤◌, ◌||◌, ◌&&◌, ◌==◌, Bool, true, false, cond, not, leb, List, [], ◌∷◌, ◌++◌, length, map, Option, Some, None, refl, sym, ap, subst, ◌∙◌, arith}
 use Rattle.std.specs.Prelude.{filter, is_none, is_some, pos}
 use Rattle.std.specs.List.{list_any, flat_map}
 use Rattle.std.proofs.lemmas.Bool.{eqb-true, false≢true}
@@ -10,18 +10,19 @@ use Rattle.usbip_urb.specs.declared.client.ClientPacket.{ClientPacket}
 use Rattle.usbip_urb.specs.declared.client.ClientPacket.TheVariants.{Urb}
 use Rattle.gate_core.specs.Items.{Item}
 use Rattle.gate_core.specs.Errno.{econnreset}
-use Rattle.gate_core.specs.Verdict.{is_wire}
-use Rattle.gate_core.specs.Marks.{Submission, Effect, Replies, Imports, Opens, Unbuilt, Unlinks, Mark}
+use Rattle.gate_core.specs.Verdict.{Verdict, Now, Wire, Routed, IsoOut, Stream, goes_by_id, is_wire}
+use Rattle.gate_core.specs.Fillings.{Transferred, Isochronous}
+use Rattle.gate_core.specs.Marks.{Submission, Effect, Replies, Imports, Opens, Waits, Unlinks, Mark}
 use Rattle.gate_core.specs.Sides.{or_else}
-use Rattle.gate_core.specs.Submits.{End, AtOnce, Sent, ByClient, ByLoss, ByAnswer, opened, accepted, ends, end_of, is_live, live, ended, asks, unlinker, Pending, pending}
+use Rattle.gate_core.specs.Submits.{End, AtOnce, Sent, ByClient, ByLoss, ByAnswer, ByUnlink, ByChange, ByStatus, ByPackets, opened, accepted, is_waiting, ends, end_of, is_live, live, ended, asks, unlinker, Pending, pending}
 use Rattle.gate_core.specs.State.{State, state_of, is_number, has_number}
 use Rattle.gate_core.specs.Meaning.{meaning, mark_of}
 use Rattle.gate_core.specs.Past.{is_left_out, past}
 use Rattle.gate_core.specs.Answers.{is_cancelled, ret_unlink, with_outcome, answers_at}
-use Rattle.gate_core.specs.Output.{present, answered, is_target, replies, to_client}
+use Rattle.gate_core.specs.Output.{present, answered, is_target, is_taken, replies, to_client}
 use Rattle.gate_core.specs.Notes.{is_by_client}
 use Rattle.gate_core.specs.All.{all_of}
-use Rattle.gate_core.specs.Turns.{Turn, Begin, Finish, begins, turns, Alternate, Answer, answers_in, answered_ends, wins, answer, answer_of}
+use Rattle.gate_core.specs.Turns.{Turn, Begin, Finish, begins, turns, Alternate, Answer, answers_in, answered_ends, answer, answer_by, answer_of}
 use Rattle.gate_core.proofs.Lists.{Each, every, Each-weaker, Each-append, Each-filter, filter-same, filter-twice, filter-map, filter-passes, map-same, map-map, both}
 use Rattle.gate_core.proofs.Steps.{IsWell, submits-is, live-is, Present, present-each, present-is, asked}
 use Rattle.gate_core.proofs.Runs.{well}
@@ -93,7 +94,7 @@ record Goes (l : List Submission) (ts : List Turn) : Type 0 where
 
 opened-one : (e : Effect) → AtMostOne (opened e)
 opened-one (Opens s) = tt
-opened-one (Unbuilt s place) = tt
+opened-one (Waits s fill) = tt
 opened-one _ = tt
 
 -- one more may begin, of this number or another
@@ -164,9 +165,13 @@ is_counted (Some Sent) = true
 is_counted (Some ByClient) = false
 is_counted (Some ByLoss) = true
 is_counted (Some (ByAnswer outcome)) = true
+is_counted (Some (ByUnlink by)) = true
+is_counted (Some ByChange) = true
+is_counted (Some (ByStatus status)) = true
+is_counted (Some (ByPackets given)) = true
 
 abbrev due : Submission → Option ℕ → Option End → Answer
-due s by e = answer s.request.number by (wins s e)
+due s by e = answer_by s by e
 
 one-answer : (s : Submission) (by : Option ℕ) (e : Option End) → said (map Urb (answers_at s by e)) ≡ cond (is_counted e) (due s by e ∷ []) []
 one-answer s by None = refl
@@ -181,6 +186,15 @@ one-answer s None (Some (ByAnswer o)) = refl
 one-answer s (Some by) (Some (ByAnswer o)) =
     elim (is_wire s.verdict && is_cancelled o.status) as (λ b. said (map Urb (cond b (ret_unlink by econnreset ∷ []) (with_outcome s.request o ∷ ret_unlink by (pos 0) ∷ []))) ≡ answer s.request.number (Some by) b ∷ [])
     [ true ↦ refl | false ↦ refl ]
+one-answer s by (Some (ByUnlink other)) = refl
+one-answer s None (Some ByChange) = refl
+one-answer s (Some by) (Some ByChange) = refl
+one-answer s None (Some (ByStatus status)) = refl
+one-answer s (Some by) (Some (ByStatus status)) = refl
+one-answer s None (Some (ByPackets (Transferred o))) = refl
+one-answer s (Some by) (Some (ByPackets (Transferred o))) = refl
+one-answer s None (Some (ByPackets (Isochronous o))) = refl
+one-answer s (Some by) (Some (ByPackets (Isochronous o))) = refl
 
 joined : (e : Effect) (ps : List Pending) → said (map Urb (flat_map (λ p. answers_at p.submit p.unlinker (ends e p.submit)) ps)) ≡ map (λ p. due p.submit p.unlinker (ends e p.submit)) (filter (λ p. is_counted (ends e p.submit)) ps)
 joined e [] = refl
@@ -197,7 +211,7 @@ joined e (p ∷ ps) =
 silent : (st : State) (e : Effect) → said (replies st e) ≡ []
 silent st (Replies reply) = refl
 silent st (Imports reply) = refl
-silent st (Unlinks by target) = elim (list_any (is_target target) st.live) as (λ b. said (cond b [] (Urb (ret_unlink by (pos 0)) ∷ [])) ≡ []) [ true ↦ refl | false ↦ refl ]
+silent st (Unlinks by target) = elim (list_any (λ p. is_target target p || is_taken target p) st.live) as (λ b. said (cond b [] (Urb (ret_unlink by (pos 0)) ∷ [])) ≡ []) [ true ↦ refl | false ↦ refl ]
 silent st _ = refl
 
 counted-is : (e : Option End) → both (is_some e) (not (is_by_client e)) ≡ is_counted e
@@ -207,6 +221,10 @@ counted-is (Some Sent) = refl
 counted-is (Some ByClient) = refl
 counted-is (Some ByLoss) = refl
 counted-is (Some (ByAnswer o)) = refl
+counted-is (Some (ByUnlink by)) = refl
+counted-is (Some ByChange) = refl
+counted-is (Some (ByStatus status)) = refl
+counted-is (Some (ByPackets given)) = refl
 
 -- ---- the end and the unlinker of a submit that has ended stay
 
@@ -227,8 +245,8 @@ stays ms m s h = ap is_none (or_else-kept (end_of ms s) (cond (leb s.place (leng
 
 same : (ms : List Mark) (m : Mark) (s : Submission) → is_live ms s ≡ false → answer_of (m ∷ ms) s ≡ answer_of ms s
 same ms m s h =
-    ap (λ (e : Option End). answer s.request.number (unlinker (m ∷ ms) s) (wins s e)) (or_else-kept (end_of ms s) (cond (leb s.place (length ms)) (ends m.what s) None) h)
-    ∙ ap (λ (u : Option ℕ). answer s.request.number u (wins s (end_of ms s)))
+    ap (λ (e : Option End). answer_by s (unlinker (m ∷ ms) s) e) (or_else-kept (end_of ms s) (cond (leb s.place (length ms)) (ends m.what s) None) h)
+    ∙ ap (λ (u : Option ℕ). answer_by s u (end_of ms s))
     (ap (or_else (unlinker ms s)) (never-asked (leb s.place (length ms)) (is_live ms s) (asks m.what s) h) ∙ or_else-none (unlinker ms s))
 
 gone : (a b : Bool) → (a && not b) ≡ true → b ≡ false
@@ -246,9 +264,16 @@ have-ended (m ∷ ms) =
 
 -- ---- of those that end at an item
 
--- what asks a submit back doesn't end it
+-- what asks a submit back doesn't end it, and what takes it back doesn't ask for it
 unasked : (e : Effect) (s : Submission) → is_counted (ends e s) ≡ true → asks e s ≡ None
-unasked (Unlinks by target) s h = absurd (false≢true h)
+unasked (Unlinks by target) s h = of s.verdict (s.request.number == target) h
+  where
+    of : (v : Verdict) (b : Bool) → is_counted (cond (is_waiting v && b) (Some (ByUnlink by)) None) ≡ true → cond (goes_by_id v && b) (Some by) None ≡ None
+    of (Now status) b h = refl
+    of (Wire pipe) b h = absurd (false≢true h)
+    of (Routed r) b h = absurd (false≢true h)
+    of (IsoOut row) b h = refl
+    of (Stream row) b h = refl
 unasked _ s h = refl
 
 due-is : (ms : List Mark) (m : Mark) (s : Submission) → Present ms s → is_counted (ends m.what s) ≡ true → due s (unlinker ms s) (ends m.what s) ≡ answer_of (m ∷ ms) s

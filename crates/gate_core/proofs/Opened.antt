@@ -1,5 +1,5 @@
--- What an accepted submit makes of what is kept, and what it sends and tells.
-use Rattle.std.proofs.Common.{◌≡◌, ℕ, ◌+◌, ◌^◌, ◌-◌, ◌<◌, ◌≤◌, eqb, Bool, true, false, cond, List, [], ◌∷◌, ◌++◌, length, map, Option, None, refl, sym, ap, ◌∙◌, arith}
+-- What an accepted submit that ends no other makes of what is kept, and what it sends and tells.
+use Rattle.std.proofs.Common.{◌≡◌, ℕ, ◌+◌, ◌^◌, ◌-◌, ◌<◌, ◌≤◌, eqb, Bool, true, false, cond, List, [], ◌∷◌, ◌++◌, length, map, Option, Some, None, refl, sym, ap, ◌∙◌, arith}
 use Rattle.std.specs.Prelude.{is_none, filter, zip}
 use Rattle.std.specs.List.{flat_map}
 use Rattle.std.proofs.lemmas.List.{append-nil, map-append}
@@ -15,8 +15,9 @@ use Rattle.gate_core.specs.declared.note.Note.{Note}
 use Rattle.gate_core.specs.declared.note.Note.TheVariants as note
 use Rattle.gate_core.specs.declared.kept.Kept.{Kept}
 use Rattle.gate_core.specs.Items.{capped}
+use Rattle.gate_core.specs.Verdict.{Verdict}
 use Rattle.gate_core.specs.Marks.{Submission, Opens}
-use Rattle.gate_core.specs.Submits.{Pending, End, at_once, ends}
+use Rattle.gate_core.specs.Submits.{Pending, End, ByChange, at_once, is_touched, ends}
 use Rattle.gate_core.specs.Ids.{last_of}
 use Rattle.gate_core.specs.Ups.{opened_streams}
 use Rattle.gate_core.specs.Calls.{called}
@@ -46,16 +47,17 @@ each-map : {X Y : Type 0} (P : Y → Type 0) (f : X → Y) (xs : List X) → Eac
 each-map P f [] h = tt
 each-map P f (x ∷ xs) h = (h.0, each-map P f xs h.1)
 
-module _ (st : State) (s : Submission) (placed : s.place ≡ st.items) (sound : IsSound st) where
+module _ (st : State) (s : Submission) (placed : s.place ≡ st.items) (sound : IsSound st) (spares : (v : Verdict) → is_touched s.verdict v ≡ false) where
   -- none of the others ends
   others : Each (λ p. ends (Opens s) p.submit ≡ None) st.live
   others =
       Each-weaker (λ p. p.submit.place < st.items) (λ p. ends (Opens s) p.submit ≡ None)
-      (λ p h. ap (λ (b : Bool). cond b (at_once p.submit.verdict) None) (other-place s.place p.submit.place (omega (arith, h, placed)))) st.live
+      (λ p h. ap (λ (b : Bool). cond b (at_once p.submit.verdict) (cond (is_touched s.verdict p.submit.verdict) (Some ByChange) None)) (other-place s.place p.submit.place (omega (arith, h, placed)))
+      ∙ ap (λ (b : Bool). cond b (Some ByChange) None) (spares p.submit.verdict)) st.live
       (each-map (λ (t : Submission). t.place < st.items) (λ (p : Pending). p.submit) st.live sound.places)
 
   own : ends (Opens s) s ≡ at_once s.verdict
-  own = ap (λ (b : Bool). cond b (at_once s.verdict) None) (own-place s.place)
+  own = ap (λ (b : Bool). cond b (at_once s.verdict) (cond (is_touched s.verdict s.verdict) (Some ByChange) None)) (own-place s.place)
 
   by_test : (test : Option End → Bool) (answer : Bool) → test None ≡ answer → filter (λ p. test (ends (Opens s) p.submit)) st.live ≡ filter (λ p. answer) st.live
   by_test test answer h = filter-same (λ p. test (ends (Opens s) p.submit)) (λ p. answer) st.live (Each-weaker (λ p. ends (Opens s) p.submit ≡ None) (λ p. test (ends (Opens s) p.submit) ≡ answer) (λ p e. ap test e ∙ h) st.live others)

@@ -9,7 +9,7 @@ use Rattle.usb_base.specs.declared.endpoint.EpRow.{EpRow}
 use Rattle.usb_base.specs.declared.endpoint.EpTable.{EpTable}
 use Rattle.usb_base.specs.declared.refusal.Refusal.{Refusal}
 use Rattle.usb_base.specs.declared.transfer.Outcome.{Outcome}
-use Rattle.usb_base.specs.Endpoint.{row_of}
+use Rattle.usb_base.specs.Endpoint.{row_of, is_in_endpoint}
 use Rattle.usbip_op.specs.declared.packet.OpPacket.{OpPacket}
 use Rattle.usbip_op.specs.declared.packet.OpPacket.TheVariants as op
 use Rattle.usbip_urb.specs.declared.packet.UrbPacket.{UrbPacket}
@@ -18,7 +18,10 @@ use Rattle.redir_wire.specs.declared.packet.Connect.{Connect}
 use Rattle.redir_wire.specs.declared.packet.Header.{Header}
 use Rattle.redir_wire.specs.declared.packet.RedirControl.TheVariants as plain
 use Rattle.redir_data.specs.declared.packet.RedirPacket.{RedirPacket}
-use Rattle.redir_data.specs.declared.packet.RedirPacket.TheVariants.{Plain}
+use Rattle.redir_data.specs.declared.packet.RedirData.{RedirData}
+use Rattle.redir_data.specs.declared.packet.RedirData.TheVariants as data_packet
+use Rattle.redir_data.specs.declared.packet.RedirPacket.TheVariants.{Plain, Carrying}
+use Rattle.usb_base.specs.declared.transfer.StreamPacket.{StreamPacket}
 use Rattle.usbip_urb.specs.Buffers.{laid}
 use Rattle.control_route.specs.declared.route.Route.{Route}
 use Rattle.control_route.specs.declared.route.Route.TheVariants as route
@@ -28,17 +31,17 @@ use Rattle.usbip_urb.specs.declared.client.ClientPacket.TheVariants.{Op, Urb}
 use Rattle.gate_core.specs.Items.{Item, Asked, ClientWrong, ClientLeft, Told, HostWrong, HostLeft}
 use Rattle.gate_core.specs.Errno.{enoent, ebusy, einval, emsgsize, eshutdown}
 use Rattle.gate_core.specs.Requests.{Request, request_of, is_in_setup}
-use Rattle.gate_core.specs.Verdict.{Verdict, Now, max_narrow, none_of, bool_eq, is_invalid, is_control, is_iso, is_narrow, by_route, by_kind, by_endpoint, by_transfer, verdict, goes_by_id}
-use Rattle.gate_core.specs.Built.{is_built}
-use Rattle.gate_core.specs.Marks.{Submission, Effect, Opens}
+use Rattle.gate_core.specs.Verdict.{Verdict, Now, Wire, Routed, IsoOut, Stream, max_narrow, none_of, bool_eq, is_invalid, is_control, is_iso, is_narrow, by_route, by_kind, by_endpoint, by_transfer, verdict, goes_by_id}
+use Rattle.gate_core.specs.Marks.{Submission, Effect, Opens, Waits}
 use Rattle.gate_core.specs.Sides.{imports}
-use Rattle.gate_core.specs.Submits.{opened, at_once, ends}
+use Rattle.gate_core.specs.Submits.{ByChange, opened, at_once, is_waiting, is_touched, ends}
 use Rattle.gate_core.specs.Ids.{last_of}
+use Rattle.gate_core.specs.Ups.{Up, stream_at, stream_of}
 use Rattle.gate_core.specs.State.{State, has_number}
 use Rattle.gate_core.specs.Replies.{is_exported}
 use Rattle.gate_core.specs.Packets.{HasRoute}
 use Rattle.gate_core.specs.Responses.{Response, response_of}
-use Rattle.gate_core.specs.Meaning.{may_import, imported_as, op_meaning, verdict_of, drawn_for, submission, accepts, urb_meaning, asked_meaning, answered_as, answer_to, by_response, told_meaning, meaning}
+use Rattle.gate_core.specs.Meaning.{may_import, imported_as, op_meaning, verdict_of, drawn_for, submission, by_stream, accepted_as, accepts, urb_meaning, asked_meaning, answered_as, answer_to, by_response, arrives, data_meaning, told_meaning, meaning}
 use Rattle.gate_core.proofs.Lists.{Each}
 
 -- ---- of a verdict
@@ -97,7 +100,37 @@ sends-transfer changing table wide r None = unless changing enoent _ (by_row (ro
 pub verdict-sends : (lost : Bool) (n : ℕ) (changing : Bool) (table : EpTable) (wide : Bool) (r : Request) → HasRoute (verdict lost n changing table wide r)
 verdict-sends lost n changing table wide r = unless lost eshutdown _ (unless (leb 4096 n) ebusy _ (sends-transfer changing table wide r r.transfer.setup))
 
+-- a stream that is up keeps its row, and changes nothing else
+
+kept-room : (o : Option Up) (v : Verdict) → is_none (at_once (by_stream o v)) ≡ true → is_none (at_once v) ≡ true
+kept-room (Some up) (Stream row) h = refl
+kept-room (Some up) (Now status) h = h
+kept-room (Some up) (Wire pipe) h = h
+kept-room (Some up) (Routed r) h = h
+kept-room (Some up) (IsoOut row) h = h
+kept-room None v h = h
+
+kept-sends : (o : Option Up) (v : Verdict) → HasRoute v → HasRoute (by_stream o v)
+kept-sends (Some up) (Stream row) h = tt
+kept-sends (Some up) (Now status) h = h
+kept-sends (Some up) (Wire pipe) h = h
+kept-sends (Some up) (Routed r) h = h
+kept-sends (Some up) (IsoOut row) h = h
+kept-sends None v h = h
+
+none-at-once : (v : Verdict) → is_none (at_once v) ≡ true → at_once v ≡ None
+none-at-once (Now status) h = absurd (false≢true h)
+none-at-once (Wire pipe) h = refl
+none-at-once (Routed r) h = refl
+none-at-once (IsoOut row) h = absurd (false≢true h)
+none-at-once (Stream row) h = refl
+
 -- ---- of an effect
+
+-- one that waits for a stream's packets is of such a verdict
+abbrev pub WaitsWell : Effect → Type 0
+WaitsWell (Waits s fill) = is_waiting s.verdict ≡ true
+WaitsWell _ = Unit {0}
 
 pub record IsOpening (st : State) (e : Effect) : Type 0 where
   -- a client that has imported accepts, a number that isn't live is accepted, and an import finds nothing abandoned
@@ -108,16 +141,20 @@ pub record IsOpening (st : State) (e : Effect) : Type 0 where
   pub room : Each (λ s. is_none (ends e s) ≡ true → length st.live < 4096) (opened e)
   pub drawn : Each (λ s. is_none (ends e s) ≡ true → goes_by_id s.verdict ≡ true → s.id ≡ last_of 0 (drawn_for st s.request s.verdict)) (opened e)
   pub routes : Each (λ s. HasRoute s.verdict) (opened e)
+  pub going : Each (λ s. is_none (ends e s) ≡ true → at_once s.verdict ≡ None) (opened e)
+  pub waits : WaitsWell e
 
 -- one that opens nothing and imports nothing
-none : (st : State) (e : Effect) → opened e ≡ [] → imports e ≡ false → IsOpening st e
-none st e nil k = record {
+none : (st : State) (e : Effect) → opened e ≡ [] → imports e ≡ false → WaitsWell e → IsOpening st e
+none st e nil k well = record {
   imported = subst (Each (λ s. st.imported ≡ true)) (sym nil) tt;
   new = subst (Each (λ s. has_number st s.request.number ≡ false)) (sym nil) tt;
   alone = λ h. absurd (false≢true (sym k ∙ h));
   room = subst (Each (λ s. is_none (ends e s) ≡ true → length st.live < 4096)) (sym nil) tt;
   drawn = subst (Each (λ s. is_none (ends e s) ≡ true → goes_by_id s.verdict ≡ true → s.id ≡ last_of 0 (drawn_for st s.request s.verdict))) (sym nil) tt;
   routes = subst (Each (λ s. HasRoute s.verdict)) (sym nil) tt;
+  going = subst (Each (λ s. is_none (ends e s) ≡ true → at_once s.verdict ≡ None)) (sym nil) tt;
+  waits = well;
 }
 
 -- by a test
@@ -135,51 +172,62 @@ none-nil [] e = refl
 none-nil (x ∷ xs) e = absurd (false≢true e)
 
 opening-import : (st : State) (o : Option Connect) → st.abandoned ≡ [] → IsOpening st (imported_as st o)
-opening-import st None h = none st (imported_as st None) refl refl
-opening-import st (Some c) h = record { imported = tt; new = tt; alone = λ k. h; room = tt; drawn = tt; routes = tt }
+opening-import st None h = none st (imported_as st None) refl refl tt
+opening-import st (Some c) h = record { imported = tt; new = tt; alone = λ k. h; room = tt; drawn = tt; routes = tt; going = tt; waits = tt }
 
 opening-op : (st : State) (place : ℕ) (p : OpPacket) → IsOpening st (op_meaning st place p)
-opening-op st place (op.ReqDevlist status) = when st st.imported _ _ (λ h. none st _ refl refl) (λ h. none st _ refl refl)
-opening-op st place (op.ReqImport status busid) = when st st.imported _ _ (λ h. none st _ refl refl) (λ h. by (may_import st busid) refl)
+opening-op st place (op.ReqDevlist status) = when st st.imported _ _ (λ h. none st _ refl refl tt) (λ h. none st _ refl refl tt)
+opening-op st place (op.ReqImport status busid) = when st st.imported _ _ (λ h. none st _ refl refl tt) (λ h. by (may_import st busid) refl)
   where
     by : (b : Bool) → may_import st busid ≡ b → IsOpening st (imported_as st (cond b st.facts.connect None))
     by true e = opening-import st st.facts.connect (none-nil st.abandoned (middle (is_exported busid) (none_of st.abandoned) (is_none st.fence) e))
-    by false e = none st _ refl refl
-opening-op st place (op.RepDevlist status devices) = none st _ refl refl
-opening-op st place (op.RepImport status device) = none st _ refl refl
+    by false e = none st _ refl refl tt
+opening-op st place (op.RepDevlist status devices) = none st _ refl refl tt
+opening-op st place (op.RepImport status device) = none st _ refl refl tt
 
 own : (n : ℕ) → eqb n n ≡ true
 own n = grind arith
 
 -- it lives on where its verdict doesn't answer it
 lives-on : (s : Submission) → is_none (ends (Opens s) s) ≡ true → is_none (at_once s.verdict) ≡ true
-lives-on s h = sym (ap (λ (b : Bool). is_none (cond b (at_once s.verdict) None)) (own s.place)) ∙ h
+lives-on s h = sym (ap (λ (b : Bool). is_none (cond b (at_once s.verdict) (cond (is_touched s.verdict s.verdict) (Some ByChange) None))) (own s.place)) ∙ h
 
-opening-submit : (st : State) (place : ℕ) (r : Request) → st.imported ≡ true → has_number st r.number ≡ false → IsOpening st (accepts st place r (verdict_of st r))
-opening-submit st place r in_session new =
-    when st (is_built v) _ _
-    (λ h. record {
-      imported = (in_session, tt);
-      new = (new, tt);
-      alone = λ k. absurd (false≢true k);
-      room = (λ k. verdict-room st.lost (length st.live) _ st.facts.table _ r (lives-on s k), tt);
-      drawn = (λ k by. ap (λ (b : Bool). cond b (last_of 0 (drawn_for st r v)) 0) by, tt);
-      routes = (verdict-sends st.lost (length st.live) _ st.facts.table _ r, tt);
-    })
-    (λ h. record {
-      imported = (in_session, tt);
-      new = (new, tt);
-      alone = λ k. absurd (false≢true k);
-      room = (λ k. absurd (false≢true k), tt);
-      drawn = (λ k by. absurd (false≢true k), tt);
-      routes = (verdict-sends st.lost (length st.live) _ st.facts.table _ r, tt);
-    })
-  where
-    v : Verdict
-    v = verdict_of st r
+module _ (st : State) (r : Request) (in_session : st.imported ≡ true) (new : has_number st r.number ≡ false) where
+  opening-now : (s : Submission) → s.request ≡ r → (is_none (at_once s.verdict) ≡ true → length st.live < 4096) → HasRoute s.verdict →
+      (goes_by_id s.verdict ≡ true → s.id ≡ last_of 0 (drawn_for st s.request s.verdict)) → IsOpening st (Opens s)
+  opening-now s is room sends drawn = record {
+    imported = (in_session, tt);
+    new = (ap (λ (q : Request). has_number st q.number) is ∙ new, tt);
+    alone = λ k. absurd (false≢true k);
+    room = (λ k. room (lives-on s k), tt);
+    drawn = (λ k by. drawn by, tt);
+    routes = (sends, tt);
+    going = (λ k. none-at-once s.verdict (lives-on s k), tt);
+    waits = tt;
+  }
 
-    s : Submission
-    s = submission st r v (drawn_for st r v)
+  opening-accepted : (v : Verdict) → (is_none (at_once v) ≡ true → length st.live < 4096) → HasRoute v → IsOpening st (accepted_as st (submission st r v (drawn_for st r v)) v)
+  opening-accepted (Now status) room sends = opening-now (submission st r (Now status) (drawn_for st r (Now status))) refl room sends (λ k. absurd (false≢true k))
+  opening-accepted (Wire pipe) room sends = opening-now (submission st r (Wire pipe) (drawn_for st r (Wire pipe))) refl room sends (λ k. refl)
+  opening-accepted (Routed route) room sends = opening-now (submission st r (Routed route) (drawn_for st r (Routed route))) refl room sends (λ k. refl)
+  opening-accepted (IsoOut row) room sends = opening-now (submission st r (IsoOut row) (drawn_for st r (IsoOut row))) refl room sends (λ k. absurd (false≢true k))
+  opening-accepted (Stream row) room sends = record {
+    imported = (in_session, tt);
+    new = (new, tt);
+    alone = λ k. absurd (false≢true k);
+    room = (λ k. room refl, tt);
+    drawn = (λ k by. absurd (false≢true by), tt);
+    routes = (tt, tt);
+    going = (λ k. refl, tt);
+    waits = refl;
+  }
+
+  opening-submit : IsOpening st (accepts st r (verdict_of st r))
+  opening-submit =
+      let up = stream_at st.streams r.transfer.ep in
+      opening-accepted (by_stream up (verdict_of st r))
+      (λ k. verdict-room st.lost (length st.live) _ st.facts.table _ r (kept-room up (verdict_of st r) k))
+      (kept-sends up (verdict_of st r) (verdict-sends st.lost (length st.live) _ st.facts.table _ r))
 
 not-false : (b : Bool) → not b ≡ false → b ≡ true
 not-false true e = refl
@@ -187,39 +235,51 @@ not-false false e = sym e
 
 opening-urb : (st : State) (place : ℕ) (p : UrbPacket) → IsOpening st (urb_meaning st place p)
 opening-urb st place (urb.Submit s) =
-    when st (not st.imported) _ _ (λ h. none st _ refl refl)
-    (λ h. when st (has_number st s.head.seqnum) _ _ (λ k. none st _ refl refl) (λ k. opening-submit st place (request_of s) (not-false st.imported h) k))
-opening-urb st place (urb.Unlink u) = when st (not st.imported) _ _ (λ h. none st _ refl refl) (λ h. none st _ refl refl)
-opening-urb st place (urb.RetSubmit r) = none st _ refl refl
-opening-urb st place (urb.RetUnlink r) = none st _ refl refl
+    when st (not st.imported) _ _ (λ h. none st _ refl refl tt)
+    (λ h. when st (has_number st s.head.seqnum) _ _ (λ k. none st _ refl refl tt) (λ k. opening-submit st (request_of s) (not-false st.imported h) k))
+opening-urb st place (urb.Unlink u) = when st (not st.imported) _ _ (λ h. none st _ refl refl tt) (λ h. none st _ refl refl tt)
+opening-urb st place (urb.RetSubmit r) = none st _ refl refl tt
+opening-urb st place (urb.RetUnlink r) = none st _ refl refl tt
 
 opening-asked : (st : State) (place : ℕ) (p : ClientPacket) → IsOpening st (asked_meaning st place p)
 opening-asked st place (Op p) = opening-op st place p
 opening-asked st place (Urb p) = opening-urb st place p
 
 opening-answered : (st : State) (id : ℕ) (o : Outcome) (r : Option Refusal) → IsOpening st (answered_as id o r)
-opening-answered st id o None = none st (answered_as id o None) refl refl
-opening-answered st id o (Some r) = none st (answered_as id o (Some r)) refl refl
+opening-answered st id o None = none st (answered_as id o None) refl refl tt
+opening-answered st id o (Some r) = none st (answered_as id o (Some r)) refl refl tt
 
 opening-answer : (st : State) (place : ℕ) (h : Header) (response : Response) (s : Option Submission) → IsOpening st (answer_to st place h response s)
-opening-answer st place h response None = none st (answer_to st place h response None) refl refl
+opening-answer st place h response None = none st (answer_to st place h response None) refl refl tt
 opening-answer st place h response (Some s) = opening-answered st h.id _ _
 
 opening-response : (st : State) (place : ℕ) (h : Header) (response : Option Response) → IsOpening st (by_response st place h response)
-opening-response st place h None = none st (by_response st place h None) refl refl
+opening-response st place h None = none st (by_response st place h None) refl refl tt
 opening-response st place h (Some response) = opening-answer st place h response _
 
+opening-arrival : (st : State) (ep : ℕ) (iso : Bool) (packet : StreamPacket) (o : Option Up) → IsOpening st (arrives st ep iso packet o)
+opening-arrival st ep iso packet None = none st (arrives st ep iso packet None) refl refl tt
+opening-arrival st ep iso packet (Some up) = none st (arrives st ep iso packet (Some up)) refl refl tt
+
+opening-data : (st : State) (place : ℕ) (h : Header) (d : RedirData) → IsOpening st (data_meaning st place h d)
+opening-data st place h (data_packet.Interrupt endpoint status length body) =
+    when st (is_in_endpoint endpoint) _ _ (λ k. opening-arrival st endpoint false _ (stream_of st.streams endpoint)) (λ k. opening-response st place h _)
+opening-data st place h (data_packet.Iso endpoint status length body) =
+    when st (is_in_endpoint endpoint) _ _ (λ k. opening-arrival st endpoint true _ (stream_of st.streams endpoint)) (λ k. none st _ refl refl tt)
+opening-data st place h d = opening-response st place h (response_of (Carrying d))
+
 opening-told : (st : State) (place : ℕ) (h : Header) (p : RedirPacket) → IsOpening st (told_meaning st place h p)
-opening-told st place h (Plain (plain.Hello hello)) = none st (told_meaning st place h (Plain (plain.Hello hello))) refl refl
-opening-told st place h (Plain plain.Disconnect) = none st (told_meaning st place h (Plain plain.Disconnect)) refl refl
-opening-told st place h (Plain (plain.IsoStatus status endpoint)) = none st (told_meaning st place h (Plain (plain.IsoStatus status endpoint))) refl refl
-opening-told st place h (Plain (plain.InterruptStatus status endpoint)) = none st (told_meaning st place h (Plain (plain.InterruptStatus status endpoint))) refl refl
+opening-told st place h (Plain (plain.Hello hello)) = none st (told_meaning st place h (Plain (plain.Hello hello))) refl refl tt
+opening-told st place h (Plain plain.Disconnect) = none st (told_meaning st place h (Plain plain.Disconnect)) refl refl tt
+opening-told st place h (Plain (plain.IsoStatus status endpoint)) = none st (told_meaning st place h (Plain (plain.IsoStatus status endpoint))) refl refl tt
+opening-told st place h (Plain (plain.InterruptStatus status endpoint)) = none st (told_meaning st place h (Plain (plain.InterruptStatus status endpoint))) refl refl tt
+opening-told st place h (Carrying d) = opening-data st place h d
 opening-told st place h p = opening-response st place h (response_of p)
 
 pub opening-meaning : (st : State) (x : Item) → IsOpening st (meaning st x)
 opening-meaning st (Asked place packet) = opening-asked st place packet
-opening-meaning st (ClientWrong place reason) = none st (meaning st (ClientWrong place reason)) refl refl
-opening-meaning st ClientLeft = none st (meaning st ClientLeft) refl refl
+opening-meaning st (ClientWrong place reason) = none st (meaning st (ClientWrong place reason)) refl refl tt
+opening-meaning st ClientLeft = none st (meaning st ClientLeft) refl refl tt
 opening-meaning st (Told place header packet) = opening-told st place header packet
-opening-meaning st (HostWrong place reason) = none st (meaning st (HostWrong place reason)) refl refl
-opening-meaning st HostLeft = none st (meaning st HostLeft) refl refl
+opening-meaning st (HostWrong place reason) = none st (meaning st (HostWrong place reason)) refl refl tt
+opening-meaning st HostLeft = none st (meaning st HostLeft) refl refl tt

@@ -11,17 +11,21 @@ use Rattle.redir_wire.specs.declared.packet.Connect.{Connect}
 use Rattle.redir_wire.specs.declared.packet.Header.{Header}
 use Rattle.redir_wire.specs.declared.packet.RedirControl.TheVariants as plain
 use Rattle.redir_data.specs.declared.packet.RedirPacket.{RedirPacket}
-use Rattle.redir_data.specs.declared.packet.RedirPacket.TheVariants.{Plain}
+use Rattle.redir_data.specs.declared.packet.RedirData.{RedirData}
+use Rattle.redir_data.specs.declared.packet.RedirData.TheVariants as data_packet
+use Rattle.redir_data.specs.declared.packet.RedirPacket.TheVariants.{Plain, Carrying}
+use Rattle.usb_base.specs.declared.transfer.StreamPacket.{StreamPacket}
+use Rattle.usb_base.specs.Endpoint.{is_in_endpoint}
 use Rattle.usbip_urb.specs.declared.client.ClientPacket.{ClientPacket}
 use Rattle.usbip_urb.specs.declared.client.ClientPacket.TheVariants.{Op, Urb}
 use Rattle.gate_core.specs.Items.{Item, Asked, ClientWrong, ClientLeft, Told, HostWrong, HostLeft}
-use Rattle.gate_core.specs.Requests.{Request}
-use Rattle.gate_core.specs.Verdict.{Verdict}
-use Rattle.gate_core.specs.Built.{is_built}
+use Rattle.gate_core.specs.Requests.{Request, request_of}
+use Rattle.gate_core.specs.Verdict.{Verdict, Now, Wire, Routed, IsoOut, Stream}
 use Rattle.gate_core.specs.Marks.{Submission, Effect, Mark}
+use Rattle.gate_core.specs.Ups.{Up, stream_at, stream_of}
 use Rattle.gate_core.specs.State.{State, state_of, has_number}
 use Rattle.gate_core.specs.Responses.{Response, response_of}
-use Rattle.gate_core.specs.Meaning.{importable, imported_as, op_meaning, accepts, urb_meaning, asked_meaning, answered_as, answer_to, by_response, told_meaning, meaning, mark_of}
+use Rattle.gate_core.specs.Meaning.{importable, imported_as, op_meaning, verdict_of, drawn_for, submission, by_stream, accepted_as, accepts, urb_meaning, asked_meaning, answered_as, answer_to, by_response, arrives, data_meaning, told_meaning, meaning, mark_of}
 use Rattle.gate_core.specs.Past.{is_left_out, put, past}
 use Rattle.gate_core.specs.All.{all_of}
 use Rattle.gate_core.specs.Machine.{after, step, run, given, all_given}
@@ -43,11 +47,20 @@ placed-op st place (op.ReqImport status busid) = either st.items st.imported _ _
 placed-op st place (op.RepDevlist status devices) = tt
 placed-op st place (op.RepImport status device) = tt
 
-placed-submit : (st : State) (place : ℕ) (r : Request) (v : Verdict) → IsPlaced st.items (accepts st place r v)
-placed-submit st place r v = either st.items (is_built v) _ _ (refl, tt) (refl, tt)
+placed-accepted : (st : State) (s : Submission) (v : Verdict) → s.place ≡ st.items → IsPlaced st.items (accepted_as st s v)
+placed-accepted st s (Now status) h = (h, tt)
+placed-accepted st s (Wire pipe) h = (h, tt)
+placed-accepted st s (Routed r) h = (h, tt)
+placed-accepted st s (IsoOut row) h = (h, tt)
+placed-accepted st s (Stream row) h = (h, tt)
+
+placed-submit : (st : State) (r : Request) (v : Verdict) → IsPlaced st.items (accepts st r v)
+placed-submit st r v =
+    let kept = by_stream (stream_at st.streams r.transfer.ep) v in
+    placed-accepted st (submission st r kept (drawn_for st r kept)) kept refl
 
 placed-urb : (st : State) (place : ℕ) (p : UrbPacket) → IsPlaced st.items (urb_meaning st place p)
-placed-urb st place (urb.Submit s) = either st.items (not st.imported) _ _ tt (either st.items (has_number st s.head.seqnum) _ _ tt (placed-submit st place _ _))
+placed-urb st place (urb.Submit s) = either st.items (not st.imported) _ _ tt (either st.items (has_number st s.head.seqnum) _ _ tt (placed-submit st (request_of s) (verdict_of st (request_of s))))
 placed-urb st place (urb.Unlink u) = either st.items (not st.imported) _ _ tt tt
 placed-urb st place (urb.RetSubmit r) = tt
 placed-urb st place (urb.RetUnlink r) = tt
@@ -68,9 +81,20 @@ placed-response : (n : ℕ) (st : State) (place : ℕ) (h : Header) (response : 
 placed-response n st place h None = tt
 placed-response n st place h (Some response) = placed-answer n st place h response _
 
+placed-arrival : (n : ℕ) (st : State) (ep : ℕ) (iso : Bool) (packet : StreamPacket) (o : Option Up) → IsPlaced n (arrives st ep iso packet o)
+placed-arrival n st ep iso packet None = tt
+placed-arrival n st ep iso packet (Some up) = tt
+
+placed-data : (st : State) (place : ℕ) (h : Header) (d : RedirData) → IsPlaced st.items (data_meaning st place h d)
+placed-data st place h (data_packet.Interrupt endpoint status length body) =
+    either st.items (is_in_endpoint endpoint) _ _ (placed-arrival st.items st endpoint false _ (stream_of st.streams endpoint)) (placed-response st.items st place h _)
+placed-data st place h (data_packet.Iso endpoint status length body) = either st.items (is_in_endpoint endpoint) _ _ (placed-arrival st.items st endpoint true _ (stream_of st.streams endpoint)) tt
+placed-data st place h d = placed-response st.items st place h (response_of (Carrying d))
+
 placed-told : (st : State) (place : ℕ) (h : Header) (p : RedirPacket) → IsPlaced st.items (told_meaning st place h p)
 placed-told st place h (Plain (plain.Hello hello)) = tt
 placed-told st place h (Plain plain.Disconnect) = tt
+placed-told st place h (Carrying d) = placed-data st place h d
 placed-told st place h p = placed-response st.items st place h (response_of p)
 
 pub placed-meaning : (st : State) (x : Item) → IsPlaced st.items (meaning st x)

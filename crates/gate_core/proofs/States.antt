@@ -1,5 +1,5 @@
 -- The state after every past is sound.
-use Rattle.std.proofs.Common.{◌≡◌, ℕ, ◌<◌, ◌+◌, ◌&&◌, Bool, true, false, cond, if◌then◌else◌, eqb, List, [], ◌∷◌, ◌++◌, length, map, refl, sym, ap, subst, ◌∙◌, arith}
+use Rattle.std.proofs.Common.{◌≡◌, ℕ, ◌<◌, ◌+◌, ◌&&◌, Bool, true, false, cond, if◌then◌else◌, eqb, List, [], ◌∷◌, ◌++◌, length, map, None, refl, sym, ap, subst, ◌∙◌, arith}
 use Rattle.std.specs.Prelude.{filter}
 use Rattle.std.proofs.lemmas.Bool.Decides.{nat_tests}
 use Rattle.std.proofs.lemmas.List.{length-append, length-map}
@@ -8,7 +8,7 @@ use Rattle.gate_core.specs.Items.{Item}
 use Rattle.gate_core.specs.Ids.{times}
 use Rattle.gate_core.specs.Verdict.{goes_by_id}
 use Rattle.gate_core.specs.Marks.{Submission}
-use Rattle.gate_core.specs.Submits.{has_id, accepted, is_live, live, abandoned, pending}
+use Rattle.gate_core.specs.Submits.{has_id, at_once, accepted, is_live, live, abandoned, pending}
 use Rattle.gate_core.specs.Calls.{calls, call_ids}
 use Rattle.gate_core.specs.Flight.{ids_of}
 use Rattle.gate_core.specs.State.{state_of, submits, is_number}
@@ -56,5 +56,6 @@ state-sound first xs =
           let g = times-append id (ids_of (live ms) ++ ids_of (abandoned ms)) (call_ids (calls ms)) in
           omega (arith, a, b, c, d, e, f, g, s.once id);
       places = subst (Each (λ s. s.place < length ms)) (sym (submits-is ms (live ms))) (Each-filter (λ s. s.place < length ms) (is_live ms) (accepted ms) (placed ms (well first xs)));
+      going = subst (Each (λ s. at_once s.verdict ≡ None)) (sym (submits-is ms (live ms))) s.going;
       numbers = λ n. omega (arith, ap (λ (l : List Submission). length (filter (is_number n) l)) (submits-is ms (live ms)), few-numbered first xs n);
     }

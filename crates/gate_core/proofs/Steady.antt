@@ -15,28 +15,27 @@ use Rattle.gate_core.specs.declared.note.Note.{Note}
 use Rattle.gate_core.specs.declared.note.Note.TheVariants as note
 use Rattle.gate_core.specs.declared.kept.Kept.{Kept}
 use Rattle.gate_core.specs.Items.{capped}
-use Rattle.gate_core.specs.Marks.{Submission, Effect, Idle, Replies, Imports, Agrees, StreamTold}
+use Rattle.gate_core.specs.Marks.{Submission, Effect, Idle, Replies, Imports, Agrees}
 use Rattle.gate_core.specs.Facts.{no_facts, tell}
 use Rattle.gate_core.specs.Sides.{refused_at, leaves, is_loss, closes_host, imports, refuses_client, ends_client, agreed_after, turned}
-use Rattle.gate_core.specs.Submits.{Pending, ByClient, ByLoss, opened, own_end, ends, is_answered, asks}
+use Rattle.gate_core.specs.Submits.{Pending, End, ByClient, ByLoss, opened, own_end, ends, is_answered, asks}
 use Rattle.gate_core.specs.Sides.{or_else}
 use Rattle.gate_core.specs.Ids.{last_of}
-use Rattle.gate_core.specs.Ups.{no_streams, is_success, lower_at, moved_streams}
+use Rattle.gate_core.specs.Ups.{no_streams, moved_streams}
 use Rattle.gate_core.specs.Packets.{asked_packets}
-use Rattle.gate_core.specs.Calls.{called, last_or, lifted, moved_fence}
-use Rattle.usb_base.specs.declared.status.UsbStatus.{UsbStatus}
+use Rattle.gate_core.specs.Calls.{called, last_or, moved_fence}
 use Rattle.gate_core.specs.State.{State, submits}
 use Rattle.gate_core.specs.Verdict.{goes_by_id, is_wire}
 use Rattle.gate_core.specs.Meaning.{mark_as, drawn_by}
 use Rattle.gate_core.specs.Answers.{answers_at}
 use Rattle.gate_core.specs.Output.{fresh, present, replies, cancels, cancel, acknowledgements, to_client}
-use Rattle.gate_core.specs.Notes.{when, import_notes, submit_notes, unlink_notes, answer_notes, is_by_answer, refusal_notes, is_by_client, dropped}
+use Rattle.gate_core.specs.Notes.{when, import_notes, submit_notes, unlink_notes, arrival_notes, answer_notes, is_by_answer, refusal_notes, is_by_client, dropped}
 use Rattle.gate_core.specs.All.{is_ret_submit, is_won_unlink}
 use Rattle.gate_core.specs.Bytes.{host_packet_bytes}
 use Rattle.gate_core.specs.Machine.{ask}
 use Rattle.gate_core.specs.inner.Rows.{row, unmarked, left_row}
 use Rattle.gate_core.specs.inner.Holds.{Holds, Does}
-use Rattle.gate_core.proofs.Lists.{every, filter-same, filter-none, filter-all, flat_map-same, flat_map-none}
+use Rattle.gate_core.proofs.Lists.{Each, every, Each-weaker, filter-same, filter-none, filter-all, flat_map-same, flat_map-none}
 use Rattle.gate_core.proofs.Lost.{capped-same, and-false}
 
 pub record IsSteady (st : State) (e : Effect) : Type 0 where
@@ -46,7 +45,7 @@ pub record IsSteady (st : State) (e : Effect) : Type 0 where
   pub no_refusal : refuses_client e ≡ false
   pub no_end : ends_client e ≡ false
   pub opens : opened e ≡ []
-  pub ends_none : (p : Pending) → own_end e p.submit ≡ None
+  pub ends_none : Each (λ p. own_end e p.submit ≡ None) st.live
   pub answers_none : (s : Submission) → is_answered e s ≡ false
   pub no_packets : asked_packets st.streams e ≡ []
   pub no_ids : drawn_by st e ≡ []
@@ -56,32 +55,35 @@ pub record IsSteady (st : State) (e : Effect) : Type 0 where
   pub none_won : filter is_won_unlink (replies st e) ≡ []
 
 module _ (st : State) (e : Effect) (l : IsSteady st e) where
-  none-pass : (test : Pending → Bool) → ((p : Pending) → test p ≡ false) → (ps : List Pending) → filter test ps ≡ []
-  none-pass test h ps = filter-same test (λ p. false) ps (every (λ p. test p ≡ false) h ps) ∙ filter-none ps
-
-  all-pass : (test : Pending → Bool) → ((p : Pending) → test p ≡ true) → (ps : List Pending) → filter test ps ≡ ps
-  all-pass test h ps = filter-same test (λ p. true) ps (every (λ p. test p ≡ true) h ps) ∙ filter-all ps
-
-  ended : (p : Pending) → ends e p.submit ≡ None
-  ended p = (λ i. cond (l.stays i) (Some ByClient) (cond (l.keeps i) (Some ByLoss) (l.ends_none p i)))
+  ended : Each (λ p. ends e p.submit ≡ None) st.live
+  ended =
+      Each-weaker (λ p. own_end e p.submit ≡ None) (λ p. ends e p.submit ≡ None)
+      (λ p h. (λ i. cond (l.stays i) (Some ByClient) (cond (l.keeps i) (Some ByLoss) (h i)))) st.live l.ends_none
 
   here : present st e ≡ st.live
   here = ap (λ (ss : List Submission). st.live ++ map fresh ss) l.opens ∙ append-nil st.live
 
+  by_test : (test : Option End → Bool) (answer : Bool) → test None ≡ answer → filter (λ p. test (ends e p.submit)) (present st e) ≡ filter (λ p. answer) st.live
+  by_test test answer h =
+      ap (filter (λ p. test (ends e p.submit))) here
+      ∙ filter-same (λ p. test (ends e p.submit)) (λ p. answer) st.live (Each-weaker (λ p. ends e p.submit ≡ None) (λ p. test (ends e p.submit) ≡ answer) (λ p n. ap test n ∙ h) st.live ended)
+
   steady-live : filter (λ p. is_none (ends e p.submit)) (present st e) ≡ st.live
-  steady-live = all-pass (λ p. is_none (ends e p.submit)) (λ p. ap is_none (ended p)) (present st e) ∙ here
+  steady-live = by_test is_none true refl ∙ filter-all st.live
 
   steady-dropped : dropped st (mark_as st e None) ≡ []
-  steady-dropped = ap (map (λ (p : Pending). p.submit)) (none-pass (λ p. is_by_client (ends e p.submit)) (λ p. ap is_by_client (ended p)) (present st e))
+  steady-dropped = ap (map (λ (p : Pending). p.submit)) (by_test is_by_client false refl ∙ filter-none st.live)
 
   steady-notes : answer_notes st e ≡ []
-  steady-notes = ap (map (λ (p : Pending). note.Answered p.submit.request.number)) (none-pass (λ p. is_by_answer (ends e p.submit)) (λ p. ap is_by_answer (ended p)) (present st e))
+  steady-notes = ap (map (λ (p : Pending). note.Answered p.submit.request.number)) (by_test is_by_answer false refl ∙ filter-none st.live)
 
   steady-answered : to_client st (mark_as st e None) ≡ replies st e
   steady-answered =
       ap (λ (ps : List UrbPacket). replies st e ++ map Urb ps)
-      (flat_map-same (λ p. answers_at p.submit p.unlinker (ends e p.submit)) (λ p. []) (present st e) (every (λ p. answers_at p.submit p.unlinker (ends e p.submit) ≡ []) (λ p. ap (answers_at p.submit p.unlinker) (ended p)) (present st e))
-      ∙ flat_map-none (present st e))
+      (ap (flat_map (λ p. answers_at p.submit p.unlinker (ends e p.submit))) here
+      ∙ flat_map-same (λ p. answers_at p.submit p.unlinker (ends e p.submit)) (λ p. []) st.live
+      (Each-weaker (λ p. ends e p.submit ≡ None) (λ p. answers_at p.submit p.unlinker (ends e p.submit) ≡ []) (λ p n. ap (answers_at p.submit p.unlinker) n) st.live ended)
+      ∙ flat_map-none st.live)
       ∙ append-nil (replies st e)
 
   pub does-steady : (old new : Kept) (rows : List Live) (client_old client_new host_old host_new : List ℕ) (notes_old notes_new : List Note) → Holds old st →
@@ -97,7 +99,7 @@ module _ (st : State) (e : Effect) (l : IsSteady st e) where
       } →
       client_new ≡ client_old ++ flat_map client_spelling (replies st e) →
       host_new ≡ host_old ++ flat_map (host_packet_bytes st.agreed) (map cancel (filter (cancels e) st.live)) →
-      notes_new ≡ notes_old ++ (import_notes e ++ submit_notes e ++ unlink_notes e) →
+      notes_new ≡ notes_old ++ (import_notes e ++ submit_notes e ++ unlink_notes e ++ arrival_notes e) →
       Does st (mark_as st e None) old new client_old client_new host_old host_new notes_old notes_new
   does-steady old new rows client_old client_new host_old host_new notes_old notes_new h answered_fits unlinked_fits dropped_fits asked is client host notes =
       record {
@@ -130,7 +132,7 @@ module _ (st : State) (e : Effect) (l : IsSteady st e) where
       }
     where
       told : List Note
-      told = import_notes e ++ submit_notes e ++ unlink_notes e
+      told = import_notes e ++ submit_notes e ++ unlink_notes e ++ arrival_notes e
 
 -- ---- where none is asked back
 
@@ -152,7 +154,7 @@ idle-steady st = record {
   no_refusal = refl;
   no_end = refl;
   opens = refl;
-  ends_none = λ p. refl;
+  ends_none = every (λ p. own_end Idle p.submit ≡ None) (λ p. refl) st.live;
   answers_none = λ s. refl;
   no_packets = refl;
   no_ids = refl;
@@ -170,7 +172,7 @@ replies-steady st reply = record {
   no_refusal = refl;
   no_end = refl;
   opens = refl;
-  ends_none = λ p. refl;
+  ends_none = every (λ p. own_end (Replies reply) p.submit ≡ None) (λ p. refl) st.live;
   answers_none = λ s. refl;
   no_packets = refl;
   no_ids = refl;
@@ -188,7 +190,7 @@ imports-steady st reply = record {
   no_refusal = refl;
   no_end = refl;
   opens = refl;
-  ends_none = λ p. refl;
+  ends_none = every (λ p. own_end (Imports reply) p.submit ≡ None) (λ p. refl) st.live;
   answers_none = λ s. refl;
   no_packets = refl;
   no_ids = refl;
@@ -206,25 +208,7 @@ agrees-steady st caps = record {
   no_refusal = refl;
   no_end = refl;
   opens = refl;
-  ends_none = λ p. refl;
-  answers_none = λ s. refl;
-  no_packets = refl;
-  no_ids = refl;
-  no_word = λ caps. refl;
-  no_place = refl;
-  no_answer = refl;
-  none_won = refl;
-}
-
-pub stream_told-steady : (st : State) (id ep : ℕ) (status : UsbStatus) → IsSteady st (StreamTold id ep status)
-stream_told-steady st id ep status = record {
-  stays = refl;
-  keeps = refl;
-  open_host = refl;
-  no_refusal = refl;
-  no_end = refl;
-  opens = refl;
-  ends_none = λ p. refl;
+  ends_none = every (λ p. own_end (Agrees caps) p.submit ≡ None) (λ p. refl) st.live;
   answers_none = λ s. refl;
   no_packets = refl;
   no_ids = refl;
@@ -256,11 +240,3 @@ pub does-idle : (st : State) (old : Kept) (client host : List ℕ) (notes : List
 does-idle st old client host notes h a u d =
     does-steady st Idle (idle-steady st) old old old.lives.live client client host host notes notes h a u d
     (rows-same Idle old.lives.live st.live (λ s. refl) h.live) refl (sym (append-nil client)) (host-same st.agreed Idle host st.live stays-uncancelled) (sym (append-nil notes))
-
--- the host tells of a stream
-pub does-tell_stream : (st : State) (id ep : ℕ) (status : UsbStatus) (old : Kept) (client host : List ℕ) (notes : List Note) → Holds old st → old.answered ≤ 2 ^ 64 - 1 → old.unlinked ≤ 2 ^ 64 - 1 → old.dropped ≤ 2 ^ 64 - 1 →
-    Does st (mark_as st (StreamTold id ep status) None) old (record old { streams = cond (is_success status) old.streams (lower_at ep old.streams); fence = lifted id old.fence }) client client host host notes notes
-does-tell_stream st id ep status old client host notes h a u d =
-    let e = StreamTold id ep status in
-    does-steady st e (stream_told-steady st id ep status) old _ old.lives.live client client host host notes notes h a u d
-    (rows-same e old.lives.live st.live (λ s. refl) h.live) refl (sym (append-nil client)) (host-same st.agreed e host st.live stays-uncancelled) (sym (append-nil notes))

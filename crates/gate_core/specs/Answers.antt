@@ -12,8 +12,9 @@ use Rattle.usbip_urb.specs.Buffers.{total}
 use Rattle.gate_core.specs.Errno.{econnreset, eshutdown, eremoteio, is_zero}
 use Rattle.gate_core.specs.Requests.{Request}
 use Rattle.gate_core.specs.Verdict.{none_of, is_wire}
+use Rattle.gate_core.specs.Fillings.{Given, Transferred, Isochronous}
 use Rattle.gate_core.specs.Marks.{Submission}
-use Rattle.gate_core.specs.Submits.{End, AtOnce, Sent, ByClient, ByLoss, ByAnswer}
+use Rattle.gate_core.specs.Submits.{End, AtOnce, Sent, ByClient, ByLoss, ByAnswer, ByUnlink, ByChange, ByStatus, ByPackets}
 
 -- ---- the packets
 
@@ -62,6 +63,11 @@ all_sent r = ret_submit r (pos 0) (total (sent_whole r.descs)) [] (sent_whole r.
 abbrev pub with_outcome : Request → Outcome → UrbPacket
 with_outcome r o = ret_submit r (errno_of o.status) o.done o.body (echoed (errno_of o.status) r.descs)
 
+-- packets that came one for each descriptor lie in the answer without gaps
+abbrev pub with_given : Request → Given → UrbPacket
+with_given r (Transferred outcome) = with_outcome r outcome
+with_given r (Isochronous outcome) = ret_submit r (pos 0) (length outcome.body) outcome.body outcome.descs
+
 -- ---- the answers of an end
 
 abbrev pub is_cancelled : UsbStatus → Bool
@@ -86,6 +92,10 @@ answers s by Sent = all_sent s.request ∷ []
 answers s by ByClient = []
 answers s by ByLoss = lost_answer s by ∷ []
 answers s by (ByAnswer outcome) = answers_by s outcome by
+answers s by (ByUnlink other) = ret_unlink other econnreset ∷ []
+answers s by ByChange = without_packets s.request eshutdown ∷ []
+answers s by (ByStatus status) = without_packets s.request (errno_of status) ∷ []
+answers s by (ByPackets given) = with_given s.request given ∷ []
 
 abbrev pub answers_at : Submission → Option ℕ → Option End → List UrbPacket
 answers_at s by None = []

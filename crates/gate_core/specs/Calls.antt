@@ -7,12 +7,14 @@ use Rattle.usb_base.specs.Endpoint.{endpoint_index}
 use Rattle.redir_wire.specs.declared.packet.RedirControl.TheVariants as plain
 use Rattle.redir_data.specs.declared.packet.RedirPacket.{RedirPacket}
 use Rattle.redir_data.specs.declared.packet.RedirPacket.TheVariants.{Plain, Carrying}
-use Rattle.gate_core.specs.declared.streams.Up.{Up}
-use Rattle.gate_core.specs.declared.streams.Calls.{Calls}
 use Rattle.gate_core.specs.Marks.{Effect, StreamTold, Mark}
 use Rattle.gate_core.specs.Sides.{leaves, is_loss}
-use Rattle.gate_core.specs.Ups.{streams}
+use Rattle.gate_core.specs.Ups.{Up, streams}
 use Rattle.gate_core.specs.Packets.{asked_packets}
+
+pub record Calls : Type 0 where
+  pub started : List (Option ℕ)
+  pub stopped : List (Option ℕ)
 
 abbrev pub no_calls : Calls
 no_calls = record { started = replicate 32 None; stopped = replicate 32 None }

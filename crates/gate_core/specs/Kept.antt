@@ -5,8 +5,8 @@ use Rattle.redir_wire.specs.declared.packet.Caps.{Caps}
 use Rattle.redir_data.specs.declared.state.RedirState.{RedirState}
 use Rattle.unlink_race.specs.declared.live.Live.{Live}
 use Rattle.gate_core.specs.declared.facts.Facts.{Facts}
-use Rattle.gate_core.specs.declared.streams.Up.{Up}
-use Rattle.gate_core.specs.declared.streams.Calls.{Calls}
+use Rattle.gate_core.specs.Ups.{Up}
+use Rattle.gate_core.specs.Calls.{Calls}
 
 -- of the items that have come
 pub record ItemsKept : Type 0 where
@@ -17,7 +17,7 @@ pub record ItemsKept : Type 0 where
   pub lost : Bool
   pub client_over : Bool
   pub host_over : Bool
-  -- the streams that are up, by their endpoints' places in a table; the ids of what started and stopped them; and the
+  -- the streams that are up with the packets that they hold, by their endpoints' places in a table; the ids of what started and stopped them; and the
   -- last stop of a client's leaving, while no import passes it
   pub streams : List (Option Up)
   pub calls : Calls

@@ -4,6 +4,7 @@ pub mod Items
 pub mod Requests
 pub mod Errno
 pub mod Verdict
+pub mod Fillings
 pub mod Marks
 pub mod Sides
 pub mod Facts
@@ -16,7 +17,6 @@ pub mod Flight
 pub mod State
 pub mod Replies
 pub mod Responses
-pub mod Built
 pub mod Meaning
 pub mod Past
 pub mod History

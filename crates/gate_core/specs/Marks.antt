@@ -11,6 +11,7 @@ use Rattle.redir_wire.specs.declared.packet.Connect.{Connect}
 use Rattle.redir_wire.specs.declared.packet.InterfaceInfo.{InterfaceInfo}
 use Rattle.gate_core.specs.Requests.{Request}
 use Rattle.gate_core.specs.Verdict.{Verdict}
+use Rattle.gate_core.specs.Fillings.{Fill}
 
 -- an accepted submit. Its place, the number of marks before its own, names it: numbers and ids come again
 pub record Submission : Type 0 where
@@ -36,14 +37,16 @@ pub data Effect : Type 0 where
   Imports : OpPacket → Effect
   -- a submit is accepted
   Opens : Submission → Effect
-  -- a submit is accepted for which nothing is built yet, and its client is refused at this place
-  Unbuilt : Submission → (place : ℕ) → Effect
+  -- a submit is accepted that waits for a stream's packets; those that are held may fill it, and others before it
+  Waits : Submission → Fill → Effect
   -- the submit `target` is asked back
   Unlinks : (by target : ℕ) → Effect
   -- the host's hello: these capabilities are agreed
   Agrees : Caps → Effect
   -- the host answers the request that has this id
   Answers : (id : ℕ) → Outcome → Effect
+  -- a packet comes from this endpoint, whose stream is up, and may fill requests that wait
+  Arrives : (ep : ℕ) → Fill → Effect
   -- the host tells of the stream of an endpoint, by the id of what started or stopped it
   StreamTold : (id ep : ℕ) → UsbStatus → Effect
   -- the device is gone, and the host waits for this to be acknowledged

@@ -1,5 +1,5 @@
 -- What an item means, by what the past says: its effect, the fact that it tells, and the ids of its packets.
-use Rattle.std.specs.Prelude.{ℕ, ◌+◌, ◌==◌, ◌&&◌, not, Bool, if◌then◌else◌, List, [], ◌++◌, length, Option, Some, None, is_none}
+use Rattle.std.specs.Prelude.{ℕ, ◌+◌, ◌==◌, ◌&&◌, not, Bool, true, false, if◌then◌else◌, List, [], ◌∷◌, ◌++◌, length, map, filter, Option, Some, None, is_none}
 use Rattle.std.specs.List.{find}
 use Rattle.usb_base.specs.declared.side.Side.{Side}
 use Rattle.usb_base.specs.declared.side.Side.TheVariants.{Client, Host}
@@ -7,6 +7,9 @@ use Rattle.usb_base.specs.declared.reason.Reason.{Reason}
 use Rattle.usb_base.specs.declared.reason.Reason.TheVariants.{NotImported, AlreadyImported, DuplicateSeq}
 use Rattle.usb_base.specs.declared.refusal.Refusal.{Refusal}
 use Rattle.usb_base.specs.declared.transfer.Outcome.{Outcome}
+use Rattle.usb_base.specs.declared.transfer.StreamPacket.{StreamPacket}
+use Rattle.usb_base.specs.Endpoint.{is_in_endpoint}
+use Rattle.stream_buffers.specs.Held.{is_full}
 use Rattle.usb_base.specs.Status.{status_of}
 use Rattle.usbip_op.specs.declared.packet.OpPacket.{OpPacket}
 use Rattle.usbip_op.specs.declared.packet.OpPacket.TheVariants as op
@@ -17,23 +20,26 @@ use Rattle.redir_wire.specs.declared.packet.Header.{Header}
 use Rattle.redir_wire.specs.declared.packet.RedirControl.TheVariants as plain
 use Rattle.redir_wire.specs.Capability.{announced, caps_of, agreed}
 use Rattle.redir_wire.specs.Header.{head_size}
+use Rattle.redir_data.specs.declared.packet.RedirData.{RedirData}
+use Rattle.redir_data.specs.declared.packet.RedirData.TheVariants as data_packet
 use Rattle.redir_data.specs.declared.packet.RedirPacket.{RedirPacket}
-use Rattle.redir_data.specs.declared.packet.RedirPacket.TheVariants.{Plain}
+use Rattle.redir_data.specs.declared.packet.RedirPacket.TheVariants.{Plain, Carrying}
 use Rattle.usbip_urb.specs.declared.client.ClientPacket.{ClientPacket}
 use Rattle.usbip_urb.specs.declared.client.ClientPacket.TheVariants.{Op, Urb}
 use Rattle.gate_core.specs.Items.{Item, Asked, ClientWrong, ClientLeft, Told, HostWrong, HostLeft}
 use Rattle.gate_core.specs.Requests.{Request, request_of}
-use Rattle.gate_core.specs.Verdict.{Verdict, verdict, none_of, goes_by_id}
-use Rattle.gate_core.specs.Marks.{Submission, Fact, Connected, Interfaces, Endpoints, Configuration, Effect, Idle, Replies, Imports, Opens, Unbuilt, Unlinks, Agrees, Answers, StreamTold, Disconnects, Ends, Refuses, Mark}
+use Rattle.gate_core.specs.Verdict.{Verdict, Stream, verdict, none_of, bool_eq, is_iso, goes_by_id}
+use Rattle.gate_core.specs.Marks.{Submission, Fact, Connected, Interfaces, Endpoints, Configuration, Effect, Idle, Replies, Imports, Opens, Waits, Arrives, Unlinks, Agrees, Answers, StreamTold, Disconnects, Ends, Refuses, Mark}
 use Rattle.gate_core.specs.Sides.{refusal}
 use Rattle.gate_core.specs.Ids.{last_of}
-use Rattle.gate_core.specs.Submits.{has_id}
+use Rattle.gate_core.specs.Fillings.{fill, none_filled}
+use Rattle.gate_core.specs.Submits.{has_id, waits_at}
+use Rattle.gate_core.specs.Ups.{Up, stream_at, stream_of, held_of}
 use Rattle.gate_core.specs.Flight.{wide_ids, wide_bulk}
 use Rattle.gate_core.specs.State.{State, submits, next_ids, has_number, change_waits}
 use Rattle.gate_core.specs.Replies.{list_reply, import_reply, failed_import, is_exported}
 use Rattle.gate_core.specs.Packets.{packets_of, asked_packets}
 use Rattle.gate_core.specs.Responses.{Response, response_of, mismatch, seen}
-use Rattle.gate_core.specs.Built.{is_built}
 use Rattle.redir_wire.specs.EpTable.{table_of}
 
 abbrev pub refused : Side → ℕ → Reason → Effect
@@ -76,14 +82,31 @@ drawn_for st r v = next_ids st (length (packets_of st.streams v r))
 abbrev pub submission : State → Request → Verdict → List ℕ → Submission
 submission st r v ids = record { place = st.items; request = r; verdict = v; id = if goes_by_id v then last_of 0 ids else 0 }
 
-abbrev pub accepts : State → ℕ → Request → Verdict → Effect
-accepts st place r v = if is_built v then Opens (submission st r v (drawn_for st r v)) else Unbuilt (submission st r v []) place
+-- a stream that is up keeps its row
+abbrev pub by_stream : Option Up → Verdict → Verdict
+by_stream (Some up) (Stream row) = Stream up.row
+by_stream up v = v
+
+-- the requests that wait for packets of an endpoint's stream
+abbrev pub waiting : State → ℕ → List Request
+waiting st ep = map (λ s. s.request) (filter (waits_at ep) (submits st))
+
+abbrev pub accepted_as : State → Submission → Verdict → Effect
+accepted_as st s (Stream row) =
+    let ep = s.request.transfer.ep in
+    Waits s (fill row.max_packet (waiting st ep ++ s.request ∷ []) (held_of (stream_at st.streams ep)))
+accepted_as st s v = Opens s
+
+abbrev pub accepts : State → Request → Verdict → Effect
+accepts st r v =
+    let kept = by_stream (stream_at st.streams r.transfer.ep) v in
+    accepted_as st (submission st r kept (drawn_for st r kept)) kept
 
 abbrev pub urb_meaning : State → ℕ → UrbPacket → Effect
 urb_meaning st place (urb.Submit s) =
     if not st.imported then refused Client place NotImported
     else if has_number st s.head.seqnum then refused Client (place + 4) DuplicateSeq
-    else accepts st place (request_of s) (verdict_of st (request_of s))
+    else accepts st (request_of s) (verdict_of st (request_of s))
 urb_meaning st place (urb.Unlink u) =
     if not st.imported then refused Client place NotImported
     else Unlinks u.head.seqnum u.target
@@ -109,12 +132,33 @@ abbrev pub by_response : State → ℕ → Header → Option Response → Effect
 by_response st place h None = Idle
 by_response st place h (Some response) = answer_to st place h response (find (has_id h.id) (submits st ++ st.abandoned))
 
+-- a packet of a stream is held where the stream is of its type and has room; any other is lost
+abbrev pub is_held : Bool → Up → Bool
+is_held iso up = bool_eq iso (is_iso up.row.kind) && not (is_full up.held)
+
+abbrev pub arrives : State → ℕ → Bool → StreamPacket → Option Up → Effect
+arrives st ep iso packet None = Idle
+arrives st ep iso packet (Some up) =
+    Arrives ep (if is_held iso up then fill up.row.max_packet (waiting st ep) (up.held ++ packet ∷ []) else none_filled up.held)
+
+abbrev pub by_arrival : State → ℕ → Bool → ℕ → List ℕ → Effect
+by_arrival st ep iso status body = arrives st ep iso (record { status = status_of status; body = body }) (stream_of st.streams ep)
+
+-- those of an IN endpoint's stream go by no id
+abbrev pub data_meaning : State → ℕ → Header → RedirData → Effect
+data_meaning st place h (data_packet.Interrupt endpoint status length body) =
+    if is_in_endpoint endpoint then by_arrival st endpoint false status body
+    else by_response st place h (response_of (Carrying (data_packet.Interrupt endpoint status length body)))
+data_meaning st place h (data_packet.Iso endpoint status length body) = if is_in_endpoint endpoint then by_arrival st endpoint true status body else Idle
+data_meaning st place h d = by_response st place h (response_of (Carrying d))
+
 abbrev pub told_meaning : State → ℕ → Header → RedirPacket → Effect
 told_meaning st place h (Plain (plain.Hello hello)) = Agrees (agreed (caps_of hello) announced)
 told_meaning st place h (Plain plain.Disconnect) = Disconnects h.id
 told_meaning st place h (Plain (plain.IsoStatus status endpoint)) = StreamTold h.id endpoint (status_of status)
 told_meaning st place h (Plain (plain.InterruptStatus status endpoint)) = StreamTold h.id endpoint (status_of status)
-told_meaning st place h p = by_response st place h (response_of p)
+told_meaning st place h (Plain p) = by_response st place h (response_of (Plain p))
+told_meaning st place h (Carrying d) = data_meaning st place h d
 
 abbrev pub meaning : State → Item → Effect
 meaning st (Asked place packet) = asked_meaning st place packet

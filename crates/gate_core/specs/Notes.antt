@@ -3,9 +3,9 @@ use Rattle.std.specs.Prelude.{◌&&◌, not, Bool, true, false, if◌then◌else
 use Rattle.usb_base.specs.declared.refusal.Refusal.{Refusal}
 use Rattle.gate_core.specs.declared.note.Note.{Note}
 use Rattle.gate_core.specs.declared.note.Note.TheVariants as note
-use Rattle.gate_core.specs.Marks.{Submission, Effect, Imports, Unlinks, Mark}
+use Rattle.gate_core.specs.Marks.{Submission, Effect, Imports, Unlinks, Arrives, Mark}
 use Rattle.gate_core.specs.Sides.{refused_at, leaves, is_loss}
-use Rattle.gate_core.specs.Submits.{End, AtOnce, Sent, ByClient, ByLoss, ByAnswer, opened, ends}
+use Rattle.gate_core.specs.Submits.{End, AtOnce, Sent, ByClient, ByLoss, ByAnswer, ByUnlink, ByChange, ByStatus, ByPackets, opened, ends}
 use Rattle.gate_core.specs.State.{State}
 use Rattle.gate_core.specs.Output.{present}
 
@@ -25,6 +25,11 @@ abbrev pub unlink_notes : Effect → List Note
 unlink_notes (Unlinks by target) = note.UnlinkAsked by target ∷ []
 unlink_notes _ = []
 
+abbrev pub arrival_notes : Effect → List Note
+arrival_notes (Arrives ep fill) = note.Arrived ep ∷ []
+arrival_notes _ = []
+
+-- by its answer, or by packets of its stream
 abbrev pub is_by_answer : Option End → Bool
 is_by_answer None = false
 is_by_answer (Some (AtOnce status)) = false
@@ -32,6 +37,10 @@ is_by_answer (Some Sent) = false
 is_by_answer (Some ByClient) = false
 is_by_answer (Some ByLoss) = false
 is_by_answer (Some (ByAnswer outcome)) = true
+is_by_answer (Some (ByUnlink by)) = false
+is_by_answer (Some ByChange) = false
+is_by_answer (Some (ByStatus status)) = false
+is_by_answer (Some (ByPackets given)) = true
 
 abbrev pub answer_notes : State → Effect → List Note
 answer_notes st e = map (λ p. note.Answered p.submit.request.number) (filter (λ p. is_by_answer (ends e p.submit)) (present st e))
@@ -43,7 +52,7 @@ refusal_notes (Some r) = note.Refused r ∷ []
 -- an import stands until the device is lost; a client that was refused is gone before its end
 abbrev pub notes_of : State → Mark → List Note
 notes_of st m =
-    import_notes m.what ++ submit_notes m.what ++ unlink_notes m.what ++ answer_notes st m.what
+    import_notes m.what ++ submit_notes m.what ++ unlink_notes m.what ++ arrival_notes m.what ++ answer_notes st m.what
     ++ when (is_loss m.what && st.imported && not st.lost) note.DeviceGone
     ++ when (leaves m.what && not st.client_over) note.ClientGone
     ++ refusal_notes (refused_at m.what)
@@ -57,6 +66,10 @@ is_by_client (Some Sent) = false
 is_by_client (Some ByClient) = true
 is_by_client (Some ByLoss) = false
 is_by_client (Some (ByAnswer outcome)) = false
+is_by_client (Some (ByUnlink by)) = false
+is_by_client (Some ByChange) = false
+is_by_client (Some (ByStatus status)) = false
+is_by_client (Some (ByPackets given)) = false
 
 -- the submits that end with their client
 abbrev pub dropped : State → Mark → List Submission

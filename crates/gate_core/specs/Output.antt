@@ -1,5 +1,5 @@
 -- What an item sends to each side, by what the past says.
-use Rattle.std.specs.Prelude.{ℕ, ◌==◌, ◌&&◌, Bool, if◌then◌else◌, List, [], ◌∷◌, ◌++◌, map, filter, None, is_none, pos}
+use Rattle.std.specs.Prelude.{ℕ, ◌==◌, ◌&&◌, ◌||◌, Bool, if◌then◌else◌, List, [], ◌∷◌, ◌++◌, map, filter, None, is_none, pos}
 use Rattle.std.specs.List.{list_any, flat_map}
 use Rattle.redir_wire.specs.declared.packet.Caps.{Caps}
 use Rattle.redir_wire.specs.declared.packet.RedirControl.TheVariants as plain
@@ -11,7 +11,7 @@ use Rattle.usbip_urb.specs.declared.client.ClientPacket.TheVariants.{Op, Urb}
 use Rattle.gate_core.specs.Verdict.{goes_by_id, is_wire}
 use Rattle.gate_core.specs.Marks.{Submission, Effect, Replies, Imports, Unlinks, Disconnects, Mark}
 use Rattle.gate_core.specs.Sides.{leaves}
-use Rattle.gate_core.specs.Submits.{Pending, opened, ends}
+use Rattle.gate_core.specs.Submits.{Pending, is_waiting, opened, ends}
 use Rattle.gate_core.specs.State.{State}
 use Rattle.gate_core.specs.Calls.{asking}
 use Rattle.gate_core.specs.Answers.{answers_at, ret_unlink}
@@ -34,10 +34,14 @@ answered st e = map Urb (flat_map (λ p. answers_at p.submit p.unlinker (ends e 
 abbrev pub is_target : ℕ → Pending → Bool
 is_target target p = goes_by_id p.submit.verdict && (p.submit.request.number == target) && is_none p.unlinker
 
+-- a request that waits for a stream's packets is taken back at once
+abbrev pub is_taken : ℕ → Pending → Bool
+is_taken target p = is_waiting p.submit.verdict && (p.submit.request.number == target)
+
 abbrev pub replies : State → Effect → List ClientPacket
 replies st (Replies reply) = Op reply ∷ []
 replies st (Imports reply) = Op reply ∷ []
-replies st (Unlinks by target) = if list_any (is_target target) st.live then [] else Urb (ret_unlink by (pos 0)) ∷ []
+replies st (Unlinks by target) = if list_any (λ p. is_target target p || is_taken target p) st.live then [] else Urb (ret_unlink by (pos 0)) ∷ []
 replies st _ = []
 
 abbrev pub to_client : State → Mark → List ClientPacket

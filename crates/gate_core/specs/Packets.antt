@@ -13,12 +13,11 @@ use Rattle.redir_data.specs.declared.packet.RedirPacket.{RedirPacket}
 use Rattle.redir_data.specs.declared.packet.RedirPacket.TheVariants.{Plain, Carrying}
 use Rattle.control_route.specs.declared.route.Route.{Route}
 use Rattle.control_route.specs.declared.route.Route.TheVariants as route
-use Rattle.gate_core.specs.declared.streams.Up.{Up}
 use Rattle.gate_core.specs.Requests.{Request}
 use Rattle.gate_core.specs.Verdict.{Pipe, Control, Bulk, InterruptOut, Verdict, Now, Wire, Routed, IsoOut, Stream, is_iso}
-use Rattle.gate_core.specs.Marks.{Effect, Opens}
+use Rattle.gate_core.specs.Marks.{Effect, Opens, Waits}
 use Rattle.gate_core.specs.Sides.{leaves}
-use Rattle.gate_core.specs.Ups.{stream_at, is_ended}
+use Rattle.gate_core.specs.Ups.{Up, stream_at, is_ended}
 
 -- every control transfer has a setup
 abbrev pub no_setup : Setup
@@ -87,9 +86,10 @@ packets_of ups (Now status) r = []
 packets_of ups (Wire pipe) r = wire_packet pipe r.transfer ∷ []
 packets_of ups (Routed route) r = stops (is_ended (Some route)) ups ++ route_packets route
 packets_of ups (IsoOut row) r = starts (stream_at ups r.transfer.ep) r.transfer.ep row ++ iso_packets r
-packets_of ups (Stream row) r = []
+packets_of ups (Stream row) r = starts (stream_at ups r.transfer.ep) r.transfer.ep row
 
 -- with its client gone each stream is stopped
 abbrev pub asked_packets : List (Option Up) → Effect → List RedirPacket
 asked_packets ups (Opens s) = packets_of ups s.verdict s.request
+asked_packets ups (Waits s fill) = packets_of ups s.verdict s.request
 asked_packets ups e = if leaves e then stops (is_ended None) ups else []

@@ -3,12 +3,11 @@ use Rattle.std.specs.Prelude.{ℕ, Bool, true, false, not, ◌||◌, if◌then�
 use Rattle.usb_base.specs.declared.side.Side.{Side}
 use Rattle.usb_base.specs.declared.side.Side.TheVariants.{Client, Host}
 use Rattle.usb_base.specs.declared.reason.Reason.{Reason}
-use Rattle.usb_base.specs.declared.reason.Reason.TheVariants.{NotBuilt}
 use Rattle.usb_base.specs.declared.refusal.Refusal.{Refusal}
 use Rattle.redir_wire.specs.declared.packet.Caps.{Caps}
 use Rattle.redir_wire.specs.Capability.{no_caps}
 use Rattle.gate_core.specs.Items.{capped}
-use Rattle.gate_core.specs.Marks.{Effect, Imports, Unbuilt, Agrees, Disconnects, Ends, Refuses, Mark}
+use Rattle.gate_core.specs.Marks.{Effect, Imports, Agrees, Disconnects, Ends, Refuses, Mark}
 
 -- ---- of one effect
 
@@ -18,7 +17,6 @@ refusal side place reason = record { side = side; place = capped place; reason =
 -- where it refuses a side
 abbrev pub refused_at : Effect → Option Refusal
 refused_at (Refuses r) = Some r
-refused_at (Unbuilt s place) = Some (refusal Client place NotBuilt)
 refused_at _ = None
 
 abbrev pub is_client : Side → Bool

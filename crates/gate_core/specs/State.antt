@@ -3,16 +3,14 @@ use Rattle.std.specs.Prelude.{ℕ, ◌==◌, Bool, List, ◌++◌, length, map, 
 use Rattle.std.specs.List.{list_any}
 use Rattle.redir_wire.specs.declared.packet.Caps.{Caps}
 use Rattle.gate_core.specs.declared.facts.Facts.{Facts}
-use Rattle.gate_core.specs.declared.streams.Up.{Up}
-use Rattle.gate_core.specs.declared.streams.Calls.{Calls}
 use Rattle.gate_core.specs.Ids.{draws, greatest}
 use Rattle.gate_core.specs.Verdict.{changes}
 use Rattle.gate_core.specs.Marks.{Submission, Mark}
 use Rattle.gate_core.specs.Sides.{imported, lost, client_over, host_over, agreed}
 use Rattle.gate_core.specs.Facts.{facts}
 use Rattle.gate_core.specs.Submits.{Pending, pendings, abandoned}
-use Rattle.gate_core.specs.Ups.{streams}
-use Rattle.gate_core.specs.Calls.{calls, call_ids, fence}
+use Rattle.gate_core.specs.Ups.{Up, streams}
+use Rattle.gate_core.specs.Calls.{Calls, calls, call_ids, fence}
 use Rattle.gate_core.specs.Flight.{wide_ids, ids_of, last_drawn}
 
 pub record State : Type 0 where

@@ -1,8 +1,14 @@
 -- The accepted submits, how each ended, which are live, and which were asked back: by search of the past.
-use Rattle.std.specs.Prelude.{ℕ, ◌==◌, ◌&&◌, nat_le, not, Bool, false, if◌then◌else◌, List, [], ◌∷◌, ◌++◌, length, filter, map, Option, Some, None, is_none, ℤ}
+use Rattle.std.specs.Prelude.{ℕ, ◌==◌, ◌&&◌, nat_le, not, Bool, true, false, if◌then◌else◌, List, [], ◌∷◌, ◌++◌, length, filter, map, Option, Some, None, is_none, ℤ}
+use Rattle.std.specs.Option.{option_map}
+use Rattle.usb_base.specs.declared.status.UsbStatus.{UsbStatus}
 use Rattle.usb_base.specs.declared.transfer.Outcome.{Outcome}
+use Rattle.stream_buffers.specs.Interrupt.{is_success}
+use Rattle.control_route.specs.declared.route.Route.{Route}
+use Rattle.control_route.specs.Changes.{touches}
 use Rattle.gate_core.specs.Verdict.{Verdict, Now, Wire, Routed, IsoOut, Stream, goes_by_id}
-use Rattle.gate_core.specs.Marks.{Submission, Effect, Opens, Unbuilt, Unlinks, Answers, Mark}
+use Rattle.gate_core.specs.Fillings.{Given, Filling, given_to}
+use Rattle.gate_core.specs.Marks.{Submission, Effect, Opens, Waits, Arrives, Unlinks, Answers, StreamTold, Mark}
 use Rattle.gate_core.specs.Sides.{leaves, is_loss, or_else}
 
 -- how a submit ends
@@ -14,12 +20,18 @@ pub data End : Type 0 where
   ByClient : End
   ByLoss : End
   ByAnswer : Outcome → End
+  -- of one that waits for a stream's packets: this unlink takes it back, a change of its interface ends the stream, the
+  -- host ends it with this status, or packets fill it
+  ByUnlink : (by : ℕ) → End
+  ByChange : End
+  ByStatus : UsbStatus → End
+  ByPackets : Given → End
 
 -- ---- the submits
 
 abbrev pub opened : Effect → List Submission
 opened (Opens s) = s ∷ []
-opened (Unbuilt s place) = s ∷ []
+opened (Waits s fill) = s ∷ []
 opened _ = []
 
 -- in order
@@ -39,8 +51,42 @@ at_once (Stream row) = None
 abbrev pub has_id : ℕ → Submission → Bool
 has_id id s = goes_by_id s.verdict && (s.id == id)
 
+-- it waits for a stream's packets
+abbrev pub is_waiting : Verdict → Bool
+is_waiting (Now status) = false
+is_waiting (Wire pipe) = false
+is_waiting (Routed r) = false
+is_waiting (IsoOut row) = false
+is_waiting (Stream row) = true
+
+-- for those of this endpoint's
+abbrev pub waits_at : ℕ → Submission → Bool
+waits_at ep s = is_waiting s.verdict && (s.request.transfer.ep == ep)
+
+-- for those of a stream that ends with this route
+abbrev pub touches_stream : Route → Verdict → Bool
+touches_stream r (Now status) = false
+touches_stream r (Wire pipe) = false
+touches_stream r (Routed other) = false
+touches_stream r (IsoOut row) = false
+touches_stream r (Stream row) = touches r row.interface
+
+abbrev pub is_touched : Verdict → Verdict → Bool
+is_touched (Now status) v = false
+is_touched (Wire pipe) v = false
+is_touched (Routed r) v = touches_stream r v
+is_touched (IsoOut row) v = false
+is_touched (Stream row) v = false
+
+abbrev pub packets_end : ℕ → List Filling → Submission → Option End
+packets_end ep fillings s = if waits_at ep s then option_map ByPackets (given_to fillings s.request.number) else None
+
 abbrev pub own_end : Effect → Submission → Option End
-own_end (Opens t) s = if t.place == s.place then at_once s.verdict else None
+own_end (Opens t) s = if t.place == s.place then at_once s.verdict else if is_touched t.verdict s.verdict then Some ByChange else None
+own_end (Waits t fill) s = packets_end t.request.transfer.ep fill.fillings s
+own_end (Arrives ep fill) s = packets_end ep fill.fillings s
+own_end (Unlinks by target) s = if is_waiting s.verdict && (s.request.number == target) then Some (ByUnlink by) else None
+own_end (StreamTold id ep status) s = if waits_at ep s && not (is_success status) then Some (ByStatus status) else None
 own_end (Answers id outcome) s = if has_id id s then Some (ByAnswer outcome) else None
 own_end _ s = None
 

@@ -6,7 +6,7 @@ use Rattle.usbip_urb.specs.declared.client.ClientPacket.TheVariants.{Urb}
 use Rattle.gate_core.specs.Errno.{is_zero}
 use Rattle.gate_core.specs.Verdict.{is_wire}
 use Rattle.gate_core.specs.Marks.{Submission, Effect, Mark}
-use Rattle.gate_core.specs.Submits.{End, ByLoss, ByAnswer, opened, end_of, ended, unlinker}
+use Rattle.gate_core.specs.Submits.{End, ByLoss, ByAnswer, ByUnlink, opened, end_of, ended, unlinker}
 use Rattle.gate_core.specs.State.{is_number}
 use Rattle.gate_core.specs.Answers.{is_cancelled}
 use Rattle.gate_core.specs.Notes.{is_by_client}
@@ -65,6 +65,11 @@ abbrev pub answer : (number : ℕ) → (unlinker : Option ℕ) → (won : Bool) 
 answer number None won = Completed number
 answer number (Some by) won = if won then Unlinked by else Completed number
 
+-- an unlink that takes back a request which waits for a stream's packets is its answer
+abbrev pub answer_by : Submission → Option ℕ → Option End → Answer
+answer_by s by (Some (ByUnlink other)) = Unlinked other
+answer_by s by end = answer s.request.number by (wins s end)
+
 -- the one answer of a submit that has ended
 abbrev pub answer_of : List Mark → Submission → Answer
-answer_of ms s = answer s.request.number (unlinker ms s) (wins s (end_of ms s))
+answer_of ms s = answer_by s (unlinker ms s) (end_of ms s)

@@ -7,5 +7,8 @@ pub mod Flying
 pub mod Calling
 pub mod Rows
 pub mod Holds
+pub mod Filling
+pub mod Ending
+pub mod Lent
 pub mod Unlinked
 pub mod Steps

@@ -6,7 +6,6 @@ ghost use Rattle.redir_wire.specs.Header.{IdFits};
 ghost use Rattle.redir_wire.specs.Capability.{has, no_caps};
 ghost use Rattle.redir_wire.specs.declared.packet.RedirControl.TheVariants.{Cancel, DisconnectAck, Reset as ResetPacket, GetConfiguration as GetConfigurationPacket};
 ghost use Rattle.redir_data.specs.declared.packet.RedirPacket.TheVariants.{Plain, Carrying};
-ghost use Rattle.usb_base.specs.Endpoint.{is_in_endpoint};
 ghost use Rattle.redir_data.specs.declared.packet.RedirData.TheVariants as data_packet;
 ghost use Rattle.gate_core.specs.Packets.{wire_packet, route_packets, start_packet, stop_packet};
 ghost use Rattle.gate_core.specs.Bytes.{host_packet_bytes, gateway_hello};
@@ -18,7 +17,7 @@ use crate::field::field;
 use crate::streams::Up;
 use crate::verdict::Pipe;
 use control_route::Route;
-use redir_data::{RedirData, write_data};
+use redir_data::{RedirData, write_data, write_iso_out};
 use redir_wire::{ANNOUNCED, Caps, Hello, RedirControl, Way, Words, write_control};
 use std::alloc::Global;
 use usb_base::{Bytes, EpAddr, EpKind, EpRow, Memory, Transfer};
@@ -181,8 +180,8 @@ pub fn write_stop(up: &Up, id: u64, caps: Caps, out: &mut Bytes) -> Result<(), M
     ensures ok { OnOk result (out.new ≡ out.old ++ host_packet_bytes caps (id, stop_packet up.now)) }
     ensures err { OnErr result (out.new ≡ out.old) }
 {
-    let endpoint = up.ep.byte();
-    if up.row.kind == EpKind::Iso {
+    let endpoint = up.ep().byte();
+    if up.row().kind == EpKind::Iso {
         write_control(&RedirControl::StopIso { endpoint }, id, caps, out)
     } else {
         write_control(&RedirControl::StopInterrupt { endpoint }, id, caps, out)
@@ -191,28 +190,18 @@ pub fn write_stop(up: &Up, id: u64, caps: Caps, out: &mut Bytes) -> Result<(), M
 
 /// Appends an isochronous packet to the device with these data. For want of memory `out` stands.
 pub fn write_iso(
-    alloc: Global,
     ep: EpAddr,
-    data: &[u8],
+    body: &[u8],
     id: u64,
     caps: Caps,
     out: &mut Bytes,
 ) -> Result<(), Memory>
-    requires to_device { is_in_endpoint ep ≡ false }
-    requires few { length data.now ≤ 65535 }
+    requires few { length body.now ≤ 65535 }
     requires id_fits { IdFits (wide_ids caps) id }
-    ensures ok { OnOk result (out.new ≡ out.old ++ host_packet_bytes caps (id, Carrying (data_packet.Iso ep 0 (length data.now) data.now))) }
+    ensures ok { OnOk result (out.new ≡ out.old ++ host_packet_bytes caps (id, Carrying (data_packet.Iso ep 0 (length body.now) body.now))) }
     ensures err { OnErr result (out.new ≡ out.old) }
 {
-    let mut body = Bytes::new(alloc);
-    body.append(data)?;
-    let packet = RedirData::Iso {
-        endpoint: ep.byte(),
-        status: 0,
-        length: data.len() as u16,
-        body,
-    };
-    write_data(&packet, id, Way::ToHost, caps, out)
+    write_iso_out(ep.byte(), body, id, caps, out)
 }
 
 /// Appends the cancel of the packet that has this id. For want of memory `out` stands.

@@ -8,7 +8,7 @@ ghost use Rattle.unlink_race.specs.Searches.{goes_by_id};
 ghost use Rattle.gate_core.specs.Flight.{wide_ids};
 ghost use Rattle.gate_core.specs.declared.note.Note.TheVariants.{DeviceGone, ClientGone};
 ghost use Rattle.gate_core.specs.Items.{capped};
-ghost use Rattle.gate_core.specs.Marks.{Submission, Disconnects, Ends, Refuses, Unbuilt};
+ghost use Rattle.gate_core.specs.Marks.{Disconnects, Ends, Refuses};
 ghost use Rattle.gate_core.specs.Sides.{refusal};
 ghost use Rattle.gate_core.specs.Ups.{no_streams};
 ghost use Rattle.gate_core.specs.Output.{acknowledgements};
@@ -20,11 +20,11 @@ ghost use Rattle.gate_core.specs.inner.Holds.{IsKept, Holds, Does, Leaves, Exten
 ghost use Rattle.gate_core.specs.inner.Rows.{lost_bytes, cancel_bytes, is_asked_back};
 
 use crate::ask::{write_cancel, write_disconnect_ack};
+use crate::calls::Called;
 use crate::facts::Facts;
 use crate::finish::write_lost;
 use crate::kept::Kept;
 use crate::note::{Note, Notes};
-use crate::streams::{Called, no_streams};
 use redir_wire::{Caps, DISCONNECT_ACK};
 use unlink_race::{Live, LiveKind};
 use usb_base::{Bytes, Memory, Reason, Refusal, Side};
@@ -75,7 +75,7 @@ impl Kept {
         }
         self.lives.forget_abandoned();
         self.facts = Facts::none();
-        self.streams = no_streams();
+        self.streams.clear();
         self.fence = None;
         self.lost = true;
     }
@@ -173,34 +173,6 @@ impl Kept {
         Ok(())
     }
 
-    /// The client is refused for a submit that is accepted, but for which nothing is built: it counts as dropped.
-    pub fn refuse_unbuilt(
-        &mut self,
-        number: u32,
-        place: u64,
-        to_host: &mut Bytes,
-        notes: &mut Notes,
-    ) -> Result<(), Memory>
-        requires kept { IsKept self.old }
-        ensures kept { IsKept self.new }
-        ensures ok { (st : State) (client : List ℕ) (s : Submission) (at : ℕ) → Holds self.old st → st.client_over ≡ false → s.request.number ≡ number → s.id ≡ 0 → place ≡ capped at
-            → OnOk result (Does st (mark_as st (Unbuilt s at) None) self.old self.new client client to_host.old to_host.new notes.old notes.new) }
-        ensures err { (client : List ℕ) → OnErr result (Leaves self.old self.new client client to_host.old to_host.new notes.old notes.new) }
-    {
-        self.write_cancels(to_host)?;
-        let called = self.write_stops(None, to_host)?;
-        notes.push(Note::Submitted {
-            seqnum: number,
-            id: 0,
-        })?;
-        notes.push(Note::ClientGone)?;
-        notes.push(Note::Refused(client_refusal(place, Reason::NotBuilt)))?;
-        self.leave(called);
-        self.client_over = true;
-        self.dropped = self.dropped.saturating_add(1);
-        Ok(())
-    }
-
     /// Tells that an import stands no more.
     fn tell_loss(&self, notes: &mut Notes) -> Result<(), Memory>
         ensures ok { OnOk result (notes.new ≡ notes.old ++ when (self.now.imported && not self.now.lost) DeviceGone) }
@@ -253,7 +225,7 @@ impl Kept {
         ensures kept { IsKept self.new }
         ensures forgot { self.new ≡ record self.old { streams = no_streams; calls = called.calls; fence = called.fence; last = called.last } }
     {
-        self.streams = no_streams();
+        self.streams.clear();
         self.calls = called.calls;
         self.fence = called.fence;
         self.last = called.last;

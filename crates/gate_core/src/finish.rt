@@ -4,9 +4,9 @@ ghost use Rattle.std.specs.Prelude.{◌≡◌, ◌++◌, [], None, pos, OnOk, On
 ghost use Rattle.std.specs.List.{flat_map};
 ghost use Rattle.usbip_urb.specs.Spelling.{spelling};
 ghost use Rattle.gate_core.specs.Marks.{Submission};
-ghost use Rattle.gate_core.specs.Answers.{with_outcome, ret_unlink, answers_by};
+ghost use Rattle.gate_core.specs.Answers.{without_packets, with_outcome, ret_unlink, answers_by};
 ghost use Rattle.gate_core.specs.inner.Asked.{asked_view, HasItsPackets, IsMoved};
-ghost use Rattle.gate_core.specs.inner.Rows.{IsRowOf, lost_bytes};
+ghost use Rattle.gate_core.specs.inner.Rows.{IsRowOf, row_request, lost_bytes};
 
 use crate::answer::{Asked, write_outcome, write_ret_unlink, write_without_packets};
 use crate::errno::{ECONNRESET, ESHUTDOWN};
@@ -15,7 +15,7 @@ use unlink_race::{Ending, Live, ending_of};
 use usb_base::{Bytes, Memory, Outcome};
 
 /// What the answer of a request in flight has of its submit.
-fn asked_by(live: &Live) -> Asked<'_>
+pub fn asked_by(live: &Live) -> Asked<'_>
     ensures { asked_view result ≡ record { number = live.now.seqnum; is_in = live.now.is_in; flags = live.now.flags; packets = live.now.packets; descs = live.now.descs; transfer = record { ep = 0; setup = None; wanted = live.now.wanted; body = [] } } }
 {
     Asked {
@@ -36,9 +36,18 @@ pub fn write_lost(alloc: Global, live: &Live, out: &mut Bytes) -> Result<(), Mem
     ensures err { OnErr result (out.new ≡ out.old) }
 {
     match live.unlinker {
-        None => write_without_packets(alloc, &asked_by(live), ESHUTDOWN, out),
+        None => write_ended(alloc, live, ESHUTDOWN, out),
         Some(by) => write_ret_unlink(by, ECONNRESET, out),
     }
+}
+
+/// Appends the answer of a request that ends with this status, without its packets. For want of memory `out` stands.
+pub fn write_ended(alloc: Global, live: &Live, status: i32, out: &mut Bytes) -> Result<(), Memory>
+    requires { HasItsPackets live.now.packets live.now.descs }
+    ensures ok { OnOk result (out.new ≡ out.old ++ spelling (without_packets (row_request live.now) status)) }
+    ensures err { OnErr result (out.new ≡ out.old) }
+{
+    write_without_packets(alloc, &asked_by(live), status, out)
 }
 
 /// Appends the answers of a request that the host has answered so: its own, its unlink's, or both. The outcome's body

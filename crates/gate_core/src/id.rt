@@ -6,7 +6,7 @@ ghost use Rattle.gate_core.specs.Ids.{after, greatest, holds, draw};
 ghost use Rattle.gate_core.specs.Calls.{call_ids};
 ghost use Rattle.gate_core.specs.inner.Flying.{ids_in};
 
-use crate::streams::Calls;
+use crate::calls::Calls;
 use unlink_race::Lives;
 
 /// The greatest id, without 64-bit ids and with them.

@@ -17,10 +17,10 @@ ghost use Rattle.gate_core.specs.inner.Holds.{IsKept, Holds, Does, Leaves, Exten
 
 use crate::answer::write_all_sent;
 use crate::ask::{write_iso, write_start};
+use crate::calls::Called;
 use crate::kept::Kept;
 use crate::note::{Note, Notes};
 use crate::request::Request;
-use crate::streams::{Called, raise};
 use usb_base::{Bytes, EpAddr, EpRow, Memory};
 use usbip_urb::part;
 
@@ -51,7 +51,7 @@ impl Kept {
         let called = self.write_start(ep, row, to_host)?;
         let last = self.write_packets(request, called.last, to_host)?;
         write_all_sent(self.alloc, &request.asked(), to_client)?;
-        raise(&mut self.streams, ep, row);
+        self.streams.raise(self.alloc, ep, row);
         self.calls = called.calls;
         self.last = last;
         self.answered = self.answered.saturating_add(1);
@@ -59,14 +59,14 @@ impl Kept {
     }
 
     /// Appends the start of an endpoint's stream, unless it is up. It gives what is to be kept of it.
-    fn write_start(&self, ep: EpAddr, row: EpRow, to_host: &mut Bytes) -> Result<Called, Memory>
+    pub fn write_start(&self, ep: EpAddr, row: EpRow, to_host: &mut Bytes) -> Result<Called, Memory>
         requires { IsKept self.now }
         ensures sent { OnOk result (to_host.new ≡ to_host.old ++ bytes_of self.now self.now.last (starts_of self.now ep row)) }
         ensures called { IfOk result (λ called. called ≡ after_starts self.now (called_of self.now) (starts_of self.now ep row)) }
         ensures err { OnErr result (to_host.new ≡ to_host.old) }
     {
         let mut called = self.called();
-        match self.streams[ep.index()] {
+        match self.streams.at(ep) {
             Some(_) => Ok(called),
             None => {
                 let id = self.draw(self.last);
@@ -96,14 +96,7 @@ impl Kept {
         for place in 0..request.descs.len() {
             let data = part(&request.descs, body, place);
             let id = self.draw(last);
-            write_iso(
-                self.alloc,
-                request.transfer.ep,
-                data,
-                id,
-                self.caps,
-                to_host,
-            )?;
+            write_iso(request.transfer.ep, data, id, self.caps, to_host)?;
             last = id;
         }
         Ok(last)

@@ -3,8 +3,9 @@
 ghost use Rattle.std.specs.Prelude.{◌≡◌, ◌≤◌, IfOk};
 ghost use Rattle.gate_core.specs.inner.Holds.{IsFirst, IsKept};
 
+use crate::calls::Calls;
 use crate::facts::Facts;
-use crate::streams::{Calls, Up, no_streams};
+use crate::streams::Streams;
 use redir_wire::Caps;
 use std::alloc::Global;
 use unlink_race::Lives;
@@ -28,7 +29,7 @@ pub struct Kept {
     /// The host has ended or was refused.
     pub host_over: bool,
     /// The streams that are up, by their endpoints' places in a table.
-    pub streams: [Option<Up>; 32],
+    pub streams: Streams,
     /// The ids of what started and stopped them.
     pub calls: Calls,
     /// The id of the last stop that a client's leaving sent, until the host has answered it: no import passes it.
@@ -59,7 +60,7 @@ impl Kept {
             lost: false,
             client_over: false,
             host_over: false,
-            streams: no_streams(),
+            streams: Streams::make(alloc)?,
             calls: Calls::none(),
             fence: None,
             last: first_id - 1,

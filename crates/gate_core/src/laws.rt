@@ -1,13 +1,14 @@
 //! Laws of the core's definitions, as contracts of functions that do nothing.
 
 ghost use Rattle.std.specs.Prelude.{◌≡◌, ◌<◌, ◌≤◌, ◌↔◌, ℕ, List, ◌∷◌, length, map};
-ghost use Rattle.std.specs.List.{list_any, flat_map};
+ghost use Rattle.std.specs.List.{list_any, flat_map, AllByRecursion};
 ghost use Rattle.usb_base.specs.Number.{AreBytes};
 ghost use Rattle.gate_core.specs.Events.{Event as PastEvent};
 ghost use Rattle.gate_core.specs.Items.{Item};
 ghost use Rattle.gate_core.specs.Ids.{draw, greatest, IsNext, AreFresh, Once};
 ghost use Rattle.gate_core.specs.Submits.{live};
 ghost use Rattle.gate_core.specs.Flight.{wide_ids, in_flight};
+ghost use Rattle.gate_core.specs.Ups.{held_of, streams};
 ghost use Rattle.gate_core.specs.State.{state_of, is_number};
 ghost use Rattle.gate_core.specs.Meaning.{mark_of};
 ghost use Rattle.gate_core.specs.Past.{past};
@@ -60,8 +61,8 @@ pub fn losses_end_all()
         → Loses (state_of first (past first items)) item → EndsAll first items item }
 {}
 
-/// A law: after every past few requests are live, what a former client left is gone before the next one has
-/// imported, and a number and an id are each that of one request at most.
+/// A law: after every past few requests are live, none of which is one that is answered where it is accepted, what a
+/// former client left is gone before the next one has imported, and a number and an id are each that of one request at most.
 pub fn states_are_sound()
     ensures { (first : ℕ) (items : List Item) → IsSound (state_of first (past first items)) }
 {}
@@ -81,4 +82,9 @@ pub fn ids_fly_once()
 pub fn rests_are_short()
     ensures client { (bytes : List ℕ) → AreBytes bytes → length (client_split bytes).rest ≤ 16793647 }
     ensures host { (bytes : List ℕ) → AreBytes bytes → length (host_split bytes).rest ≤ 16777295 }
+{}
+
+/// A law: after every past each stream holds at most 1,024 packets.
+pub fn streams_hold_few()
+    ensures { (first : ℕ) (items : List Item) → AllByRecursion (λ o. length (held_of o) ≤ 1024) (streams (past first items)) }
 {}

@@ -3,13 +3,17 @@
 #![tactic(auto)]
 
 mod answer;
+mod arrive;
 mod ask;
+mod calls;
 mod client;
 mod end;
 mod errno;
 mod event;
 mod facts;
 mod field;
+mod fill;
+mod filling;
 mod finish;
 mod gate;
 mod id;
@@ -23,6 +27,7 @@ mod reply;
 mod request;
 mod response;
 mod stop;
+mod stream_end;
 mod streams;
 mod submit;
 mod take;
@@ -30,6 +35,7 @@ mod told;
 mod translator;
 mod unlink;
 mod verdict;
+mod wait;
 
 pub use event::Event;
 pub use facts::Facts;
@@ -37,7 +43,7 @@ pub use gate::Gate;
 pub use item::Item;
 pub use laws::{
     events_add_items, ids_fly_once, losses_end_all, machine_is_past, rests_are_short,
-    states_are_sound, submits_end_once,
+    states_are_sound, streams_hold_few, submits_end_once,
 };
 pub use note::{Counts, Note, Notes};
 pub use request::Request;

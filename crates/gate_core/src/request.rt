@@ -26,6 +26,13 @@ pub struct Request {
 }
 
 impl Request {
+    /// The endpoint of its transfer.
+    pub fn ep(&self) -> EpAddr
+        ensures { result ≡ self.now.transfer.ep }
+    {
+        self.transfer.ep
+    }
+
     /// What a submit asks for. Its body and its descriptors are moved.
     pub fn of(submit: Submit) -> Request
         requires { IsSubmit submit }

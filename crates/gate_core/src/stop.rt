@@ -7,8 +7,9 @@ ghost use Rattle.gate_core.specs.inner.Calling.{stops_of, called_of, after_stops
 ghost use Rattle.gate_core.specs.inner.Holds.{IsKept, Extends};
 
 use crate::ask::write_stop;
+use crate::calls::Called;
 use crate::kept::Kept;
-use crate::streams::{Called, Up};
+use crate::streams::Up;
 use control_route::Route;
 use usb_base::{Bytes, Memory};
 
@@ -33,7 +34,7 @@ impl Kept {
         ensures err { OnErr result (Extends to_host.old to_host.new) }
     {
         let mut called = self.called();
-        for stream in &self.streams {
+        for stream in self.streams.as_slice() {
             self.write_stop_of(stream, by, &mut called, to_host)?;
         }
         Ok(called)
@@ -56,7 +57,7 @@ impl Kept {
             Some(up) if up.is_ended(by) => {
                 let id = self.draw(called.last);
                 write_stop(up, id, self.caps, to_host)?;
-                called.calls.stop(up.ep, id);
+                called.calls.stop(up.ep(), id);
                 called.last = id;
                 called.fence = Some(id);
                 Ok(())

@@ -27,16 +27,17 @@ ghost use Rattle.gate_core.specs.inner.Holds.{IsKept, Holds, Does, Leaves, IsFre
 
 use crate::answer::write_without_packets;
 use crate::ask::{packet_count, write_route, write_wire};
+use crate::calls::Calls;
 use crate::end::client_refusal;
+use crate::errno::ESHUTDOWN;
 use crate::id::draw;
 use crate::kept::Kept;
 use crate::note::{Note, Notes};
 use crate::request::Request;
-use crate::streams::{Calls, lower};
 use crate::verdict::{Pipe, Verdict, decide};
 use control_route::Route;
 use redir_wire::{WIDE_BULK_LENGTH, WIDE_IDS};
-use unlink_race::{Live, LiveKind};
+use unlink_race::{Live, LiveKind, StreamEnd};
 use usb_base::{Bytes, Memory, Reason};
 use usbip_urb::Submit;
 
@@ -64,13 +65,12 @@ impl Kept {
             let place = place.saturating_add(4);
             return self.refuse_client(client_refusal(place, Reason::DuplicateSeq), to_host, notes);
         }
-        self.accept(place, Request::of(submit), to_client, to_host, notes)
+        self.accept(Request::of(submit), to_client, to_host, notes)
     }
 
     /// A submit is accepted, and goes on by its verdict.
     fn accept(
         &mut self,
-        place: u64,
         request: Request,
         to_client: &mut Bytes,
         to_host: &mut Bytes,
@@ -81,16 +81,16 @@ impl Kept {
         requires number_free { list_any (has_number request.number) self.old.lives.live ≡ false }
         requires whole { IsRequest (request_view request) }
         ensures kept { IsKept self.new }
-        ensures ok { (st : State) (at : ℕ) → place ≡ capped at → Holds self.old st → IsSound st → st.client_over ≡ false
-            → OnOk result (Does st (mark_as st (accepts st at (request_view request) (verdict_of st (request_view request))) None) self.old self.new to_client.old to_client.new to_host.old to_host.new notes.old notes.new) }
+        ensures ok { (st : State) → Holds self.old st → IsSound st
+            → OnOk result (Does st (mark_as st (accepts st (request_view request) (verdict_of st (request_view request))) None) self.old self.new to_client.old to_client.new to_host.old to_host.new notes.old notes.new) }
         ensures err { OnErr result (Leaves self.old self.new to_client.old to_client.new to_host.old to_host.new notes.old notes.new) }
     {
         match self.verdict(&request) {
             Verdict::Now(status) => self.answer_now(&request, status, to_client, notes),
             Verdict::Wire(pipe) => self.send(pipe, request, to_host, notes),
-            Verdict::Routed(route) => self.send_route(route, request, to_host, notes),
+            Verdict::Routed(route) => { self.send_route(route, request, to_client, to_host, notes) }
             Verdict::IsoOut(row) => self.send_iso(row, &request, to_client, to_host, notes),
-            Verdict::Stream(_) => self.refuse_unbuilt(request.number, place, to_host, notes),
+            Verdict::Stream(row) => self.wait(row, request, to_client, to_host, notes),
         }
     }
 
@@ -188,11 +188,13 @@ impl Kept {
         Ok(())
     }
 
-    /// A transfer goes to the host by the packets of its route, once the streams that end with it are stopped.
+    /// A transfer goes to the host by the packets of its route, once the streams that end with it are stopped, and the
+    /// requests that wait for their packets answered.
     fn send_route(
         &mut self,
         route: Route,
         request: Request,
+        to_client: &mut Bytes,
         to_host: &mut Bytes,
         notes: &mut Notes,
     ) -> Result<(), Memory>
@@ -201,10 +203,12 @@ impl Kept {
         requires answered { CanAnswer (request_view request) (Routed route) }
         requires some { 1 ≤ length (route_packets route) }
         ensures kept { IsKept self.new }
-        ensures ok { (st : State) (client : List ℕ) → Holds self.old st → IsSound st
-            → OnOk result (Does st (mark_as st (Opens (submission st (request_view request) (verdict.Routed route) (drawn_for st (request_view request) (verdict.Routed route)))) None) self.old self.new client client to_host.old to_host.new notes.old notes.new) }
-        ensures err { (client : List ℕ) → OnErr result (Leaves self.old self.new client client to_host.old to_host.new notes.old notes.new) }
+        ensures ok { (st : State) → Holds self.old st → IsSound st
+            → OnOk result (Does st (mark_as st (Opens (submission st (request_view request) (verdict.Routed route) (drawn_for st (request_view request) (verdict.Routed route)))) None) self.old self.new to_client.old to_client.new to_host.old to_host.new notes.old notes.new) }
+        ensures err { OnErr result (Leaves self.old self.new to_client.old to_client.new to_host.old to_host.new notes.old notes.new) }
     {
+        let end = StreamEnd::Change(route);
+        self.write_ends(&end, ESHUTDOWN, to_client)?;
         let called = self.write_stops(Some(route), to_host)?;
         let id = self.ask_route(&route, called.last, to_host)?;
         notes.push(Note::Submitted {
@@ -213,6 +217,7 @@ impl Kept {
         })?;
         let live = row_of(request, LiveKind::Routed(route), id);
         self.open(live, id);
+        self.drop_ended(&end);
         self.end_streams(route, called.calls);
         Ok(())
     }
@@ -240,7 +245,7 @@ impl Kept {
         ensures kept { IsKept self.new }
         ensures ended { self.new ≡ record self.old { streams = lower (is_ended (Some route)) self.old.streams; calls = calls } }
     {
-        lower(&mut self.streams, route);
+        self.streams.lower(Some(route));
         self.calls = calls;
     }
 
@@ -254,7 +259,7 @@ impl Kept {
     }
 
     /// Takes a request in, the last of those in flight, for which this id was drawn last.
-    fn open(&mut self, live: Live, last: u64)
+    pub fn open(&mut self, live: Live, last: u64)
         requires kept { IsKept self.old }
         requires free { IsFree self.old live.seqnum }
         requires fine { IsFine self.old.caps live }
@@ -267,7 +272,7 @@ impl Kept {
 }
 
 /// The row of a request that goes as one of this kind, under this id.
-fn row_of(request: Request, kind: LiveKind, id: u64) -> Live
+pub fn row_of(request: Request, kind: LiveKind, id: u64) -> Live
     ensures { result ≡ row_for (request_view request) kind id }
 {
     Live {

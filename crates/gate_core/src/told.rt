@@ -8,24 +8,23 @@ ghost use Rattle.usbip_urb.specs.Spelling.{spelling};
 ghost use Rattle.usbip_urb.specs.declared.client.ClientPacket.TheVariants.{Urb};
 ghost use Rattle.redir_wire.specs.Capability.{announced, caps_of, agreed};
 ghost use Rattle.redir_wire.specs.Header.{head_size};
-ghost use Rattle.redir_data.specs.declared.packet.RedirPacket.TheVariants.{Plain};
+ghost use Rattle.redir_data.specs.declared.packet.RedirPacket.TheVariants.{Plain, Carrying};
 ghost use Rattle.unlink_race.specs.Searches.{has_id};
 ghost use Rattle.gate_core.specs.declared.note.Note.TheVariants.{Answered};
 ghost use Rattle.gate_core.specs.Items.{capped};
-ghost use Rattle.gate_core.specs.Marks.{Submission};
+ghost use Rattle.gate_core.specs.Marks.{Submission, StreamTold};
 ghost use Rattle.gate_core.specs.Facts.{tell};
 ghost use Rattle.usb_base.specs.Status.{status_of};
-ghost use Rattle.gate_core.specs.Ups.{is_success, lower_at};
 ghost use Rattle.gate_core.specs.Calls.{lifted};
 ghost use Rattle.gate_core.specs.Flight.{wide_ids};
 ghost use Rattle.gate_core.specs.Submits.{has_id as submit_has_id};
 ghost use Rattle.gate_core.specs.State.{State, submits};
 ghost use Rattle.gate_core.specs.Responses.{response_of, seen};
-ghost use Rattle.gate_core.specs.Meaning.{mark_as, fact_of, by_response, told_meaning};
+ghost use Rattle.gate_core.specs.Meaning.{mark_as, fact_of, by_response, data_meaning, told_meaning};
 ghost use Rattle.gate_core.specs.Sound.{IsSound};
 ghost use Rattle.gate_core.specs.Answers.{answers_by};
 ghost use Rattle.gate_core.specs.inner.Asked.{HasItsPackets};
-ghost use Rattle.gate_core.specs.inner.Responses.{response_view, row_mismatch, IsAnswer, IsCounted, has_won, completes};
+ghost use Rattle.gate_core.specs.inner.Responses.{response_view, stream_in, packet_in, row_mismatch, IsAnswer, IsCounted, has_won, completes};
 ghost use Rattle.gate_core.specs.inner.Rows.{row_of, IsRead};
 ghost use Rattle.gate_core.specs.inner.Holds.{IsKept, Holds, Does, Leaves, Extends, ResponseFits, ToldFits};
 
@@ -33,12 +32,11 @@ use crate::finish::write_answers;
 use crate::kept::Kept;
 use crate::note::{Note, Notes};
 use crate::response::{Response, data_of, gets, mismatch, seen, status_of};
-use crate::streams::lower_at;
-use redir_data::RedirPacket;
+use redir_data::{RedirData, RedirPacket};
 use redir_wire::{ANNOUNCED, Caps, Header, Hello, RedirControl, WIDE_IDS};
 use std::alloc::Global;
 use unlink_race::{Ending, Live, ending_of};
-use usb_base::{Bytes, Memory, Refusal, UsbStatus};
+use usb_base::{Bytes, Memory, Refusal, StreamPacket, UsbStatus};
 
 impl Kept {
     /// Takes a packet of the host, which begins at `place` of its stream.
@@ -63,9 +61,31 @@ impl Kept {
                 self.told_control(place, &header, &packet, to_client, to_host, notes)
             }
             RedirPacket::Carrying(packet) => {
-                self.respond(place, &header, data_of(packet), to_client, notes)
+                self.told_data(place, &header, packet, to_client, notes)
             }
         }
+    }
+
+    /// Takes a packet that moves data. Those of the streams of IN endpoints go by no id.
+    fn told_data(
+        &mut self,
+        place: u64,
+        header: &Header,
+        packet: RedirData,
+        to_client: &mut Bytes,
+        notes: &mut Notes,
+    ) -> Result<(), Memory>
+        requires kept { IsKept self.old }
+        requires fits { ResponseFits header.now.kind (response_of (Carrying packet)) }
+        ensures kept { IsKept self.new }
+        ensures ok { (st : State) (at : ℕ) (host : List ℕ) → place ≡ capped at → Holds self.old st → IsSound st
+            → OnOk result (Does st (mark_as st (data_meaning st at header.now packet) None) self.old self.new to_client.old to_client.new host host notes.old notes.new) }
+        ensures err { (host : List ℕ) → OnErr result (Leaves self.old self.new to_client.old to_client.new host host notes.old notes.new) }
+    {
+        let Some((endpoint, iso)) = stream_in(&packet) else {
+            return self.respond(place, header, data_of(packet), to_client, notes);
+        };
+        self.arrive(endpoint, iso, stream_packet(packet), to_client, notes)
     }
 
     /// Takes a packet that moves no data.
@@ -92,12 +112,10 @@ impl Kept {
             }
             RedirControl::Disconnect => self.disconnect(header.id, to_client, to_host, notes),
             RedirControl::IsoStatus { status, endpoint } => {
-                self.told_stream(header.id, *endpoint, *status);
-                Ok(())
+                self.told_stream(header.id, *endpoint, *status, to_client)
             }
             RedirControl::InterruptStatus { status, endpoint } => {
-                self.told_stream(header.id, *endpoint, *status);
-                Ok(())
+                self.told_stream(header.id, *endpoint, *status, to_client)
             }
             _ => self.told_fact(place, header, packet, to_client, notes),
         }
@@ -113,19 +131,23 @@ impl Kept {
         self.caps = hello.caps().agreed(Caps { bits: ANNOUNCED });
     }
 
-    /// The host tells of an endpoint's stream, by the id of what started or stopped it: any status but success ends it.
-    fn told_stream(&mut self, id: u64, endpoint: u8, status: u8)
+    /// The host tells of an endpoint's stream, by the id of what started or stopped it.
+    fn told_stream(
+        &mut self,
+        id: u64,
+        endpoint: u8,
+        status: u8,
+        to_client: &mut Bytes,
+    ) -> Result<(), Memory>
         requires kept { IsKept self.old }
         ensures kept { IsKept self.new }
-        ensures told { self.new ≡ record self.old {
-          streams = if is_success (status_of status) then self.old.streams else lower_at endpoint self.old.streams;
-          fence = lifted id self.old.fence;
-        } }
+        ensures ok { (st : State) (host : List ℕ) (notes : List Note) → Holds self.old st → IsSound st
+            → OnOk result (Does st (mark_as st (StreamTold id endpoint (status_of status)) None) self.old self.new to_client.old to_client.new host host notes notes) }
+        ensures err { (host : List ℕ) (notes : List Note) → OnErr result (Leaves self.old self.new to_client.old to_client.new host host notes notes) }
     {
+        self.end_stream(endpoint, UsbStatus::from_byte(status), to_client)?;
         self.fence = lifted(id, self.fence);
-        if !matches!(UsbStatus::from_byte(status), UsbStatus::Success) {
-            lower_at(&mut self.streams, endpoint);
-        }
+        Ok(())
     }
 
     /// Takes a packet that may answer a request, and may tell a fact of the device.
@@ -275,6 +297,31 @@ fn write_completed(
     })?;
     write_answers(alloc, live, outcome, to_client)?;
     Ok(has_won(ending))
+}
+
+// The IN endpoint of whose stream a packet is, and whether it is an isochronous one.
+fn stream_in(packet: &RedirData) -> Option<(u8, bool)>
+    ensures { result ≡ stream_in packet.now }
+{
+    match packet {
+        RedirData::Interrupt { endpoint, .. } if *endpoint >= 0x80 => Some((*endpoint, false)),
+        RedirData::Iso { endpoint, .. } if *endpoint >= 0x80 => Some((*endpoint, true)),
+        _ => None,
+    }
+}
+
+// A packet of a stream. Its data are moved.
+fn stream_packet(packet: RedirData) -> StreamPacket
+    ensures { result ≡ packet_in packet }
+{
+    let (RedirData::Control { status, body, .. }
+    | RedirData::Bulk { status, body, .. }
+    | RedirData::Iso { status, body, .. }
+    | RedirData::Interrupt { status, body, .. }) = packet;
+    StreamPacket {
+        status: UsbStatus::from_byte(status),
+        body,
+    }
 }
 
 // Whether a request ends by its unlink.

@@ -1,6 +1,6 @@
 //! What becomes of a client's unlinks.
 
-ghost use Rattle.std.specs.Prelude.{◌≡◌, ◌++◌, ℕ, List, None, Some, false, OnOk, OnErr, IfSome};
+ghost use Rattle.std.specs.Prelude.{◌≡◌, ◌++◌, ℕ, List, None, Some, true, false, OnOk, OnErr, IfSome};
 ghost use Rattle.std.specs.List.{find, flat_map};
 ghost use Rattle.usbip_urb.specs.declared.packet.UrbPacket.TheVariants.{Unlink as UnlinkPacket};
 ghost use Rattle.usbip_urb.specs.Spelling.{spelling};
@@ -12,12 +12,13 @@ ghost use Rattle.gate_core.specs.Flight.{wide_ids};
 ghost use Rattle.gate_core.specs.State.{State};
 ghost use Rattle.gate_core.specs.Meaning.{mark_as, urb_meaning};
 ghost use Rattle.gate_core.specs.Sound.{IsSound};
-ghost use Rattle.gate_core.specs.inner.Unlinked.{asked_of, is_late, CancelFits, HasMarked};
+ghost use Rattle.gate_core.specs.inner.Unlinked.{asked_of, is_kept, CancelFits, HasMarked, HasTakenBack};
 ghost use Rattle.gate_core.specs.inner.Holds.{IsKept, Holds, Does, Leaves};
 
 use crate::answer::write_ret_unlink;
 use crate::ask::write_cancel;
 use crate::end::client_refusal;
+use crate::errno::ECONNRESET;
 use crate::kept::Kept;
 use crate::note::{Note, Notes};
 use unlink_race::LiveKind;
@@ -33,6 +34,8 @@ pub enum Asked {
     Cancel(u64),
     /// Its target went by a route, and those aren't cancelled: its status comes first.
     Waits,
+    /// Its target waits for packets of a stream, and is taken back at once.
+    Taken,
 }
 
 impl Kept {
@@ -84,17 +87,32 @@ impl Kept {
                 self.mark(target, by);
                 Ok(())
             }
+            Asked::Taken => {
+                write_ret_unlink(by, ECONNRESET, to_client)?;
+                self.take_back(target);
+                Ok(())
+            }
         }
     }
 
     /// Keeps the unlink `by` of a submit that no other asked for.
     fn mark(&mut self, target: u32, by: u32)
         requires kept { IsKept self.old }
-        requires first { is_late (asked_of (find (has_number target) self.old.lives.live)) ≡ false }
+        requires first { is_kept (asked_of (find (has_number target) self.old.lives.live)) ≡ true }
         ensures kept { IsKept self.new }
         ensures marked { HasMarked target by self.old self.new }
     {
         self.lives.unlink(target, by);
+    }
+
+    /// A submit is no more, and its unlink answered so.
+    fn take_back(&mut self, target: u32)
+        requires kept { IsKept self.old }
+        ensures kept { IsKept self.new }
+        ensures taken { HasTakenBack target self.old self.new }
+    {
+        self.lives.finish_number(target);
+        self.unlinked = self.unlinked.saturating_add(1);
     }
 
     /// What an unlink of this submit is told.
@@ -103,12 +121,13 @@ impl Kept {
         ensures value { result ≡ asked_of (find (has_number target) self.now.lives.live) }
         ensures fits { CancelFits self.now.caps result }
     {
-        match self.lives.find_number(target) {
-            Some(live) if live.unlinker.is_none() => match live.kind {
-                LiveKind::Wire { .. } => Asked::Cancel(live.id),
-                LiveKind::Routed(_) => Asked::Waits,
-                LiveKind::Stream { .. } => Asked::Late,
-            },
+        let Some(live) = self.lives.find_number(target) else {
+            return Asked::Late;
+        };
+        match (live.kind, live.unlinker) {
+            (LiveKind::Stream { .. }, _) => Asked::Taken,
+            (LiveKind::Wire { .. }, None) => Asked::Cancel(live.id),
+            (LiveKind::Routed(_), None) => Asked::Waits,
             _ => Asked::Late,
         }
     }

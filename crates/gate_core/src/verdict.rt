@@ -1,7 +1,9 @@
 //! What is made of a submit.
 
-ghost use Rattle.std.specs.Prelude.{◌≡◌, ◌⊎◌, ◌<◌, true};
+ghost use Rattle.std.specs.Prelude.{◌≡◌, ◌⊎◌, ◌<◌, true, IsTrue};
+ghost use Rattle.usbip_urb.specs.Buffers.{laid};
 ghost use Rattle.gate_core.specs.Verdict.{verdict, goes_by_id, by_route, by_setup, by_kind, by_endpoint, is_narrow};
+ghost use Rattle.gate_core.specs.Submits.{is_waiting};
 ghost use Rattle.gate_core.specs.inner.Views.{request_view, pipe_view, verdict_view};
 ghost use Rattle.gate_core.specs.inner.Rows.{kind_of, pipe_kind, IsRead};
 ghost use Rattle.gate_core.specs.inner.Carried.{IsRequest, IsCarried};
@@ -70,6 +72,8 @@ pub fn decide(
     ensures reads { IsRequest (request_view request.now) → goes_by_id (verdict_view result) ≡ true
         → (request.now.transfer.wanted ≡ 0) ⊎ IsRead request.now.is_in (kind_of (verdict_view result) request.now.transfer.ep) }
     ensures room { goes_by_id (verdict_view result) ≡ true → live < 4096 }
+    ensures waits { is_waiting (verdict_view result) ≡ true → live < 4096 }
+    ensures lies { is_waiting (verdict_view result) ≡ true → IsTrue (laid request.now.descs request.now.transfer.wanted) }
 {
     if lost {
         return Verdict::Now(ESHUTDOWN);

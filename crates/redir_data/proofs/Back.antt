@@ -1,5 +1,5 @@
 -- What was read is what is written.
-use Rattle.std.proofs.Common.{◌≡◌, ℕ, ◌≤◌, Bool, true, false, cond, List, ◌++◌, length, take, refl, sym, ap, subst, ◌∙◌, arith}
+use Rattle.std.proofs.Common.{◌≡◌, ℕ, ◌≤◌, Bool, true, false, List, ◌++◌, take, refl, sym, ap, subst, ◌∙◌}
 use Rattle.std.specs.Prelude.{not, ◌&&◌, ◌==◌}
 use Rattle.std.proofs.lemmas.Bool.{leb-true}
 use Rattle.usb_base.specs.Number.{AreBytes}
@@ -12,7 +12,7 @@ use Rattle.redir_wire.specs.declared.packet.RedirControl.{RedirControl}
 use Rattle.redir_wire.specs.declared.kind.DataKind.{DataKind}
 use Rattle.redir_wire.specs.declared.kind.DataKind.TheVariants.{Control}
 use Rattle.redir_wire.specs.declared.kind.Kind.TheVariants.{Plain as PlainKind}
-use Rattle.redir_wire.specs.Table.{plain_row, data_row, has_wanted, is_left_out}
+use Rattle.redir_wire.specs.Table.{data_row, has_wanted, is_left_out}
 use Rattle.redir_wire.specs.Header.{is_wide, head_bytes, is_in_turn, row_says, IdFits}
 use Rattle.redir_wire.specs.Spelling as wire
 use Rattle.redir_wire.specs.Written as wire_written

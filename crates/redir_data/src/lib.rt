@@ -22,4 +22,4 @@ pub use read::read_data;
 pub use redir::read_redir;
 pub use state::RedirState;
 pub use stream::{FromGuest, FromHost};
-pub use write::write_data;
+pub use write::{write_data, write_iso_out};

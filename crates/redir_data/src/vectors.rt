@@ -4,7 +4,7 @@ ghost use Rattle.std.specs.Prelude.{false};
 ghost use Rattle.redir_wire.specs.Header.{is_wide, IdFits};
 ghost use Rattle.redir_data.specs.Ranges.{LengthFits};
 
-use crate::{RedirData, RedirPacket, RedirRead, read_redir, write_data};
+use crate::{RedirData, RedirPacket, RedirRead, read_redir, write_data, write_iso_out};
 use packet_stream::Read;
 use redir_wire::{Caps, Header, Way, WireError};
 use std::alloc::Global;
@@ -139,6 +139,22 @@ fn writes_bulk_packets(rt: HostRuntime) -> Result<(), Fail> {
         return Err("no bulk packet")?;
     };
     assert_eq!(rt; (*status, *stream), (0, 0x0403_0201));
+    Ok(())
+}
+
+#[test]
+fn writes_lent_data(rt: HostRuntime) -> Result<(), Fail> {
+    let mut out = bytes(rt.alloc(), &[7])?;
+    write_iso_out(0x03, &[0x33; 4], 0x0102_0304_0506, ALL, &mut out)?;
+    // header with an id of 64 bits; endpoint, status, length, data
+    let wanted = [
+        7, 102, 0, 0, 0, 8, 0, 0, 0, 6, 5, 4, 3, 2, 1, 0, 0, 3, 0, 4, 0, 0x33, 0x33, 0x33, 0x33,
+    ];
+    assert_eq!(rt; out.as_slice(), wanted.as_slice());
+    out.clear();
+    write_iso_out(0x03, &[], 9, NONE, &mut out)?;
+    let wanted = [102, 0, 0, 0, 4, 0, 0, 0, 9, 0, 0, 0, 3, 0, 0, 0];
+    assert_eq!(rt; out.as_slice(), wanted.as_slice());
     Ok(())
 }
 

@@ -1,13 +1,14 @@
 //! Writes packets that move data.
 
-ghost use Rattle.std.specs.Prelude.{◌≡◌, ◌++◌, ◌≤◌, false, OnOk, OnErr};
+ghost use Rattle.std.specs.Prelude.{◌≡◌, ◌++◌, ◌≤◌, false, length, take, OnOk, OnErr};
 ghost use Rattle.redir_wire.specs.Begins.{Begins};
 ghost use Rattle.redir_wire.specs.Header.{is_wide, IdFits};
 ghost use Rattle.redir_data.specs.Spelling.{size_of, bulk, fixed_fields, periodic};
 ghost use Rattle.redir_data.specs.Written.{CanWrite, packet_bytes};
+ghost use Rattle.redir_data.specs.declared.packet.RedirData.TheVariants.{Iso};
 
 use crate::packet::RedirData;
-use redir_wire::{Caps, Header, WIDE_BULK_LENGTH, WIDE_IDS, Way, push_header};
+use redir_wire::{Caps, DataKind, Header, WIDE_BULK_LENGTH, WIDE_IDS, Way, push_header};
 use usb_base::{Bytes, Memory, push_le_u16, push_le_u32};
 
 /// Appends a packet with this id, in its form with these capabilities; its data agree with its length this way. For
@@ -26,13 +27,63 @@ pub fn write_data(
     let agrees = packet.has_its_data(way);
     prove!(agrees);
     let before = out.len();
-    match push_data(packet, id, caps, out) {
-        Ok(()) => Ok(()),
-        Err(memory) => {
-            out.cut(before);
-            Err(memory)
-        }
+    let pushed = push_data(packet, id, caps, out);
+    all_or_none(pushed, before, out)
+}
+
+// For want of memory, what was begun of a packet goes again.
+fn all_or_none(pushed: Result<(), Memory>, before: usize, out: &mut Bytes) -> Result<(), Memory>
+    requires { before ≤ length out.old }
+    ensures result { result ≡ pushed }
+    ensures ok { OnOk result (out.new ≡ out.old) }
+    ensures err { OnErr result (out.new ≡ take before out.old) }
+{
+    if pushed.is_err() {
+        out.cut(before);
     }
+    pushed
+}
+
+/// Appends an isochronous packet to the device, whose data are lent, with this id. For want of memory `out` stands.
+pub fn write_iso_out(
+    endpoint: u8,
+    body: &[u8],
+    id: u64,
+    caps: Caps,
+    out: &mut Bytes,
+) -> Result<(), Memory>
+    requires few { length body.now ≤ 65535 }
+    requires id_fits { IdFits (is_wide false caps) id }
+    ensures ok { OnOk result (out.new ≡ out.old ++ packet_bytes id caps (Iso endpoint 0 (length body.now) body.now)) }
+    ensures err { OnErr result (out.new ≡ out.old) }
+{
+    let before = out.len();
+    let pushed = push_iso_out(endpoint, body, id, caps, out);
+    all_or_none(pushed, before, out)
+}
+
+fn push_iso_out(
+    endpoint: u8,
+    body: &[u8],
+    id: u64,
+    caps: Caps,
+    out: &mut Bytes,
+) -> Result<(), Memory>
+    requires few { length body.now ≤ 65535 }
+    requires id_fits { IdFits (is_wide false caps) id }
+    ensures ok { OnOk result (out.new ≡ out.old ++ packet_bytes id caps (Iso endpoint 0 (length body.now) body.now)) }
+    ensures err { OnErr result (Begins out.old out.new) }
+{
+    let row = DataKind::Iso.row();
+    let header = Header {
+        kind: row.number,
+        length: row.fixed(caps) + body.len() as u32,
+        id,
+    };
+    push_header(caps.has(WIDE_IDS), &header, out)?;
+    push_periodic(endpoint, 0, body.len() as u16, out)?;
+    out.append(body)?;
+    Ok(())
 }
 
 fn push_data(packet: &RedirData, id: u64, caps: Caps, out: &mut Bytes) -> Result<(), Memory>

@@ -18,7 +18,7 @@ use Rattle.redir_data.specs.declared.state.RedirState.{RedirState}
 use Rattle.redir_data.specs.Streams.{start}
 use Rattle.model_device.specs.Meaning.{Meaning}
 use Rattle.redir_host.specs.declared.host.Host.{Host}
-use Rattle.redir_host.specs.declared.kept.Kept.{Kept}
+use Rattle.redir_host.specs.Kept.{HostKept}
 use Rattle.redir_host.specs.declared.note.HostNote.{HostNote}
 use Rattle.redir_host.specs.declared.note.HostNote.TheVariants.{Refused}
 use Rattle.redir_host.specs.Acts.{Act, Piece, guest_bytes}
@@ -46,7 +46,7 @@ none-added bytes piece same =
     ∙ ap (drop (length xs)) (sym (append-nil xs))
     ∙ drop_at xs [] (length xs) refl
 
-pub over-piece : {S : Type 0} (m : Meaning S) (s : S) (k : Kept S) (acts : List Act) (piece o : List ℕ) (n : List HostNote) → AreBytes piece → Stands m s k acts → k.stream.over ≡ true → TakesAct m s k acts (Piece piece) o o n n
+pub over-piece : {S : Type 0} (m : Meaning S) (s : S) (k : HostKept S) (acts : List Act) (piece o : List ℕ) (n : List HostNote) → AreBytes piece → Stands m s k acts → k.stream.over ≡ true → TakesAct m s k acts (Piece piece) o o n n
 over-piece {S = S} m s k acts piece o n are stands over =
     let bytes = guest_bytes acts in
     let x = guest_split bytes in
@@ -71,7 +71,7 @@ over-piece {S = S} m s k acts piece o n are stands over =
 -- ---- all packets were taken
 
 -- what is there at the end: the packets, and what follows them
-record IsDone {S : Type 0} (m : Meaning S) (s : S) (old new : Kept S) (acts : List Act) (piece o0 o1 : List ℕ) (n0 n1 : List HostNote) (xs : List Item) : Type 0 where
+record IsDone {S : Type 0} (m : Meaning S) (s : S) (old new : HostKept S) (acts : List Act) (piece o0 o1 : List ℕ) (n0 n1 : List HostNote) (xs : List Item) : Type 0 where
   pub failed : new.failed ≡ old.failed
   pub stream : IsRead new.stream (guest_bytes acts ++ piece)
   pub parts : added (guest_bytes acts) piece ≡ xs
@@ -79,7 +79,7 @@ record IsDone {S : Type 0} (m : Meaning S) (s : S) (old new : Kept S) (acts : Li
   pub packets : (guest_split (guest_bytes acts ++ piece)).packets ≡ (guest_split (guest_bytes acts)).packets ++ more
   pub took : Took m old.host new.host n0 n1 more
 
-done : {S : Type 0} (m : Meaning S) (s : S) (old new : Kept S) (acts : List Act) (piece o0 o1 : List ℕ) (n0 n1 n2 : List HostNote) (xs : List Item) → Stands m s old acts → (d : IsDone m s old new acts piece o0 o1 n0 n1 xs) →
+done : {S : Type 0} (m : Meaning S) (s : S) (old new : HostKept S) (acts : List Act) (piece o0 o1 : List ℕ) (n0 n1 n2 : List HostNote) (xs : List Item) → Stands m s old acts → (d : IsDone m s old new acts piece o0 o1 n0 n1 xs) →
     new.host ≡ steps m old.host xs → o1 ≡ o0 ++ given_by bytes_of m old.host xs → n2 ≡ n0 ++ given_by notes_of m old.host xs → TakesAct m s new acts (Piece piece) o0 o1 n0 n2
 done m s old new acts piece o0 o1 n0 n1 n2 xs stands d host sent told = record {
   does = record {
@@ -95,7 +95,7 @@ done m s old new acts piece o0 o1 n0 n1 n2 xs stands d host sent told = record {
   told = given-all notes_of m s old acts xs (added (guest_bytes acts) piece) n0 n2 stands told d.parts;
 }
 
-pub all-taken : {S : Type 0} (m : Meaning S) (s : S) (old new : Kept S) (stream : Stream RedirState) (acts : List Act) (piece o0 o1 : List ℕ) (n0 n1 : List HostNote) → AreBytes piece → Stands m s old acts → old.stream.over ≡ false → stream ≡ after_piece old.stream piece → Puts guest_reader piece old.stream stream → new.failed ≡ old.failed →
+pub all-taken : {S : Type 0} (m : Meaning S) (s : S) (old new : HostKept S) (stream : Stream RedirState) (acts : List Act) (piece o0 o1 : List ℕ) (n0 n1 : List HostNote) → AreBytes piece → Stands m s old acts → old.stream.over ≡ false → stream ≡ after_piece old.stream piece → Puts guest_reader piece old.stream stream → new.failed ≡ old.failed →
     TakesPackets {T = Unit {0}} guest_reader (Ok tt) stream new.stream (TookPackets {T = Unit {0}} (Ok tt) m old.host new.host o0 o1 n0 n1) → TakesAct m s new acts (Piece piece) o0 o1 n0 n1
 all-taken {S = S} m s old new stream acts piece o0 o1 n0 n1 are stands going is puts failed takes =
     let bytes = guest_bytes acts in
@@ -123,7 +123,7 @@ ended-by e f m h host stream new o0 o1 n0 n1 same takes = subst (λ (x : ReadErr
 
 -- ---- all before the wrong place
 
-pub wrong-told : {S : Type 0} (m : Meaning S) (s : S) (old new : Kept S) (stream : Stream RedirState) (acts : List Act) (piece o0 o1 : List ℕ) (n0 n1 n2 : List HostNote) (place : ℕ) (why : Reason) → AreBytes piece → Stands m s old acts → old.stream.over ≡ false → stream ≡ after_piece old.stream piece → Puts guest_reader piece old.stream stream → new.failed ≡ old.failed →
+pub wrong-told : {S : Type 0} (m : Meaning S) (s : S) (old new : HostKept S) (stream : Stream RedirState) (acts : List Act) (piece o0 o1 : List ℕ) (n0 n1 n2 : List HostNote) (place : ℕ) (why : Reason) → AreBytes piece → Stands m s old acts → old.stream.over ≡ false → stream ≡ after_piece old.stream piece → Puts guest_reader piece old.stream stream → new.failed ≡ old.failed →
     (e : ReadError) → e ≡ IsRefused place why → EndedBy e m old.host new.host stream new.stream o0 o1 n0 n1 → n2 ≡ n1 ++ Refused place why ∷ [] → TakesAct m s new acts (Piece piece) o0 o1 n0 n2
 wrong-told {S = S} m s old new stream acts piece o0 o1 n0 n1 n2 place why are stands going is puts failed e same ended pushed =
     let bytes = guest_bytes acts in
@@ -155,7 +155,7 @@ pub stops-first : {S : Type 0} (m : Meaning S) (s : S) (acts : List Act) (piece 
 stops-first m s acts piece o = record { taken = []; later = added (guest_bytes acts) piece; parts = refl; sent = sym (append-nil o) }
 
 -- for a packet
-pub stops-packet : {S : Type 0} (m : Meaning S) (s : S) (old : Kept S) (host : Host S) (stream new : Stream RedirState) (acts : List Act) (piece o0 o1 : List ℕ) (n0 n1 : List HostNote) → AreBytes piece → Stands m s old acts → old.stream.over ≡ false → stream ≡ after_piece old.stream piece → Puts guest_reader piece old.stream stream →
+pub stops-packet : {S : Type 0} (m : Meaning S) (s : S) (old : HostKept S) (host : Host S) (stream new : Stream RedirState) (acts : List Act) (piece o0 o1 : List ℕ) (n0 n1 : List HostNote) → AreBytes piece → Stands m s old acts → old.stream.over ≡ false → stream ≡ after_piece old.stream piece → Puts guest_reader piece old.stream stream →
     (e : ReadError) → e ≡ Memory → EndedBy e m old.host host stream new o0 o1 n0 n1 → Stops m s acts (Piece piece) o0 o1
 stops-packet {S = S} m s old host stream new acts piece o0 o1 n0 n1 are stands going is puts e same ended =
     let bytes = guest_bytes acts in
@@ -175,7 +175,7 @@ stops-packet {S = S} m s old host stream new acts piece o0 o1 n0 n1 are stands g
     }
 
 -- for the note of the wrong place
-pub stops-note : {S : Type 0} (m : Meaning S) (s : S) (old : Kept S) (host : Host S) (stream new : Stream RedirState) (acts : List Act) (piece o0 o1 : List ℕ) (n0 n1 : List HostNote) (place : ℕ) (why : Reason) → AreBytes piece → Stands m s old acts → old.stream.over ≡ false → stream ≡ after_piece old.stream piece → Puts guest_reader piece old.stream stream →
+pub stops-note : {S : Type 0} (m : Meaning S) (s : S) (old : HostKept S) (host : Host S) (stream new : Stream RedirState) (acts : List Act) (piece o0 o1 : List ℕ) (n0 n1 : List HostNote) (place : ℕ) (why : Reason) → AreBytes piece → Stands m s old acts → old.stream.over ≡ false → stream ≡ after_piece old.stream piece → Puts guest_reader piece old.stream stream →
     (e : ReadError) → e ≡ IsRefused place why → EndedBy e m old.host host stream new o0 o1 n0 n1 → Stops m s acts (Piece piece) o0 o1
 stops-note {S = S} m s old host stream new acts piece o0 o1 n0 n1 place why are stands going is puts e same ended =
     let bytes = guest_bytes acts in

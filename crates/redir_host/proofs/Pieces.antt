@@ -23,7 +23,7 @@ use Rattle.redir_data.specs.Streams.{start, after, stream_format}
 use Rattle.redir_data.specs.sound.Joined.{stream_sound}
 use Rattle.model_device.specs.Meaning.{Meaning}
 use Rattle.redir_host.specs.declared.host.Host.{Host}
-use Rattle.redir_host.specs.declared.kept.Kept.{Kept}
+use Rattle.redir_host.specs.Kept.{HostKept}
 use Rattle.redir_host.specs.declared.note.HostNote.{HostNote}
 use Rattle.redir_host.specs.Acts.{Act, guest_bytes}
 use Rattle.redir_host.specs.Guest.{guest_reader, guest_start, guest_split, asked}
@@ -141,13 +141,13 @@ abbrev pub side : SideStream RedirState (Header × RedirPacket) Reason Item
 side = record { reader = guest_reader; start = guest_start; packet = λ place p. Asked p.0.id p.1; wrong = λ at why. Wrong (capped at) why; over = λ xs. false }
 
 -- the guest's bytes before the piece are read
-pub record Before {S : Type 0} (old : Kept S) (stream : Stream RedirState) (bytes piece : List ℕ) : Type 0 where
+pub record Before {S : Type 0} (old : HostKept S) (stream : Stream RedirState) (bytes piece : List ℕ) : Type 0 where
   pub right : (guest_split bytes).wrong ≡ None
   pub fits : AreBytes (bytes ++ piece)
   pub over : stream.over ≡ false
   pub follows : Follows guest_reader guest_start stream (bytes ++ piece) (guest_split bytes).packets
 
-pub before : {S : Type 0} (m : Meaning S) (s : S) (old : Kept S) (stream : Stream RedirState) (acts : List Act) (piece : List ℕ) → AreBytes piece → Stands m s old acts → old.stream.over ≡ false → stream ≡ after_piece old.stream piece → Puts guest_reader piece old.stream stream →
+pub before : {S : Type 0} (m : Meaning S) (s : S) (old : HostKept S) (stream : Stream RedirState) (acts : List Act) (piece : List ℕ) → AreBytes piece → Stands m s old acts → old.stream.over ≡ false → stream ≡ after_piece old.stream piece → Puts guest_reader piece old.stream stream →
     Before old stream (guest_bytes acts) piece
 before m s old stream acts piece are stands going is puts =
     let bytes = guest_bytes acts in
@@ -161,18 +161,18 @@ before m s old stream acts piece are stands going is puts =
     }
 
 -- the state behind all packets
-pub state-all : {S : Type 0} (m : Meaning S) (s : S) (old : Kept S) (new : Host S) (acts : List Act) (n0 n1 : List HostNote) (more : List Found) (ps : List Found) → Stands m s old acts → Took m old.host new n0 n1 more → ps ≡ (guest_split (guest_bytes acts)).packets ++ more → new.guest ≡ told_state start ps
+pub state-all : {S : Type 0} (m : Meaning S) (s : S) (old : HostKept S) (new : Host S) (acts : List Act) (n0 n1 : List HostNote) (more : List Found) (ps : List Found) → Stands m s old acts → Took m old.host new n0 n1 more → ps ≡ (guest_split (guest_bytes acts)).packets ++ more → new.guest ≡ told_state start ps
 state-all m s old new acts n0 n1 more ps stands took is =
     took.state
     ∙ ap (λ (g : RedirState). told_state g more) stands.state
     ∙ sym (state-append start (guest_split (guest_bytes acts)).packets more)
     ∙ ap (told_state start) (sym is)
 
-pub host-all : {S : Type 0} (m : Meaning S) (s : S) (old : Kept S) (new : Host S) (acts : List Act) (a : Act) (xs : List Item) → Stands m s old acts → new ≡ steps m old.host xs → brought acts a ≡ xs → new ≡ host_of m s (a ∷ acts)
+pub host-all : {S : Type 0} (m : Meaning S) (s : S) (old : HostKept S) (new : Host S) (acts : List Act) (a : Act) (xs : List Item) → Stands m s old acts → new ≡ steps m old.host xs → brought acts a ≡ xs → new ≡ host_of m s (a ∷ acts)
 host-all {S = S} m s old new acts a xs stands is parts =
     is
     ∙ (λ i. steps m (stands.host i) (sym parts i))
     ∙ sym (act-host m s acts a)
 
-pub given-all : {S A : Type 0} (gives : Move S → List A) (m : Meaning S) (s : S) (old : Kept S) (acts : List Act) (xs ys : List Item) (l0 l1 : List A) → Stands m s old acts → l1 ≡ l0 ++ given_by gives m old.host xs → ys ≡ xs → l1 ≡ l0 ++ given_by gives m (host_of m s acts) ys
+pub given-all : {S A : Type 0} (gives : Move S → List A) (m : Meaning S) (s : S) (old : HostKept S) (acts : List Act) (xs ys : List Item) (l0 l1 : List A) → Stands m s old acts → l1 ≡ l0 ++ given_by gives m old.host xs → ys ≡ xs → l1 ≡ l0 ++ given_by gives m (host_of m s acts) ys
 given-all gives m s old acts xs ys l0 l1 stands is parts = is ∙ (λ i. l0 ++ given_by gives m (stands.host i) (sym parts i))

@@ -16,7 +16,7 @@ use Rattle.redir_data.specs.Streams.{start, after, stream_format}
 use Rattle.redir_data.specs.sound.Joined.{stream_sound}
 use Rattle.model_device.specs.Meaning.{Meaning}
 use Rattle.redir_host.specs.declared.host.Host.{Host}
-use Rattle.redir_host.specs.declared.kept.Kept.{Kept}
+use Rattle.redir_host.specs.Kept.{HostKept}
 use Rattle.redir_host.specs.Acts.{Act, Perform, guest_bytes}
 use Rattle.redir_host.specs.Guest.{guest_reader, guest_start, guest_split}
 use Rattle.redir_host.specs.Machine.{bytes_of, first_host}
@@ -40,7 +40,7 @@ split-none =
 abbrev first-stream : Stream RedirState
 first-stream = record { state = start; rest = []; place = 0; held = []; at = 0; over = false }
 
-pub stands-first : {S : Type 0} (m : Meaning S) (s : S) (k : Kept S) → k.failed ≡ false → k.stream ≡ first-stream → k.host ≡ first_host s → Stands m s k []
+pub stands-first : {S : Type 0} (m : Meaning S) (s : S) (k : HostKept S) → k.failed ≡ false → k.stream ≡ first-stream → k.host ≡ first_host s → Stands m s k []
 stands-first {S = S} m s k works stream host = record {
   works = works;
   stream = subst (λ (x : Stream RedirState). IsRead x []) (sym stream) (record {
@@ -60,14 +60,14 @@ stands-first {S = S} m s k works stream host = record {
 
 -- ---- a perform
 
-pub stands-performed : {S : Type 0} (m : Meaning S) (s : S) (old new : Kept S) (acts : List Act) (ep : ℕ) (o0 o1 : List ℕ) → Stands m s old acts → new ≡ record old { host = new.host } → Makes (perform_move m old.host ep) new.host o0 o1 → DoesAct m s new acts (Perform ep) o0 o1
+pub stands-performed : {S : Type 0} (m : Meaning S) (s : S) (old new : HostKept S) (acts : List Act) (ep : ℕ) (o0 o1 : List ℕ) → Stands m s old acts → new ≡ record old { host = new.host } → Makes (perform_move m old.host ep) new.host o0 o1 → DoesAct m s new acts (Perform ep) o0 o1
 stands-performed {S = S} m s old new acts ep o0 o1 stands rest makes =
     let keeps = keeps-perform m old.host ep stands.sound in
     let same : new.host ≡ (perform_move m (host_of m s acts) ep).host = makes.host ∙ ap (λ (h : Host S). (perform_move m h ep).host) stands.host in
     record {
       stands = record {
-        works = ap (λ (k : Kept S). k.failed) rest ∙ stands.works;
-        stream = subst (λ (x : Stream RedirState). IsRead x (guest_bytes acts)) (sym (ap (λ (k : Kept S). k.stream) rest)) stands.stream;
+        works = ap (λ (k : HostKept S). k.failed) rest ∙ stands.works;
+        stream = subst (λ (x : Stream RedirState). IsRead x (guest_bytes acts)) (sym (ap (λ (k : HostKept S). k.stream) rest)) stands.stream;
         host = same;
         sound = subst (λ (h : Host S). IsSound h) (sym makes.host) keeps.sound;
         state = ap (λ (h : Host S). h.guest) makes.host ∙ keeps.guest ∙ stands.state;

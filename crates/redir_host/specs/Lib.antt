@@ -18,6 +18,8 @@ pub mod Sound
 pub mod Cancels
 pub mod Makes
 pub mod Resets
+pub mod Kept
 pub mod Stands
 pub mod Takings
 pub mod Line
+pub mod inner

@@ -9,7 +9,7 @@ use Rattle.redir_data.specs.declared.packet.RedirPacket.{RedirPacket}
 use Rattle.redir_data.specs.declared.state.RedirState.{RedirState}
 use Rattle.redir_data.specs.Streams.{start, after}
 use Rattle.model_device.specs.Meaning.{Meaning}
-use Rattle.redir_host.specs.declared.kept.Kept.{Kept}
+use Rattle.redir_host.specs.Kept.{HostKept}
 use Rattle.redir_host.specs.declared.note.HostNote.{HostNote}
 use Rattle.redir_host.specs.Acts.{Act, guest_bytes}
 use Rattle.redir_host.specs.Guest.{guest_split}
@@ -20,7 +20,7 @@ use Rattle.redir_host.specs.Output.{host_of, act_bytes, act_notes}
 use Rattle.redir_host.specs.Sound.{IsSound}
 
 -- memory ran out in an earlier call: from then on it does nothing
-abbrev pub HasFailed : {S : Type 0} → Kept S → Type 0
+abbrev pub HasFailed : {S : Type 0} → HostKept S → Type 0
 HasFailed k = k.failed ≡ true
 
 -- what decides how the next packet is read, behind these packets
@@ -38,7 +38,7 @@ pub record IsRead (kept : Stream RedirState) (bytes : List ℕ) : Type 0 where
   pub read : IsReadBy kept (guest_split bytes) kept.over
 
 -- the core works, and stands for these acts, whose device began in state s
-pub record Stands {S : Type 0} (m : Meaning S) (s : S) (k : Kept S) (acts : List Act) : Type 0 where
+pub record Stands {S : Type 0} (m : Meaning S) (s : S) (k : HostKept S) (acts : List Act) : Type 0 where
   pub works : k.failed ≡ false
   pub stream : IsRead k.stream (guest_bytes acts)
   pub host : k.host ≡ host_of m s acts
@@ -46,21 +46,21 @@ pub record Stands {S : Type 0} (m : Meaning S) (s : S) (k : Kept S) (acts : List
   pub state : k.host.guest ≡ told_state start (guest_split (guest_bytes acts)).packets
 
 -- it stands for some acts
-abbrev pub HasPast : {S : Type 0} → Meaning S → Kept S → Type 0
+abbrev pub HasPast : {S : Type 0} → Meaning S → HostKept S → Type 0
 HasPast {S = S} m k = (s : S) × ((acts : List Act) × Stands m s k acts)
 
-abbrev pub IsReady : {S : Type 0} → Meaning S → Kept S → Type 0
+abbrev pub IsReady : {S : Type 0} → Meaning S → HostKept S → Type 0
 IsReady m k = k.failed ≡ false → HasPast m k
 
 -- ---- one act more
 
 -- it stands for the act too, and the output gained what that sends
-pub record DoesAct {S : Type 0} (m : Meaning S) (s : S) (new : Kept S) (acts : List Act) (a : Act) (old_out new_out : List ℕ) : Type 0 where
+pub record DoesAct {S : Type 0} (m : Meaning S) (s : S) (new : HostKept S) (acts : List Act) (a : Act) (old_out new_out : List ℕ) : Type 0 where
   pub stands : Stands m s new (a ∷ acts)
   pub sent : new_out ≡ old_out ++ act_bytes m s acts a
 
 -- and the notes what that tells
-pub record TakesAct {S : Type 0} (m : Meaning S) (s : S) (new : Kept S) (acts : List Act) (a : Act) (old_out new_out : List ℕ) (old_notes new_notes : List HostNote) : Type 0 where
+pub record TakesAct {S : Type 0} (m : Meaning S) (s : S) (new : HostKept S) (acts : List Act) (a : Act) (old_out new_out : List ℕ) (old_notes new_notes : List HostNote) : Type 0 where
   pub does : DoesAct m s new acts a old_out new_out
   pub told : new_notes ≡ old_notes ++ act_notes m s acts a
 

@@ -23,14 +23,15 @@ pub struct HostCore<G: Gadget> {
 }
 
 impl<G: Gadget> Model for HostCore<G> {
-    ghost use Rattle.redir_host.specs.declared.kept.Kept.{Kept};
+    ghost use Rattle.redir_host.specs.Kept.{HostKept};
     ghost use Rattle.redir_host.specs.Stands.{IsReady};
+    ghost use Rattle.redir_host.specs.inner.Views.{kept_of};
 
-    ghost Value = { Kept G };
+    ghost Value = { HostKept G };
 
-    ghost view = { λ core. core.kept };
+    ghost view = { λ core. kept_of core.kept };
 
-    ghost invariant = { λ core. IsReady G.meaning core.kept };
+    ghost invariant = { λ core. IsReady G.meaning (kept_of core.kept) };
 }
 
 impl<G: Gadget> HostCore<G> {

@@ -12,6 +12,7 @@ ghost use Rattle.redir_host.specs.Performing.{told_performed};
 ghost use Rattle.redir_host.specs.Sound.{IsSound};
 ghost use Rattle.redir_host.specs.Stands.{DoesAct, HasPast, Stands, Stops, TakesAct};
 ghost use Rattle.redir_host.specs.Takings.{HasRead, TookPackets};
+ghost use Rattle.redir_host.specs.inner.Views.{kept_of};
 
 use crate::host::Host;
 use crate::note::{HostNote, HostNotes, Offered, Performed};
@@ -35,7 +36,7 @@ pub struct Kept<G> {
 impl<G: Gadget> Kept<G> {
     /// The host of a device that was just plugged in.
     pub fn new(alloc: Global, gadget: G) -> Self
-        ensures { Stands G.meaning gadget result [] }
+        ensures { Stands G.meaning gadget (kept_of result) [] }
     {
         Kept {
             alloc,
@@ -53,10 +54,10 @@ impl<G: Gadget> Kept<G> {
         out: &mut Bytes,
         notes: &mut HostNotes,
     ) -> Result<(), Memory>
-        requires { HasPast G.meaning self.old }
-        ensures ok { OnOk result ((first : G) (acts : List Act) → Stands G.meaning first self.old acts
-            → TakesAct G.meaning first self.new acts (Piece piece.now) out.old out.new notes.old notes.new) }
-        ensures err { OnErr result ((first : G) (acts : List Act) → Stands G.meaning first self.old acts
+        requires { HasPast G.meaning (kept_of self.old) }
+        ensures ok { OnOk result ((first : G) (acts : List Act) → Stands G.meaning first (kept_of self.old) acts
+            → TakesAct G.meaning first (kept_of self.new) acts (Piece piece.now) out.old out.new notes.old notes.new) }
+        ensures err { OnErr result ((first : G) (acts : List Act) → Stands G.meaning first (kept_of self.old) acts
             → Stops G.meaning first acts (Piece piece.now) out.old out.new) }
     {
         if self.stream.is_over() {
@@ -75,11 +76,11 @@ impl<G: Gadget> Kept<G> {
 
     /// Performs the first request of an endpoint. For want of memory `out` stands.
     pub fn perform(&mut self, ep: EpAddr, out: &mut Bytes) -> Result<Performed, Memory>
-        requires { HasPast G.meaning self.old }
-        ensures told { IfOk result (λ told. (first : G) (acts : List Act) → Stands G.meaning first self.old acts
+        requires { HasPast G.meaning (kept_of self.old) }
+        ensures told { IfOk result (λ told. (first : G) (acts : List Act) → Stands G.meaning first (kept_of self.old) acts
             → told ≡ told_performed G.meaning (host_of G.meaning first acts) ep) }
-        ensures does { OnOk result ((first : G) (acts : List Act) → Stands G.meaning first self.old acts
-            → DoesAct G.meaning first self.new acts (Perform ep) out.old out.new) }
+        ensures does { OnOk result ((first : G) (acts : List Act) → Stands G.meaning first (kept_of self.old) acts
+            → DoesAct G.meaning first (kept_of self.new) acts (Perform ep) out.old out.new) }
         ensures err { OnErr result (out.new ≡ out.old) }
     {
         let before = out.len();
@@ -94,11 +95,11 @@ impl<G: Gadget> Kept<G> {
 
     /// Offers the guest what the device has for an endpoint. For want of memory `out` stands.
     pub fn offer(&mut self, ep: EpAddr, out: &mut Bytes) -> Result<Offered, Memory>
-        requires { HasPast G.meaning self.old }
-        ensures told { IfOk result (λ told. (first : G) (acts : List Act) → Stands G.meaning first self.old acts
+        requires { HasPast G.meaning (kept_of self.old) }
+        ensures told { IfOk result (λ told. (first : G) (acts : List Act) → Stands G.meaning first (kept_of self.old) acts
             → told ≡ told_offered G.meaning (host_of G.meaning first acts) ep) }
-        ensures does { OnOk result ((first : G) (acts : List Act) → Stands G.meaning first self.old acts
-            → DoesAct G.meaning first self.new acts (Offer ep) out.old out.new) }
+        ensures does { OnOk result ((first : G) (acts : List Act) → Stands G.meaning first (kept_of self.old) acts
+            → DoesAct G.meaning first (kept_of self.new) acts (Offer ep) out.old out.new) }
         ensures err { OnErr result (out.new ≡ out.old) }
     {
         self.host.offer(self.alloc, ep, out)
@@ -106,10 +107,10 @@ impl<G: Gadget> Kept<G> {
 
     /// Takes the device away; false where it was taken away before. For want of memory `out` stands.
     pub fn unplug(&mut self, out: &mut Bytes) -> Result<bool, Memory>
-        requires { HasPast G.meaning self.old }
+        requires { HasPast G.meaning (kept_of self.old) }
         ensures told { IfOk result (λ told. told ≡ not self.old.host.unplugged) }
-        ensures does { OnOk result ((first : G) (acts : List Act) → Stands G.meaning first self.old acts
-            → DoesAct G.meaning first self.new acts Unplug out.old out.new) }
+        ensures does { OnOk result ((first : G) (acts : List Act) → Stands G.meaning first (kept_of self.old) acts
+            → DoesAct G.meaning first (kept_of self.new) acts Unplug out.old out.new) }
         ensures err { OnErr result (out.new ≡ out.old) }
     {
         self.host.unplug(out)

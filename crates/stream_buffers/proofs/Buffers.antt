@@ -29,6 +29,9 @@ in_size_from place (d ∷ ds) (p ∷ ps) size is =
     let here = laid_here place d ds size is in
     omega (arith, here.0, in_size_from (d.offset + d.length) ds ps size here.1, length-append (piece d p) (pieces ds ps), length-take d.length p.body)
 
+pub pieces_fit : (size : ℕ) (ds : List IsoDesc) (ps : List StreamPacket) → IsTrue (laid ds size) → length (pieces ds ps) ≤ size
+pieces_fit size ds ps lies = omega (arith, in_size_from 0 ds ps size lies)
+
 told_is : (ds : List IsoDesc) (ps : List StreamPacket) → total (all_filled ds ps) ≡ length (pieces ds ps)
 told_is [] ps = refl
 told_is (d ∷ ds) [] = refl
@@ -43,7 +46,7 @@ by_length : (size : ℕ) (ds : List IsoDesc) (ps : List StreamPacket) (fewer : B
     IfSome (if fewer then None else Some (record { gives = iso_outcome ds ps; leaves = drop (length ds) ps })) (λ (cut : Cut IsoOutcome). FitsBuffer size ds cut.gives)
 by_length size ds ps true is lies = tt
 by_length size ds ps false is lies = record {
-  in_size = omega (arith, in_size_from 0 ds ps size lies);
+  in_size = pieces_fit size ds ps lies;
   as_many = as_many_as ds ps (ltb-false (length ps) (length ds) is);
   told = told_is ds ps;
 }

@@ -1,10 +1,20 @@
 -- One descriptor and its packet more.
-use Rattle.std.proofs.Common.{◌≡◌, ℕ, ◌+◌, ◌<◌, zero, suc, List, [], ◌∷◌, ◌++◌, length, take, get_or, refl, ap, ◌∙◌, sym, arith}
+use Rattle.std.proofs.Common.{◌≡◌, ℕ, ◌+◌, ◌<◌, zero, suc, List, [], ◌∷◌, ◌++◌, length, take, get_or, filter, pos, refl, ap, ◌∙◌, sym, arith}
 use Rattle.std.proofs.Math.Numerals.{add-one}
-use Rattle.std.proofs.lemmas.List.{append-nil, append_assoc}
+use Rattle.std.proofs.lemmas.List.{append-nil, append_assoc, length-append}
 use Rattle.usb_base.specs.declared.transfer.StreamPacket.{StreamPacket}
 use Rattle.usbip_urb.specs.declared.packet.IsoDesc.{IsoDesc}
+use Rattle.std.proofs.lemmas.List.Elements.{filter-append}
+use Rattle.std.proofs.lemmas.Grind.{flat_map-append}
+use Rattle.usbip_urb.specs.Spelling.{desc_bytes, descs_bytes}
+use Rattle.stream_buffers.specs.Interrupt.{packet_at}
+use Rattle.stream_buffers.specs.Fillings.{is_failed, errors_of}
+use Rattle.stream_buffers.proofs.Fillings.{there}
 use Rattle.stream_buffers.specs.Iso.{piece, pieces, filled, all_filled}
+
+-- what stands for a descriptor that is not there
+abbrev pub none : IsoDesc
+none = record { offset = 0; length = 0; actual = 0; status = pos 0 }
 
 pieces_suc : (ds : List IsoDesc) (ps : List StreamPacket) (i : ℕ) (d : IsoDesc) (p : StreamPacket) → i < length ds → i < length ps → pieces (take (suc i) ds) ps ≡ pieces (take i ds) ps ++ piece (get_or ds i d) (get_or ps i p)
 pieces_suc [] ps i d p in_ds in_ps = absurd (omega arith)
@@ -13,9 +23,12 @@ pieces_suc (x ∷ ds) (y ∷ ps) zero d p in_ds in_ps = append-nil (piece x y)
 pieces_suc (x ∷ ds) (y ∷ ps) (suc i) d p in_ds in_ps =
     ap (λ l. piece x y ++ l) (pieces_suc ds ps i d p (omega arith) (omega arith)) ∙ sym (append_assoc (piece x y) (pieces (take i ds) ps) (piece (get_or ds i d) (get_or ps i p)))
 
-pub pieces_more : (ds : List IsoDesc) (ps : List StreamPacket) (i : ℕ) (d : IsoDesc) (p : StreamPacket) → i < length ds → i < length ps → d ≡ get_or ds i d → p ≡ get_or ps i p → pieces (take (i + 1) ds) ps ≡ pieces (take i ds) ps ++ piece d p
-pieces_more ds ps i d p in_ds in_ps is_d is_p =
-    ap (λ n. pieces (take n ds) ps) (add-one i) ∙ pieces_suc ds ps i d p in_ds in_ps ∙ ap (λ x. pieces (take i ds) ps ++ piece x (get_or ps i p)) (sym is_d) ∙ ap (λ x. pieces (take i ds) ps ++ piece d x) (sym is_p)
+pub pieces_more : (ds xs : List IsoDesc) (ps : List StreamPacket) (i : ℕ) (p : StreamPacket) → xs ≡ ds → i < length ds → i < length ps → p ≡ packet_at ps i →
+    pieces (take (i + 1) ds) ps ≡ pieces (take i ds) ps ++ piece (get_or xs i none) p
+pieces_more ds xs ps i p same in_ds in_ps is =
+    ap (λ n. pieces (take n ds) ps) (add-one i) ∙ pieces_suc ds ps i none p in_ds in_ps
+    ∙ ap (λ (l : List IsoDesc). pieces (take i ds) ps ++ piece (get_or l i none) (get_or ps i p)) (sym same)
+    ∙ ap (λ x. pieces (take i ds) ps ++ piece (get_or xs i none) x) (sym (there ps i p in_ps is))
 
 filled_suc : (ds : List IsoDesc) (ps : List StreamPacket) (i : ℕ) (d : IsoDesc) (p : StreamPacket) → i < length ds → i < length ps → all_filled (take (suc i) ds) ps ≡ all_filled (take i ds) ps ++ filled (get_or ds i d) (get_or ps i p) ∷ []
 filled_suc [] ps i d p in_ds in_ps = absurd (omega arith)
@@ -23,6 +36,17 @@ filled_suc (x ∷ ds) [] i d p in_ds in_ps = absurd (omega arith)
 filled_suc (x ∷ ds) (y ∷ ps) zero d p in_ds in_ps = refl
 filled_suc (x ∷ ds) (y ∷ ps) (suc i) d p in_ds in_ps = ap (λ l. filled x y ∷ l) (filled_suc ds ps i d p (omega arith) (omega arith))
 
-pub filled_more : (ds : List IsoDesc) (ps : List StreamPacket) (i : ℕ) (d : IsoDesc) (p : StreamPacket) → i < length ds → i < length ps → d ≡ get_or ds i d → p ≡ get_or ps i p → all_filled (take (i + 1) ds) ps ≡ all_filled (take i ds) ps ++ filled d p ∷ []
-filled_more ds ps i d p in_ds in_ps is_d is_p =
-    ap (λ n. all_filled (take n ds) ps) (add-one i) ∙ filled_suc ds ps i d p in_ds in_ps ∙ ap (λ x. all_filled (take i ds) ps ++ filled x (get_or ps i p) ∷ []) (sym is_d) ∙ ap (λ x. all_filled (take i ds) ps ++ filled d x ∷ []) (sym is_p)
+pub filled_more : (ds xs : List IsoDesc) (ps : List StreamPacket) (i : ℕ) (p : StreamPacket) → xs ≡ ds → i < length ds → i < length ps → p ≡ packet_at ps i →
+    all_filled (take (i + 1) ds) ps ≡ all_filled (take i ds) ps ++ filled (get_or xs i none) p ∷ []
+filled_more ds xs ps i p same in_ds in_ps is =
+    ap (λ n. all_filled (take n ds) ps) (add-one i) ∙ filled_suc ds ps i none p in_ds in_ps
+    ∙ ap (λ (l : List IsoDesc). all_filled (take i ds) ps ++ filled (get_or l i none) (get_or ps i p) ∷ []) (sym same)
+    ∙ ap (λ x. all_filled (take i ds) ps ++ filled (get_or xs i none) x ∷ []) (sym (there ps i p in_ps is))
+
+-- ---- what is told of them
+
+pub bytes_more : (seen : List IsoDesc) (d : IsoDesc) → descs_bytes (seen ++ d ∷ []) ≡ descs_bytes seen ++ desc_bytes d
+bytes_more seen d = flat_map-append desc_bytes seen (d ∷ []) ∙ ap (λ (l : List ℕ). descs_bytes seen ++ l) (append-nil (desc_bytes d))
+
+pub errors_more : (seen : List IsoDesc) (d : IsoDesc) → errors_of (seen ++ d ∷ []) ≡ errors_of seen + errors_of (d ∷ [])
+errors_more seen d = ap length (filter-append (λ (x : IsoDesc). is_failed x.status) seen (d ∷ [])) ∙ length-append (filter (λ (x : IsoDesc). is_failed x.status) seen) (filter (λ (x : IsoDesc). is_failed x.status) (d ∷ []))

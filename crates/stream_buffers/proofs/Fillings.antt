@@ -11,6 +11,10 @@ use Rattle.stream_buffers.specs.Interrupt.{ends, packet_at, bodies, bodies_to, f
 use Rattle.stream_buffers.specs.inner.Seen.{IsSeen}
 use Rattle.stream_buffers.proofs.Found.{none_below}
 
+-- a packet that is there, whatever stands for one that is not
+pub there : (packets : List StreamPacket) (k : ℕ) (p : StreamPacket) → k < length packets → p ≡ packet_at packets k → p ≡ get_or packets k p
+there packets k p within is = is ∙ get_or_default packets k (record { status = Success; body = [] }) p within
+
 pub here : (packets : List StreamPacket) (k : ℕ) (p : StreamPacket) → k < length packets → p ≡ get_or packets k p → packet_at packets k ≡ p
 here packets k p within is = get_or_default packets k (record { status = Success; body = [] }) p within ∙ sym is
 

@@ -3,5 +3,6 @@ pub mod Cuts
 pub mod Least
 pub mod Interrupt
 pub mod Iso
+pub mod Fillings
 pub mod Laws
 pub mod inner

@@ -1,16 +1,17 @@
 //! Which of the held packets fill an interrupt request.
 
-ghost use Rattle.std.specs.Prelude.{◌≡◌, ◌+◌, ◌||◌, ◌<◌, ◌≤◌, ◌^◌, nat_le, None, length, IfSome};
+ghost use Rattle.std.specs.Prelude.{◌≡◌, ◌+◌, ◌||◌, ◌<◌, ◌≤◌, ◌^◌, nat_le, None, drop, length, IfSome};
 ghost use Rattle.std.specs.Option.{option_map};
 ghost use Rattle.stream_buffers.specs.Interrupt.{is_success, ends, fills, last_of, bodies_to};
 ghost use Rattle.stream_buffers.specs.Least.{least_below};
 ghost use Rattle.stream_buffers.specs.inner.Seen.{IsSeen};
 
+use crate::behind::packet_behind;
 use std::collections::VecDeque;
 use usb_base::{StreamPacket, UsbStatus};
 
-/// How many packets at the front were looked at for a request that they don't fill, and the bytes that they have:
-/// the next look begins behind them.
+/// How many packets were looked at for a request that they don't fill, and the bytes that they have: the next look
+/// begins behind them.
 #[derive(Clone, Copy, Debug)]
 pub(crate) struct Seen {
     pub count: usize,
@@ -21,54 +22,58 @@ impl Seen {
     pub const NOTHING: Seen = Seen { count: 0, bytes: 0 };
 }
 
-/// The packets that fill a request.
+/// The fewest packets that fill a request.
 #[derive(Clone, Copy, Debug)]
-pub(crate) struct Filling {
+pub(crate) struct Fewest {
     /// The place of the last of them.
     pub last: usize,
     /// How many bytes they have, which may be more than are wanted.
     pub bytes: u64,
 }
 
-/// The fewest packets that fill a request for so many bytes, if any do, and how far was looked.
+/// The fewest packets behind the first `from` that fill a request for so many bytes, if any do, and how far was looked.
 pub(crate) fn fewest_filling(
     packets: &VecDeque<StreamPacket>,
+    from: usize,
     max_packet: u16,
     wanted: u32,
     seen: Seen,
-) -> (Option<Filling>, Seen)
-    requires { IsSeen max_packet packets.now.items seen }
-    ensures last { option_map (λ f. f.last) result.0 ≡ last_of max_packet wanted packets.now.items }
-    ensures bytes { IfSome result.0 (λ f. f.bytes ≡ length (bodies_to f.last packets.now.items)) }
-    ensures there { IfSome result.0 (λ f. f.last < length packets.now.items) }
-    ensures seen { IsSeen max_packet packets.now.items result.1 }
+) -> (Option<Fewest>, Seen)
+    requires from { from ≤ length packets.now.items }
+    requires seen { IsSeen max_packet (drop from packets.now.items) seen }
+    ensures last { option_map (λ f. f.last) result.0 ≡ last_of max_packet wanted (drop from packets.now.items) }
+    ensures bytes { IfSome result.0 (λ f. f.bytes ≡ length (bodies_to f.last (drop from packets.now.items))) }
+    ensures there { IfSome result.0 (λ f. from + f.last < length packets.now.items) }
+    ensures seen { IsSeen max_packet (drop from packets.now.items) result.1 }
 {
     if seen.bytes < wanted {
-        filling_behind(packets, max_packet, wanted, seen)
+        filling_behind(packets, from, max_packet, wanted, seen)
     } else {
-        filling_behind(packets, max_packet, wanted, Seen::NOTHING)
+        filling_behind(packets, from, max_packet, wanted, Seen::NOTHING)
     }
 }
 
 /// The same, where those that were seen don't fill it.
 fn filling_behind(
     packets: &VecDeque<StreamPacket>,
+    from: usize,
     max_packet: u16,
     wanted: u32,
     mut seen: Seen,
-) -> (Option<Filling>, Seen)
-    requires seen { IsSeen max_packet packets.now.items seen }
-    requires too_few { least_below (fills max_packet wanted packets.now.items) seen.count ≡ None }
-    ensures last { option_map (λ f. f.last) result.0 ≡ last_of max_packet wanted packets.now.items }
-    ensures bytes { IfSome result.0 (λ f. f.bytes ≡ length (bodies_to f.last packets.now.items)) }
-    ensures there { IfSome result.0 (λ f. f.last < length packets.now.items) }
-    ensures seen { IsSeen max_packet packets.now.items result.1 }
+) -> (Option<Fewest>, Seen)
+    requires from { from ≤ length packets.now.items }
+    requires seen { IsSeen max_packet (drop from packets.now.items) seen }
+    requires too_few { least_below (fills max_packet wanted (drop from packets.now.items)) seen.count ≡ None }
+    ensures last { option_map (λ f. f.last) result.0 ≡ last_of max_packet wanted (drop from packets.now.items) }
+    ensures bytes { IfSome result.0 (λ f. f.bytes ≡ length (bodies_to f.last (drop from packets.now.items))) }
+    ensures there { IfSome result.0 (λ f. from + f.last < length packets.now.items) }
+    ensures seen { IsSeen max_packet (drop from packets.now.items) result.1 }
 {
-    for last in seen.count..packets.len() {
-        let packet = &packets[last];
+    for last in seen.count..packets.len() - from {
+        let packet = packet_behind(packets, from, last);
         let bytes = u64::from(seen.bytes) + packet.body.as_slice().len() as u64;
         if fills(max_packet, packet, bytes, wanted) {
-            return (Some(Filling { last, bytes }), seen);
+            return (Some(Fewest { last, bytes }), seen);
         }
         seen = Seen {
             count: last + 1,

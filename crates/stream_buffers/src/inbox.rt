@@ -1,18 +1,24 @@
 //! The packets that are held of one receiving stream.
 
-ghost use Rattle.std.specs.Prelude.{◌≡◌, ◌≤◌, [], length, not, false, IsSome, IfOk, OnOk, OnErr};
+ghost use Rattle.std.specs.Prelude.{◌≡◌, ◌+◌, ◌≤◌, ◌-◌, ℕ, [], length, take, drop, not, false, None, IsTrue, MatchOption, IfSome, IsSome, IfOk, OnOk, OnErr};
+ghost use Rattle.std.specs.Option.{option_map};
+ghost use Rattle.packet_stream.specs.Writes.{AppendsSome};
+ghost use Rattle.usbip_urb.specs.Buffers.{laid};
+ghost use Rattle.usbip_urb.specs.Spelling.{descs_bytes};
 ghost use Rattle.stream_buffers.specs.Held.{is_full, receive};
 ghost use Rattle.stream_buffers.specs.Cuts.{given, left};
 ghost use Rattle.stream_buffers.specs.Interrupt.{interrupt_cut};
-ghost use Rattle.stream_buffers.specs.Iso.{iso_cut};
+ghost use Rattle.stream_buffers.specs.Iso.{iso_cut, pieces, all_filled};
+ghost use Rattle.stream_buffers.specs.Fillings.{cut_by, filling_body, FillsIso};
+ghost use Rattle.stream_buffers.specs.inner.Seen.{IsSeen};
 
 use crate::fill::{Seen, fewest_filling};
-use crate::interrupt::take_filling;
-use crate::iso::{IsoOutcome, iso_outcome};
+use crate::interrupt::{Filling, append_bodies, filling_by, take_filling};
+use crate::iso::{IsoFilling, IsoOutcome, append_filled, append_pieces, iso_filling, iso_outcome};
 use std::alloc::Global;
 use std::collections::VecDeque;
 use std::marker::Model;
-use usb_base::{Memory, Outcome, StreamPacket};
+use usb_base::{Bytes, Memory, Outcome, StreamPacket};
 use usbip_urb::Descs;
 
 /// How many packets are held at most.
@@ -84,14 +90,65 @@ impl Inbox {
         ensures leaves { OnOk result (self.new ≡ record self.old { packets = left self.old.packets (interrupt_cut self.old.max_packet wanted self.old.packets) }) }
         ensures err { OnErr result ((self.new ≡ self.old) × IsSome (interrupt_cut self.old.max_packet wanted self.old.packets)) }
     {
-        let (filling, seen) = fewest_filling(&self.packets, self.max_packet, wanted, self.seen);
-        self.seen = seen;
-        let Some(filling) = filling else {
+        let Some(filling) = self.filling(0, wanted) else {
             return Ok(None);
         };
-        let outcome = take_filling(self.alloc, &mut self.packets, wanted, filling)?;
+        let outcome = take_filling(self.alloc, &mut self.packets, filling)?;
         self.seen = Seen::NOTHING;
         Ok(Some(outcome))
+    }
+
+    /// What an interrupt request for so many bytes is given of the packets behind the first `from`, which stay, as
+    /// `cut_interrupt` tells it. For a request that waits at the front each packet is looked at once.
+    pub fn filling(&mut self, from: usize, wanted: u32) -> Option<Filling>
+        requires { from ≤ length self.old.packets }
+        ensures same { self.new ≡ self.old }
+        ensures cut { option_map (cut_by (drop from self.old.packets)) result ≡ interrupt_cut self.old.max_packet wanted (drop from self.old.packets) }
+        ensures there { IfSome result (λ filling. from + filling.count ≤ length self.old.packets) }
+        ensures some { IfSome result (λ filling. 1 ≤ filling.count) }
+        ensures fits { IfSome result (λ filling. filling.done ≤ wanted) }
+    {
+        let seen = self.seen_behind(from);
+        let (fewest, seen) = fewest_filling(&self.packets, from, self.max_packet, wanted, seen);
+        self.remember(from, seen);
+        match fewest {
+            Some(fewest) => Some(filling_by(&self.packets, from, wanted, fewest)),
+            None => None,
+        }
+    }
+
+    // What is remembered of the packets behind the first `from`.
+    fn seen_behind(&self, from: usize) -> Seen
+        ensures { IsSeen self.now.max_packet (drop from self.now.packets) result }
+    {
+        match from {
+            0 => self.seen,
+            _ => Seen::NOTHING,
+        }
+    }
+
+    // It is remembered of those at the front alone.
+    fn remember(&mut self, from: usize, seen: Seen)
+        requires { IsSeen self.old.max_packet (drop from self.old.packets) seen }
+        ensures { self.new ≡ self.old }
+    {
+        if from == 0 {
+            self.seen = seen;
+        }
+    }
+
+    /// Appends what fits of the packets behind the first `from` that fill an interrupt request. Each is copied once. For
+    /// want of memory some of the bytes may be there, which the caller cuts off.
+    pub fn append_bodies(
+        &self,
+        from: usize,
+        filling: Filling,
+        out: &mut Bytes,
+    ) -> Result<(), Memory>
+        requires { from + filling.count ≤ length self.now.packets }
+        ensures { AppendsSome result out.old out.new (filling_body (drop from self.now.packets) filling) }
+    {
+        append_bodies(&self.packets, from, filling, out)
     }
 
     /// What an isochronous request is given: one packet for each descriptor, as far as it fits, joined without gaps.
@@ -107,9 +164,57 @@ impl Inbox {
             return Ok(None);
         }
         let outcome = iso_outcome(self.alloc, descs, &self.packets)?;
-        self.packets.drain(..count);
-        self.seen = Seen::NOTHING;
+        self.skip(count);
         Ok(Some(outcome))
+    }
+
+    /// What an isochronous request is given of the packets behind the first `from`, which stay, as `cut_iso` tells it.
+    pub fn iso_filling(&self, from: usize, descs: &Descs) -> Option<IsoFilling>
+        requires { from ≤ length self.now.packets }
+        ensures cut { MatchOption result (iso_cut descs.now (drop from self.now.packets) ≡ None) (FillsIso descs.now (drop from self.now.packets)) }
+        ensures fits { (size : ℕ) → IsTrue (laid descs.now size) → IfSome result (λ filling. filling.done ≤ size) }
+    {
+        if self.packets.len() - from < descs.len() {
+            return None;
+        }
+        Some(iso_filling(descs, &self.packets, from))
+    }
+
+    /// Appends what fits of the packets behind the first `from`, one for each descriptor, without gaps. Each is copied
+    /// once. For want of memory some of the bytes may be there, which the caller cuts off.
+    pub fn append_pieces(&self, from: usize, descs: &Descs, out: &mut Bytes) -> Result<(), Memory>
+        requires { from + length descs.now ≤ length self.now.packets }
+        ensures { AppendsSome result out.old out.new (pieces descs.now (drop from self.now.packets)) }
+    {
+        append_pieces(descs, &self.packets, from, out)
+    }
+
+    /// Appends the descriptors with what came of each of the packets behind the first `from`. For want of memory some of
+    /// the bytes may be there, which the caller cuts off.
+    pub fn append_filled(&self, from: usize, descs: &Descs, out: &mut Bytes) -> Result<(), Memory>
+        requires { from + length descs.now ≤ length self.now.packets }
+        ensures { AppendsSome result out.old out.new (descs_bytes (all_filled descs.now (drop from self.now.packets))) }
+    {
+        append_filled(descs, &self.packets, from, out)
+    }
+
+    /// Gives up the packet that came last.
+    pub fn withdraw(&mut self)
+        ensures { self.new ≡ record self.old { packets = take (length self.old.packets - 1) self.old.packets } }
+    {
+        self.packets.pop_back();
+        self.seen = Seen::NOTHING;
+    }
+
+    /// Gives up the first `count` packets.
+    pub fn skip(&mut self, count: usize)
+        requires { count ≤ length self.old.packets }
+        ensures { self.new ≡ record self.old { packets = drop count self.old.packets } }
+    {
+        if count > 0 {
+            self.packets.drain(..count);
+            self.seen = Seen::NOTHING;
+        }
     }
 
     /// Drops all packets.

@@ -1,82 +1,119 @@
 //! What an interrupt request is given of the packets that fill it.
 
 ghost use Rattle.std.specs.Prelude.{◌≡◌, ◌+◌, ◌++◌, ◌<◌, ◌≤◌, length, take, drop, IfOk, OnOk, OnErr};
-ghost use Rattle.stream_buffers.specs.Interrupt.{fitted, fitting_status, bodies, bodies_to, packet_at, interrupt_cut_at};
+ghost use Rattle.packet_stream.specs.Writes.{AppendsSome};
+ghost use Rattle.stream_buffers.specs.Interrupt.{fitting_status, bodies, bodies_to, packet_at, interrupt_cut_at};
+ghost use Rattle.stream_buffers.specs.Fillings.{cut_by, filling_body};
 
-use crate::fill::Filling;
+use crate::behind::packet_behind;
+use crate::fill::Fewest;
 use std::alloc::Global;
 use std::collections::VecDeque;
 use usb_base::{Bytes, Memory, Outcome, StreamPacket, UsbStatus};
 
-/// Takes these packets, and gives what fits of them. One packet alone is handed on; of several each is copied once,
-/// and for want of memory all stay.
+/// What an interrupt request is given of the packets behind a place; its bytes stay with them.
+#[derive(Clone, Copy, Debug, PartialEq, Eq)]
+pub struct Filling {
+    /// How many packets fill it, at least one.
+    pub count: usize,
+    /// How many of their bytes fit.
+    pub done: u32,
+    /// What came of it: the status of the last packet, or babble where more bytes came than fit.
+    pub status: UsbStatus,
+}
+
+/// What a request for so many bytes is given by the packets behind the first `from` that fill it.
+pub(crate) fn filling_by(
+    packets: &VecDeque<StreamPacket>,
+    from: usize,
+    wanted: u32,
+    fewest: Fewest,
+) -> Filling
+    requires there { from + fewest.last < length packets.now.items }
+    requires bytes { fewest.bytes ≡ length (bodies_to fewest.last (drop from packets.now.items)) }
+    ensures cut { cut_by (drop from packets.now.items) result ≡ interrupt_cut_at wanted (drop from packets.now.items) fewest.last }
+    ensures count { result.count ≡ fewest.last + 1 }
+    ensures fits { result.done ≤ wanted }
+{
+    Filling {
+        count: fewest.last + 1,
+        done: fewest.bytes.min(u64::from(wanted)) as u32,
+        status: fitting_status(
+            wanted,
+            fewest.bytes,
+            packet_behind(packets, from, fewest.last).status,
+        ),
+    }
+}
+
+/// Takes the packets that fill a request, and gives what fits of them. One packet alone is handed on; of several each is
+/// copied once, and for want of memory all stay.
 pub(crate) fn take_filling(
     alloc: Global,
     packets: &mut VecDeque<StreamPacket>,
-    wanted: u32,
     filling: Filling,
 ) -> Result<Outcome, Memory>
-    requires last { filling.last < length packets.old.items }
-    requires bytes { filling.bytes ≡ length (bodies_to filling.last packets.old.items) }
-    ensures gives { IfOk result (λ outcome. outcome ≡ (interrupt_cut_at wanted packets.old.items filling.last).gives) }
-    ensures leaves { OnOk result (packets.new.items ≡ drop (filling.last + 1) packets.old.items) }
+    requires some { 1 ≤ filling.count }
+    requires there { filling.count ≤ length packets.old.items }
+    ensures gives { IfOk result (λ outcome. outcome ≡ (cut_by packets.old.items filling).gives) }
+    ensures leaves { OnOk result (packets.new.items ≡ drop filling.count packets.old.items) }
     ensures err { OnErr result (packets.new.items ≡ packets.old.items) }
 {
-    if filling.last == 0 {
+    if filling.count == 1 {
         let Some(packet) = packets.pop_front() else {
             unreachable!()
         };
-        return Ok(fitted(wanted, packet));
+        return Ok(fitted(packet, filling));
     }
-    let body = joined(alloc, wanted, packets, filling.last)?;
-    let status = fitting_status(wanted, filling.bytes, packets[filling.last].status);
-    packets.drain(..filling.last + 1);
+    let mut body = Bytes::new(alloc);
+    append_bodies(packets, 0, filling, &mut body)?;
+    packets.drain(..filling.count);
     Ok(Outcome {
-        status,
-        done: body.len() as u32,
+        status: filling.status,
+        done: filling.done,
         body,
     })
 }
 
 /// What fits of a packet that fills a request alone.
-fn fitted(wanted: u32, packet: StreamPacket) -> Outcome
-    ensures { result ≡ fitted wanted packet.body packet.status }
+fn fitted(packet: StreamPacket, filling: Filling) -> Outcome
+    ensures { result ≡ record { status = filling.status; done = filling.done; body = take filling.done packet.body } }
 {
-    let StreamPacket { status, mut body } = packet;
-    let status = fitting_status(wanted, body.len() as u64, status);
-    if body.len() > wanted as usize {
-        body.cut(wanted as usize);
+    let StreamPacket { mut body, .. } = packet;
+    if body.len() > filling.done as usize {
+        body.cut(filling.done as usize);
     }
     Outcome {
-        status,
-        done: body.len() as u32,
+        status: filling.status,
+        done: filling.done,
         body,
     }
 }
 
-/// What fits of the bodies up to the packet at `last`.
-fn joined(
-    alloc: Global,
-    wanted: u32,
+/// Appends what fits of the packets behind the first `from` that fill a request. Each is copied once.
+pub(crate) fn append_bodies(
     packets: &VecDeque<StreamPacket>,
-    last: usize,
-) -> Result<Bytes, Memory>
-    requires { last < length packets.now.items }
-    ensures { IfOk result (λ body. body ≡ take wanted (bodies_to last packets.now.items)) }
+    from: usize,
+    filling: Filling,
+    out: &mut Bytes,
+) -> Result<(), Memory>
+    requires { from + filling.count ≤ length packets.now.items }
+    ensures { AppendsSome result out.old out.new (filling_body (drop from packets.now.items) filling) }
 {
-    let mut body = Bytes::new(alloc);
-    for place in 0..last + 1 {
-        append_fitting(&mut body, wanted, packets[place].body.as_slice())?;
+    let mut room = filling.done as usize;
+    for place in 0..filling.count {
+        let fitting = fitting(packet_behind(packets, from, place).body.as_slice(), room);
+        out.append(fitting)?;
+        room -= fitting.len();
     }
-    Ok(body)
+    Ok(())
 }
 
-fn append_fitting(body: &mut Bytes, wanted: u32, bytes: &[u8]) -> Result<(), Memory>
-    requires { length body.old ≤ wanted }
-    ensures { OnOk result (body.new ≡ take wanted (body.old ++ bytes.now)) }
+/// What fits into so much room.
+fn fitting(bytes: &[u8], room: usize) -> &[u8]
+    ensures { result.now ≡ take room bytes.now }
 {
-    let room = wanted as usize - body.len();
-    body.append(&bytes[..bytes.len().min(room)])
+    &bytes[..bytes.len().min(room)]
 }
 
 /// The status of a request that so many bytes came for, the last packet with this status.

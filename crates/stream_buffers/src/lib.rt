@@ -1,6 +1,7 @@
 //! The packets of receiving streams, held until requests take them, and what a request is given of them.
 #![tactic(auto)]
 
+mod behind;
 mod fill;
 mod inbox;
 mod interrupt;
@@ -10,5 +11,6 @@ mod laws;
 mod tests;
 
 pub use inbox::{Inbox, MAX_HELD};
-pub use iso::IsoOutcome;
+pub use interrupt::Filling;
+pub use iso::{IsoFilling, IsoOutcome};
 pub use laws::{fewest_fill, interrupt_fits, iso_fits};

@@ -1,6 +1,6 @@
 //! Tables of cuts: what is held, what is asked, what is given, and how many packets are left.
 
-use crate::{Inbox, MAX_HELD};
+use crate::{Inbox, IsoFilling, MAX_HELD};
 use std::alloc::Global;
 use std::test::Fail;
 use usb_base::{Bytes, List, Memory, StreamPacket, UsbStatus};
@@ -180,6 +180,100 @@ fn an_isochronous_request_takes_a_packet_for_each_descriptor(rt: HostRuntime) ->
     let five = descs(alloc, &[(0, 4), (4, 4), (8, 4), (12, 4), (16, 4)])?;
     assert_eq!(rt; inbox.cut_iso(&five)?.is_none(), true);
     assert_eq!(rt; inbox.len(), 4);
+    Ok(())
+}
+
+#[test]
+fn the_packets_behind_others_fill_a_request(rt: HostRuntime) -> Result<(), Fail> {
+    let alloc = rt.alloc();
+    let held: &[Row] = &[
+        (OK, 1, 2),
+        (OK, 2, 2),
+        (OK, 3, 1),
+        (OK, 4, 2),
+        (UsbStatus::Stall, 5, 2),
+        (OK, 6, 2),
+    ];
+    // packets before them, bytes wanted, packets, status and bytes given
+    let table: &[(usize, u32, Option<(usize, UsbStatus, &[u8])>)] = &[
+        (0, 9, Some((3, OK, &[1, 1, 2, 2, 3]))),
+        (1, 9, Some((2, OK, &[2, 2, 3]))),
+        (2, 9, Some((1, OK, &[3]))),
+        (3, 9, Some((2, UsbStatus::Stall, &[4, 4, 5, 5]))),
+        (3, 3, Some((2, UsbStatus::Stall, &[4, 4, 5]))),
+        (3, 1, Some((1, UsbStatus::Babble, &[4]))),
+        (1, 2, Some((1, OK, &[2, 2]))),
+        (5, 3, None),
+        (5, 2, Some((1, OK, &[6, 6]))),
+        (6, 0, None),
+    ];
+    let mut inbox = holding(alloc, 2, held)?;
+    for (from, wanted, given) in table {
+        let from = *from;
+        assert!(rt; from <= inbox.len());
+        let Some(filling) = inbox.filling(from, *wanted) else {
+            assert_eq!(rt; given.is_none(), true);
+            continue;
+        };
+        let Some((count, status, bytes)) = given else {
+            return Err("it is filled")?;
+        };
+        assert_eq!(rt; (filling.count, filling.status), (*count, *status));
+        assert_eq!(rt; filling.done as usize, bytes.len());
+        let mut out = Bytes::new(alloc);
+        inbox.append_bodies(from, filling, &mut out)?;
+        assert_eq!(rt; out.as_slice(), *bytes);
+    }
+    assert_eq!(rt; inbox.len(), 6);
+    Ok(())
+}
+
+#[test]
+fn the_packets_behind_others_fill_an_isochronous_request(rt: HostRuntime) -> Result<(), Fail> {
+    let alloc = rt.alloc();
+    let held: &[Row] = &[(OK, 1, 4), (OK, 2, 3), (UsbStatus::Stall, 3, 1)];
+    let inbox = holding(alloc, 4, held)?;
+    let descs = descs(alloc, &[(0, 2), (8, 2)])?;
+    assert!(rt; inbox.len() == 3 && descs.len() == 2);
+    assert_eq!(rt; inbox.iso_filling(2, &descs), None);
+    let filling = IsoFilling { done: 3, errors: 2 };
+    assert_eq!(rt; inbox.iso_filling(1, &descs), Some(filling));
+    let mut out = Bytes::new(alloc);
+    inbox.append_pieces(1, &descs, &mut out)?;
+    inbox.append_filled(1, &descs, &mut out)?;
+    let want = [
+        2, 2, 3, 0, 0, 0, 0, 0, 0, 0, 2, 0, 0, 0, 2, 0xff, 0xff, 0xff, 0xb5, 0, 0, 0, 8, 0, 0, 0,
+        2, 0, 0, 0, 1, 0xff, 0xff, 0xff, 0xe0,
+    ];
+    assert_eq!(rt; out.as_slice(), want.as_slice());
+    Ok(())
+}
+
+#[test]
+fn packets_that_are_given_up_fill_nothing(rt: HostRuntime) -> Result<(), Fail> {
+    let alloc = rt.alloc();
+    let mut inbox = holding(alloc, 2, &[(OK, 1, 2), (OK, 2, 2), (OK, 3, 2), (OK, 4, 2)])?;
+    // packets given up at the front and at the end, bytes wanted, packets that fill the request
+    let table: &[(usize, usize, u32, Option<usize>)] = &[
+        (0, 0, 9, None),
+        (1, 0, 7, None),
+        (0, 0, 6, Some(3)),
+        (0, 1, 6, None),
+        (0, 0, 4, Some(2)),
+        (1, 0, 2, Some(1)),
+        (0, 1, 0, None),
+        (0, 1, 0, None),
+    ];
+    for (front, end, wanted, count) in table {
+        assert!(rt; *front <= inbox.len());
+        inbox.skip(*front);
+        for _ in 0..*end {
+            inbox.withdraw();
+        }
+        let filling = inbox.filling(0, *wanted);
+        assert_eq!(rt; filling.map(|filling| filling.count), *count);
+    }
+    assert_eq!(rt; inbox.len(), 0);
     Ok(())
 }
 

@@ -5,6 +5,8 @@ use Rattle.control_route.specs.declared.route.Route.{Route}
 use Rattle.unlink_race.specs.declared.live.Live.{Live}
 use Rattle.unlink_race.specs.declared.live.LiveKind.{LiveKind}
 use Rattle.unlink_race.specs.declared.live.LiveKind.TheVariants.{Wire, Routed, Stream}
+use Rattle.unlink_race.specs.declared.live.StreamEnd.{StreamEnd}
+use Rattle.unlink_race.specs.declared.live.StreamEnd.TheVariants.{ClientGone, Told, Change}
 
 -- ---- by its kind
 
@@ -25,6 +27,12 @@ abbrev pub is_touched_by : Route → LiveKind → Bool
 is_touched_by by (Wire ep kind) = false
 is_touched_by by (Routed route) = false
 is_touched_by by (Stream ep interface) = touches by interface
+
+-- for those of a stream that ends so
+abbrev pub ends_with : StreamEnd → LiveKind → Bool
+ends_with ClientGone kind = is_stream kind
+ends_with (Told ep) kind = waits_at ep kind
+ends_with (Change route) kind = is_touched_by route kind
 
 -- it changes the device's interfaces
 abbrev pub is_change : LiveKind → Bool
@@ -50,6 +58,9 @@ waits_for ep live = waits_at ep live.kind
 
 abbrev pub touched_by : Route → Live → Bool
 touched_by route live = is_touched_by route live.kind
+
+abbrev pub ended_by : StreamEnd → Live → Bool
+ended_by end live = ends_with end live.kind
 
 abbrev pub changes : Live → Bool
 changes live = is_change live.kind

@@ -11,6 +11,6 @@ mod tests;
 mod unlink;
 
 pub use ending::{Ending, ending_of};
-pub use live::{Live, LiveKind};
+pub use live::{Live, LiveKind, StreamEnd};
 pub use lives::{Lives, NotAccepted};
 pub use unlink::UnlinkTold;

@@ -1,7 +1,7 @@
 //! A request in flight.
 
 ghost use Rattle.std.specs.Prelude.{◌≡◌};
-ghost use Rattle.unlink_race.specs.Searches.{is_stream, waits_at, is_touched_by, is_change};
+ghost use Rattle.unlink_race.specs.Searches.{is_stream, waits_at, is_touched_by, ends_with, is_change};
 
 use control_route::Route;
 use usb_base::{EpAddr, EpKind};
@@ -16,6 +16,18 @@ pub enum LiveKind {
     Routed(Route),
     /// Packets of an endpoint's stream. The interface is the one that the stream went up with.
     Stream { ep: EpAddr, interface: u8 },
+}
+
+/// What ends streams, and with them the requests that wait for their packets.
+#[derive(Clone, Copy, Debug, PartialEq, Eq)]
+pub enum StreamEnd {
+    /// Their client goes, and all streams with it.
+    ClientGone,
+    /// The host tells so of the stream of the endpoint with this address. A byte that is no address is that of no
+    /// endpoint.
+    Told(u8),
+    /// This route is carried out, which touches their interfaces.
+    Change(Route),
 }
 
 impl LiveKind {
@@ -43,6 +55,20 @@ impl LiveKind {
         match self {
             LiveKind::Stream { interface, .. } => control_route::touches(route, *interface),
             _ => false,
+        }
+    }
+
+    /// Whether it waits for packets of a stream that ends so.
+    pub fn ends_with(&self, end: &StreamEnd) -> bool
+        ensures { result ≡ ends_with end.now self.now }
+    {
+        match end {
+            StreamEnd::ClientGone => self.is_stream(),
+            StreamEnd::Told(byte) => match self {
+                LiveKind::Stream { ep, .. } => ep.byte() == *byte,
+                _ => false,
+            },
+            StreamEnd::Change(route) => self.is_touched_by(route),
         }
     }
 

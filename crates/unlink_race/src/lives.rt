@@ -1,18 +1,17 @@
 //! The requests in flight.
 
-ghost use Rattle.std.specs.Prelude.{◌≡◌, ◌≤◌, ◌||◌, [], ◌∷◌, ◌++◌, length, drop, slice_get, option_copied, IfOk, OnOk, OnErr};
+ghost use Rattle.std.specs.Prelude.{◌≡◌, ◌≤◌, ◌||◌, ◌-◌, not, [], ◌∷◌, ◌++◌, length, filter, take, drop, slice_get, option_copied, IfOk, OnOk, OnErr};
 ghost use Rattle.std.specs.List.{find, list_any};
 ghost use Rattle.std.specs.Result.{result_err};
 ghost use Rattle.unlink_race.specs.Firsts.{without_first};
-ghost use Rattle.unlink_race.specs.Searches.{has_number, has_id, waits_for, touched_by, changes};
+ghost use Rattle.unlink_race.specs.Searches.{has_number, has_id, waits_for, ended_by, changes};
 ghost use Rattle.unlink_race.specs.Requests.{no_requests, left_behind, OneIsEmpty};
 ghost use Rattle.unlink_race.specs.Accepting.{refusal_of};
 ghost use Rattle.unlink_race.specs.Unlinking.{told_of, left_by};
 
-use crate::live::Live;
+use crate::live::{Live, StreamEnd};
 use crate::table::{ROOM, Table};
 use crate::unlink::{UnlinkTold, unlink};
-use control_route::Route;
 use std::alloc::Global;
 use std::marker::Model;
 use usb_base::{EpAddr, Memory};
@@ -153,6 +152,18 @@ impl Lives {
         self.table.get(self.table.place_of_number(seqnum))
     }
 
+    /// Takes it out.
+    pub fn finish_number(&mut self, seqnum: u32) -> Option<Live>
+        ensures found { result ≡ find (has_number seqnum) self.old.live }
+        ensures rest { self.new ≡ record self.old { live = without_first (has_number seqnum) self.old.live } }
+    {
+        if self.client_gone {
+            return None;
+        }
+        let place = self.table.place_of_number(seqnum);
+        self.table.take(place)
+    }
+
     /// The live wire or route request with an id.
     pub fn find(&self, id: u64) -> Option<&Live>
         ensures { option_copied result ≡ find (has_id id) self.now.live }
@@ -197,16 +208,13 @@ impl Lives {
         self.table.take(place)
     }
 
-    /// Takes out the earliest request that waits for a stream whose interface the route touches.
-    pub fn take_touched(&mut self, route: &Route) -> Option<Live>
-        ensures found { result ≡ find (touched_by route.now) self.old.live }
-        ensures rest { self.new ≡ record self.old { live = without_first (touched_by route.now) self.old.live } }
+    /// Drops all requests that wait for packets of a stream that ends so.
+    pub fn drop_ended(&mut self, end: &StreamEnd)
+        ensures { self.new ≡ record self.old { live = filter (λ live. not (ended_by end.now live)) self.old.live } }
     {
-        if self.client_gone {
-            return None;
+        if !self.client_gone {
+            self.table.drop_ended(end);
         }
-        let place = self.table.place_touched(route);
-        self.table.take(place)
     }
 
     /// Takes out the earliest of all that are live.
@@ -220,12 +228,22 @@ impl Lives {
         Some(self.table.remove(0))
     }
 
+    /// Takes out the last that was taken in.
+    pub fn take_last(&mut self) -> Option<Live>
+        ensures { self.new ≡ record self.old { live = take (length self.old.live - 1) self.old.live } }
+    {
+        if self.client_gone || self.table.len() == 0 {
+            return None;
+        }
+        Some(self.table.remove(self.table.len() - 1))
+    }
+
     /// The client goes: its wire and route requests are abandoned, and its stream requests dropped.
     pub fn abandon(&mut self)
         requires { self.old.abandoned ≡ [] }
         ensures { self.new ≡ left_behind self.old }
     {
-        self.table.drop_streams();
+        self.table.drop_ended(&StreamEnd::ClientGone);
         self.client_gone = true;
     }
 

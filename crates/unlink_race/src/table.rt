@@ -1,15 +1,14 @@
 //! The table behind `Lives`: the requests in a slab, and beside it, in order of acceptance, their keys and kinds
 //! and a column each of their numbers and ids, for the searches.
 
-ghost use Rattle.std.specs.Prelude.{◌≡◌, ◌==◌, ◌<◌, ◌≤◌, List, [], ◌∷◌, ◌++◌, length, filter, map, remove, slice_get, slice_set, option_copied, IfOk, Some};
+ghost use Rattle.std.specs.Prelude.{◌≡◌, ◌==◌, ◌<◌, ◌≤◌, not, List, [], ◌∷◌, ◌++◌, length, filter, map, remove, slice_get, slice_set, option_copied, IfOk, Some};
 ghost use Rattle.std.specs.List.{find, position, list_any};
 ghost use Rattle.unlink_race.specs.declared.live.Live.{Live};
 ghost use Rattle.unlink_race.specs.Firsts.{without_first};
 ghost use Rattle.unlink_race.specs.Unlinking.{unlinked_by};
-ghost use Rattle.unlink_race.specs.Searches.{has_number, has_id, waits_for, touched_by, changes, waits_at, is_touched_by, is_change, is_stream, goes_by_id};
+ghost use Rattle.unlink_race.specs.Searches.{has_number, has_id, waits_for, ended_by, changes, waits_at, ends_with, is_change};
 
-use crate::live::{Live, LiveKind};
-use control_route::Route;
+use crate::live::{Live, LiveKind, StreamEnd};
 use slab::Slab;
 use std::alloc::Global;
 use std::marker::Model;
@@ -73,12 +72,6 @@ fn first_waiting(rows: &[Row], ep: EpAddr) -> Option<usize>
     rows.iter().position(|row| row.kind.waits_at(ep))
 }
 
-fn first_touched(rows: &[Row], route: &Route) -> Option<usize>
-    ensures { result ≡ position (λ r. is_touched_by route.now r.kind) rows.now }
-{
-    rows.iter().position(|row| row.kind.is_touched_by(route))
-}
-
 fn any_change(rows: &[Row]) -> bool
     ensures { result ≡ list_any (λ r. is_change r.kind) rows.now }
 {
@@ -88,6 +81,7 @@ fn any_change(rows: &[Row]) -> bool
 impl Table {
     ghost use Rattle.std.specs.Prelude.{Bool};
 
+    /// The empty table, with room for as many requests as fit.
     pub fn make(alloc: Global) -> Result<Self, Memory>
         ensures { IfOk result (λ table. table ≡ []) }
     {
@@ -103,6 +97,7 @@ impl Table {
         })
     }
 
+    /// How many requests there are.
     pub fn len(&self) -> usize
         ensures len { result ≡ length self.now }
         ensures bound { result ≤ 4096 }
@@ -110,48 +105,49 @@ impl Table {
         self.rows.len()
     }
 
+    /// Where the first request with this number stands.
     pub fn place_of_number(&self, seqnum: u32) -> Option<usize>
         ensures { result ≡ position (has_number seqnum) self.now }
     {
         first_number(&self.seqnums, seqnum)
     }
 
+    /// Where the first request that flies with this id stands.
     pub fn place_of_id(&self, id: u64) -> Option<usize>
         ensures { result ≡ position (has_id id) self.now }
     {
         first_id(&self.ids, &self.rows, id)
     }
 
+    /// Whether a request has this number.
     pub fn has_number(&self, seqnum: u32) -> bool
         ensures { result ≡ list_any (has_number seqnum) self.now }
     {
         self.place_of_number(seqnum).is_some()
     }
 
+    /// Whether a request flies with this id.
     pub fn has_id(&self, id: u64) -> bool
         ensures { result ≡ list_any (has_id id) self.now }
     {
         self.place_of_id(id).is_some()
     }
 
+    /// Where the first request stands that waits for packets of this endpoint's stream.
     pub fn place_waiting(&self, ep: EpAddr) -> Option<usize>
         ensures { result ≡ position (waits_for ep) self.now }
     {
         first_waiting(&self.rows, ep)
     }
 
-    pub fn place_touched(&self, route: &Route) -> Option<usize>
-        ensures { result ≡ position (touched_by route.now) self.now }
-    {
-        first_touched(&self.rows, route)
-    }
-
+    /// Whether a request changes the configuration or an interface.
     pub fn has_change(&self) -> bool
         ensures { result ≡ list_any changes self.now }
     {
         any_change(&self.rows)
     }
 
+    /// The request at this place.
     pub fn at(&self, place: usize) -> &Live
         requires { place < length self.now }
         ensures { slice_get self.now place ≡ Some result.now }
@@ -159,6 +155,7 @@ impl Table {
         &self.slab[self.rows[place].key]
     }
 
+    /// Takes out the request at this place; those behind it move up.
     pub fn remove(&mut self, place: usize) -> Live
         requires { place < length self.old }
         ensures live { slice_get self.old place ≡ Some result }
@@ -170,6 +167,7 @@ impl Table {
         self.slab.remove(row.key)
     }
 
+    /// Puts a request behind the others.
     pub fn push(&mut self, live: Live)
         requires { length self.old < 4096 }
         ensures { self.new ≡ self.old ++ live ∷ [] }
@@ -181,6 +179,7 @@ impl Table {
         self.rows.push_reserved(Row { key, kind });
     }
 
+    /// Marks the request at this place as asked back by the unlink with this number.
     pub fn mark(&mut self, place: usize, by: u32)
         requires { place < length self.old }
         ensures { (live : Live) → slice_get self.old place ≡ Some live → self.new ≡ slice_set self.old place (unlinked_by by live) }
@@ -212,19 +211,19 @@ impl Table {
         }
     }
 
-    fn is_stream_at(&self, place: usize) -> bool
+    fn ends_at(&self, place: usize, end: &StreamEnd) -> bool
         requires { place < length self.now }
-        ensures { (live : Live) → slice_get self.now place ≡ Some live → result ≡ is_stream live.kind }
+        ensures { (live : Live) → slice_get self.now place ≡ Some live → result ≡ ends_with end.now live.kind }
     {
-        self.rows[place].kind.is_stream()
+        self.rows[place].kind.ends_with(end)
     }
 
-    /// Drops the stream requests, from the last to the first: what is moved up are those that stay.
-    pub fn drop_streams(&mut self)
-        ensures { self.new ≡ filter goes_by_id self.old }
+    /// Drops the requests whose stream ends so, from the last to the first: what is moved up are those that stay.
+    pub fn drop_ended(&mut self, end: &StreamEnd)
+        ensures { self.new ≡ filter (λ live. not (ended_by end.now live)) self.old }
     {
         for place in (0..self.len()).rev() {
-            if self.is_stream_at(place) {
+            if self.ends_at(place, end) {
                 self.remove(place);
             }
         }

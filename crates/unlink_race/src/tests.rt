@@ -2,7 +2,7 @@
 
 ghost use Rattle.std.specs.Prelude.{◌≡◌, [], IfOk};
 
-use crate::{Ending, Live, LiveKind, Lives, NotAccepted, UnlinkTold, ending_of};
+use crate::{Ending, Live, LiveKind, Lives, NotAccepted, StreamEnd, UnlinkTold, ending_of};
 use control_route::Route;
 use std::alloc::Global;
 use std::test::Fail;
@@ -165,30 +165,26 @@ fn the_earliest_is_taken_first(rt: HostRuntime) -> Result<(), Fail> {
 }
 
 #[test]
-fn a_change_takes_what_it_touches(rt: HostRuntime) -> Result<(), Fail> {
+fn the_end_of_a_stream_drops_what_waits_for_it(rt: HostRuntime) -> Result<(), Fail> {
     let mut lives = three(rt.alloc())?;
     accept(&mut lives, request(rt.alloc(), 4, 0, stream(0x83, 2)?))?;
-    accept(&mut lives, request(rt.alloc(), 5, 0, stream(0x84, 2)?))?;
+    accept(&mut lives, request(rt.alloc(), 5, 0, stream(0x82, 2)?))?;
+    accept(&mut lives, request(rt.alloc(), 6, 0, stream(0x84, 1)?))?;
+    let (interface, alt) = (2, 1);
     let table = [
-        (Route::Plain, None),
-        (
-            Route::SetAlt {
-                interface: 2,
-                alt: 1,
-            },
-            Some(4),
-        ),
-        (Route::Reset, Some(3)),
-        (Route::SetConfig(1), Some(5)),
-        (Route::Reset, None),
+        (StreamEnd::Told(0x90), 6),
+        (StreamEnd::Told(0x82), 4),
+        (StreamEnd::Change(Route::Plain), 4),
+        (StreamEnd::Change(Route::SetAlt { interface, alt }), 3),
+        (StreamEnd::Change(Route::Reset), 2),
+        (StreamEnd::ClientGone, 2),
     ];
-    for (route, expected) in table {
-        assert_eq!(rt;
-            number_taken(lives.take_touched(&route)),
-            expected,
-            "by {route:?}"
-        );
+    for (end, left) in table {
+        lives.drop_ended(&end);
+        assert_eq!(rt; lives.len(), left, "after {end:?}");
     }
+    assert_eq!(rt; number_taken(lives.finish_number(2)), Some(2));
+    assert!(rt; lives.finish_number(3).is_none());
     Ok(())
 }
 
@@ -244,7 +240,7 @@ fn one_call(lives: &mut Lives, alloc: Global, seed: u32) -> Result<(), Fail>
             Ok(())
         }
         6 => {
-            let _ = lives.take_touched(&Route::Reset);
+            lives.drop_ended(&StreamEnd::Change(Route::Reset));
             Ok(())
         }
         _ => {

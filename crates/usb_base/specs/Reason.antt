@@ -1,7 +1,7 @@
 -- The numbers and names of the reasons for a refusal.
 use Rattle.std.specs.Prelude.{ℕ, List, codes}
 use Rattle.usb_base.specs.declared.reason.Reason.{Reason}
-use Rattle.usb_base.specs.declared.reason.Reason.TheVariants.{Version, OpCode, Command, Device, Direction, Endpoint, TooLong, Packets, NotImported, AlreadyImported, DuplicateSeq, NotBuilt, HelloFirst, UnknownType, NotAgreed, WrongWay, BadLength, Count, TooLong26, DataLength, Mismatch, Stray, Length}
+use Rattle.usb_base.specs.declared.reason.Reason.TheVariants.{Version, OpCode, Command, Device, Direction, Endpoint, TooLong, Packets, NotImported, AlreadyImported, DuplicateSeq, HelloFirst, UnknownType, NotAgreed, WrongWay, BadLength, Count, TooLong26, DataLength, Mismatch, Stray, Length}
 
 abbrev pub number_of : Reason → ℕ
 number_of Version = 1
@@ -15,7 +15,6 @@ number_of Packets = 8
 number_of NotImported = 9
 number_of AlreadyImported = 10
 number_of DuplicateSeq = 11
-number_of NotBuilt = 12
 number_of HelloFirst = 20
 number_of UnknownType = 21
 number_of NotAgreed = 22
@@ -40,7 +39,6 @@ name_of Packets = codes "Packets"
 name_of NotImported = codes "NotImported"
 name_of AlreadyImported = codes "AlreadyImported"
 name_of DuplicateSeq = codes "DuplicateSeq"
-name_of NotBuilt = codes "NotBuilt"
 name_of HelloFirst = codes "HelloFirst"
 name_of UnknownType = codes "UnknownType"
 name_of NotAgreed = codes "NotAgreed"

@@ -73,14 +73,6 @@ impl<T: Drop> List<T> {
         self.items.truncate(len);
     }
 
-    /// Drops the first `count` items, in one move of those that stay.
-    pub fn skip(&mut self, count: usize)
-        requires { count ≤ length self.old }
-        ensures { self.new ≡ drop count self.old }
-    {
-        self.items.drain(..count);
-    }
-
     /// Drops every item, and keeps the room.
     pub fn clear(&mut self)
         ensures { self.new ≡ [] }
@@ -97,5 +89,14 @@ impl List<u8> {
     {
         self.items.extend_from_slice(piece)?;
         Ok(())
+    }
+
+    /// Drops the first `count` bytes, in one move of those that stay.
+    pub fn skip(&mut self, count: usize)
+        requires { count ≤ length self.old }
+        ensures { self.new ≡ drop count self.old }
+    {
+        self.items.copy_within(count.., 0);
+        self.items.truncate(self.items.len() - count);
     }
 }

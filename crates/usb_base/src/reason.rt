@@ -3,8 +3,8 @@
 ghost use Rattle.std.specs.Prelude.{◌≡◌};
 ghost use Rattle.usb_base.specs.Reason.{number_of, name_of};
 
-/// Why a side is refused. The reasons up to `DuplicateSeq` are the client's, `NotBuilt` is both sides', those
-/// from `HelloFirst` to `Mismatch` are the host's, and the last two those of a USB/IP server.
+/// Why a side is refused. The reasons up to `DuplicateSeq` are the client's, those from `HelloFirst` to `Mismatch` the
+/// host's, and the last two those of a USB/IP server.
 #[derive(Clone, Copy, Debug, PartialEq, Eq)]
 pub enum Reason {
     /// The packet's first two bytes are no USB/IP version 1.1.1, and no URB packet.
@@ -29,8 +29,6 @@ pub enum Reason {
     AlreadyImported,
     /// The number of a submit is that of one in flight.
     DuplicateSeq,
-    /// The gateway has no form for this packet yet.
-    NotBuilt,
     /// The first packet isn't a hello, or a later one is.
     HelloFirst,
     /// usbredir has no packet of this type.
@@ -72,7 +70,6 @@ impl Reason {
             Reason::NotImported => 9,
             Reason::AlreadyImported => 10,
             Reason::DuplicateSeq => 11,
-            Reason::NotBuilt => 12,
             Reason::HelloFirst => 20,
             Reason::UnknownType => 21,
             Reason::NotAgreed => 22,
@@ -103,7 +100,6 @@ impl Reason {
             Reason::NotImported => "NotImported",
             Reason::AlreadyImported => "AlreadyImported",
             Reason::DuplicateSeq => "DuplicateSeq",
-            Reason::NotBuilt => "NotBuilt",
             Reason::HelloFirst => "HelloFirst",
             Reason::UnknownType => "UnknownType",
             Reason::NotAgreed => "NotAgreed",

@@ -37,10 +37,23 @@ fn lists_grow_and_shrink(rt: HostRuntime) -> Result<(), Fail> {
     list.cut(4);
     assert_eq!(rt; list.as_slice(), [1, 2, 3, 4].as_slice());
     assert_eq!(rt; list.len(), 4);
-    list.skip(1);
-    assert_eq!(rt; list.as_slice(), [2, 3, 4].as_slice());
     list.clear();
     assert!(rt; list.is_empty());
+    Ok(())
+}
+
+#[test]
+fn bytes_come_and_go(rt: HostRuntime) -> Result<(), Fail> {
+    let mut bytes = Bytes::new(rt.alloc());
+    bytes.append(&[1, 2, 3, 4])?;
+    bytes.skip(0);
+    assert_eq!(rt; bytes.as_slice(), [1, 2, 3, 4].as_slice());
+    bytes.skip(3);
+    assert_eq!(rt; bytes.as_slice(), [4].as_slice());
+    bytes.append(&[5, 6])?;
+    assert_eq!(rt; bytes.as_slice(), [4, 5, 6].as_slice());
+    bytes.skip(3);
+    assert!(rt; bytes.is_empty());
     Ok(())
 }
 
@@ -109,7 +122,6 @@ fn reasons_and_speeds(rt: HostRuntime) {
     let reasons = [
         (Reason::OpCode, 2, "OpCode"),
         (Reason::TooLong, 7, "TooLong"),
-        (Reason::NotBuilt, 12, "NotBuilt"),
         (Reason::NotAgreed, 22, "NotAgreed"),
         (Reason::Count, 25, "Count"),
         (Reason::TooLong26, 26, "TooLong26"),

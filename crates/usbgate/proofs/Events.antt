@@ -8,12 +8,12 @@ use Rattle.usb_base.specs.declared.refusal.Refusal.{Refusal}
 use Rattle.gate_core.specs.declared.note.Note.{Note}
 use Rattle.gate_core.specs.declared.note.Note.TheVariants as note
 use Rattle.gate_core.specs.Events.{Event}
-use Rattle.gate_core.specs.Marks.{Submission, Effect, Idle, Replies, Imports, Opens, Unbuilt, Unlinks, Agrees, Answers, StreamTold, Disconnects, Ends, Refuses, Mark}
+use Rattle.gate_core.specs.Marks.{Submission, Effect, Idle, Replies, Imports, Opens, Waits, Arrives, Unlinks, Agrees, Answers, StreamTold, Disconnects, Ends, Refuses, Mark}
 use Rattle.gate_core.specs.Sides.{refused_at, leaves, is_loss}
 use Rattle.gate_core.specs.Submits.{Pending, opened, ends}
 use Rattle.gate_core.specs.State.{State, state_of}
 use Rattle.gate_core.specs.History.{history}
-use Rattle.gate_core.specs.Notes.{is_by_answer, when, import_notes, submit_notes, unlink_notes, answer_notes, refusal_notes, notes_of}
+use Rattle.gate_core.specs.Notes.{is_by_answer, when, import_notes, submit_notes, unlink_notes, arrival_notes, answer_notes, refusal_notes, notes_of}
 use Rattle.gate_core.specs.Output.{present}
 use Rattle.gate_core.specs.Bytes.{out_client, out_host}
 use Rattle.gate_core.specs.Stands.{Gains, Takes}
@@ -43,7 +43,8 @@ quiet-import (Imports reply) = refl
 quiet-import Idle = refl
 quiet-import (Replies reply) = refl
 quiet-import (Opens s) = refl
-quiet-import (Unbuilt s place) = refl
+quiet-import (Waits s fill) = refl
+quiet-import (Arrives ep fill) = refl
 quiet-import (StreamTold id ep status) = refl
 quiet-import (Unlinks by target) = refl
 quiet-import (Agrees caps) = refl
@@ -62,13 +63,29 @@ quiet-unlink Idle = refl
 quiet-unlink (Replies reply) = refl
 quiet-unlink (Imports reply) = refl
 quiet-unlink (Opens s) = refl
-quiet-unlink (Unbuilt s place) = refl
+quiet-unlink (Waits s fill) = refl
+quiet-unlink (Arrives ep fill) = refl
 quiet-unlink (StreamTold id ep status) = refl
 quiet-unlink (Agrees caps) = refl
 quiet-unlink (Answers id outcome) = refl
 quiet-unlink (Disconnects id) = refl
 quiet-unlink (Ends side) = refl
 quiet-unlink (Refuses r) = refl
+
+quiet-arrival : (e : Effect) → IsQuiet (arrival_notes e)
+quiet-arrival (Arrives ep fill) = refl
+quiet-arrival Idle = refl
+quiet-arrival (Replies reply) = refl
+quiet-arrival (Imports reply) = refl
+quiet-arrival (Opens s) = refl
+quiet-arrival (Waits s fill) = refl
+quiet-arrival (Unlinks by target) = refl
+quiet-arrival (StreamTold id ep status) = refl
+quiet-arrival (Agrees caps) = refl
+quiet-arrival (Answers id outcome) = refl
+quiet-arrival (Disconnects id) = refl
+quiet-arrival (Ends side) = refl
+quiet-arrival (Refuses r) = refl
 
 quiet-answer : (ps : List Pending) → IsQuiet (map (λ p. note.Answered p.submit.request.number) ps)
 quiet-answer [] = refl
@@ -81,15 +98,17 @@ told-refusal (Some r) = refl
 told-mark : (st : State) (m : Mark) → list_any is_refusal (notes_of st m) ≡ is_some (refused_at m.what)
 told-mark st m =
     let by_client = import_notes m.what ++ submit_notes m.what ++ unlink_notes m.what in
+    let came = by_client ++ arrival_notes m.what in
     let gone = when (is_loss m.what && st.imported && not st.lost) note.DeviceGone in
     let left = when (leaves m.what && not st.client_over) note.ClientGone in
     let first_three : IsQuiet by_client =
     quiet-three (import_notes m.what) (submit_notes m.what) (unlink_notes m.what) (quiet-import m.what) (quiet-submit (opened m.what)) (quiet-unlink m.what) in
-    let next_three : IsQuiet (by_client ++ answer_notes st m.what ++ gone) =
-    quiet-three by_client (answer_notes st m.what) gone first_three (quiet-answer (filter (λ p. is_by_answer (ends m.what p.submit)) (present st m.what))) (quiet-when (is_loss m.what && st.imported && not st.lost) note.DeviceGone refl) in
-    let all_six : IsQuiet (by_client ++ answer_notes st m.what ++ gone ++ left) =
-    quiet-then (by_client ++ answer_notes st m.what ++ gone) left next_three ∙ quiet-when (leaves m.what && not st.client_over) note.ClientGone refl in
-    quiet-then (by_client ++ answer_notes st m.what ++ gone ++ left) (refusal_notes (refused_at m.what)) all_six ∙ told-refusal (refused_at m.what)
+    let first_four : IsQuiet came = quiet-then by_client (arrival_notes m.what) first_three ∙ quiet-arrival m.what in
+    let next_three : IsQuiet (came ++ answer_notes st m.what ++ gone) =
+    quiet-three came (answer_notes st m.what) gone first_four (quiet-answer (filter (λ p. is_by_answer (ends m.what p.submit)) (present st m.what))) (quiet-when (is_loss m.what && st.imported && not st.lost) note.DeviceGone refl) in
+    let all_seven : IsQuiet (came ++ answer_notes st m.what ++ gone ++ left) =
+    quiet-then (came ++ answer_notes st m.what ++ gone) left next_three ∙ quiet-when (leaves m.what && not st.client_over) note.ClientGone refl in
+    quiet-then (came ++ answer_notes st m.what ++ gone ++ left) (refusal_notes (refused_at m.what)) all_seven ∙ told-refusal (refused_at m.what)
 
 or-comm : (a b : Bool) → (a || b) ≡ (b || a)
 or-comm true true = refl

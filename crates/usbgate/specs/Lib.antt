@@ -1,5 +1,6 @@
 pub mod CommandLine
 pub mod Serving
+pub mod Lending
 pub mod Words
 pub mod Tape
 pub mod Text

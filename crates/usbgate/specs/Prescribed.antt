@@ -3,7 +3,7 @@ use Rattle.std.specs.Prelude.{List, ℕ, Option, Some, None}
 use Rattle.usbgate.specs.declared.status.Status.{Status}
 use Rattle.usbgate.specs.declared.status.Status.TheVariants.{Usage}
 use Rattle.usbgate.specs.declared.words.Command.{Command}
-use Rattle.usbgate.specs.declared.words.Command.TheVariants.{Replay, Show, Serve, Unknown}
+use Rattle.usbgate.specs.declared.words.Command.TheVariants.{Replay, Show, Serve, Host, Unknown}
 use Rattle.usbgate.specs.Text.{usage_line}
 use Rattle.usbgate.specs.TapeCommand.{TapeCommand, tape_text, tape_status, front_text}
 use Rattle.usbgate.specs.EventCommand.{over_events}
@@ -28,4 +28,5 @@ abbrev pub prescribed : Command → Option Prescribed
 prescribed (Replay first) = Some (over_tape (over_events (replay first)))
 prescribed (Show side) = Some (over_tape (over_events (show side)))
 prescribed (Serve asked) = None
+prescribed (Host asked) = None
 prescribed Unknown = Some usage

@@ -1,22 +1,41 @@
--- What a run of `serve` leaves, and how it ends.
+-- What a run of `serve` or `host` leaves, and how it ends.
 use Rattle.std.specs.Prelude.{◌≡◌, ℕ, List, Option, Some, None}
 use Rattle.bridge_run.specs.declared.serve_end.ServeEnd.{ServeEnd}
 use Rattle.bridge_run.specs.declared.serve_end.ServeEnd.TheVariants as end
-use Rattle.bridge_run.specs.Course.{Setting, Course, Making}
+use Rattle.bridge_run.specs.Course.{Setting, Course, Next, Making, AtDoor}
 use Rattle.bridge_run.specs.Calls.{Goes}
 use Rattle.bridge_run.specs.Gate.{gate_sends}
+use Rattle.bridge_run.specs.Lent.{lent_sends}
 use Rattle.bridge_run.specs.Outside.{Outside, Tells, HasCause}
+use Rattle.bridge_run.specs.Prescribed.{Prescribed as Sends}
 use Rattle.bridge_run.specs.Serves.{Begins, Leaves}
+use Rattle.model_device.specs.Device.{first_state, meaning_of}
+use Rattle.model_device.specs.Keyboard.{keyboard}
+use Rattle.model_device.specs.Loopback.{loopback}
+use Rattle.model_device.specs.Tone.{tone}
+use Rattle.usbgate.specs.declared.lending.Device.{Device}
+use Rattle.usbgate.specs.declared.lending.Device.TheVariants.{Keyboard, Loopback, Tone}
 use Rattle.usbgate.specs.declared.status.Status.{Status}
 use Rattle.usbgate.specs.declared.status.Status.TheVariants.{Done, Refused, WriteFault, LinkFault, OutOfMemory, Idle, Spent}
 use Rattle.usbgate.specs.Serving.{Asked}
+use Rattle.usbgate.specs.Lending.{AskedLent}
 
 -- so many bytes and clients may come: 2 ^ 62
 abbrev pub budget : ℕ
 budget = 4611686018427387904
 
+-- the gateway between sockets
 abbrev pub setting_of : Asked → Setting
 setting_of asked = record { served = gate_sends asked.first_id; idle = asked.idle }
+
+-- a modelled device, which begins as it was plugged in
+abbrev pub device_sends : Device → Sends
+device_sends Keyboard = lent_sends (meaning_of keyboard) (first_state keyboard)
+device_sends Loopback = lent_sends (meaning_of loopback) (first_state loopback)
+device_sends Tone = lent_sends (meaning_of tone) (first_state tone)
+
+abbrev pub setting_lent : AskedLent → Setting
+setting_lent asked = record { served = device_sends asked.device; idle = asked.idle }
 
 abbrev pub ended_as : ServeEnd → Status
 ended_as (end.Ended None) = Done
@@ -29,8 +48,16 @@ ended_as end.Memory = OutOfMemory
 
 -- it ends with the status of its end, which has its cause; and over doors and a sink that tell, these are left as that
 -- end leaves them
-pub record Serves (status : Status) (asked : Asked) (old new : Outside) (faults_old faults_new : ℕ) (contents_old contents_new : Option (List ℕ)) : Type 0 where
+pub record EndsOf (setting : Setting) (first : Next) (status : Status) (old new : Outside) (faults_old faults_new : ℕ) (contents_old contents_new : Option (List ℕ)) : Type 0 where
   pub end : ServeEnd
   pub status-is : status ≡ ended_as end
   pub cause : HasCause end old new faults_old faults_new
-  pub leaves : (c : Course) → Begins asked.idle budget c → Tells old contents_old c → Leaves end (setting_of asked) (Goes Making c) new contents_new
+  pub leaves : (c : Course) → Begins setting.idle budget c → Tells old contents_old c → Leaves end setting (Goes first c) new contents_new
+
+-- the host is dialled first
+abbrev pub Serves : Status → Asked → (old new : Outside) → (faults_old faults_new : ℕ) → (contents_old contents_new : Option (List ℕ)) → Type 0
+Serves status asked old new faults_old faults_new contents_old contents_new = EndsOf (setting_of asked) Making status old new faults_old faults_new contents_old contents_new
+
+-- the guest is asked for first
+abbrev pub Lends : Status → AskedLent → (old new : Outside) → (faults_old faults_new : ℕ) → (contents_old contents_new : Option (List ℕ)) → Type 0
+Lends status asked old new faults_old faults_new contents_old contents_new = EndsOf (setting_lent asked) AtDoor status old new faults_old faults_new contents_old contents_new

@@ -8,7 +8,7 @@ use Rattle.packet_show.specs.Number.{number_of}
 use Rattle.usb_base.specs.declared.side.Side.{Side}
 use Rattle.usb_base.specs.declared.side.Side.TheVariants.{Client, Host}
 use Rattle.usbgate.specs.declared.words.Command.{Command}
-use Rattle.usbgate.specs.declared.words.Command.TheVariants.{Replay, Show, Serve, Unknown}
+use Rattle.usbgate.specs.declared.words.Command.TheVariants.{Replay, Show, Serve, Host as HostLent, Unknown}
 use Rattle.usbgate.specs.declared.command_table.Need.{Need}
 use Rattle.usbgate.specs.declared.command_table.Need.TheVariants.{Must, May, MustNot}
 use Rattle.usbgate.specs.declared.command_table.Verb.{Verb}
@@ -16,7 +16,10 @@ use Rattle.usbgate.specs.declared.command_table.Verb.TheVariants as verb
 use Rattle.usbgate.specs.declared.command_table.Row.{Row}
 use Rattle.usbgate.specs.declared.command_table.TheConstants.{ROWS}
 use Rattle.usbgate.specs.CommandLine.{found}
+use Rattle.usbgate.specs.declared.lending.Device.{Device}
+use Rattle.usbgate.specs.declared.lending.Device.TheVariants as modelled
 use Rattle.usbgate.specs.Serving.{Asked}
+use Rattle.usbgate.specs.Lending.{AskedLent}
 
 -- the words as texts
 abbrev pub texts : List (Bor (List ℕ)) → List (List ℕ)
@@ -49,6 +52,7 @@ abbrev pub name_of : Verb → Text
 name_of verb.Replay = codes "replay"
 name_of verb.Show = codes "show"
 name_of verb.Serve = codes "serve"
+name_of verb.Host = codes "host"
 
 abbrev pub row_named : Text → Option Row
 row_named name = find (λ row. bytes_eq (name_of row.verb) name) ROWS
@@ -67,10 +71,22 @@ abbrev pub serving_of : (host listen : Option Text) → (idle first_id : Option 
 serving_of (Some host) (Some listen) (Some idle) (Some first_id) = Some (record { host = host; listen = listen; idle = idle; first_id = first_id })
 serving_of _ _ _ _ = None
 
+abbrev pub device_of : Text → Option Device
+device_of text =
+    if bytes_eq text (codes "keyboard") then Some modelled.Keyboard
+    else if bytes_eq text (codes "loop") then Some modelled.Loopback
+    else if bytes_eq text (codes "tone") then Some modelled.Tone
+    else None
+
+abbrev pub lending_of : Option Device → (listen : Option Text) → (idle : Option ℕ) → Option AskedLent
+lending_of (Some device) (Some listen) (Some idle) = Some (record { device = device; listen = listen; idle = idle })
+lending_of _ _ _ = None
+
 abbrev pub asked_by : Verb → (Text → Option Text) → Option Command
 asked_by verb.Replay given = option_map Replay (first_id_of (given (codes "first-id")))
 asked_by verb.Show given = option_map Show (option_and_then side_of (given (codes "side")))
 asked_by verb.Serve given = option_map Serve (serving_of (given (codes "host")) (given (codes "listen")) (option_and_then number_of (given (codes "idle"))) (first_id_of (given (codes "first-id"))))
+asked_by verb.Host given = option_map HostLent (lending_of (option_and_then device_of (given (codes "device"))) (given (codes "listen")) (option_and_then number_of (given (codes "idle"))))
 
 abbrev pub by_row : Option Row → (Text → Option Text) → Option Command
 by_row None given = None
@@ -95,4 +111,5 @@ abbrev pub HasNumbers : Command → Type 0
 HasNumbers (Replay first) = (1 ≤ first) × (first < 2 ^ 32)
 HasNumbers (Show side) = Unit {0}
 HasNumbers (Serve asked) = (1 ≤ asked.idle) × ((1 ≤ asked.first_id) × (asked.first_id < 2 ^ 32))
+HasNumbers (HostLent asked) = 1 ≤ asked.idle
 HasNumbers Unknown = Unit {0}

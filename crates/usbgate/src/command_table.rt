@@ -20,6 +20,7 @@ pub enum Verb {
     Replay,
     Show,
     Serve,
+    Host,
 }
 
 /// A command, and which words stand with it.
@@ -36,7 +37,7 @@ pub struct Row {
 }
 
 /// The commands that are built.
-pub const ROWS: [Row; 3] = [
+pub const ROWS: [Row; 4] = [
     Row {
         verb: Verb::Replay,
         number: Need::MustNot,
@@ -67,6 +68,16 @@ pub const ROWS: [Row; 3] = [
         idle: Need::Must,
         first_id: Need::May,
     },
+    Row {
+        verb: Verb::Host,
+        number: Need::MustNot,
+        device: Need::Must,
+        side: Need::MustNot,
+        host: Need::MustNot,
+        listen: Need::Must,
+        idle: Need::Must,
+        first_id: Need::MustNot,
+    },
 ];
 
 impl Need {
@@ -91,6 +102,7 @@ impl Verb {
             Verb::Replay => "replay",
             Verb::Show => "show",
             Verb::Serve => "serve",
+            Verb::Host => "host",
         }
     }
 }

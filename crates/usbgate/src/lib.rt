@@ -1,10 +1,12 @@
-//! Runs of the gateway between USB/IP clients and a usbredir host.
+//! Runs of the gateway between USB/IP clients and a usbredir host, and of modelled hosts.
 #![tactic(auto)]
 
 mod command_line;
 mod command_table;
 mod event_tape;
 mod given;
+mod host;
+mod lending;
 mod program;
 mod replay;
 mod serve;

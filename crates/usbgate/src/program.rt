@@ -12,13 +12,15 @@ ghost use Rattle.usbgate.specs.EventCommand.{over_events};
 ghost use Rattle.usbgate.specs.Replay.{replay as replaying};
 ghost use Rattle.usbgate.specs.Show.{show as showing, show_side};
 ghost use Rattle.usbgate.specs.Serving.{Asked};
-ghost use Rattle.usbgate.specs.Serves.{Serves};
+ghost use Rattle.usbgate.specs.Lending.{AskedLent};
+ghost use Rattle.usbgate.specs.Serves.{Serves, Lends};
 ghost use Rattle.usbgate.specs.inner.Show.{shown_by};
 ghost use Rattle.usbgate.specs.Words.{texts, command_of};
 ghost use Rattle.usbgate.specs.inner.Causes.{HasCauses};
 ghost use Rattle.usbgate.specs.inner.TapeReader.{Stage};
 
 use crate::event_tape::EventTape;
+use crate::host::host;
 use crate::replay::Replay;
 use crate::serve::serve;
 use crate::show::Show;
@@ -39,7 +41,7 @@ const CHUNK: usize = 65_536;
 
 /// Does what the words say: `replay` puts the tape to a gate, and prints what that sends and which sides it
 /// refuses; `show` prints the packets of one side's stream in it; `serve` puts what comes by the doors to a gate, and
-/// prints which sides it refuses. Words that are no command print how they should be.
+/// prints which sides it refuses; `host` lends a modelled device to a guest that comes by the doors. Words that are no command print how they should be.
 pub fn run<S: Source, K: Sink, D: Doors>(
     alloc: Global,
     words: &[&str],
@@ -54,10 +56,14 @@ pub fn run<S: Source, K: Sink, D: Doors>(
     ensures serves { (asked : Asked) → command_of (texts words.now) ≡ Command.Serve asked
         → Serves result asked (outside (D.link doors.old) (D.door doors.old)) (outside (D.link doors.new) (D.door doors.new))
         (K.faults out.old) (K.faults out.new) (K.contents out.old) (K.contents out.new) }
+    ensures lends { (asked : AskedLent) → command_of (texts words.now) ≡ Command.Host asked
+        → Lends result asked (outside (D.link doors.old) (D.door doors.old)) (outside (D.link doors.new) (D.door doors.new))
+        (K.faults out.old) (K.faults out.new) (K.contents out.old) (K.contents out.new) }
     ensures usage { result ≡ Status.Usage → command_of (texts words.now) ≡ Command.Unknown }
     ensures no_command { command_of (texts words.now) ≡ Command.Unknown → IsOfNoCommand result }
     ensures untouched { command_of (texts words.now) ≡ Command.Unknown → tape.new ≡ tape.old }
     ensures unread { (asked : Asked) → command_of (texts words.now) ≡ Command.Serve asked → tape.new ≡ tape.old }
+    ensures unread_lent { (asked : AskedLent) → command_of (texts words.now) ≡ Command.Host asked → tape.new ≡ tape.old }
     ensures read_fault { result ≡ Status.ReadFault → Rose (S.faults tape.old) (S.faults tape.new) }
     ensures write_fault { result ≡ Status.WriteFault → Rose (K.faults out.old) (K.faults out.new) }
     ensures reads_stand { result ≢ Status.ReadFault → S.faults tape.new ≡ S.faults tape.old }
@@ -74,6 +80,7 @@ pub fn run<S: Source, K: Sink, D: Doors>(
         Command::Replay { first_id } => replay(alloc, first_id, tape, out),
         Command::Show { side } => show(alloc, side, tape, out),
         Command::Serve(serving) => serve(alloc, &serving, doors, out),
+        Command::Host(lending) => host(alloc, &lending, doors, out),
         Command::Unknown => print_usage(out),
     }
 }

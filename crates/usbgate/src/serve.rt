@@ -12,7 +12,7 @@ use gate_outside::{Doors, Sink};
 use std::alloc::Global;
 
 /// How many bytes and clients may come.
-const BUDGET: u64 = 4_611_686_018_427_387_904;
+pub const BUDGET: u64 = 4_611_686_018_427_387_904;
 
 /// Serves the device of a host to clients, one after another, and writes a line for each refusal.
 pub fn serve<D: Doors, K: Sink>(
@@ -42,7 +42,7 @@ pub fn serve<D: Doors, K: Sink>(
 }
 
 /// The status of a run that ends so.
-fn status_of(end: ServeEnd) -> Status
+pub fn status_of(end: ServeEnd) -> Status
     ensures { result ≡ ended_as end }
 {
     match end {

@@ -3,6 +3,7 @@
 ghost use Rattle.std.specs.Prelude.{◌<◌};
 
 mod cuts;
+mod host;
 mod outside;
 mod packets;
 mod refusals;
@@ -10,6 +11,7 @@ mod routes;
 mod serve;
 mod sessions;
 mod show;
+mod streams;
 mod tapes;
 mod unlinks;
 mod words;

@@ -8,6 +8,7 @@ ghost use Rattle.usbgate.specs.inner.Given.{IsGiven};
 use crate::command_line::found;
 use crate::command_table::{Row, Verb};
 use crate::given::Given;
+use crate::lending::{Device, Lending};
 use crate::serving::Serving;
 use packet_show::read_number;
 use std::alloc::Global;
@@ -22,6 +23,8 @@ pub enum Command<'a> {
     Show { side: Side },
     /// Serves clients the device of a host, over sockets.
     Serve(Serving<'a>),
+    /// Lends a modelled device to a guest, over sockets.
+    Host(Lending<'a>),
     /// They are no command.
     Unknown,
 }
@@ -60,6 +63,7 @@ fn known<'a>(given: &Given<'a>) -> Option<Command<'a>>
         Verb::Replay => replay(given),
         Verb::Show => show(given),
         Verb::Serve => serve(given),
+        Verb::Host => host(given),
     }
 }
 
@@ -97,6 +101,19 @@ fn serve<'a>(given: &Given<'a>) -> Option<Command<'a>>
         first_id: first_id(given)?,
     };
     Some(Command::Serve(serving))
+}
+
+/// `host --device NAME --listen ADDR --idle N`
+fn host<'a>(given: &Given<'a>) -> Option<Command<'a>>
+    ensures value { (words : List ℕ → Option (List ℕ)) → IsGiven given.now words → result ≡ asked_by verb.Host words }
+    ensures numbers { IfSome result HasNumbers }
+{
+    let lending = Lending {
+        device: Device::named(given.device?)?,
+        listen: given.listen?,
+        idle: read_number(given.idle?.as_bytes())?,
+    };
+    Some(Command::Host(lending))
 }
 
 /// The value of `--first-id`; without the option the first id is 1.

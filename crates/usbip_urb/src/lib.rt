@@ -29,4 +29,4 @@ pub use packet::{
     Descs, Head, IsoDesc, RetSubmit, RetUnlink, Submit, Unlink, UrbError, UrbPacket, UrbRead,
 };
 pub use request::{read_urb, read_urb_again, requests_sound};
-pub use write::write_urb;
+pub use write::{push_desc, push_ret_fields, write_urb};

@@ -1,8 +1,9 @@
 //! Packets written.
 
+ghost use Rattle.std.specs.Prelude.{◌++◌};
 ghost use Rattle.packet_stream.specs.Writes.{Appends, AppendsSome};
 ghost use Rattle.usbip_urb.specs.declared.packet.UrbPacket.TheVariants.{Submit as SubmitPacket, RetSubmit as RetSubmitPacket, Unlink as UnlinkPacket, RetUnlink as RetUnlinkPacket};
-ghost use Rattle.usbip_urb.specs.Spelling.{spelling, words, descs_bytes};
+ghost use Rattle.usbip_urb.specs.Spelling.{spelling, words, ret_submit_words, desc_bytes, descs_bytes};
 ghost use Rattle.usbip_urb.specs.Ranges.{IsWritable};
 
 use crate::code::{USBIP_CMD_SUBMIT, USBIP_CMD_UNLINK, USBIP_RET_SUBMIT, USBIP_RET_UNLINK};
@@ -63,6 +64,17 @@ fn push_submit(submit: &Submit, out: &mut Bytes) -> Result<(), Memory>
 fn push_ret_submit(answer: &RetSubmit, out: &mut Bytes) -> Result<(), Memory>
     ensures { AppendsSome result out.old out.new (spelling (RetSubmitPacket answer.now)) }
 {
+    push_ret_fields(answer, out)?;
+    out.append(answer.body.as_slice())?;
+    push_descs(answer.descs.as_slice(), out)?;
+    Ok(())
+}
+
+/// Appends the fields of a submit's answer in front of its body, 48 bytes, for a body and descriptors that are elsewhere;
+/// those of the answer don't matter. For want of memory some of the bytes may be there, which the caller cuts off.
+pub fn push_ret_fields(answer: &RetSubmit, out: &mut Bytes) -> Result<(), Memory>
+    ensures { AppendsSome result out.old out.new (words (ret_submit_words answer.now) ++ answer.now.tail) }
+{
     let head = &answer.head;
     push_words(
         &[
@@ -80,8 +92,6 @@ fn push_ret_submit(answer: &RetSubmit, out: &mut Bytes) -> Result<(), Memory>
         out,
     )?;
     out.append(&answer.tail)?;
-    out.append(answer.body.as_slice())?;
-    push_descs(answer.descs.as_slice(), out)?;
     Ok(())
 }
 
@@ -137,15 +147,22 @@ fn push_descs(descs: &[IsoDesc], out: &mut Bytes) -> Result<(), Memory>
     ensures { AppendsSome result out.old out.new (descs_bytes descs.now) }
 {
     for desc in descs {
-        push_words(
-            &[
-                desc.offset,
-                desc.length,
-                desc.actual,
-                desc.status.cast_unsigned(),
-            ],
-            out,
-        )?;
+        push_desc(desc, out)?;
     }
     Ok(())
+}
+
+/// Appends a descriptor, 16 bytes. For want of memory some of them may be there, which the caller cuts off.
+pub fn push_desc(desc: &IsoDesc, out: &mut Bytes) -> Result<(), Memory>
+    ensures { AppendsSome result out.old out.new (desc_bytes desc.now) }
+{
+    push_words(
+        &[
+            desc.offset,
+            desc.length,
+            desc.actual,
+            desc.status.cast_unsigned(),
+        ],
+        out,
+    )
 }

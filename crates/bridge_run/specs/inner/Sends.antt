@@ -1,6 +1,6 @@
 -- What an event has sent.
 use Rattle.std.specs.Prelude.{◌≡◌, ◌++◌, ◌∷◌, List}
-use Rattle.gate_core.specs.Events.{Event}
+use Rattle.bridge_run.specs.Events.{Event}
 use Rattle.bridge_run.specs.declared.sent.Sent.{Sent}
 use Rattle.bridge_run.specs.Prescribed.{Prescribed, gained}
 

@@ -4,7 +4,7 @@ use Rattle.redir_data.specs.declared.packet.RedirPacket.{RedirPacket}
 use Rattle.control_route.specs.declared.route.Route.{Route}
 use Rattle.usb_base.specs.declared.endpoint.EpRow.{EpRow}
 use Rattle.gate_core.specs.declared.kept.Kept.{Kept}
-use Rattle.gate_core.specs.declared.streams.Called.{Called}
+use Rattle.gate_core.specs.declared.calls.Called.{Called}
 use Rattle.gate_core.specs.Ids.{draws, greatest, last_of}
 use Rattle.gate_core.specs.Ups.{stream_at, is_ended}
 use Rattle.gate_core.specs.Marks.{Effect}

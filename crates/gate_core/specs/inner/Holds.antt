@@ -1,7 +1,8 @@
 -- When what is kept stands for a state of the machine, and what it does with an item.
-use Rattle.std.specs.Prelude.{◌≡◌, ◌⊎◌, ◌∷◌, ◌<◌, not, ◌+◌, ◌-◌, ◌^◌, [], ◌++◌, ◌≤◌, ℕ, true, false, List, length, filter, Option, Some, None}
+use Rattle.std.specs.Prelude.{◌≡◌, ◌⊎◌, ◌∷◌, ◌<◌, not, ◌+◌, ◌-◌, ◌^◌, [], ◌++◌, ◌≤◌, ℕ, true, false, List, length, filter, IsTrue, Option, Some, None}
 use Rattle.std.specs.List.{AllByRecursion, list_any}
 use Rattle.usbip_urb.specs.declared.code.TheConstants.{MAX_LENGTH}
+use Rattle.usbip_urb.specs.Buffers.{laid}
 use Rattle.usbip_urb.specs.ClientPackets.{IsClientPacket}
 use Rattle.redir_wire.specs.declared.packet.Caps.{Caps}
 use Rattle.redir_wire.specs.declared.packet.Header.{Header}
@@ -17,7 +18,7 @@ use Rattle.unlink_race.specs.declared.live.LiveKind.{LiveKind}
 use Rattle.unlink_race.specs.Searches.{goes_by_id, has_number, is_stream}
 use Rattle.gate_core.specs.declared.note.Note.{Note}
 use Rattle.gate_core.specs.declared.kept.Kept.{Kept}
-use Rattle.gate_core.specs.declared.streams.Called.{Called}
+use Rattle.gate_core.specs.declared.calls.Called.{Called}
 use Rattle.gate_core.specs.declared.item.Item.{Item as RawItem}
 use Rattle.gate_core.specs.declared.item.Item.TheVariants as raw
 use Rattle.gate_core.specs.Items.{Item, Asked, ClientWrong, ClientLeft, Told, HostWrong, HostLeft, capped}
@@ -28,6 +29,7 @@ use Rattle.gate_core.specs.Verdict.{Verdict, goes_by_id as goes_by_id_of}
 use Rattle.gate_core.specs.Flight.{wide_ids}
 use Rattle.gate_core.specs.Responses.{Response, Data, Status, response_of}
 use Rattle.gate_core.specs.Packets.{HasRoute}
+use Rattle.gate_core.specs.Submits.{is_waiting}
 use Rattle.gate_core.specs.State.{State}
 use Rattle.gate_core.specs.Output.{to_client}
 use Rattle.gate_core.specs.Notes.{notes_of, dropped}
@@ -208,8 +210,15 @@ pub record CanAnswer (r : Request) (kind : LiveKind) : Type 0 where
   pub read : (r.transfer.wanted ≡ 0) ⊎ IsRead r.is_in kind
   pub by_id : not (is_stream kind) ≡ true
 
--- one that goes by an id can be answered, and finds room
+-- such a request can wait for a stream's packets
+pub record CanWait (r : Request) : Type 0 where
+  pub packets : HasItsPackets r.packets r.descs
+  pub few_bytes : r.transfer.wanted ≤ MAX_LENGTH
+  pub lies : IsTrue (laid r.descs r.transfer.wanted)
+
+-- one that goes by an id can be answered, one that waits can do so, and both find room
 pub record CanGo (t : Kept) (r : Request) (v : Verdict) : Type 0 where
   pub answered : goes_by_id_of v ≡ true → CanAnswer r (kind_of v r.transfer.ep)
   pub room : goes_by_id_of v ≡ true → length t.lives.live < 4096
+  pub waits : is_waiting v ≡ true → CanWait r × (length t.lives.live < 4096)
   pub sends : HasRoute v

@@ -4,8 +4,12 @@ use Rattle.usb_base.specs.declared.refusal.Refusal.{Refusal}
 use Rattle.usb_base.specs.declared.endpoint.EpKind.{EpKind}
 use Rattle.usb_base.specs.declared.endpoint.EpKind.TheVariants as kind
 use Rattle.usb_base.specs.declared.transfer.Outcome.{Outcome}
+use Rattle.usb_base.specs.declared.transfer.StreamPacket.{StreamPacket}
+use Rattle.usb_base.specs.Endpoint.{is_in_endpoint}
 use Rattle.usb_base.specs.Status.{status_of}
 use Rattle.usbip_urb.specs.declared.client.ClientPacket.{ClientPacket}
+use Rattle.redir_data.specs.declared.packet.RedirData.{RedirData}
+use Rattle.redir_data.specs.declared.packet.RedirData.TheVariants as data_packet
 use Rattle.unlink_race.specs.declared.live.Live.{Live}
 use Rattle.unlink_race.specs.declared.live.LiveKind.{LiveKind}
 use Rattle.unlink_race.specs.declared.live.LiveKind.TheVariants as live_kind
@@ -25,6 +29,21 @@ response_view (raw.Status status value) = Status status value
 -- what a status gives, with its value or without
 abbrev pub status_outcome : ℕ → Bool → ℕ → Outcome
 status_outcome status tells value = got (status_of status) (if tells then value ∷ [] else [])
+
+-- ---- packets of streams
+
+-- the IN endpoint of whose stream a packet is, and whether it is an isochronous one
+abbrev pub stream_in : RedirData → Option (ℕ × Bool)
+stream_in (data_packet.Control endpoint request kind status value index length body) = None
+stream_in (data_packet.Bulk endpoint status length stream body) = None
+stream_in (data_packet.Interrupt endpoint status length body) = if is_in_endpoint endpoint then Some (endpoint, false) else None
+stream_in (data_packet.Iso endpoint status length body) = if is_in_endpoint endpoint then Some (endpoint, true) else None
+
+abbrev pub packet_in : RedirData → StreamPacket
+packet_in (data_packet.Control endpoint request kind status value index length body) = record { status = status_of status; body = body }
+packet_in (data_packet.Bulk endpoint status length stream body) = record { status = status_of status; body = body }
+packet_in (data_packet.Interrupt endpoint status length body) = record { status = status_of status; body = body }
+packet_in (data_packet.Iso endpoint status length body) = record { status = status_of status; body = body }
 
 -- ---- by a row
 

@@ -1,5 +1,5 @@
 -- The rows of the requests in flight: what holds of them, and what goes out for them.
-use Rattle.std.specs.Prelude.{◌≡◌, ◌⊎◌, ◌&&◌, not, ℕ, ◌≤◌, Bool, true, false, if◌then◌else◌, List, [], Option, Some, None, is_none}
+use Rattle.std.specs.Prelude.{◌≡◌, ◌⊎◌, ◌&&◌, not, ℕ, ◌≤◌, Bool, IsTrue, true, false, if◌then◌else◌, List, [], Option, Some, None, is_none}
 use Rattle.usb_base.specs.Endpoint.{is_in_endpoint}
 use Rattle.usbip_urb.specs.declared.code.TheConstants.{MAX_LENGTH}
 use Rattle.usbip_urb.specs.declared.packet.UrbPacket.{UrbPacket}
@@ -11,7 +11,8 @@ use Rattle.redir_data.specs.declared.packet.RedirPacket.TheVariants.{Plain}
 use Rattle.unlink_race.specs.declared.live.Live.{Live}
 use Rattle.unlink_race.specs.declared.live.LiveKind.{LiveKind}
 use Rattle.unlink_race.specs.declared.live.LiveKind.TheVariants as live_kind
-use Rattle.unlink_race.specs.Searches.{goes_by_id}
+use Rattle.usbip_urb.specs.Buffers.{laid}
+use Rattle.unlink_race.specs.Searches.{is_stream}
 use Rattle.gate_core.specs.Verdict.{is_wire}
 use Rattle.gate_core.specs.Errno.{econnreset, eshutdown}
 use Rattle.gate_core.specs.Requests.{Request}
@@ -52,7 +53,8 @@ pub record IsFine (caps : Caps) (l : Live) : Type 0 where
   pub few_bytes : l.wanted ≤ MAX_LENGTH
   pub read : (l.wanted ≡ 0) ⊎ IsRead l.is_in l.kind
   pub id_fits : IdFits (wide_ids caps) l.id
-  pub by_id : goes_by_id l ≡ true
+  -- the isochronous packets of one that waits lie over its buffer
+  pub lies : is_stream l.kind ≡ true → IsTrue (laid l.descs l.wanted)
 
 -- ---- what goes out for a row
 

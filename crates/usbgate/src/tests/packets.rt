@@ -6,7 +6,7 @@ use usb_base::{Bytes, Memory};
 
 /// Packets by name, in hexadecimal. `#` stands for the next number in four bytes, `@` for the next id in eight,
 /// and `00*8` for eight times 00.
-const PACKETS: [(&str, &str); 21] = [
+const PACKETS: [(&str, &str); 29] = [
     ("SUB", "00000001 # 00010002 # # # # 00000000 # 00000000"),
     ("UNL", "00000002 # 00010002 00*8 # 00*24"),
     ("RET", "00000003 # 00*12 # # 00000000 # # 00*8"),
@@ -15,6 +15,16 @@ const PACKETS: [(&str, &str); 21] = [
     ("ASK", "65000000 0a000000 @ 81000d00000000000000"),
     ("NONE", "65000000 0a000000 @ 81000000000000000000"),
     ("CANCEL", "15000000 00000000 @"),
+    // The starts and stops of the interrupt stream of endpoint 2 and of the isochronous one of endpoint 3.
+    ("START", "0f000000 01000000 @ 82"),
+    ("STOP", "10000000 01000000 @ 82"),
+    ("STARTISO", "0c000000 03000000 @ 830804"),
+    ("STOPISO", "0d000000 01000000 @ 83"),
+    // The fields of packets of 8, 7 and 3 bytes from endpoint 2, and a descriptor.
+    ("PKT8", "67000000 0c000000 00*8 82000800"),
+    ("PKT7", "67000000 0b000000 00*8 82000700"),
+    ("PKT3", "67000000 07000000 00*8 82000300"),
+    ("DSC", "# # # #"),
     ("LIST", "0111800500000000"),
     ("IMP", "0111800300000000 312d31 00*29"),
     ("IMPX", "0111800300000000 312d32 00*29"),
@@ -85,7 +95,7 @@ pub fn push_bytes(text: &mut Bytes, bytes: &str) -> Result<(), Memory> {
 }
 
 /// Appends bytes, or a packet by its name and its numbers, which stand behind colons.
-fn push_word(alloc: Global, text: &mut Bytes, word: &str) -> Result<(), Memory> {
+pub fn push_word(alloc: Global, text: &mut Bytes, word: &str) -> Result<(), Memory> {
     let mut parts = word.split(':');
     let name = parts.next().unwrap_or("");
     for piece in bytes_of(name).split(' ') {

@@ -122,14 +122,46 @@ fn words_of_a_serve(rt: HostRuntime) -> Result<(), Fail> {
 }
 
 #[test]
+fn words_of_a_host(rt: HostRuntime) -> Result<(), Fail> {
+    let table: [&[&str]; 11] = [
+        &["host"],
+        &["host", "--listen", "b:2", "--idle", "5"],
+        &["host", "--device", "loop", "--idle", "5"],
+        &["host", "--device", "loop", "--listen", "b:2"],
+        &["host", "loop", "--listen", "b:2", "--idle", "5"],
+        &["host", "--device=loop", "--listen=b:2", "--idle=0"],
+        &["host", "--device=loop", "--listen=b:2", "--idle=+5"],
+        &["host", "--device=Loop", "--listen=b:2", "--idle=5"],
+        &["host", "--device=loopback", "--listen=b:2", "--idle=5"],
+        &[
+            "host",
+            "--device=loop",
+            "--listen=b:2",
+            "--idle=5",
+            "--host=a:1",
+        ],
+        &[
+            "host",
+            "--device=loop",
+            "--listen=b:2",
+            "--idle=5",
+            "--first-id=1",
+        ],
+    ];
+    for words in table {
+        expect_usage(&rt, words)?;
+    }
+    Ok(())
+}
+
+#[test]
 fn other_words(rt: HostRuntime) -> Result<(), Fail> {
-    let table: [&[&str]; 14] = [
+    let table: [&[&str]; 13] = [
         &[],
         &[""],
         &["--"],
         &["model"],
         &["model", "--device", "loop"],
-        &["host", "--device", "loop", "--listen", "b:2", "--idle", "5"],
         &["make", "1"],
         &["load", "1"],
         &["help"],

@@ -3,7 +3,7 @@
 use crate::packet::{Head, IsoDesc, RetSubmit, RetUnlink, Submit, Unlink, UrbError, UrbPacket};
 use crate::request::read_urb;
 use crate::tests::size_of;
-use crate::write::write_urb;
+use crate::write::{push_desc, push_ret_fields, write_urb};
 use std::test::Fail;
 use usb_base::{Bytes, List, Reason};
 
@@ -113,6 +113,43 @@ fn answers_are_written(rt: HostRuntime) -> Result<(), Fail> {
         0, 0, 0, 8, 0, 0, 0, 2, 0xff, 0xff, 0xff, 0xb9, 0, 0, 0, 4, 0, 0, 0, 2, 0, 0, 0, 0, 0, 0,
         0, 0, 0, 0, 0, 0, 0xff, 0xff, 0xff, 0x98, 0, 0, 0, 0, 0, 0, 0, 0, 0, 0, 0, 0, 0, 0, 0, 0,
         0, 0, 0, 0, 0, 0, 0, 0,
+    ];
+    assert_eq!(rt; out.as_slice(), want.as_slice());
+    Ok(())
+}
+
+#[test]
+fn an_answer_is_written_around_its_body(rt: HostRuntime) -> Result<(), Fail> {
+    let answer = RetSubmit {
+        head: Head {
+            seqnum: 0x0102,
+            devid: 0,
+            direction: 0,
+            ep: 0,
+        },
+        status: -75,
+        actual: 3,
+        start_frame: 0,
+        packets: 1,
+        errors: 1,
+        tail: [0; 8],
+        body: Bytes::new(rt.alloc()),
+        descs: List::new(rt.alloc()),
+    };
+    let desc = IsoDesc {
+        offset: 4,
+        length: 3,
+        actual: 3,
+        status: -75,
+    };
+    let mut out = Bytes::new(rt.alloc());
+    push_ret_fields(&answer, &mut out)?;
+    out.append(&[0xb1, 0xb2, 0xb3])?;
+    push_desc(&desc, &mut out)?;
+    let want = [
+        0, 0, 0, 3, 0, 0, 1, 2, 0, 0, 0, 0, 0, 0, 0, 0, 0, 0, 0, 0, 0xff, 0xff, 0xff, 0xb5, 0, 0,
+        0, 3, 0, 0, 0, 0, 0, 0, 0, 1, 0, 0, 0, 1, 0, 0, 0, 0, 0, 0, 0, 0, 0xb1, 0xb2, 0xb3, 0, 0,
+        0, 4, 0, 0, 0, 3, 0, 0, 0, 3, 0xff, 0xff, 0xff, 0xb5,
     ];
     assert_eq!(rt; out.as_slice(), want.as_slice());
     Ok(())

@@ -4,7 +4,7 @@ use Rattle.gate_core.specs.Stands.{Stands}
 use Rattle.bridge_run.specs.Course.{Setting, Making, AtDoor}
 use Rattle.bridge_run.specs.Calls.{Goes, make}
 use Rattle.bridge_run.specs.Outside.{outside}
-use Rattle.bridge_run.specs.Gate.{gate_sends}
+use Rattle.bridge_run.specs.Gate.{gate_events, gate_sends}
 use Rattle.bridge_run.proofs.Reaching.{reaches-none, reaches-call, leaves-then, cut-leaves, cut-next}
 use Rattle.bridge_run.proofs.Resting.{faults-then}
 use Rattle.bridge_run.proofs.Idling.{cut-reason, reason-from}
@@ -34,7 +34,7 @@ returns-clause-leaves g c = λ k b t.
     let tells = c.in_default.ensures.course p k out (c.as_slice.ensures ∙ c.in-Ok.ensures.sent ∙ ap (λ (l : List ℕ). l ++ out_host c.args.first_id []) c.new-hello.ensures) b.client_down t in
     leaves-then c.run.result s (Goes Making k) AtDoor (make p k) (outside (g.D.Doors.link c.run.new.doors) (g.D.Doors.door c.run.new.doors)) (g.K.Sink.contents c.run.new.out)
     (reaches-call s (Goes Making k) Making k (Goes AtDoor (make p k)) (reaches-none s (Goes Making k)) refl)
-    (c.run.ensures.course c.args.first_id (make p k) (begun-follows (λ events. Stands c.args.first_id c.in-Ok.core events) p c.args.idle c.args.budget (outside (g.D.Doors.link c.open.new.doors) (g.D.Doors.door c.open.new.doors)) out k b c.in-Ok.ensures.made refl tells))
+    (c.run.ensures.course c.args.first_id (make p k) (begun-follows (λ events. Stands c.args.first_id c.in-Ok.core (gate_events events)) p c.args.idle c.args.budget (outside (g.D.Doors.link c.open.new.doors) (g.D.Doors.door c.open.new.doors)) out k b c.in-Ok.ensures.made refl tells))
 
 pub returns-clause-cause : goal.returns-clause-cause
 returns-clause-cause g c =

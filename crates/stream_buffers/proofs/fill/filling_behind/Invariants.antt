@@ -1,4 +1,4 @@
-use Rattle.std.proofs.Common.{◌≡◌, None}
+use Rattle.std.proofs.Common.{◌≡◌, None, drop}
 use Rattle.stream_buffers.specs.Interrupt.{fills}
 use Rattle.stream_buffers.specs.Least.{least_below}
 use Rattle.stream_buffers.specs.inner.Seen.{IsSeen}
@@ -6,7 +6,7 @@ use Rattle.stream_buffers.proofs.fill.filling_behind.Given as goal
 
 abbrev pub invariant-loop-last : goal.invariant-loop-last
 invariant-loop-last l = record {
-  is_seen : IsSeen l.max_packet l.packets.items l.seen;
+  is_seen : IsSeen l.max_packet (drop l.from l.packets.items) l.seen;
   at : l.seen.count ≡ l.last;
-  none : least_below (fills l.max_packet l.wanted l.packets.items) l.last ≡ None;
+  none : least_below (fills l.max_packet l.wanted (drop l.from l.packets.items)) l.last ≡ None;
 }

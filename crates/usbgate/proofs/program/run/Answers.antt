@@ -5,12 +5,16 @@ use Rattle.usbgate.specs.EventCommand.{over_events}
 use Rattle.usbgate.specs.Replay.{replay}
 use Rattle.usbgate.specs.Prescribed.{Prescribed, over_tape, prescribed}
 use Rattle.usbgate.specs.Run.{Leaves}
-use Rattle.usbgate.proofs.Served.{unserved, links-stand}
+use Rattle.usbgate.proofs.Served.{unserved, unlent, links-stand}
 use Rattle.usbgate.proofs.program.run.Goals as goal
 
 pub returns-in_default-clause-serves : goal.returns-in_default-clause-serves
 returns-in_default-clause-serves g c = λ asked is.
     unserved asked (outside (g.D.Doors.link c.args.doors.now) (g.D.Doors.door c.args.doors.now)) (g.K.Sink.faults c.args.out.now) (g.K.Sink.contents c.args.out.now)
+
+pub returns-in_default-clause-lends : goal.returns-in_default-clause-lends
+returns-in_default-clause-lends g c = λ asked is.
+    unlent asked (outside (g.D.Doors.link c.args.doors.now) (g.D.Doors.door c.args.doors.now)) (g.K.Sink.faults c.args.out.now) (g.K.Sink.contents c.args.out.now)
 
 pub returns-in-Replay-clause-leaves : goal.returns-in-Replay-clause-leaves
 returns-in-Replay-clause-leaves g c = λ p is.
@@ -22,6 +26,11 @@ pub returns-in-Serve-clause-links_stand : goal.returns-in-Serve-clause-links_sta
 returns-in-Serve-clause-links_stand g c = λ side other.
     let served = c.serve.ensures in
     links-stand served.end (g.D.Doors.link c.args.doors.now) (g.D.Doors.link c.serve.new.doors) (g.D.Doors.door c.args.doors.now) (g.D.Doors.door c.serve.new.doors) (g.K.Sink.faults c.args.out.now) (g.K.Sink.faults c.serve.new.out) side served.cause (λ e. other (served.status-is ∙ e))
+
+pub returns-in-Host-clause-links_stand : goal.returns-in-Host-clause-links_stand
+returns-in-Host-clause-links_stand g c = λ side other.
+    let lent = c.host.ensures in
+    links-stand lent.end (g.D.Doors.link c.args.doors.now) (g.D.Doors.link c.host.new.doors) (g.D.Doors.door c.args.doors.now) (g.D.Doors.door c.host.new.doors) (g.K.Sink.faults c.args.out.now) (g.K.Sink.faults c.host.new.out) side lent.cause (λ e. other (lent.status-is ∙ e))
 
 pub returns-in-Unknown-clause-writes_stand : goal.returns-in-Unknown-clause-writes_stand
 returns-in-Unknown-clause-writes_stand g c = (c.print_usage.ensures.causes 0).writes_stand

@@ -1,14 +1,15 @@
 use Rattle.std.proofs.Common.{◌≡◌, ◌-◌, true, length, take, sym, ◌∙◌, ap, subst, arith}
 use Rattle.gate_outside.specs.declared.turn.Polled.TheVariants.{Took, NotYet, Ended}
 use Rattle.gate_outside.specs.Link.{Link}
-use Rattle.gate_core.specs.Events.{Event}
+use Rattle.bridge_run.specs.Events.{Event}
 use Rattle.bridge_run.specs.Course.{Setting, Takes}
-use Rattle.bridge_run.specs.Calls.{Goes, piece, end_of, down}
+use Rattle.bridge_run.specs.Calls.{Goes, piece, end_of, down, quiet}
 use Rattle.bridge_run.specs.Calls.{turned as passed}
 use Rattle.bridge_run.specs.Outside.{outside}
 use Rattle.bridge_run.specs.inner.Follows.{Runs, setting, polls, behind}
 use Rattle.bridge_run.proofs.Reaching.{reaches-none, reaches-call, runs-then}
-use Rattle.bridge_run.proofs.Asking.{OneMoved, poll-call, passed-follows, took-follows, ended-follows, failed-cut, up-is, setting-down}
+use Rattle.bridge_run.proofs.Asking.{OneMoved, poll-call, passed-follows, took-follows, ended-follows, failed-cut, up-is, setting-down, moved-no_fault}
+use Rattle.bridge_run.proofs.Resting.{faults-then, wears-then, end-wears}
 use Rattle.bridge_run.proofs.session.Session.ask.Goals as goal
 
 pub returns-in-Took-clause-course : goal.returns-in-Took-clause-course
@@ -56,11 +57,11 @@ returns-in-NotYet-clause-course g c = λ first k f.
     let from = Goes (polls side) k in
     let up = up-is side stands p kept (outside links door) out k true f (sym c.is_up.ensures ∙ c.if-not-is_up.false) in
     let moved : OneMoved side links links' door door' = record { other-is = c.in-NotYet.ensures.other; door-is = c.in-NotYet.ensures.door } in
-    record {
-      course = passed side k;
-      reaches = reaches-call s from (polls side) k (Goes (behind side) (passed side k)) (reaches-none s from) (poll-call s side links door out k NotYet buf f.tells up len c.in-NotYet.ensures.link.0);
-      follows = passed-follows side stands p kept links links' door door' out k (length buf) f len moved (ap (λ (l : Link). l.up) c.in-NotYet.ensures.link.1) (ap (λ (l : Link). l.turns) c.in-NotYet.ensures.link.1) (ap (λ (l : Link). l.written) c.in-NotYet.ensures.link.1);
-    }
+    let f1 = passed-follows side stands p kept links links' door door' out k (length buf) f len moved (ap (λ (l : Link). l.up) c.in-NotYet.ensures.link.1) (ap (λ (l : Link). l.turns) c.in-NotYet.ensures.link.1) (ap (λ (l : Link). l.written) c.in-NotYet.ensures.link.1) in
+    let next = quiet side (behind side) in
+    runs-then c.be_quiet.result (g.C.Served.stands first c.be_quiet.new.self.core) s c.be_quiet.new.self.kept (outside (g.D.Doors.link c.be_quiet.new.doors) (g.D.Doors.door c.be_quiet.new.doors)) (g.K.Sink.contents c.be_quiet.new.out) from next (passed side k) (behind side)
+    (reaches-call s from (polls side) k (Goes next (passed side k)) (reaches-none s from) (poll-call s side links door out k NotYet buf f.tells up len c.in-NotYet.ensures.link.0))
+    (c.be_quiet.ensures.course first (behind side) (passed side k) f1)
 
 pub returns-in-Ended-clause-course : goal.returns-in-Ended-clause-course
 returns-in-Ended-clause-course g c = λ first k f.
@@ -106,3 +107,27 @@ returns-in-Failed-clause-course g c = λ first k f.
     let up = up-is side stands p kept (outside links door) out k true f (sym c.is_up.ensures ∙ c.if-not-is_up.false) in
     let moved : OneMoved side links links' door door' = record { other-is = c.in-Failed.ensures.other; door-is = c.in-Failed.ensures.door } in
     record { next = polls side; course = k; reaches = reaches-none s from; cut = failed-cut side s links links' door door' out k f.tells up moved c.in-Failed.ensures.link }
+
+pub returns-in-Took-clause-faults : goal.returns-in-Took-clause-faults
+returns-in-Took-clause-faults g c =
+    let links = g.D.Doors.link c.args.doors.now in
+    let links' = g.D.Doors.link c.poll.new.self in
+    let door = g.D.Doors.door c.args.doors.now in
+    let door' = g.D.Doors.door c.poll.new.self in
+    let sink = g.K.Sink.faults c.args.out.now in
+    faults-then c.happen.result (outside links door) (outside links' door') (outside (g.D.Doors.link c.happen.new.doors) (g.D.Doors.door c.happen.new.doors)) sink sink (g.K.Sink.faults c.happen.new.out)
+    (moved-no_fault c.args.side links links' door door' sink (record { other-is = c.in-Took.ensures.other; door-is = c.in-Took.ensures.door }) (ap (λ (l : Link). l.faults) c.in-Took.ensures.link.1)) c.happen.ensures.faults
+
+pub returns-in-Ended-clause-faults : goal.returns-in-Ended-clause-faults
+returns-in-Ended-clause-faults g c =
+    let links = g.D.Doors.link c.args.doors.now in
+    let links' = g.D.Doors.link c.poll.new.self in
+    let door = g.D.Doors.door c.args.doors.now in
+    let door' = g.D.Doors.door c.poll.new.self in
+    let sink = g.K.Sink.faults c.args.out.now in
+    faults-then c.happen-in-Ended.result (outside links door) (outside links' door') (outside (g.D.Doors.link c.happen-in-Ended.new.doors) (g.D.Doors.door c.happen-in-Ended.new.doors)) sink sink (g.K.Sink.faults c.happen-in-Ended.new.out)
+    (moved-no_fault c.args.side links links' door door' sink (record { other-is = c.in-Ended.ensures.other; door-is = c.in-Ended.ensures.door }) (ap (λ (l : Link). l.faults) c.in-Ended.ensures.link.1)) c.happen-in-Ended.ensures.faults
+
+pub returns-in-Ended-clause-wears : goal.returns-in-Ended-clause-wears
+returns-in-Ended-clause-wears g c =
+    wears-then c.args.self.now.kept c.end.new.self c.happen-in-Ended.new.self.kept (end-wears c.args.side c.args.self.now.kept c.end.new.self (sym c.is_up.ensures ∙ c.if-not-is_up.false) c.end.ensures) c.happen-in-Ended.ensures.wears

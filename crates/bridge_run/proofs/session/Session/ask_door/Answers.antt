@@ -1,35 +1,60 @@
 use Rattle.std.proofs.Common.{Bool, Ok, sym, ◌∙◌, ap, subst}
 use Rattle.gate_outside.specs.declared.fault.Failed.{Failed as Fault}
 use Rattle.gate_outside.specs.Doors.{Accepts}
-use Rattle.bridge_run.specs.Course.{AtDoor, AtClient}
+use Rattle.bridge_run.specs.Events.{ClientComes}
+use Rattle.bridge_run.specs.Course.{Setting, AtDoor, AtClient, Takes}
 use Rattle.bridge_run.specs.Calls.{Goes, come, course_of}
 use Rattle.bridge_run.specs.Outside.{outside}
-use Rattle.bridge_run.specs.inner.Follows.{setting}
-use Rattle.bridge_run.proofs.Reaching.{reaches-none, cut-next}
-use Rattle.bridge_run.proofs.Settling.{settled, settle-course}
-use Rattle.bridge_run.proofs.Asking.{accepted, not_accepted, call-door}
+use Rattle.bridge_run.specs.inner.Follows.{Runs, setting}
+use Rattle.bridge_run.proofs.Reaching.{reaches-none, reaches-call, runs-then, cut-next}
+use Rattle.bridge_run.proofs.Asking.{accepted, waited, not_accepted, call-door}
 use Rattle.bridge_run.proofs.session.Session.ask_door.Goals as goal
 
 pub returns-in-Ok-true-clause-course : goal.returns-in-Ok-true-clause-course
-returns-in-Ok-true-clause-course g c = λ first k out f.
+returns-in-Ok-true-clause-course g c = λ first k f.
     let p = g.C.Served.sends first in
-    let s = setting p c.args.self.now.kept in
+    let kept = c.args.self.now.kept in
+    let s = setting p kept in
     let w = outside (g.D.Doors.link c.args.doors.now) (g.D.Doors.door c.args.doors.now) in
-    let w' = outside (g.D.Doors.link c.accept.new.self) (g.D.Doors.door c.accept.new.self) in
+    let w1 = outside (g.D.Doors.link c.accept.new.self) (g.D.Doors.door c.accept.new.self) in
+    let w2 = outside (g.D.Doors.link c.happen.new.doors) (g.D.Doors.door c.happen.new.doors) in
+    let out = g.K.Sink.contents c.args.out.now in
+    let out2 = g.K.Sink.contents c.happen.new.out in
+    let stands2 = g.C.Served.stands first c.happen.new.self.core in
     let from = Goes AtDoor k in
     let down = sym f.client_up ∙ c.if-self.false in
-    settled c.settle.result (g.C.Served.stands first c.args.self.now.core) p c.args.self.now.kept.idle c.come.new.self w' out from AtDoor k AtClient (come k.clients k) c.settle.ensures
-    (accepted (g.C.Served.stands first c.args.self.now.core) p c.args.self.now.kept c.come.new.self w w' out k f
-    (subst (λ (b : Bool). Accepts {E = Fault} (Ok b) w.door w'.door w.client w'.client) c.in-Ok-true.field-0-test c.in-Ok-true.ensures.accepts) c.in-Ok-true.ensures.other c.come.ensures)
-    (reaches-none s from) (call-door s k down)
+    let a = accepted (g.C.Served.stands first c.args.self.now.core) p kept c.come.new.self w w1 out k f
+    (subst (λ (b : Bool). Accepts {E = Fault} (Ok b) w.door w1.door w.client w1.client) c.in-Ok-true.field-0-test c.in-Ok-true.ensures.accepts) c.in-Ok-true.ensures.other c.come.ensures in
+    let next = Takes ClientComes AtClient in
+    runs-then c.happen.result stands2 s c.happen.new.self.kept w2 out2 from next a.course AtClient
+    (reaches-call s from AtDoor k (Goes next a.course) (reaches-none s from) (call-door s k down ∙ a.is))
+    (subst (λ (t : Setting). Runs c.happen.result stands2 t c.happen.new.self.kept w2 out2 (Goes next a.course) AtClient) (ap (setting p) c.come.ensures) (c.happen.ensures.course first AtClient a.course a.follows))
+
+pub returns-in-Ok-false-clause-course : goal.returns-in-Ok-false-clause-course
+returns-in-Ok-false-clause-course g c = λ first k f.
+    let p = g.C.Served.sends first in
+    let kept = c.args.self.now.kept in
+    let s = setting p kept in
+    let w = outside (g.D.Doors.link c.args.doors.now) (g.D.Doors.door c.args.doors.now) in
+    let w1 = outside (g.D.Doors.link c.accept.new.self) (g.D.Doors.door c.accept.new.self) in
+    let from = Goes AtDoor k in
+    let down = sym f.client_up ∙ c.if-self.false in
+    let a = waited (g.C.Served.stands first c.args.self.now.core) p kept w w1 (g.K.Sink.contents c.args.out.now) k f
+    (subst (λ (b : Bool). Accepts {E = Fault} (Ok b) w.door w1.door w.client w1.client) c.in-Ok-false.field-0-test c.in-Ok-false.ensures.accepts) c.in-Ok-false.ensures.other in
+    record {
+      course = k;
+      reaches = reaches-call s from AtDoor k (Goes AtClient k) (reaches-none s from) (call-door s k down ∙ a.0);
+      follows = a.1;
+    }
 
 pub returns-in-Err-clause-course : goal.returns-in-Err-clause-course
-returns-in-Err-clause-course g c = λ first k out f.
+returns-in-Err-clause-course g c = λ first k f.
     let p = g.C.Served.sends first in
     let s = setting p c.args.self.now.kept in
     let w = outside (g.D.Doors.link c.args.doors.now) (g.D.Doors.door c.args.doors.now) in
     let w' = outside (g.D.Doors.link c.accept.new.self) (g.D.Doors.door c.accept.new.self) in
+    let out = g.K.Sink.contents c.args.out.now in
     let from = Goes AtDoor k in
     let down = sym f.client_up ∙ c.if-self.false in
-    cut-next s from AtDoor k (come k.clients k) w' out (reaches-none s from) (ap course_of (call-door s k down) ∙ settle-course s AtClient (come k.clients k))
+    cut-next s from AtDoor k (course_of (come k.clients k)) w' out (reaches-none s from) (ap course_of (call-door s k down))
     (not_accepted w w' out k f.tells c.in-Err.ensures.accepts.0 c.in-Err.ensures.other c.in-Err.ensures.accepts.1)

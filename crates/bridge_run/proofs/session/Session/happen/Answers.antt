@@ -1,12 +1,13 @@
 use Rattle.std.proofs.Common.{Result, refl, sym, ◌∙◌, subst}
-use Rattle.gate_core.specs.Events.{ClientEnd, event_of}
+use Rattle.std.proofs.lemmas.Bool.{false≢true}
+use Rattle.bridge_run.specs.Events.{ClientEnd, event_of}
 use Rattle.bridge_run.specs.declared.serve_end.ServeEnd.{ServeEnd}
 use Rattle.bridge_run.specs.Course.{Takes}
 use Rattle.bridge_run.specs.Calls.{Goes, put}
 use Rattle.bridge_run.specs.Outside.{outside}
 use Rattle.bridge_run.specs.inner.Follows.{Runs, setting}
 use Rattle.bridge_run.proofs.Reaching.{reaches-none, reaches-call, cut-leaves, cut-next, is-err}
-use Rattle.bridge_run.proofs.Settling.{settled, take-course, take-settles, take-ends}
+use Rattle.bridge_run.proofs.Settling.{settled, take-course, take-settles, take-ends, quiet-on, on-all}
 use Rattle.bridge_run.proofs.session.Session.happen.Goals as goal
 
 pub returns-in_err-refused-clause-course : goal.returns-in_err-refused-clause-course
@@ -61,3 +62,10 @@ returns-clause-course g c = λ first next k f.
     let ends = take-ends s e next k c.in_ok-refused.refused first_put.1 (sym c.ends_next.ensures ∙ c.if-not-ends_next.false) in
     settled c.settle-2.result (g.C.Served.stands first c.put-2.new.self.core) p c.args.self.now.kept.idle c.put-2.new.self.kept w out from (Takes ClientEnd next) (put p e k) next (put p ClientEnd (put p e k)) c.settle-2.ensures second_put.0
     (reaches-call s from (Takes e next) k (Goes (Takes ClientEnd next) (put p e k)) (reaches-none s from) ends) (take-settles s ClientEnd next (put p e k) _ second_put.1 refl)
+
+pub returns-then-not-ends_next-clause-quiet : goal.returns-then-not-ends_next-clause-quiet
+returns-then-not-ends_next-clause-quiet g c = on-all c.settle.result _ (λ quiet. (c.in_ok-refused.ensures.quiet quiet).1)
+
+pub returns-clause-quiet : goal.returns-clause-quiet
+returns-clause-quiet g c = on-all c.settle-2.result _
+    (λ quiet. absurd (false≢true (sym (quiet-on (event_of c.args.event) c.in_ok-refused.refused (c.in_ok-refused.ensures.quiet quiet).0) ∙ sym c.ends_next.ensures ∙ c.if-not-ends_next.false)))

@@ -3,13 +3,13 @@ use Rattle.usb_base.specs.declared.side.Side.TheVariants.{Client, Host}
 use Rattle.std.specs.Io.KnownBytes.{Appends}
 use Rattle.gate_outside.specs.Front.{AppendsFront}
 use Rattle.gate_outside.specs.Link.{Link}
-use Rattle.gate_core.specs.Events.{event_of}
+use Rattle.bridge_run.specs.Events.{event_of}
 use Rattle.bridge_run.specs.declared.kept.Kept.{Kept}
 use Rattle.bridge_run.specs.Prescribed.{refuses}
 use Rattle.bridge_run.specs.Outside.{outside}
 use Rattle.bridge_run.specs.inner.Links.{wrote_if, WritesFront, closed_if}
 use Rattle.bridge_run.specs.inner.Keeping.{refusing}
-use Rattle.bridge_run.proofs.Putting.{put-client, put-host, put-follows, put-before, put-in_client, put-in_host, put-in_lines}
+use Rattle.bridge_run.proofs.Putting.{put-client, put-host, put-follows, put-before, put-in_client, put-in_host, put-in_lines, refusing-none}
 use Rattle.bridge_run.proofs.session.Session.put.Goals as goal
 
 pub returns-in-Err-clause-course : goal.returns-in-Err-clause-course
@@ -95,4 +95,11 @@ returns-clause-course g c = λ first k f.
           (g.C.Served.stands first c.args.self.now.core) f prepared (c.in_default.ensures.stands first k.events f.stands_for) (c.refuse.ensures ∙ ap (refusing sent.refusals) c.in_default.ensures.kept) shows_client shows_host door
           (subst (λ (b : List ℕ). Appends (g.K.Sink.contents c.args.out.now) (g.K.Sink.contents c.write_all.new.sink) b) c.as_slice-3.ensures c.in_default-write_all.ensures.ok),
       c.refuses-refused.ensures ∙ ap (refuses Client) prepared.refusals,
+    )
+
+pub returns-clause-quiet : goal.returns-clause-quiet
+returns-clause-quiet g c = λ quiet.
+    let none = c.in_default.ensures.quiet quiet in (
+      c.refuses-refused.ensures ∙ ap (refuses Client) none,
+      refusing-none c.prepare.new.self.sent.refusals c.args.self.now.kept c.refuse.new.self none (c.refuse.ensures ∙ ap (refusing c.prepare.new.self.sent.refusals) c.in_default.ensures.kept),
     )

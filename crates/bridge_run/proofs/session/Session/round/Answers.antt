@@ -1,5 +1,4 @@
-use Rattle.std.proofs.Common.{Result, Ok, Err, sym, ap, ◌∙◌, subst}
-use Rattle.gate_outside.specs.Link.{Link}
+use Rattle.std.proofs.Common.{Result, Ok, Err, sym, ◌∙◌, subst}
 use Rattle.bridge_run.specs.declared.serve_end.ServeEnd.{ServeEnd}
 use Rattle.bridge_run.specs.Course.{AtDoor, AtClient, AtHost, AtEnd}
 use Rattle.bridge_run.specs.Calls.{Goes}
@@ -17,11 +16,11 @@ returns-in_err-ask-clause-course g c = λ first k f.
     let k0 = c.args.self.now.kept in
     let s = setting p k0 in
     let from = Goes AtDoor k in
-    let out0 = g.K.Sink.contents c.args.out.now in
+    let out0 = g.K.Sink.contents c.ask_door.new.out in
     let k1 = c.ask_door.new.self.kept in
     let stands1 = g.C.Served.stands first c.ask_door.new.self.core in
     let w1 = (outside (g.D.Doors.link c.ask_door.new.doors) (g.D.Doors.door c.ask_door.new.doors)) in
-    let a = c.in_ok-ask_door.ensures.course first k out0 f in
+    let a = c.in_ok-ask_door.ensures.course first k f in
     let e = c.in_err-ask.field-0.0 in
     let stands2 = g.C.Served.stands first c.ask.new.self.core in
     let w2 = (outside (g.D.Doors.link c.ask.new.doors) (g.D.Doors.door c.ask.new.doors)) in
@@ -33,7 +32,7 @@ pub returns-in_err-ask-clause-faults : goal.returns-in_err-ask-clause-faults
 returns-in_err-ask-clause-faults g c =
     let e = c.in_err-ask.field-0.0 in
     subst (λ (r : Result (Unit {0}) ServeEnd). HasFaults r (outside (g.D.Doors.link c.args.doors.now) (g.D.Doors.door c.args.doors.now)) (outside (g.D.Doors.link c.ask.new.doors) (g.D.Doors.door c.ask.new.doors)) (g.K.Sink.faults c.args.out.now) (g.K.Sink.faults c.ask.new.out)) (sym (is-err c.from_residual-in_err-ask.result e c.from_residual-in_err-ask.ensures.1))
-    (faults-then {T = Unit {0}} (Err e) (outside (g.D.Doors.link c.args.doors.now) (g.D.Doors.door c.args.doors.now)) (outside (g.D.Doors.link c.ask_door.new.doors) (g.D.Doors.door c.ask_door.new.doors)) (outside (g.D.Doors.link c.ask.new.doors) (g.D.Doors.door c.ask.new.doors)) (g.K.Sink.faults c.args.out.now) (g.K.Sink.faults c.args.out.now) (g.K.Sink.faults c.ask.new.out) (c.in_ok-ask_door.ensures.faults (g.K.Sink.faults c.args.out.now)) c.in_err-ask.ensures.faults)
+    (faults-then {T = Unit {0}} (Err e) (outside (g.D.Doors.link c.args.doors.now) (g.D.Doors.door c.args.doors.now)) (outside (g.D.Doors.link c.ask_door.new.doors) (g.D.Doors.door c.ask_door.new.doors)) (outside (g.D.Doors.link c.ask.new.doors) (g.D.Doors.door c.ask.new.doors)) (g.K.Sink.faults c.args.out.now) (g.K.Sink.faults c.ask_door.new.out) (g.K.Sink.faults c.ask.new.out) c.in_ok-ask_door.ensures.faults c.in_err-ask.ensures.faults)
 
 pub returns-in_err-ask-2-clause-course : goal.returns-in_err-ask-2-clause-course
 returns-in_err-ask-2-clause-course g c = λ first k f.
@@ -41,11 +40,11 @@ returns-in_err-ask-2-clause-course g c = λ first k f.
     let k0 = c.args.self.now.kept in
     let s = setting p k0 in
     let from = Goes AtDoor k in
-    let out0 = g.K.Sink.contents c.args.out.now in
+    let out0 = g.K.Sink.contents c.ask_door.new.out in
     let k1 = c.ask_door.new.self.kept in
     let stands1 = g.C.Served.stands first c.ask_door.new.self.core in
     let w1 = (outside (g.D.Doors.link c.ask_door.new.doors) (g.D.Doors.door c.ask_door.new.doors)) in
-    let a = c.in_ok-ask_door.ensures.course first k out0 f in
+    let a = c.in_ok-ask_door.ensures.course first k f in
     let k2 = c.ask.new.self.kept in
     let stands2 = g.C.Served.stands first c.ask.new.self.core in
     let w2 = (outside (g.D.Doors.link c.ask.new.doors) (g.D.Doors.door c.ask.new.doors)) in
@@ -62,8 +61,8 @@ pub returns-in_err-ask-2-clause-faults : goal.returns-in_err-ask-2-clause-faults
 returns-in_err-ask-2-clause-faults g c =
     let e = c.in_err-ask-2.field-0.0 in
     subst (λ (r : Result (Unit {0}) ServeEnd). HasFaults r (outside (g.D.Doors.link c.args.doors.now) (g.D.Doors.door c.args.doors.now)) (outside (g.D.Doors.link c.ask-2.new.doors) (g.D.Doors.door c.ask-2.new.doors)) (g.K.Sink.faults c.args.out.now) (g.K.Sink.faults c.ask-2.new.out)) (sym (is-err c.from_residual-in_err-ask-2.result e c.from_residual-in_err-ask-2.ensures.1))
-    (faults-then {T = Unit {0}} (Err e) (outside (g.D.Doors.link c.args.doors.now) (g.D.Doors.door c.args.doors.now)) (outside (g.D.Doors.link c.ask_door.new.doors) (g.D.Doors.door c.ask_door.new.doors)) (outside (g.D.Doors.link c.ask-2.new.doors) (g.D.Doors.door c.ask-2.new.doors)) (g.K.Sink.faults c.args.out.now) (g.K.Sink.faults c.args.out.now) (g.K.Sink.faults c.ask-2.new.out) (c.in_ok-ask_door.ensures.faults (g.K.Sink.faults c.args.out.now))
-    (faults-then {T = Unit {0}} (Err e) (outside (g.D.Doors.link c.ask_door.new.doors) (g.D.Doors.door c.ask_door.new.doors)) (outside (g.D.Doors.link c.ask.new.doors) (g.D.Doors.door c.ask.new.doors)) (outside (g.D.Doors.link c.ask-2.new.doors) (g.D.Doors.door c.ask-2.new.doors)) (g.K.Sink.faults c.args.out.now) (g.K.Sink.faults c.ask.new.out) (g.K.Sink.faults c.ask-2.new.out) c.in_ok-ask.ensures.faults c.in_err-ask-2.ensures.faults))
+    (faults-then {T = Unit {0}} (Err e) (outside (g.D.Doors.link c.args.doors.now) (g.D.Doors.door c.args.doors.now)) (outside (g.D.Doors.link c.ask_door.new.doors) (g.D.Doors.door c.ask_door.new.doors)) (outside (g.D.Doors.link c.ask-2.new.doors) (g.D.Doors.door c.ask-2.new.doors)) (g.K.Sink.faults c.args.out.now) (g.K.Sink.faults c.ask_door.new.out) (g.K.Sink.faults c.ask-2.new.out) c.in_ok-ask_door.ensures.faults
+    (faults-then {T = Unit {0}} (Err e) (outside (g.D.Doors.link c.ask_door.new.doors) (g.D.Doors.door c.ask_door.new.doors)) (outside (g.D.Doors.link c.ask.new.doors) (g.D.Doors.door c.ask.new.doors)) (outside (g.D.Doors.link c.ask-2.new.doors) (g.D.Doors.door c.ask-2.new.doors)) (g.K.Sink.faults c.ask_door.new.out) (g.K.Sink.faults c.ask.new.out) (g.K.Sink.faults c.ask-2.new.out) c.in_ok-ask.ensures.faults c.in_err-ask-2.ensures.faults))
 
 pub returns-clause-course : goal.returns-clause-course
 returns-clause-course g c = λ first k f.
@@ -71,11 +70,11 @@ returns-clause-course g c = λ first k f.
     let k0 = c.args.self.now.kept in
     let s = setting p k0 in
     let from = Goes AtDoor k in
-    let out0 = g.K.Sink.contents c.args.out.now in
+    let out0 = g.K.Sink.contents c.ask_door.new.out in
     let k1 = c.ask_door.new.self.kept in
     let stands1 = g.C.Served.stands first c.ask_door.new.self.core in
     let w1 = (outside (g.D.Doors.link c.ask_door.new.doors) (g.D.Doors.door c.ask_door.new.doors)) in
-    let a = c.in_ok-ask_door.ensures.course first k out0 f in
+    let a = c.in_ok-ask_door.ensures.course first k f in
     let k2 = c.ask.new.self.kept in
     let stands2 = g.C.Served.stands first c.ask.new.self.core in
     let w2 = (outside (g.D.Doors.link c.ask.new.doors) (g.D.Doors.door c.ask.new.doors)) in
@@ -91,8 +90,8 @@ returns-clause-course g c = λ first k f.
 pub returns-clause-faults : goal.returns-clause-faults
 returns-clause-faults g c =
     rests-faults c.rest.result c.ask-2.new.self.kept c.rest.new.self (outside (g.D.Doors.link c.args.doors.now) (g.D.Doors.door c.args.doors.now)) (outside (g.D.Doors.link c.ask-2.new.doors) (g.D.Doors.door c.ask-2.new.doors)) (g.K.Sink.faults c.args.out.now) (g.K.Sink.faults c.ask-2.new.out) c.rest.ensures
-    (faults-then {T = Unit {0}} (Ok tt) (outside (g.D.Doors.link c.args.doors.now) (g.D.Doors.door c.args.doors.now)) (outside (g.D.Doors.link c.ask_door.new.doors) (g.D.Doors.door c.ask_door.new.doors)) (outside (g.D.Doors.link c.ask-2.new.doors) (g.D.Doors.door c.ask-2.new.doors)) (g.K.Sink.faults c.args.out.now) (g.K.Sink.faults c.args.out.now) (g.K.Sink.faults c.ask-2.new.out) (c.in_ok-ask_door.ensures.faults (g.K.Sink.faults c.args.out.now))
-    (faults-then {T = Unit {0}} (Ok tt) (outside (g.D.Doors.link c.ask_door.new.doors) (g.D.Doors.door c.ask_door.new.doors)) (outside (g.D.Doors.link c.ask.new.doors) (g.D.Doors.door c.ask.new.doors)) (outside (g.D.Doors.link c.ask-2.new.doors) (g.D.Doors.door c.ask-2.new.doors)) (g.K.Sink.faults c.args.out.now) (g.K.Sink.faults c.ask.new.out) (g.K.Sink.faults c.ask-2.new.out) c.in_ok-ask.ensures.faults c.in_ok-ask-2.ensures.faults))
+    (faults-then {T = Unit {0}} (Ok tt) (outside (g.D.Doors.link c.args.doors.now) (g.D.Doors.door c.args.doors.now)) (outside (g.D.Doors.link c.ask_door.new.doors) (g.D.Doors.door c.ask_door.new.doors)) (outside (g.D.Doors.link c.ask-2.new.doors) (g.D.Doors.door c.ask-2.new.doors)) (g.K.Sink.faults c.args.out.now) (g.K.Sink.faults c.ask_door.new.out) (g.K.Sink.faults c.ask-2.new.out) c.in_ok-ask_door.ensures.faults
+    (faults-then {T = Unit {0}} (Ok tt) (outside (g.D.Doors.link c.ask_door.new.doors) (g.D.Doors.door c.ask_door.new.doors)) (outside (g.D.Doors.link c.ask.new.doors) (g.D.Doors.door c.ask.new.doors)) (outside (g.D.Doors.link c.ask-2.new.doors) (g.D.Doors.door c.ask-2.new.doors)) (g.K.Sink.faults c.ask_door.new.out) (g.K.Sink.faults c.ask.new.out) (g.K.Sink.faults c.ask-2.new.out) c.in_ok-ask.ensures.faults c.in_ok-ask-2.ensures.faults))
 
 pub returns-clause-fewer : goal.returns-clause-fewer
 returns-clause-fewer g c = fewer-if_ok c.rest.result c.args.self.now.kept c.ask-2.new.self.kept c.rest.new.self
@@ -118,7 +117,7 @@ pub returns-clause-idles : goal.returns-clause-idles
 returns-clause-idles g c = round-idles c.rest.result c.args.self.now.kept c.ask_door.new.self.kept c.ask.new.self.kept c.ask-2.new.self.kept c.rest.new.self (outside (g.D.Doors.link c.args.doors.now) (g.D.Doors.door c.args.doors.now)) (outside (g.D.Doors.link c.ask_door.new.doors) (g.D.Doors.door c.ask_door.new.doors)) (outside (g.D.Doors.link c.ask.new.doors) (g.D.Doors.door c.ask.new.doors)) (outside (g.D.Doors.link c.ask-2.new.doors) (g.D.Doors.door c.ask-2.new.doors)) c.requires.live
     (record {
       door = c.in_ok-ask_door.ensures.idles;
-      door_host = ap (λ (l : Link). l.idle) c.ask_door.ensures.host;
+      door_host = c.in_ok-ask_door.ensures.other;
       client = c.in_ok-ask.ensures.idles;
       client_host = c.in_ok-ask.ensures.other;
       host = c.in_ok-ask-2.ensures.idles;

@@ -1,4 +1,4 @@
-use Rattle.std.proofs.Common.{◌≡◌, ℕ, length}
+use Rattle.std.proofs.Common.{◌≡◌, length}
 use Rattle.bridge_run.specs.Course.{Course, AtDoor}
 use Rattle.bridge_run.specs.Calls.{Goes}
 use Rattle.bridge_run.specs.Outside.{outside, NoFault}
@@ -15,7 +15,7 @@ invariant-rounds g l = record {
   idle : l.self.kept.idle ≡ l.initial.self.kept.idle;
   waited : HasWaited l.initial.self.kept.idle l.self.kept (outside (g.D.Doors.link l.initial.doors) (g.D.Doors.door l.initial.doors)) (outside (g.D.Doors.link l.doors) (g.D.Doors.door l.doors));
   faults : NoFault (outside (g.D.Doors.link l.initial.doors) (g.D.Doors.door l.initial.doors)) (outside (g.D.Doors.link l.doors) (g.D.Doors.door l.doors)) (g.K.Sink.faults l.initial.out) (g.K.Sink.faults l.out);
-  comes : (first : ℕ) (c : Course) → Follows (g.C.Served.stands first l.initial.self.core) (g.C.Served.sends first) l.initial.self.kept (outside (g.D.Doors.link l.initial.doors) (g.D.Doors.door l.initial.doors)) (g.K.Sink.contents l.initial.out) c
+  comes : (first : g.C.Served.First) (c : Course) → Follows (g.C.Served.stands first l.initial.self.core) (g.C.Served.sends first) l.initial.self.kept (outside (g.D.Doors.link l.initial.doors) (g.D.Doors.door l.initial.doors)) (g.K.Sink.contents l.initial.out) c
       → Comes (g.C.Served.stands first l.self.core) (setting (g.C.Served.sends first) l.initial.self.kept) l.self.kept (outside (g.D.Doors.link l.doors) (g.D.Doors.door l.doors)) (g.K.Sink.contents l.out) (Goes AtDoor c) AtDoor;
 }
 

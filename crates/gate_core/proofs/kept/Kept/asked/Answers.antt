@@ -5,7 +5,7 @@ use Rattle.gate_core.specs.inner.Rows.{IsFine}
 use Rattle.gate_core.proofs.Unlinked.{each-found}
 use Rattle.gate_core.proofs.kept.Kept.asked.Goals as goal
 
-pub returns-in-Wire-clause-fits : goal.returns-in-Wire-clause-fits
-returns-in-Wire-clause-fits c =
+pub returns-in-Wire-None-clause-fits : goal.returns-in-Wire-None-clause-fits
+returns-in-Wire-None-clause-fits c =
     let t = c.args.self.now in
     (each-found (IsFine t.caps) (has_number c.args.target) t.lives.live _ c.requires.kept.fine (sym c.find_number.ensures ∙ ap option_copied c.in-Some.is)).id_fits

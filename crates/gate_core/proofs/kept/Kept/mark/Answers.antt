@@ -15,7 +15,7 @@ returns-clause-kept c =
     let is = c.unlink.ensures.left ∙ ap (λ (ls : List Live). record old.lives { live = ls }) (first-left c.args.target c.args.by (find (has_number c.args.target) old.lives.live) old.lives.live c.requires.first) in
     subst (λ (r : Requests). IsKept (record old { lives = r })) (sym is) (record {
       fine = each-changed (IsFine old.caps) (has_number c.args.target) (unlinked_by c.args.by) old.lives.live
-          (λ l f. record { packets = f.packets; few_bytes = f.few_bytes; read = f.read; id_fits = f.id_fits; by_id = f.by_id }) c.requires.kept.fine;
+          (λ l f. record { packets = f.packets; few_bytes = f.few_bytes; read = f.read; id_fits = f.id_fits; lies = f.lies }) c.requires.kept.fine;
       apart = c.requires.kept.apart;
       few = omega (arith, c.requires.kept.few, length-changed (has_number c.args.target) (unlinked_by c.args.by) old.lives.live);
       left = c.requires.kept.left;

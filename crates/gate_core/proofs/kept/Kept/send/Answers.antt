@@ -25,7 +25,7 @@ returns-clause-ok c st client h sound =
     let v = Wire (pipe_view c.args.pipe) in
     let s = submission st r v (next_ids st 1) in
     let id : c.draw-id.result ≡ draw (greatest (wide_ids st.agreed)) (flying st) st.last = c.draw-id.ensures.value ∙ draw-is old st h in
-    does-open st s refl sound old _ (fresh s ∷ []) client client _ _ _ _ h c.requires.kept.unlinked_fits c.requires.kept.dropped_fits refl refl refl refl
+    does-open st s refl sound (λ v. refl) old _ (fresh s ∷ []) client client _ _ _ _ h c.requires.kept.unlinked_fits c.requires.kept.dropped_fits refl refl refl refl
     (c.open.ensures.opened.is ∙ (λ i. record old {
       lives = record { live = old.lives.live ++ row_for r (live_kind.Wire r.transfer.ep (c.kind.ensures i)) (id i) ∷ []; abandoned = old.lives.abandoned };
       calls = sym (called-silent (id i ∷ []) (wire_packet (pipe_view c.args.pipe) r.transfer ∷ []) old.calls (wire-silent (pipe_view c.args.pipe) r.transfer, tt)) i;

@@ -6,8 +6,8 @@ use Rattle.usbip_urb.specs.Spelling.{spelling}
 use Rattle.usbip_urb.specs.declared.client.ClientPacket.TheVariants.{Urb}
 use Rattle.redir_data.specs.declared.packet.RedirPacket.{RedirPacket}
 use Rattle.gate_core.specs.declared.note.Note.TheVariants as note
-use Rattle.gate_core.specs.declared.streams.Up.{Up}
-use Rattle.gate_core.specs.declared.streams.Called.{Called}
+use Rattle.gate_core.specs.Ups.{Up}
+use Rattle.gate_core.specs.declared.calls.Called.{Called}
 use Rattle.gate_core.specs.Ids.{last_of}
 use Rattle.gate_core.specs.Verdict.{IsoOut}
 use Rattle.gate_core.specs.Ups.{stream_at}
@@ -39,7 +39,7 @@ returns-clause-ok c st h sound =
     let drawn : ids_after old old.last (length (starting ++ isos)) ≡ drawn_for st r v = ids-are old st h (starting ++ isos) all same in
     let asked : with_ids old old.last (starting ++ isos) ≡ zip (drawn_for st r v) all = asked-are old st h (starting ++ isos) all same in
     let last = c.in_ok-last.ensures.last ∙ ap (λ (k : Called). last_of k.last (ids_after old k.last (length isos))) started ∙ sym (last-more old old.last starting isos) ∙ ap (last_of old.last) drawn in
-    does-open st (submission st r v []) refl sound old _ [] _ _ _ _ _ _ h c.requires.kept.unlinked_fits c.requires.kept.dropped_fits refl refl refl refl
+    does-open st (submission st r v []) refl sound (λ v. refl) old _ [] _ _ _ _ _ _ h c.requires.kept.unlinked_fits c.requires.kept.dropped_fits refl refl refl refl
     (λ i. record old {
       lives = record { live = sym (append-nil old.lives.live) i; abandoned = old.lives.abandoned };
       streams = c.raise.ensures i;

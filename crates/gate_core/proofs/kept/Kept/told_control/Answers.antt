@@ -2,9 +2,7 @@ use Rattle.std.proofs.Common.{None, OnOk, sym, subst}
 use Rattle.redir_wire.specs.Capability.{announced, caps_of, agreed}
 use Rattle.redir_data.specs.declared.packet.RedirPacket.TheVariants.{Plain}
 use Rattle.gate_core.specs.declared.kept.Kept.{Kept}
-use Rattle.usb_base.specs.Status.{status_of}
-use Rattle.gate_core.specs.Marks.{Effect, Agrees, StreamTold}
-use Rattle.gate_core.proofs.Steady.{does-tell_stream}
+use Rattle.gate_core.specs.Marks.{Effect, Agrees}
 use Rattle.gate_core.specs.Meaning.{mark_as, fact_of}
 use Rattle.gate_core.specs.inner.Holds.{Does}
 use Rattle.gate_core.proofs.Answering.{does-agree, told-other}
@@ -31,14 +29,14 @@ returns-in_default c =
 
 pub returns-in-IsoStatus-clause-ok : goal.returns-in-IsoStatus-clause-ok
 returns-in-IsoStatus-clause-ok c st at place h sound going =
-    let k = c.requires.kept in
-    rw c.in-IsoStatus.is
-    (subst (λ (new : Kept). Does st (mark_as st (StreamTold c.args.header.now.id c.in-IsoStatus.endpoint (status_of c.in-IsoStatus.status)) None) c.args.self.now new c.args.to_client.now c.args.to_client.now c.args.to_host.now c.args.to_host.now c.args.notes.now c.args.notes.now) (sym c.told_stream.ensures.told)
-    (does-tell_stream st c.args.header.now.id c.in-IsoStatus.endpoint (status_of c.in-IsoStatus.status) c.args.self.now c.args.to_client.now c.args.to_host.now c.args.notes.now h k.answered_fits k.unlinked_fits k.dropped_fits))
+    rw c.in-IsoStatus.is (c.told_stream.ensures.ok st c.args.to_host.now c.args.notes.now h sound)
+
+pub returns-in-IsoStatus-clause-err : goal.returns-in-IsoStatus-clause-err
+returns-in-IsoStatus-clause-err c = c.told_stream.ensures.err c.args.to_host.now c.args.notes.now
 
 pub returns-in-InterruptStatus-clause-ok : goal.returns-in-InterruptStatus-clause-ok
 returns-in-InterruptStatus-clause-ok c st at place h sound going =
-    let k = c.requires.kept in
-    rw c.in-InterruptStatus.is
-    (subst (λ (new : Kept). Does st (mark_as st (StreamTold c.args.header.now.id c.in-InterruptStatus.endpoint (status_of c.in-InterruptStatus.status)) None) c.args.self.now new c.args.to_client.now c.args.to_client.now c.args.to_host.now c.args.to_host.now c.args.notes.now c.args.notes.now) (sym c.told_stream-in-InterruptStatus.ensures.told)
-    (does-tell_stream st c.args.header.now.id c.in-InterruptStatus.endpoint (status_of c.in-InterruptStatus.status) c.args.self.now c.args.to_client.now c.args.to_host.now c.args.notes.now h k.answered_fits k.unlinked_fits k.dropped_fits))
+    rw c.in-InterruptStatus.is (c.told_stream-in-InterruptStatus.ensures.ok st c.args.to_host.now c.args.notes.now h sound)
+
+pub returns-in-InterruptStatus-clause-err : goal.returns-in-InterruptStatus-clause-err
+returns-in-InterruptStatus-clause-err c = c.told_stream-in-InterruptStatus.ensures.err c.args.to_host.now c.args.notes.now

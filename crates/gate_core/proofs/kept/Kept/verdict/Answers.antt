@@ -28,5 +28,6 @@ returns-clause-answered c =
     record {
       answered = λ by. record { packets = record { few = w.few_packets; counted = w.descs }; few_bytes = w.few_bytes; read = c.decide.ensures.reads w by; by_id = not-stream (verdict_view c.decide.result) r.transfer.ep by };
       room = λ by. omega (arith, c.decide.ensures.room by, c.len.ensures.len);
+      waits = λ waits. (record { packets = record { few = w.few_packets; counted = w.descs }; few_bytes = w.few_bytes; lies = c.decide.ensures.lies waits }, omega (arith, c.decide.ensures.waits waits, c.len.ensures.len));
       sends = subst HasRoute (sym c.decide.ensures.value) (verdict-sends t.lost c.len.result c.change_waits-changing.result t.facts.table c.has-wide.result r);
     }

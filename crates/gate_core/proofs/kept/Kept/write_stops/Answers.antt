@@ -1,7 +1,7 @@
-use Rattle.std.proofs.Common.{◌∙◌, ◌++◌, get_or, take, sym, ap, append_assoc, arith}
+use Rattle.std.proofs.Common.{◌≡◌, ◌+◌, ◌∙◌, ◌++◌, List, Option, get_or, take, length, sym, ap, subst, append_assoc, arith}
 use Rattle.std.proofs.lemmas.List.{append-nil}
-use Rattle.gate_core.specs.declared.streams.Called.{Called}
-use Rattle.gate_core.specs.Ups.{is_ended}
+use Rattle.gate_core.specs.declared.calls.Called.{Called}
+use Rattle.gate_core.specs.Ups.{Up, is_ended}
 use Rattle.gate_core.specs.Packets.{stop_of, stops}
 use Rattle.gate_core.specs.inner.Calling.{called_of, after_stops, bytes_of}
 use Rattle.gate_core.proofs.Stopping.{bytes-more, stops-more, next-stops}
@@ -15,8 +15,12 @@ loop-stream-preserved c =
     let t = c.args.self.now in
     let test = is_ended c.args.by in
     let before = stops test (take c.loop-stream.stream-index t.streams) in
-    let one = stop_of test (get_or t.streams c.loop-stream.stream-index c.stream-item.result) in
-    let next = next-stops test t.streams c.loop-stream.stream-index c.stream-item.result (omega arith) c.stream-item.is in
+    let item = c.stream-item.result in
+    let k = c.loop-stream.stream-index in
+    let one = stop_of test item in
+    let here : item ≡ get_or t.streams k item = subst (λ (ups : List (Option Up)). item ≡ get_or ups k item) c.as_slice-stream-items.ensures.value c.stream-item.is in
+    let next : stops test (take (k + 1) t.streams) ≡ before ++ one =
+    next-stops test t.streams k item (omega (arith, ap length c.as_slice-stream-items.ensures.value)) here ∙ ap (λ (o : Option Up). before ++ stop_of test o) (sym here) in
     record {
       called = c.in_ok-write_stop_of.ensures.called ∙ ap (λ (k : Called). after_stops t k one) c.loop-stream.invariant.called
           ∙ sym (stops-more t (called_of t) before one) ∙ ap (after_stops t (called_of t)) (sym next);

@@ -1,0 +1,43 @@
+use Rattle.std.proofs.Common.{List, Err, refl, ap}
+use Rattle.gate_outside.specs.Link.{Link}
+use Rattle.bridge_run.specs.Events.{Event}
+use Rattle.bridge_run.specs.Lent.{lent_sends}
+use Rattle.bridge_run.specs.Outside.{outside}
+use Rattle.bridge_run.specs.inner.Lending.{IsLent}
+use Rattle.bridge_run.proofs.Resting.{faults-then}
+use Rattle.bridge_run.proofs.Idling.{reason-from}
+use Rattle.bridge_run.proofs.Opening.{door-short, door-unmade, door-follows}
+use Rattle.bridge_run.proofs.lending.serve_host.Goals as goal
+
+pub returns-in-Err-clause-leaves : goal.returns-in-Err-clause-leaves
+returns-in-Err-clause-leaves g c = λ k b t.
+    door-short (record { served = lent_sends g.G.Gadget.meaning c.args.gadget; idle = c.args.idle }) k (outside (g.D.Doors.link c.args.doors.now) (g.D.Doors.door c.args.doors.now)) (g.K.Sink.contents c.args.out.now) b.client_down t
+
+pub returns-in-Err-vec-clause-leaves : goal.returns-in-Err-vec-clause-leaves
+returns-in-Err-vec-clause-leaves g c = λ k b t.
+    door-short (record { served = lent_sends g.G.Gadget.meaning c.args.gadget; idle = c.args.idle }) k (outside (g.D.Doors.link c.args.doors.now) (g.D.Doors.door c.args.doors.now)) (g.K.Sink.contents c.args.out.now) b.client_down t
+
+pub returns-in-Err-listen-clause-leaves : goal.returns-in-Err-listen-clause-leaves
+returns-in-Err-listen-clause-leaves g c = λ k b t.
+    door-unmade (record { served = lent_sends g.G.Gadget.meaning c.args.gadget; idle = c.args.idle }) k (outside (g.D.Doors.link c.args.doors.now) (g.D.Doors.door c.args.doors.now)) (outside (g.D.Doors.link c.listen.new.self) (g.D.Doors.door c.listen.new.self)) (g.K.Sink.contents c.args.out.now)
+    b.client_down t c.in-Err-listen.ensures.listens.1 c.in-Err-listen.ensures.other c.in-Err-listen.ensures.listens.0
+
+pub returns-clause-leaves : goal.returns-clause-leaves
+returns-clause-leaves g c = λ k b t.
+    let m = g.G.Gadget.meaning in
+    let first = c.args.gadget in
+    c.run.ensures.course first k
+    (door-follows (λ (events : List Event). IsLent m first c.in-Ok.core events) (lent_sends m first) c.args.idle c.args.budget
+    (outside (g.D.Doors.link c.args.doors.now) (g.D.Doors.door c.args.doors.now)) (outside (g.D.Doors.link c.listen.new.self) (g.D.Doors.door c.listen.new.self)) (g.K.Sink.contents c.args.out.now) k b c.in-Ok.ensures refl t
+    c.in_default.ensures.listens.1 c.in_default.ensures.other c.in_default.ensures.listens.0)
+
+pub returns-clause-cause : goal.returns-clause-cause
+returns-clause-cause g c =
+    faults-then {T = Unit {0}} (Err c.run.result) (outside (g.D.Doors.link c.args.doors.now) (g.D.Doors.door c.args.doors.now)) (outside (g.D.Doors.link c.listen.new.self) (g.D.Doors.door c.listen.new.self)) (outside (g.D.Doors.link c.run.new.doors) (g.D.Doors.door c.run.new.doors))
+    (g.K.Sink.faults c.args.out.now) (g.K.Sink.faults c.args.out.now) (g.K.Sink.faults c.run.new.out)
+    (record { client = ap (λ (l : Link). l.faults) c.in_default.ensures.listens.1; host = ap (λ (l : Link). l.faults) c.in_default.ensures.other; sink = refl }) c.run.ensures.cause
+
+pub returns-clause-reason : goal.returns-clause-reason
+returns-clause-reason g c =
+    reason-from c.run.result c.args.idle (outside (g.D.Doors.link c.args.doors.now) (g.D.Doors.door c.args.doors.now)) (outside (g.D.Doors.link c.listen.new.self) (g.D.Doors.door c.listen.new.self)) (outside (g.D.Doors.link c.run.new.doors) (g.D.Doors.door c.run.new.doors))
+    (record { client = ap (λ (l : Link). l.idle) c.in_default.ensures.listens.1; host = ap (λ (l : Link). l.idle) c.in_default.ensures.other }) c.run.ensures.reason

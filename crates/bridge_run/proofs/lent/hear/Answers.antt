@@ -1,0 +1,17 @@
+use Rattle.std.proofs.Common.{sym, ◌∙◌, ◌∷◌}
+use Rattle.redir_host.specs.Acts.{Piece}
+use Rattle.bridge_run.proofs.Acting.{heard-refused, heard-used, on-ok}
+use Rattle.bridge_run.proofs.lent.hear.Goals as goal
+
+pub returns-then-has_refusal-clause-acts : goal.returns-then-has_refusal-clause-acts
+returns-then-has_refusal-clause-acts g c = λ first past stands.
+    heard-refused g.G.Gadget.meaning first c.take.new.self past c.args.bytes.now c.in_ok-notes.notes c.args.out.now c.take.new.out (c.in_ok-notes.ensures.takes first past stands) (sym c.has_refusal.ensures ∙ c.if-has_refusal.true)
+
+pub returns-clause-acts : goal.returns-clause-acts
+returns-clause-acts g c =
+    on-ok c.use_device.result _ _
+    (λ uses first past stands.
+    let t = c.in_ok-notes.ensures.takes first past stands in
+    heard-used g.G.Gadget.meaning first c.take.new.self c.use_device.new.core past c.args.bytes.now c.in_ok-notes.notes c.args.out.now c.take.new.out c.use_device.new.out t (sym c.has_refusal.ensures ∙ c.if-has_refusal.false)
+    (uses first (Piece c.args.bytes.now ∷ past) t.does.stands))
+    c.use_device.ensures

@@ -1,0 +1,27 @@
+use Rattle.std.proofs.Common.{ℕ, List, ◌+◌, ◌∷◌, drop, sym, ap, subst, ◌∙◌}
+use Rattle.std.proofs.lemmas.List.{drop_more}
+use Rattle.usb_base.specs.Endpoint.{IsEndpoint}
+use Rattle.redir_host.specs.Sound.{Each}
+use Rattle.bridge_run.specs.inner.Lending.{act_of}
+use Rattle.bridge_run.proofs.Acting.{midway-none, midway-more}
+use Rattle.bridge_run.proofs.lent.use_each.Goals as goal
+
+pub loop-address-init : goal.loop-address-init
+loop-address-init g c = record {
+  endpoints = c.requires;
+  midway = λ first past stands. midway-none (act_of c.args.how) g.G.Gadget.meaning first c.args.core.now past c.args.addresses.now c.args.out.now stands;
+}
+
+pub loop-address-preserved : goal.loop-address-preserved
+loop-address-preserved g c =
+    let l = c.loop-address in
+    let xs = c.args.addresses.now in
+    let i = l.address-index in
+    record {
+      endpoints = (subst (λ (left : List ℕ). Each IsEndpoint left) (drop_more xs i 0 c.loop-address-test.true) l.invariant.endpoints).1;
+      midway = λ first past stands.
+          let x = l.invariant.midway first past stands in
+          midway-more (act_of c.args.how) g.G.Gadget.meaning first l.core c.use_endpoint.new.core past xs (drop i xs) c.in-Some.ep (drop (i + 1) xs) c.args.out.now l.out c.use_endpoint.new.out
+          (drop_more xs i _ c.loop-address-test.true ∙ ap (λ (b : ℕ). b ∷ drop (i + 1) xs) (sym c.in-Some.ensures.byte)) x
+          (c.in_ok-use_endpoint-in-Some.ensures first x.acts x.done.stands);
+    }

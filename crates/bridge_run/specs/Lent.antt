@@ -1,0 +1,96 @@
+-- What the events of a modelled device send that is lent to a guest, and which they refuse: the guest is the client, and
+-- what is done with the device's host goes by the events.
+use Rattle.std.specs.Prelude.{ℕ, ◌||◌, Bool, true, false, if◌then◌else◌, List, [], ◌∷◌, ◌++◌, None}
+use Rattle.std.specs.List.{flat_map, list_any}
+use Rattle.usb_base.specs.declared.side.Side.TheVariants.{Client}
+use Rattle.usb_base.specs.declared.refusal.Refusal.{Refusal}
+use Rattle.model_device.specs.Meaning.{Meaning}
+use Rattle.redir_host.specs.declared.note.HostNote.{HostNote}
+use Rattle.redir_host.specs.declared.note.HostNote.TheVariants as note
+use Rattle.redir_host.specs.Acts.{Act, Piece, Perform, Offer}
+use Rattle.redir_host.specs.Output.{host_out, act_notes}
+use Rattle.bridge_run.specs.Events.{Event, ClientComes, ClientPiece, ClientQuiet, ClientEnd, HostPiece, HostEnd}
+use Rattle.bridge_run.specs.Prescribed.{Prescribed}
+
+-- ---- what is done with the device in a round
+
+-- an act of each address in turn, the latest first
+abbrev pub each : (ℕ → Act) → List ℕ → List Act → List Act
+each act [] acts = acts
+each act (ep ∷ eps) acts = each act eps (act ep ∷ acts)
+
+-- the OUT endpoints and 0, and the IN endpoints other than 0
+abbrev pub out_addresses : List ℕ
+out_addresses = 0 ∷ 1 ∷ 2 ∷ 3 ∷ 4 ∷ 5 ∷ 6 ∷ 7 ∷ 8 ∷ 9 ∷ 10 ∷ 11 ∷ 12 ∷ 13 ∷ 14 ∷ 15 ∷ []
+
+abbrev pub in_addresses : List ℕ
+in_addresses = 129 ∷ 130 ∷ 131 ∷ 132 ∷ 133 ∷ 134 ∷ 135 ∷ 136 ∷ 137 ∷ 138 ∷ 139 ∷ 140 ∷ 141 ∷ 142 ∷ 143 ∷ []
+
+-- each endpoint's first request is performed, and then each IN endpoint may send a packet of its stream
+unfoldable pub used : List Act → List Act
+used acts = each Offer in_addresses (each Perform in_addresses (each Perform out_addresses acts))
+
+-- ---- what an event is to the device's host
+
+abbrev pub refusal_in : HostNote → List Refusal
+refusal_in (note.Refused place reason) = record { side = Client; place = place; reason = reason; kept = None } ∷ []
+refusal_in (note.Cancelled id) = []
+
+abbrev pub is_refusal : HostNote → Bool
+is_refusal (note.Refused place reason) = true
+is_refusal (note.Cancelled id) = false
+
+-- the acts behind a piece of the guest's bytes: where it is refused, nothing more is done
+abbrev pub behind_piece : List HostNote → List Act → List Act
+behind_piece notes acts = if list_any is_refusal notes then acts else used acts
+
+-- the acts behind an event
+abbrev pub acts_behind : {S : Type 0} → Meaning S → S → List Act → Event → List Act
+acts_behind m s acts ClientComes = acts
+acts_behind m s acts (ClientPiece b) = behind_piece (act_notes m s acts (Piece b)) (Piece b ∷ acts)
+acts_behind m s acts ClientQuiet = used acts
+acts_behind m s acts ClientEnd = acts
+acts_behind m s acts (HostPiece b) = acts
+acts_behind m s acts HostEnd = acts
+
+-- all acts of these events, the latest first
+abbrev pub acts_of : {S : Type 0} → Meaning S → S → List Event → List Act
+acts_of m s [] = []
+acts_of m s (e ∷ events) = acts_behind m s (acts_of m s events) e
+
+-- ---- what is sent
+
+abbrev pub is_coming : Event → Bool
+is_coming ClientComes = true
+is_coming (ClientPiece b) = false
+is_coming ClientQuiet = false
+is_coming ClientEnd = false
+is_coming (HostPiece b) = false
+is_coming HostEnd = false
+
+abbrev pub has_come : List Event → Bool
+has_come [] = false
+has_come (e ∷ events) = is_coming e || has_come events
+
+-- once the guest has come, all that the host has sent, from its hello on
+abbrev pub lent_bytes : {S : Type 0} → Meaning S → S → List Event → List ℕ
+lent_bytes m s events = if has_come events then host_out m s (acts_of m s events) else []
+
+abbrev pub refused_by : {S : Type 0} → Meaning S → S → List Act → Event → List Refusal
+refused_by m s acts ClientComes = []
+refused_by m s acts (ClientPiece b) = flat_map refusal_in (act_notes m s acts (Piece b))
+refused_by m s acts ClientQuiet = []
+refused_by m s acts ClientEnd = []
+refused_by m s acts (HostPiece b) = []
+refused_by m s acts HostEnd = []
+
+abbrev pub lent_refusals : {S : Type 0} → Meaning S → S → List Event → List Refusal
+lent_refusals m s [] = []
+lent_refusals m s (e ∷ events) = lent_refusals m s events ++ refused_by m s (acts_of m s events) e
+
+abbrev pub lent_sends : {S : Type 0} → Meaning S → S → Prescribed
+lent_sends m s = record {
+  to_client = λ events. lent_bytes m s events;
+  to_host = λ events. [];
+  refusals = λ events. lent_refusals m s events;
+}

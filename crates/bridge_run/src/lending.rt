@@ -1,0 +1,76 @@
+//! A modelled device between sockets: the guest comes to a door.
+
+ghost use Rattle.std.specs.Prelude.{◌≡◌, ◌≤◌, false};
+ghost use Rattle.usb_base.specs.declared.side.Side.TheVariants.{Client, Host};
+ghost use Rattle.bridge_run.specs.Course.{Course, AtDoor};
+ghost use Rattle.bridge_run.specs.Calls.{Goes};
+ghost use Rattle.bridge_run.specs.Outside.{outside, Tells, HasCause, HasReason};
+ghost use Rattle.bridge_run.specs.Lent.{lent_sends};
+ghost use Rattle.bridge_run.specs.Serves.{Begins, Leaves};
+
+use crate::kept::Kept;
+use crate::lent::Lent;
+use crate::sent::Sent;
+use crate::serve_end::ServeEnd;
+use crate::serving::ROOM;
+use crate::session::Session;
+use gate_outside::{Doors, Side, Sink};
+use model_device::Gadget;
+use std::alloc::Global;
+use usb_base::Bytes;
+
+/// Makes a door, lends the device to the guest that comes to it, and goes in rounds. A round asks for the guest, where
+/// it hasn't come, and writes the host's hello to it as it comes. Then it polls the guest, performs the first request of
+/// each endpoint, offers the streams of all IN endpoints, and writes what that sends. It ends behind the guest's end, or
+/// behind bytes that are refused: what they send before is written, the link is closed, the refusal's line is written
+/// to `out`, and nothing more is done with the device. It ends too after `idle` rounds in a row that bring nothing, and
+/// once `budget` bytes have come, where the guest counts as one. The first call that fails is the last. The guest is the
+/// client's side; the host's has no link.
+pub fn serve_host<G: Gadget, D: Doors, K: Sink>(
+    alloc: Global,
+    gadget: G,
+    listen: &str,
+    idle: u64,
+    budget: u64,
+    doors: &mut D,
+    out: &mut K,
+) -> ServeEnd
+    requires client_down { (D.link doors.old Client).up ≡ false }
+    requires host_down { (D.link doors.old Host).up ≡ false }
+    requires idle { 1 ≤ idle }
+    requires budget { 1 ≤ budget }
+    // Over doors and a sink that tell.
+    ensures leaves { (c : Course) → Begins idle budget c → Tells (outside (D.link doors.old) (D.door doors.old)) (K.contents out.old) c
+        → Leaves result (record { served = lent_sends G.meaning gadget; idle = idle }) (Goes AtDoor c) (outside (D.link doors.new) (D.door doors.new)) (K.contents out.new) }
+    // Over any doors.
+    ensures cause { HasCause result (outside (D.link doors.old) (D.door doors.old)) (outside (D.link doors.new) (D.door doors.new)) (K.faults out.old) (K.faults out.new) }
+    ensures reason { HasReason result idle (outside (D.link doors.old) (D.door doors.old)) (outside (D.link doors.new) (D.door doors.new)) }
+{
+    let core = match Lent::make(alloc, gadget) {
+        Ok(core) => core,
+        Err(_) => return ServeEnd::Memory,
+    };
+    let mut buf = match vec![in alloc; 0; ROOM] {
+        Ok(buf) => buf,
+        Err(_) => return ServeEnd::Memory,
+    };
+    if let Err(_) = doors.listen(listen) {
+        return ServeEnd::LinkFault(Side::Client);
+    }
+    let mut session = Session {
+        alloc,
+        core,
+        kept: Kept {
+            client_up: false,
+            host_up: false,
+            busy: false,
+            waits: idle,
+            idle,
+            left: budget,
+            refused: None,
+        },
+        sent: Sent::new(alloc),
+        lines: Bytes::new(alloc),
+    };
+    session.run(&mut buf, doors, out)
+}

@@ -1,0 +1,212 @@
+//! A modelled device, lent to a guest, as what is served.
+
+ghost use Rattle.std.specs.Prelude.{◌≡◌, ◌∷◌, ◌++◌, ◌||◌, [], true, if◌then◌else◌, List as ListOf, OnOk, IfOk};
+ghost use Rattle.std.specs.List.{flat_map, list_any};
+ghost use Rattle.usb_base.specs.Endpoint.{IsEndpoint};
+ghost use Rattle.redir_host.specs.Acts.{Act, Piece};
+ghost use Rattle.redir_host.specs.Sound.{Each};
+ghost use Rattle.redir_host.specs.Stands.{DoesAct, Stands};
+ghost use Rattle.redir_host.specs.Output.{act_notes};
+ghost use Rattle.bridge_run.specs.Events.{event_of, is_quiet};
+ghost use Rattle.bridge_run.specs.Lent.{each, used, behind_piece, acts_behind, is_coming, refused_by, refusal_in, is_refusal};
+ghost use Rattle.bridge_run.specs.inner.Lending.{Acts, IsLent, act_of};
+
+use crate::event::Event;
+use crate::sent::Sent;
+use crate::served::Served;
+use model_device::Gadget;
+use redir_host::{HostCore, HostNote, HostNotes};
+use std::alloc::Global;
+use usb_base::{Bytes, EpAddr, List, Memory, Refusal, Side};
+
+/// The addresses of the OUT endpoints, and of endpoint 0.
+const OUT_ADDRESSES: [u8; 16] = [
+    0x00, 0x01, 0x02, 0x03, 0x04, 0x05, 0x06, 0x07, 0x08, 0x09, 0x0A, 0x0B, 0x0C, 0x0D, 0x0E, 0x0F,
+];
+
+/// The addresses of the IN endpoints other than 0.
+const IN_ADDRESSES: [u8; 15] = [
+    0x81, 0x82, 0x83, 0x84, 0x85, 0x86, 0x87, 0x88, 0x89, 0x8A, 0x8B, 0x8C, 0x8D, 0x8E, 0x8F,
+];
+
+/// What is done with an endpoint: its first request is performed, or its stream is offered a packet.
+#[derive(Clone, Copy, Debug)]
+pub enum Use {
+    Perform,
+    Offer,
+}
+
+/// The host of a device, and what it has sent.
+#[derive(Drop)]
+pub struct Lent<G: Gadget> {
+    pub core: HostCore<G>,
+    /// The guest has come.
+    pub has_come: bool,
+    /// What was sent before.
+    pub waiting: Bytes,
+}
+
+impl<G: Gadget> Lent<G> {
+    /// The host of a device that was just plugged in. Its hello waits for the guest.
+    pub fn make(alloc: Global, gadget: G) -> Result<Lent<G>, Memory>
+        ensures { IfOk result (λ lent. IsLent G.meaning gadget lent []) }
+    {
+        let mut waiting = Bytes::new(alloc);
+        let core = HostCore::make(alloc, gadget, &mut waiting)?;
+        Ok(Lent {
+            core,
+            has_come: false,
+            waiting,
+        })
+    }
+
+    /// Does with the device what an event asks.
+    fn act(&mut self, event: Event, refusals: &mut List<Refusal>) -> Result<(), Memory>
+        ensures acts { OnOk result ((first : G) (past : ListOf Act) → Stands G.meaning first self.old.core past
+            → Acts G.meaning first self.new.core past (acts_behind G.meaning first past (event_of event.entry)) self.old.waiting self.new.waiting) }
+        ensures refusals { OnOk result ((first : G) (past : ListOf Act) → Stands G.meaning first self.old.core past
+            → refusals.new ≡ refusals.old ++ refused_by G.meaning first past (event_of event.entry)) }
+        ensures come { self.new.has_come ≡ (is_coming (event_of event.entry) || self.old.has_come) }
+        ensures quiet { OnOk result (is_quiet (event_of event.entry) ≡ true → refusals.new ≡ refusals.old) }
+    {
+        match event {
+            Event::ClientComes => {
+                self.has_come = true;
+                Ok(())
+            }
+            Event::ClientPiece(bytes) => {
+                hear(&mut self.core, bytes, refusals, &mut self.waiting)
+            }
+            Event::ClientQuiet => use_device(&mut self.core, &mut self.waiting),
+            Event::ClientEnd | Event::HostPiece(_) | Event::HostEnd => Ok(()),
+        }
+    }
+
+    /// Hands on what waits, once the guest has come.
+    fn hand_on(&mut self, to_client: &mut Bytes) -> Result<(), Memory>
+        ensures sent { OnOk result (to_client.new ≡ to_client.old ++ (if self.old.has_come then self.old.waiting else [])) }
+        ensures kept { OnOk result (self.new ≡ record self.old { waiting = if self.old.has_come then [] else self.old.waiting }) }
+    {
+        if !self.has_come {
+            return Ok(());
+        }
+        to_client.append(self.waiting.as_slice())?;
+        self.waiting.clear();
+        Ok(())
+    }
+}
+
+impl<G: Gadget> Served for Lent<G> {
+    ghost use Rattle.bridge_run.specs.Lent.{lent_sends};
+    ghost use Rattle.bridge_run.specs.inner.Lending.{IsLent};
+
+    // the device's first state
+    ghost First = { G };
+
+    ghost sends = { λ first. lent_sends G.meaning first };
+
+    ghost stands = { λ first lent events. IsLent G.meaning first lent events };
+
+    fn take(&mut self, event: Event, sent: &mut Sent) -> Result<(), Memory> {
+        self.act(event, &mut sent.refusals)?;
+        self.hand_on(&mut sent.to_client)
+    }
+}
+
+/// Takes a piece of the guest's bytes, and then, unless it is refused, uses the device.
+fn hear<G: Gadget>(
+    core: &mut HostCore<G>,
+    bytes: &[u8],
+    refusals: &mut List<Refusal>,
+    out: &mut Bytes,
+) -> Result<(), Memory>
+    ensures acts { OnOk result ((first : G) (past : ListOf Act) → Stands G.meaning first core.old past
+        → Acts G.meaning first core.new past (behind_piece (act_notes G.meaning first past (Piece bytes.now)) (Piece bytes.now ∷ past)) out.old out.new) }
+    ensures refusals { OnOk result ((first : G) (past : ListOf Act) → Stands G.meaning first core.old past
+        → refusals.new ≡ refusals.old ++ flat_map refusal_in (act_notes G.meaning first past (Piece bytes.now))) }
+{
+    let notes = core.take(bytes, out)?;
+    push_refusals(&notes, refusals)?;
+    if has_refusal(&notes) {
+        return Ok(());
+    }
+    use_device(core, out)
+}
+
+/// Performs the first request of each endpoint, and then offers the streams of all IN endpoints.
+fn use_device<G: Gadget>(core: &mut HostCore<G>, out: &mut Bytes) -> Result<(), Memory>
+    ensures { OnOk result ((first : G) (past : ListOf Act) → Stands G.meaning first core.old past
+        → Acts G.meaning first core.new past (used past) out.old out.new) }
+{
+    use_each(core, Use::Perform, &OUT_ADDRESSES, out)?;
+    use_each(core, Use::Perform, &IN_ADDRESSES, out)?;
+    use_each(core, Use::Offer, &IN_ADDRESSES, out)
+}
+
+/// Uses each of these endpoints.
+fn use_each<G: Gadget>(
+    core: &mut HostCore<G>,
+    how: Use,
+    addresses: &[u8],
+    out: &mut Bytes,
+) -> Result<(), Memory>
+    requires { Each IsEndpoint addresses.now }
+    ensures { OnOk result ((first : G) (past : ListOf Act) → Stands G.meaning first core.old past
+        → Acts G.meaning first core.new past (each (act_of how) addresses.now past) out.old out.new) }
+{
+    for address in addresses {
+        match EpAddr::new(*address) {
+            Some(ep) => use_endpoint(core, how, ep, out)?,
+            None => unreachable!(),
+        }
+    }
+    Ok(())
+}
+
+/// Uses an endpoint.
+fn use_endpoint<G: Gadget>(
+    core: &mut HostCore<G>,
+    how: Use,
+    ep: EpAddr,
+    out: &mut Bytes,
+) -> Result<(), Memory>
+    ensures { OnOk result ((first : G) (past : ListOf Act) → Stands G.meaning first core.old past
+        → DoesAct G.meaning first core.new past (act_of how ep) out.old out.new) }
+{
+    match how {
+        Use::Perform => {
+            core.perform(ep, out)?;
+        }
+        Use::Offer => {
+            core.offer(ep, out)?;
+        }
+    }
+    Ok(())
+}
+
+/// Whether a refusal is among the notes.
+fn has_refusal(notes: &HostNotes) -> bool
+    ensures { result ≡ list_any is_refusal notes.now }
+{
+    notes
+        .as_slice()
+        .iter()
+        .any(|note| matches!(note, HostNote::Refused { .. }))
+}
+
+/// Appends the refusals among the notes, which are of the client's side.
+fn push_refusals(notes: &HostNotes, refusals: &mut List<Refusal>) -> Result<(), Memory>
+    ensures { OnOk result (refusals.new ≡ refusals.old ++ flat_map refusal_in notes.now) }
+{
+    for note in notes.as_slice() {
+        if let HostNote::Refused { place, reason } = *note {
+            refusals.push(Refusal {
+                side: Side::Client,
+                place,
+                reason,
+                kept: None,
+            })?;
+        }
+    }
+    Ok(())
+}

@@ -1,0 +1,15 @@
+use Rattle.std.proofs.Common.{None, subst}
+use Rattle.usb_base.specs.declared.status.UsbStatus.{UsbStatus}
+use Rattle.gate_core.specs.Marks.{StreamTold}
+use Rattle.gate_core.specs.Meaning.{mark_as}
+use Rattle.gate_core.specs.inner.Holds.{Does}
+use Rattle.gate_core.proofs.StreamEnds.{does-tell_stream}
+use Rattle.gate_core.proofs.kept.Kept.told_stream.Goals as goal
+
+pub returns-clause-ok : goal.returns-clause-ok
+returns-clause-ok c st host notes h sound =
+    let old = c.args.self.now in
+    let new = record c.end_stream.new.self { fence = c.lifted-self.result } in
+    subst (λ (s : UsbStatus). Does st (mark_as st (StreamTold c.args.id c.args.endpoint s) None) old new c.args.to_client.now c.end_stream.new.to_client host host notes notes) c.from_byte.ensures
+    (does-tell_stream st sound c.args.id c.args.endpoint c.from_byte.result old c.end_stream.new.self new c.args.to_client.now c.end_stream.new.to_client host notes h
+    c.requires.kept.unlinked_fits c.requires.kept.dropped_fits c.in_ok-end_stream.ensures.ended (λ i. record c.end_stream.new.self { fence = c.lifted-self.ensures i }) c.in_ok-end_stream.ensures.sent)

@@ -1,0 +1,96 @@
+//! The requests that end with their stream: their answers first, and then they go.
+
+ghost use Rattle.std.specs.Prelude.{◌≡◌, ◌++◌, OnOk, OnErr};
+ghost use Rattle.std.specs.List.{flat_map};
+ghost use Rattle.stream_buffers.specs.Interrupt.{is_success};
+ghost use Rattle.gate_core.specs.inner.Asked.{HasItsPackets};
+ghost use Rattle.gate_core.specs.inner.Ending.{ended_bytes, HasDropped, status_bytes, HasStreamEnd};
+ghost use Rattle.gate_core.specs.inner.Holds.{IsKept, Extends};
+
+use crate::finish::write_ended;
+use crate::kept::Kept;
+use std::alloc::Global;
+use unlink_race::{Live, StreamEnd};
+use usb_base::{Bytes, Memory, UsbStatus};
+
+impl Kept {
+    /// Appends the answers of the requests whose stream ends so, with this status and in order of submission.
+    pub fn write_ends(
+        &self,
+        end: &StreamEnd,
+        status: i32,
+        to_client: &mut Bytes,
+    ) -> Result<(), Memory>
+        requires { IsKept self.now }
+        ensures ok { OnOk result (to_client.new ≡ to_client.old ++ flat_map (ended_bytes end.now status) self.now.lives.live) }
+        ensures err { OnErr result (Extends to_client.old to_client.new) }
+    {
+        for place in 0..self.lives.len() {
+            let live = self.lives.at(place).unwrap();
+            write_end_of(self.alloc, live, end, status, to_client)?;
+        }
+        Ok(())
+    }
+
+    /// The requests whose stream ends so are gone, and were answered.
+    pub fn drop_ended(&mut self, end: &StreamEnd)
+        requires kept { IsKept self.old }
+        ensures kept { IsKept self.new }
+        ensures dropped { HasDropped end.now self.old self.new }
+    {
+        let before = self.lives.len();
+        self.lives.drop_ended(end);
+        let ended = before - self.lives.len();
+        self.answered = self.answered.saturating_add(ended as u64);
+    }
+
+    /// The host tells this of the stream of an endpoint: any status but success ends it, and is that of the requests that
+    /// wait for its packets.
+    pub fn end_stream(
+        &mut self,
+        endpoint: u8,
+        status: UsbStatus,
+        to_client: &mut Bytes,
+    ) -> Result<(), Memory>
+        requires kept { IsKept self.old }
+        ensures kept { IsKept self.new }
+        ensures ended { OnOk result (HasStreamEnd endpoint status self.old self.new) }
+        ensures sent { OnOk result (to_client.new ≡ to_client.old ++ flat_map (status_bytes endpoint status) self.old.lives.live) }
+        ensures same { OnErr result (self.new ≡ self.old) }
+        ensures err { OnErr result (Extends to_client.old to_client.new) }
+    {
+        if is_success(status) {
+            return Ok(());
+        }
+        let end = StreamEnd::Told(endpoint);
+        self.write_ends(&end, status.errno(), to_client)?;
+        self.drop_ended(&end);
+        self.streams.lower_at(endpoint);
+        Ok(())
+    }
+}
+
+// Appends the answer of a request whose stream ends so, and nothing for any other.
+fn write_end_of(
+    alloc: Global,
+    live: &Live,
+    end: &StreamEnd,
+    status: i32,
+    to_client: &mut Bytes,
+) -> Result<(), Memory>
+    requires { HasItsPackets live.now.packets live.now.descs }
+    ensures ok { OnOk result (to_client.new ≡ to_client.old ++ ended_bytes end.now status live.now) }
+    ensures err { OnErr result (to_client.new ≡ to_client.old) }
+{
+    if live.kind.ends_with(end) {
+        write_ended(alloc, live, status, to_client)
+    } else {
+        Ok(())
+    }
+}
+
+fn is_success(status: UsbStatus) -> bool
+    ensures { result ≡ is_success status }
+{
+    matches!(status, UsbStatus::Success)
+}

@@ -1,0 +1,2 @@
+-- How what the code keeps is seen.
+pub mod Views

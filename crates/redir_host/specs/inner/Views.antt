@@ -1,0 +1,7 @@
+-- A host core's own struct as what it keeps.
+use Rattle.redir_host.specs.declared.kept.Kept.{Kept}
+use Rattle.redir_host.specs.Kept.{HostKept}
+
+-- without its allocator
+abbrev pub kept_of : {S : Type 0} → Kept S → HostKept S
+kept_of k = record { stream = k.stream; host = k.host; failed = k.failed }

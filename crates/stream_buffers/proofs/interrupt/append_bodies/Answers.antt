@@ -1,0 +1,26 @@
+use Rattle.std.proofs.Common.{◌≡◌, ℕ, List, ◌++◌, ◌<◌, length, sym, ap, ◌∙◌, take, drop, length-drop, length-append, length-take, append_assoc, arith}
+use Rattle.stream_buffers.specs.Interrupt.{bodies, bodies_to}
+use Rattle.stream_buffers.proofs.Joining.{fit_more}
+use Rattle.stream_buffers.proofs.interrupt.append_bodies.Goals as goal
+
+pub loop-place-preserved : goal.loop-place-preserved
+loop-place-preserved c =
+    let n = c.args.filling.done in
+    let ps = drop c.args.from c.args.packets.now.items in
+    let i = c.loop-place.place in
+    let p = c.packet_behind.result.now in
+    let piece = c.fitting-fitting.result.now in
+    let before = take n (bodies (take i ps)) in
+    let in_ps : i < length ps = omega (arith, c.loop-place-test.true, c.requires, length-drop c.args.from c.args.packets.now.items) in
+    let fits : piece ≡ take c.loop-place.room p.body = c.fitting-fitting.ensures ∙ ap (take c.loop-place.room) c.as_slice.ensures in
+    let one_more : take n (bodies_to i ps) ≡ before ++ piece =
+    fit_more n c.loop-place.room ps i p in_ps c.packet_behind.ensures c.loop-place.invariant.room ∙ ap (λ (l : List ℕ). before ++ l) (sym fits) in
+    let long = ap length one_more ∙ length-append before piece in
+    let short = ap length fits ∙ length-take c.loop-place.room p.body in
+    record {
+      out = c.in_ok-append.ensures.ok
+          ∙ ap (λ (l : List ℕ). l ++ piece) c.loop-place.invariant.out
+          ∙ append_assoc c.args.out.now before piece
+          ∙ ap (λ (l : List ℕ). c.args.out.now ++ l) (sym one_more);
+      room = omega (arith, long, short, c.loop-place.invariant.room);
+    }
