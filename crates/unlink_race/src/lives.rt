@@ -4,7 +4,7 @@ ghost use Rattle.std.specs.Prelude.{◌≡◌, ◌≤◌, ◌||◌, ◌-◌, not
 ghost use Rattle.std.specs.List.{find, list_any};
 ghost use Rattle.std.specs.Result.{result_err};
 ghost use Rattle.unlink_race.specs.Firsts.{without_first};
-ghost use Rattle.unlink_race.specs.Searches.{has_number, has_id, waits_for, ended_by, changes};
+ghost use Rattle.unlink_race.specs.Searches.{has_number, has_id, waits_for, touched_by, ended_by, changes};
 ghost use Rattle.unlink_race.specs.Requests.{no_requests, left_behind, OneIsEmpty};
 ghost use Rattle.unlink_race.specs.Accepting.{refusal_of};
 ghost use Rattle.unlink_race.specs.Unlinking.{told_of, left_by};
@@ -12,6 +12,7 @@ ghost use Rattle.unlink_race.specs.Unlinking.{told_of, left_by};
 use crate::live::{Live, StreamEnd};
 use crate::table::{ROOM, Table};
 use crate::unlink::{UnlinkTold, unlink};
+use control_route::Route;
 use std::alloc::Global;
 use std::marker::Model;
 use usb_base::{EpAddr, Memory};
@@ -205,6 +206,18 @@ impl Lives {
             return None;
         }
         let place = self.table.place_waiting(ep);
+        self.table.take(place)
+    }
+
+    /// Takes out the earliest request that waits for a stream whose interface the route touches.
+    pub fn take_touched(&mut self, route: &Route) -> Option<Live>
+        ensures found { result ≡ find (touched_by route.now) self.old.live }
+        ensures rest { self.new ≡ record self.old { live = without_first (touched_by route.now) self.old.live } }
+    {
+        if self.client_gone {
+            return None;
+        }
+        let place = self.table.place_touched(route);
         self.table.take(place)
     }
 

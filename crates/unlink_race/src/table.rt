@@ -6,9 +6,10 @@ ghost use Rattle.std.specs.List.{find, position, list_any};
 ghost use Rattle.unlink_race.specs.declared.live.Live.{Live};
 ghost use Rattle.unlink_race.specs.Firsts.{without_first};
 ghost use Rattle.unlink_race.specs.Unlinking.{unlinked_by};
-ghost use Rattle.unlink_race.specs.Searches.{has_number, has_id, waits_for, ended_by, changes, waits_at, ends_with, is_change};
+ghost use Rattle.unlink_race.specs.Searches.{has_number, has_id, waits_for, touched_by, ended_by, changes, waits_at, is_touched_by, ends_with, is_change};
 
 use crate::live::{Live, LiveKind, StreamEnd};
+use control_route::Route;
 use slab::Slab;
 use std::alloc::Global;
 use std::marker::Model;
@@ -70,6 +71,12 @@ fn first_waiting(rows: &[Row], ep: EpAddr) -> Option<usize>
     ensures { result ≡ position (λ r. waits_at ep r.kind) rows.now }
 {
     rows.iter().position(|row| row.kind.waits_at(ep))
+}
+
+fn first_touched(rows: &[Row], route: &Route) -> Option<usize>
+    ensures { result ≡ position (λ r. is_touched_by route.now r.kind) rows.now }
+{
+    rows.iter().position(|row| row.kind.is_touched_by(route))
 }
 
 fn any_change(rows: &[Row]) -> bool
@@ -138,6 +145,13 @@ impl Table {
         ensures { result ≡ position (waits_for ep) self.now }
     {
         first_waiting(&self.rows, ep)
+    }
+
+    /// Where the first request stands that waits for packets of an interface that the route touches.
+    pub fn place_touched(&self, route: &Route) -> Option<usize>
+        ensures { result ≡ position (touched_by route.now) self.now }
+    {
+        first_touched(&self.rows, route)
     }
 
     /// Whether a request changes the configuration or an interface.

@@ -161,6 +161,35 @@ fn the_earliest_is_taken_first(rt: HostRuntime) -> Result<(), Fail> {
     assert_eq!(rt; number(lives.front(ep)), Some(3));
     assert_eq!(rt; number_taken(lives.finish_front(ep)), Some(3));
     assert_eq!(rt; number_taken(lives.take_first()), Some(1));
+    assert_eq!(rt; number_taken(lives.take_last()), Some(5));
+    Ok(())
+}
+
+#[test]
+fn a_change_takes_what_it_touches(rt: HostRuntime) -> Result<(), Fail> {
+    let mut lives = three(rt.alloc())?;
+    accept(&mut lives, request(rt.alloc(), 4, 0, stream(0x83, 2)?))?;
+    accept(&mut lives, request(rt.alloc(), 5, 0, stream(0x84, 2)?))?;
+    let table = [
+        (Route::Plain, None),
+        (
+            Route::SetAlt {
+                interface: 2,
+                alt: 1,
+            },
+            Some(4),
+        ),
+        (Route::Reset, Some(3)),
+        (Route::SetConfig(1), Some(5)),
+        (Route::Reset, None),
+    ];
+    for (route, expected) in table {
+        assert_eq!(rt;
+            number_taken(lives.take_touched(&route)),
+            expected,
+            "by {route:?}"
+        );
+    }
     Ok(())
 }
 
