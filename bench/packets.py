@@ -52,11 +52,21 @@ def submit(number, direction, length, byte=0x5A):
     return head + bytes(8) + (bytes([byte]) * length if direction == OUT else b"")
 
 
+def submit_control(number, setup):
+    """A request of endpoint 0 that has no data to the device."""
+    direction, length = setup[0] >> 7, struct.unpack("<H", setup[6:])[0]
+    return struct.pack(">10I", 1, number, 0x00010002, direction, 0, 0, length, 0, 0, 0) + setup
+
+
 def submit_stream(number, ep, length, packets=()):
     """A request of an endpoint from the device, with the lengths of its isochronous packets."""
     head = struct.pack(">10I", 1, number, 0x00010002, IN, ep, 0, length, 0, len(packets), 0) + bytes(8)
     places = [sum(packets[:place]) for place in range(len(packets))]
     return head + b"".join(struct.pack(">4I", place, size, 0, 0) for place, size in zip(places, packets))
+
+
+def ret_data(number, data):
+    return struct.pack(">5IiI", 3, number, 0, 0, 0, 0, len(data)) + bytes(20) + data
 
 
 def ret_submit(number, direction, length, byte=0xA5, status=0):

@@ -1,7 +1,6 @@
-//! When to wait for the sockets, and for which.
+//! When to read from the sockets, when to wait for them, and for which.
 
 use gate_outside::Side;
-use mio::event::Source;
 use mio::net::{TcpListener, TcpStream};
 use mio::{Events, Interest, Poll, Token};
 use std::alloc::Global;
@@ -12,6 +11,9 @@ use std::time::Duration;
 
 /// How many looks in a row find nothing before one waits.
 const QUIET: u32 = 2;
+
+/// At which look a side that had nothing to read is read again, where the system tells of nothing before.
+const AGAIN: u32 = 8;
 
 /// How long a look waits at most for something to come, in milliseconds.
 const READ_WAIT: u64 = 10;
@@ -35,6 +37,9 @@ pub(crate) struct Ready {
     reading: Poll,
     writing: Poll,
     events: Events<Global>,
+    // At which look from now each side is read, where the system tells of nothing before.
+    client: u32,
+    host: u32,
     // How many looks in a row have found nothing.
     quiet: u32,
 }
@@ -45,6 +50,8 @@ impl Ready {
             reading: Poll::new(net)?,
             writing: Poll::new(net)?,
             events: Events::with_capacity(alloc, 4)?,
+            client: 0,
+            host: 0,
             quiet: 0,
         })
     }
@@ -54,16 +61,43 @@ impl Ready {
         reading.register(door, DOOR, Interest::READABLE)
     }
 
-    pub(crate) fn add(&self, side: Side, stream: &mut TcpStream) -> io::Result<()> {
+    pub(crate) fn add(&mut self, side: Side, stream: &mut TcpStream) -> io::Result<()> {
         let reading = self.reading.registry();
         reading.register(stream, token(side), Interest::READABLE)?;
         let writing = self.writing.registry();
-        writing.register(stream, token(side), Interest::WRITABLE)
+        writing.register(stream, token(side), Interest::WRITABLE)?;
+        *self.due_in(side) = 0;
+        Ok(())
+    }
+
+    fn due_in(&mut self, side: Side) -> &mut u32 {
+        match side {
+            Side::Client => &mut self.client,
+            Side::Host => &mut self.host,
+        }
     }
 
     /// Bytes came or went.
     pub(crate) fn moved(&mut self) {
         self.quiet = 0;
+    }
+
+    /// Whether to read from the side, after a moment at most. Where a read found nothing, the next looks pass the
+    /// side over until the system tells of something; but not for long, since nobody waits for what it tells while
+    /// the other side never rests.
+    pub(crate) fn is_due(&mut self, side: Side) -> io::Result<bool> {
+        let due_in = self.due_in(side);
+        if *due_in > 0 {
+            *due_in = due_in.saturating_sub(1);
+            self.found_nothing()?;
+        }
+        Ok(*self.due_in(side) == 0)
+    }
+
+    /// A read from the side found nothing.
+    pub(crate) fn drained(&mut self, side: Side) {
+        self.quiet = self.quiet.saturating_add(1);
+        *self.due_in(side) = AGAIN;
     }
 
     /// A look found nothing. Waits for something to read if the last looks found nothing either, and says
@@ -75,6 +109,14 @@ impl Ready {
         }
         let most = Duration::from_millis(READ_WAIT);
         waited(self.reading.poll(&mut self.events, Some(most)))?;
+        for event in self.events.iter() {
+            if event.token() == token(Side::Client) {
+                self.client = 0;
+            }
+            if event.token() == token(Side::Host) {
+                self.host = 0;
+            }
+        }
         Ok(true)
     }
 

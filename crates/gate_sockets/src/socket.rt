@@ -6,7 +6,7 @@ ghost use Rattle.gate_sockets.specs.State.{fresh, opened, closed, faulted, idled
 ghost use Rattle.gate_sockets.specs.Step.{IsStepWithin};
 
 use crate::ready::Ready;
-use gate_outside::{Failed, Polled};
+use gate_outside::{Failed, Polled, Side};
 use mio::net::TcpStream;
 use std::io;
 use std::io::{ErrorKind, Read, Write};
@@ -19,13 +19,17 @@ const TRIES: u32 = 1_000_000;
 #[derive(Clone, Copy, Debug, PartialEq, Eq)]
 pub(crate) enum Step {
     Moved(usize),
+    /// Nothing can be moved until the system tells so.
     Blocked,
+    /// It was cut short: it is worth another try.
+    Cut,
     Broken,
 }
 
 /// A connection while there is one, and its counts.
 #[derive(Drop)]
 pub(crate) struct Socket {
+    side: Side,
     stream: Option<TcpStream>,
     faults: u64,
     idle: u64,
@@ -41,10 +45,11 @@ impl Model for Socket {
 }
 
 impl Socket {
-    pub(crate) fn new() -> Socket
+    pub(crate) fn new(side: Side) -> Socket
         ensures { result ≡ fresh }
     {
         Socket {
+            side,
             stream: None,
             faults: 0,
             idle: 0,
@@ -94,7 +99,7 @@ impl Socket {
                 ready.moved();
                 Polled::Took(count)
             }
-            Step::Blocked => {
+            Step::Blocked | Step::Cut => {
                 self.rest();
                 Polled::NotYet
             }
@@ -117,25 +122,28 @@ impl Socket {
                     return Ok(count);
                 }
                 Step::Blocked if ready.blocked().is_ok() => {}
+                Step::Cut => {}
                 _ => break,
             }
         }
         Err(self.fail())
     }
 
-    /// Reads, and once more where nothing has come at first and it was worth a wait.
+    /// Reads, where that is due.
     fn look(&self, buf: &mut [u8], ready: &mut Ready) -> Step
         requires { IsTrue self.now.up }
         ensures { IsStepWithin (length buf.new) result }
     {
-        match self.read_once(buf) {
-            Step::Blocked => match ready.found_nothing() {
-                Ok(true) => self.read_once(buf),
-                Ok(false) => Step::Blocked,
-                Err(_) => Step::Broken,
-            },
-            step => step,
+        match ready.is_due(self.side) {
+            Ok(true) => {}
+            Ok(false) => return Step::Blocked,
+            Err(_) => return Step::Broken,
         }
+        let step = self.read_once(buf);
+        if step == Step::Blocked {
+            ready.drained(self.side);
+        }
+        step
     }
 
     fn read_once(&self, buf: &mut [u8]) -> Step
@@ -168,7 +176,8 @@ fn step_of(answer: io::Result<usize>, limit: usize) -> Step
     match answer {
         Ok(count) => Step::Moved(count),
         Err(e) => match e.kind() {
-            ErrorKind::WouldBlock | ErrorKind::Interrupted | ErrorKind::TimedOut => Step::Blocked,
+            ErrorKind::WouldBlock => Step::Blocked,
+            ErrorKind::Interrupted | ErrorKind::TimedOut => Step::Cut,
             _ => Step::Broken,
         },
     }

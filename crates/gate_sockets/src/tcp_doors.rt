@@ -46,8 +46,8 @@ impl<'rt, R: Net<Stream = net::TcpStream, Listener = net::TcpListener>> TcpDoors
             net,
             ready: Ready::new(net, alloc)?,
             door: None,
-            client: Socket::new(),
-            host: Socket::new(),
+            client: Socket::new(Side::Client),
+            host: Socket::new(Side::Host),
         })
     }
 
@@ -57,7 +57,7 @@ impl<'rt, R: Net<Stream = net::TcpStream, Listener = net::TcpListener>> TcpDoors
     {
         let stream = net::TcpStream::connect(self.net, addr)?;
         stream.set_nonblocking(true)?;
-        let stream = prepared(TcpStream::from_std(stream), Side::Host, &self.ready)?;
+        let stream = prepared(TcpStream::from_std(stream), Side::Host, &mut self.ready)?;
         self.host.open(stream);
         Ok(())
     }
@@ -91,7 +91,7 @@ impl<'rt, R: Net<Stream = net::TcpStream, Listener = net::TcpListener>> TcpDoors
                 _ => return Err(e),
             },
         };
-        let stream = prepared(stream, Side::Client, &self.ready)?;
+        let stream = prepared(stream, Side::Client, &mut self.ready)?;
         self.client.open(stream);
         Ok(true)
     }
@@ -112,7 +112,7 @@ impl<'rt, R: Net<Stream = net::TcpStream, Listener = net::TcpListener>> TcpDoors
 }
 
 /// A connection whose bytes go at once, and which can be waited for.
-fn prepared(mut stream: TcpStream, side: Side, ready: &Ready) -> io::Result<TcpStream> {
+fn prepared(mut stream: TcpStream, side: Side, ready: &mut Ready) -> io::Result<TcpStream> {
     stream.set_nodelay(true)?;
     ready.add(side, &mut stream)?;
     Ok(stream)

@@ -1,6 +1,6 @@
 //! The doors against themselves, on loopback.
 
-ghost use Rattle.std.specs.Prelude.{◌≡◌, ◌<◌, true, length};
+ghost use Rattle.std.specs.Prelude.{◌≡◌, true};
 ghost use Rattle.gate_sockets.specs.State.{link_of};
 
 use crate::TcpDoors;
@@ -8,31 +8,33 @@ use gate_outside::{Doors, Failed, Polled, Side};
 use std::net;
 use std::net::Net;
 use std::test::Fail;
+use usb_base::{Bytes, Memory};
 
 const HERE: &str = "127.0.0.1:33240";
 
 const LOOKS: u32 = 1_000_000;
 
-// What a poll gives, once something comes.
-fn poll_soon<R: Net<Stream = net::TcpStream, Listener = net::TcpListener>>(
+// What the side's peer sends, to its end.
+fn poll_to_end<R: Net<Stream = net::TcpStream, Listener = net::TcpListener>>(
     doors: &mut TcpDoors<'_, R>,
     side: Side,
-    buf: &mut [u8],
-) -> Polled
+    came: &mut Bytes,
+) -> Result<Polled, Memory>
     requires up { (link_of doors.old side).up ≡ true }
-    requires room { 0 < length buf.old }
 {
+    let mut buf = [0; 8];
     for _ in 0..LOOKS {
-        let polled = doors.poll(side, buf);
-        if polled != Polled::NotYet {
-            return polled;
+        match doors.poll(side, &mut buf) {
+            Polled::Took(n) => came.append(&buf[..n])?,
+            Polled::NotYet => {}
+            last => return Ok(last),
         }
     }
-    Polled::NotYet
+    Ok(Polled::NotYet)
 }
 
 #[test]
-fn three_bytes_go_from_the_host_to_the_client(rt: HostRuntime) -> Result<(), Fail> {
+fn three_bytes_and_the_end_go_from_the_host_to_the_client(rt: HostRuntime) -> Result<(), Fail> {
     let mut doors = TcpDoors::new(&rt, rt.alloc())?;
     assert_eq!(rt; doors.dial("nowhere without a port"), Err(Failed));
     assert_eq!(rt; doors.listen(HERE), Ok(()));
@@ -40,12 +42,10 @@ fn three_bytes_go_from_the_host_to_the_client(rt: HostRuntime) -> Result<(), Fai
     let came = doors.accept()? || doors.accept()?;
     assert!(rt; came);
     assert_eq!(rt; doors.write(Side::Host, b"abc"), Ok(3));
-    let mut buf = [0; 8];
-    assert_eq!(rt;
-        poll_soon(&mut doors, Side::Client, &mut buf),
-        Polled::Took(3)
-    );
-    assert_eq!(rt; &buf[..3], b"abc".as_slice());
     doors.close(Side::Host);
+    let mut came = Bytes::new(rt.alloc());
+    let last = poll_to_end(&mut doors, Side::Client, &mut came)?;
+    assert_eq!(rt; came.as_slice(), b"abc".as_slice());
+    assert_eq!(rt; last, Polled::Ended);
     Ok(())
 }

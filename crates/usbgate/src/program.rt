@@ -41,7 +41,8 @@ const CHUNK: usize = 65_536;
 
 /// Does what the words say: `replay` puts the tape to a gate, and prints what that sends and which sides it
 /// refuses; `show` prints the packets of one side's stream in it; `serve` puts what comes by the doors to a gate, and
-/// prints which sides it refuses; `host` lends a modelled device to a guest that comes by the doors. Words that are no command print how they should be.
+/// prints which sides it refuses; `host` lends a modelled device to a guest that comes by the doors. Words that are no
+/// command print how they should be.
 pub fn run<S: Source, K: Sink, D: Doors>(
     alloc: Global,
     words: &[&str],

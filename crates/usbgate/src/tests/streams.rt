@@ -327,6 +327,7 @@ fn a_stopped_stream_means_nothing_to_the_next_client(rt: HostRuntime) -> Result<
                     ("h PKT8 11*8", ""),
                     ("c IMP", "C 0111000300000001"),
                     ("h 11000000 02000000 0200000000000000 0082", ""),
+                    ("c IMP", "C 0111000300000000 DEV 0100000000000101"),
                 ],
                 [0, 0, 0, 1],
             ),
