@@ -87,7 +87,7 @@ impl<F: PacketFormat> Stream<F> {
         &self.state
     }
 
-    /// Puts a piece behind the bytes that are kept, and moves those to the front. A stream that is over stays
+    /// Puts a piece behind the bytes that are kept, which are at the front or moved there. A stream that is over stays
     /// as it is. For want of memory the piece hasn't come.
     pub fn put(&mut self, piece: &[u8]) -> Result<(), Memory>
         ensures ok { OnOk result (self.new ≡ after_piece self.old piece.now) }
@@ -97,7 +97,7 @@ impl<F: PacketFormat> Stream<F> {
         if self.over {
             return Ok(());
         }
-        self.bytes.skip(self.next.index);
+        drop_front(&mut self.bytes, self.next.index);
         self.next.index = 0;
         self.given = self.next;
         self.bytes.append(piece)
@@ -154,5 +154,16 @@ impl<F: PacketFormat> Stream<F> {
         self.given.index = 0;
         self.next.index = 0;
         self.over = true;
+    }
+}
+
+/// Drops the first `count` bytes. Where there are none, those behind them stay where they are: a long packet that comes in
+/// many pieces is not moved with each.
+fn drop_front(bytes: &mut Bytes, count: usize)
+    requires { count ≤ length bytes.old }
+    ensures { bytes.new ≡ drop count bytes.old }
+{
+    if count > 0 {
+        bytes.skip(count);
     }
 }

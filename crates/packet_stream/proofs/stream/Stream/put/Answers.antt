@@ -12,7 +12,7 @@ returns-then-self-clause-follows g c start bytes given f =
 
 pub returns-clause-follows : goal.returns-clause-follows
 returns-clause-follows g c = on_ok_weaker c.append.result (λ appended start bytes given f.
-    let rest = appended ∙ ap (λ (l : List ℕ). l ++ c.args.piece.now) c.skip.ensures in
+    let rest = appended ∙ ap (λ (l : List ℕ). l ++ c.args.piece.now) c.drop_front.ensures in
     follows-put (reads g.F.PacketFormat.format g.F.PacketFormat.after) (reads_steady g.F.PacketFormat.format g.F.PacketFormat.after g.met.F.PacketFormat.sound) start c.args.self.now _ bytes c.args.piece.now given (λ i. omega (arith, c.type_inv.piece i))
     (after-going _ c.args.self.now _ c.args.piece.now c.self.view_is c.if-self.false
     (λ t. record { state = c.self.inside.state; rest = rest t; place = c.self.inside.next.place; held = rest t; at = c.self.inside.next.place; over = c.self.inside.over })) f) c.append.ensures.ok
