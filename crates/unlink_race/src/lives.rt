@@ -243,7 +243,8 @@ impl Lives {
 
     /// Takes out the last that was taken in.
     pub fn take_last(&mut self) -> Option<Live>
-        ensures { self.new ≡ record self.old { live = take (length self.old.live - 1) self.old.live } }
+        ensures found { result ≡ slice_get self.old.live (length self.old.live - 1) }
+        ensures rest { self.new ≡ record self.old { live = take (length self.old.live - 1) self.old.live } }
     {
         if self.client_gone || self.table.len() == 0 {
             return None;
