@@ -1,8 +1,8 @@
 -- A configuration without a wrong descriptor is its descriptors one behind another.
-use Rattle.std.proofs.Common.{◌≡◌, ℕ, zero, suc, ◌+◌, ◌<◌, ◌≤◌, nat_le, Bool, true, false, cond, List, [], ◌∷◌, ◌++◌, length, take, drop, Option, Some, None, refl, sym, ap, ◌∙◌, arith, length-drop, take-append-drop}
-use Rattle.std.proofs.lemmas.Bool.{leb-true, and_parts}
+use Rattle.std.proofs.Common.{◌≡◌, ℕ, zero, suc, ◌+◌, ◌≤◌, Bool, true, false, cond, List, [], ◌∷◌, ◌++◌, length, take, drop, Option, Some, None, refl, sym, ap, ◌∙◌, arith, length-drop, take-append-drop}
+use Rattle.std.proofs.lemmas.Bool.{and_parts}
 use Rattle.usb_base.specs.Number.{byte_at}
-use Rattle.chapter9.specs.Descriptors.{AreJoined, Descriptor, descriptors, first_wrong, is_configuration, is_right, is_whole, joined, later, own_bytes, wrong_place}
+use Rattle.chapter9.specs.Descriptors.{AreJoined, Descriptor, descriptors, first_wrong, is_configuration, is_right, is_whole, joined, later, own_bytes}
 use Rattle.chapter9.proofs.Walks.{at_least_two}
 
 passed : (t : Bool) (place : ℕ) (rest : Option ℕ) → cond t rest (Some place) ≡ None → (t ≡ true) × (rest ≡ None)

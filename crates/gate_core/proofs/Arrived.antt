@@ -1,29 +1,28 @@
 -- What a packet of a stream makes of what is kept.
-use Rattle.std.proofs.Common.{◌≡◌, ◌≤◌, ◌<◌, ◌%◌, ◌-◌, ◌^◌, ◌==◌, ◌&&◌, ℕ, Bool, true, false, cond, not, List, [], ◌∷◌, ◌++◌, length, map, get_or, Option, Some, None, Result, Ok, Err, OnOk, OnErr, refl, sym, ap, ◌∙◌, subst, inl, inr, arith}
+use Rattle.std.proofs.Common.{◌≡◌, ◌≤◌, ◌%◌, ◌-◌, ◌==◌, ℕ, Bool, true, false, cond, List, [], ◌∷◌, ◌++◌, length, map, Option, Some, None, Result, Ok, Err, OnOk, OnErr, refl, sym, ap, ◌∙◌, subst, inl, inr, arith}
 use Rattle.std.specs.Prelude.{nat_lt, filter, slice_set}
 use Rattle.std.specs.Option.{option_map}
 use Rattle.std.proofs.lemmas.Bool.{lt-ltb, ltb-true, cases_Bool}
 use Rattle.std.proofs.lemmas.List.{append-nil}
 use Rattle.usb_base.specs.Endpoint.{IsEndpoint, endpoint_index}
 use Rattle.usb_base.specs.declared.transfer.StreamPacket.{StreamPacket}
-use Rattle.unlink_race.specs.declared.live.Live.{Live}
 use Rattle.gate_core.specs.declared.note.Note.{Note}
 use Rattle.gate_core.specs.declared.note.Note.TheVariants as note
 use Rattle.gate_core.specs.declared.kept.Kept.{Kept}
 use Rattle.gate_core.specs.Requests.{Request}
-use Rattle.gate_core.specs.Fillings.{Filling, Fill, none_filled, fill}
+use Rattle.gate_core.specs.Fillings.{Fill, none_filled, fill}
 use Rattle.gate_core.specs.Marks.{Submission, Effect, Arrives}
 use Rattle.gate_core.specs.Submits.{Pending, ByPackets, waits_at, packets_end, own_end}
 use Rattle.gate_core.specs.Ups.{Up, stream_at, stream_of, hold}
-use Rattle.gate_core.specs.State.{State, submits, is_number}
+use Rattle.gate_core.specs.State.{State, is_number}
 use Rattle.gate_core.specs.Sound.{IsSound}
 use Rattle.gate_core.specs.Meaning.{mark_as, arrives, waiting, is_held}
 use Rattle.gate_core.specs.Output.{present}
 use Rattle.gate_core.specs.inner.Rows.{row}
-use Rattle.gate_core.specs.inner.Filling.{up_fill, up_bytes, filled_notes, with_packet, received_bytes, received_notes, HasEnded, Stays, HasReceivedIf, HasReceived}
+use Rattle.gate_core.specs.inner.Filling.{up_fill, up_bytes, filled_notes, with_packet, received_bytes, received_notes, HasEnded, HasReceivedIf, HasReceived}
 use Rattle.gate_core.specs.inner.Holds.{IsKept, Holds, Does}
 use Rattle.gate_core.proofs.Lists.{Each, every, filter-map, map-map}
-use Rattle.gate_core.proofs.Waiting.{IsGoing, all-going, each-mapped}
+use Rattle.gate_core.proofs.Waiting.{IsGoing, all-going}
 use Rattle.gate_core.proofs.Steady.{IsSteady, does-steady, rows-same, host-same, stays-uncancelled}
 use Rattle.gate_core.proofs.Filled.{Differ, number, requests, waiters, fillings, FillsAll, fills-all}
 use Rattle.gate_core.proofs.Fillers.{IsFiller, does-fill-up}

@@ -1,11 +1,10 @@
 -- What the packets of a stream fill, of the live submits and of their rows alike: which end, with which answers.
-use Rattle.std.proofs.Common.{◌≡◌, ◌≤◌, ◌+◌, ◌-◌, ◌^◌, ℕ, zero, suc, ◌==◌, Bool, true, false, cond, not, List, [], ◌∷◌, ◌++◌, length, map, Option, Some, None, refl, sym, ap, ◌∙◌, subst, arith}
+use Rattle.std.proofs.Common.{◌≡◌, ◌≤◌, ◌+◌, ◌-◌, ◌^◌, ℕ, zero, suc, ◌==◌, Bool, true, false, cond, List, [], ◌∷◌, ◌++◌, length, map, Option, Some, None, refl, sym, ap, ◌∙◌, subst, arith}
 use Rattle.std.specs.Prelude.{filter, is_none}
 use Rattle.std.specs.List.{flat_map}
 use Rattle.std.specs.Option.{option_map}
 use Rattle.usb_base.specs.declared.transfer.StreamPacket.{StreamPacket}
 use Rattle.usbip_urb.specs.declared.packet.UrbPacket.{UrbPacket}
-use Rattle.usbip_urb.specs.declared.client.ClientPacket.{ClientPacket}
 use Rattle.usbip_urb.specs.declared.client.ClientPacket.TheVariants.{Urb}
 use Rattle.usbip_urb.specs.ClientPackets.{client_spelling}
 use Rattle.stream_buffers.specs.Cuts.{Cut}
@@ -16,7 +15,6 @@ use Rattle.gate_core.specs.declared.note.Note.{Note}
 use Rattle.gate_core.specs.declared.note.Note.TheVariants as note
 use Rattle.gate_core.specs.Requests.{Request}
 use Rattle.gate_core.specs.Fillings.{Given, Transferred, Isochronous, Filling, Fill, cut_of, filled_by, fill, given_to}
-use Rattle.gate_core.specs.Marks.{Submission}
 use Rattle.gate_core.specs.Submits.{Pending, End, ByPackets, waits_at, packets_end}
 use Rattle.gate_core.specs.Answers.{answers_at, with_given}
 use Rattle.gate_core.specs.Notes.{is_by_answer, is_by_client}

@@ -1,5 +1,5 @@
 -- Items by which the packets of a stream may fill requests: what they make of what is kept, and what they send and tell.
-use Rattle.std.proofs.Common.{◌≡◌, ℕ, ◌+◌, ◌^◌, ◌-◌, ◌≤◌, ◌&&◌, ◌||◌, Bool, true, false, cond, not, List, [], ◌∷◌, ◌++◌, length, map, Option, Some, None, refl, sym, ap, ◌∙◌, arith}
+use Rattle.std.proofs.Common.{◌≡◌, ℕ, ◌+◌, ◌^◌, ◌-◌, ◌≤◌, ◌&&◌, ◌||◌, Bool, true, false, cond, not, List, [], ◌++◌, length, map, Option, Some, None, sym, ap, ◌∙◌}
 use Rattle.std.specs.Prelude.{is_none, unwrap_or, filter, zip, slice_set}
 use Rattle.std.specs.Option.{option_map}
 use Rattle.usb_base.specs.Endpoint.{endpoint_index}
@@ -30,7 +30,7 @@ use Rattle.gate_core.specs.State.{State, submits}
 use Rattle.gate_core.specs.Verdict.{goes_by_id}
 use Rattle.gate_core.specs.Meaning.{mark_as, drawn_by}
 use Rattle.gate_core.specs.Answers.{answers_at}
-use Rattle.gate_core.specs.Output.{present, answered, replies, cancels, cancel, acknowledgements, to_client}
+use Rattle.gate_core.specs.Output.{present, answered, replies, cancels, acknowledgements, to_client}
 use Rattle.gate_core.specs.Notes.{when, import_notes, submit_notes, unlink_notes, arrival_notes, answer_notes, is_by_answer, refusal_notes, is_by_client, dropped}
 use Rattle.gate_core.specs.All.{is_ret_submit, is_won_unlink}
 use Rattle.gate_core.specs.Bytes.{host_packet_bytes}
@@ -38,7 +38,7 @@ use Rattle.gate_core.specs.Machine.{ask}
 use Rattle.gate_core.specs.inner.Rows.{row, unmarked, left_row}
 use Rattle.gate_core.specs.inner.Filling.{rows_fill, filled_bytes, filled_notes, waiting_rows, without_firsts, up_fill, up_bytes, HasEnded}
 use Rattle.gate_core.specs.inner.Holds.{Holds, Does}
-use Rattle.gate_core.proofs.Lists.{Each, every, filter-same, filter-all, flat_map-same}
+use Rattle.gate_core.proofs.Lists.{every, filter-same, filter-all, flat_map-same}
 use Rattle.gate_core.proofs.Lost.{capped-same}
 use Rattle.gate_core.proofs.Steady.{asks-none, none-cancelled}
 use Rattle.gate_core.proofs.Filled.{requests, waiters, fillings, FillsAll}

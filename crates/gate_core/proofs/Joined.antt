@@ -1,6 +1,6 @@
 -- What a request that waits for a stream's packets makes of what is kept, whether its stream is up or is started for it.
-use Rattle.std.proofs.Common.{◌≡◌, ◌≤◌, ◌+◌, ◌-◌, ◌^◌, ◌==◌, ℕ, zero, suc, Bool, true, false, cond, List, [], ◌∷◌, ◌++◌, length, map, get_or, set, Option, Some, None, refl, sym, ap, ◌∙◌, subst, arith}
-use Rattle.std.specs.Prelude.{filter, slice_set, zip, ◌||◌}
+use Rattle.std.proofs.Common.{◌≡◌, ◌+◌, ◌-◌, ◌==◌, ℕ, zero, suc, Bool, true, false, cond, List, [], ◌∷◌, ◌++◌, length, map, get_or, set, Option, Some, None, refl, sym, ap, ◌∙◌, subst, arith}
+use Rattle.std.specs.Prelude.{slice_set, zip, ◌||◌}
 use Rattle.std.specs.List.{flat_map, list_any}
 use Rattle.std.specs.Option.{option_map}
 use Rattle.std.proofs.lemmas.List.{append-nil, map-append}
@@ -18,20 +18,20 @@ use Rattle.gate_core.specs.declared.kept.Kept.{Kept}
 use Rattle.gate_core.specs.Items.{capped}
 use Rattle.gate_core.specs.Requests.{Request}
 use Rattle.gate_core.specs.Verdict.{Verdict, Stream}
-use Rattle.gate_core.specs.Fillings.{Filling, Fill, none_filled, filled_by, fill}
+use Rattle.gate_core.specs.Fillings.{Fill, none_filled, filled_by, fill}
 use Rattle.gate_core.specs.Marks.{Submission, Effect, Waits}
 use Rattle.gate_core.specs.Submits.{Pending, waits_at, packets_end}
-use Rattle.gate_core.specs.Ups.{Up, stream_at, held_of, hold, raise, raised, moved_streams}
-use Rattle.gate_core.specs.Packets.{starts, asked_packets}
+use Rattle.gate_core.specs.Ups.{Up, stream_at, held_of, hold, raise, raised}
+use Rattle.gate_core.specs.Packets.{starts}
 use Rattle.gate_core.specs.Calls.{Calls, called}
 use Rattle.gate_core.specs.Ids.{last_of}
-use Rattle.gate_core.specs.State.{State, submits, next_ids}
+use Rattle.gate_core.specs.State.{State, next_ids}
 use Rattle.gate_core.specs.Sound.{IsSound}
-use Rattle.gate_core.specs.Meaning.{mark_as, drawn_by, drawn_for, waiting, submission, by_stream, accepted_as, accepts}
+use Rattle.gate_core.specs.Meaning.{mark_as, drawn_for, waiting, submission, by_stream, accepted_as, accepts}
 use Rattle.gate_core.specs.Output.{fresh, present}
 use Rattle.gate_core.specs.Bytes.{host_packet_bytes}
 use Rattle.gate_core.specs.inner.Rows.{row}
-use Rattle.gate_core.specs.inner.Filling.{rows_fill, filled_bytes, filled_notes, waiting_rows, without_firsts, up_fill, up_bytes, joining_row, with_row, HasEnded, HasJoined}
+use Rattle.gate_core.specs.inner.Filling.{filled_notes, waiting_rows, without_firsts, up_fill, up_bytes, joining_row, with_row, HasJoined}
 use Rattle.gate_core.specs.inner.Holds.{IsKept, Holds, Does, row_for}
 use Rattle.gate_core.proofs.Lists.{Each, Each-append}
 use Rattle.gate_core.proofs.Waiting.{IsGoing, all-going}

@@ -1,6 +1,6 @@
 -- The places of a list that are set, and the streams in them.
-use Rattle.std.proofs.Common.{◌≡◌, ℕ, zero, suc, ◌+◌, ◌<◌, ◌≤◌, List, [], ◌∷◌, ◌++◌, length, map, replicate, get_or, set, Option, Some, None, refl, ap, ◌∙◌, arith}
-use Rattle.gate_core.specs.Ups.{Up, unless, is_ended, lower, no_streams}
+use Rattle.std.proofs.Common.{◌≡◌, ℕ, zero, suc, ◌+◌, List, [], ◌∷◌, ◌++◌, length, replicate, get_or, set, Option, Some, None, refl, ap, ◌∙◌, arith}
+use Rattle.gate_core.specs.Ups.{Up, is_ended, lower, no_streams}
 
 -- ---- one place
 

@@ -1,6 +1,6 @@
 -- The loop that answers the requests which a stream's packets fill: what is so far, and one row more.
 use Rattle.std.proofs.Common.{◌≡◌, ◌≤◌, ◌+◌, ℕ, zero, suc, Bool, true, false, cond, List, [], ◌∷◌, ◌++◌, length, map, drop, Option, Some, None, refl, sym, ap, ◌∙◌, subst, append_assoc, arith}
-use Rattle.std.specs.Prelude.{filter, slice_get}
+use Rattle.std.specs.Prelude.{slice_get}
 use Rattle.std.specs.Option.{option_map}
 use Rattle.std.proofs.lemmas.List.{append-nil, drop-drop, length-drop}
 use Rattle.std.proofs.lemmas.Option.{none-some, same_Some}
@@ -24,7 +24,7 @@ use Rattle.gate_core.specs.declared.fill.Filled.{Filled}
 use Rattle.gate_core.specs.Answers.{with_given}
 use Rattle.gate_core.specs.Requests.{Request}
 use Rattle.gate_core.specs.Verdict.{none_of}
-use Rattle.gate_core.specs.Fillings.{Given, Transferred, Isochronous, Filling, Fill, cut_as, cut_of, none_filled, filled_by, fill}
+use Rattle.gate_core.specs.Fillings.{Given, Transferred, Isochronous, Fill, cut_as, cut_of, none_filled, filled_by, fill}
 use Rattle.gate_core.specs.inner.Rows.{row_request}
 use Rattle.gate_core.specs.inner.Filling.{row_cut, cut_bytes, HasTaken, rows_fill, bytes_by, filled_bytes, filled_notes, waiting_rows}
 use Rattle.gate_core.specs.inner.Holds.{Extends}

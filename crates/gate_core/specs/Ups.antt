@@ -1,6 +1,6 @@
 -- The streams of a device's endpoints that are up, by the endpoints' places in its table. A stream keeps the row that its
 -- endpoint had when it went up, and holds packets.
-use Rattle.std.specs.Prelude.{ℕ, ◌%◌, nat_lt, Bool, true, false, if◌then◌else◌, List, [], ◌∷◌, ◌||◌, map, replicate, get_or, slice_set, Option, Some, None}
+use Rattle.std.specs.Prelude.{ℕ, ◌%◌, nat_lt, Bool, true, if◌then◌else◌, List, [], ◌∷◌, ◌||◌, map, replicate, get_or, slice_set, Option, Some, None}
 use Rattle.std.specs.Option.{option_map}
 use Rattle.usb_base.specs.declared.endpoint.EpRow.{EpRow}
 use Rattle.usb_base.specs.declared.transfer.StreamPacket.{StreamPacket}
@@ -9,7 +9,6 @@ use Rattle.usb_base.specs.Endpoint.{endpoint_index}
 use Rattle.control_route.specs.declared.route.Route.{Route}
 use Rattle.control_route.specs.Changes.{touches}
 use Rattle.gate_core.specs.Verdict.{Verdict, Now, Wire, Routed, IsoOut, Stream}
-use Rattle.gate_core.specs.Fillings.{Fill}
 use Rattle.gate_core.specs.Marks.{Effect, Opens, Waits, Arrives, StreamTold, Mark}
 use Rattle.gate_core.specs.Sides.{leaves, is_loss}
 

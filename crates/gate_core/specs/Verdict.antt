@@ -1,5 +1,5 @@
 -- What is made of a submit: the first of these rules that applies. It takes what it needs to know as plain arguments,
--- so that a device that is attached directly shares it.
+-- and is read without the rest of the gate.
 use Rattle.std.specs.Prelude.{ℕ, ◌==◌, ◌&&◌, nat_lt, nat_le, not, Bool, true, false, if◌then◌else◌, List, [], ◌∷◌, Option, Some, None, ℤ, pos}
 use Rattle.usb_base.specs.declared.setup.Setup.{Setup}
 use Rattle.usb_base.specs.declared.endpoint.EpKind.{EpKind}

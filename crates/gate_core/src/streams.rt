@@ -240,7 +240,8 @@ impl Streams {
 
     /// Those that end with a route go down, or all where there is none.
     pub fn lower(&mut self, by: Option<Route>)
-        ensures { self.new ≡ lower (is_ended by) self.old }
+        ensures lowered { self.new ≡ lower (is_ended by) self.old }
+        ensures count { length self.old ≡ 32 }
     {
         for place in 0..self.ups.len() {
             let up = self.ups[place].take();
@@ -252,7 +253,6 @@ impl Streams {
     pub fn clear(&mut self)
         ensures { self.new ≡ no_streams }
     {
-        let _ = &self.ups;
         self.lower(None);
     }
 

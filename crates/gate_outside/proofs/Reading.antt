@@ -1,12 +1,12 @@
 -- What the turns are from the front on.
-use Rattle.std.proofs.Common.{◌≡◌, ℕ, ◌+◌, ◌<◌, ◌≤◌, List, [], ◌∷◌, length, take, drop, refl, sym, ap, ◌∙◌, subst, arith, add-one, get_or, min}
+use Rattle.std.proofs.Common.{◌≡◌, ℕ, ◌+◌, ◌<◌, List, [], ◌∷◌, length, drop, refl, arith, add-one, get_or}
 use Rattle.std.proofs.Math.Seq.{drop-cons}
 use Rattle.std.proofs.lemmas.List.{length-drop}
 use Rattle.gate_outside.specs.declared.turn.Turn.{Turn}
 use Rattle.gate_outside.specs.declared.turn.Turn.TheVariants.{Piece, Wait, Fail}
 use Rattle.gate_outside.specs.Turns.{pending, answer}
 use Rattle.gate_outside.specs.Doors.{first, TookWithin}
-use Rattle.gate_outside.specs.Reading.{Reading, cut, left, current}
+use Rattle.gate_outside.specs.Reading.{Reading, cut, current}
 
 -- a piece of which something is left is pending
 pub pending-piece : (piece : List ℕ) (turns : List Turn) → 0 < length piece → pending (Piece piece ∷ turns) ≡ Piece piece ∷ turns

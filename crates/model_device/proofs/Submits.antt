@@ -1,14 +1,11 @@
 -- What a request asks is a transfer.
-use Rattle.std.proofs.Common.{◌≡◌, ◌≢◌, ℕ, ◌+◌, ◌%◌, ◌<◌, ◌≤◌, Bool, true, false, cond, List, [], ◌∷◌, length, Option, Some, None, refl, sym, ap, ◌∙◌, subst, arith, inl, inr}
-use Rattle.std.specs.Prelude.{◌==◌, not, nat_lt}
+use Rattle.std.proofs.Common.{◌≡◌, ◌≢◌, ℕ, ◌+◌, ◌%◌, ◌<◌, Bool, true, false, cond, List, [], ◌∷◌, length, Some, None, refl, sym, ap, ◌∙◌, arith, inl, inr}
+use Rattle.std.specs.Prelude.{◌==◌, not}
 use Rattle.std.proofs.lemmas.Bool.{cases_eq, cond_both, ne_eqb, lt-ltb, le-ltb, eqb-true, eqb-false, false≢true}
-use Rattle.usb_base.specs.Endpoint.{IsEndpoint, is_in_endpoint}
 use Rattle.usb_base.specs.declared.setup.Setup.{Setup}
-use Rattle.usb_base.specs.declared.transfer.Transfer.{Transfer}
-use Rattle.control_route.specs.declared.route.Route.{Route}
 use Rattle.control_route.specs.declared.route.Route.TheVariants.{Local, SetConfig, GetConfig, SetAlt, GetAlt, Reset, Plain, Bad}
-use Rattle.model_device.specs.Transfer.{IsTransfer, is_control, is_in_setup}
-use Rattle.model_device.specs.Submit.{AsksTransfer, IsAsked, control_transfer, data_transfer, normal, normal_by, setup_of}
+use Rattle.model_device.specs.Transfer.{IsTransfer, is_in_setup}
+use Rattle.model_device.specs.Submit.{AsksTransfer, IsAsked, control_transfer, data_transfer, normal_by}
 
 -- endpoint 0 by its setup's direction
 control_by : (b : Bool) (r : Setup) (wanted : ℕ) (body : List ℕ) → is_in_setup r ≡ b → (b ≡ true → body ≡ []) → (b ≡ false → wanted ≡ length body) → IsTransfer (record { ep = cond b 128 0; setup = Some r; wanted = wanted; body = body })

@@ -1,5 +1,5 @@
 -- What holds of every device.
-use Rattle.std.specs.Prelude.{◌≡◌, ◌≢◌, ℕ, ◌<◌, ◌≤◌, ◌==◌, ◌&&◌, min, Bool, true, false, List, [], ◌∷◌, length, take, get_or, Option, Some, None, IsSome, IfSome}
+use Rattle.std.specs.Prelude.{◌≡◌, ◌≢◌, ℕ, ◌<◌, ◌≤◌, ◌==◌, ◌&&◌, min, Bool, true, false, [], ◌∷◌, length, take, get_or, Some, IsSome, IfSome}
 use Rattle.usb_base.specs.Endpoint.{no_endpoint}
 use Rattle.usb_base.specs.declared.endpoint.EpKind.TheVariants.{Iso}
 use Rattle.usb_base.specs.declared.setup.Setup.{Setup}

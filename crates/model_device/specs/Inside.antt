@@ -1,5 +1,5 @@
 -- The device as the code keeps it.
-use Rattle.std.specs.Prelude.{◌≡◌, ℕ, List}
+use Rattle.std.specs.Prelude.{◌≡◌}
 use Rattle.chapter9.specs.declared.standard_requests.DescriptorSet.{DescriptorSet}
 use Rattle.chapter9.specs.Descriptors.{parts_of}
 use Rattle.model_device.specs.declared.device.Device.{Device}

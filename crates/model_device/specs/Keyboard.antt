@@ -1,9 +1,7 @@
 -- The keyboard: an interrupt IN endpoint, on which each offer is a boot keyboard's report (device class definition for
 -- human interface devices 1.11, appendix B.1) of one key, the keys in turn from A.
-use Rattle.std.specs.Prelude.{ℕ, ◌+◌, ◌%◌, ◌==◌, List, [], ◌∷◌, ◌++◌, replicate, codes, Option, Some, None, if◌then◌else◌}
+use Rattle.std.specs.Prelude.{ℕ, ◌+◌, ◌%◌, ◌==◌, List, [], ◌∷◌, Some, None, if◌then◌else◌}
 use Rattle.usb_base.specs.declared.status.UsbStatus.TheVariants.{Success}
-use Rattle.usb_base.specs.declared.transfer.StreamPacket.{StreamPacket}
-use Rattle.redir_wire.specs.declared.packet.Connect.{Connect}
 use Rattle.chapter9.specs.declared.standard_requests.DescriptorSet.{DescriptorSet}
 use Rattle.chapter9.specs.Standard.{stall}
 use Rattle.model_device.specs.Device.{Device}

@@ -1,8 +1,6 @@
 -- The tone: an isochronous IN endpoint in alternate setting 1, on which each offer is a packet of one byte repeated.
-use Rattle.std.specs.Prelude.{ℕ, ◌+◌, ◌%◌, ◌==◌, List, [], ◌∷◌, replicate, Option, Some, None, if◌then◌else◌}
+use Rattle.std.specs.Prelude.{ℕ, ◌+◌, ◌%◌, ◌==◌, List, [], ◌∷◌, replicate, Some, None, if◌then◌else◌}
 use Rattle.usb_base.specs.declared.status.UsbStatus.TheVariants.{Success}
-use Rattle.usb_base.specs.declared.transfer.StreamPacket.{StreamPacket}
-use Rattle.redir_wire.specs.declared.packet.Connect.{Connect}
 use Rattle.chapter9.specs.declared.standard_requests.DescriptorSet.{DescriptorSet}
 use Rattle.chapter9.specs.Standard.{stall}
 use Rattle.model_device.specs.Device.{Device}

@@ -10,7 +10,7 @@ use crate::gadget::Gadget;
 use redir_wire::{Connect, InterfaceInfo};
 use std::alloc::Global;
 use std::marker::Model;
-use usb_base::{Bytes, EpAddr, EpTable, Memory, Outcome, StreamPacket, Transfer, UsbStatus};
+use usb_base::{Bytes, EpAddr, EpTable, Memory, Outcome, Speed, StreamPacket, Transfer, UsbStatus};
 
 /// The device descriptor (USB 2.0, table 9-8).
 const DEVICE: [u8; 18] = [
@@ -81,7 +81,7 @@ impl Gadget for Keyboard {
 
     fn identity(&self) -> Connect {
         Connect {
-            speed: 1,
+            speed: Speed::Full.to_redir(),
             class: 0,
             subclass: 0,
             protocol: 0,

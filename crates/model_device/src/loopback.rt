@@ -11,7 +11,7 @@ use crate::gadget::Gadget;
 use redir_wire::{Connect, InterfaceInfo};
 use std::alloc::Global;
 use std::marker::Model;
-use usb_base::{Bytes, EpAddr, EpTable, Memory, Outcome, StreamPacket, Transfer, UsbStatus};
+use usb_base::{Bytes, EpAddr, EpTable, Memory, Outcome, Speed, StreamPacket, Transfer, UsbStatus};
 
 /// The device descriptor (USB 2.0, table 9-8).
 const DEVICE: [u8; 18] = [
@@ -76,7 +76,7 @@ impl Gadget for Loopback {
 
     fn identity(&self) -> Connect {
         Connect {
-            speed: 2,
+            speed: Speed::High.to_redir(),
             class: 0,
             subclass: 0,
             protocol: 0,

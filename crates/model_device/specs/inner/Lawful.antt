@@ -1,6 +1,6 @@
 -- Every device that answers endpoint 0 by its descriptors is one, if its own answers are.
-use Rattle.std.proofs.Common.{◌≡◌, ◌≢◌, ℕ, ◌+◌, ◌<◌, ◌≤◌, Bool, true, false, cond, List, [], ◌∷◌, length, take, min, Option, Some, None, refl, sym, ap, ◌∙◌, subst, arith, inl, inr}
-use Rattle.std.specs.Prelude.{◌==◌, ◌&&◌, not, is_some, IsSome, IfSome}
+use Rattle.std.proofs.Common.{◌≡◌, ◌≢◌, ℕ, ◌≤◌, Bool, true, false, cond, List, [], ◌∷◌, length, take, min, Option, Some, None, refl, sym, ap, ◌∙◌, arith}
+use Rattle.std.specs.Prelude.{◌&&◌, is_some, IsSome, IfSome}
 use Rattle.std.proofs.lemmas.Bool.{and_right, false≢true, cond_both}
 use Rattle.std.proofs.lemmas.List.{length-take}
 use Rattle.usb_base.specs.Endpoint.{is_in_endpoint}
@@ -15,17 +15,15 @@ use Rattle.chapter9.specs.declared.part.Part.{Part}
 use Rattle.chapter9.specs.declared.state.DevState.{DevState}
 use Rattle.chapter9.specs.declared.table.InterfaceClass.{InterfaceClass}
 use Rattle.chapter9.specs.declared.standard_requests.DescriptorSet.{DescriptorSet}
-use Rattle.chapter9.specs.declared.requests.ControlRead.{ControlRead}
-use Rattle.chapter9.specs.declared.requests.ControlWrite.{ControlWrite}
 use Rattle.chapter9.specs.declared.requests.Request.{Request}
 use Rattle.chapter9.specs.declared.requests.Request.TheVariants.{Read, Write}
 use Rattle.chapter9.specs.Requests.{request_of}
 use Rattle.chapter9.specs.State.{is_configured}
 use Rattle.chapter9.specs.Table.{class_of, table_of}
-use Rattle.chapter9.specs.Standard.{changed_by, given_by, outcome_by, outcome_of, outcome_with, read_outcome, stall, state_after, state_by, state_or, state_with, success, write_outcome}
-use Rattle.model_device.specs.Transfer.{IsTransfer, IsOutcome, asks_change, is_control, is_in_setup, setup_changes}
+use Rattle.chapter9.specs.Standard.{changed_by, given_by, outcome_by, read_outcome, stall, state_by, state_or, success, write_outcome}
+use Rattle.model_device.specs.Transfer.{IsTransfer, IsOutcome, is_in_setup, setup_changes}
 use Rattle.model_device.specs.Gadget.{IsGadget, SameFacts, is_get_configuration, is_port_reset}
-use Rattle.model_device.specs.Device.{Device, State, control, device_parts, interfaces_of, is_running, is_success, kept_after, meaning_of, offer, one_interface, perform, perform_by, with_kept}
+use Rattle.model_device.specs.Device.{Device, State, device_parts, interfaces_of, is_running, is_success, meaning_of, offer, one_interface, perform, perform_by, with_kept}
 use Rattle.model_device.specs.inner.Asked.{SameSetting, get_configuration_asked, port_reset_asked, read_from_device, setting_kept}
 use Rattle.model_device.specs.inner.Tables.{no_iso_out, table_fine}
 

@@ -1,21 +1,17 @@
 -- The keyboard, the loop and the tone are devices.
-use Rattle.std.proofs.Common.{◌≡◌, ℕ, ◌+◌, ◌<◌, ◌≤◌, Bool, true, false, cond, List, [], ◌∷◌, ◌++◌, length, take, drop, min, Option, Some, None, refl, sym, ap, ◌∙◌, subst, arith}
-use Rattle.std.specs.Prelude.{◌==◌, ◌&&◌, nat_lt, not, replicate, IfSome}
+use Rattle.std.proofs.Common.{◌≡◌, ℕ, ◌+◌, ◌≤◌, true, false, List, length, None, refl, sym, ◌∙◌, arith}
+use Rattle.std.specs.Prelude.{◌==◌, ◌&&◌, nat_lt, not, IfSome}
 use Rattle.std.proofs.lemmas.Bool.{false≢true, cond_both}
 use Rattle.std.proofs.lemmas.List.{length-take, length-replicate}
-use Rattle.usb_base.specs.Number.{le_at}
 use Rattle.usb_base.specs.Endpoint.{is_in_endpoint}
 use Rattle.usb_base.specs.declared.transfer.Transfer.{Transfer}
-use Rattle.usb_base.specs.declared.transfer.Outcome.{Outcome}
-use Rattle.usb_base.specs.declared.status.UsbStatus.TheVariants.{Success}
-use Rattle.chapter9.specs.Standard.{stall, success}
 use Rattle.model_device.specs.Transfer.{IsTransfer, IsOutcome}
 use Rattle.model_device.specs.Gadget.{IsGadget}
-use Rattle.model_device.specs.Device.{Device, State, device_parts, meaning_of}
+use Rattle.model_device.specs.Device.{device_parts, meaning_of}
 use Rattle.model_device.specs.Keyboard.{keyboard}
 use Rattle.model_device.specs.Loopback.{given_back, limit, loopback, taken_in}
 use Rattle.model_device.specs.Tone.{samples, tone}
-use Rattle.model_device.specs.inner.Lawful.{IsOwn, lawful, stall_outcome}
+use Rattle.model_device.specs.inner.Lawful.{lawful, stall_outcome}
 use Rattle.model_device.specs.inner.Tables.{no_iso_out}
 
 -- ---- no endpoint to the device is isochronous

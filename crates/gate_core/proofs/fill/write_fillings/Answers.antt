@@ -1,13 +1,11 @@
-use Rattle.std.proofs.Common.{◌≡◌, ◌++◌, ◌≤◌, ◌∷◌, [], ℕ, List, Some, true, false, drop, length, sym, ap, ◌∙◌, subst, append_assoc, arith, refl}
+use Rattle.std.proofs.Common.{◌++◌, ◌∷◌, [], Some, true, false, drop, sym, ap, ◌∙◌, subst, arith}
 use Rattle.std.specs.Option.{option_copied}
 use Rattle.std.proofs.lemmas.List.{append-nil}
-use Rattle.std.proofs.Math.Seq.{drop-length}
 use Rattle.gate_core.specs.declared.note.Note.TheVariants as note
 use Rattle.gate_core.specs.declared.fill.Filled.{Filled}
 use Rattle.gate_core.specs.Ups.{Up}
 use Rattle.gate_core.specs.inner.Rows.{IsFine}
-use Rattle.gate_core.specs.inner.Filling.{row_cut, cut_bytes, HasTaken, up_fill, waiting_rows}
-use Rattle.gate_core.specs.inner.Holds.{Extends}
+use Rattle.gate_core.specs.inner.Filling.{row_cut, cut_bytes, HasTaken}
 use Rattle.gate_core.proofs.SoFar.{each-at, waits-stream, left-next, left-skip, none-held, stopped, taken, skipped, moved, extended}
 use Rattle.gate_core.proofs.fill.write_fillings.Goals as goal
 use Rattle.gate_core.proofs.fill.write_fillings.Goals.{then-waits_at+in_ok-taken+in-Some+in_ok-push, else-waits_at}

@@ -1,4 +1,4 @@
-use Rattle.std.proofs.Common.{◌∙◌, ap, arith}
+use Rattle.std.proofs.Common.{arith}
 use Rattle.unlink_race.specs.Searches.{waits_for}
 use Rattle.gate_core.proofs.Filled.{kept-filled}
 use Rattle.gate_core.proofs.kept.Kept.fill.Goals as goal

@@ -18,7 +18,7 @@ loop-place-preserved c =
     ∙ (λ i. set (c.loop-place.invariant i) place (f (get_or (c.loop-place.invariant i) place before)))
     ∙ mapped-next f place c.args.self.now before (omega (arith, ap length c.self.view_is, c.len-place-end.ensures, c.loop-place-test.true))
 
-pub returns : goal.returns
-returns c =
+pub returns-clause-lowered : goal.returns-clause-lowered
+returns-clause-lowered c =
     c.loop-place.invariant
     ∙ mapped-all (unless (is_ended c.args.by)) c.loop-place.place c.args.self.now (omega (arith, ap length c.self.view_is, c.len-place-end.ensures, c.loop-place-test.false))
