@@ -1,15 +1,18 @@
 -- The making, and the opening of both sides.
-use Rattle.std.proofs.Common.{◌≡◌, ℕ, true, false, List, [], ◌++◌, Option, Some, None, refl, sym, ap, ◌∙◌, subst, inl, append-nil}
+use Rattle.std.proofs.Common.{◌≡◌, ℕ, true, false, List, [], ◌++◌, Option, Some, Result, Ok, Err, refl, sym, ap, ◌∙◌, subst, inl, append-nil}
 use Rattle.gate_outside.specs.Link.{Link, Door}
 use Rattle.gate_outside.specs.Doors.{opened, faulted}
+use Rattle.std.specs.Result.{IsErrAnd}
 use Rattle.bridge_run.specs.Events.{Event}
+use Rattle.bridge_run.specs.declared.serve_end.ServeEnd.{ServeEnd}
 use Rattle.bridge_run.specs.Prescribed.{Prescribed, first_of}
 use Rattle.bridge_run.specs.Course.{Setting, Course, Making, AtDoor}
 use Rattle.bridge_run.specs.Calls.{Goes, make, come, course_of}
 use Rattle.bridge_run.specs.Outside.{Outside, Shows, Tells, IsBetween, Cut}
 use Rattle.bridge_run.specs.Serves.{CutShort, Begins}
 use Rattle.bridge_run.specs.inner.Links.{WritesFront}
-use Rattle.bridge_run.specs.inner.Follows.{Follows}
+use Rattle.bridge_run.specs.inner.Keeping.{begun}
+use Rattle.bridge_run.specs.inner.Follows.{Follows, Opens}
 use Rattle.bridge_run.proofs.Reaching.{reaches-none, cut-next}
 use Rattle.bridge_run.proofs.Putting.{between-none, between-front}
 use Rattle.bridge_run.proofs.Asking.{door-cut, not_accepted, call-door}
@@ -52,9 +55,14 @@ not_greeted p c w w' mid out hello is t host front client door =
     (ap (λ (l : Link). l.written) client ∙ t.client.written-is) t.told
     (subst (λ (b : List ℕ). IsBetween c.to_host w'.host.written (c.to_host ++ b)) is (between-front true c.to_host hello mid w'.host c.host shows front))
 
+-- an error that a `?` hands on
+pub cut-opens : {T : Type 0} → (Q : ServeEnd → Type 0) (result : Result T ServeEnd) (p : Prescribed) (w : Outside) (out : Option (List ℕ)) (c : Course) → IsErrAnd result Q → Cut w out c (make p c) → Opens result p w out c
+cut-opens Q (Ok x) p w out c is cut = absurd is
+cut-opens Q (Err x) p w out c is cut = cut
+
 -- the rounds begin
 pub begun-follows : (stands : List Event → Type 0) (p : Prescribed) (idle budget : ℕ) (w : Outside) (out : Option (List ℕ)) (c : Course) → Begins idle budget c → stands [] → p.refusals [] ≡ [] → Tells w out (make p c)
-    → Follows stands p (record { client_up = false; host_up = true; busy = false; waits = idle; idle = idle; left = budget; refused = None }) w out (make p c)
+    → Follows stands p (begun true idle budget) w out (make p c)
 begun-follows stands p idle budget w out c b s none t = record {
   stands_for = subst stands (sym b.events) s;
   tells = t;
@@ -82,7 +90,7 @@ door-unmade s c w w' out down t client host door =
 -- the rounds begin
 pub door-follows : (stands : List Event → Type 0) (p : Prescribed) (idle budget : ℕ) (w w' : Outside) (out : Option (List ℕ)) (c : Course) → Begins idle budget c → stands [] → p.refusals [] ≡ [] → Tells w out c
     → w'.client ≡ w.client → w'.host ≡ w.host → w'.door ≡ record w.door { made = true }
-    → Follows stands p (record { client_up = false; host_up = false; busy = false; waits = idle; idle = idle; left = budget; refused = None }) w' out c
+    → Follows stands p (begun false idle budget) w' out c
 door-follows stands p idle budget w w' out c b s none t client host door = record {
   stands_for = subst stands (sym b.events) s;
   tells = record {

@@ -1,8 +1,9 @@
 -- What one event makes of the links and of what they tell.
-use Rattle.std.proofs.Common.{◌≡◌, ℕ, ◌&&◌, not, Bool, true, false, cond, List, [], ◌∷◌, ◌++◌, Option, Some, None, refl, sym, ap, ◌∙◌, subst, inl, inr, append-nil, append_assoc}
+use Rattle.std.proofs.Common.{◌≡◌, ℕ, ◌&&◌, not, Bool, true, false, cond, List, [], ◌∷◌, ◌++◌, Option, Some, None, Result, Ok, Err, refl, sym, ap, ◌∙◌, subst, inl, inr, append-nil, append_assoc}
 use Rattle.std.proofs.lemmas.Bool.{false≢true}
 use Rattle.std.specs.Io.KnownBytes.{append_known, Appends}
 use Rattle.std.specs.List.{flat_map}
+use Rattle.std.specs.Result.{IsErrAnd}
 use Rattle.usb_base.specs.Refusal.{refusal_line}
 use Rattle.usb_base.specs.declared.side.Side.TheVariants.{Client, Host}
 use Rattle.usb_base.specs.declared.refusal.Refusal.{Refusal}
@@ -14,13 +15,14 @@ use Rattle.bridge_run.specs.Events.{Event}
 use Rattle.gate_core.specs.Sides.{or_else}
 use Rattle.bridge_run.specs.declared.kept.Kept.{Kept}
 use Rattle.bridge_run.specs.declared.sent.Sent.{Sent}
+use Rattle.bridge_run.specs.declared.serve_end.ServeEnd.{ServeEnd}
 use Rattle.bridge_run.specs.Prescribed.{Prescribed, gained, refuses, first_of}
 use Rattle.bridge_run.specs.Course.{Course}
 use Rattle.bridge_run.specs.Calls.{put}
 use Rattle.bridge_run.specs.Outside.{Outside, Shows, Tells, IsBetween, IsOneOf, Cut}
 use Rattle.bridge_run.specs.inner.Links.{wrote_if, WritesFront, closed_if}
 use Rattle.bridge_run.specs.inner.Keeping.{refusing}
-use Rattle.bridge_run.specs.inner.Follows.{Prepared, Follows}
+use Rattle.bridge_run.specs.inner.Follows.{Prepared, Follows, Puts}
 
 -- ---- a link
 
@@ -210,3 +212,9 @@ refusing-none refusals k k' none is =
     ∙ ap (λ (u : Bool). record k { client_up = u; host_up = k.host_up && not false; refused = or_else k.refused None }) (and-not_false k.client_up)
     ∙ ap (λ (u : Bool). record k { host_up = u; refused = or_else k.refused None }) (and-not_false k.host_up)
     ∙ ap (λ (r : Option Refusal). record k { refused = r }) (or_else-none k.refused)
+
+-- an error that a `?` hands on
+pub cut-puts : (Q : ServeEnd → Type 0) (result : Result Bool ServeEnd) (stands : List Event → Type 0) (p : Prescribed) (e : Event) (k : Kept) (w : Outside) (out : Option (List ℕ)) (c : Course) → IsErrAnd result Q → Cut w out c (put p e c)
+    → Puts result stands p e k w out c
+cut-puts Q (Ok x) stands p e k w out c is cut = absurd is
+cut-puts Q (Err x) stands p e k w out c is cut = cut

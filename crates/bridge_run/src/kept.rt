@@ -1,7 +1,7 @@
 //! What is kept of the course of serving.
 
 ghost use Rattle.std.specs.Prelude.{◌≡◌, ◌-◌, ◌<◌, ◌≤◌, true};
-ghost use Rattle.bridge_run.specs.inner.Keeping.{up_of, with_up, refusing, Settles, Rests};
+ghost use Rattle.bridge_run.specs.inner.Keeping.{begun, up_of, with_up, refusing, Settles, Rests};
 
 use crate::sent::Sent;
 use crate::serve_end::ServeEnd;
@@ -24,6 +24,22 @@ pub struct Kept {
 }
 
 impl Kept {
+    /// No client is there, and nothing has come. `idle` rounds in a row may bring nothing, and `budget` bytes may be
+    /// taken.
+    pub fn new(host_up: bool, idle: u64, budget: u64) -> Self
+        ensures { result ≡ begun host_up idle budget }
+    {
+        Kept {
+            client_up: false,
+            host_up,
+            busy: false,
+            waits: idle,
+            idle,
+            left: budget,
+            refused: None,
+        }
+    }
+
     /// Whether the side's link is up.
     pub fn is_up(&self, side: Side) -> bool
         ensures { result ≡ up_of side self.now }

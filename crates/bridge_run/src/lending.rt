@@ -10,14 +10,12 @@ ghost use Rattle.bridge_run.specs.Serves.{Begins, Leaves};
 
 use crate::kept::Kept;
 use crate::lent::Lent;
-use crate::sent::Sent;
 use crate::serve_end::ServeEnd;
 use crate::serving::ROOM;
 use crate::session::Session;
 use gate_outside::{Doors, Side, Sink};
 use model_device::Gadget;
 use std::alloc::Global;
-use usb_base::Bytes;
 
 /// Makes a door, lends the device to the guest that comes to it, and goes in rounds. A round asks for the guest, where
 /// it hasn't come, and writes the host's hello to it as it comes. Then it polls the guest, performs the first request of
@@ -57,20 +55,6 @@ pub fn serve_host<G: Gadget, D: Doors, K: Sink>(
     if let Err(_) = doors.listen(listen) {
         return ServeEnd::LinkFault(Side::Client);
     }
-    let mut session = Session {
-        alloc,
-        core,
-        kept: Kept {
-            client_up: false,
-            host_up: false,
-            busy: false,
-            waits: idle,
-            idle,
-            left: budget,
-            refused: None,
-        },
-        sent: Sent::new(alloc),
-        lines: Bytes::new(alloc),
-    };
+    let mut session = Session::new(alloc, core, Kept::new(false, idle, budget));
     session.run(&mut buf, doors, out)
 }

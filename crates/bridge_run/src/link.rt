@@ -1,14 +1,23 @@
 //! Writing to a side's link, and closing it.
 
-ghost use Rattle.std.specs.Prelude.{◌≡◌, IsTrue};
+ghost use Rattle.std.specs.Prelude.{◌≡◌, IsTrue, IfErr};
+ghost use Rattle.bridge_run.specs.declared.serve_end.ServeEnd.TheVariants.{LinkFault};
 ghost use Rattle.gate_outside.specs.Link.{other};
 ghost use Rattle.bridge_run.specs.inner.Links.{WritesAll, closed_if};
 
-use gate_outside::{Doors, Failed, Side};
+use crate::serve_end::ServeEnd;
+use gate_outside::{Doors, Side};
 
-/// Writes all of the bytes to the side's link, if it is up, or, where that fails, a front of them.
-pub fn write_link<D: Doors>(doors: &mut D, side: Side, up: bool, bytes: &[u8]) -> Result<(), Failed>
+/// Writes all of the bytes to the side's link, if it is up, or, where that fails, which is a fault of that side's link, a
+/// front of them.
+pub fn write_link<D: Doors>(
+    doors: &mut D,
+    side: Side,
+    up: bool,
+    bytes: &[u8],
+) -> Result<(), ServeEnd>
     requires { up ≡ (D.link doors.old side).up }
+    ensures fault { IfErr result (λ end. end ≡ LinkFault side) }
     ensures link { WritesAll result up bytes.now (D.link doors.old side) (D.link doors.new side) }
     ensures other { D.link doors.new (other side) ≡ D.link doors.old (other side) }
     ensures door { D.door doors.new ≡ D.door doors.old }
@@ -20,7 +29,7 @@ pub fn write_link<D: Doors>(doors: &mut D, side: Side, up: bool, bytes: &[u8]) -
     while done < bytes.len() {
         match doors.write(side, &bytes[done..]) {
             Ok(n) => done += n,
-            Err(failed) => return Err(failed),
+            Err(_) => return Err(ServeEnd::LinkFault(side)),
         }
     }
     Ok(())

@@ -13,7 +13,6 @@ ghost use Rattle.bridge_run.specs.inner.Idling.{NotIdle};
 
 use crate::kept::Kept;
 use crate::link::write_link;
-use crate::sent::Sent;
 use crate::serve_end::ServeEnd;
 use crate::session::Session;
 use gate_core::Gate;
@@ -64,21 +63,7 @@ pub fn serve<D: Doors, K: Sink>(
     if let Err(end) = open(host, listen, hello.as_slice(), doors) {
         return end;
     }
-    let mut session = Session {
-        alloc,
-        core,
-        kept: Kept {
-            client_up: false,
-            host_up: true,
-            busy: false,
-            waits: idle,
-            idle,
-            left: budget,
-            refused: None,
-        },
-        sent: Sent::new(alloc),
-        lines: Bytes::new(alloc),
-    };
+    let mut session = Session::new(alloc, core, Kept::new(true, idle, budget));
     session.run(&mut buf, doors, out)
 }
 
@@ -99,8 +84,6 @@ fn open<D: Doors>(host: &str, listen: &str, hello: &[u8], doors: &mut D) -> Resu
     if let Err(_) = doors.listen(listen) {
         return Err(ServeEnd::LinkFault(Side::Client));
     }
-    if let Err(_) = write_link(doors, Side::Host, true, hello) {
-        return Err(ServeEnd::LinkFault(Side::Host));
-    }
+    write_link(doors, Side::Host, true, hello)?;
     Ok(())
 }

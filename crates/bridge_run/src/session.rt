@@ -27,15 +27,29 @@ use usb_base::{Bytes, Memory};
 /// What is served, and how far that has come.
 #[derive(Drop)]
 pub struct Session<C> {
-    pub alloc: Global,
-    pub core: C,
-    pub kept: Kept,
+    alloc: Global,
+    core: C,
+    kept: Kept,
     /// What the event at hand sends, and the lines that tell its refusals.
-    pub sent: Sent,
-    pub lines: Bytes,
+    sent: Sent,
+    lines: Bytes,
 }
 
 impl<C: Served + Drop> Session<C> {
+    /// Nothing is sent yet, which takes no memory.
+    pub fn new(alloc: Global, core: C, kept: Kept) -> Self
+        ensures core { result.core ≡ core }
+        ensures kept { result.kept ≡ kept }
+    {
+        Session {
+            alloc,
+            core,
+            kept,
+            sent: Sent::new(alloc),
+            lines: Bytes::new(alloc),
+        }
+    }
+
     /// Has the event taken, and keeps what that sends.
     fn prepare(&mut self, event: Event) -> Result<(), Memory>
         ensures stands { OnOk result ((first : C.First) (past : List PastEvent) → C.stands first self.old.core past → C.stands first self.new.core (event_of event.entry ∷ past)) }
@@ -68,33 +82,27 @@ impl<C: Served + Drop> Session<C> {
         ensures quiet { IfOk result (λ refused. is_quiet (event_of event.entry) ≡ true → (refused ≡ false) × (self.new.kept ≡ self.old.kept)) }
         ensures idles { OnOk result (NotIdle (outside (D.link doors.old) (D.door doors.old)) (outside (D.link doors.new) (D.door doors.new))) }
     {
-        if let Err(_) = self.prepare(event) {
-            return Err(ServeEnd::Memory);
-        }
+        self.prepare(event)?;
         let Kept {
             client_up,
             host_up,
             ..
         } = self.kept;
-        if let Err(_) = write_link(
+        write_link(
             doors,
             Side::Client,
             client_up,
             self.sent.to_client.as_slice(),
-        ) {
-            return Err(ServeEnd::LinkFault(Side::Client));
-        }
-        if let Err(_) = write_link(doors, Side::Host, host_up, self.sent.to_host.as_slice()) {
-            return Err(ServeEnd::LinkFault(Side::Host));
-        }
+        )?;
+        write_link(doors, Side::Host, host_up, self.sent.to_host.as_slice())?;
         let refused = self.sent.refuses(Side::Client);
         close_link(doors, Side::Client, refused);
         close_link(doors, Side::Host, self.sent.refuses(Side::Host));
         self.kept.refuse(&self.sent);
-        if let Err(_) = write_all(out, self.lines.as_slice()) {
-            return Err(ServeEnd::WriteFault);
+        match write_all(out, self.lines.as_slice()) {
+            Ok(()) => Ok(refused),
+            Err(_) => Err(ServeEnd::WriteFault),
         }
-        Ok(refused)
     }
 
     /// Takes an event, and behind it the end of a client that it refuses.

@@ -8,7 +8,7 @@ ghost use Rattle.bridge_run.specs.Outside.{outside};
 ghost use Rattle.usbgate.specs.Serves.{EndsOf, Lends};
 
 use crate::lending::{Device, Lending};
-use crate::serve::{BUDGET, status_of};
+use crate::serve::BUDGET;
 use crate::status::Status;
 use bridge_run::serve_host;
 use gate_outside::{Doors, Sink};
@@ -67,5 +67,5 @@ fn lend<G: Gadget, D: Doors, K: Sink>(
         doors,
         out,
     );
-    status_of(end)
+    Status::from(end)
 }

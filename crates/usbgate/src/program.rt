@@ -1,4 +1,4 @@
-//! A run of the program, over a tape and a sink.
+//! A run of the program, over a tape, a sink and doors.
 
 ghost use Rattle.std.specs.Prelude.{◌≡◌, ◌≢◌, ◌<◌, ◌≤◌, List, [], ℕ, length, false, Option, Some};
 ghost use Rattle.gate_outside.specs.Faults.{Rose};

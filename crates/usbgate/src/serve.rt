@@ -3,11 +3,10 @@
 ghost use Rattle.std.specs.Prelude.{◌≡◌, ◌≤◌, ◌<◌, ◌^◌, false};
 ghost use Rattle.usb_base.specs.declared.side.Side.TheVariants.{Client, Host};
 ghost use Rattle.bridge_run.specs.Outside.{outside};
-ghost use Rattle.usbgate.specs.Serves.{Serves, ended_as};
+ghost use Rattle.usbgate.specs.Serves.{Serves};
 
 use crate::serving::Serving;
 use crate::status::Status;
-use bridge_run::ServeEnd;
 use gate_outside::{Doors, Sink};
 use std::alloc::Global;
 
@@ -38,20 +37,5 @@ pub fn serve<D: Doors, K: Sink>(
         doors,
         out,
     );
-    status_of(end)
-}
-
-/// The status of a run that ends so.
-pub fn status_of(end: ServeEnd) -> Status
-    ensures { result ≡ ended_as end }
-{
-    match end {
-        ServeEnd::Ended { refused: None } => Status::Done,
-        ServeEnd::Ended { refused: Some(_) } => Status::Refused,
-        ServeEnd::LinkFault(side) => Status::LinkFault(side),
-        ServeEnd::WriteFault => Status::WriteFault,
-        ServeEnd::Idle => Status::Idle,
-        ServeEnd::Spent => Status::Spent,
-        ServeEnd::Memory => Status::OutOfMemory,
-    }
+    Status::from(end)
 }

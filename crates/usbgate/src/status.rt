@@ -3,16 +3,17 @@
 ghost use Rattle.std.specs.Prelude.{◌≡◌};
 ghost use Rattle.usbgate.specs.Code.{code_of};
 
+use bridge_run::ServeEnd;
 use usb_base::Side;
 
 /// How a run ends.
 #[derive(Clone, Copy, Debug, PartialEq, Eq)]
 pub enum Status {
-    /// The tape was read to its end, and no side was refused.
+    /// The tape was read to its end, or the links have ended, and no side was refused.
     Done,
     /// The words are no command.
     Usage,
-    /// The tape was read to its end, and a side was refused.
+    /// The tape was read to its end, or the links have ended, and a side was refused.
     Refused,
     /// The tape could not be read on.
     ReadFault,
@@ -46,6 +47,25 @@ impl Status {
             Status::BadTape(_) => 7,
             Status::Idle => 8,
             Status::Spent => 9,
+        }
+    }
+}
+
+impl From<ServeEnd> for Status {
+    ghost use Rattle.std.specs.Prelude.{◌≡◌};
+    ghost use Rattle.usbgate.specs.Serves.{ended_as};
+
+    ghost from_gives = { λ end status. status ≡ ended_as end };
+
+    fn from(end: ServeEnd) -> Self {
+        match end {
+            ServeEnd::Ended { refused: None } => Status::Done,
+            ServeEnd::Ended { refused: Some(_) } => Status::Refused,
+            ServeEnd::LinkFault(side) => Status::LinkFault(side),
+            ServeEnd::WriteFault => Status::WriteFault,
+            ServeEnd::Idle => Status::Idle,
+            ServeEnd::Spent => Status::Spent,
+            ServeEnd::Memory => Status::OutOfMemory,
         }
     }
 }

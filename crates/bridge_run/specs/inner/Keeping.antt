@@ -1,5 +1,5 @@
 -- What is kept, and how it changes.
-use Rattle.std.specs.Prelude.{◌≡◌, ◌⊎◌, ◌<◌, ◌≤◌, ◌+◌, ◌*◌, ◌-◌, ℕ, ◌&&◌, not, Bool, true, false, List, Result, Ok, Err}
+use Rattle.std.specs.Prelude.{◌≡◌, ◌⊎◌, ◌<◌, ◌≤◌, ◌+◌, ◌*◌, ◌-◌, ℕ, ◌&&◌, not, Bool, true, false, List, None, Result, Ok, Err}
 use Rattle.usb_base.specs.declared.side.Side.{Side}
 use Rattle.usb_base.specs.declared.side.Side.TheVariants.{Client, Host}
 use Rattle.usb_base.specs.declared.refusal.Refusal.{Refusal}
@@ -9,6 +9,18 @@ use Rattle.bridge_run.specs.declared.serve_end.ServeEnd.TheVariants.{Ended, Link
 use Rattle.bridge_run.specs.declared.kept.Kept.{Kept}
 use Rattle.bridge_run.specs.Prescribed.{refuses, first_of}
 use Rattle.bridge_run.specs.Outside.{Outside}
+
+-- nothing has come, and no client is there
+abbrev pub begun : Bool → ℕ → ℕ → Kept
+begun host_up idle budget = record {
+  client_up = false;
+  host_up = host_up;
+  busy = false;
+  waits = idle;
+  idle = idle;
+  left = budget;
+  refused = None;
+}
 
 abbrev pub up_of : Side → Kept → Bool
 up_of Client k = k.client_up

@@ -1,9 +1,14 @@
-use Rattle.std.proofs.Common.{List, Err, refl, ap}
+use Rattle.std.proofs.Common.{List, [], Err, refl, sym, ◌∙◌, ap, subst}
 use Rattle.gate_outside.specs.Link.{Link}
 use Rattle.bridge_run.specs.Events.{Event}
 use Rattle.bridge_run.specs.Lent.{lent_sends}
-use Rattle.bridge_run.specs.Outside.{outside}
+use Rattle.bridge_run.specs.Outside.{outside, HasReason}
+use Rattle.bridge_run.specs.Course.{AtDoor}
+use Rattle.bridge_run.specs.Calls.{Goes}
+use Rattle.bridge_run.specs.Serves.{Leaves}
+use Rattle.bridge_run.specs.declared.kept.Kept.{Kept}
 use Rattle.bridge_run.specs.inner.Lending.{IsLent}
+use Rattle.bridge_run.specs.inner.Follows.{Follows, setting}
 use Rattle.bridge_run.proofs.Resting.{faults-then}
 use Rattle.bridge_run.proofs.Idling.{reason-from}
 use Rattle.bridge_run.proofs.Opening.{door-short, door-unmade, door-follows}
@@ -26,9 +31,15 @@ pub returns-clause-leaves : goal.returns-clause-leaves
 returns-clause-leaves g c = λ k b t.
     let m = g.G.Gadget.meaning in
     let first = c.args.gadget in
-    c.run.ensures.course first k
-    (door-follows (λ (events : List Event). IsLent m first c.in-Ok.core events) (lent_sends m first) c.args.idle c.args.budget
-    (outside (g.D.Doors.link c.args.doors.now) (g.D.Doors.door c.args.doors.now)) (outside (g.D.Doors.link c.listen.new.self) (g.D.Doors.door c.listen.new.self)) (g.K.Sink.contents c.args.out.now) k b c.in-Ok.ensures refl t
+    let p = lent_sends m first in
+    let w = outside (g.D.Doors.link c.listen.new.self) (g.D.Doors.door c.listen.new.self) in
+    let ends = outside (g.D.Doors.link c.run.new.doors) (g.D.Doors.door c.run.new.doors) in
+    let out = g.K.Sink.contents c.args.out.now in
+    let core = c.new-session.result.core in
+    let stands : List Event → Type 0 = λ events. IsLent m first core events in
+    subst (λ (q : Kept). Follows stands p q w out k → Leaves c.run.result (setting p q) (Goes AtDoor k) ends (g.K.Sink.contents c.run.new.out)) (c.new-session.ensures.kept ∙ c.new.ensures) (c.run.ensures.course first k)
+    (door-follows stands p c.args.idle c.args.budget
+    (outside (g.D.Doors.link c.args.doors.now) (g.D.Doors.door c.args.doors.now)) w out k b (subst (λ x. IsLent m first x []) (sym c.new-session.ensures.core) c.in-Ok.ensures) refl t
     c.in_default.ensures.listens.1 c.in_default.ensures.other c.in_default.ensures.listens.0)
 
 pub returns-clause-cause : goal.returns-clause-cause
@@ -39,5 +50,9 @@ returns-clause-cause g c =
 
 pub returns-clause-reason : goal.returns-clause-reason
 returns-clause-reason g c =
-    reason-from c.run.result c.args.idle (outside (g.D.Doors.link c.args.doors.now) (g.D.Doors.door c.args.doors.now)) (outside (g.D.Doors.link c.listen.new.self) (g.D.Doors.door c.listen.new.self)) (outside (g.D.Doors.link c.run.new.doors) (g.D.Doors.door c.run.new.doors))
-    (record { client = ap (λ (l : Link). l.idle) c.in_default.ensures.listens.1; host = ap (λ (l : Link). l.idle) c.in_default.ensures.other }) c.run.ensures.reason
+    let before = outside (g.D.Doors.link c.args.doors.now) (g.D.Doors.door c.args.doors.now) in
+    let w = outside (g.D.Doors.link c.listen.new.self) (g.D.Doors.door c.listen.new.self) in
+    let ends = outside (g.D.Doors.link c.run.new.doors) (g.D.Doors.door c.run.new.doors) in
+    reason-from c.run.result c.args.idle before w ends
+    (record { client = ap (λ (l : Link). l.idle) c.in_default.ensures.listens.1; host = ap (λ (l : Link). l.idle) c.in_default.ensures.other })
+    (subst (λ (q : Kept). HasReason c.run.result q.idle w ends) (c.new-session.ensures.kept ∙ c.new.ensures) c.run.ensures.reason)

@@ -1,9 +1,13 @@
-use Rattle.std.proofs.Common.{ℕ, List, [], ◌++◌, Err, refl, ◌∙◌, ap}
+use Rattle.std.proofs.Common.{ℕ, List, [], ◌++◌, Err, refl, sym, ◌∙◌, ap, subst}
 use Rattle.gate_core.specs.Bytes.{out_host}
 use Rattle.gate_core.specs.Stands.{Stands}
 use Rattle.bridge_run.specs.Course.{Setting, Making, AtDoor}
 use Rattle.bridge_run.specs.Calls.{Goes, make}
-use Rattle.bridge_run.specs.Outside.{outside}
+use Rattle.bridge_run.specs.Outside.{outside, HasReason}
+use Rattle.bridge_run.specs.Events.{Event}
+use Rattle.bridge_run.specs.Serves.{Leaves}
+use Rattle.bridge_run.specs.declared.kept.Kept.{Kept}
+use Rattle.bridge_run.specs.inner.Follows.{Follows, setting}
 use Rattle.bridge_run.specs.Gate.{gate_events, gate_sends}
 use Rattle.bridge_run.proofs.Reaching.{reaches-none, reaches-call, leaves-then, cut-leaves, cut-next}
 use Rattle.bridge_run.proofs.Resting.{faults-then}
@@ -28,13 +32,19 @@ returns-in-Err-open-clause-leaves g c = λ k b t.
 
 pub returns-clause-leaves : goal.returns-clause-leaves
 returns-clause-leaves g c = λ k b t.
-    let p = gate_sends c.args.first_id in
+    let first = c.args.first_id in
+    let p = gate_sends first in
     let s : Setting = record { served = p; idle = c.args.idle } in
+    let w = outside (g.D.Doors.link c.open.new.doors) (g.D.Doors.door c.open.new.doors) in
+    let ends = outside (g.D.Doors.link c.run.new.doors) (g.D.Doors.door c.run.new.doors) in
     let out = g.K.Sink.contents c.args.out.now in
-    let tells = c.in_default.ensures.course p k out (c.as_slice.ensures ∙ c.in-Ok.ensures.sent ∙ ap (λ (l : List ℕ). l ++ out_host c.args.first_id []) c.new-hello.ensures) b.client_down t in
-    leaves-then c.run.result s (Goes Making k) AtDoor (make p k) (outside (g.D.Doors.link c.run.new.doors) (g.D.Doors.door c.run.new.doors)) (g.K.Sink.contents c.run.new.out)
+    let core = c.new-session.result.core in
+    let stands : List Event → Type 0 = λ events. Stands first core (gate_events events) in
+    let tells = c.in_default.ensures.course p k out (c.as_slice.ensures ∙ c.in-Ok.ensures.sent ∙ ap (λ (l : List ℕ). l ++ out_host first []) c.new-hello.ensures) b.client_down t in
+    leaves-then c.run.result s (Goes Making k) AtDoor (make p k) ends (g.K.Sink.contents c.run.new.out)
     (reaches-call s (Goes Making k) Making k (Goes AtDoor (make p k)) (reaches-none s (Goes Making k)) refl)
-    (c.run.ensures.course c.args.first_id (make p k) (begun-follows (λ events. Stands c.args.first_id c.in-Ok.core (gate_events events)) p c.args.idle c.args.budget (outside (g.D.Doors.link c.open.new.doors) (g.D.Doors.door c.open.new.doors)) out k b c.in-Ok.ensures.made refl tells))
+    (subst (λ (q : Kept). Follows stands p q w out (make p k) → Leaves c.run.result (setting p q) (Goes AtDoor (make p k)) ends (g.K.Sink.contents c.run.new.out)) (c.new-session.ensures.kept ∙ c.new.ensures) (c.run.ensures.course first (make p k))
+    (begun-follows stands p c.args.idle c.args.budget w out k b (subst (λ x. Stands first x (gate_events [])) (sym c.new-session.ensures.core) c.in-Ok.ensures.made) refl tells))
 
 pub returns-clause-cause : goal.returns-clause-cause
 returns-clause-cause g c =
@@ -44,4 +54,9 @@ pub returns-in-Err-open-clause-reason : goal.returns-in-Err-open-clause-reason
 returns-in-Err-open-clause-reason g c = cut-reason c.in-Err-open.end c.args.idle (outside (g.D.Doors.link c.args.doors.now) (g.D.Doors.door c.args.doors.now)) (outside (g.D.Doors.link c.open.new.doors) (g.D.Doors.door c.open.new.doors)) c.in-Err-open.ensures.cut
 
 pub returns-clause-reason : goal.returns-clause-reason
-returns-clause-reason g c = reason-from c.run.result c.args.idle (outside (g.D.Doors.link c.args.doors.now) (g.D.Doors.door c.args.doors.now)) (outside (g.D.Doors.link c.open.new.doors) (g.D.Doors.door c.open.new.doors)) (outside (g.D.Doors.link c.run.new.doors) (g.D.Doors.door c.run.new.doors)) c.in_default.ensures.idles c.run.ensures.reason
+returns-clause-reason g c =
+    let before = outside (g.D.Doors.link c.args.doors.now) (g.D.Doors.door c.args.doors.now) in
+    let w = outside (g.D.Doors.link c.open.new.doors) (g.D.Doors.door c.open.new.doors) in
+    let ends = outside (g.D.Doors.link c.run.new.doors) (g.D.Doors.door c.run.new.doors) in
+    reason-from c.run.result c.args.idle before w ends c.in_default.ensures.idles
+    (subst (λ (q : Kept). HasReason c.run.result q.idle w ends) (c.new-session.ensures.kept ∙ c.new.ensures) c.run.ensures.reason)

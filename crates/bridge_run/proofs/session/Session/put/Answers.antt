@@ -9,97 +9,99 @@ use Rattle.bridge_run.specs.Prescribed.{refuses}
 use Rattle.bridge_run.specs.Outside.{outside}
 use Rattle.bridge_run.specs.inner.Links.{wrote_if, WritesFront, closed_if}
 use Rattle.bridge_run.specs.inner.Keeping.{refusing}
-use Rattle.bridge_run.proofs.Putting.{put-client, put-host, put-follows, put-before, put-in_client, put-in_host, put-in_lines, refusing-none}
+use Rattle.bridge_run.proofs.Putting.{cut-puts, put-client, put-host, put-follows, put-before, put-in_client, put-in_host, put-in_lines, refusing-none}
 use Rattle.bridge_run.proofs.session.Session.put.Goals as goal
 
+pub returns-in_err-prepare-clause-course : goal.returns-in_err-prepare-clause-course
+returns-in_err-prepare-clause-course g c = λ first k f. cut-puts _ c.from_residual.result (g.C.Served.stands first c.prepare.new.self.core) (g.C.Served.sends first) (event_of c.args.event) c.prepare.new.self.kept (outside (g.D.Doors.link c.args.doors.now) (g.D.Doors.door c.args.doors.now)) (g.K.Sink.contents c.args.out.now) k c.from_residual.ensures.1 (put-before (g.C.Served.sends first) k (event_of c.args.event) (outside (g.D.Doors.link c.args.doors.now) (g.D.Doors.door c.args.doors.now)) (g.K.Sink.contents c.args.out.now) f.tells)
+
+pub returns-in_err-write_link-clause-course : goal.returns-in_err-write_link-clause-course
+returns-in_err-write_link-clause-course g c = λ first k f.
+    let p = g.C.Served.sends first in
+    let e = event_of c.args.event in
+    let sent = c.prepare.new.self.sent in
+    let lines = c.prepare.new.self.lines in
+    let prepared = c.in_ok-prepare.ensures.prepared first k.events f.stands_for in
+    let up_client = ap (λ (k : Kept). k.client_up) c.in_ok-prepare.ensures.kept ∙ f.client_up in
+    let up_host = ap (λ (k : Kept). k.host_up) c.in_ok-prepare.ensures.kept ∙ f.host_up in
+    cut-puts _ c.from_residual-in_err-write_link.result (g.C.Served.stands first c.prepare.new.self.core) p e c.prepare.new.self.kept (outside (g.D.Doors.link c.write_link.new.doors) (g.D.Doors.door c.write_link.new.doors)) (g.K.Sink.contents c.args.out.now) k c.from_residual-in_err-write_link.ensures.1
+    (put-in_client p k e sent lines (outside (g.D.Doors.link c.args.doors.now) (g.D.Doors.door c.args.doors.now)) (outside (g.D.Doors.link c.write_link.new.doors) (g.D.Doors.door c.write_link.new.doors)) (g.K.Sink.contents c.args.out.now) c.prepare.new.self.kept.client_up prepared f.tells up_client
+    (subst (λ (b : List ℕ). WritesFront c.prepare.new.self.kept.client_up b (g.D.Doors.link c.args.doors.now Client) (g.D.Doors.link c.write_link.new.doors Client)) c.as_slice.ensures c.in_err-write_link.ensures.link)
+    c.in_err-write_link.ensures.other c.in_err-write_link.ensures.door)
+
+pub returns-in_err-write_link-2-clause-course : goal.returns-in_err-write_link-2-clause-course
+returns-in_err-write_link-2-clause-course g c = λ first k f.
+    let p = g.C.Served.sends first in
+    let e = event_of c.args.event in
+    let sent = c.prepare.new.self.sent in
+    let lines = c.prepare.new.self.lines in
+    let prepared = c.in_ok-prepare.ensures.prepared first k.events f.stands_for in
+    let up_client = ap (λ (k : Kept). k.client_up) c.in_ok-prepare.ensures.kept ∙ f.client_up in
+    let up_host = ap (λ (k : Kept). k.host_up) c.in_ok-prepare.ensures.kept ∙ f.host_up in
+    let wrote_client = c.in_ok-write_link.ensures.link ∙ ap (λ (b : List ℕ). wrote_if c.prepare.new.self.kept.client_up b (g.D.Doors.link c.args.doors.now Client)) c.as_slice.ensures in
+    cut-puts _ c.from_residual-in_err-write_link-2.result (g.C.Served.stands first c.prepare.new.self.core) p e c.prepare.new.self.kept (outside (g.D.Doors.link c.write_link-2.new.doors) (g.D.Doors.door c.write_link-2.new.doors)) (g.K.Sink.contents c.args.out.now) k c.from_residual-in_err-write_link-2.ensures.1
+    (put-in_host p k e sent lines (outside (g.D.Doors.link c.args.doors.now) (g.D.Doors.door c.args.doors.now)) (outside (g.D.Doors.link c.write_link-2.new.doors) (g.D.Doors.door c.write_link-2.new.doors)) (g.K.Sink.contents c.args.out.now) c.prepare.new.self.kept.client_up c.prepare.new.self.kept.host_up prepared f.tells up_client up_host
+    (c.in_err-write_link-2.ensures.other ∙ wrote_client)
+    (subst (λ (l : Link). WritesFront c.prepare.new.self.kept.host_up sent.to_host l (g.D.Doors.link c.write_link-2.new.doors Host)) c.in_ok-write_link.ensures.other
+    (subst (λ (b : List ℕ). WritesFront c.prepare.new.self.kept.host_up b (g.D.Doors.link c.write_link.new.doors Host) (g.D.Doors.link c.write_link-2.new.doors Host)) c.as_slice-2.ensures c.in_err-write_link-2.ensures.link))
+    (c.in_err-write_link-2.ensures.door ∙ c.in_ok-write_link.ensures.door))
+
 pub returns-in-Err-clause-course : goal.returns-in-Err-clause-course
-returns-in-Err-clause-course g c = λ first k f. put-before (g.C.Served.sends first) k (event_of c.args.event) (outside (g.D.Doors.link c.args.doors.now) (g.D.Doors.door c.args.doors.now)) (g.K.Sink.contents c.args.out.now) f.tells
-
-pub returns-in-Err-write_link-clause-course : goal.returns-in-Err-write_link-clause-course
-returns-in-Err-write_link-clause-course g c = λ first k f.
+returns-in-Err-clause-course g c = λ first k f.
     let p = g.C.Served.sends first in
     let e = event_of c.args.event in
     let sent = c.prepare.new.self.sent in
     let lines = c.prepare.new.self.lines in
-    let prepared = c.in_default.ensures.prepared first k.events f.stands_for in
-    let up_client = ap (λ (k : Kept). k.client_up) c.in_default.ensures.kept ∙ f.client_up in
-    let up_host = ap (λ (k : Kept). k.host_up) c.in_default.ensures.kept ∙ f.host_up in
-    put-in_client p k e sent lines (outside (g.D.Doors.link c.args.doors.now) (g.D.Doors.door c.args.doors.now)) (outside (g.D.Doors.link c.write_link.new.doors) (g.D.Doors.door c.write_link.new.doors)) (g.K.Sink.contents c.args.out.now) c.prepare.new.self.kept.client_up prepared f.tells up_client
-    (subst (λ (b : List ℕ). WritesFront c.prepare.new.self.kept.client_up b (g.D.Doors.link c.args.doors.now Client) (g.D.Doors.link c.write_link.new.doors Client)) c.as_slice.ensures c.in-Err-write_link.ensures.link)
-    c.in-Err-write_link.ensures.other c.in-Err-write_link.ensures.door
-
-pub returns-in-Err-write_link-2-clause-course : goal.returns-in-Err-write_link-2-clause-course
-returns-in-Err-write_link-2-clause-course g c = λ first k f.
-    let p = g.C.Served.sends first in
-    let e = event_of c.args.event in
-    let sent = c.prepare.new.self.sent in
-    let lines = c.prepare.new.self.lines in
-    let prepared = c.in_default.ensures.prepared first k.events f.stands_for in
-    let up_client = ap (λ (k : Kept). k.client_up) c.in_default.ensures.kept ∙ f.client_up in
-    let up_host = ap (λ (k : Kept). k.host_up) c.in_default.ensures.kept ∙ f.host_up in
-    let wrote_client = c.in_default-write_link.ensures.link ∙ ap (λ (b : List ℕ). wrote_if c.prepare.new.self.kept.client_up b (g.D.Doors.link c.args.doors.now Client)) c.as_slice.ensures in
-    put-in_host p k e sent lines (outside (g.D.Doors.link c.args.doors.now) (g.D.Doors.door c.args.doors.now)) (outside (g.D.Doors.link c.write_link-2.new.doors) (g.D.Doors.door c.write_link-2.new.doors)) (g.K.Sink.contents c.args.out.now) c.prepare.new.self.kept.client_up c.prepare.new.self.kept.host_up prepared f.tells up_client up_host
-    (c.in-Err-write_link-2.ensures.other ∙ wrote_client)
-    (subst (λ (l : Link). WritesFront c.prepare.new.self.kept.host_up sent.to_host l (g.D.Doors.link c.write_link-2.new.doors Host)) c.in_default-write_link.ensures.other
-    (subst (λ (b : List ℕ). WritesFront c.prepare.new.self.kept.host_up b (g.D.Doors.link c.write_link.new.doors Host) (g.D.Doors.link c.write_link-2.new.doors Host)) c.as_slice-2.ensures c.in-Err-write_link-2.ensures.link))
-    (c.in-Err-write_link-2.ensures.door ∙ c.in_default-write_link.ensures.door)
-
-pub returns-in-Err-write_all-clause-course : goal.returns-in-Err-write_all-clause-course
-returns-in-Err-write_all-clause-course g c = λ first k f.
-    let p = g.C.Served.sends first in
-    let e = event_of c.args.event in
-    let sent = c.prepare.new.self.sent in
-    let lines = c.prepare.new.self.lines in
-    let prepared = c.in_default.ensures.prepared first k.events f.stands_for in
-    let up_client = ap (λ (k : Kept). k.client_up) c.in_default.ensures.kept ∙ f.client_up in
-    let up_host = ap (λ (k : Kept). k.host_up) c.in_default.ensures.kept ∙ f.host_up in
+    let prepared = c.in_ok-prepare.ensures.prepared first k.events f.stands_for in
+    let up_client = ap (λ (k : Kept). k.client_up) c.in_ok-prepare.ensures.kept ∙ f.client_up in
+    let up_host = ap (λ (k : Kept). k.host_up) c.in_ok-prepare.ensures.kept ∙ f.host_up in
     let rc = refuses Client sent.refusals in
     let rh = refuses Host sent.refusals in
-    let wrote_client = c.in_default-write_link.ensures.link ∙ ap (λ (b : List ℕ). wrote_if c.prepare.new.self.kept.client_up b (g.D.Doors.link c.args.doors.now Client)) c.as_slice.ensures in
-    let wrote_host = c.in_default-write_link-2.ensures.link
+    let wrote_client = c.in_ok-write_link.ensures.link ∙ ap (λ (b : List ℕ). wrote_if c.prepare.new.self.kept.client_up b (g.D.Doors.link c.args.doors.now Client)) c.as_slice.ensures in
+    let wrote_host = c.in_ok-write_link-2.ensures.link
     ∙ ap (λ (b : List ℕ). wrote_if c.prepare.new.self.kept.host_up b (g.D.Doors.link c.write_link.new.doors Host)) c.as_slice-2.ensures
-    ∙ ap (λ (l : Link). wrote_if c.prepare.new.self.kept.host_up sent.to_host l) c.in_default-write_link.ensures.other in
+    ∙ ap (λ (l : Link). wrote_if c.prepare.new.self.kept.host_up sent.to_host l) c.in_ok-write_link.ensures.other in
     let client = c.close_link-2.ensures.other ∙ c.close_link.ensures.link ∙ ap (λ (r : Bool). closed_if r Client (g.D.Doors.link c.write_link-2.new.doors Client)) c.refuses-refused.ensures
-    ∙ ap (λ (l : Link). closed_if rc Client l) (c.in_default-write_link-2.ensures.other ∙ wrote_client) in
+    ∙ ap (λ (l : Link). closed_if rc Client l) (c.in_ok-write_link-2.ensures.other ∙ wrote_client) in
     let host = c.close_link-2.ensures.link ∙ ap (λ (r : Bool). closed_if r Host (g.D.Doors.link c.close_link.new.doors Host)) c.refuses.ensures
     ∙ ap (λ (l : Link). closed_if rh Host l) (c.close_link.ensures.other ∙ wrote_host) in
-    let door = c.close_link-2.ensures.door ∙ c.close_link.ensures.door ∙ c.in_default-write_link-2.ensures.door ∙ c.in_default-write_link.ensures.door in
+    let door = c.close_link-2.ensures.door ∙ c.close_link.ensures.door ∙ c.in_ok-write_link-2.ensures.door ∙ c.in_ok-write_link.ensures.door in
     let shows_client = put-client p k e sent lines (g.D.Doors.link c.args.doors.now Client) (g.D.Doors.link c.close_link-2.new.doors Client) c.prepare.new.self.kept.client_up prepared f.tells.client up_client client in
     let shows_host = put-host p k e sent lines (g.D.Doors.link c.args.doors.now Host) (g.D.Doors.link c.close_link-2.new.doors Host) c.prepare.new.self.kept.host_up prepared f.tells.host up_host host in
     put-in_lines p k e sent lines (outside (g.D.Doors.link c.args.doors.now) (g.D.Doors.door c.args.doors.now)) (outside (g.D.Doors.link c.close_link-2.new.doors) (g.D.Doors.door c.close_link-2.new.doors)) (g.K.Sink.contents c.args.out.now) (g.K.Sink.contents c.write_all.new.sink) prepared f.tells shows_client shows_host door
-    (subst (λ (b : List ℕ). AppendsFront (g.K.Sink.contents c.args.out.now) (g.K.Sink.contents c.write_all.new.sink) b) c.as_slice-3.ensures c.in-Err-write_all.ensures.err)
+    (subst (λ (b : List ℕ). AppendsFront (g.K.Sink.contents c.args.out.now) (g.K.Sink.contents c.write_all.new.sink) b) c.as_slice-3.ensures c.in-Err.ensures.err)
 
-pub returns-clause-course : goal.returns-clause-course
-returns-clause-course g c = λ first k f.
+pub returns-in-Ok-clause-course : goal.returns-in-Ok-clause-course
+returns-in-Ok-clause-course g c = λ first k f.
     let p = g.C.Served.sends first in
     let e = event_of c.args.event in
     let sent = c.prepare.new.self.sent in
     let lines = c.prepare.new.self.lines in
-    let prepared = c.in_default.ensures.prepared first k.events f.stands_for in
-    let up_client = ap (λ (k : Kept). k.client_up) c.in_default.ensures.kept ∙ f.client_up in
-    let up_host = ap (λ (k : Kept). k.host_up) c.in_default.ensures.kept ∙ f.host_up in
+    let prepared = c.in_ok-prepare.ensures.prepared first k.events f.stands_for in
+    let up_client = ap (λ (k : Kept). k.client_up) c.in_ok-prepare.ensures.kept ∙ f.client_up in
+    let up_host = ap (λ (k : Kept). k.host_up) c.in_ok-prepare.ensures.kept ∙ f.host_up in
     let rc = refuses Client sent.refusals in
     let rh = refuses Host sent.refusals in
-    let wrote_client = c.in_default-write_link.ensures.link ∙ ap (λ (b : List ℕ). wrote_if c.prepare.new.self.kept.client_up b (g.D.Doors.link c.args.doors.now Client)) c.as_slice.ensures in
-    let wrote_host = c.in_default-write_link-2.ensures.link
+    let wrote_client = c.in_ok-write_link.ensures.link ∙ ap (λ (b : List ℕ). wrote_if c.prepare.new.self.kept.client_up b (g.D.Doors.link c.args.doors.now Client)) c.as_slice.ensures in
+    let wrote_host = c.in_ok-write_link-2.ensures.link
     ∙ ap (λ (b : List ℕ). wrote_if c.prepare.new.self.kept.host_up b (g.D.Doors.link c.write_link.new.doors Host)) c.as_slice-2.ensures
-    ∙ ap (λ (l : Link). wrote_if c.prepare.new.self.kept.host_up sent.to_host l) c.in_default-write_link.ensures.other in
+    ∙ ap (λ (l : Link). wrote_if c.prepare.new.self.kept.host_up sent.to_host l) c.in_ok-write_link.ensures.other in
     let client = c.close_link-2.ensures.other ∙ c.close_link.ensures.link ∙ ap (λ (r : Bool). closed_if r Client (g.D.Doors.link c.write_link-2.new.doors Client)) c.refuses-refused.ensures
-    ∙ ap (λ (l : Link). closed_if rc Client l) (c.in_default-write_link-2.ensures.other ∙ wrote_client) in
+    ∙ ap (λ (l : Link). closed_if rc Client l) (c.in_ok-write_link-2.ensures.other ∙ wrote_client) in
     let host = c.close_link-2.ensures.link ∙ ap (λ (r : Bool). closed_if r Host (g.D.Doors.link c.close_link.new.doors Host)) c.refuses.ensures
     ∙ ap (λ (l : Link). closed_if rh Host l) (c.close_link.ensures.other ∙ wrote_host) in
-    let door = c.close_link-2.ensures.door ∙ c.close_link.ensures.door ∙ c.in_default-write_link-2.ensures.door ∙ c.in_default-write_link.ensures.door in
+    let door = c.close_link-2.ensures.door ∙ c.close_link.ensures.door ∙ c.in_ok-write_link-2.ensures.door ∙ c.in_ok-write_link.ensures.door in
     let shows_client = put-client p k e sent lines (g.D.Doors.link c.args.doors.now Client) (g.D.Doors.link c.close_link-2.new.doors Client) c.prepare.new.self.kept.client_up prepared f.tells.client up_client client in
     let shows_host = put-host p k e sent lines (g.D.Doors.link c.args.doors.now Host) (g.D.Doors.link c.close_link-2.new.doors Host) c.prepare.new.self.kept.host_up prepared f.tells.host up_host host in (
       put-follows (g.C.Served.stands first c.prepare.new.self.core) p c.args.self.now.kept c.refuse.new.self (outside (g.D.Doors.link c.args.doors.now) (g.D.Doors.door c.args.doors.now)) (outside (g.D.Doors.link c.close_link-2.new.doors) (g.D.Doors.door c.close_link-2.new.doors)) (g.K.Sink.contents c.args.out.now) (g.K.Sink.contents c.write_all.new.sink) k e sent lines
-          (g.C.Served.stands first c.args.self.now.core) f prepared (c.in_default.ensures.stands first k.events f.stands_for) (c.refuse.ensures ∙ ap (refusing sent.refusals) c.in_default.ensures.kept) shows_client shows_host door
-          (subst (λ (b : List ℕ). Appends (g.K.Sink.contents c.args.out.now) (g.K.Sink.contents c.write_all.new.sink) b) c.as_slice-3.ensures c.in_default-write_all.ensures.ok),
+          (g.C.Served.stands first c.args.self.now.core) f prepared (c.in_ok-prepare.ensures.stands first k.events f.stands_for) (c.refuse.ensures ∙ ap (refusing sent.refusals) c.in_ok-prepare.ensures.kept) shows_client shows_host door
+          (subst (λ (b : List ℕ). Appends (g.K.Sink.contents c.args.out.now) (g.K.Sink.contents c.write_all.new.sink) b) c.as_slice-3.ensures c.in-Ok.ensures.ok),
       c.refuses-refused.ensures ∙ ap (refuses Client) prepared.refusals,
     )
 
-pub returns-clause-quiet : goal.returns-clause-quiet
-returns-clause-quiet g c = λ quiet.
-    let none = c.in_default.ensures.quiet quiet in (
+pub returns-in-Ok-clause-quiet : goal.returns-in-Ok-clause-quiet
+returns-in-Ok-clause-quiet g c = λ quiet.
+    let none = c.in_ok-prepare.ensures.quiet quiet in (
       c.refuses-refused.ensures ∙ ap (refuses Client) none,
-      refusing-none c.prepare.new.self.sent.refusals c.args.self.now.kept c.refuse.new.self none (c.refuse.ensures ∙ ap (refusing c.prepare.new.self.sent.refusals) c.in_default.ensures.kept),
+      refusing-none c.prepare.new.self.sent.refusals c.args.self.now.kept c.refuse.new.self none (c.refuse.ensures ∙ ap (refusing c.prepare.new.self.sent.refusals) c.in_ok-prepare.ensures.kept),
     )
