@@ -4,6 +4,7 @@ ghost use Rattle.std.specs.Prelude.{◌<◌};
 
 mod cuts;
 mod host;
+mod isochronous;
 mod outside;
 mod packets;
 mod refusals;
@@ -86,6 +87,14 @@ impl Session {
         Ok(())
     }
 
+    /// So many packets that are answered by nothing.
+    fn push_unanswered(&mut self, alloc: Global, line: &str, times: usize) -> Result<(), Memory> {
+        for _ in 0..times {
+            push_lines(alloc, &mut self.tape, line)?;
+        }
+        Ok(())
+    }
+
     /// Bulk transfers of 13 bytes from the device, which are numbered from 1 on and stay in flight.
     fn push_submits(&mut self, alloc: Global, last: u32) -> Result<(), Memory> {
         for number in 1..=last {
@@ -94,6 +103,16 @@ impl Session {
             self.push_rows(alloc, &[(line.as_str(), printed.as_str())])?;
         }
         Ok(())
+    }
+
+    /// Replays the tape, which has these counts.
+    fn expect_counts(
+        &mut self,
+        rt: &(impl Abort + AllocGlobal),
+        counts: [u64; 4],
+    ) -> Result<(), Fail> {
+        push_counts(rt.alloc(), &mut self.text, counts)?;
+        self.expect(rt, &["replay"], Status::Done)
     }
 
     /// Runs the words over the tape.
@@ -189,4 +208,17 @@ fn expect_imported(
     status: Status,
 ) -> Result<(), Fail> {
     Session::of(rt.alloc(), &IMPORTED, rows, counts)?.expect(rt, &["replay"], status)
+}
+
+type Rows<'a> = &'a [(&'a str, &'a str)];
+
+/// Each of these is a session of its own after an import.
+fn expect_each(
+    rt: &(impl Abort + AllocGlobal),
+    table: &[(Rows<'_>, [u64; 4])],
+) -> Result<(), Fail> {
+    for (rows, counts) in table {
+        expect_imported(rt, rows, *counts, Status::Done)?;
+    }
+    Ok(())
 }

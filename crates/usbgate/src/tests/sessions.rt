@@ -1,6 +1,5 @@
 //! Sessions of a client that has imported the device.
 
-use super::packets::push_counts;
 use super::{IMPORTED, NO_COUNTS, PLAINLY_IMPORTED, Session, expect_imported, expect_rows};
 use crate::Status;
 use std::test::Fail;
@@ -241,8 +240,7 @@ fn no_more_than_4096_requests_are_in_flight(rt: HostRuntime) -> Result<(), Fail>
         rt.alloc(),
         &[("c SUB:4097:1:1:0:13:0 00*8", "C RET:4097:-16:0:0:0")],
     )?;
-    push_counts(rt.alloc(), &mut session.text, [1, 0, 4_096, 0])?;
-    session.expect(&rt, &["replay"], Status::Done)
+    session.expect_counts(&rt, [1, 0, 4_096, 0])
 }
 
 #[test]
