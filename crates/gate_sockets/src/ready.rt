@@ -10,16 +10,16 @@ use std::net::Net;
 use std::time::Duration;
 
 /// How many looks in a row find nothing before one waits.
-const QUIET: u32 = 2;
+const QUIET_LOOKS: u32 = 2;
 
 /// At which look a side that had nothing to read is read again, where the system tells of nothing before.
-const AGAIN: u32 = 8;
+const DUE_LOOK: u32 = 8;
 
-/// How long a look waits at most for something to come, in milliseconds.
-const READ_WAIT: u64 = 10;
+/// How long a look waits at most for something to come.
+const READ_WAIT_MILLIS: u64 = 10;
 
-/// How long a blocked write waits at most before it is tried again, in milliseconds.
-const WRITE_WAIT: u64 = 1;
+/// How long a blocked write waits at most before it is tried again.
+const WRITE_WAIT_MILLIS: u64 = 1;
 
 const DOOR: Token = Token(0);
 
@@ -38,8 +38,8 @@ pub(crate) struct Ready {
     writing: Poll,
     events: Events<Global>,
     // At which look from now each side is read, where the system tells of nothing before.
-    client: u32,
-    host: u32,
+    client_due_in: u32,
+    host_due_in: u32,
     // How many looks in a row have found nothing.
     quiet: u32,
 }
@@ -50,8 +50,8 @@ impl Ready {
             reading: Poll::new(net)?,
             writing: Poll::new(net)?,
             events: Events::with_capacity(alloc, 4)?,
-            client: 0,
-            host: 0,
+            client_due_in: 0,
+            host_due_in: 0,
             quiet: 0,
         })
     }
@@ -72,8 +72,8 @@ impl Ready {
 
     fn due_in(&mut self, side: Side) -> &mut u32 {
         match side {
-            Side::Client => &mut self.client,
-            Side::Host => &mut self.host,
+            Side::Client => &mut self.client_due_in,
+            Side::Host => &mut self.host_due_in,
         }
     }
 
@@ -88,7 +88,7 @@ impl Ready {
     pub(crate) fn is_due(&mut self, side: Side) -> io::Result<bool> {
         let due_in = self.due_in(side);
         if *due_in > 0 {
-            *due_in = due_in.saturating_sub(1);
+            *due_in -= 1;
             self.found_nothing()?;
         }
         Ok(*self.due_in(side) == 0)
@@ -97,24 +97,24 @@ impl Ready {
     /// A read from the side found nothing.
     pub(crate) fn drained(&mut self, side: Side) {
         self.quiet = self.quiet.saturating_add(1);
-        *self.due_in(side) = AGAIN;
+        *self.due_in(side) = DUE_LOOK;
     }
 
     /// A look found nothing. Waits for something to read if the last looks found nothing either, and says
     /// whether to look again.
     pub(crate) fn found_nothing(&mut self) -> io::Result<bool> {
         self.quiet = self.quiet.saturating_add(1);
-        if self.quiet < QUIET {
+        if self.quiet < QUIET_LOOKS {
             return Ok(false);
         }
-        let most = Duration::from_millis(READ_WAIT);
+        let most = Duration::from_millis(READ_WAIT_MILLIS);
         waited(self.reading.poll(&mut self.events, Some(most)))?;
         for event in self.events.iter() {
             if event.token() == token(Side::Client) {
-                self.client = 0;
+                self.client_due_in = 0;
             }
             if event.token() == token(Side::Host) {
-                self.host = 0;
+                self.host_due_in = 0;
             }
         }
         Ok(true)
@@ -122,7 +122,7 @@ impl Ready {
 
     /// A write was blocked. Waits until something may be written.
     pub(crate) fn blocked(&mut self) -> io::Result<()> {
-        let most = Duration::from_millis(WRITE_WAIT);
+        let most = Duration::from_millis(WRITE_WAIT_MILLIS);
         waited(self.writing.poll(&mut self.events, Some(most)))
     }
 }
