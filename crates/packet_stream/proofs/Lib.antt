@@ -6,3 +6,5 @@ pub mod Splits
 pub mod Following
 pub mod Loops
 pub mod Pieces
+pub mod Fronts
+pub mod Spelled
