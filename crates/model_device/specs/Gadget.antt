@@ -2,7 +2,9 @@
 use Rattle.std.specs.Prelude.{◌≡◌, ◌≢◌, ℕ, ◌<◌, ◌≤◌, ◌==◌, ◌&&◌, min, Bool, true, false, [], ◌∷◌, length, take, get_or, Some, IsSome, IfSome}
 use Rattle.usb_base.specs.Endpoint.{no_endpoint}
 use Rattle.usb_base.specs.declared.endpoint.EpKind.TheVariants.{Iso}
+use Rattle.usb_base.specs.Status.{status_of, status_byte}
 use Rattle.usb_base.specs.declared.setup.Setup.{Setup}
+use Rattle.usb_base.specs.declared.status.UsbStatus.{UsbStatus}
 use Rattle.usb_base.specs.declared.status.UsbStatus.TheVariants.{Success}
 use Rattle.usb_base.specs.declared.transfer.Transfer.{Transfer}
 use Rattle.chapter9.specs.Requests.{is_request}
@@ -23,6 +25,10 @@ is_port_reset r = is_request r 0x23 3 && r.value == 4 && r.length == 0
 abbrev pub is_get_configuration : Setup → Bool
 is_get_configuration r = is_request r 0x80 8
 
+-- a status that its own byte names: `Other` of a byte that has a name is none, since it would be read as that name
+abbrev pub IsNamed : UsbStatus → Type 0
+IsNamed status = status_of (status_byte status) ≡ status
+
 pub record IsGadget {S : Type 0} (m : Meaning S) : Type 0 where
   -- a transfer of endpoint 0 is always ready
   pub ready : (s : S) (t : Transfer) → IsTransfer t → is_control t.ep ≡ true → IsSome (m.perform s t)
@@ -41,3 +47,6 @@ pub record IsGadget {S : Type 0} (m : Meaning S) : Type 0 where
   pub outcomes : (s : S) (t : Transfer) → IsTransfer t → IfSome (m.perform s t) (λ done. IsOutcome t done.1)
   -- a packet has at most the bytes that its length field can tell
   pub packets : (s : S) (ep : ℕ) → IfSome (m.offer s ep) (λ sent. length sent.1.body ≤ 65535)
+  -- a status is read as it was written
+  pub named : (s : S) (t : Transfer) → IsTransfer t → IfSome (m.perform s t) (λ done. IsNamed done.1.status)
+  pub offer_named : (s : S) (ep : ℕ) → IfSome (m.offer s ep) (λ sent. IsNamed sent.1.status)

@@ -22,15 +22,18 @@ use Rattle.chapter9.specs.State.{is_configured}
 use Rattle.chapter9.specs.Table.{class_of, table_of}
 use Rattle.chapter9.specs.Standard.{changed_by, given_by, outcome_by, read_outcome, stall, state_by, state_or, success, write_outcome}
 use Rattle.model_device.specs.Transfer.{IsTransfer, IsOutcome, is_in_setup, setup_changes}
-use Rattle.model_device.specs.Gadget.{IsGadget, SameFacts, is_get_configuration, is_port_reset}
+use Rattle.model_device.specs.Gadget.{IsGadget, IsNamed, SameFacts, is_get_configuration, is_port_reset}
 use Rattle.model_device.specs.Device.{Device, State, device_parts, interfaces_of, is_running, is_success, meaning_of, offer, one_interface, perform, perform_by, with_kept}
 use Rattle.model_device.specs.inner.Asked.{SameSetting, get_configuration_asked, port_reset_asked, read_from_device, setting_kept}
 use Rattle.model_device.specs.inner.Tables.{no_iso_out, table_fine}
 
--- what a device owes of its own: outcomes and packets in their bounds, and no isochronous endpoint to it
+-- what a device owes of its own: outcomes and packets in their bounds, statuses that their bytes name, and no isochronous
+-- endpoint to it
 pub record IsOwn {X : Type 0} (d : Device X) : Type 0 where
   pub outcomes : (x : X) (t : Transfer) → IsTransfer t → t.setup ≡ None → IfSome (d.transfer x t) (λ done. IsOutcome t done.1)
   pub packets : (x : X) (ep : ℕ) → IfSome (d.packet x ep) (λ sent. length sent.1.body ≤ 65535)
+  pub named : (x : X) (t : Transfer) → IfSome (d.transfer x t) (λ done. IsNamed done.1.status)
+  pub packets_named : (x : X) (ep : ℕ) → IfSome (d.packet x ep) (λ sent. IsNamed sent.1.status)
   pub endpoints : no_iso_out (device_parts d) ≡ true
 
 -- ---- what stays where the setting does
@@ -160,6 +163,33 @@ packets_by d s ep own =
     cond_both (is_running (device_parts d) s.device ep) (with_kept s.device (d.packet s.kept ep)) None (λ o. IfSome o (λ sent. length sent.1.body ≤ 65535))
     (λ r. with_kept_second s.device (d.packet s.kept ep) (λ p. length p.body ≤ 65535) (own.packets s.kept ep)) (λ r. tt)
 
+-- ---- statuses
+
+read_named : (len wanted : ℕ) (given : Option (List ℕ)) → IsNamed (read_outcome len wanted given).status
+read_named len wanted None = refl
+read_named len wanted (Some bytes) = refl
+
+write_named : (s : Option DevState) → IsNamed (write_outcome s).status
+write_named None = refl
+write_named (Some s) = refl
+
+request_named : (set : DescriptorSet) (parts : List Part) (s : DevState) (r : Setup) (wanted : ℕ) (x : Option Request) → IsNamed (outcome_by set parts s r wanted x).status
+request_named set parts s r wanted None = refl
+request_named set parts s r wanted (Some (Read read)) = read_named r.length wanted (given_by set parts s r read)
+request_named set parts s r wanted (Some (Write write)) = write_named (changed_by parts s r write)
+
+named_by : {X : Type 0} (d : Device X) (s : State X) (t : Transfer) (o : Option Setup) → IsOwn d → t.setup ≡ o → IfSome (perform d s t) (λ done. IsNamed done.1.status)
+named_by d s t None own e =
+    rw (not_ready d s t e)
+    (cond_both (is_running (device_parts d) s.device t.ep) (with_kept s.device (d.transfer s.kept t)) (Some (s, stall)) (λ o. IfSome o (λ done. IsNamed done.1.status))
+    (λ r. with_kept_second s.device (d.transfer s.kept t) (λ o. IsNamed o.status) (own.named s.kept t)) (λ r. refl))
+named_by d s t (Some r) own e = rw (performed d s t r e) (request_named d.set (device_parts d) s.device r t.wanted (request_of r))
+
+offer_named_by : {X : Type 0} (d : Device X) (s : State X) (ep : ℕ) → IsOwn d → IfSome (offer d s ep) (λ sent. IsNamed sent.1.status)
+offer_named_by d s ep own =
+    cond_both (is_running (device_parts d) s.device ep) (with_kept s.device (d.packet s.kept ep)) None (λ o. IfSome o (λ sent. IsNamed sent.1.status))
+    (λ r. with_kept_second s.device (d.packet s.kept ep) (λ p. IsNamed p.status) (own.packets_named s.kept ep)) (λ r. tt)
+
 pub lawful : {X : Type 0} (d : Device X) → IsOwn d → IsGadget (meaning_of d)
 lawful d own = record {
   ready = λ s t it c. ready_by d s t t.setup (it.has_setup ∙ c);
@@ -172,4 +202,6 @@ lawful d own = record {
   few_interfaces = λ s. few_interfaces_by (device_parts d) s.device;
   outcomes = λ s t it. outcomes_by d s t t.setup own it refl it.direction;
   packets = λ s ep. packets_by d s ep own;
+  named = λ s t it. named_by d s t t.setup own refl;
+  offer_named = λ s ep. offer_named_by d s ep own;
 }

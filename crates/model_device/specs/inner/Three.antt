@@ -6,7 +6,7 @@ use Rattle.std.proofs.lemmas.List.{length-take, length-replicate}
 use Rattle.usb_base.specs.Endpoint.{is_in_endpoint}
 use Rattle.usb_base.specs.declared.transfer.Transfer.{Transfer}
 use Rattle.model_device.specs.Transfer.{IsTransfer, IsOutcome}
-use Rattle.model_device.specs.Gadget.{IsGadget}
+use Rattle.model_device.specs.Gadget.{IsGadget, IsNamed}
 use Rattle.model_device.specs.Device.{device_parts, meaning_of}
 use Rattle.model_device.specs.Keyboard.{keyboard}
 use Rattle.model_device.specs.Loopback.{given_back, limit, loopback, taken_in}
@@ -55,16 +55,38 @@ loop_outcomes : (held : List ℕ) (t : Transfer) → IsTransfer t → IfSome (lo
 unfolding loopback
 loop_outcomes held t it = cond_both (is_in_endpoint t.ep) (given_back held t.wanted) (taken_in held t.body) (λ o. IfSome o (λ done. IsOutcome t done.1)) (given_back_outcome held t) (taken_in_outcome held t it)
 
+-- ---- statuses: each packet succeeds, and so does each transfer of the loop or stalls
+
+keyboard_named : (key ep : ℕ) → IfSome (keyboard.packet key ep) (λ sent. IsNamed sent.1.status)
+unfolding keyboard
+keyboard_named key ep = cond_both (ep == 0x81) _ None (λ o. IfSome o (λ sent. IsNamed sent.1.status)) (λ e. refl) (λ e. tt)
+
+tone_named : (sample ep : ℕ) → IfSome (tone.packet sample ep) (λ sent. IsNamed sent.1.status)
+unfolding tone
+tone_named sample ep = cond_both (ep == 0x81) _ None (λ o. IfSome o (λ sent. IsNamed sent.1.status)) (λ e. refl) (λ e. tt)
+
+given_back_named : (held : List ℕ) (wanted : ℕ) → IfSome (given_back held wanted) (λ done. IsNamed done.1.status)
+given_back_named held wanted = cond_both (length held == 0 && not (wanted == 0)) None _ (λ o. IfSome o (λ done. IsNamed done.1.status)) (λ w. tt) (λ w. refl)
+
+taken_in_named : (held body : List ℕ) → IfSome (taken_in held body) (λ done. IsNamed done.1.status)
+taken_in_named held body =
+    cond_both (nat_lt limit (length body)) _ _ (λ o. IfSome o (λ done. IsNamed done.1.status)) (λ w. refl)
+    (λ w. cond_both (nat_lt limit (length held + length body)) None _ (λ o. IfSome o (λ done. IsNamed done.1.status)) (λ v. tt) (λ v. refl))
+
+loop_named : (held : List ℕ) (t : Transfer) → IfSome (loopback.transfer held t) (λ done. IsNamed done.1.status)
+unfolding loopback
+loop_named held t = cond_both (is_in_endpoint t.ep) (given_back held t.wanted) (taken_in held t.body) (λ o. IfSome o (λ done. IsNamed done.1.status)) (λ e. given_back_named held t.wanted) (λ e. taken_in_named held t.body)
+
 -- ---- the three
 
 pub keyboard_lawful : IsGadget (meaning_of keyboard)
 unfolding keyboard
-keyboard_lawful = lawful keyboard (record { outcomes = λ key t it e. stall_outcome t; packets = keyboard_packets; endpoints = keyboard_endpoints })
+keyboard_lawful = lawful keyboard (record { outcomes = λ key t it e. stall_outcome t; packets = keyboard_packets; named = λ key t. refl; packets_named = keyboard_named; endpoints = keyboard_endpoints })
 
 pub loopback_lawful : IsGadget (meaning_of loopback)
 unfolding loopback
-loopback_lawful = lawful loopback (record { outcomes = λ held t it e. loop_outcomes held t it; packets = λ held ep. tt; endpoints = loop_endpoints })
+loopback_lawful = lawful loopback (record { outcomes = λ held t it e. loop_outcomes held t it; packets = λ held ep. tt; named = loop_named; packets_named = λ held ep. tt; endpoints = loop_endpoints })
 
 pub tone_lawful : IsGadget (meaning_of tone)
 unfolding tone
-tone_lawful = lawful tone (record { outcomes = λ sample t it e. stall_outcome t; packets = tone_packets; endpoints = tone_endpoints })
+tone_lawful = lawful tone (record { outcomes = λ sample t it e. stall_outcome t; packets = tone_packets; named = λ sample t. refl; packets_named = tone_named; endpoints = tone_endpoints })
