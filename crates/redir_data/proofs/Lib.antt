@@ -2,3 +2,4 @@ pub mod Behind
 pub mod Front
 pub mod Written
 pub mod Back
+pub mod Sent

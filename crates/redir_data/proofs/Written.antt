@@ -45,7 +45,7 @@ not_first : (k : DataKind) → not ((data_row k).number == 0) ≡ true
 not_first Control = refl
 not_first k = refl
 
-data_written : (way : Way) (caps : Caps) (id : ℕ) (d : RedirData) → Ranges d → CanWrite id way caps d → IsPacket (transfers caps way) false caps way (header_of id caps d, d)
+pub data_written : (way : Way) (caps : Caps) (id : ℕ) (d : RedirData) → Ranges d → CanWrite id way caps d → IsPacket (transfers caps way) false caps way (header_of id caps d, d)
 data_written way caps id d ranges can =
     let k = kind_of d in
     let kind = CarryingKind k in

@@ -7,3 +7,4 @@ pub mod Streams
 pub mod Written
 pub mod inner
 pub mod sound
+pub mod Sent
