@@ -1,0 +1,117 @@
+//! Bytes by the words that lay them out: packets by name, and their fields in wire order.
+
+use std::alloc::Global;
+use usb_base::{Bytes, Memory};
+
+/// Packets by name, in hexadecimal; `00*8` stands for eight times 00, and ids have eight bytes behind the hellos.
+const PACKETS: [(&str, &str); 19] = [
+    // The hellos of a guest and of the host, which announce the same.
+    (
+        "GH",
+        "00000000 44000000 00000000 757362676174652031 00*55 7a000000",
+    ),
+    (
+        "HG",
+        "00000000 44000000 00000000 7573626761746520686f73742031 00*50 7a000000",
+    ),
+    // A guest that announces nothing, as its host reads it: ids have four bytes, and a bulk length two.
+    ("GH0", "00000000 40000000 00000000 00*64"),
+    // The endpoints of a device without a configuration, of the loop, of the keyboard, and of the tone in its setting 1.
+    (
+        "EPU",
+        "05000000 a0000000 00*8 00 ff*15 00 ff*15 00*64 4000 00*30 4000 00*30",
+    ),
+    (
+        "EPL",
+        "05000000 a0000000 00*8 0002 ff*14 0002 ff*14 00*64 40000002 00*28 40000002 00*28",
+    ),
+    (
+        "EPK",
+        "05000000 a0000000 00*8 00 ff*15 0003 ff*14 00*17 0a 00*46 4000 00*30 40000800 00*28",
+    ),
+    (
+        "EPT",
+        "05000000 a0000000 00*8 00 ff*15 0001 ff*14 00*17 01 00*46 4000 00*30 4000c000 00*28",
+    ),
+    // No interface, and one of class ff.
+    ("IIU", "04000000 84000000 00*8 00*132"),
+    (
+        "II8",
+        "04000000 84000000 00*8 01000000 00*32 ff 00*31 00*64",
+    ),
+    // The loop, the keyboard and the tone.
+    ("DCL", "01000000 0a000000 00*8 02000000f0ff02000001"),
+    ("DCK", "01000000 0a000000 00*8 01000000f0ff01000001"),
+    ("DCT", "01000000 0a000000 00*8 01000000f0ff03000001"),
+    // Heads of packets, whose id and fields come behind.
+    ("RESET", "03000000 00000000"),
+    ("SET", "06000000 01000000"),
+    ("GET", "07000000 00000000"),
+    ("STATUS", "08000000 02000000"),
+    ("CANCEL", "15000000 00000000"),
+    ("BULK", "65000000 0a000000"),
+    ("CONTROL", "64000000 0a000000"),
+];
+
+/// The bytes of a packet with this name. Other words are bytes themselves.
+fn bytes_of(word: &str) -> &str {
+    for (name, bytes) in &PACKETS {
+        if *name == word {
+            return bytes;
+        }
+    }
+    word
+}
+
+fn value_of(digit: u8) -> u8 {
+    match digit {
+        b'0'..=b'9' => digit - b'0',
+        b'a'..=b'f' => digit - b'a' + 10,
+        _ => 0,
+    }
+}
+
+/// Appends the bytes of these digits.
+fn push_digits(out: &mut Bytes, digits: &str) -> Result<(), Memory> {
+    let mut high = None;
+    for digit in digits.bytes() {
+        let value = value_of(digit);
+        high = match high {
+            None => Some(value),
+            Some(high) => {
+                out.push(high << 4 | value)?;
+                None
+            }
+        };
+    }
+    Ok(())
+}
+
+/// Appends digits, which may be followed by how many times they come, or an id behind `@`.
+fn push_piece(out: &mut Bytes, piece: &str) -> Result<(), Memory> {
+    if let Some(id) = piece.strip_prefix('@') {
+        let id: u64 = id.parse().unwrap_or(0);
+        return out.append(&id.to_le_bytes());
+    }
+    match piece.split_once('*') {
+        Some((digits, times)) => {
+            let times: usize = times.parse().unwrap_or(0);
+            for _ in 0..times {
+                push_digits(out, digits)?;
+            }
+            Ok(())
+        }
+        None => push_digits(out, piece),
+    }
+}
+
+/// The bytes of words, with spaces between them.
+pub fn bytes(alloc: Global, words: &str) -> Result<Bytes, Memory> {
+    let mut out = Bytes::new(alloc);
+    for word in words.split(' ') {
+        for piece in bytes_of(word).split(' ') {
+            push_piece(&mut out, piece)?;
+        }
+    }
+    Ok(out)
+}

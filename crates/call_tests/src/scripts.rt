@@ -1,0 +1,88 @@
+//! Doors that play scripts.
+
+use gate_outside::{Doors, Failed, Polled, Script, ScriptDoors, Scripts, Side, Turn};
+use std::alloc::Global;
+use std::process::Abort;
+use std::test::Fail;
+use usb_base::{Bytes, Memory};
+
+fn piece(alloc: Global, text: &str) -> Result<Turn, Memory> {
+    let mut piece = Bytes::new(alloc);
+    piece.append(text.as_bytes())?;
+    Ok(Turn::Piece(piece))
+}
+
+// A script whose turns are texts: `-` waits, `!` fails, and any other is a piece.
+fn script(alloc: Global, turns: &[&str]) -> Result<Script, Memory> {
+    let mut script = Script::new(alloc);
+    for turn in turns {
+        script.push(match *turn {
+            "-" => Turn::Wait,
+            "!" => Turn::Fail,
+            text => piece(alloc, text)?,
+        })?;
+    }
+    Ok(script)
+}
+
+// Polls three bytes at a time. An answer is the text that came, or `-`, `!`, or `.` for the end.
+fn polls(rt: &impl Abort, doors: &mut ScriptDoors, side: Side, answers: &[&str]) {
+    for answer in answers {
+        let mut buf = [0; 3];
+        let text = match doors.poll(side, &mut buf) {
+            Polled::Took(n) => &buf[..n],
+            Polled::NotYet => b"-".as_slice(),
+            Polled::Ended => b".".as_slice(),
+            Polled::Failed => b"!".as_slice(),
+        };
+        assert!(rt; text == answer.as_bytes());
+    }
+}
+
+// Of each row a piece, and how many of its bytes are taken, or none where the write fails.
+const WRITTEN: [(&str, usize); 3] = [("gh", 2), ("ij", 1), ("j", 0)];
+
+fn writes(rt: &impl Abort, doors: &mut ScriptDoors) {
+    for (text, taken) in WRITTEN {
+        assert!(rt; doors.write(Side::Host, text.as_bytes()).unwrap_or(0) == taken);
+    }
+}
+
+#[test]
+fn a_script_is_given_poll_by_poll(rt: HostRuntime) -> Result<(), Fail> {
+    let host = script(rt.alloc(), &["abcd", "", "-", "!", "e", ""])?;
+    let client = script(rt.alloc(), &["f"])?;
+    let mut doors = ScriptDoors::make(rt.alloc(), 3, host, client, &[3], &[])?;
+    doors.dial("a:1")?;
+    let answers = ["abc", "d", "!", "-", "!", "e", "."];
+    polls(&rt, &mut doors, Side::Host, &answers);
+    writes(&rt, &mut doors);
+    assert!(rt; doors.written(Side::Host) == b"ghi".as_slice());
+    Ok(())
+}
+
+fn two_clients(alloc: Global) -> Result<Scripts, Memory> {
+    let mut clients = Scripts::new(alloc);
+    clients.push(script(alloc, &["abcde", "f"])?)?;
+    clients.push(script(alloc, &["gh"])?)?;
+    Ok(clients)
+}
+
+#[test]
+fn clients_come_one_after_the_other(rt: HostRuntime) -> Result<(), Fail> {
+    let host = script(rt.alloc(), &[])?;
+    let clients = two_clients(rt.alloc())?;
+    let mut doors = ScriptDoors::make_many(rt.alloc(), 9, host, clients, &[0], &[1])?;
+    assert!(rt; doors.dial("a:1") == Err(Failed));
+    doors.listen("b:2")?;
+    assert!(rt; doors.accept() == Err(Failed));
+    for rest in ["abc", "gh"] {
+        assert!(rt; doors.accept() == Ok(true));
+        polls(&rt, &mut doors, Side::Client, &[rest]);
+        assert!(rt; doors.write(Side::Client, rest.as_bytes()) == Ok(rest.len()));
+        doors.close(Side::Client);
+    }
+    assert!(rt; doors.accept() == Ok(false));
+    assert!(rt; doors.written(Side::Client) == b"abcgh".as_slice());
+    Ok(())
+}
