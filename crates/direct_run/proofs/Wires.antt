@@ -1,0 +1,175 @@
+-- The bytes on the wires and what is told are those of the gateway's history and of the host's.
+use Rattle.std.proofs.Common.{◌≡◌, ℕ, zero, suc, ◌+◌, ◌≤◌, List, [], ◌∷◌, ◌++◌, length, take, drop, Result, Ok, Err, refl, sym, ap, ◌∙◌, subst, append-nil, append_assoc, arith}
+use Rattle.std.specs.Result.{IfOk, OnOk}
+use Rattle.std.specs.List.{flat_map}
+use Rattle.std.proofs.lemmas.List.{append_cancel_left, drop-append-le, length-append, length-drop, drop-drop, take-append-drop}
+use Rattle.std.proofs.lemmas.Grind.{flat_map-append}
+use Rattle.usb_base.specs.declared.refusal.Refusal.{Refusal}
+use Rattle.gate_core.specs.declared.note.Note.{Note}
+use Rattle.gate_core.specs.Events.{Event, HostPiece, host_bytes}
+use Rattle.gate_core.specs.History.{history}
+use Rattle.gate_core.specs.Kept.{GateKept}
+use Rattle.gate_core.specs.Notes.{notes_of}
+use Rattle.gate_core.specs.All.{all_of}
+use Rattle.gate_core.specs.Bytes.{client_bytes_of, host_bytes_of, host_packet_bytes, gateway_hello, out_client, out_host}
+use Rattle.redir_wire.specs.Capability.{no_caps}
+use Rattle.gate_core.specs.Stands.{Gains, Takes as GateTakes, Stands as GateStands}
+use Rattle.gate_core.proofs.Events.{event-gives}
+use Rattle.model_device.specs.Meaning.{Meaning}
+use Rattle.redir_host.specs.Acts.{Act, Piece, guest_bytes}
+use Rattle.redir_host.specs.Output.{host_out, act_bytes}
+use Rattle.redir_host.specs.Stands.{Stands as HostStands}
+use Rattle.redir_host.proofs.Runs.{act-out}
+use Rattle.direct_run.specs.declared.item.Item.{Item}
+use Rattle.direct_run.specs.declared.submitted.Submitted.{Submitted}
+use Rattle.direct_run.specs.declared.told.Told.{Told}
+use Rattle.direct_run.specs.Kept.{SystemKept}
+use Rattle.direct_run.specs.Steps.{Step}
+use Rattle.direct_run.specs.World.{Course, first_id, happened, acted, sent_to_host, sent_to_gate, wire_to_host, wire_to_gate, after_step, course}
+use Rattle.direct_run.specs.Noted.{item_of, refusal_in, named}
+use Rattle.direct_run.specs.Trace.{submits_of, given_of, told_of_event, told_of_act, act_items, told_of, told_by, trace}
+use Rattle.direct_run.specs.Stands.{Runs, Stands, Takes}
+use Rattle.direct_run.specs.inner.Doing.{DoesEvent, DoesAct}
+
+pub if-ok : {T E : Type 0} (r : Result T E) (P Q : T → Type 0) → ((v : T) → P v → Q v) → IfOk r P → IfOk r Q
+if-ok (Ok v) P Q f h = f v h
+if-ok (Err e) P Q f h = tt
+
+pub kept-on : {T E K : Type 0} (r s : Result T E) (mid new : K) (P : T → K → Type 0) → s ≡ r → OnOk s (new ≡ mid) → IfOk r (λ v. P v mid) → IfOk s (λ v. P v new)
+kept-on {T = T} {E = E} {K = K} r s mid new P same ok h = go s ok (subst (λ (x : Result T E). IfOk x (λ v. P v mid)) (sym same) h)
+  where
+    go : (x : Result T E) → OnOk x (new ≡ mid) → IfOk x (λ v. P v mid) → IfOk x (λ v. P v new)
+    go (Ok v) o i = subst (P v) (sym o) i
+    go (Err e) o i = tt
+
+-- ---- an event of the gateway
+
+gained : {A : Type 0} (old new before after given : List A) → Gains old new before after → old ≡ [] → after ≡ before ++ given → new ≡ given
+gained {A = A} old new before after given g none is =
+    g.new-is ∙ ap (λ (l : List A). l ++ g.more) none ∙ append_cancel_left before g.more given (sym g.after-is ∙ is)
+
+pub host-gives : (events : List Event) (e : Event) → out_host first_id (history first_id (e ∷ events)) ≡ out_host first_id (history first_id events) ++ given_of host_bytes_of events e
+host-gives events e =
+    ap (λ (b : List ℕ). host_packet_bytes no_caps (0, gateway_hello) ++ b) (event-gives host_bytes_of first_id events e)
+    ∙ sym (append_assoc (host_packet_bytes no_caps (0, gateway_hello)) (all_of host_bytes_of first_id (history first_id events)) (given_of host_bytes_of events e))
+
+pub event-done : {S : Type 0} (old : SystemKept S) (gate : GateKept) (events : List Event) (e : Event) (c0 c1 h0 h1 from wire : List ℕ) (i0 items trace : List Item) (r0 refusals : List Refusal) (submits : List Submitted) (notes : List Note) →
+    GateTakes first_id gate events e c0 c1 h0 h1 notes → c0 ≡ [] → h0 ≡ [] → from ≡ [] → i0 ≡ [] → r0 ≡ [] →
+    wire ≡ old.to_host ++ h1 → items ≡ i0 ++ flat_map item_of notes → refusals ≡ r0 ++ flat_map refusal_in notes → submits ≡ old.submits ++ flat_map named notes → trace ≡ old.trace ++ items →
+    DoesEvent old (record { gate = gate; host = old.host; to_host = wire; to_gate = old.to_gate; trace = trace; submits = submits; failed = old.failed }) events e
+    (record { to_client = c1; to_host = h1; from_host = from; items = items; refusals = refusals })
+event-done old gate events e c0 c1 h0 h1 from wire i0 items trace r0 refusals submits notes t c-none h-none f-none i-none r-none wire-is items-is refusals-is submits-is trace-is = record {
+  gate = t.stands;
+  told-is = λ i. record {
+    to_client = gained c0 c1 (out_client first_id (history first_id events)) (out_client first_id (history first_id (e ∷ events))) (given_of client_bytes_of events e) t.client c-none (event-gives client_bytes_of first_id events e) i;
+    to_host = gained h0 h1 (out_host first_id (history first_id events)) (out_host first_id (history first_id (e ∷ events))) (given_of host_bytes_of events e) t.host h-none (host-gives events e) i;
+    from_host = f-none i;
+    items = (items-is ∙ (λ j. i-none j ++ flat_map item_of (notes-are j))) i;
+    refusals = (refusals-is ∙ (λ j. r-none j ++ flat_map refusal_in (notes-are j))) i;
+  };
+  new-is = λ i. record {
+    gate = gate;
+    host = old.host;
+    to_host = wire-is i;
+    to_gate = old.to_gate;
+    trace = trace-is i;
+    submits = (submits-is ∙ ap (λ (l : List Note). old.submits ++ flat_map named l) notes-are) i;
+    failed = old.failed;
+  };
+}
+  where
+    notes-are : notes ≡ given_of notes_of events e
+    notes-are = append_cancel_left (all_of notes_of first_id (history first_id events)) notes (given_of notes_of events e) (sym t.told ∙ event-gives notes_of first_id events e)
+
+-- ---- what they make of the wires
+
+more-fits : (n : ℕ) (xs ys : List ℕ) → n ≤ length xs → n ≤ length (xs ++ ys)
+more-fits n xs ys h = omega (arith, h, length-append xs ys)
+
+-- the event's bytes were taken off the wire to the gateway
+pub event-runs : {S : Type 0} (m : Meaning S) (s : S) (old new : SystemKept S) (c : Course) (e : Event) (told : Told) (rest : List ℕ) →
+    Runs m s old c → DoesEvent (record old { to_gate = rest }) new c.events e told →
+    rest ≡ drop (length (host_bytes (e ∷ c.events))) (sent_to_gate m s c) → length (host_bytes (e ∷ c.events)) ≤ length (sent_to_gate m s c) → Runs m s new (happened c e)
+event-runs {S = S} m s old new c e told rest r d rest-is fits = record {
+  gate = d.gate;
+  host = subst (λ (k : SystemKept S). HostStands m s k.host c.acts) (sym d.new-is) r.host;
+  to_host = ap (λ (k : SystemKept S). k.to_host) d.new-is
+      ∙ (λ i. r.to_host i ++ (ap (λ (t : Told). t.to_host) d.told-is) i)
+      ∙ sym (drop-append-le (length (guest_bytes c.acts)) (sent_to_host c) (given_of host_bytes_of c.events e) r.host_had)
+      ∙ ap (drop (length (guest_bytes c.acts))) (sym (host-gives c.events e));
+  to_gate = ap (λ (k : SystemKept S). k.to_gate) d.new-is ∙ rest-is;
+  host_had = subst (λ (b : List ℕ). length (guest_bytes c.acts) ≤ length b) (sym (host-gives c.events e)) (more-fits (length (guest_bytes c.acts)) (sent_to_host c) (given_of host_bytes_of c.events e) r.host_had);
+  gate_had = fits;
+  submits = ap (λ (k : SystemKept S). k.submits) d.new-is
+      ∙ ap (λ (l : List Submitted). l ++ flat_map named (given_of notes_of c.events e)) r.submits
+      ∙ sym (flat_map-append named (all_of notes_of first_id (history first_id c.events)) (given_of notes_of c.events e))
+      ∙ ap (flat_map named) (sym (event-gives notes_of first_id c.events e));
+}
+
+-- the act's bytes were taken off the wire to the host
+pub act-runs : {S : Type 0} (m : Meaning S) (s : S) (old new : SystemKept S) (c : Course) (a : Act) (told : Told) (rest : List ℕ) →
+    Runs m s old c → DoesAct m s (record old { to_host = rest }) new c.acts a told →
+    rest ≡ drop (length (guest_bytes (a ∷ c.acts))) (sent_to_host c) → length (guest_bytes (a ∷ c.acts)) ≤ length (sent_to_host c) → Runs m s new (acted c a)
+act-runs {S = S} m s old new c a told rest r d rest-is fits = record {
+  gate = subst (λ (k : SystemKept S). GateStands first_id k.gate c.events) (sym d.new-is) r.gate;
+  host = d.host;
+  to_host = ap (λ (k : SystemKept S). k.to_host) d.new-is ∙ rest-is;
+  to_gate = ap (λ (k : SystemKept S). k.to_gate) d.new-is
+      ∙ (λ i. r.to_gate i ++ (ap (λ (t : Told). t.from_host) d.told-is) i)
+      ∙ sym (drop-append-le (length (host_bytes c.events)) (sent_to_gate m s c) (act_bytes m s c.acts a) r.gate_had)
+      ∙ ap (drop (length (host_bytes c.events))) (sym (act-out m s c.acts a));
+  host_had = fits;
+  gate_had = subst (λ (b : List ℕ). length (host_bytes c.events) ≤ length b) (sym (act-out m s c.acts a)) (more-fits (length (host_bytes c.events)) (sent_to_gate m s c) (act_bytes m s c.acts a) r.gate_had);
+  submits = ap (λ (k : SystemKept S). k.submits) d.new-is ∙ r.submits;
+}
+
+-- what is left of a wire whose front was taken
+pub front-left : (n k : ℕ) (had sent : List ℕ) → length had ≤ length sent → drop n (drop (length had) sent) ≡ drop (length (had ++ take n (drop (length had) sent))) sent
+front-left n k had sent h =
+    rest-of n (drop (length had) sent)
+    ∙ drop-drop (length (take n (drop (length had) sent))) (length had) sent
+    ∙ ap (λ (i : ℕ). drop i sent) (sym (length-append had (take n (drop (length had) sent))))
+  where
+    rest-of : (i : ℕ) (xs : List ℕ) → drop i xs ≡ drop (length (take i xs)) xs
+    rest-of zero xs = refl
+    rest-of (suc i) [] = refl
+    rest-of (suc i) (x ∷ xs) = rest-of i xs
+
+pub front-fits : (n : ℕ) (had sent : List ℕ) → length had ≤ length sent → length (had ++ take n (drop (length had) sent)) ≤ length sent
+front-fits n had sent h =
+    let a = length-append had (take n (drop (length had) sent)) in
+    let b = length-append (take n (drop (length had) sent)) (drop n (drop (length had) sent)) in
+    let d = ap length (take-append-drop n (drop (length had) sent)) in
+    let e = length-drop (length had) sent in
+    omega (arith, h, a, b, d, e)
+
+-- ---- steps
+
+pub event-takes : {S : Type 0} (m : Meaning S) (s : S) (old new : SystemKept S) (steps : List Step) (x : Step) (e : Event) (told : Told) (rest : List ℕ) →
+    Stands m s old steps → DoesEvent (record old { to_gate = rest }) new (course m s steps).events e told →
+    rest ≡ drop (length (host_bytes (e ∷ (course m s steps).events))) (sent_to_gate m s (course m s steps)) → length (host_bytes (e ∷ (course m s steps).events)) ≤ length (sent_to_gate m s (course m s steps)) →
+    after_step m s (course m s steps) x ≡ happened (course m s steps) e → told_by m s (course m s steps) x ≡ told_of_event (course m s steps).events e → Takes m s new steps x told
+event-takes {S = S} m s old new steps x e told rest h d rest-is fits same same-told = record {
+  stands = record {
+    works = ap (λ (k : SystemKept S). k.failed) d.new-is ∙ h.works;
+    runs = subst (Runs m s new) (sym same) (event-runs m s old new (course m s steps) e told rest h.runs d rest-is fits);
+    trace-is = ap (λ (k : SystemKept S). k.trace) d.new-is ∙ (λ i. h.trace-is i ++ (ap (λ (t : Told). t.items) (d.told-is ∙ sym same-told)) i);
+  };
+  told-is = d.told-is ∙ sym same-told;
+}
+
+pub act-takes : {S : Type 0} (m : Meaning S) (s : S) (old new : SystemKept S) (steps : List Step) (x : Step) (a : Act) (told : Told) (rest : List ℕ) →
+    Stands m s old steps → DoesAct m s (record old { to_host = rest }) new (course m s steps).acts a told →
+    rest ≡ drop (length (guest_bytes (a ∷ (course m s steps).acts))) (sent_to_host (course m s steps)) → length (guest_bytes (a ∷ (course m s steps).acts)) ≤ length (sent_to_host (course m s steps)) →
+    after_step m s (course m s steps) x ≡ acted (course m s steps) a → told_by m s (course m s steps) x ≡ told_of m s (course m s steps) a → Takes m s new steps x told
+act-takes {S = S} m s old new steps x a told rest h d rest-is fits same same-told = record {
+  stands = record {
+    works = ap (λ (k : SystemKept S). k.failed) d.new-is ∙ h.works;
+    runs = subst (Runs m s new) (sym same) (act-runs m s old new (course m s steps) a told rest h.runs d rest-is fits);
+    trace-is = ap (λ (k : SystemKept S). k.trace) d.new-is ∙ (λ i. h.trace-is i ++ (ap (λ (t : Told). t.items) told-is) i);
+  };
+  told-is = told-is;
+}
+  where
+    told-is : told ≡ told_by m s (course m s steps) x
+    told-is = d.told-is ∙ ap (λ (l : List Submitted). told_of_act m s (course m s steps).acts a (act_items m s (course m s steps).acts l a)) h.runs.submits ∙ sym same-told

@@ -1,0 +1,91 @@
+-- What a step sends on each wire and tells, and all that steps tell.
+use Rattle.std.specs.Prelude.{ℕ, List, [], ◌∷◌, ◌++◌, take}
+use Rattle.std.specs.List.{flat_map}
+use Rattle.gate_core.specs.All.{all_of}
+use Rattle.gate_core.specs.Bytes.{client_bytes_of, host_bytes_of}
+use Rattle.gate_core.specs.Events.{Event, ClientPiece, ClientEnd as ClientEnds, HostPiece}
+use Rattle.gate_core.specs.History.{brought, history}
+use Rattle.gate_core.specs.Machine.{given_by}
+use Rattle.gate_core.specs.Marks.{Mark}
+use Rattle.gate_core.specs.Notes.{notes_of}
+use Rattle.gate_core.specs.State.{State, state_of}
+use Rattle.model_device.specs.Meaning.{Meaning}
+use Rattle.redir_host.specs.Acts.{Act, Piece, Perform as Performs, Offer as Offers, Unplug as Unplugs}
+use Rattle.redir_host.specs.Offering.{told_offered}
+use Rattle.redir_host.specs.Output.{host_of, act_bytes, act_notes}
+use Rattle.redir_host.specs.Performing.{told_performed}
+use Rattle.direct_run.specs.declared.item.Item.{Item}
+use Rattle.direct_run.specs.declared.submitted.Submitted.{Submitted}
+use Rattle.direct_run.specs.declared.told.Told.{Told}
+use Rattle.direct_run.specs.Noted.{item_of, item_of_host, refusal_in, named, performed_item, offered_item}
+use Rattle.direct_run.specs.Steps.{Step, Client, ClientEnd, ToHost, ToGate, Perform, Offer, Unplug}
+use Rattle.direct_run.specs.World.{Course, first_id, nothing_yet, sent_to_host, sent_to_gate, wire_to_host, wire_to_gate, course}
+
+-- all submits that were accepted
+abbrev pub submits_of : List Event → List Submitted
+submits_of events = flat_map named (all_of notes_of first_id (history first_id events))
+
+-- ---- of a step
+
+-- what an event has the gateway give, behind these events
+abbrev pub given_of : {A : Type 0} → (State → Mark → List A) → List Event → Event → List A
+given_of gives events e = given_by gives (state_of first_id (history first_id events)) (brought events e)
+
+abbrev pub told_of_event : List Event → Event → Told
+told_of_event events e = record {
+  to_client = given_of client_bytes_of events e;
+  to_host = given_of host_bytes_of events e;
+  from_host = [];
+  items = flat_map item_of (given_of notes_of events e);
+  refusals = flat_map refusal_in (given_of notes_of events e);
+}
+
+abbrev pub told_of_act : {S : Type 0} → Meaning S → S → List Act → Act → List Item → Told
+told_of_act m s acts a items = record {
+  to_client = [];
+  to_host = [];
+  from_host = act_bytes m s acts a;
+  items = items;
+  refusals = [];
+}
+
+-- the items of an act, by the submits that were accepted
+abbrev pub act_items : {S : Type 0} → Meaning S → S → List Act → List Submitted → Act → List Item
+act_items m s acts submits (Piece b) = flat_map (item_of_host submits) (act_notes m s acts (Piece b))
+act_items m s acts submits (Performs ep) = performed_item submits ep (told_performed m (host_of m s acts) ep)
+act_items m s acts submits (Offers ep) = offered_item ep (told_offered m (host_of m s acts) ep)
+act_items m s acts submits Unplugs = []
+
+abbrev pub told_of : {S : Type 0} → Meaning S → S → Course → Act → Told
+told_of m s c a = told_of_act m s c.acts a (act_items m s c.acts (submits_of c.events) a)
+
+abbrev pub told_by : {S : Type 0} → Meaning S → S → Course → Step → Told
+told_by m s c (Client b) = told_of_event c.events (ClientPiece b)
+told_by m s c ClientEnd = told_of_event c.events ClientEnds
+told_by m s c (ToHost n) = told_of m s c (Piece (take n (wire_to_host c)))
+told_by m s c (ToGate n) = told_of_event c.events (HostPiece (take n (wire_to_gate m s c)))
+told_by m s c (Perform ep) = told_of m s c (Performs ep)
+told_by m s c (Offer ep) = told_of m s c (Offers ep)
+told_by m s c Unplug = told_of m s c Unplugs
+
+-- ---- of all steps
+
+-- the making tells the hellos of both
+abbrev pub told_first : {S : Type 0} → Meaning S → S → Told
+told_first m s = record {
+  to_client = [];
+  to_host = sent_to_host nothing_yet;
+  from_host = sent_to_gate m s nothing_yet;
+  items = [];
+  refusals = [];
+}
+
+-- all items of these steps, in the order in which they were told
+abbrev pub trace : {S : Type 0} → Meaning S → S → List Step → List Item
+trace m s [] = []
+trace m s (x ∷ steps) = trace m s steps ++ (told_by m s (course m s steps) x).items
+
+-- what these steps put on a wire, the earliest first
+abbrev pub all_told : {S : Type 0} → (Told → List ℕ) → Meaning S → S → List Step → List ℕ
+all_told wire m s [] = []
+all_told wire m s (x ∷ steps) = all_told wire m s steps ++ wire (told_by m s (course m s steps) x)

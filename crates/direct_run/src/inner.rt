@@ -1,0 +1,213 @@
+//! What a system keeps, and how steps change it.
+
+ghost use Rattle.std.specs.Prelude.{◌≡◌, ◌++◌, [], List as ListOf, IfOk, OnOk, OnErr, IsErr, take, drop, true};
+ghost use Rattle.gate_core.specs.Events.{Event as PastEvent, HostPiece, event_of};
+ghost use Rattle.gate_core.specs.Stands.{Stands as GateStands};
+ghost use Rattle.redir_host.specs.Acts.{Act, Piece, Perform, Offer, Unplug};
+ghost use Rattle.redir_host.specs.Stands.{Stands as HostStands};
+ghost use Rattle.direct_run.specs.Steps.{Step as PastStep, step_of};
+ghost use Rattle.direct_run.specs.World.{first_id, sent_to_host, sent_to_gate, nothing_yet};
+ghost use Rattle.direct_run.specs.Stands.{Stands, Takes};
+ghost use Rattle.direct_run.specs.inner.Views.{kept_of};
+ghost use Rattle.direct_run.specs.inner.Doing.{DoesEvent, DoesAct};
+
+use crate::item::Items;
+use crate::notes::{
+    push_all, push_host_items, push_items, push_offered, push_performed, push_refusals,
+    push_submits,
+};
+use crate::step::Step;
+use crate::submitted::Submits;
+use crate::told::Told;
+use gate_core::{Event, Gate};
+use model_device::Gadget;
+use redir_host::HostCore;
+use std::alloc::Global;
+use usb_base::{Bytes, EpAddr, List, Memory};
+
+/// The gateway, the host, and the bytes between them.
+#[derive(Drop)]
+pub struct Inner<G: Gadget> {
+    pub alloc: Global,
+    pub gate: Gate,
+    pub host: HostCore<G>,
+    /// The bytes on the wire to the host, and to the gateway.
+    pub to_host: Bytes,
+    pub to_gate: Bytes,
+    pub trace: Items,
+    pub submits: Submits,
+    /// Memory ran out in an earlier step.
+    pub failed: bool,
+}
+
+impl<G: Gadget> Inner<G> {
+    /// The system of a device that was just plugged in. It tells the hellos of both.
+    pub fn make(alloc: Global, gadget: G, told: &mut Told) -> Result<Inner<G>, Memory>
+        ensures made { IfOk result (λ inner. Stands G.meaning gadget (kept_of inner) []) }
+        ensures told { OnOk result (told.new ≡ record told.old { to_host = told.old.to_host ++ sent_to_host nothing_yet; from_host = told.old.from_host ++ sent_to_gate G.meaning gadget nothing_yet }) }
+    {
+        let mut to_host = Bytes::new(alloc);
+        let gate = Gate::make(alloc, 1, &mut to_host)?;
+        let mut to_gate = Bytes::new(alloc);
+        let host = HostCore::make(alloc, gadget, &mut to_gate)?;
+        told.to_host.append(to_host.as_slice())?;
+        told.from_host.append(to_gate.as_slice())?;
+        Ok(Inner {
+            alloc,
+            gate,
+            host,
+            to_host,
+            to_gate,
+            trace: List::new(alloc),
+            submits: List::new(alloc),
+            failed: false,
+        })
+    }
+
+    /// Does a step. Once memory has run out it does nothing.
+    pub fn step(&mut self, step: Step) -> Result<Told, Memory>
+        ensures takes { IfOk result (λ told. (first : G) (past : ListOf PastStep) → Stands G.meaning first (kept_of self.old) past
+            → Takes G.meaning first (kept_of self.new) past (step_of step.entry) told) }
+        ensures failed { self.old.failed ≡ true → IsErr result × (self.new ≡ self.old) }
+    {
+        match step {
+            Step::Client(bytes) => self.event(Event::ClientPiece(bytes)),
+            Step::ClientEnd => self.event(Event::ClientEnd),
+            Step::ToHost(count) => self.carry_to_host(count),
+            Step::ToGate(count) => self.carry_to_gate(count),
+            Step::Perform(ep) => self.perform(ep),
+            Step::Offer(ep) => self.offer(ep),
+            Step::Unplug => self.unplug(),
+        }
+    }
+
+    /// Keeps that memory has run out, where it has.
+    pub fn keep(&mut self, told: Result<Told, Memory>) -> Result<Told, Memory>
+        ensures same { result ≡ told }
+        ensures ok { OnOk result (self.new ≡ self.old) }
+        ensures err { OnErr result (self.new ≡ record self.old { failed = true }) }
+    {
+        if told.is_err() {
+            self.failed = true;
+        }
+        told
+    }
+
+    /// An error where memory has run out in an earlier step.
+    fn works(&self) -> Result<(), Memory>
+        ensures failed { self.now.failed ≡ true → IsErr result }
+    {
+        if self.failed { Err(Memory) } else { Ok(()) }
+    }
+
+    /// So many bytes get to the host, or all there are.
+    fn carry_to_host(&mut self, count: u32) -> Result<Told, Memory>
+        ensures does { IfOk result (λ told. (first : G) (past : ListOf Act) → HostStands G.meaning first self.old.host past
+            → DoesAct G.meaning first (record (kept_of self.old) { to_host = drop count self.old.to_host }) (kept_of self.new) past (Piece (take count self.old.to_host)) told) }
+        ensures failed { self.old.failed ≡ true → IsErr result × (self.new ≡ self.old) }
+    {
+        self.works()?;
+        let piece = take_front(self.alloc, &mut self.to_host, count)?;
+        self.hear(piece.as_slice())
+    }
+
+    /// So many bytes get to the gateway, or all there are.
+    fn carry_to_gate(&mut self, count: u32) -> Result<Told, Memory>
+        ensures does { IfOk result (λ told. (past : ListOf PastEvent) → GateStands first_id self.old.gate past
+            → DoesEvent (record (kept_of self.old) { to_gate = drop count self.old.to_gate }) (kept_of self.new) past (HostPiece (take count self.old.to_gate)) told) }
+        ensures failed { self.old.failed ≡ true → IsErr result × (self.new ≡ self.old) }
+    {
+        self.works()?;
+        let piece = take_front(self.alloc, &mut self.to_gate, count)?;
+        self.event(Event::HostPiece(piece.as_slice()))
+    }
+
+    /// Has the gateway take an event.
+    fn event(&mut self, event: Event) -> Result<Told, Memory>
+        ensures does { IfOk result (λ told. (past : ListOf PastEvent) → GateStands first_id self.old.gate past
+            → DoesEvent (kept_of self.old) (kept_of self.new) past (event_of event.entry) told) }
+        ensures failed { self.old.failed ≡ true → IsErr result × (self.new ≡ self.old) }
+    {
+        self.works()?;
+        let mut told = Told::new(self.alloc);
+        let notes = self
+            .gate
+            .take(event, &mut told.to_client, &mut told.to_host)?;
+        self.to_host.append(told.to_host.as_slice())?;
+        push_items(&notes, &mut told.items)?;
+        push_refusals(&notes, &mut told.refusals)?;
+        push_submits(&notes, &mut self.submits)?;
+        push_all(&told.items, &mut self.trace)?;
+        Ok(told)
+    }
+
+    /// Has the host take a piece of the gateway's bytes.
+    fn hear(&mut self, bytes: &[u8]) -> Result<Told, Memory>
+        ensures does { IfOk result (λ told. (first : G) (past : ListOf Act) → HostStands G.meaning first self.old.host past
+            → DoesAct G.meaning first (kept_of self.old) (kept_of self.new) past (Piece bytes.now) told) }
+        ensures failed { self.old.failed ≡ true → IsErr result × (self.new ≡ self.old) }
+    {
+        self.works()?;
+        let mut told = Told::new(self.alloc);
+        let notes = self.host.take(bytes, &mut told.from_host)?;
+        self.to_gate.append(told.from_host.as_slice())?;
+        push_host_items(&notes, &self.submits, &mut told.items)?;
+        push_all(&told.items, &mut self.trace)?;
+        Ok(told)
+    }
+
+    /// Has the device perform the first request of an endpoint.
+    fn perform(&mut self, ep: EpAddr) -> Result<Told, Memory>
+        ensures does { IfOk result (λ told. (first : G) (past : ListOf Act) → HostStands G.meaning first self.old.host past
+            → DoesAct G.meaning first (kept_of self.old) (kept_of self.new) past (Perform ep) told) }
+        ensures failed { self.old.failed ≡ true → IsErr result × (self.new ≡ self.old) }
+    {
+        self.works()?;
+        let mut told = Told::new(self.alloc);
+        let performed = self.host.perform(ep, &mut told.from_host)?;
+        self.to_gate.append(told.from_host.as_slice())?;
+        push_performed(performed, ep, &self.submits, &mut told.items)?;
+        push_all(&told.items, &mut self.trace)?;
+        Ok(told)
+    }
+
+    /// Offers the gateway what the device has for an endpoint.
+    fn offer(&mut self, ep: EpAddr) -> Result<Told, Memory>
+        ensures does { IfOk result (λ told. (first : G) (past : ListOf Act) → HostStands G.meaning first self.old.host past
+            → DoesAct G.meaning first (kept_of self.old) (kept_of self.new) past (Offer ep) told) }
+        ensures failed { self.old.failed ≡ true → IsErr result × (self.new ≡ self.old) }
+    {
+        self.works()?;
+        let mut told = Told::new(self.alloc);
+        let offered = self.host.offer(ep, &mut told.from_host)?;
+        self.to_gate.append(told.from_host.as_slice())?;
+        push_offered(offered, ep, &mut told.items)?;
+        push_all(&told.items, &mut self.trace)?;
+        Ok(told)
+    }
+
+    /// Takes the device away.
+    fn unplug(&mut self) -> Result<Told, Memory>
+        ensures does { IfOk result (λ told. (first : G) (past : ListOf Act) → HostStands G.meaning first self.old.host past
+            → DoesAct G.meaning first (kept_of self.old) (kept_of self.new) past Unplug told) }
+        ensures failed { self.old.failed ≡ true → IsErr result × (self.new ≡ self.old) }
+    {
+        self.works()?;
+        let mut told = Told::new(self.alloc);
+        self.host.unplug(&mut told.from_host)?;
+        self.to_gate.append(told.from_host.as_slice())?;
+        Ok(told)
+    }
+}
+
+/// Takes so many bytes off the front of a wire, or all there are.
+fn take_front(alloc: Global, wire: &mut Bytes, count: u32) -> Result<Bytes, Memory>
+    ensures piece { IfOk result (λ piece. piece ≡ take count wire.old) }
+    ensures rest { OnOk result (wire.new ≡ drop count wire.old) }
+{
+    let count = wire.len().min(count as usize);
+    let mut piece = Bytes::new(alloc);
+    piece.append(&wire.as_slice()[..count])?;
+    wire.skip(count);
+    Ok(piece)
+}

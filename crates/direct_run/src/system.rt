@@ -1,0 +1,101 @@
+//! A gateway and a modelled device on two wires.
+
+ghost use Rattle.std.specs.Prelude.{◌≡◌, [], List, ℕ, IfOk, OnErr, OnOk, IsErr};
+ghost use Rattle.gate_core.specs.History.{history};
+ghost use Rattle.gate_core.specs.All.{counts_of};
+ghost use Rattle.direct_run.specs.Steps.{Step as PastStep, step_of};
+ghost use Rattle.direct_run.specs.World.{first_id, course};
+ghost use Rattle.direct_run.specs.Trace.{told_first, trace as trace_of};
+ghost use Rattle.direct_run.specs.Stands.{Stands, Takes, HasFailed};
+
+use crate::inner::Inner;
+use crate::item::Items;
+use crate::step::Step;
+use crate::told::Told;
+use gate_core::Counts;
+use model_device::Gadget;
+use std::alloc::Global;
+use std::marker::Model;
+use usb_base::Memory;
+
+/// The gateway, the device's host, and the wires between them. Once memory has run out in a step, every later one answers
+/// `Memory` and changes nothing.
+#[derive(Drop)]
+pub struct System<G: Gadget> {
+    inner: Inner<G>,
+}
+
+impl<G: Gadget> Model for System<G> {
+    ghost use Rattle.direct_run.specs.Kept.{SystemKept};
+    ghost use Rattle.direct_run.specs.inner.Views.{kept_of};
+
+    ghost Value = { SystemKept G };
+
+    ghost view = { λ system. kept_of system.inner };
+}
+
+impl<G: Gadget> System<G> {
+    /// The system of a device that was just plugged in. What is told are the hellos of both.
+    pub fn make(alloc: Global, gadget: G) -> Result<(System<G>, Told), Memory>
+        ensures made { IfOk result (λ made. Stands G.meaning gadget made.0 []) }
+        ensures told { IfOk result (λ made. made.1 ≡ told_first G.meaning gadget) }
+    {
+        let mut told = Told::new(alloc);
+        let inner = Inner::make(alloc, gadget, &mut told)?;
+        Ok((System { inner }, told))
+    }
+
+    /// Does a step.
+    pub fn step(&mut self, step: Step) -> Result<Told, Memory>
+        ensures takes { IfOk result (λ told. (first : G) (past : List PastStep) → Stands G.meaning first self.old past
+            → Takes G.meaning first self.new past (step_of step.entry) told) }
+        ensures fails { OnErr result (HasFailed self.new) }
+        ensures failed { HasFailed self.old → IsErr result × (self.new ≡ self.old) }
+    {
+        match step {
+            Step::Client(bytes) => {
+                let told = self.inner.step(Step::Client(bytes));
+                self.inner.keep(told)
+            }
+            Step::ClientEnd => {
+                let told = self.inner.step(Step::ClientEnd);
+                self.inner.keep(told)
+            }
+            Step::ToHost(count) => {
+                let told = self.inner.step(Step::ToHost(count));
+                self.inner.keep(told)
+            }
+            Step::ToGate(count) => {
+                let told = self.inner.step(Step::ToGate(count));
+                self.inner.keep(told)
+            }
+            Step::Perform(ep) => {
+                let told = self.inner.step(Step::Perform(ep));
+                self.inner.keep(told)
+            }
+            Step::Offer(ep) => {
+                let told = self.inner.step(Step::Offer(ep));
+                self.inner.keep(told)
+            }
+            Step::Unplug => {
+                let told = self.inner.step(Step::Unplug);
+                self.inner.keep(told)
+            }
+        }
+    }
+
+    /// All items so far.
+    pub fn trace(&self) -> &Items
+        ensures { (first : G) (steps : List PastStep) → Stands G.meaning first self.now steps → result.now ≡ trace_of G.meaning first steps }
+    {
+        &self.inner.trace
+    }
+
+    /// What the gateway has counted.
+    pub fn counts(&self) -> Counts
+        ensures { (first : G) (steps : List PastStep) → Stands G.meaning first self.now steps
+            → result ≡ counts_of first_id (history first_id (course G.meaning first steps).events) }
+    {
+        self.inner.gate.counts()
+    }
+}
