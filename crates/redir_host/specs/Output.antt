@@ -3,20 +3,25 @@ use Rattle.std.specs.Prelude.{ℕ, List, [], ◌∷◌, ◌++◌, replicate, cod
 use Rattle.redir_wire.specs.declared.packet.RedirControl.{RedirControl}
 use Rattle.redir_wire.specs.declared.packet.RedirControl.TheVariants as plain
 use Rattle.redir_wire.specs.Capability.{announced, no_caps}
-use Rattle.redir_wire.specs.Written.{packet_bytes}
+use Rattle.redir_data.specs.declared.packet.RedirPacket.{RedirPacket}
+use Rattle.redir_data.specs.declared.packet.RedirPacket.TheVariants.{Plain}
 use Rattle.model_device.specs.Meaning.{Meaning}
 use Rattle.redir_host.specs.declared.host.Host.{Host}
 use Rattle.redir_host.specs.declared.note.HostNote.{HostNote}
 use Rattle.redir_host.specs.Acts.{Act}
 use Rattle.redir_host.specs.History.{brought, history}
-use Rattle.redir_host.specs.Machine.{run, bytes_of, notes_of, all_given, given_by}
+use Rattle.redir_host.specs.Machine.{run, told_bytes, bytes_of, notes_of, all_given, given_by}
 
 -- the host's hello: its name, and the capabilities that it announces
 abbrev pub host_hello : RedirControl
 host_hello = plain.Hello (record { version = codes "usbgate host 1" ++ replicate 50 0; words = announced.bits ∷ [] })
 
+-- it is the first packet, and spelled as one
+abbrev pub first_packet : ℕ × RedirPacket
+first_packet = (0, Plain host_hello)
+
 abbrev pub hello_bytes : List ℕ
-hello_bytes = packet_bytes 0 no_caps host_hello
+hello_bytes = told_bytes no_caps first_packet
 
 -- the state after these acts of the host of a device that began in state s
 abbrev pub host_of : {S : Type 0} → Meaning S → S → List Act → Host S
