@@ -87,7 +87,7 @@ outcome_length caps form.GetConfiguration wanted done w less = tt
 outcome_length caps (form.SetAlt interface alt) wanted done w less = tt
 outcome_length caps (form.GetAlt interface) wanted done w less = tt
 
-few_wanted : (caps : Caps) (f : Form) (wanted : ℕ) → WantedFits caps f wanted → wanted ≤ 16777216
+pub few_wanted : (caps : Caps) (f : Form) (wanted : ℕ) → WantedFits caps f wanted → wanted ≤ 16777216
 few_wanted caps (form.Control s) wanted w = omega arith
 few_wanted caps (form.Bulk stream) wanted w = w.0
 few_wanted caps form.Interrupt wanted w = omega arith

@@ -36,7 +36,7 @@ use Rattle.redir_host.specs.Makes.{IsTaken}
 use Rattle.redir_host.specs.Moves.{Move, quiet}
 use Rattle.redir_host.specs.Packets.{request, queued, data_move, cancel_move, can_start, is_of, runs_at, stopped, start_move, stop_move, plain_move, packet_move}
 use Rattle.redir_host.specs.Queues.{is_first_queue, is_cancelled_by, marked, with_first_marked, after_cancel}
-use Rattle.redir_host.specs.Sound.{Each, IsRequest, IsRunning, IsSound, WantedFits}
+use Rattle.redir_host.specs.Sound.{Each, FormFits, IsRequest, IsRunning, IsSound, WantedFits}
 use Rattle.redir_host.proofs.Keeps.{Keeps}
 use Rattle.redir_host.proofs.Sounds.{each_appended, each_filtered, each_weaker, second}
 
@@ -124,6 +124,7 @@ other-transfer ep told body other there = record {
 record CanJoin (caps : Caps) (id : ℕ) (f : Form) (t : Transfer) : Type 0 where
   pub transfer : IsTransfer t
   pub wanted_fits : WantedFits caps f t.wanted
+  pub form_fits : FormFits f
 
 joins-keeps : {S : Type 0} (h : Host S) (id : ℕ) (f : Form) (t : Transfer) → IsSound h → h.guest.first ≡ false → IdFits (is_wide false h.guest.caps) id → CanJoin h.guest.caps id f t → Keeps h (queued h (is_control t.ep) id f t)
 joins-keeps h id f t sound greeted fits can = record {
@@ -134,6 +135,7 @@ joins-keeps h id f t sound greeted fits can = record {
       id_fits = fits;
       transfer = can.transfer;
       wanted_fits = can.wanted_fits;
+      form_fits = can.form_fits;
       marked = λ is. first_of_both (is_control t.ep) h.resets_next is;
     });
     streams = sound.streams;
@@ -149,7 +151,7 @@ interrupt-keeps : {S : Type 0} (h : Host S) (id ep told : ℕ) (body : List ℕ)
 interrupt-keeps h id ep told body true sound greeted fits few there = record { guest = refl; sound = sound }
 interrupt-keeps h id ep told body false sound greeted fits few there =
     asked-keeps h id (is_other ep) form.Interrupt (record { ep = ep; setup = None; wanted = told; body = body }) sound greeted fits
-    (λ other. record { transfer = other-transfer ep told body other there; wanted_fits = few })
+    (λ other. record { transfer = other-transfer ep told body other there; wanted_fits = few; form_fits = tt })
 
 data-keeps : {S : Type 0} (h : Host S) (id : ℕ) (d : RedirData) → IsSound h → h.guest.first ≡ false → IdFits (is_wide false h.guest.caps) id → IsData h.guest.caps ToHost d → Keeps h (data_move h id (asking_of d)).host
 data-keeps h id (moving.Control ep asked kind status value index told body) sound greeted fits is =
@@ -158,12 +160,14 @@ data-keeps h id (moving.Control ep asked kind status value index told body) soun
     (λ its. record {
       transfer = control-by setup ep told body (nat_lt kind 128) refl (eqb-true ep (cond (nat_lt kind 128) 0 128) its) is.data_there;
       wanted_fits = is.ranges.length_fits;
+      form_fits = (is.ranges.value_fits, is.ranges.index_fits);
     })
 data-keeps h id (moving.Bulk ep status told stream body) sound greeted fits is =
     asked-keeps h id (is_other ep && nat_le told greatest) (form.Bulk stream) (record { ep = ep; setup = None; wanted = told; body = body }) sound greeted fits
     (λ can. record {
       transfer = other-transfer ep told body (first_of_both (is_other ep) (nat_le told greatest) can) is.data_there;
       wanted_fits = (leb-true told greatest (second (is_other ep) (nat_le told greatest) can), is.length_fits);
+      form_fits = is.ranges.stream_fits;
     })
 data-keeps h id (moving.Iso ep status told body) sound greeted fits is = record { guest = refl; sound = sound }
 data-keeps h id (moving.Interrupt ep status told body) sound greeted fits is =
@@ -176,7 +180,7 @@ each-marked guest [] each = tt
 each-marked guest (q ∷ qs) each = by (is_first_queue q) refl (each-marked guest qs each.1)
   where
     by : (b : Bool) → is_first_queue q ≡ b → Each (IsRequest guest) (with_first_marked qs) → Each (IsRequest guest) (cond b (marked q ∷ qs) (q ∷ with_first_marked qs))
-    by true first rest = (record { greeted = each.0.greeted; id_fits = each.0.id_fits; transfer = each.0.transfer; wanted_fits = each.0.wanted_fits; marked = λ _. first }, each.1)
+    by true first rest = (record { greeted = each.0.greeted; id_fits = each.0.id_fits; transfer = each.0.transfer; wanted_fits = each.0.wanted_fits; form_fits = each.0.form_fits; marked = λ _. first }, each.1)
     by false other rest = (each.0, rest)
 
 each-cancelled : (guest : RedirState) (id : ℕ) (qs : List Request) → Each (IsRequest guest) qs → Each (IsRequest guest) (after_cancel id qs)
@@ -212,17 +216,17 @@ started-in table k ep can = first_of_both (is_in_endpoint ep) (is_of k (row_of t
 
 -- ---- packets that move no data
 
-routed-keeps : {S : Type 0} (h : Host S) (id : ℕ) (f : Form) (t : Transfer) → IsSound h → h.guest.first ≡ false → IdFits (is_wide false h.guest.caps) id → IsRouted t → (t.wanted < 2 ^ 16 → WantedFits h.guest.caps f t.wanted) → Keeps h (queued h (is_control t.ep) id f t)
-routed-keeps h id f t sound greeted fits is few = joins-keeps h id f t sound greeted fits (record { transfer = is.transfer; wanted_fits = few is.few })
+routed-keeps : {S : Type 0} (h : Host S) (id : ℕ) (f : Form) (t : Transfer) → IsSound h → h.guest.first ≡ false → IdFits (is_wide false h.guest.caps) id → IsRouted t → (t.wanted < 2 ^ 16 → WantedFits h.guest.caps f t.wanted) → FormFits f → Keeps h (queued h (is_control t.ep) id f t)
+routed-keeps h id f t sound greeted fits is few form = joins-keeps h id f t sound greeted fits (record { transfer = is.transfer; wanted_fits = few is.few; form_fits = form })
 
 plain-keeps : {S : Type 0} (m : Meaning S) (h : Host S) (id : ℕ) (c : RedirControl) → IsSound h → h.guest.first ≡ false → IdFits (is_wide false h.guest.caps) id → Keeps h (plain_move m h id c).host
 plain-keeps m h id plain.Reset sound greeted fits = record { guest = refl; sound = record { requests = sound.requests; streams = sound.streams } }
 plain-keeps m h id (plain.SetConfiguration configuration) sound greeted fits =
-    routed-keeps h id (form.SetConfiguration configuration) (routed (route.SetConfig configuration)) sound greeted fits (routed-set configuration) (λ few. few)
-plain-keeps m h id plain.GetConfiguration sound greeted fits = routed-keeps h id form.GetConfiguration (routed route.GetConfig) sound greeted fits routed-get (λ few. few)
+    routed-keeps h id (form.SetConfiguration configuration) (routed (route.SetConfig configuration)) sound greeted fits (routed-set configuration) (λ few. few) tt
+plain-keeps m h id plain.GetConfiguration sound greeted fits = routed-keeps h id form.GetConfiguration (routed route.GetConfig) sound greeted fits routed-get (λ few. few) tt
 plain-keeps m h id (plain.SetAlt interface alt) sound greeted fits =
-    routed-keeps h id (form.SetAlt interface alt) (routed (route.SetAlt interface alt)) sound greeted fits (routed-set_alt interface alt) (λ few. few)
-plain-keeps m h id (plain.GetAlt interface) sound greeted fits = routed-keeps h id (form.GetAlt interface) (routed (route.GetAlt interface)) sound greeted fits (routed-get_alt interface) (λ few. few)
+    routed-keeps h id (form.SetAlt interface alt) (routed (route.SetAlt interface alt)) sound greeted fits (routed-set_alt interface alt) (λ few. few) tt
+plain-keeps m h id (plain.GetAlt interface) sound greeted fits = routed-keeps h id (form.GetAlt interface) (routed (route.GetAlt interface)) sound greeted fits (routed-get_alt interface) (λ few. few) tt
 plain-keeps m h id (plain.StartIso ep pkts_per_urb no_urbs) sound greeted fits =
     start-keeps h id Iso ep (can_start (m.table h.gadget) Iso ep) sound greeted (started-in (m.table h.gadget) Iso ep)
 plain-keeps m h id (plain.StopIso ep) sound greeted fits = stop-keeps h id Iso ep sound
@@ -239,11 +243,11 @@ keeps-all h v true sound k = record { guest = refl; sound = sound }
 keeps-all h v false sound k = k
 
 -- a packet other than the hello comes behind it
-later : (first : Bool) (kind number : ℕ) → is_in_turn first kind ≡ true → kind ≡ number → (number == 0) ≡ false → first ≡ false
+pub later : (first : Bool) (kind number : ℕ) → is_in_turn first kind ≡ true → kind ≡ number → (number == 0) ≡ false → first ≡ false
 later true kind number turn is other = absurd (true≢false (sym turn ∙ ap (λ (n : ℕ). n == 0) is ∙ other))
 later false kind number turn is other = refl
 
-earlier : (first : Bool) (kind : ℕ) → is_in_turn first kind ≡ true → kind ≡ 0 → first ≡ true
+pub earlier : (first : Bool) (kind : ℕ) → is_in_turn first kind ≡ true → kind ≡ 0 → first ≡ true
 earlier true kind turn is = refl
 earlier false kind turn is = absurd (true≢false (sym turn ∙ ap (λ (n : ℕ). not (n == 0)) is))
 

@@ -23,11 +23,13 @@ use Rattle.redir_host.specs.declared.note.HostNote.{HostNote}
 use Rattle.redir_host.specs.declared.note.HostNote.TheVariants.{Refused}
 use Rattle.redir_host.specs.Acts.{Act, Piece, guest_bytes}
 use Rattle.redir_host.specs.Guest.{guest_reader, guest_start, guest_split, guest_items, asked, wrongs, added}
+use Rattle.redir_host.specs.History.{history}
 use Rattle.redir_host.specs.Items.{Item, Wrong}
-use Rattle.redir_host.specs.Machine.{bytes_of, notes_of, steps, given_by}
+use Rattle.redir_host.specs.Machine.{all_given, bytes_of, notes_of, steps, given_by}
+use Rattle.redir_host.specs.Readable.{AreRead}
 use Rattle.redir_host.specs.Stands.{told_state, IsRead, IsReadBy, Stands, TakesAct, Stops}
 use Rattle.redir_host.specs.Takings.{Took, TookPackets}
-use Rattle.redir_host.proofs.Pieces.{Found, guest-steady, side, before, state-all, host-all, given-all}
+use Rattle.redir_host.proofs.Pieces.{Found, guest-steady, side, before, state-all, host-all, given-all, read-given, sent_of}
 use Rattle.redir_host.proofs.Runs.{steps-append, given-append}
 
 pub on-err : {T E : Type 0} (r : Result T E) (P : Type 0) → P → OnErr r P
@@ -61,6 +63,7 @@ over-piece {S = S} m s k acts piece o n are stands over =
           stream = record { fits = AreBytes-append bytes piece stands.stream.fits are; read = subst (IsReadBy k.stream (guest_split (bytes ++ piece))) (sym over) (w.0, wrong) };
           host = host-all m s k k.host acts (Piece piece) [] stands refl none;
           sound = stands.sound;
+          told = read-given m s k k.host acts (Piece piece) [] stands none (subst (AreRead k.host.guest) (sym (append-nil (all_given sent_of m s (history acts)))) stands.told);
           state = stands.state ∙ ap (λ (y : Splitting RedirState (Header × RedirPacket) Reason). told_state start y.packets) (sym same);
         };
         sent = given-all bytes_of m s k acts [] (added bytes piece) o o stands (sym (append-nil o)) none;
@@ -80,14 +83,15 @@ record IsDone {S : Type 0} (m : Meaning S) (s : S) (old new : HostKept S) (acts 
   pub took : Took m old.host new.host n0 n1 more
 
 done : {S : Type 0} (m : Meaning S) (s : S) (old new : HostKept S) (acts : List Act) (piece o0 o1 : List ℕ) (n0 n1 n2 : List HostNote) (xs : List Item) → Stands m s old acts → (d : IsDone m s old new acts piece o0 o1 n0 n1 xs) →
-    new.host ≡ steps m old.host xs → o1 ≡ o0 ++ given_by bytes_of m old.host xs → n2 ≡ n0 ++ given_by notes_of m old.host xs → TakesAct m s new acts (Piece piece) o0 o1 n0 n2
-done m s old new acts piece o0 o1 n0 n1 n2 xs stands d host sent told = record {
+    new.host ≡ steps m old.host xs → o1 ≡ o0 ++ given_by bytes_of m old.host xs → n2 ≡ n0 ++ given_by notes_of m old.host xs → AreRead new.host.guest (all_given sent_of m s (history acts) ++ given_by sent_of m old.host xs) → TakesAct m s new acts (Piece piece) o0 o1 n0 n2
+done m s old new acts piece o0 o1 n0 n1 n2 xs stands d host sent told read = record {
   does = record {
     stands = record {
       works = d.failed ∙ stands.works;
       stream = d.stream;
       host = host-all m s old new.host acts (Piece piece) xs stands host d.parts;
       sound = d.took.sound;
+      told = read-given m s old new.host acts (Piece piece) xs stands d.parts read;
       state = state-all m s old new.host acts n0 n1 d.more (guest_split (guest_bytes acts ++ piece)).packets stands d.took d.packets;
     };
     sent = given-all bytes_of m s old acts xs (added (guest_bytes acts) piece) o0 o1 stands sent d.parts;
@@ -112,7 +116,7 @@ all-taken {S = S} m s old new stream acts piece o0 o1 n0 n1 are stands going is 
     let drained : Drained new.stream y y.packets = record { packets = refl; right = d.right; rest = d.rest; place = d.place; state = d.state } in
     done m s old new acts piece o0 o1 n0 n1 n1 (map asked t.more) stands
     (record { failed = failed; stream = record { fits = b.fits; read = subst (IsReadBy new.stream y) (sym over) drained }; parts = parts; more = t.more; packets = d.packets; took = t.did.took })
-    t.did.took.host t.did.sent t.did.took.told
+    t.did.took.host t.did.sent t.did.took.told (t.did.took.reads (all_given sent_of m s (history acts)) stands.told)
 
 -- what the packets made, by the error that ended them
 abbrev pub EndedBy : {S : Type 0} → ReadError → Meaning S → Host S → Host S → Stream RedirState → Stream RedirState → List ℕ → List ℕ → List HostNote → List HostNote → Type 0
@@ -147,6 +151,8 @@ wrong-told {S = S} m s old new stream acts piece o0 o1 n0 n1 n2 place why are st
     ∙ (λ i. t.did.took.told i ++ Refused (w.place-is i) why ∷ [])
     ∙ append_assoc n0 (given_by notes_of m old.host xs) (Refused (capped w.at) why ∷ [])
     ∙ ap (λ ns. n0 ++ ns) (sym (given-append notes_of m old.host xs last)))
+    (subst (λ (l : List (ℕ × RedirPacket)). AreRead new.host.guest (all_given sent_of m s (history acts) ++ l)) (sym (append-nil (given_by sent_of m old.host xs)) ∙ sym (given-append sent_of m old.host xs last))
+    (t.did.took.reads (all_given sent_of m s (history acts)) stands.told))
 
 -- ---- memory ran out
 

@@ -47,7 +47,7 @@ keeps-done : {S : Type 0} (m : Meaning S) (t : EpTable) (h : Host S) (q : Reques
 keeps-done m t h q None o sound = record { guest = refl; sound = sound }
 keeps-done m t h q (Some r) o sound = keeps-changed m r t (is_success o.status) h sound
 
-with-gadget : {S : Type 0} (h : Host S) (s : S) → IsSound h → IsSound (record h { gadget = s })
+pub with-gadget : {S : Type 0} (h : Host S) (s : S) → IsSound h → IsSound (record h { gadget = s })
 with-gadget h s sound = record { requests = sound.requests; streams = sound.streams }
 
 keeps-does : {S : Type 0} (m : Meaning S) (h : Host S) (q : Request) (r : Option Route) (o : Option (S × Outcome)) → IsSound h → KeepsIf h (does m h q r o)
@@ -86,7 +86,7 @@ keeps-id : {S : Type 0} (h : Host S) (q : Request) (o : Option (Move S)) → Kee
 keeps-id h q None k = tt
 keeps-id h q (Some v) k = k
 
-each-without : {A : Type 0} (P : A → Type 0) (test : A → Bool) (xs : List A) → Each P xs → Each P (without_first test xs)
+pub each-without : {A : Type 0} (P : A → Type 0) (test : A → Bool) (xs : List A) → Each P xs → Each P (without_first test xs)
 each-without P test [] each = tt
 each-without P test (x ∷ xs) each =
     elim (test x) as (λ (b : Bool). Each P (cond b xs (x ∷ without_first test xs))) [ true ↦ each.1 | false ↦ (each.0, each-without P test xs each.1) ]

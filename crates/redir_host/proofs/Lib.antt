@@ -8,6 +8,8 @@ pub mod Flushes
 pub mod Makings
 pub mod Keeps
 pub mod Coming
+pub mod Readable
+pub mod Replies
 pub mod Runs
 pub mod Pieces
 pub mod Standing

@@ -21,24 +21,27 @@ use Rattle.redir_data.specs.declared.packet.RedirPacket.{RedirPacket}
 use Rattle.redir_data.specs.declared.state.RedirState.{RedirState}
 use Rattle.redir_data.specs.Streams.{start, after, stream_format}
 use Rattle.redir_data.specs.sound.Joined.{stream_sound}
+use Rattle.model_device.specs.Gadget.{IsGadget}
 use Rattle.model_device.specs.Meaning.{Meaning}
 use Rattle.redir_host.specs.declared.host.Host.{Host}
 use Rattle.redir_host.specs.Kept.{HostKept}
 use Rattle.redir_host.specs.declared.note.HostNote.{HostNote}
 use Rattle.redir_host.specs.Acts.{Act, guest_bytes}
 use Rattle.redir_host.specs.Guest.{guest_reader, guest_start, guest_split, asked}
-use Rattle.redir_host.specs.History.{brought}
+use Rattle.redir_host.specs.History.{brought, history}
 use Rattle.redir_host.specs.Items.{Item, Asked, Wrong}
-use Rattle.redir_host.specs.Machine.{bytes_of, notes_of, steps, given_by}
+use Rattle.redir_host.specs.Machine.{all_given, bytes_of, notes_of, steps, given_by}
 use Rattle.redir_host.specs.Makes.{IsTaken, Takes}
 use Rattle.redir_host.specs.Moves.{Move}
 use Rattle.redir_host.specs.Output.{host_of}
 use Rattle.redir_host.specs.Packets.{packet_move}
+use Rattle.redir_host.specs.Readable.{AreRead, TakesInRange}
 use Rattle.redir_host.specs.Sound.{IsSound}
 use Rattle.redir_host.specs.Stands.{told_state, IsReadBy, Stands}
 use Rattle.redir_host.specs.Takings.{IsGiven, OnRead, Took, TookPackets}
 use Rattle.redir_host.proofs.Coming.{keeps-packet}
-use Rattle.redir_host.proofs.Runs.{steps-append, given-append, act-host}
+use Rattle.redir_host.proofs.Replies.{packet-read}
+use Rattle.redir_host.proofs.Runs.{act-gives, steps-append, given-append, act-host}
 
 -- ---- the guest's stream
 
@@ -72,11 +75,14 @@ next-taken takes kept new guest bytes given result i is nexts answered =
 
 -- ---- packets that the host takes
 
+abbrev pub sent_of : {S : Type 0} → Move S → List (ℕ × RedirPacket)
+sent_of v = v.sent
+
 abbrev pub Going : {S : Type 0} → Meaning S → Host S → Host S → List ℕ → List ℕ → List HostNote → List HostNote → List Found → Type 0
 Going m old new o0 o1 n0 n1 more = TookPackets {T = Unit {0}} (Ok tt) m old new o0 o1 n0 n1 more
 
 pub going-none : {S : Type 0} (m : Meaning S) (h : Host S) (o : List ℕ) (n : List HostNote) → IsSound h → Going m h h o o n n []
-going-none m h o n sound = record { sent = sym (append-nil o); took = record { host = refl; sound = sound; state = refl; told = sym (append-nil n) } }
+going-none m h o n sound = record { sent = sym (append-nil o); took = record { host = refl; sound = sound; state = refl; reads = λ xs before. subst (AreRead h.guest) (sym (append-nil xs)) before; told = sym (append-nil n) } }
 
 given-one : {S A : Type 0} (gives : Move S → List A) (m : Meaning S) (old mid : Host S) (more : List Found) (i : Found) (l0 l1 l2 : List A) → mid ≡ steps m old (map asked more) → l1 ≡ l0 ++ given_by gives m old (map asked more) → l2 ≡ l1 ++ gives (packet_move m mid i.1.0.id i.1.1) →
     l2 ≡ l0 ++ given_by gives m old (map asked (more ++ i ∷ []))
@@ -90,9 +96,9 @@ given-one {S = S} gives m old mid more i l0 l1 l2 host first then =
     ∙ ap (λ l. l0 ++ l) (sym (given-append gives m old xs (asked i ∷ [])))
     ∙ ap (λ (l : List Item). l0 ++ given_by gives m old l) (sym (map-append asked more (i ∷ [])))
 
-pub going-one : {S : Type 0} (m : Meaning S) (old mid new : Host S) (header : Header) (p : RedirPacket) (o0 o1 o2 : List ℕ) (n0 n1 n2 : List HostNote) → IsTaken mid.guest header p → Takes (packet_move m mid header.id p) new o1 o2 n1 n2 →
+pub going-one : {S : Type 0} (m : Meaning S) → IsGadget m → (old mid new : Host S) (header : Header) (p : RedirPacket) (o0 o1 o2 : List ℕ) (n0 n1 n2 : List HostNote) → IsTaken mid.guest header p → Takes (packet_move m mid header.id p) new o1 o2 n1 n2 → TakesInRange m mid p →
     (more : List Found) (at : ℕ) → Going m old mid o0 o1 n0 n1 more → Going m old new o0 o2 n0 n2 (more ++ (at, (header, p)) ∷ [])
-going-one {S = S} m old mid new header p o0 o1 o2 n0 n1 n2 is takes more at g =
+going-one {S = S} m lawful old mid new header p o0 o1 o2 n0 n1 n2 is takes fit more at g =
     let i : Found = (at, (header, p)) in
     let keeps = keeps-packet m mid header p g.took.sound is in
     let host : new ≡ (packet_move m mid header.id p).host = takes.makes.host in
@@ -105,6 +111,12 @@ going-one {S = S} m old mid new header p o0 o1 o2 n0 n1 n2 is takes more at g =
             ∙ ap (λ (l : List Item). steps m old l) (sym (map-append asked more (i ∷ [])));
         sound = subst (λ (h : Host S). IsSound h) (sym host) keeps.sound;
         state = ap (λ (h : Host S). h.guest) host ∙ keeps.guest ∙ ap (λ (s : RedirState). after s (header, p)) g.took.state ∙ sym (state-append old.guest more (i ∷ []));
+        reads = λ xs before.
+            let had = xs ++ given_by sent_of m old (map asked more) in
+            let all : had ++ (packet_move m mid header.id p).sent ≡ xs ++ given_by sent_of m old (map asked (more ++ i ∷ [])) = given-one sent_of m old mid more i xs had (had ++ (packet_move m mid header.id p).sent) g.took.host refl refl in
+            subst (AreRead new.guest) all
+            (subst (λ (s : RedirState). AreRead s (had ++ (packet_move m mid header.id p).sent)) (sym (ap (λ (h : Host S). h.guest) host ∙ keeps.guest))
+            (packet-read m lawful mid header p had g.took.sound is fit (g.took.reads xs before)));
         told = given-one notes_of m old mid more i n0 n1 n2 g.took.host g.took.told takes.notes;
       };
     }
@@ -176,3 +188,9 @@ host-all {S = S} m s old new acts a xs stands is parts =
 
 pub given-all : {S A : Type 0} (gives : Move S → List A) (m : Meaning S) (s : S) (old : HostKept S) (acts : List Act) (xs ys : List Item) (l0 l1 : List A) → Stands m s old acts → l1 ≡ l0 ++ given_by gives m old.host xs → ys ≡ xs → l1 ≡ l0 ++ given_by gives m (host_of m s acts) ys
 given-all gives m s old acts xs ys l0 l1 stands is parts = is ∙ (λ i. l0 ++ given_by gives m (stands.host i) (sym parts i))
+
+-- all that was sent, and this piece's
+pub read-given : {S : Type 0} (m : Meaning S) (s : S) (old : HostKept S) (new : Host S) (acts : List Act) (a : Act) (xs : List Item) → Stands m s old acts → brought acts a ≡ xs → AreRead new.guest (all_given sent_of m s (history acts) ++ given_by sent_of m old.host xs) →
+    AreRead new.guest (all_given sent_of m s (history (a ∷ acts)))
+read-given m s old new acts a xs stands parts read =
+    subst (AreRead new.guest) ((λ i. all_given sent_of m s (history acts) ++ given_by sent_of m (stands.host i) (sym parts i)) ∙ sym (act-gives sent_of m s acts a)) read

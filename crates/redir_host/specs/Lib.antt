@@ -15,6 +15,7 @@ pub mod History
 pub mod Output
 pub mod Told
 pub mod Sound
+pub mod Readable
 pub mod Cancels
 pub mod Makes
 pub mod Resets

@@ -27,12 +27,18 @@ use Rattle.redir_host.specs.Changes.{touched}
 use Rattle.redir_host.specs.Machine.{told_bytes, bytes_of}
 use Rattle.redir_host.specs.Moves.{Move}
 use Rattle.redir_host.specs.Performing.{told_performed_by, perform_move_by}
-use Rattle.redir_host.specs.Sound.{DoneFits}
+use Rattle.redir_host.specs.Readable.{InRange}
+use Rattle.redir_host.specs.Sound.{DoneFits, Each}
 
 -- the host is that of the move, and the output gained its bytes
 pub record Makes {S : Type 0} (v : Move S) (new : Host S) (old_out new_out : List ℕ) : Type 0 where
   pub host : new ≡ v.host
   pub sent : new_out ≡ old_out ++ bytes_of v
+
+-- and what it sends of the device is in range
+pub record Tells {S : Type 0} (v : Move S) (new : Host S) (old_out new_out : List ℕ) : Type 0 where
+  pub makes : Makes v new old_out new_out
+  pub in_range : Each InRange v.sent
 
 -- and so are the notes
 pub record Takes {S : Type 0} (v : Move S) (new : Host S) (old_out new_out : List ℕ) (old_notes new_notes : List HostNote) : Type 0 where
@@ -42,7 +48,7 @@ pub record Takes {S : Type 0} (v : Move S) (new : Host S) (old_out new_out : Lis
 -- this was told of a request that was performed, or of none
 pub record Performs {S : Type 0} (o : Option (ℕ × Move S)) (old new : Host S) (answered : Performed) (old_out new_out : List ℕ) : Type 0 where
   pub told : answered ≡ told_performed_by false o
-  pub makes : Makes (perform_move_by old o) new old_out new_out
+  pub tells : Tells (perform_move_by old o) new old_out new_out
 
 -- the packet is one that its guest can send now
 abbrev pub IsTaken : RedirState → Header → RedirPacket → Type 0

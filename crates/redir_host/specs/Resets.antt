@@ -5,7 +5,7 @@ use Rattle.control_route.specs.declared.route.Route.TheVariants as route
 use Rattle.model_device.specs.Meaning.{Meaning}
 use Rattle.redir_host.specs.declared.host.Host.{Host}
 use Rattle.redir_host.specs.Asking.{routed}
-use Rattle.redir_host.specs.Makes.{Makes}
+use Rattle.redir_host.specs.Makes.{Tells}
 use Rattle.redir_host.specs.Moves.{Move}
 
 -- the device was reset
@@ -15,4 +15,4 @@ pub record ResetsTo {S : Type 0} (m : Meaning S) (old new : Host S) (o : Outcome
 
 abbrev pub PerformsNow : {S : Type 0} → Option (Move S) → Host S → List ℕ → List ℕ → Type 0
 PerformsNow None new old_out new_out = ⊥
-PerformsNow (Some v) new old_out new_out = Makes v new old_out new_out
+PerformsNow (Some v) new old_out new_out = Tells v new old_out new_out

@@ -47,12 +47,23 @@ WantedFits caps form.GetConfiguration wanted = wanted < 2 ^ 16
 WantedFits caps (form.SetAlt interface alt) wanted = wanted < 2 ^ 16
 WantedFits caps (form.GetAlt interface) wanted = wanted < 2 ^ 16
 
+-- and so have the fields of its answer that are its own
+abbrev pub FormFits : Form → Type 0
+FormFits (form.Control setup) = (setup.value < 2 ^ 16) × (setup.index < 2 ^ 16)
+FormFits (form.Bulk stream) = stream < 2 ^ 32
+FormFits form.Interrupt = Unit {0}
+FormFits (form.SetConfiguration configuration) = Unit {0}
+FormFits form.GetConfiguration = Unit {0}
+FormFits (form.SetAlt interface alt) = Unit {0}
+FormFits (form.GetAlt interface) = Unit {0}
+
 pub record IsRequest (guest : RedirState) (q : Request) : Type 0 where
   -- a request comes behind the hello
   pub greeted : guest.first ≡ false
   pub id_fits : IdFits (is_wide false guest.caps) q.id
   pub transfer : IsTransfer q.transfer
   pub wanted_fits : WantedFits guest.caps q.form q.transfer.wanted
+  pub form_fits : FormFits q.form
   -- only requests of endpoint 0 are marked
   pub marked : q.reset ≡ true → is_control q.transfer.ep ≡ true
 

@@ -13,10 +13,11 @@ use Rattle.redir_host.specs.Kept.{HostKept}
 use Rattle.redir_host.specs.declared.note.HostNote.{HostNote}
 use Rattle.redir_host.specs.Acts.{Act, guest_bytes}
 use Rattle.redir_host.specs.Guest.{guest_split}
-use Rattle.redir_host.specs.History.{brought}
+use Rattle.redir_host.specs.History.{brought, history}
 use Rattle.redir_host.specs.Items.{Item}
-use Rattle.redir_host.specs.Machine.{bytes_of, given_by}
+use Rattle.redir_host.specs.Machine.{bytes_of, all_given, given_by}
 use Rattle.redir_host.specs.Output.{host_of, act_bytes, act_notes}
+use Rattle.redir_host.specs.Readable.{AreRead}
 use Rattle.redir_host.specs.Sound.{IsSound}
 
 -- memory ran out in an earlier call: from then on it does nothing
@@ -43,6 +44,8 @@ pub record Stands {S : Type 0} (m : Meaning S) (s : S) (k : HostKept S) (acts : 
   pub stream : IsRead k.stream (guest_bytes acts)
   pub host : k.host ≡ host_of m s acts
   pub sound : IsSound k.host
+  -- its guest can read all that it has sent
+  pub told : AreRead k.host.guest (all_given (λ v. v.sent) m s (history acts))
   pub state : k.host.guest ≡ told_state start (guest_split (guest_bytes acts)).packets
 
 -- it stands for some acts

@@ -12,6 +12,7 @@ use Rattle.redir_host.specs.declared.host.Host.{Host}
 use Rattle.redir_host.specs.declared.note.HostNote.{HostNote}
 use Rattle.redir_host.specs.Guest.{guest_reader, guest_start, asked}
 use Rattle.redir_host.specs.Machine.{bytes_of, notes_of, steps, given_by}
+use Rattle.redir_host.specs.Readable.{AreRead}
 use Rattle.redir_host.specs.Sound.{IsSound}
 use Rattle.redir_host.specs.Stands.{told_state}
 
@@ -28,6 +29,8 @@ pub record Took {S : Type 0} (m : Meaning S) (old new : Host S) (old_notes new_n
   pub host : new ≡ steps m old (map asked more)
   pub sound : IsSound new
   pub state : new.guest ≡ told_state old.guest more
+  -- where its guest could read all that was sent, it still can
+  pub reads : (sent : List (ℕ × RedirPacket)) → AreRead old.guest sent → AreRead new.guest (sent ++ given_by (λ v. v.sent) m old (map asked more))
   pub told : new_notes ≡ old_notes ++ given_by notes_of m old (map asked more)
 
 -- unless memory ran out

@@ -1,9 +1,10 @@
 //! What is told of the device.
 
-ghost use Rattle.std.specs.Prelude.{◌≡◌, ◌++◌, ◌≤◌, ◌<◌, get_or, if◌then◌else◌, OnOk, OnErr};
+ghost use Rattle.std.specs.Prelude.{◌≡◌, ◌++◌, ◌≤◌, ◌<◌, ◌^◌, get_or, if◌then◌else◌, OnOk, OnErr};
 ghost use Rattle.usb_base.specs.Endpoint.{no_endpoint};
 ghost use Rattle.redir_wire.specs.Begins.{Begins};
 ghost use Rattle.redir_wire.specs.Capability.{has};
+ghost use Rattle.redir_wire.specs.Ranges.{ConnectRanges, EpRanges, InterfaceRanges};
 ghost use Rattle.redir_host.specs.Facts.{connect_of, ep_info_of, kind_byte};
 ghost use Rattle.redir_host.specs.Told.{facts_bytes, connect_bytes};
 
@@ -23,6 +24,7 @@ pub fn write_facts(
 ) -> Result<(), Memory>
     requires { interfaces.count ≤ 32 }
     ensures ok { OnOk result (out.new ≡ out.old ++ facts_bytes caps table.now interfaces) }
+    ensures ranges { OnOk result (EpRanges (ep_info_of caps table.now) × InterfaceRanges interfaces) }
     ensures err { OnErr result (Begins out.old out.new) }
 {
     let endpoints = RedirPacket::Plain(RedirControl::EpInfo(ep_info(table, caps)));
@@ -35,6 +37,7 @@ pub fn write_facts(
 /// Appends what the device tells as it is plugged in. For want of memory `out` stands.
 pub fn write_connect(identity: Connect, caps: Caps, out: &mut Bytes) -> Result<(), Memory>
     ensures ok { OnOk result (out.new ≡ out.old ++ connect_bytes caps identity) }
+    ensures ranges { OnOk result (ConnectRanges (connect_of caps identity)) }
     ensures err { OnErr result (out.new ≡ out.old) }
 {
     let connect = RedirPacket::Plain(RedirControl::Connect(connect_of(identity, caps)));
@@ -43,7 +46,8 @@ pub fn write_connect(identity: Connect, caps: Caps, out: &mut Bytes) -> Result<(
 
 /// What the guest is told of the endpoints.
 fn ep_info(table: &EpTable, caps: Caps) -> EpInfo
-    ensures { result ≡ ep_info_of caps table.now }
+    ensures info { result ≡ ep_info_of caps table.now }
+    ensures ranges { EpRanges result }
 {
     let mut info = EpInfo {
         kinds: [0; 32],
@@ -63,7 +67,8 @@ fn ep_info(table: &EpTable, caps: Caps) -> EpInfo
 
 /// The largest packet, 0 where it isn't sent.
 fn max_packet(row: EpRow, caps: Caps) -> u16
-    ensures { result ≡ (if has caps 4 then row.max_packet else 0) }
+    ensures size { result ≡ (if has caps 4 then row.max_packet else 0) }
+    ensures fits { result < 2 ^ 16 }
 {
     if caps.has(MAX_PACKET_SIZE) {
         row.max_packet

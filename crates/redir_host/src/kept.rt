@@ -9,6 +9,7 @@ ghost use Rattle.redir_host.specs.Offering.{told_offered};
 ghost use Rattle.redir_host.specs.Output.{host_of};
 ghost use Rattle.redir_host.specs.Packets.{packet_move};
 ghost use Rattle.redir_host.specs.Performing.{told_performed};
+ghost use Rattle.redir_host.specs.Readable.{TakesInRange};
 ghost use Rattle.redir_host.specs.Sound.{IsSound};
 ghost use Rattle.redir_host.specs.Stands.{DoesAct, HasPast, Stands, Stops, TakesAct};
 ghost use Rattle.redir_host.specs.Takings.{HasRead, TookPackets};
@@ -147,6 +148,7 @@ fn take_packet<G: Gadget>(
     requires sound { IsSound host.old }
     requires taken { IsTaken host.old.guest header packet }
     ensures ok { OnOk result (Takes (packet_move G.meaning host.old header.id packet) host.new out.old out.new notes.old notes.new) }
+    ensures ranges { OnOk result (TakesInRange G.meaning host.old packet) }
     ensures err { OnErr result (out.new ≡ out.old) }
 {
     let before = out.len();

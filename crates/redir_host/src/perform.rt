@@ -11,11 +11,12 @@ ghost use Rattle.redir_host.specs.Answers.{answer};
 ghost use Rattle.redir_host.specs.Changes.{changed, cleared};
 ghost use Rattle.redir_host.specs.Facts.{facts_of};
 ghost use Rattle.redir_host.specs.Machine.{told_bytes};
-ghost use Rattle.redir_host.specs.Makes.{Makes, Performs};
+ghost use Rattle.redir_host.specs.Makes.{Makes, Performs, Tells};
 ghost use Rattle.redir_host.specs.Asking.{routed};
 ghost use Rattle.redir_host.specs.Performing.{does, done_by, performs, performs_marked, perform_move, resets, told_performed, with_id};
 ghost use Rattle.redir_host.specs.Resets.{PerformsNow, ResetsTo};
-ghost use Rattle.redir_host.specs.Sound.{IsRequest, IsSound};
+ghost use Rattle.redir_host.specs.Readable.{InRange};
+ghost use Rattle.redir_host.specs.Sound.{Each, IsRequest, IsSound};
 
 use crate::answer::{write_answer, write_flushed};
 use crate::change::change_of;
@@ -40,7 +41,7 @@ impl<G: Gadget> Host<G> {
     ) -> Result<Performed, Memory>
         requires { IsSound self.old }
         ensures told { IfOk result (λ told. told ≡ told_performed G.meaning self.old ep) }
-        ensures makes { OnOk result (Makes (perform_move G.meaning self.old ep) self.new out.old out.new) }
+        ensures makes { OnOk result (Tells (perform_move G.meaning self.old ep) self.new out.old out.new) }
         ensures err { OnErr result (Begins out.old out.new) }
     {
         if self.unplugged {
@@ -208,7 +209,7 @@ impl<G: Gadget> Host<G> {
         requires sound { IsSound self.old }
         requires request { IsRequest self.old.guest request.now }
         requires outcome { IsOutcome request.now.transfer outcome }
-        ensures ok { OnOk result (Makes (done_by G.meaning table.now self.old request.now change outcome) self.new out.old out.new) }
+        ensures ok { OnOk result (Tells (done_by G.meaning table.now self.old request.now change outcome) self.new out.old out.new) }
         ensures err { OnErr result (Begins out.old out.new) }
     {
         match change {
@@ -252,7 +253,7 @@ impl<G: Gadget> Host<G> {
         out: &mut Bytes,
     ) -> Result<(), Memory>
         requires { IsSound self.old }
-        ensures ok { OnOk result (Makes (changed G.meaning route.now table.now success self.old) self.new out.old out.new) }
+        ensures ok { OnOk result (Tells (changed G.meaning route.now table.now success self.old) self.new out.old out.new) }
         ensures err { OnErr result (Begins out.old out.new) }
     {
         self.clear(alloc, route, table, success, out)?;
@@ -262,6 +263,7 @@ impl<G: Gadget> Host<G> {
     /// Tells the endpoints and the interfaces as they are now.
     pub fn tell_facts(&self, out: &mut Bytes) -> Result<(), Memory>
         ensures ok { OnOk result (out.new ≡ out.old ++ flat_map (told_bytes self.now.guest.caps) (facts_of self.now.guest.caps G.meaning self.now.gadget)) }
+        ensures ranges { OnOk result (Each InRange (facts_of self.now.guest.caps G.meaning self.now.gadget)) }
         ensures err { OnErr result (Begins out.old out.new) }
     {
         write_facts(

@@ -10,7 +10,8 @@ ghost use Rattle.redir_host.specs.Machine.{bytes_of};
 ghost use Rattle.redir_host.specs.Makes.{IdFitsOf, IsTaken, Makes, Takes};
 ghost use Rattle.redir_host.specs.Packets.{can_start, cancel_move, data_move, greets, is_of, packet_move, plain_move, queued, start_move, status_of, stop_move};
 ghost use Rattle.redir_host.specs.Queues.{is_cancelled_by};
-ghost use Rattle.redir_host.specs.Sound.{IsSound};
+ghost use Rattle.redir_host.specs.Readable.{GreetsInRange, InRange, TakesInRange};
+ghost use Rattle.redir_host.specs.Sound.{Each, IsSound};
 
 use crate::answer::{write_cancelled, write_ended};
 use crate::asking::asking_of;
@@ -42,6 +43,7 @@ impl<G: Gadget> Host<G> {
         requires sound { IsSound self.old }
         requires taken { IsTaken self.old.guest header packet }
         ensures ok { OnOk result (Takes (packet_move G.meaning self.old header.id packet) self.new out.old out.new notes.old notes.new) }
+        ensures ranges { OnOk result (TakesInRange G.meaning self.old packet) }
         ensures err { OnErr result (Begins out.old out.new) }
     {
         self.guest.advance(&packet);
@@ -64,6 +66,7 @@ impl<G: Gadget> Host<G> {
     ) -> Result<(), Memory>
         requires { IdFitsOf self.old.guest.caps id packet }
         ensures ok { OnOk result (Takes (plain_move G.meaning self.old id packet) self.new out.old out.new notes.old notes.new) }
+        ensures ranges { OnOk result (GreetsInRange G.meaning self.old packet) }
         ensures err { OnErr result (Begins out.old out.new) }
     {
         match packet {
@@ -112,6 +115,7 @@ impl<G: Gadget> Host<G> {
     /// Tells the guest of the device.
     fn greet(&self, out: &mut Bytes) -> Result<(), Memory>
         ensures ok { OnOk result (out.new ≡ out.old ++ bytes_of (greets G.meaning self.now)) }
+        ensures ranges { OnOk result (Each InRange (greets G.meaning self.now).sent) }
         ensures err { OnErr result (Begins out.old out.new) }
     {
         self.tell_facts(out)?;

@@ -1,7 +1,7 @@
 use Rattle.std.proofs.Common.{◌≡◌, if◌then◌else◌, refl, arith}
 use Rattle.redir_wire.specs.Capability.{has}
 use Rattle.redir_host.specs.Facts.{kind_byte}
-use Rattle.redir_host.proofs.Columns.{first_column, next_cell, whole_column}
+use Rattle.redir_host.proofs.Columns.{first_column, next_cell, set_halves, whole_column, zero_halves}
 use Rattle.redir_host.proofs.facts.ep_info.Goals as goal
 
 pub loop-index-init : goal.loop-index-init
@@ -10,6 +10,7 @@ loop-index-init c = record {
   intervals = first_column _ _ _ refl;
   interfaces = first_column _ _ _ refl;
   max_packets = first_column _ _ _ refl;
+  halves = zero_halves 32;
 }
 
 pub loop-index-preserved : goal.loop-index-preserved
@@ -23,11 +24,12 @@ loop-index-preserved c =
       kinds = next_cell (λ r. kind_byte r.kind) t at.index at.info.kinds row c.kind_byte.result is c.kind_byte.ensures less at.invariant.kinds;
       intervals = next_cell (λ r. r.interval) t at.index at.info.interval row row.interval is refl less at.invariant.intervals;
       interfaces = next_cell (λ r. r.interface) t at.index at.info.interface row row.interface is refl less at.invariant.interfaces;
-      max_packets = next_cell (λ r. if has c.args.caps 4 then r.max_packet else 0) t at.index at.info.max_packet row c.max_packet.result is c.max_packet.ensures less at.invariant.max_packets;
+      max_packets = next_cell (λ r. if has c.args.caps 4 then r.max_packet else 0) t at.index at.info.max_packet row c.max_packet.result is c.max_packet.ensures.size less at.invariant.max_packets;
+      halves = set_halves at.info.max_packet at.index c.max_packet.result at.invariant.halves c.max_packet.ensures.fits;
     }
 
-pub returns : goal.returns
-returns c =
+pub returns-clause-info : goal.returns-clause-info
+returns-clause-info c =
     let at = c.loop-index in
     let all : at.index ≡ 32 = omega (arith, c.loop-index-test.false, at.auto.index-end) in
     let t = c.args.table.now in
@@ -37,3 +39,8 @@ returns c =
       interface = whole_column (λ r. r.interface) t at.index at.info.interface all at.invariant.interfaces i;
       max_packet = whole_column (λ r. if has c.args.caps 4 then r.max_packet else 0) t at.index at.info.max_packet all at.invariant.max_packets i;
     }
+
+pub returns-clause-ranges : goal.returns-clause-ranges
+returns-clause-ranges c =
+    let known = c.loop-index.invariant in
+    record { kinds = known.kinds.long; interval = known.intervals.long; interface = known.interfaces.long; max_packet_count = known.max_packets.long; max_packet = known.halves }

@@ -6,7 +6,7 @@ use Rattle.redir_host.proofs.Telling.{ep_info, interface_info}
 use Rattle.redir_host.proofs.facts.write_facts.Goals as goal
 
 pub write-requires : goal.write-requires
-write-requires c = subst (λ (e : EpInfo). CanWrite 0 c.args.caps (plain.EpInfo e)) (sym c.ep_info.ensures) (ep_info c.args.caps c.args.table.now)
+write-requires c = subst (λ (e : EpInfo). CanWrite 0 c.args.caps (plain.EpInfo e)) (sym c.ep_info.ensures.info) (ep_info c.args.caps c.args.table.now)
 
 pub write-requires-2 : goal.write-requires-2
 write-requires-2 c = interface_info c.args.caps c.args.interfaces c.requires

@@ -1,9 +1,9 @@
 use Rattle.std.proofs.Common.{Ok, ap, ◌∙◌}
-use Rattle.packet_stream.proofs.Loops.{goes-more, takes-all, takes-err, takes-memory, takes-weaker}
+use Rattle.packet_stream.proofs.Loops.{goes-more, goes-none, takes-all, takes-err, takes-memory, takes-weaker}
 use Rattle.redir_data.specs.Packets.{takes_memory}
 use Rattle.redir_host.specs.Guest.{guest_reader}
 use Rattle.redir_host.specs.Takings.{TookPackets}
-use Rattle.redir_host.proofs.Pieces.{Going, going-one, going-given, going-ended, going-stopped, next-taken}
+use Rattle.redir_host.proofs.Pieces.{Going, going-none, going-one, going-given, going-ended, going-stopped, next-taken}
 use Rattle.redir_host.proofs.kept.take_packets.Goals as goal
 
 pub returns-in_err-header : goal.returns-in_err-header
@@ -37,7 +37,7 @@ loop-header-preserved g c =
     let now = going-given m c.args.stream.now l.stream c.args.host.now l.host c.args.out.now l.out c.args.notes.now l.notes read.0 read.1.0 l.invariant read.1.1 in
     let taken = next-taken takes_memory l.stream c.next.new.self l.host.guest read.0 _ c.next.result (c.in-Some.field-0-0, (c.in-Some.header, c.in-Some.packet)) now.1.0 c.next.ensures.follows is in
     goes-more guest_reader takes_memory c.args.stream.now l.stream c.next.new.self _ _ c.next.result (c.in-Some.field-0-0, (c.in-Some.header, c.in-Some.packet)) l.invariant c.next.ensures.changes c.next.ensures.follows is
-    (going-one m c.args.host.now l.host c.take_packet.new.host c.in-Some.header c.in-Some.packet c.args.out.now l.out c.take_packet.new.out c.args.notes.now l.notes c.take_packet.new.notes taken c.in_ok-take_packet.ensures.ok)
+    (going-one m g.met.G.Gadget.lawful c.args.host.now l.host c.take_packet.new.host c.in-Some.header c.in-Some.packet c.args.out.now l.out c.take_packet.new.out c.args.notes.now l.notes c.take_packet.new.notes taken c.in_ok-take_packet.ensures.ok c.in_ok-take_packet.ensures.ranges)
 
 pub returns-in_err-take_packet : goal.returns-in_err-take_packet
 returns-in_err-take_packet g c =
@@ -53,3 +53,8 @@ pub returns : goal.returns
 returns g c =
     let l = c.loop-header in
     takes-all tt guest_reader takes_memory c.args.stream.now l.stream c.next.new.self _ c.next.result l.invariant c.next.ensures.changes c.next.ensures.follows (c.in_ok-header.was ∙ ap (λ o. Ok o) c.in_default.is)
+
+pub loop-header-init : goal.loop-header-init
+loop-header-init g c =
+    let m = g.G.Gadget.meaning in
+    goes-none guest_reader c.args.stream.now (Going m c.args.host.now c.args.host.now c.args.out.now c.args.out.now c.args.notes.now c.args.notes.now) (going-none m c.args.host.now c.args.out.now c.args.notes.now c.requires.sound)

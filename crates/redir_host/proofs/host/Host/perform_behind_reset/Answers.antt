@@ -6,12 +6,12 @@ use Rattle.redir_host.proofs.host.Host.perform_behind_reset.Goals as goal
 pub perform_now-requires-clause-sound : goal.perform_now-requires-clause-sound
 perform_now-requires-clause-sound g c =
     let m = g.G.Gadget.meaning in
-    changed_sound m route.Reset c.table-table.result c.is_success-success.result c.reset.new.self c.change.new.self c.args.out.now c.change.new.out (reset_sound m c.args.self.now c.reset.new.self c.in_ok-outcome.outcome c.requires.sound c.in_ok-outcome.ensures) c.in_ok-change.ensures.ok
+    changed_sound m route.Reset c.table-table.result c.is_success-success.result c.reset.new.self c.change.new.self c.args.out.now c.change.new.out (reset_sound m c.args.self.now c.reset.new.self c.in_ok-outcome.outcome c.requires.sound c.in_ok-outcome.ensures) c.in_ok-change.ensures.ok.makes
 
 pub perform_now-requires-clause-request : goal.perform_now-requires-clause-request
 perform_now-requires-clause-request g c =
     let m = g.G.Gadget.meaning in
-    changed_request m route.Reset c.table-table.result c.is_success-success.result c.reset.new.self c.change.new.self c.args.out.now c.change.new.out c.args.request.now (reset_request m c.args.self.now c.reset.new.self c.in_ok-outcome.outcome c.args.request.now c.requires.request c.in_ok-outcome.ensures) c.in_ok-change.ensures.ok
+    changed_request m route.Reset c.table-table.result c.is_success-success.result c.reset.new.self c.change.new.self c.args.out.now c.change.new.out c.args.request.now (reset_request m c.args.self.now c.reset.new.self c.in_ok-outcome.outcome c.args.request.now c.requires.request c.in_ok-outcome.ensures) c.in_ok-change.ensures.ok.makes
 
 pub returns-clause-ok : goal.returns-clause-ok
 returns-clause-ok g c =

@@ -3,7 +3,7 @@ use Rattle.std.specs.List.{slice_get, remove}
 use Rattle.model_device.specs.Meaning.{given_in, state_in}
 use Rattle.redir_host.specs.declared.note.Performed.TheVariants.{Done}
 use Rattle.redir_host.specs.declared.request.Request.{Request}
-use Rattle.redir_host.specs.Makes.{Makes, Performs}
+use Rattle.redir_host.specs.Makes.{Performs, Tells}
 use Rattle.redir_host.specs.Performing.{done_by, performs, with_id}
 use Rattle.redir_host.specs.Sound.{IsRequest}
 use Rattle.redir_host.proofs.Makings.{each_at, outcome_is, performed_is, performs_done, performs_none, not_ready, read_is, some_same}
@@ -31,7 +31,7 @@ returns-in_ok-finish-in-Some-clause-ok g c q is =
     (c.in_ok-outcome.ensures.state ∙ ap (λ (r : Request). state_in h.gadget (m.perform h.gadget r.transfer)) read) in
     let Says : Request → Type 0 = λ x. Performs (with_id x (performs m (record h { queue = remove h.queue c.args.place }) x)) h c.finish.new.self (Done own.id) c.args.out.now c.finish.new.out in
     subst Says same (performs_done m h c.finish.new.self own (remove h.queue c.args.place) c.table-table.result c.change_of-change.result c.perform.new.self c.in-Some.outcome c.args.out.now c.finish.new.out done c.table-table.ensures c.change_of-change.ensures
-    (subst (λ (ys : List Request). Makes (done_by m c.table-table.result (record h { gadget = c.perform.new.self; queue = ys }) own c.change_of-change.result c.in-Some.outcome) c.finish.new.self c.args.out.now c.finish.new.out) c.remove-request.ensures.rest c.in_ok-finish-in-Some.ensures.ok))
+    (subst (λ (ys : List Request). Tells (done_by m c.table-table.result (record h { gadget = c.perform.new.self; queue = ys }) own c.change_of-change.result c.in-Some.outcome) c.finish.new.self c.args.out.now c.finish.new.out) c.remove-request.ensures.rest c.in_ok-finish-in-Some.ensures.ok))
 
 pub returns-in-None-clause-ok : goal.returns-in-None-clause-ok
 returns-in-None-clause-ok g c q is =
