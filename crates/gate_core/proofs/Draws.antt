@@ -153,7 +153,7 @@ draws-distinct m flying last n room =
     let short = within m flying (after m last) t.turns fits (omega arith) in
     subst (IsDistinct eqb) t.are (distinct-filter (free flying) (turn m (after m last) t.turns) (turn-distinct m (after m last) t.turns fits short))
 
-draws-fit : (m : ℕ) (flying : List ℕ) (last n : ℕ) → 1 ≤ m → AllByRecursion (Fits m) (draws m flying last n)
+pub draws-fit : (m : ℕ) (flying : List ℕ) (last n : ℕ) → 1 ≤ m → AllByRecursion (Fits m) (draws m flying last n)
 draws-fit m flying last zero some = tt
 draws-fit m flying last (suc n) some = (draw-fits m flying last some, draws-fit m flying (draw m flying last) n some)
 

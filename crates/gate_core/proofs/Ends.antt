@@ -41,7 +41,7 @@ short-by {P = P} p n some = ap (λ (b : Bool). cond {A = Found P Reason} b Short
 short-empty : {P : Type 0} (f : Format P Reason) → IsSound f → wrong_at f.checks [] ≡ None → reading f [] ≡ Short
 short-empty f sound none = ap (reading_by f []) none ∙ short-by (f.packet []) (f.size []) (sound.some [])
 
-split-empty : {S P : Type 0} (format : S → Format P Reason) (next : S → P → S) → ((s : S) → IsSound (format s)) → (a : Position S) → wrong_at (format a.state).checks [] ≡ None →
+pub split-empty : {S P : Type 0} (format : S → Format P Reason) (next : S → P → S) → ((s : S) → IsSound (format s)) → (a : Position S) → wrong_at (format a.state).checks [] ≡ None →
     split (reads format next) a [] ≡ record { packets = []; wrong = None; position = a; rest = [] }
 split-empty format next sound a none = split-is (reads format next) (reads_steady format next sound) a [] Short (short-empty (format a.state) (sound a.state) none)
 

@@ -12,6 +12,7 @@ use Rattle.usb_base.specs.Number.{part}
 use Rattle.usbip_urb.specs.declared.packet.IsoDesc.{IsoDesc}
 use Rattle.usbip_urb.specs.Buffers.{laid_from, laid, stretch, total}
 use Rattle.gate_core.specs.Answers.{sent_whole}
+use Rattle.gate_core.proofs.Lists.{Each}
 
 record Parts (place : ℕ) (d : IsoDesc) (ds : List IsoDesc) (n : ℕ) : Type 0 where
   few : d.length ≤ 65535
@@ -57,6 +58,12 @@ stretch-is : (ds : List IsoDesc) (body : List ℕ) (k : ℕ) → k < length ds �
 stretch-is [] body k here = absurd (omega arith)
 stretch-is (d ∷ ds) body zero here = refl
 stretch-is (d ∷ ds) body (suc k) here = stretch-is ds body k (omega arith)
+
+pub all-within : (place : ℕ) (ds : List IsoDesc) (n : ℕ) → laid_from place ds n ≡ true → Each (λ d. IsWithin d n) ds
+all-within place [] n h = tt
+all-within place (d ∷ ds) n h =
+    let p = parts place d ds n h in
+    (record { few = p.few; within = omega (arith, fits-from (d.offset + d.length) ds n p.rest) }, all-within (d.offset + d.length) ds n p.rest)
 
 length-part : (place n : ℕ) (body : List ℕ) → place + n ≤ length body → length (part place n body) ≡ n
 length-part place n body h = omega (arith, length-take n (drop place body), length-drop place body)

@@ -21,6 +21,9 @@ pub mod States
 pub mod Brought
 pub mod Interfaces
 pub mod Carried
+pub mod Sendable
+pub mod Sending
+mod Quiet
 pub mod Flying
 pub mod Answered
 pub mod Fronts
@@ -42,12 +45,14 @@ pub mod Fitting
 pub mod Taking
 pub mod Apart
 pub mod InStep
+pub mod SentRead
 pub mod Translating
 pub mod Sides
 pub mod Pieces
 pub mod Coming
 pub mod Standing
 pub mod Ends
+pub mod Comings
 pub mod Held
 pub mod Bounds
 pub mod Responding

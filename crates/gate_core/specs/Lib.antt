@@ -25,6 +25,7 @@ pub mod Output
 pub mod Notes
 pub mod All
 pub mod Bytes
+pub mod Readable
 pub mod Machine
 pub mod Turns
 pub mod Losses

@@ -21,6 +21,7 @@ ghost use Rattle.gate_core.specs.Machine.{run, run_counts, steps, GivesPast, Add
 ghost use Rattle.gate_core.specs.Turns.{turns, Alternate, answers_in, answered_ends, answer_of};
 ghost use Rattle.gate_core.specs.Losses.{Loses, EndsAll};
 ghost use Rattle.gate_core.specs.Sound.{IsSound, HasFewPackets};
+ghost use Rattle.gate_core.specs.Readable.{SentCanBeRead};
 
 /// A law: the machine's state is what the searches of the past find, and it sends, tells and counts the same.
 pub fn machine_is_past()
@@ -87,4 +88,10 @@ pub fn rests_are_short()
 /// A law: after every past each stream holds at most 1,024 packets.
 pub fn streams_hold_few()
     ensures { (first : ℕ) (items : List Item) → AllByRecursion (λ o. length (held_of o) ≤ 1024) (streams (past first items)) }
+{}
+
+/// A law: where the bytes of events are bytes, the host can read all packets that it was sent for them, spelled with the
+/// capabilities that are agreed behind them.
+pub fn sent_can_be_read()
+    ensures { SentCanBeRead }
 {}
