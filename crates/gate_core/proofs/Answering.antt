@@ -34,25 +34,25 @@ use Rattle.gate_core.specs.Marks.{Submission, Fact, Effect, Idle, Agrees, Answer
 use Rattle.gate_core.specs.Facts.{no_facts, tell}
 use Rattle.gate_core.specs.Sides.{is_of, is_loss, closes_host, never, turned}
 use Rattle.gate_core.specs.Flight.{wide_ids}
-use Rattle.gate_core.specs.Submits.{Pending, ByAnswer, has_id, ends}
+use Rattle.gate_core.specs.Submits.{Pending, has_id}
 use Rattle.gate_core.specs.State.{State, submits}
 use Rattle.gate_core.specs.Responses.{Response, response_of, mismatch, seen}
 use Rattle.gate_core.specs.Meaning.{mark_as, answered_as, answer_to, by_response, told_meaning}
 use Rattle.gate_core.specs.Sound.{IsSound}
-use Rattle.gate_core.specs.Answers.{answers_at, answers_by}
-use Rattle.gate_core.specs.Output.{present, cancels, cancel, to_client}
-use Rattle.gate_core.specs.Notes.{answer_notes, is_by_answer, is_by_client, dropped}
+use Rattle.gate_core.specs.Answers.{answers_by}
+use Rattle.gate_core.specs.Output.{cancels, cancel, to_client}
+use Rattle.gate_core.specs.Notes.{answer_notes, dropped}
 use Rattle.gate_core.specs.All.{is_ret_submit, is_won_unlink}
 use Rattle.gate_core.specs.Bytes.{host_packet_bytes}
-use Rattle.gate_core.specs.Machine.{ask}
 use Rattle.gate_core.specs.inner.Rows.{row_of, row, unmarked, left_row, IsFine}
 use Rattle.gate_core.specs.inner.Responses.{row_mismatch, completes, IsAnswer, IsCounted}
 use Rattle.gate_core.specs.inner.Holds.{Holds, Does, ResponseFits}
-use Rattle.gate_core.proofs.Lists.{Each, every, filter-same, filter-none, filter-map, flat_map-same, flat_map-filter, flat_map-map}
+use Rattle.gate_core.proofs.Lists.{Each, every, filter-same, filter-map, flat_map-map}
+use Rattle.gate_core.proofs.Effects.{answer-left, answer-sent, answer-noted, answer-dropped}
 use Rattle.gate_core.proofs.Firsts.{without-first, find-first}
 use Rattle.gate_core.proofs.Lost.{capped-same}
 use Rattle.gate_core.proofs.Left.{by_id-row}
-use Rattle.gate_core.proofs.Steady.{asks-none, host-same, rows-same, stays-uncancelled, does-idle, does-steady, agrees-steady}
+use Rattle.gate_core.proofs.Steady.{host-same, rows-same, stays-uncancelled, does-idle, does-steady, agrees-steady}
 use Rattle.gate_core.proofs.Responding.{row-mismatch, mismatch-capped, is-answer}
 
 -- ---- what is found by a map
@@ -198,47 +198,6 @@ module _ (st : State) (id : ℕ) (o : Outcome) where
   abbrev pub told_of : List Pending → List Note
   told_of ps = map (λ p. note.Answered p.submit.request.number) ps
 
-  here : present st (Answers id o) ≡ st.live
-  here = append-nil st.live
-
-  answers-one : (p : Pending) → answers_at p.submit p.unlinker (ends (Answers id o) p.submit) ≡ cond (pending_has_id id p) (answers_by p.submit o p.unlinker) []
-  answers-one p =
-      elim (pending_has_id id p) as (λ b. answers_at p.submit p.unlinker (cond b (Some (ByAnswer o)) None) ≡ cond b (answers_by p.submit o p.unlinker) []) [ true ↦ refl | false ↦ refl ]
-
-  by-answer : (p : Pending) → is_by_answer (ends (Answers id o) p.submit) ≡ pending_has_id id p
-  by-answer p = elim (pending_has_id id p) as (λ b. is_by_answer (cond b (Some (ByAnswer o)) None) ≡ b) [ true ↦ refl | false ↦ refl ]
-
-  by-none : (p : Pending) → is_none (ends (Answers id o) p.submit) ≡ not (pending_has_id id p)
-  by-none p = elim (pending_has_id id p) as (λ b. is_none (cond b (Some (ByAnswer o)) None) ≡ not b) [ true ↦ refl | false ↦ refl ]
-
-  by-client : (p : Pending) → is_by_client (ends (Answers id o) p.submit) ≡ false
-  by-client p = elim (pending_has_id id p) as (λ b. is_by_client (cond b (Some (ByAnswer o)) None) ≡ false) [ true ↦ refl | false ↦ refl ]
-
-  sent-is : to_client st (mark_as st (Answers id o) None) ≡ sent (filter (pending_has_id id) st.live)
-  sent-is =
-      ap (λ (ps : List Pending). map Urb (flat_map (λ p. answers_at p.submit p.unlinker (ends (Answers id o) p.submit)) ps)) here
-      ∙ ap (map Urb)
-      (flat_map-same (λ p. answers_at p.submit p.unlinker (ends (Answers id o) p.submit)) (λ p. cond (pending_has_id id p) (answers_by p.submit o p.unlinker) []) st.live
-      (every (λ p. answers_at p.submit p.unlinker (ends (Answers id o) p.submit) ≡ cond (pending_has_id id p) (answers_by p.submit o p.unlinker) []) answers-one st.live)
-      ∙ sym (flat_map-filter (λ p. answers_by p.submit o p.unlinker) (pending_has_id id) st.live))
-
-  notes-is : answer_notes st (Answers id o) ≡ told_of (filter (pending_has_id id) st.live)
-  notes-is =
-      ap (λ (ps : List Pending). told_of (filter (λ p. is_by_answer (ends (Answers id o) p.submit)) ps)) here
-      ∙ ap told_of (filter-same (λ p. is_by_answer (ends (Answers id o) p.submit)) (pending_has_id id) st.live (every (λ p. is_by_answer (ends (Answers id o) p.submit) ≡ pending_has_id id p) by-answer st.live))
-
-  dropped-none : dropped st (mark_as st (Answers id o) None) ≡ []
-  dropped-none =
-      ap (map (λ (p : Pending). p.submit))
-      (filter-same (λ p. is_by_client (ends (Answers id o) p.submit)) (λ p. false) (present st (Answers id o)) (every (λ p. is_by_client (ends (Answers id o) p.submit) ≡ false) by-client (present st (Answers id o)))
-      ∙ filter-none (present st (Answers id o)))
-
-  live-is : map (ask (Answers id o)) (filter (λ p. is_none (ends (Answers id o) p.submit)) (present st (Answers id o))) ≡ filter (λ p. not (pending_has_id id p)) st.live
-  live-is =
-      asks-none (Answers id o) (λ s. refl) (filter (λ p. is_none (ends (Answers id o) p.submit)) (present st (Answers id o)))
-      ∙ ap (filter (λ p. is_none (ends (Answers id o) p.submit))) here
-      ∙ filter-same (λ p. is_none (ends (Answers id o) p.submit)) (λ p. not (pending_has_id id p)) st.live (every (λ p. is_none (ends (Answers id o) p.submit) ≡ not (pending_has_id id p)) by-none st.live)
-
   pub does-answer : (old new : Kept) (rows left : List Live) (found : List Pending) (client_old client_new host : List ℕ) (notes_old notes_new : List Note) → Holds old st → old.dropped ≤ 2 ^ 64 - 1 →
       filter (pending_has_id id) st.live ≡ found →
       rows ≡ map row (filter (λ p. not (pending_has_id id p)) st.live) →
@@ -252,8 +211,8 @@ module _ (st : State) (id : ℕ) (o : Outcome) where
       notes_new ≡ notes_old ++ told_of found →
       Does st (mark_as st (Answers id o) None) old new client_old client_new host host notes_old notes_new
   does-answer old new rows left found client_old client_new host notes_old notes_new h few one live_is left_is is client notes =
-      let sends : sent found ≡ to_client st (mark_as st (Answers id o) None) = sym (sent-is ∙ ap sent one) in
-      let tells : told_of found ≡ answer_notes st (Answers id o) = sym (notes-is ∙ ap told_of one) in
+      let sends : sent found ≡ to_client st (mark_as st (Answers id o) None) = sym (answer-sent st id o ∙ ap sent one) in
+      let tells : told_of found ≡ answer_notes st (Answers id o) = sym (answer-noted st id o ∙ ap told_of one) in
       record {
         holds = record {
           facts = ap (λ (k : Kept). k.facts) is ∙ h.facts;
@@ -266,7 +225,7 @@ module _ (st : State) (id : ℕ) (o : Outcome) where
           calls = ap (λ (k : Kept). k.calls) is ∙ h.calls;
           fence = ap (λ (k : Kept). k.fence) is ∙ h.fence;
           last = ap (λ (k : Kept). k.last) is ∙ h.last;
-          live = ap (λ (k : Kept). k.lives.live) is ∙ live_is ∙ ap (map row) (sym live-is);
+          live = ap (λ (k : Kept). k.lives.live) is ∙ live_is ∙ ap (map row) (sym (answer-left st id o));
           abandoned = ap (λ (k : Kept). map unmarked k.lives.abandoned) is ∙ left_is;
         };
         client = client ∙ ap (λ (ps : List ClientPacket). client_old ++ flat_map client_spelling ps) sends;
@@ -277,7 +236,7 @@ module _ (st : State) (id : ℕ) (o : Outcome) where
             (tells ∙ sym (append-nil (answer_notes st (Answers id o))) ∙ sym (append-nil (answer_notes st (Answers id o) ++ [])) ∙ sym (append-nil ((answer_notes st (Answers id o) ++ []) ++ [])));
         answered = ap (λ (k : Kept). k.answered) is ∙ ap (λ (ps : List ClientPacket). capped (old.answered + length (filter is_ret_submit ps))) sends;
         unlinked = ap (λ (k : Kept). k.unlinked) is ∙ ap (λ (ps : List ClientPacket). capped (old.unlinked + length (filter is_won_unlink ps))) sends;
-        dropped = ap (λ (k : Kept). k.dropped) is ∙ capped-same old.dropped few ∙ ap (λ (ss : List Submission). capped (old.dropped + length ss)) (sym dropped-none);
+        dropped = ap (λ (k : Kept). k.dropped) is ∙ capped-same old.dropped few ∙ ap (λ (ss : List Submission). capped (old.dropped + length ss)) (sym (answer-dropped st id o));
       }
 
 -- ---- the answer of the one that waits

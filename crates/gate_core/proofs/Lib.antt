@@ -34,6 +34,7 @@ pub mod StreamEnds
 pub mod Changed
 pub mod Left
 pub mod Steady
+pub mod Effects
 pub mod Reading
 pub mod Sorting
 pub mod Accepting
