@@ -1,7 +1,7 @@
 -- What an effect does to the live requests, apart from how the code keeps them: who is left, what is sent to the client,
 -- who is noted, and who is dropped.
 use Rattle.std.proofs.Common.{◌≡◌, ℕ, ◌&&◌, Bool, true, false, cond, not, List, [], ◌++◌, map, Some, None, refl, sym, ap, ◌∙◌}
-use Rattle.std.specs.Prelude.{is_none, filter}
+use Rattle.std.specs.Prelude.{◌==◌, is_none, filter}
 use Rattle.std.specs.List.{flat_map}
 use Rattle.std.proofs.lemmas.List.{append-nil}
 use Rattle.stream_buffers.specs.Interrupt.{is_success}
@@ -11,15 +11,16 @@ use Rattle.usbip_urb.specs.declared.client.ClientPacket.TheVariants.{Urb}
 use Rattle.usbip_urb.specs.declared.packet.UrbPacket.{UrbPacket}
 use Rattle.gate_core.specs.declared.note.Note.TheVariants as note
 use Rattle.gate_core.specs.Answers.{answers, answers_at, answers_by}
+use Rattle.gate_core.specs.Fillings.{Fill}
 use Rattle.gate_core.specs.Machine.{ask, live_after}
-use Rattle.gate_core.specs.Marks.{Submission, Effect, Answers, StreamTold}
+use Rattle.gate_core.specs.Marks.{Submission, Effect, Answers, Arrives, StreamTold, Unlinks}
 use Rattle.gate_core.specs.Meaning.{mark_as}
 use Rattle.gate_core.specs.Notes.{answer_notes, is_by_answer, is_by_client, dropped}
 use Rattle.gate_core.specs.Output.{fresh, present, answered, to_client}
 use Rattle.gate_core.specs.Sides.{leaves, is_loss}
 use Rattle.gate_core.specs.State.{State}
-use Rattle.gate_core.specs.Submits.{Pending, ByAnswer, ByClient, ByLoss, ByStatus, asks, ends, has_id, opened, own_end, waits_at}
-use Rattle.gate_core.proofs.Lists.{every, filter-same, filter-none, flat_map-same, flat_map-filter}
+use Rattle.gate_core.specs.Submits.{Pending, ByAnswer, ByClient, ByLoss, ByStatus, ByUnlink, asks, ends, has_id, is_waiting, opened, own_end, packets_end, waits_at}
+use Rattle.gate_core.proofs.Lists.{every, filter-all, filter-same, filter-none, flat_map-same, flat_map-filter, flat_map-none}
 use Rattle.gate_core.proofs.Steady.{asks-none}
 
 -- ---- one that opens no request
@@ -28,17 +29,24 @@ module _ (st : State) (e : Effect) (opens : opened e ≡ []) where
   here : present st e ≡ st.live
   here = ap (λ (ss : List Submission). st.live ++ map fresh ss) opens ∙ append-nil st.live
 
+  -- who stays, and who is asked back
+  pub live-of : live_after st e ≡ map (ask e) (filter (λ p. is_none (ends e p.submit)) st.live)
+  live-of = ap (λ (ps : List Pending). map (ask e) (filter (λ p. is_none (ends e p.submit)) ps)) here
+
+  pub answered-of : answered st e ≡ map Urb (flat_map (λ p. answers_at p.submit p.unlinker (ends e p.submit)) st.live)
+  answered-of = ap (λ (ps : List Pending). map Urb (flat_map (λ p. answers_at p.submit p.unlinker (ends e p.submit)) ps)) here
+
   -- it asks none back, and ends those that pass a test
   pub live-left : (gone : Pending → Bool) → ((s : Submission) → asks e s ≡ None) → ((p : Pending) → is_none (ends e p.submit) ≡ not (gone p)) → live_after st e ≡ filter (λ p. not (gone p)) st.live
   live-left gone none stays =
-      asks-none e none (filter (λ p. is_none (ends e p.submit)) (present st e))
-      ∙ ap (filter (λ p. is_none (ends e p.submit))) here
+      live-of
+      ∙ asks-none e none (filter (λ p. is_none (ends e p.submit)) st.live)
       ∙ filter-same (λ p. is_none (ends e p.submit)) (λ p. not (gone p)) st.live (every (λ p. is_none (ends e p.submit) ≡ not (gone p)) stays st.live)
 
   -- each that passes is answered so
   pub answered-for : (gone : Pending → Bool) (says : Pending → List UrbPacket) → ((p : Pending) → answers_at p.submit p.unlinker (ends e p.submit) ≡ cond (gone p) (says p) []) → answered st e ≡ map Urb (flat_map says (filter gone st.live))
   answered-for gone says one =
-      ap (λ (ps : List Pending). map Urb (flat_map (λ p. answers_at p.submit p.unlinker (ends e p.submit)) ps)) here
+      answered-of
       ∙ ap (map Urb)
       (flat_map-same (λ p. answers_at p.submit p.unlinker (ends e p.submit)) (λ p. cond (gone p) (says p) []) st.live (every (λ p. answers_at p.submit p.unlinker (ends e p.submit) ≡ cond (gone p) (says p) []) one st.live)
       ∙ sym (flat_map-filter says gone st.live))
@@ -90,24 +98,72 @@ module _ (st : State) (id ep : ℕ) (status : UsbStatus) where
       answered-for st (StreamTold id ep status) refl waits (λ p. answers p.submit p.unlinker (ByStatus status))
       (λ p. elim (waits p) as (λ b. answers_at p.submit p.unlinker (cond b (Some (ByStatus status)) None) ≡ cond b (answers p.submit p.unlinker (ByStatus status)) []) [ true ↦ refl | false ↦ refl ])
 
+-- ---- an unlink takes a stream's request back, and marks others
+
+module _ (st : State) (by target : ℕ) where
+  abbrev taken : Pending → Bool
+  taken p = is_waiting p.submit.verdict && (p.submit.request.number == target)
+
+  pub unlink-left : live_after st (Unlinks by target) ≡ map (ask (Unlinks by target)) (filter (λ p. not (is_waiting p.submit.verdict && (p.submit.request.number == target))) st.live)
+  unlink-left =
+      live-of st (Unlinks by target) refl
+      ∙ ap (map (ask (Unlinks by target)))
+      (filter-same (λ p. is_none (ends (Unlinks by target) p.submit)) (λ p. not (taken p)) st.live
+      (every (λ p. is_none (ends (Unlinks by target) p.submit) ≡ not (taken p)) (λ p. elim (taken p) as (λ b. is_none (cond b (Some (ByUnlink by)) None) ≡ not b) [ true ↦ refl | false ↦ refl ]) st.live))
+
+  pub unlink-answered : answered st (Unlinks by target) ≡ map Urb (flat_map (λ p. answers p.submit p.unlinker (ByUnlink by)) (filter (λ p. is_waiting p.submit.verdict && (p.submit.request.number == target)) st.live))
+  unlink-answered =
+      answered-for st (Unlinks by target) refl taken (λ p. answers p.submit p.unlinker (ByUnlink by))
+      (λ p. elim (taken p) as (λ b. answers_at p.submit p.unlinker (cond b (Some (ByUnlink by)) None) ≡ cond b (answers p.submit p.unlinker (ByUnlink by)) []) [ true ↦ refl | false ↦ refl ])
+
+-- ---- a packet of a stream fills requests that wait
+
+module _ (st : State) (ep : ℕ) (fill : Fill) where
+  pub arrival-left : live_after st (Arrives ep fill) ≡ filter (λ p. is_none (packets_end ep fill.fillings p.submit)) st.live
+  arrival-left = live-of st (Arrives ep fill) refl ∙ asks-none (Arrives ep fill) (λ s. refl) (filter (λ p. is_none (packets_end ep fill.fillings p.submit)) st.live)
+
+  pub arrival-sent : to_client st (mark_as st (Arrives ep fill) None) ≡ map Urb (flat_map (λ p. answers_at p.submit p.unlinker (packets_end ep fill.fillings p.submit)) st.live)
+  arrival-sent = answered-of st (Arrives ep fill) refl
+
 -- ---- the client leaves, or the device is lost: nobody is left
 
-ends-left : (e : Effect) (s : Submission) → leaves e ≡ true → ends e s ≡ Some ByClient
-ends-left e s left = ap (λ (b : Bool). cond b (Some ByClient) (cond (is_loss e) (Some ByLoss) (own_end e s))) left
+no-pass : (test : Pending → Bool) → ((p : Pending) → test p ≡ false) → (ps : List Pending) → filter test ps ≡ []
+no-pass test none ps = filter-same test (λ p. false) ps (every (λ p. test p ≡ false) none ps) ∙ filter-none ps
 
-ends-lost : (e : Effect) (s : Submission) → leaves e ≡ false → is_loss e ≡ true → ends e s ≡ Some ByLoss
-ends-lost e s stays lost =
-    ap (λ (b : Bool). cond b (Some ByClient) (cond (is_loss e) (Some ByLoss) (own_end e s))) stays
-    ∙ ap (λ (b : Bool). cond b (Some ByLoss) (own_end e s)) lost
+module _ (st : State) (e : Effect) (gone : leaves e ≡ true) where
+  by-client : (p : Pending) → ends e p.submit ≡ Some ByClient
+  by-client p = ap (λ (b : Bool). cond b (Some ByClient) (cond (is_loss e) (Some ByLoss) (own_end e p.submit))) gone
 
-all-end : (st : State) (e : Effect) → ((p : Pending) → is_none (ends e p.submit) ≡ false) → live_after st e ≡ []
-all-end st e none =
-    ap (map (ask e))
-    (filter-same (λ p. is_none (ends e p.submit)) (λ p. false) (present st e) (every (λ p. is_none (ends e p.submit) ≡ false) none (present st e))
-    ∙ filter-none (present st e))
+  pub leaving-left : live_after st e ≡ []
+  leaving-left = ap (map (ask e)) (no-pass (λ p. is_none (ends e p.submit)) (λ p. ap is_none (by-client p)) (present st e))
 
-pub leaving-left : (st : State) (e : Effect) → leaves e ≡ true → live_after st e ≡ []
-leaving-left st e left = all-end st e (λ p. ap is_none (ends-left e p.submit left))
+  pub leaving-answered : answered st e ≡ []
+  leaving-answered =
+      ap (map Urb)
+      (flat_map-same (λ p. answers_at p.submit p.unlinker (ends e p.submit)) (λ p. []) (present st e)
+      (every (λ p. answers_at p.submit p.unlinker (ends e p.submit) ≡ []) (λ p. ap (answers_at p.submit p.unlinker) (by-client p)) (present st e))
+      ∙ flat_map-none (present st e))
 
-pub loss-left : (st : State) (e : Effect) → leaves e ≡ false → is_loss e ≡ true → live_after st e ≡ []
-loss-left st e stays lost = all-end st e (λ p. ap is_none (ends-lost e p.submit stays lost))
+  pub leaving-noted : answer_notes st e ≡ []
+  leaving-noted = ap (map (λ (p : Pending). note.Answered p.submit.request.number)) (no-pass (λ p. is_by_answer (ends e p.submit)) (λ p. ap is_by_answer (by-client p)) (present st e))
+
+  pub leaving-dropped : dropped st (mark_as st e None) ≡ map (λ p. p.submit) (present st e)
+  leaving-dropped =
+      ap (map (λ (p : Pending). p.submit))
+      (filter-same (λ p. is_by_client (ends e p.submit)) (λ p. true) (present st e) (every (λ p. is_by_client (ends e p.submit) ≡ true) (λ p. ap is_by_client (by-client p)) (present st e))
+      ∙ filter-all (present st e))
+
+module _ (st : State) (e : Effect) (stays : leaves e ≡ false) (lost : is_loss e ≡ true) where
+  by-loss : (p : Pending) → ends e p.submit ≡ Some ByLoss
+  by-loss p =
+      ap (λ (b : Bool). cond b (Some ByClient) (cond (is_loss e) (Some ByLoss) (own_end e p.submit))) stays
+      ∙ ap (λ (b : Bool). cond b (Some ByLoss) (own_end e p.submit)) lost
+
+  pub loss-left : live_after st e ≡ []
+  loss-left = ap (map (ask e)) (no-pass (λ p. is_none (ends e p.submit)) (λ p. ap is_none (by-loss p)) (present st e))
+
+  pub loss-noted : answer_notes st e ≡ []
+  loss-noted = ap (map (λ (p : Pending). note.Answered p.submit.request.number)) (no-pass (λ p. is_by_answer (ends e p.submit)) (λ p. ap is_by_answer (by-loss p)) (present st e))
+
+  pub loss-dropped : dropped st (mark_as st e None) ≡ []
+  loss-dropped = none-dropped st e (λ p. ap is_by_client (by-loss p))

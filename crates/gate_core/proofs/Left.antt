@@ -1,12 +1,11 @@
 -- What a client's leaving makes of what is kept, and what it sends and tells.
-use Rattle.std.proofs.Common.{◌≡◌, ℕ, ◌+◌, ◌^◌, ◌-◌, ◌≤◌, ◌&&◌, ◌||◌, Bool, true, false, cond, not, List, [], ◌∷◌, ◌++◌, length, map, Option, Some, None, refl, sym, ap, subst, ◌∙◌, arith}
+use Rattle.std.proofs.Common.{◌≡◌, ℕ, ◌+◌, ◌^◌, ◌-◌, ◌≤◌, ◌&&◌, ◌||◌, Bool, true, false, cond, not, List, [], ◌∷◌, ◌++◌, length, map, Option, None, refl, sym, ap, subst, ◌∙◌, arith}
 use Rattle.std.specs.Prelude.{min, is_none, unwrap_or, filter, zip}
 use Rattle.std.specs.List.{flat_map}
 use Rattle.std.proofs.lemmas.List.{append-nil, map-append, length-append, length-map}
 use Rattle.usb_base.specs.declared.refusal.Refusal.{Refusal}
 use Rattle.usb_base.specs.declared.side.Side.TheVariants.{Client}
 use Rattle.usbip_urb.specs.declared.client.ClientPacket.{ClientPacket}
-use Rattle.usbip_urb.specs.declared.client.ClientPacket.TheVariants.{Urb}
 use Rattle.usbip_urb.specs.ClientPackets.{client_spelling}
 use Rattle.redir_wire.specs.declared.packet.Caps.{Caps}
 use Rattle.redir_wire.specs.declared.packet.RedirControl.TheVariants as plain
@@ -20,7 +19,7 @@ use Rattle.gate_core.specs.Items.{capped}
 use Rattle.gate_core.specs.Marks.{Submission, Effect, Ends, Refuses}
 use Rattle.gate_core.specs.Facts.{no_facts, tell}
 use Rattle.gate_core.specs.Sides.{refused_at, leaves, is_loss, closes_host, imports, refuses_client, ends_client, agrees, turned}
-use Rattle.gate_core.specs.Submits.{Pending, ByClient, ByLoss, opened, own_end, ends, is_answered}
+use Rattle.gate_core.specs.Submits.{Pending, opened, is_answered}
 use Rattle.std.proofs.lemmas.Grind.{flat_map-append}
 use Rattle.redir_data.specs.declared.packet.RedirPacket.{RedirPacket}
 use Rattle.gate_core.specs.declared.calls.Called.{Called}
@@ -31,15 +30,14 @@ use Rattle.gate_core.specs.inner.Calling.{HasParted}
 use Rattle.gate_core.specs.State.{State, submits}
 use Rattle.gate_core.specs.Verdict.{Verdict, Now, Wire, Routed, IsoOut, Stream, is_wire, goes_by_id}
 use Rattle.gate_core.specs.Meaning.{mark_as, drawn_by}
-use Rattle.gate_core.specs.Answers.{answers_at}
 use Rattle.gate_core.specs.Output.{fresh, present, answered, replies, cancels, cancel, acknowledgements, to_client}
-use Rattle.gate_core.specs.Notes.{when, import_notes, submit_notes, unlink_notes, arrival_notes, answer_notes, is_by_answer, refusal_notes, is_by_client, dropped}
+use Rattle.gate_core.specs.Notes.{when, import_notes, submit_notes, unlink_notes, arrival_notes, answer_notes, refusal_notes, dropped}
 use Rattle.gate_core.specs.All.{is_ret_submit, is_won_unlink}
 use Rattle.gate_core.specs.Bytes.{host_packet_bytes}
-use Rattle.gate_core.specs.Machine.{ask}
+use Rattle.gate_core.specs.Machine.{live_after}
 use Rattle.gate_core.specs.inner.Rows.{is_wire_row, kind_of, row_of, row, unmarked, left_row, cancel_bytes}
 use Rattle.gate_core.specs.inner.Holds.{Holds, Does, HasLeft}
-use Rattle.gate_core.proofs.Lists.{every, filter-same, filter-none, filter-all, flat_map-same, flat_map-none}
+use Rattle.gate_core.proofs.Effects.{leaving-left, leaving-answered, leaving-noted, leaving-dropped}
 use Rattle.gate_core.proofs.Lost.{capped-same}
 
 -- ---- rows
@@ -153,32 +151,19 @@ refusal-leaves st r e =
     })
 
 module _ (st : State) (e : Effect) (first : List Note) (l : IsLeaving st e first) where
-  none-pass : (test : Pending → Bool) → ((p : Pending) → test p ≡ false) → (ps : List Pending) → filter test ps ≡ []
-  none-pass test h ps = filter-same test (λ p. false) ps (every (λ p. test p ≡ false) h ps) ∙ filter-none ps
-
-  all-pass : (test : Pending → Bool) → ((p : Pending) → test p ≡ true) → (ps : List Pending) → filter test ps ≡ ps
-  all-pass test h ps = filter-same test (λ p. true) ps (every (λ p. test p ≡ true) h ps) ∙ filter-all ps
-
-  ended : (p : Pending) → ends e p.submit ≡ Some ByClient
-  ended p = ap (λ (b : Bool). cond b (Some ByClient) (cond (is_loss e) (Some ByLoss) (own_end e p.submit))) l.gone
-
-  left-live : map row (map (ask e) (filter (λ p. is_none (ends e p.submit)) (present st e))) ≡ []
-  left-live = ap (λ (ps : List Pending). map row (map (ask e) ps)) (none-pass (λ p. is_none (ends e p.submit)) (λ p. ap is_none (ended p)) (present st e))
+  left-live : map row (live_after st e) ≡ []
+  left-live = ap (map row) (leaving-left st e l.gone)
 
   left-dropped : length (dropped st (mark_as st e None)) ≡ length st.live + length (opened e)
   left-dropped =
-      length-map (filter (λ p. is_by_client (ends e p.submit)) (present st e)) (λ (p : Pending). p.submit)
-      ∙ ap length (all-pass (λ p. is_by_client (ends e p.submit)) (λ p. ap is_by_client (ended p)) (present st e))
+      ap length (leaving-dropped st e l.gone) ∙ length-map (present st e) (λ (p : Pending). p.submit)
       ∙ length-append st.live (map fresh (opened e)) ∙ ap (λ (n : ℕ). length st.live + n) (length-map (opened e) fresh)
 
   left-notes : answer_notes st e ≡ []
-  left-notes = ap (map (λ (p : Pending). note.Answered p.submit.request.number)) (none-pass (λ p. is_by_answer (ends e p.submit)) (λ p. ap is_by_answer (ended p)) (present st e))
+  left-notes = leaving-noted st e l.gone
 
   left-answers : to_client st (mark_as st e None) ≡ []
-  left-answers =
-      (λ i. l.silent i ++ answered st e)
-      ∙ ap (map Urb) (flat_map-same (λ p. answers_at p.submit p.unlinker (ends e p.submit)) (λ p. []) (present st e) (every (λ p. answers_at p.submit p.unlinker (ends e p.submit) ≡ []) (λ p. ap (answers_at p.submit p.unlinker) (ended p)) (present st e))
-      ∙ flat_map-none (present st e))
+  left-answers = (λ i. l.silent i ++ answered st e) ∙ leaving-answered st e l.gone
 
   -- what is kept, sent and told
   pub does-leave : (c : Called) (old new : Kept) (client host_old host_new : List ℕ) (notes_old notes_new : List Note) → Holds old st → old.answered ≤ 2 ^ 64 - 1 → old.unlinked ≤ 2 ^ 64 - 1 → HasParted st e c →

@@ -32,9 +32,9 @@ pub mod Waiting
 pub mod Enders
 pub mod StreamEnds
 pub mod Changed
-pub mod Left
 pub mod Steady
 pub mod Effects
+pub mod Left
 pub mod Reading
 pub mod Sorting
 pub mod Accepting
