@@ -4,9 +4,12 @@
 //! nothing has come for a while it waits in the kernel, for any of the sockets, before it answers.
 #![tactic(auto)]
 
+mod ahead;
 mod ready;
 mod socket;
+mod step;
 mod tcp_doors;
+mod telling;
 
 pub use tcp_doors::TcpDoors;
 

@@ -5,7 +5,6 @@ use mio::net::{TcpListener, TcpStream};
 use mio::{Events, Interest, Poll, Token};
 use std::alloc::Global;
 use std::io;
-use std::io::ErrorKind;
 use std::net::Net;
 use std::time::Duration;
 
@@ -85,13 +84,13 @@ impl Ready {
     /// Whether to read from the side, after a moment at most. Where a read found nothing, the next looks pass the
     /// side over until the system tells of something; but not for long, since nobody waits for what it tells while
     /// the other side never rests.
-    pub(crate) fn is_due(&mut self, side: Side) -> io::Result<bool> {
+    pub(crate) fn is_due(&mut self, side: Side) -> bool {
         let due_in = self.due_in(side);
         if *due_in > 0 {
             *due_in -= 1;
-            self.found_nothing()?;
+            self.found_nothing();
         }
-        Ok(*self.due_in(side) == 0)
+        *self.due_in(side) == 0
     }
 
     /// A read from the side found nothing.
@@ -101,14 +100,17 @@ impl Ready {
     }
 
     /// A look found nothing. Waits for something to read if the last looks found nothing either, and says
-    /// whether to look again.
-    pub(crate) fn found_nothing(&mut self) -> io::Result<bool> {
+    /// whether to look again. Where the system can't wait, both sides are due.
+    pub(crate) fn found_nothing(&mut self) -> bool {
         self.quiet = self.quiet.saturating_add(1);
         if self.quiet < QUIET_LOOKS {
-            return Ok(false);
+            return false;
         }
         let most = Duration::from_millis(READ_WAIT_MILLIS);
-        waited(self.reading.poll(&mut self.events, Some(most)))?;
+        if self.reading.poll(&mut self.events, Some(most)).is_err() {
+            self.client_due_in = 0;
+            self.host_due_in = 0;
+        }
         for event in self.events.iter() {
             if event.token() == token(Side::Client) {
                 self.client_due_in = 0;
@@ -117,20 +119,12 @@ impl Ready {
                 self.host_due_in = 0;
             }
         }
-        Ok(true)
+        true
     }
 
-    /// A write was blocked. Waits until something may be written.
-    pub(crate) fn blocked(&mut self) -> io::Result<()> {
+    /// A write was blocked. Waits until something may be written, or for a moment.
+    pub(crate) fn blocked(&mut self) {
         let most = Duration::from_millis(WRITE_WAIT_MILLIS);
-        waited(self.writing.poll(&mut self.events, Some(most)))
-    }
-}
-
-/// A wait that a signal cut short is over.
-fn waited(answer: io::Result<()>) -> io::Result<()> {
-    match answer {
-        Err(e) if e.kind() == ErrorKind::Interrupted => Ok(()),
-        answer => answer,
+        let _ = self.writing.poll(&mut self.events, Some(most));
     }
 }

@@ -1,10 +1,12 @@
 //! The doors over TCP.
 
-ghost use Rattle.std.specs.Prelude.{◌≡◌, IfOk, OnOk, OnErr, IsTrue, true, false};
-ghost use Rattle.gate_sockets.specs.State.{fresh, opened, Came};
+ghost use Rattle.std.specs.Prelude.{◌≡◌, ◌<◌, length, IfOk, OnOk, OnErr, IsOkAnd, IsTrue, true, false};
+ghost use Rattle.gate_sockets.specs.State.{fresh, opened, faulted, state_of, Came, CameOrRested, ReadOn, WroteOnce, PollSteps, WriteSteps};
+ghost use Rattle.gate_outside.specs.Link.{other};
 
 use crate::ready::Ready;
 use crate::socket::Socket;
+use crate::telling;
 use gate_outside::{Doors, Failed, Polled, Side};
 use mio::net::{TcpListener, TcpStream};
 use std::alloc::Global;
@@ -13,20 +15,36 @@ use std::marker::Model;
 use std::net::Net;
 use std::{io, net};
 
-/// Connections of the system. They tell no content: what is proved of them is that each failure raises the
-/// count of faults of its side, and each idle answer that of its idle answers.
+/// How often a write that is blocked is tried.
+const TRIES: u32 = 1_000_000;
+
+/// How many bytes of a link are read ahead at most: the longest packet of its side, rounded up to what is read at a
+/// time.
+const CLIENT_AHEAD: usize = 16_793_647 + 16_384;
+
+const HOST_AHEAD: usize = 16_777_295 + 16_384;
+
+/// Connections of the system. Of what comes and goes by them they tell nothing but what was read ahead. What is proved
+/// of them is which call counts as a fault and which as idle, that what was read ahead is given in order and before
+/// what came later, and that a link which has broken takes what is written to it, and ends.
 ///
 /// The door stays open: a client that comes while another one is served waits until that one has left.
 #[derive(Drop)]
-pub struct TcpDoors<'rt, R: Net<Stream = net::TcpStream, Listener = net::TcpListener>> {
-    net: &'rt R,
+pub struct TcpDoors<'rt, R: Net<Stream = net::TcpStream, Listener = net::TcpListener> + Eprint> {
+    rt: &'rt R,
     ready: Ready,
     door: Option<TcpListener>,
     client: Socket,
     host: Socket,
+    /// A call has tried to open a link or the door, and a host was dialled.
+    used: bool,
+    dialled: bool,
+    /// It was told that a client can't be let in.
+    wants: bool,
 }
 
-impl<'rt, R: Net<Stream = net::TcpStream, Listener = net::TcpListener>> Model for TcpDoors<'rt, R> {
+impl<'rt, R: Net<Stream = net::TcpStream, Listener = net::TcpListener> + Eprint> Model
+    for TcpDoors<'rt, R> {
     ghost use Rattle.std.specs.Prelude.{is_some};
     ghost use Rattle.gate_sockets.specs.State.{States};
 
@@ -35,30 +53,39 @@ impl<'rt, R: Net<Stream = net::TcpStream, Listener = net::TcpListener>> Model fo
     ghost view = { λ doors. record { client = doors.client; host = doors.host; made = is_some doors.door } };
 }
 
-impl<'rt, R: Net<Stream = net::TcpStream, Listener = net::TcpListener>> TcpDoors<'rt, R> {
+impl<'rt, R: Net<Stream = net::TcpStream, Listener = net::TcpListener> + Eprint> TcpDoors<'rt, R> {
     /// Doors with no link up.
-    pub fn new(net: &'rt R, alloc: Global) -> io::Result<TcpDoors<'rt, R>>
+    pub fn new(rt: &'rt R, alloc: Global) -> io::Result<TcpDoors<'rt, R>>
         ensures client { IfOk result (λ doors. doors.client ≡ fresh) }
         ensures host { IfOk result (λ doors. doors.host ≡ fresh) }
         ensures door { IfOk result (λ doors. doors.made ≡ false) }
     {
         Ok(TcpDoors {
-            net,
-            ready: Ready::new(net, alloc)?,
+            rt,
+            ready: Ready::new(rt, alloc)?,
             door: None,
-            client: Socket::new(Side::Client),
-            host: Socket::new(Side::Host),
+            client: Socket::new(Side::Client, alloc),
+            host: Socket::new(Side::Host, alloc),
+            used: false,
+            dialled: false,
+            wants: false,
         })
+    }
+
+    /// Whether a call has tried to open a link or the door.
+    pub fn were_used(&self) -> bool {
+        self.used
     }
 
     fn try_dial(&mut self, addr: &str) -> io::Result<()>
         ensures ok { OnOk result (self.new ≡ record self.old { host = opened self.old.host }) }
         ensures err { OnErr result (self.new ≡ self.old) }
     {
-        let stream = net::TcpStream::connect(self.net, addr)?;
+        let stream = net::TcpStream::connect(self.rt, addr)?;
         stream.set_nonblocking(true)?;
         let stream = prepared(TcpStream::from_std(stream), Side::Host, &mut self.ready)?;
         self.host.open(stream);
+        self.dialled = true;
         Ok(())
     }
 
@@ -66,48 +93,116 @@ impl<'rt, R: Net<Stream = net::TcpStream, Listener = net::TcpListener>> TcpDoors
         ensures ok { OnOk result (self.new ≡ record self.old { made = true }) }
         ensures err { OnErr result (self.new ≡ self.old) }
     {
-        let door = net::TcpListener::bind(self.net, addr)?;
+        let door = net::TcpListener::bind(self.rt, addr)?;
         door.set_nonblocking(true)?;
         let mut door = TcpListener::from_std(door);
         self.ready.add_door(&mut door)?;
+        telling::listens(self.rt, addr, door.local_addr().ok());
         self.door = Some(door);
         Ok(())
     }
 
-    /// Whether a client waits at the door, who is then let in. One that has gone again is passed over.
-    fn try_accept(&mut self) -> io::Result<bool>
+    /// Lets a client in that waits at the door, if the system has descriptors and buffers for it.
+    fn try_accept(&mut self) -> io::Result<()>
         requires { IsTrue self.old.made }
-        ensures { Came result self.old self.new }
+        ensures ok { OnOk result (self.new ≡ record self.old { client = opened self.old.client }) }
+        ensures err { OnErr result (self.new ≡ self.old) }
     {
         let Some(door) = &self.door else {
             unreachable!()
         };
-        let stream = match door.accept() {
-            Ok((stream, _)) => stream,
-            Err(e) => match e.kind() {
-                ErrorKind::WouldBlock | ErrorKind::Interrupted | ErrorKind::ConnectionAborted => {
-                    return Ok(false);
-                }
-                _ => return Err(e),
-            },
-        };
+        let (stream, _) = door.accept()?;
         let stream = prepared(stream, Side::Client, &mut self.ready)?;
         self.client.open(stream);
-        Ok(true)
+        Ok(())
     }
 
-    /// Looks at the door, and once more where nobody stood there at first and it was worth a wait.
-    fn look(&mut self) -> io::Result<bool>
+    /// Whether a client waits at the door, who is then let in. One that can't be let in hasn't come yet.
+    fn let_in(&mut self) -> bool
         requires { IsTrue self.old.made }
         ensures { Came result self.old self.new }
     {
-        if self.try_accept()? {
-            return Ok(true);
+        match self.try_accept() {
+            Ok(()) => {
+                telling::came(self.rt, self.client.peer());
+                self.wants = false;
+                true
+            }
+            Err(error) => {
+                if error.kind() != ErrorKind::WouldBlock && !self.wants {
+                    telling::wants(self.rt, &error);
+                    self.wants = true;
+                }
+                false
+            }
         }
-        if self.ready.found_nothing()? {
-            return self.try_accept();
+    }
+
+    /// Says that the side's link has come to its end.
+    fn tell_end(&self, side: Side) {
+        match side {
+            Side::Client => telling::left(self.rt, self.client.peer(), self.client.why()),
+            Side::Host => telling::left(self.rt, self.host.peer(), self.host.why()),
         }
-        Ok(false)
+    }
+
+    /// Says that the side's link is closed from here.
+    fn tell_close(&self, side: Side) {
+        match side {
+            Side::Client if self.dialled && !self.host.is_up() => {
+                telling::let_go(self.rt, self.client.peer(), "no device is left");
+            }
+            Side::Client => telling::let_go(self.rt, self.client.peer(), "it was refused"),
+            Side::Host => telling::let_go(self.rt, self.host.peer(), "it was refused"),
+        }
+    }
+
+    /// Looks at the door, and once more where nobody stood there at first and it was worth a wait.
+    fn look(&mut self) -> bool
+        requires { IsTrue self.old.made }
+        ensures { Came result self.old self.new }
+    {
+        self.let_in() || self.ready.found_nothing() && self.let_in()
+    }
+
+    fn write_once(&mut self, side: Side, piece: &[u8]) -> Option<usize>
+        requires up { IsTrue (state_of self.old side).up }
+        requires some { 0 < length piece.now }
+        ensures side { WroteOnce result (length piece.now) (state_of self.old side) (state_of self.new side) }
+        ensures other { state_of self.new (other side) ≡ state_of self.old (other side) }
+        ensures door { self.new.made ≡ self.old.made }
+    {
+        match side {
+            Side::Client => self.client.write_once(piece),
+            Side::Host => self.host.write_once(piece),
+        }
+    }
+
+    /// Reads ahead on both links: a peer that writes before it reads may be what a write waits for.
+    fn read_on(&mut self)
+        ensures client { ReadOn self.old.client self.new.client }
+        ensures host { ReadOn self.old.host self.new.host }
+        ensures door { self.new.made ≡ self.old.made }
+    {
+        self.client.read_on(CLIENT_AHEAD);
+        self.host.read_on(HOST_AHEAD);
+    }
+
+    fn fail(&mut self, side: Side) -> Failed
+        ensures side { state_of self.new side ≡ faulted (state_of self.old side) }
+        ensures other { state_of self.new (other side) ≡ state_of self.old (other side) }
+        ensures door { self.new.made ≡ self.old.made }
+    {
+        match side {
+            Side::Client => {
+                telling::stuck(self.rt, self.client.peer());
+                self.client.fail()
+            }
+            Side::Host => {
+                telling::stuck(self.rt, self.host.peer());
+                self.host.fail()
+            }
+        }
     }
 }
 
@@ -118,7 +213,10 @@ fn prepared(mut stream: TcpStream, side: Side, ready: &mut Ready) -> io::Result<
     Ok(stream)
 }
 
-impl<'rt, R: Net<Stream = net::TcpStream, Listener = net::TcpListener>> Doors for TcpDoors<'rt, R> {
+impl<'rt, R: Net<Stream = net::TcpStream, Listener = net::TcpListener> + Eprint> Doors
+    for TcpDoors<'rt, R> {
+    ghost use Rattle.usb_base.specs.declared.side.Side.TheVariants.{Client, Host};
+    ghost use Rattle.gate_outside.specs.Doors.{Accepts, Polls, Writes, TookWithin};
     ghost use Rattle.gate_sockets.specs.State.{link_of, door_of};
 
     ghost link = { λ doors side. link_of doors side };
@@ -126,45 +224,87 @@ impl<'rt, R: Net<Stream = net::TcpStream, Listener = net::TcpListener>> Doors fo
     ghost door = { λ doors. door_of doors };
 
     fn dial(&mut self, addr: &str) -> Result<(), Failed> {
+        self.used = true;
         match self.try_dial(addr) {
-            Ok(()) => Ok(()),
-            Err(_) => Err(self.host.fail()),
+            Ok(()) => {
+                telling::came(self.rt, self.host.peer());
+                Ok(())
+            }
+            Err(error) => {
+                telling::fails(self.rt, addr, &error);
+                Err(self.host.fail())
+            }
         }
     }
 
     fn listen(&mut self, addr: &str) -> Result<(), Failed> {
+        self.used = true;
         match self.try_listen(addr) {
             Ok(()) => Ok(()),
-            Err(_) => Err(self.client.fail()),
-        }
-    }
-
-    fn accept(&mut self) -> Result<bool, Failed> {
-        match self.look() {
-            Ok(true) => Ok(true),
-            Ok(false) => {
-                self.client.rest();
-                Ok(false)
+            Err(error) => {
+                telling::fails(self.rt, addr, &error);
+                Err(self.client.fail())
             }
-            Err(_) => Err(self.client.fail()),
         }
     }
 
-    fn poll(&mut self, side: Side, buf: &mut [u8]) -> Polled {
-        match side {
+    fn accept(&mut self) -> Result<bool, Failed>
+        requires { IsTrue self.old.made }
+        ensures came { IsOkAnd result (λ came. CameOrRested came self.old self.new) }
+        ensures accepts { Accepts result (door_of self.old) (door_of self.new) (link_of self.old Client) (link_of self.new Client) }
+        ensures other { state_of self.new Host ≡ state_of self.old Host }
+    {
+        let came = self.look();
+        if !came {
+            self.client.rest();
+        }
+        Ok(came)
+    }
+
+    fn poll(&mut self, side: Side, buf: &mut [u8]) -> Polled
+        requires up { IsTrue (state_of self.old side).up }
+        requires room { 0 < length buf.old }
+        ensures bound { TookWithin result buf.new }
+        ensures side { PollSteps result buf.new (state_of self.old side) (state_of self.new side) }
+        ensures link { Polls result buf.new (link_of self.old side) (link_of self.new side) }
+        ensures other { state_of self.new (other side) ≡ state_of self.old (other side) }
+        ensures door { self.new.made ≡ self.old.made }
+    {
+        let polled = match side {
             Side::Client => self.client.poll(buf, &mut self.ready),
             Side::Host => self.host.poll(buf, &mut self.ready),
+        };
+        if let Polled::Ended = polled {
+            self.tell_end(side);
         }
+        polled
     }
 
-    fn write(&mut self, side: Side, piece: &[u8]) -> Result<usize, Failed> {
-        match side {
-            Side::Client => self.client.write(piece, &mut self.ready),
-            Side::Host => self.host.write(piece, &mut self.ready),
+    fn write(&mut self, side: Side, piece: &[u8]) -> Result<usize, Failed>
+        requires up { IsTrue (state_of self.old side).up }
+        requires some { 0 < length piece.now }
+        ensures side { WriteSteps result (length piece.now) (state_of self.old side) (state_of self.new side) }
+        ensures link { Writes result piece.now (link_of self.old side) (link_of self.new side) }
+        ensures read_on { ReadOn (state_of self.old (other side)) (state_of self.new (other side)) }
+        ensures other { link_of self.new (other side) ≡ link_of self.old (other side) }
+        ensures door { self.new.made ≡ self.old.made }
+    {
+        for _ in 0..TRIES {
+            if let Some(count) = self.write_once(side, piece) {
+                self.ready.moved();
+                return Ok(count);
+            }
+            self.read_on();
+            self.ready.blocked();
+        }
+        match self.write_once(side, piece) {
+            Some(count) => Ok(count),
+            None => Err(self.fail(side)),
         }
     }
 
     fn close(&mut self, side: Side) {
+        self.tell_close(side);
         match side {
             Side::Client => self.client.close(),
             Side::Host => self.host.close(),

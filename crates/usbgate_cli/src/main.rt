@@ -14,7 +14,7 @@ use std::net::Net;
 use std::process::ExitCode;
 use std::rt::Env;
 use std::{env, io, net};
-use usb_base::Memory;
+use usb_base::{Memory, Side};
 use usbgate::{Status, run};
 
 fn main(rt: HostRuntime) -> ExitCode {
@@ -34,6 +34,7 @@ fn run_args(
     rt: &(impl Env
         + Input
         + Print
+        + Eprint
         + AllocGlobal
         + Net<Stream = net::TcpStream, Listener = net::TcpListener>),
 ) -> Status {
@@ -48,7 +49,13 @@ fn run_args(
     let mut tape = StdSource::new(rt.reader());
     let mut out = StdSink::new(io::writer(rt));
     match TcpDoors::new(rt, rt.alloc()) {
-        Ok(mut doors) => run(rt.alloc(), &words, &mut tape, &mut out, &mut doors),
+        Ok(mut doors) => {
+            let status = run(rt.alloc(), &words, &mut tape, &mut out, &mut doors);
+            if doors.were_used() {
+                tell_end(rt, status);
+            }
+            status
+        }
         Err(_) => run(rt.alloc(), &words, &mut tape, &mut out, &mut NoDoors::new()),
     }
 }
@@ -73,4 +80,20 @@ fn words_behind_the_name(alloc: Global, args: &[String]) -> Result<Vec<&str>, Me
         }
     }
     Ok(words)
+}
+
+/// Says on standard error why serving or lending has ended.
+fn tell_end(rt: &impl Eprint, status: Status) {
+    let why = match status {
+        Status::Done => "no link is left",
+        Status::Refused => "no link is left, and a side was refused",
+        Status::LinkFault(Side::Client) => "a fault at the clients' side",
+        Status::LinkFault(Side::Host) => "a fault at the host's side",
+        Status::Idle => "nothing has come for as many rounds as --idle says",
+        Status::Spent => "as much has come as may",
+        Status::WriteFault => "standard output can't be written",
+        Status::OutOfMemory => "memory ran out",
+        Status::Usage | Status::ReadFault | Status::BadTape(_) => return,
+    };
+    let _ = rt.eprintln(format_args!("usbgate: ended: {why}"));
 }
