@@ -1,4 +1,4 @@
-//! What the three devices have in common: descriptors, and the answers on endpoint 0.
+//! What devices have in common that answer endpoint 0 by their descriptors: those, and the answers.
 
 ghost use Rattle.std.specs.Prelude.{◌≡◌, ◌&&◌, IsSome, IfOk, OnOk, OnErr, None};
 ghost use Rattle.chapter9.specs.Descriptors.{wrong_place};
@@ -17,15 +17,16 @@ use usb_base::{Bytes, EpAddr, EpKind, EpTable, Memory, Outcome, Transfer, UsbSta
 
 /// A device's descriptors, with the parts of its configuration, and its state.
 #[derive(Debug, Drop)]
-pub(crate) struct Device {
-    set: DescriptorSet,
-    parts: Parts,
-    pub(crate) state: DevState,
+pub struct Device {
+    pub set: DescriptorSet,
+    /// The parts of the set's configuration.
+    pub parts: Parts,
+    pub state: DevState,
 }
 
 impl Device {
     /// The device with these descriptors, as it is before a configuration is set.
-    pub(crate) fn make(
+    pub fn make(
         alloc: Global,
         device: [u8; 18],
         config: &[u8],
@@ -54,14 +55,15 @@ impl Device {
         })
     }
 
-    pub(crate) fn table(&self) -> EpTable
+    /// The endpoints that it has.
+    pub fn table(&self) -> EpTable
         ensures { result ≡ table_of self.now.parts self.now.state }
     {
         table_of(&self.parts, &self.state)
     }
 
     /// The one interface that it has where a configuration is set.
-    pub(crate) fn interfaces(&self) -> InterfaceInfo
+    pub fn interfaces(&self) -> InterfaceInfo
         ensures { result ≡ interfaces_of self.now.parts self.now.state }
     {
         let mut info = InterfaceInfo {
@@ -83,14 +85,14 @@ impl Device {
     }
 
     /// Whether the endpoint is there and isn't halted.
-    pub(crate) fn is_running(&self, ep: EpAddr) -> bool
+    pub fn is_running(&self, ep: EpAddr) -> bool
         ensures { result ≡ is_running self.now.parts self.now.state ep }
     {
         self.table().row(ep).kind != EpKind::Invalid && !self.state.is_halted(ep)
     }
 
     /// Answers a transfer of endpoint 0.
-    pub(crate) fn control(&mut self, alloc: Global, transfer: &Transfer) -> Result<Outcome, Memory>
+    pub fn control(&mut self, alloc: Global, transfer: &Transfer) -> Result<Outcome, Memory>
         requires { IsSome transfer.now.setup }
         ensures outcome { IfOk result (λ outcome. outcome ≡ outcome_of self.old.set self.old.parts self.old.state transfer.now) }
         ensures state { OnOk result (self.new ≡ record self.old { state = state_after self.old.parts self.old.state transfer.now }) }
@@ -101,7 +103,7 @@ impl Device {
 }
 
 /// Whether a transfer was a change that succeeded.
-pub(crate) fn is_done_change(transfer: &Transfer, outcome: &Outcome) -> bool
+pub fn is_done_change(transfer: &Transfer, outcome: &Outcome) -> bool
     ensures { result ≡ (asks_change transfer.now && is_success outcome.now.status) }
 {
     match &transfer.setup {
@@ -113,7 +115,7 @@ pub(crate) fn is_done_change(transfer: &Transfer, outcome: &Outcome) -> bool
 }
 
 /// The refusal of a transfer.
-pub(crate) fn stall(alloc: Global) -> Outcome
+pub fn stall(alloc: Global) -> Outcome
     ensures { result ≡ stall }
 {
     Outcome {

@@ -1,4 +1,5 @@
-//! Modelled USB devices: what every device is, and three of them, a keyboard, a loop and a tone.
+//! Modelled USB devices: what every device is, what those have in common that answer by their descriptors, and
+//! three of them, a keyboard, a loop and a tone.
 #![tactic(auto)]
 
 mod device;
@@ -8,6 +9,7 @@ mod loopback;
 mod submit;
 mod tone;
 
+pub use device::{Device, is_done_change, stall};
 pub use gadget::Gadget;
 pub use keyboard::Keyboard;
 pub use loopback::Loopback;
