@@ -1,0 +1,25 @@
+-- The reads and writes of blocks that passed, and what they make of the blocks.
+use Rattle.std.specs.Prelude.{ℕ, ◌+◌, ◌*◌, ◌/◌, ◌++◌, List, length, take, drop, Option, Some, None}
+
+-- how many bytes a block has
+abbrev pub block_size : ℕ
+block_size = 512
+
+-- all blocks are one list of bytes, and this is how many there are
+abbrev pub count_of : List ℕ → ℕ
+count_of blocks = length blocks / block_size
+
+pub data Access : Type 0 where
+  -- so many blocks are read from this one on
+  ReadOf : (block count : ℕ) → Access
+  -- these bytes are written to the blocks from this one on
+  WriteOf : (block : ℕ) (bytes : List ℕ) → Access
+
+-- bytes take the place of as many
+abbrev pub put : ℕ → List ℕ → List ℕ → List ℕ
+put at bytes blocks = take at blocks ++ (bytes ++ drop (at + length bytes) blocks)
+
+abbrev pub blocks_after : List ℕ → Option Access → List ℕ
+blocks_after blocks None = blocks
+blocks_after blocks (Some (ReadOf block count)) = blocks
+blocks_after blocks (Some (WriteOf block bytes)) = put (block_size * block) bytes blocks

@@ -1,0 +1,12 @@
+pub mod Descriptors
+pub mod Commands
+pub mod Wrappers
+pub mod Reports
+pub mod Accesses
+pub mod Acts
+pub mod Turns
+pub mod DiskStep
+pub mod Within
+pub mod Written
+pub mod Inside
+pub mod inner

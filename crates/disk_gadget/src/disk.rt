@@ -1,0 +1,174 @@
+//! The disk.
+#![tactic(auto, unfolding(crate::specs::Descriptors::described))]
+
+ghost use Rattle.std.specs.Prelude.{◌≡◌, ◌≤◌, ◌<◌, IfOk, OnOk, OnErr, length};
+ghost use Rattle.model_device.specs.Inside.{HasSet};
+ghost use Rattle.disk_gadget.specs.Descriptors.{disk_set};
+ghost use Rattle.disk_gadget.specs.DiskStep.{disk, first_disk};
+ghost use Rattle.disk_gadget.specs.Inside.{request_done};
+
+use crate::bulk;
+use crate::class_request::ClassRequest;
+use crate::medium::Medium;
+use crate::stage::{Course, Stage};
+use model_device::{Device, Gadget, is_done_change, stall};
+use redir_wire::{Connect, InterfaceInfo};
+use std::alloc::Global;
+use std::marker::Model;
+use usb_base::{
+    Bytes, EpAddr, EpTable, Memory, Outcome, Setup, Speed, StreamPacket, Transfer, UsbStatus,
+};
+
+/// The device descriptor (USB 2.0, table 9-8).
+const DEVICE: [u8; 18] = [
+    0x12, 0x01, 0x00, 0x02, 0x00, 0x00, 0x00, 0x40, // USB 2.00, no class, packets of 64 bytes
+    0xF0, 0xFF, 0x04, 0x00, 0x00, 0x01, // vendor 0xFFF0, product 4, release 1.00
+    0x00, 0x01, 0x00, 0x01, // string 1 names the product; one configuration
+];
+
+/// The configuration (USB 2.0, tables 9-10, 9-12 and 9-13; Bulk-Only Transport, 4).
+const CONFIG: [u8; 32] = [
+    0x09, 0x02, 0x20, 0x00, 0x01, 0x01, 0x00, 0x80, 0x32, // 32 bytes, one interface, 100 mA
+    0x09, 0x04, 0x00, 0x00, 0x02, 0x08, 0x06, 0x50, 0x00, // mass storage, SCSI, bulk-only
+    0x07, 0x05, 0x01, 0x02, 0x00, 0x02, 0x00, // OUT 1: bulk, 512 bytes
+    0x07, 0x05, 0x81, 0x02, 0x00, 0x02, 0x00, // IN 1: bulk, 512 bytes
+];
+
+/// String 1 (USB 2.0, table 9-16): `disk`.
+const NAME: [u8; 10] = [0x0A, 0x03, 0x64, 0x00, 0x69, 0x00, 0x73, 0x00, 0x6B, 0x00];
+
+/// A high-speed device of mass storage, bulk-only, whose blocks of 512 bytes stand in memory. A change that
+/// succeeds leaves the blocks.
+#[derive(Drop)]
+pub struct Disk {
+    device: Device,
+    course: Course,
+    medium: Medium,
+}
+
+impl Model for Disk {
+    ghost use Rattle.std.specs.Prelude.{length};
+    ghost use Rattle.model_device.specs.Inside.{HasSet};
+    ghost use Rattle.disk_gadget.specs.Descriptors.{disk_set};
+    ghost use Rattle.disk_gadget.specs.DiskStep.{DiskState};
+    ghost use Rattle.disk_gadget.specs.Within.{IsWithin};
+
+    ghost Value = { DiskState };
+
+    ghost view = { λ d. record { state = record { device = d.device.state; kept = d.course }; blocks = d.medium } };
+
+    ghost invariant = { λ d. HasSet disk_set d.device × IsWithin (length d.medium) d.course.stage };
+}
+
+impl Disk {
+    /// A disk of so many blocks that was just plugged in. Its bytes are zeros.
+    #[tactic(auto, unfolding(usb_base::specs::Number::le_at, crate::specs::Descriptors::described))]
+    pub fn make(alloc: Global, blocks: u32) -> Result<Disk, Memory>
+        requires some { 1 ≤ blocks }
+        requires few { blocks ≤ 4096 }
+        ensures { IfOk result (λ made. made ≡ first_disk blocks) }
+    {
+        Ok(Disk {
+            device: Device::make(alloc, DEVICE, &CONFIG, &NAME)?,
+            course: Course::fresh(),
+            medium: Medium::zeros(alloc, blocks)?,
+        })
+    }
+}
+
+impl Gadget for Disk {
+    ghost use Rattle.disk_gadget.specs.inner.Lawful.{disk_lawful};
+
+    ghost meaning = { disk };
+
+    fn identity(&self) -> Connect {
+        Connect {
+            speed: Speed::High.to_redir(),
+            class: 0,
+            subclass: 0,
+            protocol: 0,
+            vendor: 0xFFF0,
+            product: 4,
+            version: 0x0100,
+        }
+    }
+
+    fn configuration(&self) -> u8 {
+        self.device.state.configuration
+    }
+
+    fn interfaces(&self) -> InterfaceInfo {
+        self.device.interfaces()
+    }
+
+    fn table(&self) -> EpTable {
+        self.device.table()
+    }
+
+    fn perform(&mut self, alloc: Global, transfer: &Transfer) -> Result<Option<Outcome>, Memory> {
+        if let Some(setup) = &transfer.setup {
+            let outcome = request(alloc, &mut self.device, &mut self.course, transfer, setup)?;
+            return Ok(Some(outcome));
+        }
+        if !self.device.is_running(transfer.ep) {
+            return Ok(Some(stall(alloc)));
+        }
+        if transfer.ep.is_in() {
+            bulk::give(alloc, &mut self.course, &self.medium, transfer.wanted)
+        } else {
+            let device = &mut self.device.state;
+            bulk::take(
+                alloc,
+                device,
+                &mut self.course,
+                &mut self.medium,
+                &transfer.body,
+            )
+        }
+    }
+
+    fn offer(&mut self, _alloc: Global, _ep: EpAddr) -> Result<Option<StreamPacket>, Memory> {
+        Ok(None)
+    }
+
+    ghost lawful = { disk_lawful };
+}
+
+// Answers a transfer of endpoint 0.
+fn request(
+    alloc: Global,
+    device: &mut Device,
+    course: &mut Course,
+    transfer: &Transfer,
+    setup: &Setup,
+) -> Result<Outcome, Memory>
+    requires setup { transfer.now.setup ≡ Some setup.now }
+    requires set { HasSet disk_set device.old }
+    ensures set { HasSet disk_set device.new }
+    ensures outcome { IfOk result (λ outcome. outcome ≡ (request_done device.old.state course.old transfer.now setup.now).1) }
+    ensures device { OnOk result (device.new.state ≡ (request_done device.old.state course.old transfer.now setup.now).0.device) }
+    ensures course { OnOk result (course.new ≡ (request_done device.old.state course.old transfer.now setup.now).0.kept) }
+    ensures same_device { OnErr result (device.new ≡ device.old) }
+    ensures same_course { OnErr result (course.new ≡ course.old) }
+{
+    match ClassRequest::of(setup) {
+        Some(ClassRequest::Reset) => {
+            course.stage = Stage::Waits;
+            Ok(bulk::given(Bytes::new(alloc)))
+        }
+        Some(ClassRequest::MaxLun) => {
+            let mut body = Bytes::new(alloc);
+            if transfer.wanted > 0 && setup.length > 0 {
+                body.push(0)?;
+            }
+            Ok(bulk::given(body))
+        }
+        None => {
+            let outcome = device.control(alloc, transfer)?;
+            if is_done_change(transfer, &outcome) {
+                *course = Course::fresh();
+            }
+            Ok(outcome)
+        }
+    }
+}

@@ -1,0 +1,56 @@
+//! Command status wrappers (Bulk-Only Transport, 5.2).
+
+ghost use Rattle.std.specs.Prelude.{◌≡◌, length, IfOk};
+ghost use Rattle.disk_gadget.specs.Reports.{status_bytes, status_code};
+
+use std::alloc::Global;
+use usb_base::{Bytes, Memory, push_le_u32};
+
+/// dCSWSignature, `USBS`.
+const SIGNATURE: u32 = 0x5342_5355;
+
+/// bCSWStatus.
+#[derive(Clone, Copy)]
+pub enum Status {
+    Passed,
+    Failed,
+    PhaseError,
+}
+
+impl Status {
+    /// Its byte.
+    pub fn code(self) -> u8
+        ensures { result ≡ status_code self }
+    {
+        match self {
+            Status::Passed => 0,
+            Status::Failed => 1,
+            Status::PhaseError => 2,
+        }
+    }
+}
+
+/// How a command ended.
+#[derive(Clone, Copy)]
+pub struct Report {
+    /// dCSWTag: that of its wrapper.
+    pub tag: u32,
+    /// dCSWDataResidue: how many of its bytes weren't moved.
+    pub residue: u32,
+    pub status: Status,
+}
+
+impl Report {
+    /// Its 13 bytes.
+    pub fn bytes(&self, alloc: Global) -> Result<Bytes, Memory>
+        ensures bytes { IfOk result (λ bytes. bytes ≡ status_bytes self.now) }
+        ensures length { IfOk result (λ bytes. length bytes ≡ 13) }
+    {
+        let mut bytes = Bytes::new(alloc);
+        push_le_u32(&mut bytes, SIGNATURE)?;
+        push_le_u32(&mut bytes, self.tag)?;
+        push_le_u32(&mut bytes, self.residue)?;
+        bytes.push(self.status.code())?;
+        Ok(bytes)
+    }
+}
