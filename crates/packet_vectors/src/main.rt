@@ -1,0 +1,44 @@
+//! Puts the rows of standard input to the readers and writers of packets, and prints for each whether they gave what
+//! stands beside it. The head of `stdin` explains the rows.
+#![tactic(auto)]
+
+mod answer;
+mod buffers;
+mod data_rows;
+mod fronts;
+mod lines;
+mod packets;
+mod reader;
+mod replies;
+mod rows;
+mod streams;
+mod tapes;
+mod texts;
+mod type_rows;
+mod usb_words;
+mod written;
+
+use rows::Rows;
+use std::alloc::Global;
+use usb_base::Bytes;
+
+fn main(rt: HostRuntime) -> anyhow::Result<()> {
+    let mut rows = Rows::new(rt.alloc());
+    for line in rt.lines(rt.alloc()) {
+        take(&rt, &mut rows, line?.as_str())?;
+    }
+    Ok(())
+}
+
+/// Takes a line, and prints what is told of it.
+fn take(rt: &(impl Print + AllocGlobal), rows: &mut Rows, line: &str) -> anyhow::Result<()> {
+    let told = told_of(rt.alloc(), rows, line)?;
+    rt.print(str::from_utf8(told.as_slice())?)?;
+    Ok(())
+}
+
+fn told_of(alloc: Global, rows: &mut Rows, line: &str) -> anyhow::Result<Bytes> {
+    let mut told = Bytes::new(alloc);
+    rows.take(alloc, line, &mut told)?;
+    Ok(told)
+}

@@ -1,0 +1,127 @@
+//! The readers, by their words.
+
+use anyhow::anyhow;
+use packet_stream::{Read, ReadError};
+use redir_data::read_redir;
+use redir_wire::{Caps, Way, read_header};
+use std::alloc::Global;
+use usbip_op::{OpWay, read_op, read_request};
+use usbip_urb::{read_client, read_ret, read_urb};
+
+/// What decides how a usbredir packet is read.
+#[derive(Clone, Copy, PartialEq, Eq)]
+pub struct Setting {
+    /// The stream's hello is still to come.
+    pub first: bool,
+    /// The capabilities that are agreed.
+    pub caps: Caps,
+    pub way: Way,
+}
+
+/// A reader, with what it is told beside the bytes.
+#[derive(Clone, Copy, PartialEq, Eq)]
+pub enum Reader {
+    Client,
+    Urb,
+    /// Whether the request was IN.
+    Ret(bool),
+    Request,
+    Op(OpWay),
+    Header(Setting),
+    Redir(Setting),
+}
+
+/// What a reader answers, but for the packet.
+#[derive(Clone, Copy, PartialEq, Eq)]
+pub enum Told {
+    /// A packet of so many bytes.
+    Whole(usize),
+    Short,
+    Wrong(ReadError),
+}
+
+impl Reader {
+    /// The reader of this name, with this setting.
+    pub fn named(name: &str, setting: &str) -> anyhow::Result<Reader> {
+        match name {
+            "client" => Ok(Reader::Client),
+            "urb" => Ok(Reader::Urb),
+            "ret" => Ok(Reader::Ret(is_in(setting)?)),
+            "request" => Ok(Reader::Request),
+            "op" => Ok(Reader::Op(op_way(setting)?)),
+            "header" => Ok(Reader::Header(Setting::of(setting)?)),
+            "redir" => Ok(Reader::Redir(Setting::of(setting)?)),
+            _ => Err(anyhow!("there is no call {name}")),
+        }
+    }
+
+    /// What it answers for these bytes.
+    pub fn told(self, alloc: Global, bytes: &[u8]) -> Told {
+        match self {
+            Reader::Client => told_by(read_client(alloc, bytes)),
+            Reader::Urb => told_by(read_urb(alloc, bytes)),
+            Reader::Ret(is_in) => told_by(read_ret(alloc, is_in, bytes)),
+            Reader::Request => told_by(read_request(bytes)),
+            Reader::Op(way) => told_by(read_op(alloc, way, bytes)),
+            Reader::Header(Setting { first, caps, way }) => {
+                told_by(read_header(first, caps, way, bytes))
+            }
+            Reader::Redir(Setting { first, caps, way }) => {
+                told_by(read_redir(alloc, first, caps, way, bytes))
+            }
+        }
+    }
+}
+
+/// What this answer says, but for the packet.
+pub fn told_by<P: Drop>(read: Result<Read<P>, ReadError>) -> Told {
+    match read {
+        Ok(Read::Whole(_, size)) => Told::Whole(size),
+        Ok(Read::Short) => Told::Short,
+        Err(error) => Told::Wrong(error),
+    }
+}
+
+/// Whether a direction is IN.
+pub fn is_in(direction: &str) -> anyhow::Result<bool> {
+    match direction {
+        "in" => Ok(true),
+        "out" => Ok(false),
+        _ => Err(anyhow!("{direction} is neither in nor out")),
+    }
+}
+
+fn op_way(way: &str) -> anyhow::Result<OpWay> {
+    match way {
+        "request" => Ok(OpWay::Request),
+        "reply" => Ok(OpWay::Reply),
+        _ => Err(anyhow!("{way} is neither request nor reply")),
+    }
+}
+
+impl Setting {
+    /// The setting of words: the way, the agreed capabilities in hexadecimal, and `first` where the hello is to come.
+    pub fn of(words: &str) -> anyhow::Result<Setting> {
+        let mut parts = words.split_whitespace();
+        let way = redir_way(parts.next().unwrap_or(""))?;
+        let caps = caps_of(parts.next().unwrap_or(""))?;
+        let first = parts.next() == Some("first");
+        Ok(Setting { first, caps, way })
+    }
+}
+
+/// The way of this name.
+pub fn redir_way(way: &str) -> anyhow::Result<Way> {
+    match way {
+        "guest" => Ok(Way::ToGuest),
+        "host" => Ok(Way::ToHost),
+        _ => Err(anyhow!("{way} is neither guest nor host")),
+    }
+}
+
+/// Capabilities, of which bit n says that capability n is there, in hexadecimal.
+pub fn caps_of(digits: &str) -> anyhow::Result<Caps> {
+    Ok(Caps {
+        bits: u32::from_str_radix(digits, 16)?,
+    })
+}

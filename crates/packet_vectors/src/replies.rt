@@ -1,0 +1,143 @@
+//! The lines of what a USB/IP server answers: each field as a number in decimal, and bytes in hexadecimal, in the order
+//! in which they stand in the packet.
+
+use crate::texts::{push_hex, push_numbers, push_string, push_text};
+use std::alloc::Global;
+use usb_base::Bytes;
+use usbip_op::{DeviceRow, IfaceRow, Listed, ListedRows};
+use usbip_urb::{Descs, Head, IsoDesc, RetSubmit, RetUnlink};
+
+/// Appends how many devices a list has, the end of the line, and a line for each.
+pub fn push_devices(alloc: Global, devices: &ListedRows, out: &mut Bytes) -> anyhow::Result<()> {
+    let count = devices.len();
+    push_string(format!(in alloc; " {count}\n")?, out)?;
+    for listed in devices.as_slice() {
+        push_listed(alloc, listed, out)?;
+    }
+    Ok(())
+}
+
+fn push_listed(alloc: Global, listed: &Listed, out: &mut Bytes) -> anyhow::Result<()> {
+    push_text("DEVICE", out)?;
+    push_device(alloc, &listed.device, out)?;
+    for interface in listed.interfaces.as_slice() {
+        push_interface(alloc, interface, out)?;
+    }
+    push_text("\n", out)
+}
+
+fn push_interface(alloc: Global, interface: &IfaceRow, out: &mut Bytes) -> anyhow::Result<()> {
+    let IfaceRow {
+        class,
+        subclass,
+        protocol,
+        pad,
+    } = *interface;
+    push_string(
+        format!(in alloc; " {class}:{subclass}:{protocol}:{pad}")?,
+        out,
+    )
+}
+
+/// Appends the fields of a device.
+pub fn push_device(alloc: Global, device: &DeviceRow, out: &mut Bytes) -> anyhow::Result<()> {
+    push_bytes(alloc, &device.path, out)?;
+    push_bytes(alloc, &device.busid, out)?;
+    let numbers = [
+        i64::from(device.busnum),
+        i64::from(device.devnum),
+        i64::from(device.speed),
+        i64::from(device.vendor),
+        i64::from(device.product),
+        i64::from(device.version),
+    ];
+    push_numbers(alloc, &numbers, out)?;
+    let numbers = [
+        i64::from(device.class),
+        i64::from(device.subclass),
+        i64::from(device.protocol),
+        i64::from(device.configuration),
+        i64::from(device.configurations),
+        i64::from(device.interfaces),
+    ];
+    push_numbers(alloc, &numbers, out)
+}
+
+/// Appends the line of a submit's answer.
+pub fn push_ret_submit(
+    alloc: Global,
+    place: u64,
+    answer: &RetSubmit,
+    out: &mut Bytes,
+) -> anyhow::Result<()> {
+    push_head(alloc, place, "RET_SUBMIT", &answer.head, out)?;
+    let numbers = [
+        i64::from(answer.status),
+        i64::from(answer.actual),
+        i64::from(answer.start_frame),
+        i64::from(answer.packets),
+        i64::from(answer.errors),
+    ];
+    push_numbers(alloc, &numbers, out)?;
+    push_bytes(alloc, &answer.tail, out)?;
+    push_bytes(alloc, answer.body.as_slice(), out)?;
+    push_descs(alloc, &answer.descs, out)?;
+    push_text("\n", out)
+}
+
+/// Appends the line of an unlink's answer.
+pub fn push_ret_unlink(
+    alloc: Global,
+    place: u64,
+    answer: &RetUnlink,
+    out: &mut Bytes,
+) -> anyhow::Result<()> {
+    push_head(alloc, place, "RET_UNLINK", &answer.head, out)?;
+    push_numbers(alloc, &[i64::from(answer.status)], out)?;
+    push_bytes(alloc, &answer.pad, out)?;
+    push_text("\n", out)
+}
+
+fn push_head(
+    alloc: Global,
+    place: u64,
+    name: &str,
+    head: &Head,
+    out: &mut Bytes,
+) -> anyhow::Result<()> {
+    let Head {
+        seqnum,
+        devid,
+        direction,
+        ep,
+    } = *head;
+    push_string(
+        format!(in alloc; "{place} {name} {seqnum} {devid} {direction} {ep}")?,
+        out,
+    )
+}
+
+fn push_bytes(alloc: Global, bytes: &[u8], out: &mut Bytes) -> anyhow::Result<()> {
+    push_text(" ", out)?;
+    push_hex(alloc, bytes, out)
+}
+
+fn push_descs(alloc: Global, descs: &Descs, out: &mut Bytes) -> anyhow::Result<()> {
+    for desc in descs.as_slice() {
+        push_desc(alloc, desc, out)?;
+    }
+    Ok(())
+}
+
+fn push_desc(alloc: Global, desc: &IsoDesc, out: &mut Bytes) -> anyhow::Result<()> {
+    let IsoDesc {
+        offset,
+        length,
+        actual,
+        status,
+    } = *desc;
+    push_string(
+        format!(in alloc; " {offset}:{length}:{actual}:{status}")?,
+        out,
+    )
+}

@@ -1,0 +1,164 @@
+//! Texts by name, texts with repetitions, and the bytes that hexadecimal digits stand for.
+
+use anyhow::Context;
+use std::alloc::Global;
+use usb_base::{Bytes, Memory};
+
+/// Texts by name. A word is pieces with `+` between them, of which each is a name or a text; `00*8` stands for eight
+/// times `00`, and `~` in front of a piece for a space.
+#[derive(Drop)]
+pub struct Texts {
+    named: Vec<(String, Bytes)>,
+}
+
+impl Texts {
+    /// No text has a name.
+    pub fn new(alloc: Global) -> Texts {
+        Texts {
+            named: Vec::new(alloc),
+        }
+    }
+
+    /// Adds a text: its name, and its words, which are joined.
+    pub fn add(&mut self, alloc: Global, line: &str) -> Result<(), Memory> {
+        if let Some((name, words)) = line.split_once(' ') {
+            let joined = self.joined(alloc, words)?;
+            self.named.push((name.to_string(alloc)?, joined))?;
+        }
+        Ok(())
+    }
+
+    /// The text with this name. Any other is itself.
+    fn text_of<'a>(&'a self, name: &'a str) -> &'a [u8] {
+        for (known, text) in &self.named {
+            if known.as_str() == name {
+                return text.as_slice();
+            }
+        }
+        name.as_bytes()
+    }
+
+    /// Appends a word.
+    fn push_word(&self, word: &str, text: &mut Bytes) -> Result<(), Memory> {
+        for piece in word.split('+') {
+            let (name, times) = piece.split_once('*').unwrap_or((piece, "1"));
+            let (gap, name) = match name.strip_prefix('~') {
+                Some(name) => (b" ".as_slice(), name),
+                None => (b"".as_slice(), name),
+            };
+            let repeated = self.text_of(name);
+            for _ in 0..times.parse().unwrap_or(0_u32) {
+                text.append(gap)?;
+                text.append(repeated)?;
+            }
+        }
+        Ok(())
+    }
+
+    fn joined(&self, alloc: Global, words: &str) -> Result<Bytes, Memory> {
+        let mut text = Bytes::new(alloc);
+        for word in words.split_whitespace() {
+            self.push_word(word, &mut text)?;
+        }
+        Ok(text)
+    }
+
+    /// The lines of a text that has a semicolon between two of them. `*8` in front of one stands for eight such lines.
+    pub fn lines_of(&self, alloc: Global, lines: &str) -> Result<Bytes, Memory> {
+        let mut text = Bytes::new(alloc);
+        for line in lines.trim().split(';') {
+            match line.trim().strip_prefix('*') {
+                Some(counted) => self.push_counted(counted, &mut text)?,
+                None => self.push_line(line.trim(), &mut text)?,
+            }
+        }
+        Ok(text)
+    }
+
+    fn push_counted(&self, counted: &str, text: &mut Bytes) -> Result<(), Memory> {
+        let (times, line) = counted.split_once(' ').unwrap_or((counted, ""));
+        for _ in 0..times.parse().unwrap_or(0_u32) {
+            self.push_line(line, text)?;
+        }
+        Ok(())
+    }
+
+    fn push_line(&self, line: &str, text: &mut Bytes) -> Result<(), Memory> {
+        for word in line.split(' ') {
+            self.push_word(word, text)?;
+            text.append(b" ")?;
+        }
+        text.cut(text.len().saturating_sub(1));
+        text.append(b"\n")
+    }
+
+    /// The bytes of words, or those of a text in quotation marks. A word `PLACE=WORD` puts other bytes at a place.
+    pub fn bytes_of(&self, alloc: Global, words: &str) -> anyhow::Result<Vec<u8>> {
+        if let Some(text) = words.strip_prefix('"') {
+            let text = text.strip_suffix('"').unwrap_or(text);
+            return Ok(text.as_bytes().to_vec(alloc)?);
+        }
+        let mut bytes = Vec::new(alloc);
+        for word in words.split_whitespace() {
+            self.put_word(alloc, word, &mut bytes)?;
+        }
+        Ok(bytes)
+    }
+
+    fn put_word(&self, alloc: Global, word: &str, bytes: &mut Vec<u8>) -> anyhow::Result<()> {
+        match word.split_once('=') {
+            Some((place, field)) => {
+                let place = number_of(place)?;
+                replace(bytes, place, &self.decoded(alloc, field)?);
+            }
+            None => bytes.extend_from_slice(&self.decoded(alloc, word)?)?,
+        }
+        Ok(())
+    }
+
+    fn decoded(&self, alloc: Global, word: &str) -> anyhow::Result<Vec<u8>> {
+        let digits = self.joined(alloc, word)?;
+        Ok(hex::decode(alloc, digits.as_slice()).context(format_args!("the bytes {word}"))?)
+    }
+}
+
+/// Puts other bytes at a place.
+fn replace(bytes: &mut Vec<u8>, place: usize, field: &[u8]) {
+    for (byte, new) in bytes.iter_mut().skip(place).zip(field) {
+        *byte = *new;
+    }
+}
+
+/// A number in decimal.
+pub fn number_of(digits: &str) -> anyhow::Result<usize> {
+    digits
+        .parse()
+        .context(format_args!("the number {digits:?}"))
+}
+
+/// Appends a text.
+pub fn push_text(text: &str, out: &mut Bytes) -> anyhow::Result<()> {
+    out.append(text.as_bytes())?;
+    Ok(())
+}
+
+/// Appends a text, and drops it.
+pub fn push_string(text: String, out: &mut Bytes) -> anyhow::Result<()> {
+    push_text(text.as_str(), out)
+}
+
+/// Appends bytes in hexadecimal, or `-` where there are none.
+pub fn push_hex(alloc: Global, bytes: &[u8], out: &mut Bytes) -> anyhow::Result<()> {
+    if bytes.is_empty() {
+        return push_text("-", out);
+    }
+    push_string(hex::encode(alloc, bytes)?, out)
+}
+
+/// Appends numbers in decimal, each with a space in front.
+pub fn push_numbers(alloc: Global, numbers: &[i64], out: &mut Bytes) -> anyhow::Result<()> {
+    for number in numbers {
+        push_string(format!(in alloc; " {number}")?, out)?;
+    }
+    Ok(())
+}

@@ -1,0 +1,274 @@
+//! Rows of the protocol description's table of types, against every front of every header that tells them apart.
+
+use crate::reader::{Told, redir_way, told_by};
+use crate::texts::{push_string, push_text};
+use anyhow::anyhow;
+use packet_stream::ReadError;
+use redir_wire::{Caps, Way, read_header};
+use std::alloc::Global;
+use usb_base::{Bytes, Reason};
+
+/// What a row says of a type.
+#[derive(Clone, Copy)]
+enum Listed {
+    /// There is no such type.
+    Unknown,
+    /// It is a type of the protocol that is never agreed to.
+    LeftOut,
+    Sent(Form),
+}
+
+/// What a row says of a type that is sent.
+#[derive(Clone, Copy)]
+struct Form {
+    /// The one way that it goes, or none where it goes both.
+    only: Option<Way>,
+    /// The capability that it wants.
+    wanted: Option<u32>,
+    /// Its length. That of a hello and of packets with data is the least.
+    short: u32,
+    /// The capability that lengthens it, and its length with it.
+    longer: Option<(u32, u32)>,
+}
+
+/// No capability, each one that makes a difference alone, each but one, and all.
+const CAPS: [u32; 8] = [0, 1 << 1, 1 << 3, 1 << 4, 1 << 5, 1 << 6, 0x7a, 0xffff_ffff];
+
+const WAYS: [Way; 2] = [Way::ToGuest, Way::ToHost];
+
+/// The lengths around the greatest that a header may tell.
+const LONG: [u32; 3] = [16_777_280, 16_777_281, u32::MAX];
+
+/// A header to be read, and what is told beside it.
+#[derive(Clone, Copy)]
+struct Case {
+    first: bool,
+    bits: u32,
+    way: Way,
+    number: u32,
+    length: u32,
+}
+
+/// Appends `as told` where headers of these types are read as the row says, and else the first that isn't. The
+/// numbers are one, or two with a hyphen between them; the row is `unknown`, `left out`, or a way or `-`, the
+/// capability that is wanted or `-`, a length, and what lengthens it, as `4:160`.
+pub fn push_type_row(
+    alloc: Global,
+    numbers: &str,
+    row: &str,
+    out: &mut Bytes,
+) -> anyhow::Result<()> {
+    let (from, to) = numbers.split_once('-').unwrap_or((numbers, numbers));
+    let listed = listed_of(row)?;
+    for number in from.parse()?..=to.parse::<u32>()? {
+        if let Some((case, count)) = other_of(number, listed) {
+            return push_other(alloc, case, count, listed, out);
+        }
+    }
+    push_text("as told\n", out)
+}
+
+fn listed_of(row: &str) -> anyhow::Result<Listed> {
+    match row {
+        "unknown" => Ok(Listed::Unknown),
+        "left out" => Ok(Listed::LeftOut),
+        _ => Ok(Listed::Sent(form_of(row)?)),
+    }
+}
+
+fn form_of(row: &str) -> anyhow::Result<Form> {
+    let mut words = row.split_whitespace();
+    let only = match words.next() {
+        Some("-") => None,
+        word => Some(redir_way(word.unwrap_or(""))?),
+    };
+    let wanted = match words.next() {
+        Some("-") => None,
+        word => Some(word.unwrap_or("").parse()?),
+    };
+    let short = words.next().unwrap_or("").parse()?;
+    let longer = match words.next() {
+        Some(word) => Some(longer_of(word)?),
+        None => None,
+    };
+    Ok(Form {
+        only,
+        wanted,
+        short,
+        longer,
+    })
+}
+
+fn longer_of(word: &str) -> anyhow::Result<(u32, u32)> {
+    match word.split_once(':') {
+        Some((bit, length)) => Ok((bit.parse()?, length.parse()?)),
+        None => Err(anyhow!("{word} is no capability with a length")),
+    }
+}
+
+fn has(bits: u32, bit: u32) -> bool {
+    bit < 32 && bits >> bit & 1 == 1
+}
+
+/// The first front of a header of this type that is read as the row doesn't say.
+fn other_of(number: u32, listed: Listed) -> Option<(Case, usize)> {
+    for bits in CAPS {
+        for way in WAYS {
+            for first in [true, false] {
+                let case = Case {
+                    first,
+                    bits,
+                    way,
+                    number,
+                    length: 0,
+                };
+                if let Some(other) = other_at(case, listed) {
+                    return Some(other);
+                }
+            }
+        }
+    }
+    None
+}
+
+/// The length tells something only where the type may come.
+fn other_at(case: Case, listed: Listed) -> Option<(Case, usize)> {
+    match listed {
+        Listed::Sent(_) if case.first == (case.number == 0) => other_length(case, listed),
+        _ => other_front(case, listed).map(|count| (case, count)),
+    }
+}
+
+fn other_length(case: Case, listed: Listed) -> Option<(Case, usize)> {
+    for length in 0..200 {
+        if let Some(count) = other_front(Case { length, ..case }, listed) {
+            return Some((Case { length, ..case }, count));
+        }
+    }
+    for length in LONG {
+        if let Some(count) = other_front(Case { length, ..case }, listed) {
+            return Some((Case { length, ..case }, count));
+        }
+    }
+    None
+}
+
+fn other_front(case: Case, listed: Listed) -> Option<usize> {
+    let bytes = header_bytes(case.number, case.length);
+    let size = size_of(case);
+    (0..=size).find(|count| read(case, &bytes, *count) != said(case, listed, size, *count))
+}
+
+fn read(case: Case, bytes: &[u8; 16], count: usize) -> Told {
+    let front = &bytes[..count.min(16)];
+    told_by(read_header(case.first, Caps { bits: case.bits }, case.way, front))
+}
+
+/// How many bytes the header has: an id has 64 bits where capability 5 is agreed, but for a hello's.
+fn size_of(case: Case) -> usize {
+    if !case.first && has(case.bits, 5) {
+        16
+    } else {
+        12
+    }
+}
+
+/// A header whose id has each byte another value.
+fn header_bytes(number: u32, length: u32) -> [u8; 16] {
+    let [n0, n1, n2, n3] = number.to_le_bytes();
+    let [l0, l1, l2, l3] = length.to_le_bytes();
+    [n0, n1, n2, n3, l0, l1, l2, l3, 1, 2, 3, 4, 5, 6, 7, 8]
+}
+
+/// What the row says of so many bytes of a header.
+fn said(case: Case, listed: Listed, size: usize, count: usize) -> Told {
+    if count < 4 {
+        return Told::Short;
+    }
+    if case.first != (case.number == 0) {
+        return refused(0, Reason::HelloFirst);
+    }
+    match listed {
+        Listed::Unknown => refused(0, Reason::UnknownType),
+        Listed::LeftOut => refused(0, Reason::NotAgreed),
+        Listed::Sent(form) => said_of(case, form, size, count),
+    }
+}
+
+fn refused(place: u64, reason: Reason) -> Told {
+    Told::Wrong(ReadError::Refused { place, reason })
+}
+
+/// What the row of a type that is sent says of four bytes of its header or more.
+fn said_of(case: Case, form: Form, size: usize, count: usize) -> Told {
+    if let Some(bit) = form.wanted
+        && !has(case.bits, bit)
+    {
+        return refused(0, Reason::NotAgreed);
+    }
+    if let Some(only) = form.only
+        && only != case.way
+    {
+        return refused(0, Reason::WrongWay);
+    }
+    if count >= 8 && case.length > 16_777_280 {
+        return refused(4, Reason::TooLong26);
+    }
+    if count >= 8 && !is_length(case, form) {
+        return refused(4, Reason::BadLength);
+    }
+    if count < size {
+        Told::Short
+    } else {
+        Told::Whole(size)
+    }
+}
+
+/// Whether a packet of this type may have this length.
+fn is_length(case: Case, form: Form) -> bool {
+    let least = match form.longer {
+        Some((bit, long)) if has(case.bits, bit) => long,
+        _ => form.short,
+    };
+    match case.number {
+        0 => case.length >= 64 && case.length <= 192 && case.length % 4 == 0,
+        100..=103 => case.length >= least,
+        _ => case.length == least,
+    }
+}
+
+fn push_other(
+    alloc: Global,
+    case: Case,
+    count: usize,
+    listed: Listed,
+    out: &mut Bytes,
+) -> anyhow::Result<()> {
+    let Case {
+        first,
+        bits,
+        number,
+        length,
+        ..
+    } = case;
+    push_string(
+        format!(in alloc;
+            "type {number}, length {length}, first {first}, capabilities {bits:x}, {count} bytes: "
+        )?,
+        out,
+    )?;
+    let bytes = header_bytes(number, length);
+    push_told(alloc, read(case, &bytes, count), out)?;
+    push_text(", not ", out)?;
+    push_told(alloc, said(case, listed, size_of(case), count), out)?;
+    push_text("\n", out)
+}
+
+/// Appends an answer.
+pub fn push_told(alloc: Global, told: Told, out: &mut Bytes) -> anyhow::Result<()> {
+    match told {
+        Told::Whole(size) => push_string(format!(in alloc; "whole {size}")?, out),
+        Told::Short => push_text("short", out),
+        Told::Wrong(error) => push_string(format!(in alloc; "{error}")?, out),
+    }
+}
