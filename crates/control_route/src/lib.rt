@@ -5,8 +5,6 @@
 mod change;
 mod request;
 mod route;
-#[cfg(test)]
-mod tests;
 
 pub use change::{is_change, touches};
 pub use route::{Route, route_of};

@@ -6,8 +6,6 @@ mod line;
 mod number;
 mod redir;
 mod tape;
-#[cfg(test)]
-mod tests;
 mod urb;
 
 pub use client::show_client;

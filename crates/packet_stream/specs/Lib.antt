@@ -6,4 +6,3 @@ pub mod Split
 pub mod Streams
 pub mod Loops
 pub mod Items
-pub mod Example

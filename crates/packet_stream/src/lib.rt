@@ -11,6 +11,3 @@ pub use format::PacketFormat;
 pub use read::{Read, ReadError};
 pub use splitting::splits_well;
 pub use stream::Stream;
-
-#[cfg(test)]
-mod tests;

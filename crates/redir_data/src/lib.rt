@@ -8,10 +8,6 @@ mod read;
 mod redir;
 mod state;
 mod stream;
-#[cfg(test)]
-mod tests;
-#[cfg(test)]
-mod vectors;
 mod write;
 
 pub use laws::{

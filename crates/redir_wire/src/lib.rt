@@ -8,10 +8,6 @@ mod kind;
 mod laws;
 mod packet;
 mod read;
-#[cfg(test)]
-mod tests;
-#[cfg(test)]
-mod vectors;
 mod write;
 
 pub use capability::{

@@ -28,6 +28,3 @@ pub use side::Side;
 pub use speed::Speed;
 pub use status::{UsbStatus, status_bytes_again};
 pub use transfer::{Outcome, StreamPacket, Transfer};
-
-#[cfg(test)]
-mod tests;

@@ -6,8 +6,6 @@ mod code;
 mod packet;
 mod read;
 mod reply;
-#[cfg(test)]
-mod tests;
 mod write;
 
 pub use code::{

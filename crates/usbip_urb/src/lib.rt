@@ -11,8 +11,6 @@ mod field;
 mod packet;
 mod payload;
 mod request;
-#[cfg(test)]
-mod tests;
 mod write;
 
 pub use answer::{answers_sound, read_ret, read_ret_again, ret_seqnum};
