@@ -15,7 +15,7 @@ const HERE: &str = "127.0.0.1:33240";
 const LOOKS: u32 = 1_000_000;
 
 // What the side's peer sends, to its end.
-fn poll_to_end<R: Net<Stream = net::TcpStream, Listener = net::TcpListener>>(
+fn poll_to_end<R: Net<Stream = net::TcpStream, Listener = net::TcpListener> + Eprint>(
     doors: &mut TcpDoors<'_, R>,
     side: Side,
     came: &mut Bytes,

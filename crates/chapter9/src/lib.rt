@@ -15,6 +15,3 @@ pub use requests::{ControlRead, ControlWrite, Request, request_of};
 pub use standard_requests::{DescriptorSet, standard};
 pub use state::DevState;
 pub use table::{InterfaceClass, class_of, table_of};
-
-#[cfg(test)]
-mod tests;

@@ -36,6 +36,3 @@ pub use text_source::TextSource;
 pub use turn::{Polled, Script, Scripts, Turn};
 pub use usb_base::Side;
 pub use writer::Writer;
-
-#[cfg(test)]
-mod tests;

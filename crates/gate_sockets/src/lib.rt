@@ -12,6 +12,3 @@ mod tcp_doors;
 mod telling;
 
 pub use tcp_doors::TcpDoors;
-
-#[cfg(test)]
-mod tests;

@@ -15,6 +15,3 @@ pub use keyboard::Keyboard;
 pub use loopback::Loopback;
 pub use submit::submits_ask_transfers;
 pub use tone::Tone;
-
-#[cfg(test)]
-mod tests;

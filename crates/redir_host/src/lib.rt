@@ -17,8 +17,6 @@ mod request;
 mod routed;
 mod running;
 mod take;
-#[cfg(test)]
-mod tests;
 mod write;
 
 pub use hello::write_hello;

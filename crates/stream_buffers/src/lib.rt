@@ -7,8 +7,6 @@ mod inbox;
 mod interrupt;
 mod iso;
 mod laws;
-#[cfg(test)]
-mod tests;
 
 pub use inbox::{Inbox, MAX_HELD};
 pub use interrupt::Filling;

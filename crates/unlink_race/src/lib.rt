@@ -6,8 +6,6 @@ mod ending;
 mod live;
 mod lives;
 mod table;
-#[cfg(test)]
-mod tests;
 mod unlink;
 
 pub use ending::{Ending, ending_of};
