@@ -122,7 +122,7 @@ told-past first (m ∷ ms) =
     ∙ ap (λ (b : Bool). has_refusal ms || b) (told-mark (state_of first ms) m) ∙ or-comm (has_refusal ms) (is_some (refused_at m.what))
 
 -- with the notes that an event told
-refused-more : (first : ℕ) (before after : List Mark) (notes : List Note) → told_notes first after ≡ told_notes first before ++ notes → (has_refusal before || list_any is_refusal notes) ≡ has_refusal after
+pub refused-more : (first : ℕ) (before after : List Mark) (notes : List Note) → told_notes first after ≡ told_notes first before ++ notes → (has_refusal before || list_any is_refusal notes) ≡ has_refusal after
 refused-more first before after notes told =
     ap (λ (b : Bool). b || list_any is_refusal notes) (sym (told-past first before)) ∙ sym (list_any-append is_refusal (told_notes first before) notes) ∙ ap (list_any is_refusal) (sym told) ∙ told-past first after
 

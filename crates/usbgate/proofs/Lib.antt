@@ -2,5 +2,6 @@ pub mod Lines
 pub mod Stages
 pub mod Going
 pub mod Events
+pub mod Modelled
 pub mod Showing
 pub mod Served

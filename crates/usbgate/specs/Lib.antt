@@ -7,6 +7,7 @@ pub mod Text
 pub mod TapeCommand
 pub mod EventCommand
 pub mod Replay
+pub mod Model
 pub mod Show
 pub mod Prescribed
 pub mod Run

@@ -3,11 +3,12 @@ use Rattle.std.specs.Prelude.{List, ℕ, Option, Some, None}
 use Rattle.usbgate.specs.declared.status.Status.{Status}
 use Rattle.usbgate.specs.declared.status.Status.TheVariants.{Usage}
 use Rattle.usbgate.specs.declared.words.Command.{Command}
-use Rattle.usbgate.specs.declared.words.Command.TheVariants.{Replay, Show, Serve, Host, Unknown}
+use Rattle.usbgate.specs.declared.words.Command.TheVariants.{Replay, Model, Show, Serve, Host, Unknown}
 use Rattle.usbgate.specs.Text.{usage_line}
 use Rattle.usbgate.specs.TapeCommand.{TapeCommand, tape_text, tape_status, front_text}
 use Rattle.usbgate.specs.EventCommand.{over_events}
 use Rattle.usbgate.specs.Replay.{replay}
+use Rattle.usbgate.specs.Model.{model_of}
 use Rattle.usbgate.specs.Show.{show}
 
 pub record Prescribed : Type 0 where
@@ -26,6 +27,7 @@ usage = record { text = λ tape. usage_line; status = λ tape. Usage; front = λ
 -- none where no tape is what it works on
 abbrev pub prescribed : Command → Option Prescribed
 prescribed (Replay first) = Some (over_tape (over_events (replay first)))
+prescribed (Model device) = Some (over_tape (model_of device))
 prescribed (Show side) = Some (over_tape (over_events (show side)))
 prescribed (Serve asked) = None
 prescribed (Host asked) = None

@@ -1,4 +1,5 @@
--- The text that a replay prints: for each event the bytes sent to each side, then the refusals; at the end the counts.
+-- The text that commands over tapes print: for each event or step the bytes sent to each side, then the refusals; at the
+-- end the counts. A step's items come first.
 use Rattle.std.specs.Prelude.{ℕ, List, [], ◌∷◌, ◌++◌, length, drop, codes}
 use Rattle.std.specs.List.{flat_map}
 use Rattle.std.specs.Fmt.{decimal}
@@ -13,6 +14,8 @@ use Rattle.gate_core.specs.History.{history}
 use Rattle.gate_core.specs.Notes.{notes_of}
 use Rattle.gate_core.specs.All.{all_of}
 use Rattle.gate_core.specs.Bytes.{out_client, out_host}
+use Rattle.direct_run.specs.declared.told.Told.{Told}
+use Rattle.direct_run.specs.Lines.{item_line}
 use Rattle.usbgate.specs.Tape.{LF}
 
 abbrev pub SPACE : ℕ
@@ -35,6 +38,10 @@ CAPITAL_C = 67
 abbrev pub CAPITAL_H : ℕ
 CAPITAL_H = 72
 
+-- a modelled host's bytes
+abbrev pub CAPITAL_D : ℕ
+CAPITAL_D = 68
+
 -- what an event sends, and tells
 abbrev pub sent_text : List ℕ → List ℕ → List Note → List ℕ
 sent_text client host notes = bytes_line CAPITAL_C client ++ bytes_line CAPITAL_H host ++ flat_map note_line notes
@@ -53,6 +60,11 @@ event_text first events e = sent_text (gained out_client first events e) (gained
 -- the bytes of the making come first
 abbrev pub made_text : ℕ → List ℕ
 made_text first = bytes_line CAPITAL_H (out_host first [])
+
+-- what a step of a gateway and a modelled device tells
+abbrev pub told_text : Told → List ℕ
+told_text told =
+    flat_map item_line told.items ++ bytes_line CAPITAL_C told.to_client ++ bytes_line CAPITAL_H told.to_host ++ bytes_line CAPITAL_D told.from_host ++ flat_map refusal_line told.refusals
 
 abbrev pub counts_line : Counts → List ℕ
 counts_line c =

@@ -8,7 +8,7 @@ use Rattle.packet_show.specs.Number.{number_of}
 use Rattle.usb_base.specs.declared.side.Side.{Side}
 use Rattle.usb_base.specs.declared.side.Side.TheVariants.{Client, Host}
 use Rattle.usbgate.specs.declared.words.Command.{Command}
-use Rattle.usbgate.specs.declared.words.Command.TheVariants.{Replay, Show, Serve, Host as HostLent, Unknown}
+use Rattle.usbgate.specs.declared.words.Command.TheVariants.{Replay, Model, Show, Serve, Host as HostLent, Unknown}
 use Rattle.usbgate.specs.declared.command_table.Need.{Need}
 use Rattle.usbgate.specs.declared.command_table.Need.TheVariants.{Must, May, MustNot}
 use Rattle.usbgate.specs.declared.command_table.Verb.{Verb}
@@ -50,6 +50,7 @@ is_met row given =
 
 abbrev pub name_of : Verb → Text
 name_of verb.Replay = codes "replay"
+name_of verb.Model = codes "model"
 name_of verb.Show = codes "show"
 name_of verb.Serve = codes "serve"
 name_of verb.Host = codes "host"
@@ -84,6 +85,7 @@ lending_of _ _ _ = None
 
 abbrev pub asked_by : Verb → (Text → Option Text) → Option Command
 asked_by verb.Replay given = option_map Replay (first_id_of (given (codes "first-id")))
+asked_by verb.Model given = option_map Model (option_and_then device_of (given (codes "device")))
 asked_by verb.Show given = option_map Show (option_and_then side_of (given (codes "side")))
 asked_by verb.Serve given = option_map Serve (serving_of (given (codes "host")) (given (codes "listen")) (option_and_then number_of (given (codes "idle"))) (first_id_of (given (codes "first-id"))))
 asked_by verb.Host given = option_map HostLent (lending_of (option_and_then device_of (given (codes "device"))) (given (codes "listen")) (option_and_then number_of (given (codes "idle"))))
@@ -109,6 +111,7 @@ command_of words = command_by (found words)
 -- its numbers are from 1 to 4294967295
 abbrev pub HasNumbers : Command → Type 0
 HasNumbers (Replay first) = (1 ≤ first) × (first < 2 ^ 32)
+HasNumbers (Model device) = Unit {0}
 HasNumbers (Show side) = Unit {0}
 HasNumbers (Serve asked) = (1 ≤ asked.idle) × ((1 ≤ asked.first_id) × (asked.first_id < 2 ^ 32))
 HasNumbers (HostLent asked) = 1 ≤ asked.idle

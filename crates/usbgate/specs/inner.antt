@@ -2,6 +2,7 @@
 pub mod Given
 pub mod EventTape
 pub mod Replay
+pub mod Model
 pub mod Part
 pub mod Shown
 pub mod Show

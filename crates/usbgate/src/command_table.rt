@@ -18,6 +18,7 @@ pub enum Need {
 #[derive(Clone, Copy, Debug, PartialEq, Eq)]
 pub enum Verb {
     Replay,
+    Model,
     Show,
     Serve,
     Host,
@@ -37,7 +38,7 @@ pub struct Row {
 }
 
 /// The commands that are built.
-pub const ROWS: [Row; 4] = [
+pub const ROWS: [Row; 5] = [
     Row {
         verb: Verb::Replay,
         number: Need::MustNot,
@@ -47,6 +48,16 @@ pub const ROWS: [Row; 4] = [
         listen: Need::MustNot,
         idle: Need::MustNot,
         first_id: Need::May,
+    },
+    Row {
+        verb: Verb::Model,
+        number: Need::MustNot,
+        device: Need::Must,
+        side: Need::MustNot,
+        host: Need::MustNot,
+        listen: Need::MustNot,
+        idle: Need::MustNot,
+        first_id: Need::MustNot,
     },
     Row {
         verb: Verb::Show,
@@ -100,6 +111,7 @@ impl Verb {
     {
         match self {
             Verb::Replay => "replay",
+            Verb::Model => "model",
             Verb::Show => "show",
             Verb::Serve => "serve",
             Verb::Host => "host",

@@ -7,6 +7,7 @@ mod event_tape;
 mod given;
 mod host;
 mod lending;
+mod model;
 mod program;
 mod replay;
 mod serve;

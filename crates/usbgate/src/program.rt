@@ -10,6 +10,7 @@ ghost use Rattle.usbgate.specs.Prescribed.{Prescribed, prescribed, usage as usag
 ghost use Rattle.usbgate.specs.TapeCommand.{TapeCommand as Told};
 ghost use Rattle.usbgate.specs.EventCommand.{over_events};
 ghost use Rattle.usbgate.specs.Replay.{replay as replaying};
+ghost use Rattle.usbgate.specs.Model.{model as modelling, model_of};
 ghost use Rattle.usbgate.specs.Show.{show as showing, show_side};
 ghost use Rattle.usbgate.specs.Serving.{Asked};
 ghost use Rattle.usbgate.specs.Lending.{AskedLent};
@@ -21,6 +22,8 @@ ghost use Rattle.usbgate.specs.inner.TapeReader.{Stage};
 
 use crate::event_tape::EventTape;
 use crate::host::host;
+use crate::lending::Device;
+use crate::model::ModelRun;
 use crate::replay::Replay;
 use crate::serve::serve;
 use crate::show::Show;
@@ -31,6 +34,7 @@ use crate::tape_reader::TapeReader;
 use crate::text::USAGE;
 use crate::words::Command;
 use gate_outside::{Doors, Sink, Source, write_all};
+use model_device::{Gadget, Keyboard, Loopback, Tone};
 use redir_data::FromHost;
 use std::alloc::Global;
 use usb_base::{Bytes, Side};
@@ -40,7 +44,7 @@ use usbip_urb::ClientFormat;
 const CHUNK: usize = 65_536;
 
 /// Does what the words say: `replay` puts the tape to a gate, and prints what that sends and which sides it
-/// refuses; `show` prints the packets of one side's stream in it; `serve` puts what comes by the doors to a gate, and
+/// refuses; `model` does the steps of the tape with a gateway and a modelled device, and prints what each tells; `show` prints the packets of one side's stream in it; `serve` puts what comes by the doors to a gate, and
 /// prints which sides it refuses; `host` lends a modelled device to a guest that comes by the doors. Words that are no
 /// command print how they should be.
 pub fn run<S: Source, K: Sink, D: Doors>(
@@ -79,6 +83,7 @@ pub fn run<S: Source, K: Sink, D: Doors>(
     };
     match command {
         Command::Replay { first_id } => replay(alloc, first_id, tape, out),
+        Command::Model { device } => model(alloc, device, tape, out),
         Command::Show { side } => show(alloc, side, tape, out),
         Command::Serve(serving) => serve(alloc, &serving, doors, out),
         Command::Host(lending) => host(alloc, &lending, doors, out),
@@ -107,6 +112,44 @@ fn replay<S: Source, K: Sink>(alloc: Global, first_id: u32, tape: &mut S, out: &
     let mut text = Bytes::new(alloc);
     match Replay::start(alloc, first_id, &mut text) {
         Ok(replay) => over_tape(alloc, EventTape::start(replay), text, tape, out),
+        Err(_) => Status::OutOfMemory,
+    }
+}
+
+fn model<S: Source, K: Sink>(alloc: Global, device: Device, tape: &mut S, out: &mut K) -> Status
+    ensures leaves { Leaves result (tape_prescribed (model_of device)) (S.remaining tape.old) (S.remaining tape.new) (K.contents out.old) (K.contents out.new) }
+    ensures causes { HasCauses result (S.faults tape.old) (S.faults tape.new) (K.faults out.old) (K.faults out.new) }
+    ensures command { result ≢ Status.Usage }
+{
+    match device {
+        Device::Keyboard => match Keyboard::make(alloc) {
+            Ok(keyboard) => model_with(alloc, keyboard, tape, out),
+            Err(_) => Status::OutOfMemory,
+        },
+        Device::Loopback => match Loopback::make(alloc) {
+            Ok(loopback) => model_with(alloc, loopback, tape, out),
+            Err(_) => Status::OutOfMemory,
+        },
+        Device::Tone => match Tone::make(alloc) {
+            Ok(tone) => model_with(alloc, tone, tape, out),
+            Err(_) => Status::OutOfMemory,
+        },
+    }
+}
+
+fn model_with<G: Gadget, S: Source, K: Sink>(
+    alloc: Global,
+    gadget: G,
+    tape: &mut S,
+    out: &mut K,
+) -> Status
+    ensures leaves { Leaves result (tape_prescribed (modelling G.meaning gadget)) (S.remaining tape.old) (S.remaining tape.new) (K.contents out.old) (K.contents out.new) }
+    ensures causes { HasCauses result (S.faults tape.old) (S.faults tape.new) (K.faults out.old) (K.faults out.new) }
+    ensures command { result ≢ Status.Usage }
+{
+    let mut text = Bytes::new(alloc);
+    match ModelRun::start(alloc, gadget, &mut text) {
+        Ok(run) => over_tape(alloc, run, text, tape, out),
         Err(_) => Status::OutOfMemory,
     }
 }

@@ -1,9 +1,12 @@
-//! The lines that a replay prints.
+//! The lines that commands over tapes print.
 
 ghost use Rattle.std.specs.Prelude.{◌≡◌, ◌++◌, ◌∷◌, [], IfOk, OnOk, OnErr, string_bytes};
 ghost use Rattle.std.specs.List.{flat_map};
-ghost use Rattle.usbgate.specs.Text.{bytes_line, note_line, counts_line, bad_line};
+ghost use Rattle.usb_base.specs.Refusal.{refusal_line};
+ghost use Rattle.direct_run.specs.Lines.{item_line};
+ghost use Rattle.usbgate.specs.Text.{bytes_line, note_line, told_text, counts_line, bad_line};
 
+use direct_run::{Items, Refusals, Told};
 use gate_core::{Counts, Note, Notes};
 use std::alloc::Global;
 use usb_base::{Bytes, Memory};
@@ -34,6 +37,36 @@ pub fn push_notes(alloc: Global, notes: &Notes, text: &mut Bytes) -> Result<(), 
         if let Note::Refused(refusal) = note {
             refusal.line(alloc, text)?;
         }
+    }
+    Ok(())
+}
+
+/// Appends what a step tells: its items, the bytes that it puts on each wire, and whom the gateway refuses. For want of
+/// memory a front of the lines may be there.
+pub fn push_told(alloc: Global, told: &Told, text: &mut Bytes) -> Result<(), Memory>
+    ensures { OnOk result (text.new ≡ text.old ++ told_text told.now) }
+{
+    push_items(alloc, &told.items, text)?;
+    push_bytes(alloc, b'C', told.to_client.as_slice(), text)?;
+    push_bytes(alloc, b'H', told.to_host.as_slice(), text)?;
+    push_bytes(alloc, b'D', told.from_host.as_slice(), text)?;
+    push_refusals(alloc, &told.refusals, text)
+}
+
+fn push_items(alloc: Global, items: &Items, text: &mut Bytes) -> Result<(), Memory>
+    ensures { OnOk result (text.new ≡ text.old ++ flat_map item_line items.now) }
+{
+    for item in items.as_slice() {
+        item.line(alloc, text)?;
+    }
+    Ok(())
+}
+
+fn push_refusals(alloc: Global, refusals: &Refusals, text: &mut Bytes) -> Result<(), Memory>
+    ensures { OnOk result (text.new ≡ text.old ++ flat_map refusal_line refusals.now) }
+{
+    for refusal in refusals.as_slice() {
+        refusal.line(alloc, text)?;
     }
     Ok(())
 }

@@ -19,6 +19,8 @@ use usb_base::{Memory, Side};
 pub enum Command<'a> {
     /// Puts a tape to a gate. The first packet to the host gets the first id.
     Replay { first_id: u32 },
+    /// Does the steps of a tape with a gate and a modelled device.
+    Model { device: Device },
     /// Shows the packets of a side's stream in a tape.
     Show { side: Side },
     /// Serves clients the device of a host, over sockets.
@@ -61,6 +63,7 @@ fn known<'a>(given: &Given<'a>) -> Option<Command<'a>>
     }
     match row.verb {
         Verb::Replay => replay(given),
+        Verb::Model => model(given),
         Verb::Show => show(given),
         Verb::Serve => serve(given),
         Verb::Host => host(given),
@@ -74,6 +77,15 @@ fn replay<'a>(given: &Given<'a>) -> Option<Command<'a>>
 {
     let first_id = first_id(given)?;
     Some(Command::Replay { first_id })
+}
+
+/// `model --device NAME`
+fn model<'a>(given: &Given<'a>) -> Option<Command<'a>>
+    ensures value { (words : List ℕ → Option (List ℕ)) → IsGiven given.now words → result ≡ asked_by verb.Model words }
+    ensures numbers { IfSome result HasNumbers }
+{
+    let device = Device::named(given.device?)?;
+    Some(Command::Model { device })
 }
 
 /// `show --side client` or `show --side host`.

@@ -3,6 +3,7 @@ use Rattle.std.proofs.lemmas.Option.{same_Some}
 use Rattle.bridge_run.specs.Outside.{outside}
 use Rattle.usbgate.specs.EventCommand.{over_events}
 use Rattle.usbgate.specs.Replay.{replay}
+use Rattle.usbgate.specs.Model.{model_of}
 use Rattle.usbgate.specs.Prescribed.{Prescribed, over_tape, prescribed}
 use Rattle.usbgate.specs.Run.{Leaves}
 use Rattle.usbgate.proofs.Served.{unserved, unlent, links-stand}
@@ -21,6 +22,12 @@ returns-in-Replay-clause-leaves g c = λ p is.
     let command = over_tape (over_events (replay c.in-Replay.first_id)) in
     subst (λ (q : Prescribed). Leaves c.replay.result q (g.S.Source.remaining c.args.tape.now) (g.S.Source.remaining c.replay.new.tape) (g.K.Sink.contents c.args.out.now) (g.K.Sink.contents c.replay.new.out))
     (same_Some command p (ap prescribed (sym c.in-Replay.is ∙ c.in-Ok.ensures.value) ∙ is)) c.replay.ensures.leaves
+
+pub returns-in-Model-clause-leaves : goal.returns-in-Model-clause-leaves
+returns-in-Model-clause-leaves g c = λ p is.
+    let command = over_tape (model_of c.in-Model.device) in
+    subst (λ (q : Prescribed). Leaves c.model.result q (g.S.Source.remaining c.args.tape.now) (g.S.Source.remaining c.model.new.tape) (g.K.Sink.contents c.args.out.now) (g.K.Sink.contents c.model.new.out))
+    (same_Some command p (ap prescribed (sym c.in-Model.is ∙ c.in-Ok.ensures.value) ∙ is)) c.model.ensures.leaves
 
 pub returns-in-Serve-clause-links_stand : goal.returns-in-Serve-clause-links_stand
 returns-in-Serve-clause-links_stand g c = λ side other.
