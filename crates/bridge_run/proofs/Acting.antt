@@ -106,11 +106,15 @@ lent-stands m s old mid new past e lent acts came is =
           ∙ waits-is (has_come past) (is_coming e) (host_out m s (acts_of m s past)) acts.given (host_out m s (acts_of m s (e ∷ past))) old.waiting mid.waiting acts.sends lent.waiting acts.sent;
     }
 
+or-false : (b : Bool) → (b || false) ≡ b
+or-false true = refl
+or-false false = refl
+
 pub lent-sends : {S : Type 0} (m : Meaning S) (s : S) (old mid : Lent S) (past : List Event) (e : Event) (sent sent' : Sent) → IsLent m s old past
     → Acts m s mid.core (acts_of m s past) (acts_behind m s (acts_of m s past) e) old.waiting mid.waiting → mid.has_come ≡ (is_coming e || old.has_come)
-    → sent'.to_client ≡ sent.to_client ++ cond mid.has_come mid.waiting [] → sent'.to_host ≡ sent.to_host → sent'.refusals ≡ sent.refusals ++ refused_by m s (acts_of m s past) e
+    → sent'.to_client ≡ sent.to_client ++ cond mid.has_come mid.waiting [] → sent'.to_host ≡ sent.to_host → sent'.refusals ≡ sent.refusals ++ refused_by m s (acts_of m s past) e → sent'.lets_go ≡ sent.lets_go
     → Sends (lent_sends m s) past e sent sent'
-lent-sends m s old mid past e sent sent' lent acts came client host refusals =
+lent-sends m s old mid past e sent sent' lent acts came client host refusals stays =
     let come = came ∙ ap (λ (b : Bool). is_coming e || b) lent.came in
     let refused = gained-is (lent_refusals m s past) (refused_by m s (acts_of m s past) e) (lent_refusals m s (e ∷ past)) refl in
     record {
@@ -118,5 +122,6 @@ lent-sends m s old mid past e sent sent' lent acts came client host refusals =
           ∙ handed-is (has_come past) (is_coming e) (host_out m s (acts_of m s past)) acts.given (host_out m s (acts_of m s (e ∷ past))) old.waiting mid.waiting acts.sends lent.waiting acts.sent);
       host = host ∙ sym (append-nil sent.to_host);
       refusals = refusals ∙ ap (λ (rs : List Refusal). sent.refusals ++ rs) (sym refused);
+      lets_go = stays ∙ sym (or-false sent.lets_go);
       grows = ap (λ (rs : List Refusal). lent_refusals m s past ++ rs) (sym refused);
     }

@@ -1,5 +1,5 @@
 -- What one event makes of the links and of what they tell.
-use Rattle.std.proofs.Common.{◌≡◌, ℕ, ◌&&◌, not, Bool, true, false, cond, List, [], ◌∷◌, ◌++◌, Option, Some, None, Result, Ok, Err, refl, sym, ap, ◌∙◌, subst, inl, inr, append-nil, append_assoc}
+use Rattle.std.proofs.Common.{◌≡◌, ℕ, ◌&&◌, ◌||◌, not, Bool, true, false, cond, List, [], ◌∷◌, ◌++◌, Option, Some, None, Result, Ok, Err, refl, sym, ap, ◌∙◌, subst, inl, inr, append-nil, append_assoc}
 use Rattle.std.proofs.lemmas.Bool.{false≢true}
 use Rattle.std.specs.Io.KnownBytes.{append_known, Appends}
 use Rattle.std.specs.List.{flat_map}
@@ -16,7 +16,7 @@ use Rattle.gate_core.specs.Sides.{or_else}
 use Rattle.bridge_run.specs.declared.kept.Kept.{Kept}
 use Rattle.bridge_run.specs.declared.sent.Sent.{Sent}
 use Rattle.bridge_run.specs.declared.serve_end.ServeEnd.{ServeEnd}
-use Rattle.bridge_run.specs.Prescribed.{Prescribed, gained, refuses, first_of}
+use Rattle.bridge_run.specs.Prescribed.{Prescribed, gained, refuses, drops, first_of}
 use Rattle.bridge_run.specs.Course.{Course}
 use Rattle.bridge_run.specs.Calls.{put}
 use Rattle.bridge_run.specs.Outside.{Outside, Shows, Tells, IsBetween, IsOneOf, Cut}
@@ -65,16 +65,22 @@ between-front false x b old new t s w = absurd (false≢true w.is_up)
 
 -- ---- the course behind it
 
+-- whether the client's link is closed
+pub dropped-is : (p : Prescribed) (events : List Event) (e : Event) (sent : Sent) (lines : List ℕ) → Prepared p events e sent lines → (refuses Client sent.refusals || sent.lets_go) ≡ drops p events e
+dropped-is p events e sent lines prepared =
+    ap (λ (rs : List Refusal). refuses Client rs || sent.lets_go) prepared.refusals ∙ ap (λ (b : Bool). refuses Client (gained p.refusals events e) || b) prepared.lets_go
+
 pub put-client : (p : Prescribed) (c : Course) (e : Event) (sent : Sent) (lines : List ℕ) (old new : Link) (up : Bool) → Prepared p c.events e sent lines
-    → Shows old c.client_up c.client c.to_client → up ≡ c.client_up → new ≡ closed_if (refuses Client sent.refusals) Client (wrote_if up sent.to_client old)
+    → Shows old c.client_up c.client c.to_client → up ≡ c.client_up → new ≡ closed_if (refuses Client sent.refusals || sent.lets_go) Client (wrote_if up sent.to_client old)
     → Shows new (put p e c).client_up (put p e c).client (put p e c).to_client
 put-client p c e sent lines old new up prepared s u is =
-    let closed = closed-client (refuses Client sent.refusals) c.client_up (wrote_if c.client_up sent.to_client old) c.client (cond c.client_up (c.to_client ++ sent.to_client) c.to_client)
+    let dropped : Bool = refuses Client sent.refusals || sent.lets_go in
+    let closed = closed-client dropped c.client_up (wrote_if c.client_up sent.to_client old) c.client (cond c.client_up (c.to_client ++ sent.to_client) c.to_client)
     (wrote-shows c.client_up sent.to_client old c.client c.to_client s) in
-    let there = subst (λ (l : Link). Shows l (c.client_up && not (refuses Client sent.refusals)) (cond (refuses Client sent.refusals) [] c.client) (cond c.client_up (c.to_client ++ sent.to_client) c.to_client))
-    (sym (is ∙ ap (λ (v : Bool). closed_if (refuses Client sent.refusals) Client (wrote_if v sent.to_client old)) u)) closed in
-    let first = subst (λ (rs : List Refusal). Shows new (c.client_up && not (refuses Client rs)) (cond (refuses Client rs) [] c.client) (cond c.client_up (c.to_client ++ sent.to_client) c.to_client)) prepared.refusals there in
-    subst (λ (b : List ℕ). Shows new (c.client_up && not (refuses Client (gained p.refusals c.events e))) (cond (refuses Client (gained p.refusals c.events e)) [] c.client) (cond c.client_up (c.to_client ++ b) c.to_client)) prepared.client first
+    let there = subst (λ (l : Link). Shows l (c.client_up && not dropped) (cond dropped [] c.client) (cond c.client_up (c.to_client ++ sent.to_client) c.to_client))
+    (sym (is ∙ ap (λ (v : Bool). closed_if dropped Client (wrote_if v sent.to_client old)) u)) closed in
+    let first = subst (λ (d : Bool). Shows new (c.client_up && not d) (cond d [] c.client) (cond c.client_up (c.to_client ++ sent.to_client) c.to_client)) (dropped-is p c.events e sent lines prepared) there in
+    subst (λ (b : List ℕ). Shows new (c.client_up && not (drops p c.events e)) (cond (drops p c.events e) [] c.client) (cond c.client_up (c.to_client ++ b) c.to_client)) prepared.client first
 
 pub put-host : (p : Prescribed) (c : Course) (e : Event) (sent : Sent) (lines : List ℕ) (old new : Link) (up : Bool) → Prepared p c.events e sent lines
     → Shows old c.host_up c.host c.to_host → up ≡ c.host_up → new ≡ closed_if (refuses Host sent.refusals) Host (wrote_if up sent.to_host old)
@@ -99,7 +105,7 @@ told-all (Some y) None x b e a = absurd a
 told-all None new x b e a = cc
 
 pub put-follows : (stands : List Event → Type 0) (p : Prescribed) (k k' : Kept) (w w' : Outside) (out out' : Option (List ℕ)) (c : Course) (e : Event) (sent : Sent) (lines : List ℕ)
-    (old-stands : List Event → Type 0) → Follows old-stands p k w out c → Prepared p c.events e sent lines → stands (e ∷ c.events) → k' ≡ refusing sent.refusals k
+    (old-stands : List Event → Type 0) → Follows old-stands p k w out c → Prepared p c.events e sent lines → stands (e ∷ c.events) → k' ≡ refusing sent.refusals sent.lets_go k
     → Shows w'.client (put p e c).client_up (put p e c).client (put p e c).to_client → Shows w'.host (put p e c).host_up (put p e c).host (put p e c).to_host
     → w'.door ≡ w.door → Appends out out' lines → Follows stands p k' w' out' (put p e c)
 put-follows stands p k k' w w' out out' c e sent lines old-stands f prepared now kept client host door written =
@@ -113,7 +119,7 @@ put-follows stands p k k' w w' out out' c e sent lines old-stands f prepared now
         told = told-all out out' c.told lines f.tells.told written
             ∙ ap (λ (l : List ℕ). Some (c.told ++ l)) (prepared.lines-is ∙ ap (flat_map refusal_line) refusals);
       };
-      client_up = ap (λ (k : Kept). k.client_up) kept ∙ ap (λ (u : Bool). u && not (refuses Client sent.refusals)) f.client_up ∙ ap (λ (rs : List Refusal). c.client_up && not (refuses Client rs)) refusals;
+      client_up = ap (λ (k : Kept). k.client_up) kept ∙ ap (λ (u : Bool). u && not (refuses Client sent.refusals || sent.lets_go)) f.client_up ∙ ap (λ (d : Bool). c.client_up && not d) (dropped-is p c.events e sent lines prepared);
       host_up = ap (λ (k : Kept). k.host_up) kept ∙ ap (λ (u : Bool). u && not (refuses Host sent.refusals)) f.host_up ∙ ap (λ (rs : List Refusal). c.host_up && not (refuses Host rs)) refusals;
       busy = ap (λ (k : Kept). k.busy) kept ∙ f.busy;
       waits = ap (λ (k : Kept). k.waits) kept ∙ f.waits;
@@ -206,9 +212,9 @@ or_else-none : (o : Option Refusal) → or_else o None ≡ o
 or_else-none None = refl
 or_else-none (Some r) = refl
 
-pub refusing-none : (refusals : List Refusal) (k k' : Kept) → refusals ≡ [] → k' ≡ refusing refusals k → k' ≡ k
-refusing-none refusals k k' none is =
-    is ∙ ap (λ (rs : List Refusal). refusing rs k) none
+pub refusing-none : (refusals : List Refusal) (go : Bool) (k k' : Kept) → refusals ≡ [] → go ≡ false → k' ≡ refusing refusals go k → k' ≡ k
+refusing-none refusals go k k' none stays is =
+    is ∙ ap (λ (rs : List Refusal). refusing rs go k) none ∙ ap (λ (b : Bool). refusing [] b k) stays
     ∙ ap (λ (u : Bool). record k { client_up = u; host_up = k.host_up && not false; refused = or_else k.refused None }) (and-not_false k.client_up)
     ∙ ap (λ (u : Bool). record k { host_up = u; refused = or_else k.refused None }) (and-not_false k.host_up)
     ∙ ap (λ (r : Option Refusal). record k { refused = r }) (or_else-none k.refused)

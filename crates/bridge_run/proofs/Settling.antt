@@ -8,7 +8,7 @@ use Rattle.bridge_run.specs.Events.{Event, ClientComes, ClientPiece, ClientQuiet
 use Rattle.bridge_run.specs.declared.serve_end.ServeEnd.{ServeEnd}
 use Rattle.bridge_run.specs.declared.serve_end.ServeEnd.TheVariants.{Ended, LinkFault, WriteFault, Idle, Spent, Memory}
 use Rattle.bridge_run.specs.declared.kept.Kept.{Kept}
-use Rattle.bridge_run.specs.Prescribed.{Prescribed, gained, refuses, first_of}
+use Rattle.bridge_run.specs.Prescribed.{Prescribed, drops, first_of}
 use Rattle.bridge_run.specs.Course.{Setting, Course, Next, Takes}
 use Rattle.bridge_run.specs.Calls.{Outcome, Goes, Stops, put, settle, ends_next, call, course_of}
 use Rattle.bridge_run.specs.Outside.{Outside}
@@ -28,7 +28,7 @@ settle-course s next c =
 
 pub take-course : (s : Setting) (e : Event) (next : Next) (c : Course) → course_of (call s (Takes e next) c) ≡ put s.served e c
 take-course s e next c =
-    course-choice (ends_next e (refuses Client (gained s.served.refusals c.events e))) (Goes (Takes ClientEnd next) (put s.served e c)) (settle s next (put s.served e c)) (put s.served e c) refl
+    course-choice (ends_next e (drops s.served c.events e)) (Goes (Takes ClientEnd next) (put s.served e c)) (settle s next (put s.served e c)) (put s.served e c) refl
     (settle-course s next (put s.served e c))
 
 -- ---- going on or ending
@@ -75,11 +75,11 @@ settled (Err WriteFault) stands p idle k w out from now b next c is f r e = absu
 settled (Err (LinkFault side)) stands p idle k w out from now b next c is f r e = absurd is
 
 -- what a taken event comes to where no end of the client is next, and where one is
-pub take-settles : (s : Setting) (e : Event) (next : Next) (c : Course) (refused : Bool) → refused ≡ refuses Client (gained s.served.refusals c.events e) → ends_next e refused ≡ false
+pub take-settles : (s : Setting) (e : Event) (next : Next) (c : Course) (refused : Bool) → refused ≡ drops s.served c.events e → ends_next e refused ≡ false
     → call s (Takes e next) c ≡ settle s next (put s.served e c)
 take-settles s e next c refused is none = ap (λ (b : Bool). cond b (Goes (Takes ClientEnd next) (put s.served e c)) (settle s next (put s.served e c))) (ap (λ (b : Bool). ends_next e b) (sym is) ∙ none)
 
-pub take-ends : (s : Setting) (e : Event) (next : Next) (c : Course) (refused : Bool) → refused ≡ refuses Client (gained s.served.refusals c.events e) → ends_next e refused ≡ true
+pub take-ends : (s : Setting) (e : Event) (next : Next) (c : Course) (refused : Bool) → refused ≡ drops s.served c.events e → ends_next e refused ≡ true
     → call s (Takes e next) c ≡ Goes (Takes ClientEnd next) (put s.served e c)
 take-ends s e next c refused is some = ap (λ (b : Bool). cond b (Goes (Takes ClientEnd next) (put s.served e c)) (settle s next (put s.served e c))) (ap (λ (b : Bool). ends_next e b) (sym is) ∙ some)
 

@@ -17,7 +17,7 @@ echo (HostPiece b ∷ events) = echo events
 echo (HostEnd ∷ events) = echo events
 
 abbrev toy : ℕ → Setting
-toy idle = record { served = record { to_client = echo; to_host = λ events. 9 ∷ []; refusals = λ events. [] }; idle = idle }
+toy idle = record { served = record { to_client = echo; to_host = λ events. 9 ∷ []; refusals = λ events. []; lets_go = λ events. false }; idle = idle }
 
 abbrev start : ℕ → List (List Turn) → List Turn → Course
 start idle clients host = record {

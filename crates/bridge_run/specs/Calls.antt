@@ -11,7 +11,7 @@ use Rattle.gate_outside.specs.Turns.{pending, answer, given, after}
 use Rattle.bridge_run.specs.Events.{Event, ClientComes, ClientPiece, ClientQuiet, ClientEnd, HostPiece, HostEnd}
 use Rattle.bridge_run.specs.declared.serve_end.ServeEnd.{ServeEnd}
 use Rattle.bridge_run.specs.declared.serve_end.ServeEnd.TheVariants as end
-use Rattle.bridge_run.specs.Prescribed.{Prescribed, gained, refuses, first_of}
+use Rattle.bridge_run.specs.Prescribed.{Prescribed, gained, refuses, drops, first_of}
 use Rattle.bridge_run.specs.Course.{Setting, Course, Next, Making, AtDoor, AtClient, AtHost, AtEnd, Takes}
 
 -- it goes on, or has come to an end
@@ -25,14 +25,14 @@ room = 65536
 
 -- ---- an event
 
--- what it sends is written to each side whose link is up, and a side that it refuses has its link closed. What a refused
--- client had still to send is lost.
+-- what it sends is written to each side whose link is up. Then a side that it refuses has its link closed, and a client
+-- that it lets go. What that client had still to send is lost.
 abbrev pub put : Prescribed → Event → Course → Course
 put p e c = let refused = gained p.refusals c.events e in record c {
   events = e ∷ c.events;
-  client_up = c.client_up && not (refuses Client refused);
+  client_up = c.client_up && not (drops p c.events e);
   host_up = c.host_up && not (refuses Host refused);
-  client = if refuses Client refused then [] else c.client;
+  client = if drops p c.events e then [] else c.client;
   to_client = if c.client_up then c.to_client ++ gained p.to_client c.events e else c.to_client;
   to_host = if c.host_up then c.to_host ++ gained p.to_host c.events e else c.to_host;
   told = c.told ++ flat_map refusal_line refused;
@@ -45,18 +45,18 @@ settle s next c =
     else if c.left == 0 then Stops end.Spent c
     else Goes next c
 
--- a client that was refused has its end next
+-- a client that was refused, or let go, has its end next
 abbrev pub ends_next : Event → Bool → Bool
-ends_next ClientComes refused = refused
-ends_next (ClientPiece b) refused = refused
-ends_next ClientQuiet refused = refused
-ends_next ClientEnd refused = false
-ends_next (HostPiece b) refused = refused
-ends_next HostEnd refused = refused
+ends_next ClientComes dropped = dropped
+ends_next (ClientPiece b) dropped = dropped
+ends_next ClientQuiet dropped = dropped
+ends_next ClientEnd dropped = false
+ends_next (HostPiece b) dropped = dropped
+ends_next HostEnd dropped = dropped
 
 abbrev pub take_event : Setting → Event → Next → Course → Outcome
 take_event s e next c =
-    if ends_next e (refuses Client (gained s.served.refusals c.events e)) then Goes (Takes ClientEnd next) (put s.served e c)
+    if ends_next e (drops s.served c.events e) then Goes (Takes ClientEnd next) (put s.served e c)
     else settle s next (put s.served e c)
 
 -- ---- a round

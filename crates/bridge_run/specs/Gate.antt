@@ -1,6 +1,6 @@
 -- What a gate's events send, and which sides they refuse: what its history says.
-use Rattle.std.specs.Prelude.{ℕ, List, [], ◌∷◌, Option, Some, None}
-use Rattle.std.specs.List.{flat_map}
+use Rattle.std.specs.Prelude.{ℕ, Bool, true, false, List, [], ◌∷◌, Option, Some, None}
+use Rattle.std.specs.List.{flat_map, list_any}
 use Rattle.usb_base.specs.declared.refusal.Refusal.{Refusal}
 use Rattle.gate_core.specs.declared.note.Note.{Note}
 use Rattle.gate_core.specs.declared.note.Note.TheVariants as note
@@ -11,7 +11,9 @@ use Rattle.gate_core.specs.Notes.{notes_of}
 use Rattle.gate_core.specs.All.{all_of}
 use Rattle.gate_core.specs.Bytes.{out_client, out_host}
 use Rattle.bridge_run.specs.Events.{Event, ClientComes, ClientPiece, ClientQuiet, ClientEnd, HostPiece, HostEnd}
-use Rattle.bridge_run.specs.Prescribed.{Prescribed}
+use Rattle.bridge_run.specs.Prescribed.{Prescribed, gained}
+use Rattle.bridge_run.specs.declared.after_loss.AfterLoss.{AfterLoss}
+use Rattle.bridge_run.specs.declared.after_loss.AfterLoss.TheVariants.{Keep, Close}
 
 -- what an event is to a gate: that a client has come, or is quiet, is none
 abbrev pub gate_event : Event → Option GateEvent
@@ -34,10 +36,29 @@ abbrev pub refusal_in : Note → List Refusal
 refusal_in (note.Refused refusal) = refusal ∷ []
 refusal_in _ = []
 
+-- all notes of these events, the earliest first
+abbrev pub gate_notes : ℕ → List Event → List Note
+gate_notes first events = all_of notes_of first (history first (gate_events events))
+
+-- the imported device is lost
+abbrev pub is_loss : Note → Bool
+is_loss note.DeviceGone = true
+is_loss _ = false
+
+abbrev pub lets_go : AfterLoss → List Note → Bool
+lets_go Keep notes = false
+lets_go Close notes = list_any is_loss notes
+
+-- the client is let go behind the latest event where that loses its device
+abbrev pub let_go_by : AfterLoss → ℕ → List Event → Bool
+let_go_by after first [] = false
+let_go_by after first (e ∷ events) = lets_go after (gained (gate_notes first) events e)
+
 -- the ids of its packets begin with the first id
-abbrev pub gate_sends : ℕ → Prescribed
-gate_sends first = record {
+abbrev pub gate_sends : AfterLoss → ℕ → Prescribed
+gate_sends after first = record {
   to_client = λ events. out_client first (history first (gate_events events));
   to_host = λ events. out_host first (history first (gate_events events));
-  refusals = λ events. flat_map refusal_in (all_of notes_of first (history first (gate_events events)));
+  refusals = λ events. flat_map refusal_in (gate_notes first events);
+  lets_go = λ events. let_go_by after first events;
 }

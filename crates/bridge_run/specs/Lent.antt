@@ -93,4 +93,5 @@ lent_sends m s = record {
   to_client = λ events. lent_bytes m s events;
   to_host = λ events. [];
   refusals = λ events. lent_refusals m s events;
+  lets_go = λ events. false;
 }

@@ -1,33 +1,45 @@
 //! The gate as what is served.
 
-ghost use Rattle.std.specs.Prelude.{◌≡◌, ◌++◌, OnOk, option_map};
-ghost use Rattle.std.specs.List.{flat_map};
+ghost use Rattle.std.specs.Prelude.{◌≡◌, ◌++◌, ◌||◌, OnOk, option_map};
+ghost use Rattle.std.specs.List.{flat_map, list_any};
 ghost use Rattle.gate_core.specs.Events.{event_of as told_of};
 ghost use Rattle.bridge_run.specs.Events.{event_of};
-ghost use Rattle.bridge_run.specs.Gate.{gate_event, refusal_in};
+ghost use Rattle.bridge_run.specs.Gate.{gate_event, refusal_in, is_loss, lets_go};
 
+use crate::after_loss::AfterLoss;
 use crate::event::Event;
 use crate::sent::Sent;
 use crate::served::Served;
 use gate_core::{Event as GateEvent, Gate, Note, Notes};
 use usb_base::{List, Memory, Refusal};
 
-impl Served for Gate {
+/// A gate, and what becomes of a client whose device is lost.
+#[derive(Drop)]
+pub struct Gateway {
+    pub gate: Gate,
+    pub after_loss: AfterLoss,
+}
+
+impl Served for Gateway {
     ghost use Rattle.std.specs.Prelude.{ℕ};
+    ghost use Rattle.bridge_run.specs.declared.after_loss.AfterLoss.{AfterLoss as Setting};
     ghost use Rattle.gate_core.specs.Stands.{Stands};
     ghost use Rattle.bridge_run.specs.Gate.{gate_events, gate_sends};
 
-    // the first id
-    ghost First = { ℕ };
+    // what becomes of such a client, and the first id
+    ghost First = { Setting × ℕ };
 
-    ghost sends = { λ first. gate_sends first };
+    ghost sends = { λ first. gate_sends first.0 first.1 };
 
-    ghost stands = { λ first gate events. Stands first gate (gate_events events) };
+    ghost stands = { λ first gateway events. (gateway.after_loss ≡ first.0) × Stands first.1 gateway.gate (gate_events events) };
 
     fn take(&mut self, event: Event, sent: &mut Sent) -> Result<(), Memory> {
         match gate_event(event) {
             Some(event) => {
-                let notes = Gate::take(self, event, &mut sent.to_client, &mut sent.to_host)?;
+                let notes = self
+                    .gate
+                    .take(event, &mut sent.to_client, &mut sent.to_host)?;
+                sent.lets_go |= lets_go(self.after_loss, &notes);
                 push_refusals(&notes, &mut sent.refusals)
             }
             None => Ok(()),
@@ -46,6 +58,26 @@ fn gate_event(event: Event<'_>) -> Option<GateEvent<'_>>
         Event::HostPiece(bytes) => Some(GateEvent::HostPiece(bytes)),
         Event::HostEnd => Some(GateEvent::HostEnd),
     }
+}
+
+/// Whether the client is let go where these are the notes of an event.
+fn lets_go(after_loss: AfterLoss, notes: &Notes) -> bool
+    ensures { result ≡ lets_go after_loss notes.now }
+{
+    match after_loss {
+        AfterLoss::Keep => false,
+        AfterLoss::Close => has_loss(notes),
+    }
+}
+
+/// Whether the notes tell that the imported device is lost.
+fn has_loss(notes: &Notes) -> bool
+    ensures { result ≡ list_any is_loss notes.now }
+{
+    notes
+        .as_slice()
+        .iter()
+        .any(|note| matches!(note, Note::DeviceGone))
 }
 
 /// Appends the refusals among the notes.

@@ -78,11 +78,11 @@ impl Kept {
         }
     }
 
-    /// The sides that are refused go down, and the first refusal of all is kept.
+    /// The sides that are refused go down, and a client that is let go, and the first refusal of all is kept.
     pub fn refuse(&mut self, sent: &Sent)
-        ensures { self.new ≡ refusing sent.now.refusals self.old }
+        ensures { self.new ≡ refusing sent.now.refusals sent.now.lets_go self.old }
     {
-        self.client_up &= !sent.refuses(Side::Client);
+        self.client_up &= !sent.drops_client();
         self.host_up &= !sent.refuses(Side::Host);
         self.refused = self.refused.or(sent.refusal());
     }

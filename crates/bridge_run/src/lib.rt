@@ -2,6 +2,7 @@
 //! modelled device that is lent to a guest, sends back to these.
 #![tactic(auto)]
 
+mod after_loss;
 mod event;
 mod gate;
 mod kept;
@@ -14,6 +15,7 @@ mod served;
 mod serving;
 mod session;
 
+pub use after_loss::AfterLoss;
 pub use lending::serve_host;
 pub use serve_end::ServeEnd;
 pub use serving::serve;

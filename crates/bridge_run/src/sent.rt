@@ -1,6 +1,7 @@
 //! What an event sends.
 
-ghost use Rattle.std.specs.Prelude.{◌≡◌, ◌++◌, [], OnOk};
+ghost use Rattle.std.specs.Prelude.{◌≡◌, ◌++◌, ◌||◌, [], OnOk, false};
+ghost use Rattle.usb_base.specs.declared.side.Side.TheVariants.{Client};
 ghost use Rattle.std.specs.List.{flat_map};
 ghost use Rattle.usb_base.specs.Refusal.{refusal_line};
 ghost use Rattle.bridge_run.specs.Prescribed.{refuses as among, first_of};
@@ -8,12 +9,13 @@ ghost use Rattle.bridge_run.specs.Prescribed.{refuses as among, first_of};
 use std::alloc::Global;
 use usb_base::{Bytes, List, Memory, Refusal, Side};
 
-/// The bytes that go to each side, and the sides that are refused.
+/// The bytes that go to each side, the sides that are refused, and whether the client is let go.
 #[derive(Debug, Drop)]
 pub struct Sent {
     pub to_client: Bytes,
     pub to_host: Bytes,
     pub refusals: List<Refusal>,
+    pub lets_go: bool,
 }
 
 impl Sent {
@@ -22,11 +24,13 @@ impl Sent {
         ensures client { result.to_client ≡ [] }
         ensures host { result.to_host ≡ [] }
         ensures refusals { result.refusals ≡ [] }
+        ensures lets_go { result.lets_go ≡ false }
     {
         Sent {
             to_client: Bytes::new(alloc),
             to_host: Bytes::new(alloc),
             refusals: List::new(alloc),
+            lets_go: false,
         }
     }
 
@@ -35,10 +39,12 @@ impl Sent {
         ensures client { self.new.to_client ≡ [] }
         ensures host { self.new.to_host ≡ [] }
         ensures refusals { self.new.refusals ≡ [] }
+        ensures lets_go { self.new.lets_go ≡ false }
     {
         self.to_client.clear();
         self.to_host.clear();
         self.refusals.clear();
+        self.lets_go = false;
     }
 
     /// Whether the side is refused.
@@ -46,6 +52,13 @@ impl Sent {
         ensures { result ≡ among side self.now.refusals }
     {
         self.refusals.as_slice().iter().any(|r| r.side == side)
+    }
+
+    /// Whether the client's link is to be closed.
+    pub fn drops_client(&self) -> bool
+        ensures { result ≡ (among Client self.now.refusals || self.now.lets_go) }
+    {
+        self.refuses(Side::Client) || self.lets_go
     }
 
     /// The first refusal.

@@ -21,10 +21,11 @@ pub trait Served {
     /// It stands for these events, the latest first.
     ghost stands: { First → Self → List PastEvent → Type 0 };
 
-    /// Takes the next event, and appends what that sends. A quiet client is no ground to refuse a side. For want of
-    /// memory anything may be there.
+    /// Takes the next event, and appends what that sends. A quiet client is no ground to refuse a side, or to let the
+    /// client go. For want of memory anything may be there.
     fn take(&mut self, event: Event, sent: &mut Sent) -> Result<(), Memory>
         ensures stands { OnOk result ((first : First) (past : List PastEvent) → stands first self.old past → stands first self.new (event_of event.entry ∷ past)) }
         ensures sends { OnOk result ((first : First) (past : List PastEvent) → stands first self.old past → Sends (sends first) past (event_of event.entry) sent.old sent.new) }
-        ensures quiet { OnOk result (is_quiet (event_of event.entry) ≡ true → sent.new.refusals ≡ sent.old.refusals) };
+        ensures quiet { OnOk result (is_quiet (event_of event.entry) ≡ true → sent.new.refusals ≡ sent.old.refusals) }
+        ensures stays { OnOk result (is_quiet (event_of event.entry) ≡ true → sent.new.lets_go ≡ sent.old.lets_go) };
 }

@@ -11,6 +11,8 @@ ghost use Rattle.bridge_run.specs.Serves.{Begins, Leaves};
 ghost use Rattle.bridge_run.specs.inner.Follows.{HasFaults, IsCutEnd, IsOpen, Opens};
 ghost use Rattle.bridge_run.specs.inner.Idling.{NotIdle};
 
+use crate::after_loss::AfterLoss;
+use crate::gate::Gateway;
 use crate::kept::Kept;
 use crate::link::write_link;
 use crate::serve_end::ServeEnd;
@@ -26,7 +28,8 @@ pub const ROOM: usize = 65_536;
 /// Dials the host, makes the clients' door, and goes in rounds. A round asks for a client where none is there, and
 /// polls the client and then the host, whose link is up. What comes is an event of a gate that draws its ids from
 /// `first_id` on. What an event sends is written to the client and then to the host, where that link is up. Then a
-/// side that it refuses has its link closed, and its line is written to `out`; the end of a refused client comes
+/// side that it refuses has its link closed, and its line is written to `out`; and where `after_loss` says so, a
+/// client whose imported device it loses has its link closed, too. The end of a client whose link is closed so comes
 /// next. It ends after `idle` rounds in a row that bring nothing, and once `budget` bytes have come, where each
 /// client counts as one. The first call that fails is the last.
 pub fn serve<D: Doors, K: Sink>(
@@ -36,6 +39,7 @@ pub fn serve<D: Doors, K: Sink>(
     idle: u64,
     budget: u64,
     first_id: u64,
+    after_loss: AfterLoss,
     doors: &mut D,
     out: &mut K,
 ) -> ServeEnd
@@ -46,7 +50,7 @@ pub fn serve<D: Doors, K: Sink>(
     requires first_id { (1 ≤ first_id) × (first_id ≤ 4294967295) }
     // Over doors and a sink that tell.
     ensures leaves { (c : Course) → Begins idle budget c → Tells (outside (D.link doors.old) (D.door doors.old)) (K.contents out.old) c
-        → Leaves result (record { served = gate_sends first_id; idle = idle }) (Goes Making c) (outside (D.link doors.new) (D.door doors.new)) (K.contents out.new) }
+        → Leaves result (record { served = gate_sends after_loss first_id; idle = idle }) (Goes Making c) (outside (D.link doors.new) (D.door doors.new)) (K.contents out.new) }
     // Over any doors.
     ensures cause { HasCause result (outside (D.link doors.old) (D.door doors.old)) (outside (D.link doors.new) (D.door doors.new)) (K.faults out.old) (K.faults out.new) }
     ensures reason { HasReason result idle (outside (D.link doors.old) (D.door doors.old)) (outside (D.link doors.new) (D.door doors.new)) }
@@ -63,7 +67,11 @@ pub fn serve<D: Doors, K: Sink>(
     if let Err(end) = open(host, listen, hello.as_slice(), doors) {
         return end;
     }
-    let mut session = Session::new(alloc, core, Kept::new(true, idle, budget));
+    let gateway = Gateway {
+        gate: core,
+        after_loss,
+    };
+    let mut session = Session::new(alloc, gateway, Kept::new(true, idle, budget));
     session.run(&mut buf, doors, out)
 }
 

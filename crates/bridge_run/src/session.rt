@@ -55,6 +55,7 @@ impl<C: Served + Drop> Session<C> {
         ensures stands { OnOk result ((first : C.First) (past : List PastEvent) → C.stands first self.old.core past → C.stands first self.new.core (event_of event.entry ∷ past)) }
         ensures prepared { OnOk result ((first : C.First) (past : List PastEvent) → C.stands first self.old.core past → Prepared (C.sends first) past (event_of event.entry) self.new.sent self.new.lines) }
         ensures quiet { OnOk result (is_quiet (event_of event.entry) ≡ true → self.new.sent.refusals ≡ []) }
+        ensures stays { OnOk result (is_quiet (event_of event.entry) ≡ true → self.new.sent.lets_go ≡ false) }
         ensures kept { self.new.kept ≡ self.old.kept }
     {
         self.sent.clear();
@@ -64,7 +65,8 @@ impl<C: Served + Drop> Session<C> {
     }
 
     /// Takes one event: what it sends is written to each side whose link is up, then a side that it refuses has
-    /// its link closed, and its line is written. Says whether the client was refused.
+    /// its link closed, or a client that it lets go, and the lines of refusals are written. Says whether the client's
+    /// link was closed.
     fn put<D: Doors, K: Sink>(
         &mut self,
         event: Event,
@@ -79,7 +81,7 @@ impl<C: Served + Drop> Session<C> {
         ensures agrees { OnOk result (Agrees self.new.kept (outside (D.link doors.new) (D.door doors.new))) }
         ensures wears { Wears self.old.kept self.new.kept }
         ensures left { self.new.kept.left ≡ self.old.kept.left }
-        ensures quiet { IfOk result (λ refused. is_quiet (event_of event.entry) ≡ true → (refused ≡ false) × (self.new.kept ≡ self.old.kept)) }
+        ensures quiet { IfOk result (λ dropped. is_quiet (event_of event.entry) ≡ true → (dropped ≡ false) × (self.new.kept ≡ self.old.kept)) }
         ensures idles { OnOk result (NotIdle (outside (D.link doors.old) (D.door doors.old)) (outside (D.link doors.new) (D.door doors.new))) }
     {
         self.prepare(event)?;
@@ -95,17 +97,17 @@ impl<C: Served + Drop> Session<C> {
             self.sent.to_client.as_slice(),
         )?;
         write_link(doors, Side::Host, host_up, self.sent.to_host.as_slice())?;
-        let refused = self.sent.refuses(Side::Client);
-        close_link(doors, Side::Client, refused);
+        let dropped = self.sent.drops_client();
+        close_link(doors, Side::Client, dropped);
         close_link(doors, Side::Host, self.sent.refuses(Side::Host));
         self.kept.refuse(&self.sent);
         match write_all(out, self.lines.as_slice()) {
-            Ok(()) => Ok(refused),
+            Ok(()) => Ok(dropped),
             Err(_) => Err(ServeEnd::WriteFault),
         }
     }
 
-    /// Takes an event, and behind it the end of a client that it refuses.
+    /// Takes an event, and behind it the end of a client that it refuses or lets go.
     fn happen<D: Doors, K: Sink>(
         &mut self,
         event: Event,
@@ -123,8 +125,8 @@ impl<C: Served + Drop> Session<C> {
         ensures idles { OnOk result (NotIdle (outside (D.link doors.old) (D.door doors.old)) (outside (D.link doors.new) (D.door doors.new))) }
         ensures within { EndsWithin result (outside (D.link doors.new) (D.door doors.new)) }
     {
-        let refused = self.put(event, doors, out)?;
-        if !ends_next(event, refused) {
+        let dropped = self.put(event, doors, out)?;
+        if !ends_next(event, dropped) {
             return self.kept.settle();
         }
         self.put(Event::ClientEnd, doors, out)?;
@@ -264,13 +266,13 @@ impl<C: Served + Drop> Session<C> {
     }
 }
 
-/// Whether a client's end comes behind the event that refused a side.
-fn ends_next(event: Event, refused: bool) -> bool
-    ensures { result ≡ has_end_next (event_of event.entry) refused }
+/// Whether a client's end comes behind the event that closed its link.
+fn ends_next(event: Event, dropped: bool) -> bool
+    ensures { result ≡ has_end_next (event_of event.entry) dropped }
 {
     match event {
         Event::ClientEnd => false,
-        _ => refused,
+        _ => dropped,
     }
 }
 

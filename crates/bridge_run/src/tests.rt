@@ -3,7 +3,7 @@
 mod lent;
 mod packets;
 
-use crate::{ServeEnd, serve};
+use crate::{AfterLoss, ServeEnd, serve};
 use gate_outside::{Script, ScriptDoors, Scripts, Side, TextSink, Turn};
 use packets::push_packet;
 use std::alloc::Global;
@@ -106,7 +106,17 @@ fn expect(rt: &impl Abort, alloc: Global, case: &Case<'_>) -> Result<(), Memory>
     let Case { idle, budget, .. } = *case;
     assert!(rt; idle > 0);
     assert!(rt; budget > 0);
-    let end = serve(alloc, "a:1", "b:2", idle, budget, 1, &mut doors, &mut out);
+    let end = serve(
+        alloc,
+        "a:1",
+        "b:2",
+        idle,
+        budget,
+        1,
+        AfterLoss::Keep,
+        &mut doors,
+        &mut out,
+    );
     assert_eq!(rt; end, case.end);
     assert_eq!(rt;
         doors.written(Side::Client),

@@ -7,6 +7,7 @@ use gate_outside::{Doors, Failed, Polled, Side};
 use gate_sockets::TcpDoors;
 use std::net;
 use std::net::Net;
+use std::rt::Clock;
 use std::test::Fail;
 use usb_base::{Bytes, Memory};
 
@@ -15,7 +16,7 @@ const HERE: &str = "127.0.0.1:33240";
 const LOOKS: u32 = 1_000_000;
 
 // What the side's peer sends, to its end.
-fn poll_to_end<R: Net<Stream = net::TcpStream, Listener = net::TcpListener> + Eprint>(
+fn poll_to_end<R: Net<Stream = net::TcpStream, Listener = net::TcpListener> + Eprint + Clock>(
     doors: &mut TcpDoors<'_, R>,
     side: Side,
     came: &mut Bytes,

@@ -53,11 +53,12 @@ impl Ahead {
         ensures within { IsStepWithin (length chunk.new) result }
         ensures kept { self.new ≡ self.old ++ moved_of result chunk.new }
     {
-        let room = chunk.len();
-        if most - self.bytes.len().min(most) < room || self.bytes.reserve(room).is_err() {
+        let free = most.saturating_sub(self.bytes.len());
+        let room = chunk.len().min(free);
+        if room == 0 || self.bytes.reserve(room).is_err() {
             return Step::Blocked;
         }
-        let step = step_of(stream.read(chunk), room);
+        let step = step_of(stream.read(&mut chunk[..room]), room);
         if let Step::Moved(count) = step {
             match self.bytes.extend_from_slice(&chunk[..count]) {
                 Ok(()) => {}

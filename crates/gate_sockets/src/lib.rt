@@ -5,6 +5,7 @@
 #![tactic(auto)]
 
 mod ahead;
+mod pace;
 mod ready;
 mod socket;
 mod step;

@@ -1,11 +1,13 @@
 //! When to read from the sockets, when to wait for them, and for which.
 
+use crate::pace::Pace;
 use gate_outside::Side;
 use mio::net::{TcpListener, TcpStream};
 use mio::{Events, Interest, Poll, Token};
 use std::alloc::Global;
 use std::io;
 use std::net::Net;
+use std::rt::Clock;
 use std::time::Duration;
 
 /// How many looks in a row find nothing before one waits.
@@ -41,6 +43,8 @@ pub(crate) struct Ready {
     host_due_in: u32,
     // How many looks in a row have found nothing.
     quiet: u32,
+    // How long a look waits that finds nothing, where that is asked.
+    pace: Option<Pace>,
 }
 
 impl Ready {
@@ -52,6 +56,7 @@ impl Ready {
             client_due_in: 0,
             host_due_in: 0,
             quiet: 0,
+            pace: None,
         })
     }
 
@@ -76,6 +81,11 @@ impl Ready {
         }
     }
 
+    /// A look that finds nothing waits from now on to the end of such an interval, one after another.
+    pub(crate) fn keep_pace(&mut self, interval: Duration) {
+        self.pace = Some(Pace::new(interval));
+    }
+
     /// Bytes came or went.
     pub(crate) fn moved(&mut self) {
         self.quiet = 0;
@@ -84,11 +94,11 @@ impl Ready {
     /// Whether to read from the side, after a moment at most. Where a read found nothing, the next looks pass the
     /// side over until the system tells of something; but not for long, since nobody waits for what it tells while
     /// the other side never rests.
-    pub(crate) fn is_due(&mut self, side: Side) -> bool {
+    pub(crate) fn is_due(&mut self, side: Side, clock: &impl Clock) -> bool {
         let due_in = self.due_in(side);
         if *due_in > 0 {
             *due_in -= 1;
-            self.found_nothing();
+            self.found_nothing(clock);
         }
         *self.due_in(side) == 0
     }
@@ -101,12 +111,13 @@ impl Ready {
 
     /// A look found nothing. Waits for something to read if the last looks found nothing either, and says
     /// whether to look again. Where the system can't wait, both sides are due.
-    pub(crate) fn found_nothing(&mut self) -> bool {
+    pub(crate) fn found_nothing(&mut self, clock: &impl Clock) -> bool {
         self.quiet = self.quiet.saturating_add(1);
-        if self.quiet < QUIET_LOOKS {
-            return false;
-        }
-        let most = Duration::from_millis(READ_WAIT_MILLIS);
+        let most = match &mut self.pace {
+            Some(pace) => pace.left(clock),
+            None if self.quiet < QUIET_LOOKS => return false,
+            None => Duration::from_millis(READ_WAIT_MILLIS),
+        };
         if self.reading.poll(&mut self.events, Some(most)).is_err() {
             self.client_due_in = 0;
             self.host_due_in = 0;

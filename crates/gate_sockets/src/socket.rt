@@ -16,6 +16,7 @@ use std::io;
 use std::io::{Read, Write};
 use std::marker::Model;
 use std::net::SocketAddr;
+use std::rt::Clock;
 
 /// How many bytes are read ahead at a time, and how often in a row.
 const CHUNK: usize = 16_384;
@@ -128,7 +129,7 @@ impl Socket {
     }
 
     /// What the connection has to give, after a moment at most: first what was read ahead.
-    pub(crate) fn poll(&mut self, buf: &mut [u8], ready: &mut Ready) -> Polled
+    pub(crate) fn poll(&mut self, buf: &mut [u8], ready: &mut Ready, clock: &impl Clock) -> Polled
         requires up { IsTrue self.old.up }
         requires room { 0 < length buf.old }
         ensures bound { TookWithin result buf.new }
@@ -140,7 +141,7 @@ impl Socket {
             ready.moved();
             return Polled::Took(given);
         }
-        let step = self.look(buf, ready);
+        let step = self.look(buf, ready, clock);
         self.hear(step)
     }
 
@@ -184,11 +185,11 @@ impl Socket {
     }
 
     /// Reads, where that is due. A link that has broken is read to its end.
-    fn look(&self, buf: &mut [u8], ready: &mut Ready) -> Step
+    fn look(&self, buf: &mut [u8], ready: &mut Ready, clock: &impl Clock) -> Step
         requires { IsTrue self.now.up }
         ensures { IsStepWithin (length buf.new) result }
     {
-        if !self.broken && !ready.is_due(self.side) {
+        if !self.broken && !ready.is_due(self.side, clock) {
             return Step::Blocked;
         }
         let step = self.read_once(buf);

@@ -13,16 +13,17 @@ use std::alloc::Global;
 use std::io::ErrorKind;
 use std::marker::Model;
 use std::net::Net;
+use std::rt::Clock;
+use std::time::Duration;
 use std::{io, net};
 
 /// How often a write that is blocked is tried.
 const TRIES: u32 = 1_000_000;
 
-/// How many bytes of a link are read ahead at most: the longest packet of its side, rounded up to what is read at a
-/// time.
-const CLIENT_AHEAD: usize = 16_793_647 + 16_384;
+/// How many bytes of a link are read ahead at most: the longest packet of its side.
+const CLIENT_AHEAD: usize = 16_793_647;
 
-const HOST_AHEAD: usize = 16_777_295 + 16_384;
+const HOST_AHEAD: usize = 16_777_295;
 
 /// Connections of the system. Of what comes and goes by them they tell nothing but what was read ahead. What is proved
 /// of them is which call counts as a fault and which as idle, that what was read ahead is given in order and before
@@ -30,7 +31,10 @@ const HOST_AHEAD: usize = 16_777_295 + 16_384;
 ///
 /// The door stays open: a client that comes while another one is served waits until that one has left.
 #[derive(Drop)]
-pub struct TcpDoors<'rt, R: Net<Stream = net::TcpStream, Listener = net::TcpListener> + Eprint> {
+pub struct TcpDoors<
+    'rt,
+    R: Net<Stream = net::TcpStream, Listener = net::TcpListener> + Eprint + Clock,
+> {
     rt: &'rt R,
     ready: Ready,
     door: Option<TcpListener>,
@@ -43,7 +47,7 @@ pub struct TcpDoors<'rt, R: Net<Stream = net::TcpStream, Listener = net::TcpList
     wants: bool,
 }
 
-impl<'rt, R: Net<Stream = net::TcpStream, Listener = net::TcpListener> + Eprint> Model
+impl<'rt, R: Net<Stream = net::TcpStream, Listener = net::TcpListener> + Eprint + Clock> Model
     for TcpDoors<'rt, R> {
     ghost use Rattle.std.specs.Prelude.{is_some};
     ghost use Rattle.gate_sockets.specs.State.{States};
@@ -53,7 +57,10 @@ impl<'rt, R: Net<Stream = net::TcpStream, Listener = net::TcpListener> + Eprint>
     ghost view = { λ doors. record { client = doors.client; host = doors.host; made = is_some doors.door } };
 }
 
-impl<'rt, R: Net<Stream = net::TcpStream, Listener = net::TcpListener> + Eprint> TcpDoors<'rt, R> {
+impl<'rt, R: Net<Stream = net::TcpStream, Listener = net::TcpListener> + Eprint + Clock> TcpDoors<
+    'rt,
+    R,
+> {
     /// Doors with no link up.
     pub fn new(rt: &'rt R, alloc: Global) -> io::Result<TcpDoors<'rt, R>>
         ensures client { IfOk result (λ doors. doors.client ≡ fresh) }
@@ -75,6 +82,14 @@ impl<'rt, R: Net<Stream = net::TcpStream, Listener = net::TcpListener> + Eprint>
     /// Whether a call has tried to open a link or the door.
     pub fn were_used(&self) -> bool {
         self.used
+    }
+
+    /// A poll that finds nothing waits from now on to the end of such an interval, one after another, also where
+    /// something was written before.
+    pub fn keep_pace(&mut self, interval: Duration)
+        ensures { self.new ≡ self.old }
+    {
+        self.ready.keep_pace(interval);
     }
 
     fn try_dial(&mut self, addr: &str) -> io::Result<()>
@@ -162,7 +177,7 @@ impl<'rt, R: Net<Stream = net::TcpStream, Listener = net::TcpListener> + Eprint>
         requires { IsTrue self.old.made }
         ensures { Came result self.old self.new }
     {
-        self.let_in() || self.ready.found_nothing() && self.let_in()
+        self.let_in() || self.ready.found_nothing(self.rt) && self.let_in()
     }
 
     fn write_once(&mut self, side: Side, piece: &[u8]) -> Option<usize>
@@ -213,7 +228,7 @@ fn prepared(mut stream: TcpStream, side: Side, ready: &mut Ready) -> io::Result<
     Ok(stream)
 }
 
-impl<'rt, R: Net<Stream = net::TcpStream, Listener = net::TcpListener> + Eprint> Doors
+impl<'rt, R: Net<Stream = net::TcpStream, Listener = net::TcpListener> + Eprint + Clock> Doors
     for TcpDoors<'rt, R> {
     ghost use Rattle.usb_base.specs.declared.side.Side.TheVariants.{Client, Host};
     ghost use Rattle.gate_outside.specs.Doors.{Accepts, Polls, Writes, TookWithin};
@@ -271,8 +286,8 @@ impl<'rt, R: Net<Stream = net::TcpStream, Listener = net::TcpListener> + Eprint>
         ensures door { self.new.made ≡ self.old.made }
     {
         let polled = match side {
-            Side::Client => self.client.poll(buf, &mut self.ready),
-            Side::Host => self.host.poll(buf, &mut self.ready),
+            Side::Client => self.client.poll(buf, &mut self.ready, self.rt),
+            Side::Host => self.host.poll(buf, &mut self.ready, self.rt),
         };
         if let Polled::Ended = polled {
             self.tell_end(side);

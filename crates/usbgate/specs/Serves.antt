@@ -26,7 +26,7 @@ budget = 4611686018427387904
 
 -- the gateway between sockets
 abbrev pub setting_of : Asked → Setting
-setting_of asked = record { served = gate_sends asked.first_id; idle = asked.idle }
+setting_of asked = record { served = gate_sends asked.after_loss asked.first_id; idle = asked.idle }
 
 -- a modelled device, which begins as it was plugged in
 abbrev pub device_sends : Device → Sends

@@ -1,5 +1,6 @@
 -- What the gateway between sockets is asked.
 use Rattle.std.specs.Prelude.{ℕ, List}
+use Rattle.bridge_run.specs.declared.after_loss.AfterLoss.{AfterLoss}
 
 pub record Asked : Type 0 where
   -- the addresses of the host and of the clients' door
@@ -8,3 +9,5 @@ pub record Asked : Type 0 where
   -- after how many rounds in a row in which nothing comes it ends
   pub idle : ℕ
   pub first_id : ℕ
+  -- what becomes of a client whose device is lost
+  pub after_loss : AfterLoss

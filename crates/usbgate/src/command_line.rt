@@ -23,7 +23,8 @@ pub fn found<'a>(alloc: Global, words: &'a [&'a str]) -> Result<Option<ArgMatche
     }
 }
 
-fn command_line<'a>(alloc: Global) -> Result<CommandLine<'a>, AllocError>
+/// How a line of words is to be read.
+pub fn command_line<'a>(alloc: Global) -> Result<CommandLine<'a>, AllocError>
     ensures { IfOk result (λ line. app_of line ≡ command_line) }
 {
     CommandLine::new(alloc, "usbgate")
@@ -35,7 +36,8 @@ fn command_line<'a>(alloc: Global) -> Result<CommandLine<'a>, AllocError>
         .arg(option(alloc, "host"))?
         .arg(option(alloc, "listen"))?
         .arg(option(alloc, "idle"))?
-        .arg(option(alloc, "first-id"))
+        .arg(option(alloc, "first-id"))?
+        .arg(option(alloc, "after-loss"))
 }
 
 /// `--NAME VALUE`, or `--NAME=VALUE`.

@@ -35,6 +35,7 @@ pub struct Row {
     pub listen: Need,
     pub idle: Need,
     pub first_id: Need,
+    pub after_loss: Need,
 }
 
 /// The commands that are built.
@@ -48,6 +49,7 @@ pub const ROWS: [Row; 5] = [
         listen: Need::MustNot,
         idle: Need::MustNot,
         first_id: Need::May,
+        after_loss: Need::MustNot,
     },
     Row {
         verb: Verb::Model,
@@ -68,6 +70,7 @@ pub const ROWS: [Row; 5] = [
         listen: Need::MustNot,
         idle: Need::MustNot,
         first_id: Need::MustNot,
+        after_loss: Need::MustNot,
     },
     Row {
         verb: Verb::Serve,
@@ -78,6 +81,7 @@ pub const ROWS: [Row; 5] = [
         listen: Need::Must,
         idle: Need::Must,
         first_id: Need::May,
+        after_loss: Need::May,
     },
     Row {
         verb: Verb::Host,
@@ -88,6 +92,7 @@ pub const ROWS: [Row; 5] = [
         listen: Need::Must,
         idle: Need::Must,
         first_id: Need::MustNot,
+        after_loss: Need::MustNot,
     },
 ];
 
@@ -139,6 +144,7 @@ impl Row {
             (self.listen, given.listen),
             (self.idle, given.idle),
             (self.first_id, given.first_id),
+            (self.after_loss, given.after_loss),
         ];
         words.iter().all(|(need, word)| need.admits(word.is_some()))
     }

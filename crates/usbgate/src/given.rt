@@ -17,6 +17,7 @@ pub struct Given<'a> {
     pub listen: Option<&'a str>,
     pub idle: Option<&'a str>,
     pub first_id: Option<&'a str>,
+    pub after_loss: Option<&'a str>,
 }
 
 impl<'a> Given<'a> {
@@ -33,6 +34,7 @@ impl<'a> Given<'a> {
             listen: matches.get_str("listen"),
             idle: matches.get_str("idle"),
             first_id: matches.get_str("first-id"),
+            after_loss: matches.get_str("after-loss"),
         }
     }
 }

@@ -8,6 +8,7 @@ mod given;
 mod host;
 mod lending;
 mod model;
+mod pace;
 mod program;
 mod replay;
 mod serve;
@@ -20,9 +21,12 @@ mod tape_lines;
 mod tape_reader;
 mod text;
 mod words;
+mod wrong;
 
+pub use pace::pace_of;
 pub use program::run;
 pub use status::Status;
+pub use wrong::{COMMANDS, Wrong, wrong_with};
 
 #[cfg(test)]
 mod tests;

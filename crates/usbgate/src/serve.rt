@@ -34,6 +34,7 @@ pub fn serve<D: Doors, K: Sink>(
         u64::from(serving.idle),
         BUDGET,
         u64::from(serving.first_id),
+        serving.after_loss,
         doors,
         out,
     );

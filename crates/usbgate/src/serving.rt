@@ -1,8 +1,10 @@
 //! What the gateway between sockets is asked.
 
+use bridge_run::AfterLoss;
 use std::marker::Model;
 
-/// Where the host and the clients' door are, when to end, and the id of the first packet to the host.
+/// Where the host and the clients' door are, when to end, the id of the first packet to the host, and what becomes of
+/// a client whose device is lost.
 #[derive(Debug, Drop)]
 pub struct Serving<'a> {
     /// The host's address.
@@ -12,6 +14,7 @@ pub struct Serving<'a> {
     /// After how many rounds in a row in which nothing comes it ends.
     pub idle: u32,
     pub first_id: u32,
+    pub after_loss: AfterLoss,
 }
 
 impl<'a> Model for Serving<'a> {
@@ -19,5 +22,5 @@ impl<'a> Model for Serving<'a> {
 
     ghost Value = { Asked };
 
-    ghost view = { λ serving. record { host = serving.host.now; listen = serving.listen.now; idle = serving.idle; first_id = serving.first_id } };
+    ghost view = { λ serving. record { host = serving.host.now; listen = serving.listen.now; idle = serving.idle; first_id = serving.first_id; after_loss = serving.after_loss } };
 }

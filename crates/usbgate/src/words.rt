@@ -2,7 +2,7 @@
 
 ghost use Rattle.std.specs.Prelude.{◌≡◌, ◌≤◌, ◌<◌, ◌^◌, ℕ, List, Option, IfOk, IfSome, codes};
 ghost use Rattle.usbgate.specs.declared.command_table.Verb.TheVariants as verb;
-ghost use Rattle.usbgate.specs.Words.{texts, first_id_of, asked_by, or_unknown, command_in, command_of, HasNumbers};
+ghost use Rattle.usbgate.specs.Words.{texts, first_id_of, after_loss_of, asked_by, or_unknown, command_in, command_of, HasNumbers};
 ghost use Rattle.usbgate.specs.inner.Given.{IsGiven};
 
 use crate::command_line::found;
@@ -10,6 +10,7 @@ use crate::command_table::{Row, Verb};
 use crate::given::Given;
 use crate::lending::{Device, Lending};
 use crate::serving::Serving;
+use bridge_run::AfterLoss;
 use packet_show::read_number;
 use std::alloc::Global;
 use usb_base::{Memory, Side};
@@ -101,7 +102,7 @@ fn show<'a>(given: &Given<'a>) -> Option<Command<'a>>
     Some(Command::Show { side })
 }
 
-/// `serve --host ADDR --listen ADDR --idle N [--first-id N]`
+/// `serve --host ADDR --listen ADDR --idle N [--first-id N] [--after-loss keep|close]`
 fn serve<'a>(given: &Given<'a>) -> Option<Command<'a>>
     ensures value { (words : List ℕ → Option (List ℕ)) → IsGiven given.now words → result ≡ asked_by verb.Serve words }
     ensures numbers { IfSome result HasNumbers }
@@ -111,6 +112,7 @@ fn serve<'a>(given: &Given<'a>) -> Option<Command<'a>>
         listen: given.listen?,
         idle: read_number(given.idle?.as_bytes())?,
         first_id: first_id(given)?,
+        after_loss: after_loss(given)?,
     };
     Some(Command::Serve(serving))
 }
@@ -136,5 +138,17 @@ fn first_id(given: &Given<'_>) -> Option<u32>
     match given.first_id {
         Some(text) => read_number(text.as_bytes()),
         None => Some(1),
+    }
+}
+
+/// The value of `--after-loss`; without the option the client is kept.
+fn after_loss(given: &Given<'_>) -> Option<AfterLoss>
+    ensures { (words : List ℕ → Option (List ℕ)) → IsGiven given.now words → result ≡ after_loss_of (words (codes "after-loss")) }
+{
+    match given.after_loss {
+        None => Some(AfterLoss::Keep),
+        Some("keep") => Some(AfterLoss::Keep),
+        Some("close") => Some(AfterLoss::Close),
+        Some(_) => None,
     }
 }

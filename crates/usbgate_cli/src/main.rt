@@ -12,10 +12,10 @@ use gate_sockets::TcpDoors;
 use std::alloc::Global;
 use std::net::Net;
 use std::process::ExitCode;
-use std::rt::Env;
+use std::rt::{Clock, Env};
 use std::{env, io, net};
 use usb_base::{Memory, Side};
-use usbgate::{Status, run};
+use usbgate::{COMMANDS, Status, pace_of, run, wrong_with};
 
 fn main(rt: HostRuntime) -> ExitCode {
     exit_code(run_args(&rt))
@@ -35,6 +35,7 @@ fn run_args(
         + Input
         + Print
         + Eprint
+        + Clock
         + AllocGlobal
         + Net<Stream = net::TcpStream, Listener = net::TcpListener>),
 ) -> Status {
@@ -50,9 +51,14 @@ fn run_args(
     let mut out = StdSink::new(io::writer(rt));
     match TcpDoors::new(rt, rt.alloc()) {
         Ok(mut doors) => {
+            if let Ok(Some(interval)) = pace_of(rt.alloc(), &words) {
+                doors.keep_pace(interval);
+            }
             let status = run(rt.alloc(), &words, &mut tape, &mut out, &mut doors);
             if doors.were_used() {
                 tell_end(rt, status);
+            } else if let Status::Usage = status {
+                tell_wrong(rt, &words);
             }
             status
         }
@@ -80,6 +86,14 @@ fn words_behind_the_name(alloc: Global, args: &[String]) -> Result<Vec<&str>, Me
         }
     }
     Ok(words)
+}
+
+/// Says on standard error what is wrong with words that are no command, and which commands there are.
+fn tell_wrong(rt: &(impl Eprint + AllocGlobal), words: &[&str]) {
+    if let Ok(wrong) = wrong_with(rt.alloc(), words) {
+        let _ = rt.eprint(wrong);
+    }
+    let _ = rt.eprint(COMMANDS);
 }
 
 /// Says on standard error why serving or lending has ended.

@@ -9,7 +9,7 @@ use Rattle.bridge_run.specs.declared.serve_end.ServeEnd.{ServeEnd}
 use Rattle.bridge_run.specs.declared.serve_end.ServeEnd.TheVariants.{Ended, LinkFault, WriteFault, Idle, Spent, Memory}
 use Rattle.bridge_run.specs.declared.kept.Kept.{Kept}
 use Rattle.bridge_run.specs.declared.sent.Sent.{Sent}
-use Rattle.bridge_run.specs.Prescribed.{Prescribed, gained, refuses, first_of}
+use Rattle.bridge_run.specs.Prescribed.{Prescribed, gained, drops, first_of}
 use Rattle.bridge_run.specs.Course.{Setting, Course, Next, AtClient, AtHost, AtEnd}
 use Rattle.bridge_run.specs.Calls.{Outcome, Goes, put, make}
 use Rattle.bridge_run.specs.Outside.{Outside, NoFault, HasCause, Tells, Cut}
@@ -21,6 +21,7 @@ pub record Prepared (p : Prescribed) (events : List Event) (e : Event) (sent : S
   pub host : sent.to_host ≡ gained p.to_host events e
   pub refusals : sent.refusals ≡ gained p.refusals events e
   pub grows : p.refusals (e ∷ events) ≡ p.refusals events ++ gained p.refusals events e
+  pub lets_go : sent.lets_go ≡ p.lets_go (e ∷ events)
   pub lines-is : lines ≡ flat_map refusal_line sent.refusals
 
 -- what is served stands for the course's events, the rest is kept, and the doors and the sink tell it
@@ -52,7 +53,7 @@ IsCutEnd Spent = ⊥
 -- ---- one event
 
 abbrev pub Puts : Result Bool ServeEnd → (List Event → Type 0) → Prescribed → Event → Kept → Outside → Option (List ℕ) → Course → Type 0
-Puts (Ok refused) stands p e k w out c = Follows stands p k w out (put p e c) × (refused ≡ refuses Client (gained p.refusals c.events e))
+Puts (Ok dropped) stands p e k w out c = Follows stands p k w out (put p e c) × (dropped ≡ drops p c.events e)
 Puts (Err end) stands p e k w out c = Cut w out c (put p e c)
 
 -- ---- some calls

@@ -1,5 +1,5 @@
 -- What is kept, and how it changes.
-use Rattle.std.specs.Prelude.{◌≡◌, ◌⊎◌, ◌<◌, ◌≤◌, ◌+◌, ◌*◌, ◌-◌, ℕ, ◌&&◌, not, Bool, true, false, List, None, Result, Ok, Err}
+use Rattle.std.specs.Prelude.{◌≡◌, ◌⊎◌, ◌<◌, ◌≤◌, ◌+◌, ◌*◌, ◌-◌, ℕ, ◌&&◌, ◌||◌, not, Bool, true, false, List, None, Result, Ok, Err}
 use Rattle.usb_base.specs.declared.side.Side.{Side}
 use Rattle.usb_base.specs.declared.side.Side.TheVariants.{Client, Host}
 use Rattle.usb_base.specs.declared.refusal.Refusal.{Refusal}
@@ -30,9 +30,10 @@ abbrev pub with_up : Side → Kept → Kept
 with_up Client k = record k { client_up = false }
 with_up Host k = record k { host_up = false }
 
-abbrev pub refusing : List Refusal → Kept → Kept
-refusing refusals k = record k {
-  client_up = k.client_up && not (refuses Client refusals);
+-- sides are refused, and the client is let go or isn't
+abbrev pub refusing : List Refusal → Bool → Kept → Kept
+refusing refusals go k = record k {
+  client_up = k.client_up && not (refuses Client refusals || go);
   host_up = k.host_up && not (refuses Host refusals);
   refused = or_else k.refused (first_of refusals);
 }

@@ -1,4 +1,4 @@
-use Rattle.std.proofs.Common.{ℕ, List, [], ◌++◌, Err, refl, sym, ◌∙◌, ap, subst}
+use Rattle.std.proofs.Common.{◌≡◌, ℕ, List, [], ◌++◌, Err, refl, sym, ◌∙◌, ap, subst}
 use Rattle.gate_core.specs.Bytes.{out_host}
 use Rattle.gate_core.specs.Stands.{Stands}
 use Rattle.bridge_run.specs.Course.{Setting, Making, AtDoor}
@@ -7,6 +7,7 @@ use Rattle.bridge_run.specs.Outside.{outside, HasReason}
 use Rattle.bridge_run.specs.Events.{Event}
 use Rattle.bridge_run.specs.Serves.{Leaves}
 use Rattle.bridge_run.specs.declared.kept.Kept.{Kept}
+use Rattle.bridge_run.specs.declared.gate.Gateway.{Gateway}
 use Rattle.bridge_run.specs.inner.Follows.{Follows, setting}
 use Rattle.bridge_run.specs.Gate.{gate_events, gate_sends}
 use Rattle.bridge_run.proofs.Reaching.{reaches-none, reaches-call, leaves-then, cut-leaves, cut-next}
@@ -16,14 +17,14 @@ use Rattle.bridge_run.proofs.Opening.{making-short, begun-follows}
 use Rattle.bridge_run.proofs.serving.serve.Goals as goal
 
 pub returns-in-Err-clause-leaves : goal.returns-in-Err-clause-leaves
-returns-in-Err-clause-leaves g c = λ k b t. making-short (record { served = gate_sends c.args.first_id; idle = c.args.idle }) k (outside (g.D.Doors.link c.args.doors.now) (g.D.Doors.door c.args.doors.now)) (g.K.Sink.contents c.args.out.now) t
+returns-in-Err-clause-leaves g c = λ k b t. making-short (record { served = gate_sends c.args.after_loss c.args.first_id; idle = c.args.idle }) k (outside (g.D.Doors.link c.args.doors.now) (g.D.Doors.door c.args.doors.now)) (g.K.Sink.contents c.args.out.now) t
 
 pub returns-in-Err-vec-clause-leaves : goal.returns-in-Err-vec-clause-leaves
-returns-in-Err-vec-clause-leaves g c = λ k b t. making-short (record { served = gate_sends c.args.first_id; idle = c.args.idle }) k (outside (g.D.Doors.link c.args.doors.now) (g.D.Doors.door c.args.doors.now)) (g.K.Sink.contents c.args.out.now) t
+returns-in-Err-vec-clause-leaves g c = λ k b t. making-short (record { served = gate_sends c.args.after_loss c.args.first_id; idle = c.args.idle }) k (outside (g.D.Doors.link c.args.doors.now) (g.D.Doors.door c.args.doors.now)) (g.K.Sink.contents c.args.out.now) t
 
 pub returns-in-Err-open-clause-leaves : goal.returns-in-Err-open-clause-leaves
 returns-in-Err-open-clause-leaves g c = λ k b t.
-    let p = gate_sends c.args.first_id in
+    let p = gate_sends c.args.after_loss c.args.first_id in
     let s : Setting = record { served = p; idle = c.args.idle } in
     let w = (outside (g.D.Doors.link c.open.new.doors) (g.D.Doors.door c.open.new.doors)) in
     let out = g.K.Sink.contents c.args.out.now in
@@ -33,18 +34,18 @@ returns-in-Err-open-clause-leaves g c = λ k b t.
 pub returns-clause-leaves : goal.returns-clause-leaves
 returns-clause-leaves g c = λ k b t.
     let first = c.args.first_id in
-    let p = gate_sends first in
+    let p = gate_sends c.args.after_loss first in
     let s : Setting = record { served = p; idle = c.args.idle } in
     let w = outside (g.D.Doors.link c.open.new.doors) (g.D.Doors.door c.open.new.doors) in
     let ends = outside (g.D.Doors.link c.run.new.doors) (g.D.Doors.door c.run.new.doors) in
     let out = g.K.Sink.contents c.args.out.now in
     let core = c.new-session.result.core in
-    let stands : List Event → Type 0 = λ events. Stands first core (gate_events events) in
+    let stands : List Event → Type 0 = λ events. (core.after_loss ≡ c.args.after_loss) × Stands first core.gate (gate_events events) in
     let tells = c.in_default.ensures.course p k out (c.as_slice.ensures ∙ c.in-Ok.ensures.sent ∙ ap (λ (l : List ℕ). l ++ out_host first []) c.new-hello.ensures) b.client_down t in
     leaves-then c.run.result s (Goes Making k) AtDoor (make p k) ends (g.K.Sink.contents c.run.new.out)
     (reaches-call s (Goes Making k) Making k (Goes AtDoor (make p k)) (reaches-none s (Goes Making k)) refl)
-    (subst (λ (q : Kept). Follows stands p q w out (make p k) → Leaves c.run.result (setting p q) (Goes AtDoor (make p k)) ends (g.K.Sink.contents c.run.new.out)) (c.new-session.ensures.kept ∙ c.new.ensures) (c.run.ensures.course first (make p k))
-    (begun-follows stands p c.args.idle c.args.budget w out k b (subst (λ x. Stands first x (gate_events [])) (sym c.new-session.ensures.core) c.in-Ok.ensures.made) refl tells))
+    (subst (λ (q : Kept). Follows stands p q w out (make p k) → Leaves c.run.result (setting p q) (Goes AtDoor (make p k)) ends (g.K.Sink.contents c.run.new.out)) (c.new-session.ensures.kept ∙ c.new.ensures) (c.run.ensures.course (c.args.after_loss, first) (make p k))
+    (begun-follows stands p c.args.idle c.args.budget w out k b (subst (λ (x : Gateway). (x.after_loss ≡ c.args.after_loss) × Stands first x.gate (gate_events [])) (sym c.new-session.ensures.core) (refl, c.in-Ok.ensures.made)) refl tells))
 
 pub returns-clause-cause : goal.returns-clause-cause
 returns-clause-cause g c =

@@ -18,4 +18,5 @@ returns c =
     let host = c.in_ok-arg-5.ensures.shape c.option-3.ensures.local ∙ ap₂ with_rule side c.option-3.ensures.rule in
     let listen = c.in_ok-arg-6.ensures.shape c.option-4.ensures.local ∙ ap₂ with_rule host c.option-4.ensures.rule in
     let idle = c.in_ok-arg-7.ensures.shape c.option-5.ensures.local ∙ ap₂ with_rule listen c.option-5.ensures.rule in
-    IfOk-weaker c.arg-8.result _ _ (λ line adds. adds.shape c.option-6.ensures.local ∙ ap₂ with_rule idle c.option-6.ensures.rule) c.arg-8.ensures
+    let first_id = c.in_ok-arg-8.ensures.shape c.option-6.ensures.local ∙ ap₂ with_rule idle c.option-6.ensures.rule in
+    IfOk-weaker c.arg-9.result _ _ (λ line adds. adds.shape c.option-7.ensures.local ∙ ap₂ with_rule first_id c.option-7.ensures.rule) c.arg-9.ensures

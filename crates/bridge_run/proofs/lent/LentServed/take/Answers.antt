@@ -10,5 +10,5 @@ returns-clause-sends g c =
     (λ handed first past lent.
     let m = g.G.Gadget.meaning in
     lent-sends m first c.args.self.now c.act.new.self past (event_of c.args.event) c.args.sent.now _ lent
-    (c.in_ok-act.ensures.acts first (acts_of m first past) lent.stands) c.act.ensures.come handed refl (c.in_ok-act.ensures.refusals first (acts_of m first past) lent.stands))
+    (c.in_ok-act.ensures.acts first (acts_of m first past) lent.stands) c.act.ensures.come handed refl (c.in_ok-act.ensures.refusals first (acts_of m first past) lent.stands) refl)
     c.hand_on.ensures.sent

@@ -1,5 +1,6 @@
-use Rattle.std.proofs.Common.{ℕ, Bool, List, ◌∙◌, ap, subst}
+use Rattle.std.proofs.Common.{ℕ, Bool, ◌||◌, List, ◌∙◌, ap, subst}
 use Rattle.usb_base.specs.declared.side.Side.TheVariants.{Client, Host}
+use Rattle.usb_base.specs.declared.refusal.Refusal.{Refusal}
 use Rattle.std.specs.Io.KnownBytes.{Appends}
 use Rattle.gate_outside.specs.Front.{AppendsFront}
 use Rattle.gate_outside.specs.Link.{Link}
@@ -9,7 +10,7 @@ use Rattle.bridge_run.specs.Prescribed.{refuses}
 use Rattle.bridge_run.specs.Outside.{outside}
 use Rattle.bridge_run.specs.inner.Links.{wrote_if, WritesFront, closed_if}
 use Rattle.bridge_run.specs.inner.Keeping.{refusing}
-use Rattle.bridge_run.proofs.Putting.{cut-puts, put-client, put-host, put-follows, put-before, put-in_client, put-in_host, put-in_lines, refusing-none}
+use Rattle.bridge_run.proofs.Putting.{cut-puts, dropped-is, put-client, put-host, put-follows, put-before, put-in_client, put-in_host, put-in_lines, refusing-none}
 use Rattle.bridge_run.proofs.session.Session.put.Goals as goal
 
 pub returns-in_err-prepare-clause-course : goal.returns-in_err-prepare-clause-course
@@ -55,13 +56,13 @@ returns-in-Err-clause-course g c = λ first k f.
     let prepared = c.in_ok-prepare.ensures.prepared first k.events f.stands_for in
     let up_client = ap (λ (k : Kept). k.client_up) c.in_ok-prepare.ensures.kept ∙ f.client_up in
     let up_host = ap (λ (k : Kept). k.host_up) c.in_ok-prepare.ensures.kept ∙ f.host_up in
-    let rc = refuses Client sent.refusals in
+    let rc = refuses Client sent.refusals || sent.lets_go in
     let rh = refuses Host sent.refusals in
     let wrote_client = c.in_ok-write_link.ensures.link ∙ ap (λ (b : List ℕ). wrote_if c.prepare.new.self.kept.client_up b (g.D.Doors.link c.args.doors.now Client)) c.as_slice.ensures in
     let wrote_host = c.in_ok-write_link-2.ensures.link
     ∙ ap (λ (b : List ℕ). wrote_if c.prepare.new.self.kept.host_up b (g.D.Doors.link c.write_link.new.doors Host)) c.as_slice-2.ensures
     ∙ ap (λ (l : Link). wrote_if c.prepare.new.self.kept.host_up sent.to_host l) c.in_ok-write_link.ensures.other in
-    let client = c.close_link-2.ensures.other ∙ c.close_link.ensures.link ∙ ap (λ (r : Bool). closed_if r Client (g.D.Doors.link c.write_link-2.new.doors Client)) c.refuses-refused.ensures
+    let client = c.close_link-2.ensures.other ∙ c.close_link.ensures.link ∙ ap (λ (r : Bool). closed_if r Client (g.D.Doors.link c.write_link-2.new.doors Client)) c.drops_client-dropped.ensures
     ∙ ap (λ (l : Link). closed_if rc Client l) (c.in_ok-write_link-2.ensures.other ∙ wrote_client) in
     let host = c.close_link-2.ensures.link ∙ ap (λ (r : Bool). closed_if r Host (g.D.Doors.link c.close_link.new.doors Host)) c.refuses.ensures
     ∙ ap (λ (l : Link). closed_if rh Host l) (c.close_link.ensures.other ∙ wrote_host) in
@@ -80,13 +81,13 @@ returns-in-Ok-clause-course g c = λ first k f.
     let prepared = c.in_ok-prepare.ensures.prepared first k.events f.stands_for in
     let up_client = ap (λ (k : Kept). k.client_up) c.in_ok-prepare.ensures.kept ∙ f.client_up in
     let up_host = ap (λ (k : Kept). k.host_up) c.in_ok-prepare.ensures.kept ∙ f.host_up in
-    let rc = refuses Client sent.refusals in
+    let rc = refuses Client sent.refusals || sent.lets_go in
     let rh = refuses Host sent.refusals in
     let wrote_client = c.in_ok-write_link.ensures.link ∙ ap (λ (b : List ℕ). wrote_if c.prepare.new.self.kept.client_up b (g.D.Doors.link c.args.doors.now Client)) c.as_slice.ensures in
     let wrote_host = c.in_ok-write_link-2.ensures.link
     ∙ ap (λ (b : List ℕ). wrote_if c.prepare.new.self.kept.host_up b (g.D.Doors.link c.write_link.new.doors Host)) c.as_slice-2.ensures
     ∙ ap (λ (l : Link). wrote_if c.prepare.new.self.kept.host_up sent.to_host l) c.in_ok-write_link.ensures.other in
-    let client = c.close_link-2.ensures.other ∙ c.close_link.ensures.link ∙ ap (λ (r : Bool). closed_if r Client (g.D.Doors.link c.write_link-2.new.doors Client)) c.refuses-refused.ensures
+    let client = c.close_link-2.ensures.other ∙ c.close_link.ensures.link ∙ ap (λ (r : Bool). closed_if r Client (g.D.Doors.link c.write_link-2.new.doors Client)) c.drops_client-dropped.ensures
     ∙ ap (λ (l : Link). closed_if rc Client l) (c.in_ok-write_link-2.ensures.other ∙ wrote_client) in
     let host = c.close_link-2.ensures.link ∙ ap (λ (r : Bool). closed_if r Host (g.D.Doors.link c.close_link.new.doors Host)) c.refuses.ensures
     ∙ ap (λ (l : Link). closed_if rh Host l) (c.close_link.ensures.other ∙ wrote_host) in
@@ -94,14 +95,16 @@ returns-in-Ok-clause-course g c = λ first k f.
     let shows_client = put-client p k e sent lines (g.D.Doors.link c.args.doors.now Client) (g.D.Doors.link c.close_link-2.new.doors Client) c.prepare.new.self.kept.client_up prepared f.tells.client up_client client in
     let shows_host = put-host p k e sent lines (g.D.Doors.link c.args.doors.now Host) (g.D.Doors.link c.close_link-2.new.doors Host) c.prepare.new.self.kept.host_up prepared f.tells.host up_host host in (
       put-follows (g.C.Served.stands first c.prepare.new.self.core) p c.args.self.now.kept c.refuse.new.self (outside (g.D.Doors.link c.args.doors.now) (g.D.Doors.door c.args.doors.now)) (outside (g.D.Doors.link c.close_link-2.new.doors) (g.D.Doors.door c.close_link-2.new.doors)) (g.K.Sink.contents c.args.out.now) (g.K.Sink.contents c.write_all.new.sink) k e sent lines
-          (g.C.Served.stands first c.args.self.now.core) f prepared (c.in_ok-prepare.ensures.stands first k.events f.stands_for) (c.refuse.ensures ∙ ap (refusing sent.refusals) c.in_ok-prepare.ensures.kept) shows_client shows_host door
+          (g.C.Served.stands first c.args.self.now.core) f prepared (c.in_ok-prepare.ensures.stands first k.events f.stands_for) (c.refuse.ensures ∙ ap (refusing sent.refusals sent.lets_go) c.in_ok-prepare.ensures.kept) shows_client shows_host door
           (subst (λ (b : List ℕ). Appends (g.K.Sink.contents c.args.out.now) (g.K.Sink.contents c.write_all.new.sink) b) c.as_slice-3.ensures c.in-Ok.ensures.ok),
-      c.refuses-refused.ensures ∙ ap (refuses Client) prepared.refusals,
+      c.drops_client-dropped.ensures ∙ dropped-is p k.events e sent lines prepared,
     )
 
 pub returns-in-Ok-clause-quiet : goal.returns-in-Ok-clause-quiet
 returns-in-Ok-clause-quiet g c = λ quiet.
-    let none = c.in_ok-prepare.ensures.quiet quiet in (
-      c.refuses-refused.ensures ∙ ap (refuses Client) none,
-      refusing-none c.prepare.new.self.sent.refusals c.args.self.now.kept c.refuse.new.self none (c.refuse.ensures ∙ ap (refusing c.prepare.new.self.sent.refusals) c.in_ok-prepare.ensures.kept),
+    let sent = c.prepare.new.self.sent in
+    let none = c.in_ok-prepare.ensures.quiet quiet in
+    let stays = c.in_ok-prepare.ensures.stays quiet in (
+      c.drops_client-dropped.ensures ∙ ap (λ (rs : List Refusal). refuses Client rs || sent.lets_go) none ∙ stays,
+      refusing-none sent.refusals sent.lets_go c.args.self.now.kept c.refuse.new.self none stays (c.refuse.ensures ∙ ap (refusing sent.refusals sent.lets_go) c.in_ok-prepare.ensures.kept),
     )

@@ -15,7 +15,7 @@ Word = Need × Option (Bor (List ℕ))
 
 abbrev words_of : Row → Given → List Word
 words_of row g =
-    (row.number, g.number) ∷ (row.device, g.device) ∷ (row.side, g.side) ∷ (row.host, g.host) ∷ (row.listen, g.listen) ∷ (row.idle, g.idle) ∷ (row.first_id, g.first_id) ∷ []
+    (row.number, g.number) ∷ (row.device, g.device) ∷ (row.side, g.side) ∷ (row.host, g.host) ∷ (row.listen, g.listen) ∷ (row.idle, g.idle) ∷ (row.first_id, g.first_id) ∷ (row.after_loss, g.after_loss) ∷ []
 
 abbrev passes : Word → Bool
 passes word = admits word.0 (is_some word.1)
@@ -32,7 +32,8 @@ met row g given h =
     let host = given-some g.host _ h.host in
     let listen = given-some g.listen _ h.listen in
     let idle = given-some g.idle _ h.idle in
-    let first_id = given-some g.first_id _ h.first_id in cc
+    let first_id = given-some g.first_id _ h.first_id in
+    let after_loss = given-some g.after_loss _ h.after_loss in cc
 
 pub returns : goal.returns
 returns c = λ given h.

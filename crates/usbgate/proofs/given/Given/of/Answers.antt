@@ -15,4 +15,5 @@ returns c =
       listen = c.get_str-6.ensures ∙ first_value-rows found (codes "listen");
       idle = c.get_str-7.ensures ∙ first_value-rows found (codes "idle");
       first_id = c.get_str-8.ensures ∙ first_value-rows found (codes "first-id");
+      after_loss = c.get_str-9.ensures ∙ first_value-rows found (codes "after-loss");
     }
