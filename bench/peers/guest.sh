@@ -1,0 +1,216 @@
+#!/bin/busybox sh
+# The init of a guest of bench/peers/run. It loads what its role needs, brings its network up, plays the sessions of its
+# role, and ends the machine. Each step is a line '@@ ok STEP: what was seen' or '@@ FAILED STEP: ..' on the console.
+/bin/busybox --install -s /bin
+export PATH=/bin:/sbin:/usr/bin:/usr/sbin
+mount -t proc proc /proc
+mount -t sysfs sys /sys
+mount -t devtmpfs dev /dev
+mkdir -p /run /var/run /dev/bus/usb
+GATEWAY=10.0.2.2
+
+say() { echo "@@ $*"; }
+
+# step NAME COMMAND..: runs it, and tells how it went, with the last line that it printed.
+step() {
+    local told=$1
+    shift
+    if "$@" < /dev/null > /tmp/said 2>&1; then
+        say "ok $told: $(tail -n 1 /tmp/said | cut -c 1-100)"
+    else
+        say "FAILED $told: $(tail -n 3 /tmp/said | tr '\n' ' ' | cut -c 1-200)"
+        return 1
+    fi
+}
+
+# Waits for at most 30 seconds until the command succeeds.
+await() {
+    for _ in $(seq 150); do
+        "$@" > /dev/null 2>&1 && return
+        usleep 200000
+    done
+    echo "not within 30 seconds: $*"
+    return 1
+}
+
+# The folder of a device in sysfs, by vendor:product.
+folder_of() {
+    for found in /sys/bus/usb/devices/*/idVendor; do
+        found=${found%/idVendor}
+        [ "$(cat "$found/idVendor"):$(cat "$found/idProduct")" = "$1" ] && echo "$found" && return
+    done 2> /dev/null
+    return 1
+}
+
+node_of() {
+    found=$(folder_of "$1") || return 1
+    printf '/dev/bus/usb/%03d/%03d\n' "$(cat "$found/busnum")" "$(cat "$found/devnum")"
+}
+
+usbfs() {
+    node=$(node_of "$1") || { echo "there is no device $1"; return 1; }
+    shift
+    /usr/bin/usbfs "$node" "$@"
+}
+
+is_gone() { ! folder_of "$1"; }
+
+# The device's configuration is set, so that its interfaces and their drivers are there.
+is_up() { found=$(folder_of "$1") && [ -n "$(cat "$found/bConfigurationValue" 2> /dev/null)" ]; }
+
+disk() { ls /dev/sd[a-z] 2> /dev/null | head -n 1; }
+
+has_disk() { [ -b "$(disk)" ] && [ "$(cat "/sys/block/$(basename "$(disk)")/size")" -gt 0 ]; }
+
+# Writes a mebibyte to the disk, and reads it back past the system's cache.
+copy_disk() {
+    await has_disk || return
+    dd if=/dev/urandom of=/tmp/written bs=64k count=16 2> /dev/null &&
+        dd if=/tmp/written of="$(disk)" bs=64k conv=fsync 2> /dev/null &&
+        echo 3 > /proc/sys/vm/drop_caches &&
+        dd if="$(disk)" of=/tmp/read bs=64k count=16 2> /dev/null &&
+        cmp /tmp/written /tmp/read && echo "a mebibyte was written, and read back"
+}
+
+# The report of a key that bench/peers/run presses once it reads this.
+press_key() {
+    say "keys" > /dev/console
+    usbfs "$1" interrupt 0x81 8 1
+}
+
+# transfers KIND ID, and the rest of what a device of the kind can do
+transfers() {
+    case $1 in
+        keyboard) usbfs "$2" interrupt 0x81 8 3 ;;
+        loop) usbfs "$2" loop 0x01 0x81 512 && usbfs "$2" loop 0x01 0x81 16384 && usbfs "$2" loop 0x01 0x81 65536 ;;
+        tone) usbfs "$2" iso 0 1 0x81 192 ;;
+        disk) copy_disk ;;
+        keys) press_key "$2" ;;
+        sound) usbfs "$2" iso 1 1 0x01 192 ;;
+    esac
+}
+
+unlinks() {
+    case $1 in
+        loop) usbfs "$2" unlink 3 0x81 512 ;;
+        keys) usbfs "$2" unlink 1 0x81 8 ;;
+        *) echo "none: no transfer of its waits" ;;
+    esac
+}
+
+# What is done with a device that has come, whichever way: it is enumerated, moves data, is reset, moves data again, and
+# has a transfer taken back.
+use() {
+    step "$1: enumerates" usbfs "$2" descriptors
+    step "$1: transfers" transfers "$3" "$2"
+    step "$1: resets" usbfs "$2" reset
+    step "$1: transfers behind the reset" transfers "$3" "$2"
+    step "$1: unlinks" unlinks "$3" "$2"
+}
+
+attach() {
+    usbip --tcp-port "$1" attach -r $GATEWAY -b 1-1 && await is_up "$2"
+}
+
+lists() {
+    usbip --tcp-port "$1" list -r $GATEWAY > /tmp/listed 2>&1
+    grep "$2" /tmp/listed
+}
+
+detach() {
+    local port
+    port=$(usbip port 2> /dev/null | sed -n 's/^Port \([0-9]*\): <Port in Use>.*/\1/p' | head -n 1)
+    usbip detach -p "$port" && await is_gone "$1"
+}
+
+# A client of the gateway: attach, use, detach, and come again.
+client_session() {
+    step "$1: lists" lists "$2" "$3" || return
+    step "$1: attaches" attach "$2" "$3" || return
+    step "$1: port" sh -c "usbip port 2>/dev/null | grep '<Port in Use>'"
+    use "$1" "$3" "$4"
+    step "$1: detaches" detach "$3"
+    step "$1: attaches again" attach "$2" "$3" || return
+    step "$1: transfers again" transfers "$4" "$3"
+    step "$1: detaches again" detach "$3"
+}
+
+# A report that is waited for ends with ESHUTDOWN, once the host's machine has been killed.
+sees_loss() {
+    say "kill the host" > /dev/console
+    usbfs "$1" interrupt 0x81 8 1 > /tmp/lost
+    cat /tmp/lost
+    grep -q 'endpoint shutdown' /tmp/lost
+}
+
+network() {
+    for _ in $(seq 100); do
+        [ -d /sys/class/net/eth0 ] && break
+        usleep 100000
+    done
+    ifconfig lo up
+    ifconfig eth0 10.0.2.15 netmask 255.255.255.0 up
+}
+
+load() { for module in "$@"; do modprobe "$module" || say "FAILED: no module $module"; done; }
+
+. /session
+load virtio_pci virtio_net xhci-pci usb-storage sd_mod
+network
+case $ROLE in
+    host)
+        # usbredirect takes each device from this kernel, and offers it at a port of its own.
+        echo "$DEVICES" | while read -r name port id kind; do
+            [ -n "$name" ] || continue
+            await is_up "$id"
+            ( while :; do usbredirect --device "$id" --as "0.0.0.0:$port"; sleep 1; done ) > "/tmp/$name" 2>&1 &
+            say "ok $name: is offered at port $port"
+        done
+        say "ready"
+        while :; do sleep 60; done
+        ;;
+    client)
+        load vhci-hcd
+        echo "$DEVICES" | while read -r name port id kind; do
+            [ -z "$name" ] || client_session "$name" "$port" "$id" "$kind"
+        done
+        ;;
+    stays)
+        # attaches, leaves a transfer in flight, and waits to be killed
+        load vhci-hcd
+        echo "$DEVICES" | while read -r name port id kind; do
+            [ -n "$name" ] || continue
+            step "$name: attaches" attach "$port" "$id"
+            step "$name: transfers" transfers "$kind" "$id"
+            # with a transfer that waits, or amid transfers without end
+            if [ "$kind" = loop ]; then
+                usbfs "$id" unlink 3 0x81 512 > /dev/null 2>&1
+                ( usbfs "$id" interrupt 0x81 512 1 ) > /dev/null 2>&1 &
+            else
+                ( while :; do transfers "$kind" "$id"; done ) > /dev/null 2>&1 &
+            fi
+        done
+        sleep 2
+        say "kill me"
+        sleep 600
+        ;;
+    loses)
+        load vhci-hcd
+        echo "$DEVICES" | while read -r name port id kind; do
+            [ -n "$name" ] || continue
+            step "$name: attaches" attach "$port" "$id"
+            step "$name: a read that waits is answered once the host is gone" sees_loss "$id"
+            step "$name: detaches" detach "$id"
+        done
+        ;;
+    machine)
+        # a virtual machine that has the devices by its own usb-redir
+        echo "$DEVICES" | while read -r name port id kind; do
+            [ -n "$name" ] || continue
+            step "$name: is there" await is_up "$id" && use "$name" "$id" "$kind"
+        done
+        ;;
+esac
+say "end"
+sync
+reboot -f
