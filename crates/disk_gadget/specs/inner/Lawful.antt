@@ -13,7 +13,7 @@ use Rattle.control_route.specs.Changes.{is_change}
 use Rattle.chapter9.specs.Requests.{is_request}
 use Rattle.chapter9.specs.Standard.{stall, success}
 use Rattle.model_device.specs.Transfer.{IsTransfer, IsOutcome, asks_change, is_in_setup, setup_changes}
-use Rattle.model_device.specs.Gadget.{IsGadget, SameFacts, is_get_configuration, is_port_reset}
+use Rattle.model_device.specs.Gadget.{IsGadget, IsNamed, SameFacts, is_get_configuration, is_port_reset}
 use Rattle.model_device.specs.Device.{State, device_parts, is_running, meaning_of, perform}
 use Rattle.model_device.specs.inner.Lawful.{lawful, stall_outcome}
 use Rattle.model_device.specs.inner.Tables.{no_iso_out}
@@ -24,7 +24,7 @@ use Rattle.disk_gadget.specs.Accesses.{count_of}
 use Rattle.disk_gadget.specs.Descriptors.{described}
 use Rattle.disk_gadget.specs.DiskStep.{DiskState, both_halted, bulk_turn, class_request, disk, disk_step, no_access, on_blocks, setup_done, step_by, turned}
 use Rattle.disk_gadget.specs.Turns.{Turn}
-use Rattle.disk_gadget.specs.inner.Outcomes.{turn_is_outcome}
+use Rattle.disk_gadget.specs.inner.Outcomes.{turn_is_named, turn_is_outcome}
 
 -- ---- what it is on endpoint 0 is a device
 
@@ -34,7 +34,7 @@ endpoints = refl
 
 base : IsGadget (meaning_of described)
 unfolding described
-base = lawful described (record { outcomes = λ course t it e. stall_outcome t; packets = λ course ep. tt; endpoints = endpoints })
+base = lawful described (record { outcomes = λ course t it e. stall_outcome t; packets = λ course ep. tt; named = λ course t. refl; packets_named = λ course ep. tt; endpoints = endpoints })
 
 -- ---- the requests of the class are none of the others
 
@@ -154,6 +154,20 @@ outcomes_by : (d : DiskState) (t : Transfer) (o : Option Setup) → IsTransfer t
 outcomes_by d t None it e = of_bulk d t (λ done. IsOutcome t done.1) e (turn_is_outcome d t it) (stall_outcome t)
 outcomes_by d t (Some r) it e = setup_outcome d t r (class_request r) it e refl
 
+-- ---- statuses
+
+class_named : (d : DiskState) (t : Transfer) (r : Setup) (x : ClassRequest) → IfSome (on_blocks d.blocks (Some (no_access (setup_done d.state t r (Some x))))) (λ done. IsNamed done.1.status)
+class_named d t r Reset = refl
+class_named d t r MaxLun = refl
+
+setup_named : (d : DiskState) (t : Transfer) (r : Setup) (x : Option ClassRequest) → IsTransfer t → t.setup ≡ Some r → class_request r ≡ x → IfSome (disk_step d t) (λ done. IsNamed done.1.status)
+setup_named d t r None it e c = other d t r (λ done. IsNamed done.1.status) (λ done. IsNamed done.1.status) e c (λ done k. k) (base.named d.state t it)
+setup_named d t r (Some x) it e c = of_class d t r x (λ done. IsNamed done.1.status) e c (class_named d t r x)
+
+named_by : (d : DiskState) (t : Transfer) (o : Option Setup) → IsTransfer t → t.setup ≡ o → IfSome (disk_step d t) (λ done. IsNamed done.1.status)
+named_by d t None it e = of_bulk d t (λ done. IsNamed done.1.status) e (turn_is_named d t) refl
+named_by d t (Some r) it e = setup_named d t r (class_request r) it e refl
+
 pub disk_lawful : IsGadget disk
 disk_lawful = record {
   ready = λ d t it c. ready_by d t t.setup (it.has_setup ∙ c);
@@ -166,4 +180,6 @@ disk_lawful = record {
   few_interfaces = λ d. base.few_interfaces d.state;
   outcomes = λ d t it. outcomes_by d t t.setup it refl;
   packets = λ d ep. tt;
+  named = λ d t it. named_by d t t.setup it refl;
+  offer_named = λ d ep. tt;
 }

@@ -1,4 +1,4 @@
--- What comes of transfers of the bulk endpoints is within what they want.
+-- What comes of transfers of the bulk endpoints is within what they want, and has a status that its byte names.
 use Rattle.std.proofs.Common.{◌≡◌, ℕ, ◌+◌, ◌*◌, ◌≤◌, true, false, List, [], length, take, drop, min, Option, Some, None, refl, sym, ◌∙◌, arith}
 use Rattle.std.specs.Prelude.{◌==◌, nat_lt, IfSome}
 use Rattle.std.proofs.lemmas.Bool.{false≢true, cond_both, ltb-false}
@@ -7,6 +7,7 @@ use Rattle.usb_base.specs.Endpoint.{is_in_endpoint}
 use Rattle.usb_base.specs.Number.{le, part}
 use Rattle.usb_base.specs.declared.transfer.Transfer.{Transfer}
 use Rattle.chapter9.specs.Standard.{success}
+use Rattle.model_device.specs.Gadget.{IsNamed}
 use Rattle.model_device.specs.Transfer.{IsTransfer, IsOutcome}
 use Rattle.model_device.specs.inner.Lawful.{stall_outcome}
 use Rattle.disk_gadget.specs.declared.report.Report.{Report}
@@ -77,3 +78,48 @@ turn_is_outcome d t it =
     fine_turned d t (bulk_turn (count_of d.blocks) d.state.kept t)
     (cond_both (is_in_endpoint t.ep) (given_by d.state.kept.sense t.wanted d.state.kept.stage) (taken_by (count_of d.blocks) d.state.kept.sense t.body d.state.kept.stage) (IsFine d.blocks t)
     (λ e. given_by_fine d.blocks d.state.kept.sense t d.state.kept.stage e) (λ e. taken_by_fine d.blocks (count_of d.blocks) d.state.kept.sense t d.state.kept.stage it e))
+
+-- ---- statuses: each of them succeeds or stalls
+
+abbrev IsTold : List ℕ → Option Turn → Type 0
+IsTold blocks o = IfSome o (λ turn. IsNamed (outcome_in blocks turn.reply).status)
+
+begun_told : (blocks : List ℕ) (n : ℕ) (sense : Option Sense) (body : List ℕ) (w : Option Wrapper) → IsNamed (outcome_in blocks (begun n sense body w).reply).status
+begun_told blocks n sense body None = refl
+begun_told blocks n sense body (Some w) =
+    cond_both (w.length == 0) (acted n sense w [] body) _ (λ turn. IsNamed (outcome_in blocks turn.reply).status) (λ h. refl)
+    (λ h. cond_both w.is_in (answering n sense w body) (gathering sense w [] body) (λ turn. IsNamed (outcome_in blocks turn.reply).status) (λ k. refl) (λ k. refl))
+
+gathered_told : (blocks : List ℕ) (n : ℕ) (sense : Option Sense) (body : List ℕ) (w : Wrapper) (bytes : List ℕ) → IsNamed (outcome_in blocks (gathered n sense w bytes body).reply).status
+gathered_told blocks n sense body w bytes =
+    cond_both (nat_lt w.length (length bytes + length body)) (refused _) _ (λ turn. IsNamed (outcome_in blocks turn.reply).status) (λ h. refl)
+    (λ h. cond_both (length bytes + length body == w.length) (acted n sense w _ body) (gathering sense w _ body) (λ turn. IsNamed (outcome_in blocks turn.reply).status) (λ k. refl) (λ k. refl))
+
+taken_by_told : (blocks : List ℕ) (n : ℕ) (sense : Option Sense) (body : List ℕ) (stage : Stage) → IsTold blocks (taken_by n sense body stage)
+taken_by_told blocks n sense body Waits = begun_told blocks n sense body (wrapper_of body)
+taken_by_told blocks n sense body (Gathers w bytes) = gathered_told blocks n sense body w bytes
+taken_by_told blocks n sense body (Gives answer r) = tt
+taken_by_told blocks n sense body (Reports r) = tt
+
+answer_told : (blocks : List ℕ) (answer : Answer) (n : ℕ) → IsNamed (outcome_in blocks (given_of n answer)).status
+answer_told blocks (Text rest) n = refl
+answer_told blocks (Blocks block given left) n = refl
+
+reported_told : (blocks : List ℕ) (sense : Option Sense) (wanted : ℕ) (r : Report) → IsNamed (outcome_in blocks (reported sense wanted r).reply).status
+reported_told blocks sense wanted r = cond_both (nat_lt wanted 13) (refused _) _ (λ turn. IsNamed (outcome_in blocks turn.reply).status) (λ h. refl) (λ h. refl)
+
+given_by_told : (blocks : List ℕ) (sense : Option Sense) (wanted : ℕ) (stage : Stage) → IsTold blocks (given_by sense wanted stage)
+given_by_told blocks sense wanted Waits = tt
+given_by_told blocks sense wanted (Gathers w bytes) = tt
+given_by_told blocks sense wanted (Gives answer r) = answer_told blocks answer (min wanted (left_of answer))
+given_by_told blocks sense wanted (Reports r) = reported_told blocks sense wanted r
+
+told_turned : (d : DiskState) (o : Option Turn) → IsTold d.blocks o → IfSome (on_blocks d.blocks (turned d.state.device o)) (λ done. IsNamed done.1.status)
+told_turned d None h = tt
+told_turned d (Some turn) h = h
+
+pub turn_is_named : (d : DiskState) (t : Transfer) → IfSome (on_blocks d.blocks (turned d.state.device (bulk_turn (count_of d.blocks) d.state.kept t))) (λ done. IsNamed done.1.status)
+turn_is_named d t =
+    told_turned d (bulk_turn (count_of d.blocks) d.state.kept t)
+    (cond_both (is_in_endpoint t.ep) (given_by d.state.kept.sense t.wanted d.state.kept.stage) (taken_by (count_of d.blocks) d.state.kept.sense t.body d.state.kept.stage) (IsTold d.blocks)
+    (λ e. given_by_told d.blocks d.state.kept.sense t.wanted d.state.kept.stage) (λ e. taken_by_told d.blocks (count_of d.blocks) d.state.kept.sense t.body d.state.kept.stage))
