@@ -19,6 +19,3 @@ pub use after_loss::AfterLoss;
 pub use lending::serve_host;
 pub use serve_end::ServeEnd;
 pub use serving::serve;
-
-#[cfg(test)]
-mod tests;

@@ -48,6 +48,3 @@ pub use laws::{
 pub use note::{Counts, Note, Notes};
 pub use request::Request;
 pub use verdict::{MAX_LIVE, Pipe, Verdict, decide};
-
-#[cfg(test)]
-mod tests;

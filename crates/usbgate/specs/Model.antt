@@ -12,11 +12,12 @@ use Rattle.model_device.specs.Keyboard.{keyboard}
 use Rattle.model_device.specs.Loopback.{loopback}
 use Rattle.model_device.specs.Meaning.{Meaning}
 use Rattle.model_device.specs.Tone.{tone}
+use Rattle.disk_gadget.specs.DiskStep.{disk, first_disk}
 use Rattle.direct_run.specs.Steps.{Step, Client, ClientEnd, ToHost, ToGate, Perform, Offer, Unplug}
 use Rattle.direct_run.specs.Trace.{told_first, told_by}
 use Rattle.direct_run.specs.World.{first_id, course}
 use Rattle.usbgate.specs.declared.lending.Device.{Device}
-use Rattle.usbgate.specs.declared.lending.Device.TheVariants.{Keyboard, Loopback, Tone}
+use Rattle.usbgate.specs.declared.lending.Device.TheVariants.{Keyboard, Loopback, Tone, Disk}
 use Rattle.usbgate.specs.Replay.{has_refusal}
 use Rattle.usbgate.specs.TapeCommand.{TapeCommand}
 use Rattle.usbgate.specs.Text.{told_text, counts_line}
@@ -57,6 +58,7 @@ abbrev pub model_of : Device → TapeCommand (List Step)
 model_of Keyboard = model (meaning_of keyboard) (first_state keyboard)
 model_of Loopback = model (meaning_of loopback) (first_state loopback)
 model_of Tone = model (meaning_of tone) (first_state tone)
+model_of Disk = model disk (first_disk 64)
 
 -- the line says something
 abbrev pub IsSaid : Option TapeLine → Type 0

@@ -13,8 +13,9 @@ use Rattle.model_device.specs.Device.{first_state, meaning_of}
 use Rattle.model_device.specs.Keyboard.{keyboard}
 use Rattle.model_device.specs.Loopback.{loopback}
 use Rattle.model_device.specs.Tone.{tone}
+use Rattle.disk_gadget.specs.DiskStep.{disk, first_disk}
 use Rattle.usbgate.specs.declared.lending.Device.{Device}
-use Rattle.usbgate.specs.declared.lending.Device.TheVariants.{Keyboard, Loopback, Tone}
+use Rattle.usbgate.specs.declared.lending.Device.TheVariants.{Keyboard, Loopback, Tone, Disk}
 use Rattle.usbgate.specs.declared.status.Status.{Status}
 use Rattle.usbgate.specs.declared.status.Status.TheVariants.{Done, Refused, WriteFault, LinkFault, OutOfMemory, Idle, Spent}
 use Rattle.usbgate.specs.Serving.{Asked}
@@ -33,6 +34,7 @@ abbrev pub device_sends : Device → Sends
 device_sends Keyboard = lent_sends (meaning_of keyboard) (first_state keyboard)
 device_sends Loopback = lent_sends (meaning_of loopback) (first_state loopback)
 device_sends Tone = lent_sends (meaning_of tone) (first_state tone)
+device_sends Disk = lent_sends disk (first_disk 64)
 
 abbrev pub setting_lent : AskedLent → Setting
 setting_lent asked = record { served = device_sends asked.device; idle = asked.idle }

@@ -86,6 +86,7 @@ device_of text =
     if bytes_eq text (codes "keyboard") then Some modelled.Keyboard
     else if bytes_eq text (codes "loop") then Some modelled.Loopback
     else if bytes_eq text (codes "tone") then Some modelled.Tone
+    else if bytes_eq text (codes "disk") then Some modelled.Disk
     else None
 
 abbrev pub lending_of : Option Device → (listen : Option Text) → (idle : Option ℕ) → Option AskedLent

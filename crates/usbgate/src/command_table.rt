@@ -60,6 +60,7 @@ pub const ROWS: [Row; 5] = [
         listen: Need::MustNot,
         idle: Need::MustNot,
         first_id: Need::MustNot,
+        after_loss: Need::MustNot,
     },
     Row {
         verb: Verb::Show,

@@ -7,10 +7,11 @@ ghost use Rattle.bridge_run.specs.Lent.{lent_sends};
 ghost use Rattle.bridge_run.specs.Outside.{outside};
 ghost use Rattle.usbgate.specs.Serves.{EndsOf, Lends};
 
-use crate::lending::{Device, Lending};
+use crate::lending::{BLOCKS, Device, Lending};
 use crate::serve::BUDGET;
 use crate::status::Status;
 use bridge_run::serve_host;
+use disk_gadget::Disk;
 use gate_outside::{Doors, Sink};
 use model_device::{Gadget, Keyboard, Loopback, Tone};
 use std::alloc::Global;
@@ -39,6 +40,10 @@ pub fn host<D: Doors, K: Sink>(
         },
         Device::Tone => match Tone::make(alloc) {
             Ok(tone) => lend(alloc, tone, lending, doors, out),
+            Err(_) => Status::OutOfMemory,
+        },
+        Device::Disk => match Disk::make(alloc, BLOCKS) {
+            Ok(disk) => lend(alloc, disk, lending, doors, out),
             Err(_) => Status::OutOfMemory,
         },
     }

@@ -5,12 +5,16 @@ ghost use Rattle.usbgate.specs.Words.{device_of};
 
 use std::marker::Model;
 
+/// How many blocks of 512 bytes a disk has.
+pub const BLOCKS: u32 = 64;
+
 /// The modelled devices.
 #[derive(Clone, Copy, Debug, PartialEq, Eq)]
 pub enum Device {
     Keyboard,
     Loopback,
     Tone,
+    Disk,
 }
 
 impl Device {
@@ -22,6 +26,7 @@ impl Device {
             "keyboard" => Some(Device::Keyboard),
             "loop" => Some(Device::Loopback),
             "tone" => Some(Device::Tone),
+            "disk" => Some(Device::Disk),
             _ => None,
         }
     }

@@ -27,6 +27,3 @@ pub use pace::pace_of;
 pub use program::run;
 pub use status::Status;
 pub use wrong::{COMMANDS, Wrong, wrong_with};
-
-#[cfg(test)]
-mod tests;

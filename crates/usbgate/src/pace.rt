@@ -2,9 +2,10 @@
 
 ghost use Rattle.model_device.specs.Transfer.{IsTransfer};
 
-use crate::lending::Device;
+use crate::lending::{BLOCKS, Device};
 use crate::words::Command;
 use chapter9::{Part, WalkError, walk};
+use disk_gadget::Disk;
 use model_device::{Gadget, Keyboard, Loopback, Tone};
 use std::alloc::Global;
 use std::time::Duration;
@@ -18,6 +19,7 @@ pub fn pace_of(alloc: Global, words: &[&str]) -> Result<Option<Duration>, Memory
             Device::Keyboard => shortest(alloc, Keyboard::make(alloc)?),
             Device::Loopback => shortest(alloc, Loopback::make(alloc)?),
             Device::Tone => shortest(alloc, Tone::make(alloc)?),
+            Device::Disk => shortest(alloc, Disk::make(alloc, BLOCKS)?),
         },
         _ => Ok(None),
     }

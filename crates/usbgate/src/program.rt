@@ -22,7 +22,7 @@ ghost use Rattle.usbgate.specs.inner.TapeReader.{Stage};
 
 use crate::event_tape::EventTape;
 use crate::host::host;
-use crate::lending::Device;
+use crate::lending::{BLOCKS, Device};
 use crate::model::ModelRun;
 use crate::replay::Replay;
 use crate::serve::serve;
@@ -33,6 +33,7 @@ use crate::tape_command::TapeCommand;
 use crate::tape_reader::TapeReader;
 use crate::text::USAGE;
 use crate::words::Command;
+use disk_gadget::Disk;
 use gate_outside::{Doors, Sink, Source, write_all};
 use model_device::{Gadget, Keyboard, Loopback, Tone};
 use redir_data::FromHost;
@@ -132,6 +133,10 @@ fn model<S: Source, K: Sink>(alloc: Global, device: Device, tape: &mut S, out: &
         },
         Device::Tone => match Tone::make(alloc) {
             Ok(tone) => model_with(alloc, tone, tape, out),
+            Err(_) => Status::OutOfMemory,
+        },
+        Device::Disk => match Disk::make(alloc, BLOCKS) {
+            Ok(disk) => model_with(alloc, disk, tape, out),
             Err(_) => Status::OutOfMemory,
         },
     }

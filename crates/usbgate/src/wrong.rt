@@ -11,9 +11,10 @@ use usb_base::Memory;
 /// The commands, each with its words, a line each.
 pub const COMMANDS: &str = "commands:
   replay [--first-id N]
+  model --device keyboard|loop|tone|disk
   show --side client|host
   serve --host ADDR --listen ADDR --idle N [--first-id N] [--after-loss keep|close]
-  host --device keyboard|loop|tone --listen ADDR --idle N
+  host --device keyboard|loop|tone|disk --listen ADDR --idle N
 ";
 
 /// Why words are no command.

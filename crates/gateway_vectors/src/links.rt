@@ -1,0 +1,99 @@
+//! Runs between links in memory, and what they leave.
+
+use crate::how::How;
+use crate::runs::Came;
+use crate::scripts::{script_of, scripts_of};
+use crate::spend::spend;
+use gate_outside::{Script, ScriptDoors, Scripts, Side, TextSink, TextSource};
+use std::alloc::Global;
+use usb_base::Memory;
+use usbgate::{Status, run};
+
+/// How many bytes can be written to each side.
+const ROOM: usize = 65_536;
+
+/// Runs the words between links that give what these lines say, over a tape that can't be read.
+pub fn ran_between(alloc: Global, words: &[&str], lines: &str, how: &How) -> Result<Came, Memory> {
+    let mut tape = TextSource::make(alloc, b"c 00\n", 9, &[0])?;
+    with_tape(alloc, words, lines, how, &mut tape)
+}
+
+fn with_tape(
+    alloc: Global,
+    words: &[&str],
+    lines: &str,
+    how: &How,
+    tape: &mut TextSource,
+) -> Result<Came, Memory> {
+    let fails = how.write_fails;
+    let mut out = TextSink::make(alloc, how.room, how.write_by.max(1), fails.as_slice())?;
+    with_out(alloc, words, lines, how, tape, &mut out)
+}
+
+fn with_out(
+    alloc: Global,
+    words: &[&str],
+    lines: &str,
+    how: &How,
+    tape: &mut TextSource,
+    out: &mut TextSink,
+) -> Result<Came, Memory> {
+    let host = script_of(alloc, lines, "h ")?;
+    let clients = scripts_of(alloc, lines)?;
+    between(alloc, words, host, clients, how, tape, out)
+}
+
+fn between(
+    alloc: Global,
+    words: &[&str],
+    host: Script,
+    clients: Scripts,
+    how: &How,
+    tape: &mut TextSource,
+    out: &mut TextSink,
+) -> Result<Came, Memory> {
+    let (host_fails, client_fails) = (how.host_fails, how.client_fails);
+    let mut doors = ScriptDoors::make_many(
+        alloc,
+        ROOM,
+        host,
+        clients,
+        host_fails.as_slice(),
+        client_fails.as_slice(),
+    )?;
+    let status = match how.budget {
+        Some(budget) => spend(alloc, words, budget.max(1), &mut doors, out),
+        None => run(alloc, words, tape, out, &mut doors),
+    };
+    left(alloc, status, &doors, out)
+}
+
+/// What was written to each side, and then what was printed.
+fn left(
+    alloc: Global,
+    status: Status,
+    doors: &ScriptDoors,
+    out: &TextSink,
+) -> Result<Came, Memory> {
+    let mut text = String::new(alloc);
+    push_written(alloc, &mut text, "C ", doors.written(Side::Client))?;
+    push_written(alloc, &mut text, "H ", doors.written(Side::Host))?;
+    text.push_str(String::from_utf8_lossy(alloc, out.held())?.as_str())?;
+    Ok(Came {
+        text,
+        status,
+        is_joined: true,
+    })
+}
+
+fn push_written(
+    alloc: Global,
+    text: &mut String,
+    letter: &str,
+    written: &[u8],
+) -> Result<(), Memory> {
+    text.push_str(letter)?;
+    text.push_str(hex::encode(alloc, written)?.as_str())?;
+    text.push('\n')?;
+    Ok(())
+}

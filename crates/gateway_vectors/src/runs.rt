@@ -1,0 +1,57 @@
+//! Runs over a tape.
+
+use crate::cut::cut_tape;
+use crate::how::How;
+use crate::links::ran_between;
+use gate_outside::{NoDoors, TextSink, TextSource};
+use std::alloc::Global;
+use usb_base::Memory;
+use usbgate::{Status, run};
+
+/// What a run printed, whether of its text only the bytes of each side are compared, and how it ended.
+#[derive(Drop)]
+pub struct Came {
+    pub text: String,
+    pub is_joined: bool,
+    pub status: Status,
+}
+
+/// Runs the words: `serve` and `host` between links that give what the lines say, others over a tape of these lines.
+pub fn ran(alloc: Global, words: &[&str], lines: &str, how: &How) -> Result<Came, Memory> {
+    match words {
+        ["serve" | "host", ..] => ran_between(alloc, words, lines, how),
+        _ => ran_over(alloc, words, lines, how),
+    }
+}
+
+fn ran_over(alloc: Global, words: &[&str], lines: &str, how: &How) -> Result<Came, Memory> {
+    match how.cut {
+        Some(later) => {
+            let cut = cut_tape(alloc, lines, how.first.unwrap_or(later), later)?;
+            over_tape(alloc, words, &cut, how)
+        }
+        None => over_tape(alloc, words, lines.as_bytes(), how),
+    }
+}
+
+fn over_tape(alloc: Global, words: &[&str], tape: &[u8], how: &How) -> Result<Came, Memory> {
+    let fails = how.read_fails;
+    let mut source = TextSource::make(alloc, tape, how.read_by.max(1), fails.as_slice())?;
+    over_source(alloc, words, &mut source, how)
+}
+
+fn over_source(
+    alloc: Global,
+    words: &[&str],
+    source: &mut TextSource,
+    how: &How,
+) -> Result<Came, Memory> {
+    let fails = how.write_fails;
+    let mut out = TextSink::make(alloc, how.room, how.write_by.max(1), fails.as_slice())?;
+    let status = run(alloc, words, source, &mut out, &mut NoDoors::new());
+    Ok(Came {
+        text: String::from_utf8_lossy(alloc, out.held())?,
+        is_joined: how.cut.is_some(),
+        status,
+    })
+}

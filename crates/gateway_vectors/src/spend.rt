@@ -1,0 +1,41 @@
+//! Serving until so many bytes and links have come, for which no words ask.
+
+ghost use Rattle.std.specs.Prelude.{◌≡◌, ◌≤◌, false};
+ghost use Rattle.usb_base.specs.declared.side.Side.TheVariants.{Client, Host};
+
+use bridge_run::{serve, serve_host};
+use gate_outside::{Doors, Sink};
+use model_device::Loopback;
+use std::alloc::Global;
+use usbgate::Status;
+
+/// Serves as `serve` does, or lends a loop as `host` does, until so many bytes and links have come, or five rounds in a
+/// row bring nothing.
+pub fn spend<D: Doors, K: Sink>(
+    alloc: Global,
+    words: &[&str],
+    budget: u64,
+    doors: &mut D,
+    out: &mut K,
+) -> Status
+    requires client_down { (D.link doors.old Client).up ≡ false }
+    requires host_down { (D.link doors.old Host).up ≡ false }
+    requires budget { 1 ≤ budget }
+{
+    match words {
+        ["serve"] => Status::from(serve(alloc, "a:1", "b:2", 5, budget, 1, doors, out)),
+        ["host"] => lend(alloc, budget, doors, out),
+        _ => Status::Usage,
+    }
+}
+
+fn lend<D: Doors, K: Sink>(alloc: Global, budget: u64, doors: &mut D, out: &mut K) -> Status
+    requires client_down { (D.link doors.old Client).up ≡ false }
+    requires host_down { (D.link doors.old Host).up ≡ false }
+    requires budget { 1 ≤ budget }
+{
+    match Loopback::make(alloc) {
+        Ok(device) => Status::from(serve_host(alloc, device, "b:1", 5, budget, doors, out)),
+        Err(_) => Status::OutOfMemory,
+    }
+}
