@@ -1,12 +1,12 @@
 -- The bytes on the wires and what is told are those of the gateway's history and of the host's.
-use Rattle.std.proofs.Common.{◌≡◌, ℕ, zero, suc, ◌+◌, ◌≤◌, List, [], ◌∷◌, ◌++◌, length, take, drop, Result, Ok, Err, refl, sym, ap, ◌∙◌, subst, append-nil, append_assoc, arith}
-use Rattle.std.specs.Result.{IfOk, OnOk}
+use Rattle.std.proofs.Common.{◌≡◌, ℕ, zero, suc, ◌≤◌, List, [], ◌∷◌, ◌++◌, length, take, drop, Result, Ok, Err, refl, sym, ap, ◌∙◌, subst, append_assoc, arith}
+use Rattle.std.specs.Result.{IfOk}
 use Rattle.std.specs.List.{flat_map}
 use Rattle.std.proofs.lemmas.List.{append_cancel_left, drop-append-le, length-append, length-drop, drop-drop, take-append-drop}
 use Rattle.std.proofs.lemmas.Grind.{flat_map-append}
 use Rattle.usb_base.specs.declared.refusal.Refusal.{Refusal}
 use Rattle.gate_core.specs.declared.note.Note.{Note}
-use Rattle.gate_core.specs.Events.{Event, HostPiece, host_bytes}
+use Rattle.gate_core.specs.Events.{Event, host_bytes}
 use Rattle.gate_core.specs.History.{history}
 use Rattle.gate_core.specs.Kept.{GateKept}
 use Rattle.gate_core.specs.Notes.{notes_of}
@@ -16,8 +16,8 @@ use Rattle.redir_wire.specs.Capability.{no_caps}
 use Rattle.gate_core.specs.Stands.{Gains, Takes as GateTakes, Stands as GateStands}
 use Rattle.gate_core.proofs.Events.{event-gives}
 use Rattle.model_device.specs.Meaning.{Meaning}
-use Rattle.redir_host.specs.Acts.{Act, Piece, guest_bytes}
-use Rattle.redir_host.specs.Output.{host_out, act_bytes}
+use Rattle.redir_host.specs.Acts.{Act, guest_bytes}
+use Rattle.redir_host.specs.Output.{act_bytes}
 use Rattle.redir_host.specs.Stands.{Stands as HostStands}
 use Rattle.redir_host.proofs.Runs.{act-out}
 use Rattle.direct_run.specs.declared.item.Item.{Item}
@@ -25,22 +25,15 @@ use Rattle.direct_run.specs.declared.submitted.Submitted.{Submitted}
 use Rattle.direct_run.specs.declared.told.Told.{Told}
 use Rattle.direct_run.specs.Kept.{SystemKept}
 use Rattle.direct_run.specs.Steps.{Step}
-use Rattle.direct_run.specs.World.{Course, first_id, happened, acted, sent_to_host, sent_to_gate, wire_to_host, wire_to_gate, after_step, course}
+use Rattle.direct_run.specs.World.{Course, first_id, happened, acted, sent_to_host, sent_to_gate, after_step, course}
 use Rattle.direct_run.specs.Noted.{item_of, refusal_in, named}
-use Rattle.direct_run.specs.Trace.{submits_of, given_of, told_of_event, told_of_act, act_items, told_of, told_by, trace}
+use Rattle.direct_run.specs.Trace.{given_of, told_of_event, told_of_act, act_items, told_of, told_by, trace}
 use Rattle.direct_run.specs.Stands.{Runs, Stands, Takes}
 use Rattle.direct_run.specs.inner.Doing.{DoesEvent, DoesAct}
 
 pub if-ok : {T E : Type 0} (r : Result T E) (P Q : T → Type 0) → ((v : T) → P v → Q v) → IfOk r P → IfOk r Q
 if-ok (Ok v) P Q f h = f v h
 if-ok (Err e) P Q f h = tt
-
-pub kept-on : {T E K : Type 0} (r s : Result T E) (mid new : K) (P : T → K → Type 0) → s ≡ r → OnOk s (new ≡ mid) → IfOk r (λ v. P v mid) → IfOk s (λ v. P v new)
-kept-on {T = T} {E = E} {K = K} r s mid new P same ok h = go s ok (subst (λ (x : Result T E). IfOk x (λ v. P v mid)) (sym same) h)
-  where
-    go : (x : Result T E) → OnOk x (new ≡ mid) → IfOk x (λ v. P v mid) → IfOk x (λ v. P v new)
-    go (Ok v) o i = subst (P v) (sym o) i
-    go (Err e) o i = tt
 
 -- ---- an event of the gateway
 

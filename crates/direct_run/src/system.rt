@@ -1,6 +1,6 @@
 //! A gateway and a modelled device on two wires.
 
-ghost use Rattle.std.specs.Prelude.{◌≡◌, [], List, ℕ, IfOk, OnErr, OnOk, IsErr};
+ghost use Rattle.std.specs.Prelude.{◌≡◌, [], List, IfOk, OnErr, IsErr};
 ghost use Rattle.gate_core.specs.History.{history};
 ghost use Rattle.gate_core.specs.All.{counts_of};
 ghost use Rattle.direct_run.specs.Steps.{Step as PastStep, step_of};

@@ -1,5 +1,5 @@
 -- What an event of the gateway and an act of the host make of a system.
-use Rattle.std.specs.Prelude.{◌≡◌, ℕ, List, [], ◌∷◌, ◌++◌}
+use Rattle.std.specs.Prelude.{◌≡◌, List, ◌∷◌, ◌++◌}
 use Rattle.std.specs.List.{flat_map}
 use Rattle.gate_core.specs.Events.{Event}
 use Rattle.gate_core.specs.Notes.{notes_of}
@@ -7,7 +7,6 @@ use Rattle.gate_core.specs.Stands.{Stands as GateStands}
 use Rattle.model_device.specs.Meaning.{Meaning}
 use Rattle.redir_host.specs.Acts.{Act}
 use Rattle.redir_host.specs.Stands.{Stands as HostStands}
-use Rattle.direct_run.specs.declared.submitted.Submitted.{Submitted}
 use Rattle.direct_run.specs.declared.told.Told.{Told}
 use Rattle.direct_run.specs.Kept.{SystemKept}
 use Rattle.direct_run.specs.World.{first_id}
