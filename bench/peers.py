@@ -145,7 +145,8 @@ class Session:
 
 
 class Lent:
-    """A device that `host` lends, and its guest, who has asked it for packets. It ends with the block."""
+    """A device that `host` lends, and its guest, who has asked for packets: one request after the other, each with the
+    type of its answer. It ends with the block."""
 
     def __init__(self, name, idle, asked):
         self.port, self.asked = free_port(), asked
@@ -154,8 +155,12 @@ class Lent:
 
     def __enter__(self):
         self.guest = Peer(dialed(self.port))
-        self.guest.send(HOST_HELLO + self.asked)
+        self.guest.send(HOST_HELLO)
         self.guest.read(HELLO_LENGTH)
+        for packet, answer in self.asked:
+            self.guest.send(packet)
+            while self.kind() != answer:
+                pass
         return self
 
     def kind(self):

@@ -156,22 +156,29 @@ def device_that_is_replugged():
 
 
 def both_write_first():
+    """Each peer writes 16 MiB before it reads; then each reads by itself."""
     length = 1 << 24
+    wrong = []
     with Session() as session:
-        client = Client(session.link())
+        client, host = Client(session.link()), session.host
         client.send(submit(1, IN, length))
-        ident = session.host.packet()[1]
-        answering = threading.Thread(target=session.host.send, args=(answer(ident, IN, length),))
-        answering.start()
+        ident = host.packet()[1]
+
+        def play_host():
+            host.send(answer(ident, IN, length))
+            kind, asked, wanted, data = host.packet()
+            if (kind, wanted, data) != (BULK_PACKET, length, b"\x5a" * length):
+                wrong.append("another packet came")
+            host.send(answer(asked, OUT, length))
+
+        hosting = threading.Thread(target=play_host)
+        hosting.start()
         client.send(submit(2, OUT, length))
-        answering.join(PATIENCE)
-        assert not answering.is_alive(), "the host's answer isn't taken"
-        kind, ident, wanted, data = session.host.packet()
-        assert (kind, wanted, data) == (BULK_PACKET, length, b"\x5a" * length), "another packet came"
-        session.host.send(answer(ident, OUT, length))
         for number, direction in [(1, IN), (2, OUT)]:
             wanted = ret_submit(number, direction, length)
             assert client.read(len(wanted)) == wanted, "another answer came"
+        hosting.join(PATIENCE)
+        assert not hosting.is_alive() and not wrong, wrong
         client.close()
 
 
@@ -231,9 +238,9 @@ def device_that_is_lent():
             program.wait()
 
 
-CONFIGURED = redir(6, 1, bytes([1]))
-KEYS = CONFIGURED + redir(15, 2, bytes([0x81]))
-TONE = CONFIGURED + redir(9, 2, bytes([0, 1])) + redir(12, 3, bytes([0x81, 8, 2]))
+CONFIGURATION = (redir(6, 1, bytes([1])), 8)
+KEYS = [CONFIGURATION, (redir(15, 2, bytes([0x81])), 17)]
+TONE = [CONFIGURATION, (redir(9, 2, bytes([0, 1])), 11), (redir(12, 3, bytes([0x81, 8, 2])), 14)]
 INTERRUPT_PACKET, ISO_PACKET = 103, 102
 
 
@@ -241,8 +248,6 @@ def packets_a_second():
     told = []
     for name, asked, wanted, a_second in [("keyboard", KEYS, INTERRUPT_PACKET, 100), ("tone", TONE, ISO_PACKET, 1_000)]:
         with Lent(name, 4294967295, asked) as lent:
-            while lent.kind() != wanted:
-                pass
             before, begin, count = processor_time(lent.program.pid), time.monotonic(), 0
             while time.monotonic() < begin + 3:
                 count += lent.kind() == wanted
