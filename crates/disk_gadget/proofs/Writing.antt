@@ -24,7 +24,7 @@ use Rattle.disk_gadget.specs.declared.stage.Course.{Course}
 use Rattle.disk_gadget.specs.declared.wrapper.Wrapper.{Wrapper}
 use Rattle.disk_gadget.specs.Accesses.{Access, ReadOf, WriteOf, blocks_after, count_of, put}
 use Rattle.disk_gadget.specs.Descriptors.{described, fresh}
-use Rattle.disk_gadget.specs.DiskStep.{DiskState, Step, bulk_turn, class_request, disk_step, no_access, on_blocks, outcome_in, setup_done, step, step_by, turned}
+use Rattle.disk_gadget.specs.DiskStep.{DiskState, Step, bulk_turn, class_request, disk_step, first_disk, no_access, on_blocks, outcome_in, setup_done, step, step_by, turned}
 use Rattle.disk_gadget.specs.Turns.{Reply, Plain, OfBlocks, Turn, acted, answering, begun, gathered, gathering, gave, given_by, given_of, left_of, less, refused, reported, rest_of, taken_by}
 use Rattle.disk_gadget.specs.Within.{PlaceWithin}
 use Rattle.disk_gadget.specs.Wrappers.{wrapper_of}
@@ -229,6 +229,7 @@ whole_step n d s accesses t g =
     ap (λ k. on_blocks d.blocks (step k d.state t)) count ∙ ap (λ c. on_blocks d.blocks (step n c t)) g.state
 
 goes : (n : ℕ) (past : List Transfer) → Goes n (disk_after n past) (course_after n past) (passed n past)
+unfolding first_disk
 goes n [] = record { state = refl; size = length-replicate (512 * n) 0; stage = tt; image = λ block place lt. first_image (512 * n) block place }
 goes n (t ∷ past) =
     let g = goes n past in

@@ -94,5 +94,5 @@ disk = record {
 }
 
 -- plugged in, with so many blocks of zeros
-abbrev pub first_disk : ℕ → DiskState
+unfoldable pub first_disk : ℕ → DiskState
 first_disk blocks = record { state = record { device = unconfigured; kept = fresh }; blocks = replicate (block_size * blocks) 0 }

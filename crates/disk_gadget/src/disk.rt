@@ -62,7 +62,7 @@ impl Model for Disk {
 
 impl Disk {
     /// A disk of so many blocks that was just plugged in. Its bytes are zeros.
-    #[tactic(auto, unfolding(usb_base::specs::Number::le_at, crate::specs::Descriptors::described))]
+    #[tactic(auto, unfolding(usb_base::specs::Number::le_at, crate::specs::Descriptors::described, crate::specs::DiskStep::first_disk))]
     pub fn make(alloc: Global, blocks: u32) -> Result<Disk, Memory>
         requires some { 1 ≤ blocks }
         requires few { blocks ≤ 4096 }
