@@ -78,12 +78,6 @@ impl Socket {
         self.broken = false;
     }
 
-    pub(crate) fn is_up(&self) -> bool
-        ensures { result ≡ self.now.up }
-    {
-        self.stream.is_some()
-    }
-
     /// The other end, of the last link where none is up.
     pub(crate) fn peer(&self) -> Peer {
         Peer {

@@ -161,11 +161,13 @@ impl<'rt, R: Net<Stream = net::TcpStream, Listener = net::TcpListener> + Eprint 
         }
     }
 
-    /// Says that the side's link is closed from here.
+    /// Says that the side's link is closed from here. Where a host was dialled, a client may also be let go whose
+    /// device is lost.
     fn tell_close(&self, side: Side) {
         match side {
-            Side::Client if self.dialled && !self.host.is_up() => {
-                telling::let_go(self.rt, self.client.peer(), "no device is left");
+            Side::Client if self.dialled => {
+                let why = "it was refused, or its device is lost";
+                telling::let_go(self.rt, self.client.peer(), why);
             }
             Side::Client => telling::let_go(self.rt, self.client.peer(), "it was refused"),
             Side::Host => telling::let_go(self.rt, self.host.peer(), "it was refused"),
