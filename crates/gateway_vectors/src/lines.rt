@@ -22,7 +22,7 @@ pub fn push_lines(
 /// Appends a line: a side's letter and its packets, or other words.
 fn push_line(packets: &Packets, text: &mut String, line: &str, turn: u32) -> Result<(), Memory> {
     match line.split_once(' ') {
-        Some((letter @ ("c" | "h" | "C" | "H"), words)) => {
+        Some((letter @ ("c" | "h" | "C" | "H" | "D"), words)) => {
             text.push_str(letter)?;
             text.push(' ')?;
             for word in words.split(' ') {

@@ -3,7 +3,7 @@
 ghost use Rattle.std.specs.Prelude.{◌≡◌, ◌≤◌, false};
 ghost use Rattle.usb_base.specs.declared.side.Side.TheVariants.{Client, Host};
 
-use bridge_run::{serve, serve_host};
+use bridge_run::{AfterLoss, serve, serve_host};
 use gate_outside::{Doors, Sink};
 use model_device::Loopback;
 use std::alloc::Global;
@@ -23,10 +23,24 @@ pub fn spend<D: Doors, K: Sink>(
     requires budget { 1 ≤ budget }
 {
     match words {
-        ["serve"] => Status::from(serve(alloc, "a:1", "b:2", 5, budget, 1, doors, out)),
+        ["serve"] => serve_to_budget(alloc, budget, doors, out),
         ["host"] => lend(alloc, budget, doors, out),
         _ => Status::Usage,
     }
+}
+
+fn serve_to_budget<D: Doors, K: Sink>(
+    alloc: Global,
+    budget: u64,
+    doors: &mut D,
+    out: &mut K,
+) -> Status
+    requires client_down { (D.link doors.old Client).up ≡ false }
+    requires host_down { (D.link doors.old Host).up ≡ false }
+    requires budget { 1 ≤ budget }
+{
+    let keep = AfterLoss::Keep;
+    Status::from(serve(alloc, "a:1", "b:2", 5, budget, 1, keep, doors, out))
 }
 
 fn lend<D: Doors, K: Sink>(alloc: Global, budget: u64, doors: &mut D, out: &mut K) -> Status
