@@ -40,16 +40,16 @@ enum Act {
 }
 
 /// The status, how many bytes went or came, and those that came.
-pub(crate) type Came = (UsbStatus, u32, &'static [u8]);
+type Came = (UsbStatus, u32, &'static [u8]);
 
 /// What is done, and what comes of it, or None where nothing does.
 type Row = (Act, Option<Came>);
 
-pub(crate) const DONE: Option<Came> = Some((UsbStatus::Success, 0, &[]));
+const DONE: Option<Came> = Some((UsbStatus::Success, 0, &[]));
 
 const CONFIGURED: Option<Came> = Some((UsbStatus::Success, 1, &[1]));
 
-pub(crate) const STALL: Option<Came> = Some((UsbStatus::Stall, 0, &[]));
+const STALL: Option<Came> = Some((UsbStatus::Stall, 0, &[]));
 
 // A report of the key A, and of B.
 const A: Option<Came> = Some((UsbStatus::Success, 8, &[0, 0, 4, 0, 0, 0, 0, 0]));
@@ -127,13 +127,13 @@ const LOOP: [Row; 26] = [
     (Act::Wants(1), STALL),
 ];
 
-pub(crate) fn address(byte: u8) -> Result<EpAddr, Fail>
+fn address(byte: u8) -> Result<EpAddr, Fail>
     ensures { IfOk result (λ ep. ep ≡ byte) }
 {
     Ok(EpAddr::new(byte).ok_or("no address")?)
 }
 
-pub(crate) fn control(alloc: Global, setup: u64) -> Result<Transfer, Fail>
+fn control(alloc: Global, setup: u64) -> Result<Transfer, Fail>
     ensures { IfOk result IsTransfer }
 {
     let setup = Setup::read(setup.to_be_bytes());
@@ -156,7 +156,7 @@ pub(crate) fn control(alloc: Global, setup: u64) -> Result<Transfer, Fail>
     })
 }
 
-pub(crate) fn wanted(alloc: Global, wanted: u32) -> Result<Transfer, Fail>
+fn wanted(alloc: Global, wanted: u32) -> Result<Transfer, Fail>
     ensures { IfOk result IsTransfer }
 {
     Ok(Transfer {
@@ -167,7 +167,7 @@ pub(crate) fn wanted(alloc: Global, wanted: u32) -> Result<Transfer, Fail>
     })
 }
 
-pub(crate) fn sent(alloc: Global, bytes: &[u8]) -> Result<Transfer, Fail>
+fn sent(alloc: Global, bytes: &[u8]) -> Result<Transfer, Fail>
     ensures { IfOk result IsTransfer }
 {
     let wanted = u32::try_from(bytes.len())?;
@@ -199,7 +199,7 @@ fn done<G: Gadget>(alloc: Global, gadget: &mut G, act: Act) -> Result<Option<Out
     Ok(gadget.perform(alloc, &transfer)?)
 }
 
-pub(crate) fn is_so(rt: &impl Abort, outcome: &Option<Outcome>, came: Option<Came>) {
+fn is_so(rt: &impl Abort, outcome: &Option<Outcome>, came: Option<Came>) {
     match (outcome, came) {
         (Some(outcome), Some((status, done, bytes))) => {
             assert!(rt; outcome.status == status && outcome.done == done);

@@ -7,8 +7,6 @@
 #[cfg(test)]
 mod descriptors;
 #[cfg(test)]
-mod disk;
-#[cfg(test)]
 mod gadgets;
 #[cfg(test)]
 mod host_rows;
