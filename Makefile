@@ -1,5 +1,5 @@
 # Installs the proved program, its man page, its unit for systemd and its completion for bash.
-#     make install PREFIX=/usr DESTDIR=/tmp/package
+#     make install PREFIX=/usr DESTDIR=package
 PREFIX ?= /usr/local
 DESTDIR ?=
 INSTALL ?= install

@@ -15,10 +15,10 @@ say() { echo "@@ $*"; }
 step() {
     local told=$1
     shift
-    if "$@" < /dev/null > /tmp/said 2>&1; then
-        say "ok $told: $(tail -n 1 /tmp/said | cut -c 1-100)"
+    if "$@" < /dev/null > /run/said 2>&1; then
+        say "ok $told: $(tail -n 1 /run/said | cut -c 1-100)"
     else
-        say "FAILED $told: $(tail -n 3 /tmp/said | tr '\n' ' ' | cut -c 1-200)"
+        say "FAILED $told: $(tail -n 3 /run/said | tr '\n' ' ' | cut -c 1-200)"
         return 1
     fi
 }
@@ -65,11 +65,11 @@ has_disk() { [ -b "$(disk)" ] && [ "$(cat "/sys/block/$(basename "$(disk)")/size
 # Writes a mebibyte to the disk, and reads it back past the system's cache.
 copy_disk() {
     await has_disk || return
-    dd if=/dev/urandom of=/tmp/written bs=64k count=16 2> /dev/null &&
-        dd if=/tmp/written of="$(disk)" bs=64k conv=fsync 2> /dev/null &&
+    dd if=/dev/urandom of=/run/written bs=64k count=16 2> /dev/null &&
+        dd if=/run/written of="$(disk)" bs=64k conv=fsync 2> /dev/null &&
         echo 3 > /proc/sys/vm/drop_caches &&
-        dd if="$(disk)" of=/tmp/read bs=64k count=16 2> /dev/null &&
-        cmp /tmp/written /tmp/read && echo "a mebibyte was written, and read back"
+        dd if="$(disk)" of=/run/read bs=64k count=16 2> /dev/null &&
+        cmp /run/written /run/read && echo "a mebibyte was written, and read back"
 }
 
 # The report of a key that bench/peers/run presses once it reads this.
@@ -113,8 +113,8 @@ attach() {
 }
 
 lists() {
-    usbip --tcp-port "$1" list -r $GATEWAY > /tmp/listed 2>&1
-    grep "$2" /tmp/listed
+    usbip --tcp-port "$1" list -r $GATEWAY > /run/listed 2>&1
+    grep "$2" /run/listed
 }
 
 detach() {
@@ -138,9 +138,9 @@ client_session() {
 # A report that is waited for ends with ESHUTDOWN, once the host's machine has been killed.
 sees_loss() {
     say "kill the host" > /dev/console
-    usbfs "$1" interrupt 0x81 8 1 > /tmp/lost
-    cat /tmp/lost
-    grep -q 'endpoint shutdown' /tmp/lost
+    usbfs "$1" interrupt 0x81 8 1 > /run/lost
+    cat /run/lost
+    grep -q 'endpoint shutdown' /run/lost
 }
 
 network() {
@@ -163,7 +163,7 @@ case $ROLE in
         echo "$DEVICES" | while read -r name port id kind; do
             [ -n "$name" ] || continue
             await is_up "$id"
-            ( while :; do usbredirect --device "$id" --as "0.0.0.0:$port"; sleep 1; done ) > "/tmp/$name" 2>&1 &
+            ( while :; do usbredirect --device "$id" --as "0.0.0.0:$port"; sleep 1; done ) > "/run/$name" 2>&1 &
             say "ok $name: is offered at port $port"
         done
         say "ready"

@@ -22,7 +22,7 @@ pub record Act : Type 0 where
   pub sense : Option Sense
   pub access : Option Access
 
--- standard INQUIRY data (SPC-4, 6.4.2): a removable direct-access device; T10 vendor, product, revision
+-- standard INQUIRY data (SPC-4, 6.4.2): a removable direct-access device; vendor, product, revision
 abbrev pub inquiry_bytes : List ℕ
 inquiry_bytes =
     0x00 ∷ 0x80 ∷ 0x04 ∷ 0x02 ∷ 0x1F ∷ 0x00 ∷ 0x00 ∷ 0x00 ∷
