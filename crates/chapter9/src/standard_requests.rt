@@ -24,7 +24,7 @@ const NAME: u16 = 0x0301;
 const ENGLISH: [u8; 4] = [4, 3, 0x09, 0x04];
 
 /// The descriptors of a device with one configuration, whose value is 1, of one interface, whose number is 0.
-#[derive(Debug, Drop)]
+#[derive(Drop)]
 pub struct DescriptorSet {
     /// The device descriptor (USB 2.0, 9.6.1).
     pub device: [u8; 18],

@@ -6,7 +6,7 @@ ghost use Rattle.chapter9.specs.State.{cleared, halted_bit, is_halted, unconfigu
 use usb_base::EpAddr;
 
 /// The state of a device with one configuration and one interface (USB 2.0, 9.1).
-#[derive(Clone, Copy, Debug, PartialEq, Eq)]
+#[derive(Clone, Copy, PartialEq, Eq)]
 pub struct DevState {
     /// The configuration that is set, 0 before one is (9.4.7).
     pub configuration: u8,

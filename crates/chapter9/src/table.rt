@@ -16,7 +16,7 @@ const CONTROL: EpRow = EpRow {
 };
 
 /// bInterfaceClass, bInterfaceSubClass and bInterfaceProtocol of an interface (USB 2.0, table 9-12).
-#[derive(Clone, Copy, Debug, PartialEq, Eq)]
+#[derive(Clone, Copy, PartialEq, Eq)]
 pub struct InterfaceClass {
     pub class: u8,
     pub subclass: u8,

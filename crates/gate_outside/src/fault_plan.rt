@@ -8,7 +8,7 @@ use std::marker::Model;
 use usb_base::Memory;
 
 /// Counts calls from 0, and fails exactly those whose number is listed.
-#[derive(Debug, Drop)]
+#[derive(Drop)]
 pub(crate) struct FaultPlan {
     calls: u64,
     fails: Vec<u64>,

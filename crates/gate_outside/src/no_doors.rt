@@ -10,7 +10,7 @@ use std::marker::Model;
 use usb_base::Side;
 
 /// No link ever comes up: each call that would open one fails.
-#[derive(Debug, Drop)]
+#[derive(Drop)]
 pub struct NoDoors {
     client_faults: u64,
     host_faults: u64,

@@ -18,7 +18,7 @@ use usb_base::{Memory, Side};
 /// over, and a script that has come to its end has ended the link. Of each side the calls of `dial`, `listen`,
 /// `accept`, `poll` and `write` are counted from 0. Exactly those fail, and take no turn, whose number is
 /// listed, and polls that meet a `Fail`, and writes that find no room.
-#[derive(Debug, Drop)]
+#[derive(Drop)]
 pub struct ScriptDoors {
     client: ScriptSide,
     host: ScriptSide,

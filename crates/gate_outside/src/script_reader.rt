@@ -9,14 +9,14 @@ use crate::turn::{Polled, Script, Scripts, Turn};
 use std::marker::Model;
 
 /// A place in a script: the turns before `at` have passed, and the turn there has given so many bytes.
-#[derive(Clone, Copy, Debug)]
+#[derive(Clone, Copy)]
 pub(crate) struct Place {
     at: usize,
     given: usize,
 }
 
 /// Gives the turns of a script, poll by poll, and then those of the next one that is begun.
-#[derive(Debug, Drop)]
+#[derive(Drop)]
 pub(crate) struct ScriptReader {
     scripts: Scripts,
     // How many scripts were begun. The last of these is read.

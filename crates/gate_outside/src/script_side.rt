@@ -14,7 +14,7 @@ use std::marker::Model;
 use usb_base::Memory;
 
 /// A link that gives the turns of scripts, and holds what is written to it as far as it has room.
-#[derive(Debug, Drop)]
+#[derive(Drop)]
 pub(crate) struct ScriptSide {
     up: bool,
     reader: ScriptReader,

@@ -14,7 +14,7 @@ use std::marker::Model;
 use usb_base::Memory;
 
 /// Holds what is written to it, as far as it has room. Chosen calls fail. It takes its memory at once.
-#[derive(Debug, Drop)]
+#[derive(Drop)]
 pub struct TextSink {
     space: Vec<u8>,
     used: usize,

@@ -14,7 +14,7 @@ use std::marker::Model;
 use usb_base::Memory;
 
 /// A text that is read in pieces. Chosen calls fail.
-#[derive(Debug, Drop)]
+#[derive(Drop)]
 pub struct TextSource {
     text: Vec<u8>,
     at: usize,

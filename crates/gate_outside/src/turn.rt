@@ -3,7 +3,7 @@
 use usb_base::{Bytes, List};
 
 /// What a poll gave.
-#[derive(Clone, Copy, Debug, PartialEq, Eq)]
+#[derive(Clone, Copy, PartialEq, Eq)]
 pub enum Polled {
     /// So many bytes, at least one, which stand at the front of the buffer.
     Took(usize),
@@ -16,7 +16,7 @@ pub enum Polled {
 }
 
 /// What a scripted link gives next.
-#[derive(Debug, Drop)]
+#[derive(Drop)]
 pub enum Turn {
     /// These bytes, in as many polls as the buffers need. An empty piece is passed over.
     Piece(Bytes),

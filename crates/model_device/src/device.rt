@@ -16,7 +16,7 @@ use std::alloc::Global;
 use usb_base::{Bytes, EpAddr, EpKind, EpTable, Memory, Outcome, Transfer, UsbStatus};
 
 /// A device's descriptors, with the parts of its configuration, and its state.
-#[derive(Debug, Drop)]
+#[derive(Drop)]
 pub struct Device {
     pub set: DescriptorSet,
     /// The parts of the set's configuration.

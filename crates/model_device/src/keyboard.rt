@@ -40,7 +40,7 @@ const KEYS: u8 = 26;
 
 /// A full-speed device with an interrupt IN endpoint, on which each offer is a report of the next key. A
 /// change that succeeds begins with A again.
-#[derive(Debug, Drop)]
+#[derive(Drop)]
 pub struct Keyboard {
     device: Device,
     /// The key of the next offer, counted from A.

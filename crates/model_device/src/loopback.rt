@@ -36,7 +36,7 @@ const LIMIT: usize = 1_048_576;
 
 /// A high-speed device with a bulk endpoint each way: bytes that come on one are given back on the other, in
 /// order, however they are cut. A change that succeeds drops what it holds.
-#[derive(Debug, Drop)]
+#[derive(Drop)]
 pub struct Loopback {
     device: Device,
     held: Bytes,

@@ -35,7 +35,7 @@ const PACKET: usize = 192;
 
 /// A full-speed device whose alternate setting 1 has an isochronous IN endpoint. Each offer there is a packet
 /// of one byte, which is 0 after a change that succeeds and then 1 more with each packet.
-#[derive(Debug, Drop)]
+#[derive(Drop)]
 pub struct Tone {
     device: Device,
     /// The byte of the next offer.

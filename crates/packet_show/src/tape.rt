@@ -9,7 +9,7 @@ use std::alloc::Global;
 use usb_base::{Bytes, EpAddr, Memory};
 
 /// Which lines a tape has.
-#[derive(Clone, Copy, Debug, PartialEq, Eq)]
+#[derive(Clone, Copy, PartialEq, Eq)]
 pub enum TapeKind {
     /// The bytes of both sides, as they come to the gateway.
     Replay,
@@ -18,7 +18,7 @@ pub enum TapeKind {
 }
 
 /// What a line says. The bytes of a piece are one at least.
-#[derive(Debug, Drop)]
+#[derive(Drop)]
 pub enum TapeLine {
     /// Nothing: it is empty, or begins with `#`.
     Skip,

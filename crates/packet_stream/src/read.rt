@@ -8,7 +8,7 @@ use std::fmt;
 use usb_base::{Memory, Reason};
 
 /// What stands at the front of bytes, where nothing is wrong.
-#[derive(Debug, Drop)]
+#[derive(Drop)]
 pub enum Read<P> {
     /// A packet, and how many bytes it has.
     Whole(P, usize),

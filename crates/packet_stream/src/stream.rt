@@ -11,7 +11,7 @@ use std::marker::Model;
 use usb_base::{Bytes, Memory};
 
 /// Where a packet begins.
-#[derive(Clone, Copy, Debug)]
+#[derive(Clone, Copy)]
 struct Mark {
     /// Among the bytes that are kept.
     index: usize,
@@ -21,7 +21,7 @@ struct Mark {
 
 /// One side's stream: the bytes that have come of it and belong to no packet that was taken, where in the
 /// stream those begin, and what decides how they are read.
-#[derive(Debug, Drop)]
+#[derive(Drop)]
 pub struct Stream<F: PacketFormat> {
     state: F::State,
     bytes: Bytes,

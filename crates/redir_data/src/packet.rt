@@ -7,7 +7,7 @@ use usb_base::Bytes;
 /// A packet of a transfer: a request on its way to the host, or its answer on the way to the guest. `status`
 /// is the byte of a `UsbStatus`, `length` how many bytes were asked for or moved, and `endpoint` the
 /// endpoint's address. Bytes stand only in requests to an OUT endpoint and in answers of an IN endpoint.
-#[derive(Debug, Drop)]
+#[derive(Drop)]
 pub enum RedirData {
     /// Type 100, `usb_redir_control_packet`: `kind` is bmRequestType.
     Control {
@@ -45,7 +45,7 @@ pub enum RedirData {
 }
 
 /// A packet of usbredir, after its header.
-#[derive(Debug, Drop)]
+#[derive(Drop)]
 pub enum RedirPacket {
     Plain(RedirControl),
     Carrying(RedirData),

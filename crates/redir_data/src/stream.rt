@@ -38,7 +38,6 @@ impl RedirState {
 }
 
 /// What a host sends, as its guest reads it.
-#[derive(Debug)]
 pub struct FromHost;
 
 impl PacketFormat for FromHost {
@@ -68,7 +67,6 @@ impl PacketFormat for FromHost {
 }
 
 /// What a guest sends, as its host reads it.
-#[derive(Debug)]
 pub struct FromGuest;
 
 impl PacketFormat for FromGuest {

@@ -7,14 +7,14 @@ use usb_base::List;
 pub const MAX_INTERFACES: u32 = 32;
 
 /// Which way a packet goes: to the guest, who uses the device, or to the host, who has it.
-#[derive(Clone, Copy, Debug, PartialEq, Eq)]
+#[derive(Clone, Copy, PartialEq, Eq)]
 pub enum Way {
     ToGuest,
     ToHost,
 }
 
 /// Capabilities, of which bit n says that capability n is there.
-#[derive(Clone, Copy, Debug, PartialEq, Eq)]
+#[derive(Clone, Copy, PartialEq, Eq)]
 pub struct Caps {
     pub bits: u32,
 }
@@ -23,7 +23,7 @@ pub struct Caps {
 pub type Words = List<u32>;
 
 /// `usb_redir_hello`: who a side is, and what it can do.
-#[derive(Debug, Drop)]
+#[derive(Drop)]
 pub struct Hello {
     /// A text that names the program, with zeros after it.
     pub version: [u8; 64],
@@ -32,7 +32,7 @@ pub struct Hello {
 }
 
 /// `usb_redir_device_connect`: a device is there.
-#[derive(Clone, Copy, Debug)]
+#[derive(Clone, Copy)]
 pub struct Connect {
     /// 0 low, 1 full, 2 high, 3 super, 255 unknown.
     pub speed: u8,
@@ -52,7 +52,7 @@ pub struct Connect {
 
 /// `usb_redir_interface_info`: the interfaces of the active configuration, in the first `count` cells of
 /// each field.
-#[derive(Clone, Copy, Debug)]
+#[derive(Clone, Copy)]
 pub struct InterfaceInfo {
     /// How many interfaces there are, at most 32.
     pub count: u32,
@@ -67,7 +67,7 @@ pub struct InterfaceInfo {
 }
 
 /// `usb_redir_ep_info`: the endpoints. Cells 0 to 15 are those to the device, 16 to 31 those from it.
-#[derive(Debug, Drop)]
+#[derive(Drop)]
 pub struct EpInfo {
     /// 0 control, 1 isochronous, 2 bulk, 3 interrupt, 255 none.
     pub kinds: [u8; 32],
@@ -80,7 +80,7 @@ pub struct EpInfo {
 }
 
 /// `usb_redir_header`: what stands before each packet's fields.
-#[derive(Clone, Copy, Debug)]
+#[derive(Clone, Copy)]
 pub struct Header {
     /// The number of the packet's type.
     pub kind: u32,
@@ -92,7 +92,7 @@ pub struct Header {
 
 /// A packet that moves no data of a transfer. A `status` is 0 for success, else the byte of a `UsbStatus`; an
 /// `endpoint` is the byte of its address.
-#[derive(Debug, Drop)]
+#[derive(Drop)]
 pub enum RedirControl {
     /// Type 0, both ways: the first packet of its stream.
     Hello(Hello),

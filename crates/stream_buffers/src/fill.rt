@@ -12,7 +12,7 @@ use usb_base::{StreamPacket, UsbStatus};
 
 /// How many packets were looked at for a request that they don't fill, and the bytes that they have: the next look
 /// begins behind them.
-#[derive(Clone, Copy, Debug)]
+#[derive(Clone, Copy)]
 pub(crate) struct Seen {
     pub count: usize,
     pub bytes: u32,
@@ -23,7 +23,7 @@ impl Seen {
 }
 
 /// The fewest packets that fill a request.
-#[derive(Clone, Copy, Debug)]
+#[derive(Clone, Copy)]
 pub(crate) struct Fewest {
     /// The place of the last of them.
     pub last: usize,

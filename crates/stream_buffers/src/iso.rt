@@ -13,7 +13,7 @@ use usb_base::{Bytes, List, Memory, StreamPacket, UsbStatus};
 use usbip_urb::{Descs, IsoDesc, push_desc};
 
 /// What came of an isochronous IN request.
-#[derive(Debug, Drop)]
+#[derive(Drop)]
 pub struct IsoOutcome {
     /// The bytes of its packets, one behind another without gaps.
     pub body: Bytes,
@@ -22,7 +22,7 @@ pub struct IsoOutcome {
 }
 
 /// What an isochronous request is given; its bytes stay with the packets.
-#[derive(Clone, Copy, Debug, PartialEq, Eq)]
+#[derive(Clone, Copy, PartialEq, Eq)]
 pub struct IsoFilling {
     /// How many bytes of its packets fit.
     pub done: u64,

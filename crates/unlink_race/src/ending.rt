@@ -7,7 +7,7 @@ use crate::live::{Live, LiveKind};
 use usb_base::UsbStatus;
 
 /// Which answers a client gets for a request that its host has answered.
-#[derive(Clone, Copy, Debug, PartialEq, Eq)]
+#[derive(Clone, Copy, PartialEq, Eq)]
 pub enum Ending {
     /// No unlink came: the submit is answered.
     Completed,

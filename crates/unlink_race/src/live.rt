@@ -8,7 +8,7 @@ use usb_base::{EpAddr, EpKind};
 use usbip_urb::Descs;
 
 /// What a request waits for.
-#[derive(Clone, Copy, Debug, PartialEq, Eq)]
+#[derive(Clone, Copy, PartialEq, Eq)]
 pub enum LiveKind {
     /// The host's answer with its id: it went as a packet with the transfer, of the kind that the endpoint had then.
     Wire { ep: EpAddr, kind: EpKind },
@@ -19,7 +19,7 @@ pub enum LiveKind {
 }
 
 /// What ends streams, and with them the requests that wait for their packets.
-#[derive(Clone, Copy, Debug, PartialEq, Eq)]
+#[derive(Clone, Copy, PartialEq, Eq)]
 pub enum StreamEnd {
     /// Their client goes, and all streams with it.
     ClientGone,
@@ -84,7 +84,7 @@ impl LiveKind {
 }
 
 /// A request in flight: a submit that was accepted and hasn't ended.
-#[derive(Debug, Drop)]
+#[derive(Drop)]
 pub struct Live {
     /// The submit's number, which its answer has.
     pub seqnum: u32,

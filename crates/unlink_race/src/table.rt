@@ -19,7 +19,7 @@ use usb_base::{EpAddr, Memory};
 pub const ROOM: usize = 4096;
 
 /// Where a request stands in the slab, and what the searches ask of it.
-#[derive(Clone, Copy, Debug)]
+#[derive(Clone, Copy)]
 struct Row {
     key: usize,
     kind: LiveKind,

@@ -9,7 +9,7 @@ use crate::live::{Live, LiveKind};
 use crate::table::Table;
 
 /// What becomes of an unlink.
-#[derive(Debug, Drop)]
+#[derive(Drop)]
 pub enum UnlinkTold {
     /// No request with this number is live: it has been answered, or never was.
     NotLive,

@@ -7,7 +7,7 @@ use std::marker::Model;
 
 /// The address of an endpoint: the number in bits 0 to 3, and in bit 7 whether it is an IN endpoint, from
 /// the device to the host. Contracts see it as its byte.
-#[derive(Clone, Copy, Debug, PartialEq, Eq)]
+#[derive(Clone, Copy, PartialEq, Eq)]
 pub struct EpAddr {
     byte: u8,
 }
@@ -67,7 +67,7 @@ impl EpAddr {
 }
 
 /// What an endpoint's transfers are (USB 2.0, 5.4).
-#[derive(Clone, Copy, Debug, PartialEq, Eq)]
+#[derive(Clone, Copy, PartialEq, Eq)]
 pub enum EpKind {
     Control,
     Iso,
@@ -93,7 +93,7 @@ impl EpKind {
 }
 
 /// What is known of one endpoint.
-#[derive(Clone, Copy, Debug, PartialEq, Eq)]
+#[derive(Clone, Copy, PartialEq, Eq)]
 pub struct EpRow {
     pub kind: EpKind,
     /// The polling interval, as the endpoint's descriptor has it.
@@ -105,7 +105,7 @@ pub struct EpRow {
 }
 
 /// A device's endpoints by their index: places 0 to 15 are those to the device, 16 to 31 those from it.
-#[derive(Clone, Copy, Debug, PartialEq, Eq)]
+#[derive(Clone, Copy, PartialEq, Eq)]
 pub struct EpTable {
     pub rows: [EpRow; 32],
 }

@@ -4,7 +4,7 @@ ghost use Rattle.std.specs.Prelude.{◌≡◌, ℕ, ◌<◌};
 ghost use Rattle.usb_base.specs.Status.{status_of, status_byte, errno_of};
 
 /// How a transfer ended, as usbredir tells it (protocol description, section "usb_redir status codes").
-#[derive(Clone, Copy, Debug, PartialEq, Eq)]
+#[derive(Clone, Copy, PartialEq, Eq)]
 pub enum UsbStatus {
     Success,
     /// It was cancelled by whoever asked for it.

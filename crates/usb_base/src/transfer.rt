@@ -7,7 +7,7 @@ use crate::status::UsbStatus;
 
 /// A transfer that is asked of a device. Those of endpoint 0 have a setup, and byte 0x00 or 0x80 by its
 /// direction.
-#[derive(Debug, Drop)]
+#[derive(Drop)]
 pub struct Transfer {
     pub ep: EpAddr,
     pub setup: Option<Setup>,
@@ -18,7 +18,7 @@ pub struct Transfer {
 }
 
 /// What came of a transfer.
-#[derive(Debug, Drop)]
+#[derive(Drop)]
 pub struct Outcome {
     pub status: UsbStatus,
     /// How many bytes were moved; for IN as many as the body has.
@@ -28,7 +28,7 @@ pub struct Outcome {
 }
 
 /// A packet of an endpoint that sends by itself: isochronous IN, or interrupt IN.
-#[derive(Debug, Drop)]
+#[derive(Drop)]
 pub struct StreamPacket {
     pub status: UsbStatus,
     pub body: Bytes,

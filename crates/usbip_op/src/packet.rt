@@ -6,7 +6,7 @@ use usb_base::List;
 /// A device as a list or an import tells it, 312 bytes ("usbip_protocol", OP_REP_DEVLIST). The texts end at
 /// their first zero byte. The numbers are in the units of the protocol: `version` is bcdDevice, `speed` is 1
 /// (low), 2 (full), 3 (high) or 5 (super).
-#[derive(Clone, Copy, Debug, PartialEq, Eq)]
+#[derive(Clone, Copy, PartialEq, Eq)]
 pub struct DeviceRow {
     pub path: [u8; 256],
     pub busid: [u8; 32],
@@ -25,7 +25,7 @@ pub struct DeviceRow {
 }
 
 /// An interface as a list tells it, 4 bytes. Senders write `pad` as 0, readers keep any value.
-#[derive(Clone, Copy, Debug, PartialEq, Eq)]
+#[derive(Clone, Copy, PartialEq, Eq)]
 pub struct IfaceRow {
     pub class: u8,
     pub subclass: u8,
@@ -37,7 +37,7 @@ pub struct IfaceRow {
 pub type IfaceRows = List<IfaceRow>;
 
 /// A device in a list, with its interfaces: as many as `device.interfaces` says.
-#[derive(Debug, Drop)]
+#[derive(Drop)]
 pub struct Listed {
     pub device: DeviceRow,
     pub interfaces: IfaceRows,
@@ -47,7 +47,7 @@ pub struct Listed {
 pub type ListedRows = List<Listed>;
 
 /// A list or import packet. A reply with a status other than 0 tells no device.
-#[derive(Debug, Drop)]
+#[derive(Drop)]
 pub enum OpPacket {
     /// Asks for the list of devices (OP_REQ_DEVLIST, 8 bytes). Any status is kept.
     ReqDevlist {
@@ -71,7 +71,7 @@ pub enum OpPacket {
 }
 
 /// Which way packets go: requests to a server, or its replies.
-#[derive(Clone, Copy, Debug, PartialEq, Eq)]
+#[derive(Clone, Copy, PartialEq, Eq)]
 pub enum OpWay {
     Request,
     Reply,

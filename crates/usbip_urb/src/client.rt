@@ -15,7 +15,7 @@ use usb_base::be_u16_at;
 use usbip_op::{OpPacket, USBIP_VERSION, read_request};
 
 /// What a client sends.
-#[derive(Debug, Drop)]
+#[derive(Drop)]
 pub enum ClientPacket {
     /// A list or an import request.
     Op(OpPacket),
@@ -76,7 +76,7 @@ fn urb_at_front(alloc: Global, bytes: &[u8]) -> Result<Read<ClientPacket>, ReadE
 }
 
 /// How all that a client sends is read: what came before decides nothing.
-#[derive(Clone, Copy, Debug, PartialEq, Eq)]
+#[derive(Clone, Copy, PartialEq, Eq)]
 pub struct ClientFormat;
 
 impl PacketFormat for ClientFormat {

@@ -14,7 +14,7 @@ use std::alloc::Global;
 use usb_base::{Bytes, List, Memory, be_u32_at};
 
 /// What stands behind the head, lent from the packet's bytes.
-#[derive(Clone, Copy, Debug)]
+#[derive(Clone, Copy)]
 pub(crate) struct Payload<'a> {
     pub body: &'a [u8],
     /// The descriptors, 16 bytes each.
