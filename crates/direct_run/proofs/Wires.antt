@@ -24,11 +24,10 @@ use Rattle.direct_run.specs.declared.item.Item.{Item}
 use Rattle.direct_run.specs.declared.submitted.Submitted.{Submitted}
 use Rattle.direct_run.specs.declared.told.Told.{Told}
 use Rattle.direct_run.specs.Kept.{SystemKept}
-use Rattle.direct_run.specs.Steps.{Step}
-use Rattle.direct_run.specs.World.{Course, first_id, happened, acted, sent_to_host, sent_to_gate, after_step, course}
+use Rattle.direct_run.specs.World.{Course, first_id, happened, acted, sent_to_host, sent_to_gate}
 use Rattle.direct_run.specs.Noted.{item_of, refusal_in, named}
-use Rattle.direct_run.specs.Trace.{given_of, told_of_event, told_of_act, act_items, told_of, told_by, trace}
-use Rattle.direct_run.specs.Stands.{Runs, Stands, Takes}
+use Rattle.direct_run.specs.Trace.{given_of, trace}
+use Rattle.direct_run.specs.Stands.{Runs}
 use Rattle.direct_run.specs.inner.Doing.{DoesEvent, DoesAct}
 
 pub if-ok : {T E : Type 0} (r : Result T E) (P Q : T → Type 0) → ((v : T) → P v → Q v) → IfOk r P → IfOk r Q
@@ -135,34 +134,3 @@ front-fits n had sent h =
     let d = ap length (take-append-drop n (drop (length had) sent)) in
     let e = length-drop (length had) sent in
     omega (arith, h, a, b, d, e)
-
--- ---- steps
-
-pub event-takes : {S : Type 0} (m : Meaning S) (s : S) (old new : SystemKept S) (steps : List Step) (x : Step) (e : Event) (told : Told) (rest : List ℕ) →
-    Stands m s old steps → DoesEvent (record old { to_gate = rest }) new (course m s steps).events e told →
-    rest ≡ drop (length (host_bytes (e ∷ (course m s steps).events))) (sent_to_gate m s (course m s steps)) → length (host_bytes (e ∷ (course m s steps).events)) ≤ length (sent_to_gate m s (course m s steps)) →
-    after_step m s (course m s steps) x ≡ happened (course m s steps) e → told_by m s (course m s steps) x ≡ told_of_event (course m s steps).events e → Takes m s new steps x told
-event-takes {S = S} m s old new steps x e told rest h d rest-is fits same same-told = record {
-  stands = record {
-    works = ap (λ (k : SystemKept S). k.failed) d.new-is ∙ h.works;
-    runs = subst (Runs m s new) (sym same) (event-runs m s old new (course m s steps) e told rest h.runs d rest-is fits);
-    trace-is = ap (λ (k : SystemKept S). k.trace) d.new-is ∙ (λ i. h.trace-is i ++ (ap (λ (t : Told). t.items) (d.told-is ∙ sym same-told)) i);
-  };
-  told-is = d.told-is ∙ sym same-told;
-}
-
-pub act-takes : {S : Type 0} (m : Meaning S) (s : S) (old new : SystemKept S) (steps : List Step) (x : Step) (a : Act) (told : Told) (rest : List ℕ) →
-    Stands m s old steps → DoesAct m s (record old { to_host = rest }) new (course m s steps).acts a told →
-    rest ≡ drop (length (guest_bytes (a ∷ (course m s steps).acts))) (sent_to_host (course m s steps)) → length (guest_bytes (a ∷ (course m s steps).acts)) ≤ length (sent_to_host (course m s steps)) →
-    after_step m s (course m s steps) x ≡ acted (course m s steps) a → told_by m s (course m s steps) x ≡ told_of m s (course m s steps) a → Takes m s new steps x told
-act-takes {S = S} m s old new steps x a told rest h d rest-is fits same same-told = record {
-  stands = record {
-    works = ap (λ (k : SystemKept S). k.failed) d.new-is ∙ h.works;
-    runs = subst (Runs m s new) (sym same) (act-runs m s old new (course m s steps) a told rest h.runs d rest-is fits);
-    trace-is = ap (λ (k : SystemKept S). k.trace) d.new-is ∙ (λ i. h.trace-is i ++ (ap (λ (t : Told). t.items) told-is) i);
-  };
-  told-is = told-is;
-}
-  where
-    told-is : told ≡ told_by m s (course m s steps) x
-    told-is = d.told-is ∙ ap (λ (l : List Submitted). told_of_act m s (course m s steps).acts a (act_items m s (course m s steps).acts l a)) h.runs.submits ∙ sym same-told

@@ -42,6 +42,7 @@ pub struct Inner<G: Gadget> {
 
 impl<G: Gadget> Inner<G> {
     /// The system of a device that was just plugged in. It tells the hellos of both.
+    #[tactic(auto, using(crate::proofs::Knowing::known_first))]
     pub fn make(alloc: Global, gadget: G, told: &mut Told) -> Result<Inner<G>, Memory>
         ensures made { IfOk result (λ inner. Stands G.meaning gadget (kept_of inner) []) }
         ensures told { OnOk result (told.new ≡ record told.old { to_host = told.old.to_host ++ sent_to_host nothing_yet; from_host = told.old.from_host ++ sent_to_gate G.meaning gadget nothing_yet }) }

@@ -6,8 +6,10 @@ ghost use Rattle.gate_core.specs.Events.{host_bytes};
 ghost use Rattle.gate_core.specs.History.{history};
 ghost use Rattle.redir_host.specs.Acts.{guest_bytes};
 ghost use Rattle.direct_run.specs.Steps.{Step as PastStep};
-ghost use Rattle.direct_run.specs.Trace.{all_told};
+ghost use Rattle.direct_run.specs.Trace.{all_told, trace as trace_of};
 ghost use Rattle.direct_run.specs.World.{first_id, nothing_yet, course, sent_to_host, sent_to_gate, wire_to_host, wire_to_gate};
+ghost use Rattle.direct_run.specs.Known.{IsKnown};
+ghost use Rattle.direct_run.specs.Follows.{AreMoves};
 ghost use Rattle.direct_run.specs.declared.told.Told.{Told as TheTold};
 
 use model_device::Gadget;
@@ -30,4 +32,12 @@ pub fn wires_lose_nothing<G: Gadget>()
         → guest_bytes (course G.meaning first steps).acts ++ wire_to_host (course G.meaning first steps) ≡ sent_to_host (course G.meaning first steps) }
     ensures gate { (first : G) (steps : List PastStep)
         → host_bytes (course G.meaning first steps).events ++ wire_to_gate G.meaning first (course G.meaning first steps) ≡ sent_to_gate G.meaning first (course G.meaning first steps) }
+{}
+
+/// A law: what steps do with bytes in pieces, moves do with packets. Behind every list of steps there are moves that leave
+/// both sides the same, have the same packets on the wires and to the clients, and tell the same; and the host refuses
+/// nothing of what the gateway sent it.
+pub fn steps_are_moves<G: Gadget>()
+    ensures { (first : G) (steps : List PastStep) → IsKnown G.meaning first (course G.meaning first steps)
+        → AreMoves G.meaning first (course G.meaning first steps) (trace_of G.meaning first steps) }
 {}

@@ -1,0 +1,141 @@
+-- Several moves one after another: all items of an event, and all packets that a piece has brought to either side.
+use Rattle.std.proofs.Common.{◌≡◌, ℕ, Bool, true, false, cond, List, [], ◌∷◌, ◌++◌, map, refl, sym, ap, ◌∙◌, append-nil, append_assoc}
+use Rattle.std.specs.List.{flat_map}
+use Rattle.std.proofs.lemmas.Grind.{flat_map-append}
+use Rattle.redir_wire.specs.declared.packet.Header.{Header}
+use Rattle.redir_data.specs.declared.packet.RedirPacket.{RedirPacket}
+use Rattle.redir_data.specs.Sent.{sent_header}
+use Rattle.model_device.specs.Meaning.{Meaning}
+use Rattle.redir_host.specs.Guest.{asked}
+use Rattle.redir_host.specs.Items.{Item as HostItem}
+use Rattle.redir_host.specs.Machine.{move as host_move, notes_of as host_notes_of, steps as host_steps, given_by as host_given}
+use Rattle.gate_core.specs.Items.{Item, Told}
+use Rattle.gate_core.specs.Output.{to_client, to_host}
+use Rattle.gate_core.specs.Notes.{notes_of}
+use Rattle.gate_core.specs.Meaning.{mark_of}
+use Rattle.gate_core.specs.Past.{is_left_out}
+use Rattle.gate_core.specs.Machine.{after, step, given, steps, given_by}
+use Rattle.direct_run.specs.declared.submitted.Submitted.{Submitted}
+use Rattle.direct_run.specs.Moves.{World, Made, Move, ByClient, HostReads, GateReads, opens, quiet, then_made, gate_made, gate_move, move, run}
+use Rattle.direct_run.specs.Noted.{item_of, item_of_host, named}
+use Rattle.direct_run.specs.Packets.{Found, bare, bares}
+use Rattle.direct_run.proofs.Comes.{told_item, Heads}
+
+-- ---- moves, the first that comes first
+
+abbrev pub made_by : {S : Type 0} → Meaning S → World S → List Move → Made S
+made_by m w [] = quiet w
+made_by m w (x ∷ xs) = then_made (move m w x) (made_by m (move m w x).world xs)
+
+abbrev pub moves_onto : List Move → List Move → List Move
+moves_onto [] before = before
+moves_onto (x ∷ xs) before = moves_onto xs (x ∷ before)
+
+then-quiet : {S : Type 0} (x : Made S) → x ≡ then_made x (quiet x.world)
+then-quiet x = λ i. record { world = x.world; outs = sym (append-nil x.outs) i; items = sym (append-nil x.items) i; accepted = sym (append-nil x.accepted) i }
+
+then-assoc : {S : Type 0} (x y z : Made S) → then_made (then_made x y) z ≡ then_made x (then_made y z)
+then-assoc x y z = λ i. record {
+  world = z.world;
+  outs = append_assoc x.outs y.outs z.outs i;
+  items = append_assoc x.items y.items z.items i;
+  accepted = append_assoc x.accepted y.accepted z.accepted i;
+}
+
+pub run-onto : {S : Type 0} (m : Meaning S) (s : S) (xs before : List Move) → run m s (moves_onto xs before) ≡ then_made (run m s before) (made_by m (run m s before).world xs)
+run-onto m s [] before = then-quiet (run m s before)
+run-onto m s (x ∷ xs) before =
+    let was = run m s before in
+    run-onto m s xs (x ∷ before) ∙ then-assoc was (move m was.world x) (made_by m (move m was.world x).world xs)
+
+-- ---- the gateway's
+
+abbrev pub gate_one : {S : Type 0} → World S → Item → Made S
+gate_one w x = record {
+  world = record w { gate = step w.gate x; to_host = w.to_host ++ given to_host w.gate x; submits = w.submits ++ flat_map named (given notes_of w.gate x) };
+  outs = given to_client w.gate x;
+  items = flat_map item_of (given notes_of w.gate x);
+  accepted = given opens w.gate x;
+}
+
+abbrev pub gate_all : {S : Type 0} → World S → List Item → Made S
+gate_all w xs = record {
+  world = record w { gate = steps w.gate xs; to_host = w.to_host ++ given_by to_host w.gate xs; submits = w.submits ++ flat_map named (given_by notes_of w.gate xs) };
+  outs = given_by to_client w.gate xs;
+  items = flat_map item_of (given_by notes_of w.gate xs);
+  accepted = given_by opens w.gate xs;
+}
+
+abbrev one_by : {S : Type 0} → World S → Item → Bool → Made S
+one_by w x b = record {
+  world = record w { gate = cond b w.gate (after w.gate (mark_of w.gate x)); to_host = w.to_host ++ cond b [] (to_host w.gate (mark_of w.gate x)); submits = w.submits ++ flat_map named (cond b [] (notes_of w.gate (mark_of w.gate x))) };
+  outs = cond b [] (to_client w.gate (mark_of w.gate x));
+  items = flat_map item_of (cond b [] (notes_of w.gate (mark_of w.gate x)));
+  accepted = cond b [] (opens w.gate (mark_of w.gate x));
+}
+
+pub one-is : {S : Type 0} (w : World S) (x : Item) → gate_move w x ≡ gate_one w x
+one-is w x =
+    elim (is_left_out w.gate x) as (λ (b : Bool). cond b (quiet w) (gate_made w (mark_of w.gate x)) ≡ one_by w x b) [
+      | true ↦ (λ i. record { world = record w { to_host = sym (append-nil w.to_host) i; submits = sym (append-nil w.submits) i }; outs = []; items = []; accepted = [] })
+      | false ↦ refl
+    ]
+
+none-more : {S : Type 0} (w : World S) → quiet w ≡ gate_all w []
+none-more w = λ i. record { world = record w { to_host = sym (append-nil w.to_host) i; submits = sym (append-nil w.submits) i }; outs = []; items = []; accepted = [] }
+
+one-more : {S : Type 0} (w : World S) (x : Item) (xs : List Item) → then_made (gate_one w x) (gate_all (gate_one w x).world xs) ≡ gate_all w (x ∷ xs)
+one-more w x xs = λ i. record {
+  world = record w {
+    gate = steps w.gate (x ∷ xs);
+    to_host = append_assoc w.to_host (given to_host w.gate x) (given_by to_host (step w.gate x) xs) i;
+    submits = (append_assoc w.submits (flat_map named (given notes_of w.gate x)) (flat_map named (given_by notes_of (step w.gate x) xs))
+        ∙ ap (λ (l : List Submitted). w.submits ++ l) (sym (flat_map-append named (given notes_of w.gate x) (given_by notes_of (step w.gate x) xs)))) i;
+  };
+  outs = given_by to_client w.gate (x ∷ xs);
+  items = sym (flat_map-append item_of (given notes_of w.gate x) (given_by notes_of (step w.gate x) xs)) i;
+  accepted = given_by opens w.gate (x ∷ xs);
+}
+
+pub client-moves : {S : Type 0} (m : Meaning S) (w : World S) (xs : List Item) → made_by m w (map ByClient xs) ≡ gate_all w xs
+client-moves m w [] = none-more w
+client-moves {S = S} m w (x ∷ xs) =
+    ap (λ (y : Made S). then_made y (made_by m y.world (map ByClient xs))) (one-is w x)
+    ∙ ap (then_made (gate_one w x)) (client-moves m (gate_one w x).world xs)
+    ∙ one-more w x xs
+
+pub told-moves : {S : Type 0} (m : Meaning S) (w : World S) (is : List Found) (later : List (ℕ × RedirPacket)) → Heads w.gate is →
+    made_by m (record w { to_gate = bares is ++ later }) (map (λ (i : Found). GateReads i.0) is) ≡ gate_all (record w { to_gate = later }) (map told_item is)
+told-moves m w [] later h = none-more (record w { to_gate = later })
+told-moves {S = S} m w (i ∷ is) later h =
+    let v : World S = record w { to_gate = bares is ++ later } in
+    let read : gate_move v (Told i.0 (sent_header w.gate.agreed (bare i.1)) i.1.1) ≡ gate_one v (told_item i) = ap (λ (x : Header). gate_move v (Told i.0 x i.1.1)) (sym h.0) ∙ one-is v (told_item i) in
+    ap (λ (y : Made S). then_made y (made_by m y.world (map (λ (j : Found). GateReads j.0) is))) read
+    ∙ ap (then_made (gate_one v (told_item i))) (told-moves m (gate_one v (told_item i)).world is later h.1)
+    ∙ one-more (record w { to_gate = later }) (told_item i) (map told_item is)
+
+-- ---- the host's
+
+abbrev pub host_all : {S : Type 0} → Meaning S → World S → List HostItem → Made S
+host_all m w xs = record {
+  world = record w { host = host_steps m w.host xs; to_gate = w.to_gate ++ host_given (λ v. v.sent) m w.host xs };
+  outs = [];
+  items = flat_map (item_of_host w.submits) (host_given host_notes_of m w.host xs);
+  accepted = [];
+}
+
+pub asked-moves : {S : Type 0} (m : Meaning S) (w : World S) (is : List Found) (later : List (ℕ × RedirPacket)) →
+    made_by m (record w { to_host = bares is ++ later }) (map (λ (i : Found). HostReads) is) ≡ host_all m (record w { to_host = later }) (map asked is)
+asked-moves m w [] later = λ i. record { world = record w { to_host = later; to_gate = sym (append-nil w.to_gate) i }; outs = []; items = []; accepted = [] }
+asked-moves {S = S} m w (i ∷ is) later =
+    let v = host_move m w.host (asked i) in
+    let w1 : World S = record w { host = v.host; to_gate = w.to_gate ++ v.sent } in
+    let more = host_given (λ v. v.sent) m v.host (map asked is) in
+    let notes = host_given host_notes_of m v.host (map asked is) in
+    ap (then_made (record { world = record w1 { to_host = bares is ++ later }; outs = []; items = flat_map (item_of_host w.submits) v.notes; accepted = [] })) (asked-moves m w1 is later)
+    ∙ (λ j. record {
+      world = record w { host = host_steps m v.host (map asked is); to_host = later; to_gate = append_assoc w.to_gate v.sent more j };
+      outs = [];
+      items = sym (flat_map-append (item_of_host w.submits) v.notes notes) j;
+      accepted = [];
+    })

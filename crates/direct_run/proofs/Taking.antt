@@ -1,0 +1,59 @@
+-- What a step makes of a system: it stands for it too, knows of it what it has to know, and told what it sends and tells.
+use Rattle.std.proofs.Common.{◌≡◌, ℕ, ◌≤◌, List, ◌∷◌, ◌++◌, length, drop, sym, ap, ◌∙◌, subst}
+use Rattle.std.specs.List.{flat_map}
+use Rattle.usb_base.specs.Number.{AreBytes}
+use Rattle.gate_core.specs.Events.{Event, host_bytes}
+use Rattle.gate_core.specs.Readable.{piece_bytes}
+use Rattle.model_device.specs.Meaning.{Meaning}
+use Rattle.redir_host.specs.Acts.{Act, guest_bytes}
+use Rattle.direct_run.specs.declared.submitted.Submitted.{Submitted}
+use Rattle.direct_run.specs.declared.told.Told.{Told}
+use Rattle.direct_run.specs.Kept.{SystemKept}
+use Rattle.direct_run.specs.Known.{IsKnown}
+use Rattle.direct_run.specs.Steps.{Step}
+use Rattle.direct_run.specs.World.{Course, happened, acted, sent_to_host, sent_to_gate, after_step, course}
+use Rattle.direct_run.specs.Trace.{told_of_event, told_of_act, act_items, told_of, told_by}
+use Rattle.direct_run.specs.Stands.{Runs, Stands, Takes}
+use Rattle.direct_run.specs.inner.Doing.{DoesEvent, DoesAct}
+use Rattle.direct_run.proofs.Flown.{flows-step, flows-steps}
+use Rattle.direct_run.proofs.Flows.{Flows}
+use Rattle.direct_run.proofs.Knowing.{knows-event, knows-act}
+use Rattle.direct_run.proofs.Wires.{event-runs, act-runs}
+
+pub event-takes : {S : Type 0} (m : Meaning S) (s : S) (old new : SystemKept S) (steps : List Step) (x : Step) (e : Event) (told : Told) (rest : List ℕ) →
+    Stands m s old steps → DoesEvent (record old { to_gate = rest }) new (course m s steps).events e told →
+    rest ≡ drop (length (host_bytes (e ∷ (course m s steps).events))) (sent_to_gate m s (course m s steps)) → length (host_bytes (e ∷ (course m s steps).events)) ≤ length (sent_to_gate m s (course m s steps)) →
+    after_step m s (course m s steps) x ≡ happened (course m s steps) e → told_by m s (course m s steps) x ≡ told_of_event (course m s steps).events e → Takes m s new steps x told
+event-takes {S = S} m s old new steps x e told rest h d rest-is fits same same-told = record {
+  stands = record {
+    works = ap (λ (k : SystemKept S). k.failed) d.new-is ∙ h.works;
+    runs = subst (Runs m s new) (sym same) (event-runs m s old new (course m s steps) e told rest h.runs d rest-is fits);
+    known = subst (IsKnown m s) (sym same) (knows-event m s (course m s steps) e new.gate d.gate h.known);
+    trace-is = ap (λ (k : SystemKept S). k.trace) d.new-is ∙ (λ i. h.trace-is i ++ (ap (λ (t : Told). t.items) (d.told-is ∙ sym same-told)) i);
+  };
+  told-is = d.told-is ∙ sym same-told;
+}
+
+pub act-takes : {S : Type 0} (m : Meaning S) (s : S) (old new : SystemKept S) (steps : List Step) (x : Step) (a : Act) (told : Told) (rest : List ℕ) →
+    Stands m s old steps → DoesAct m s (record old { to_host = rest }) new (course m s steps).acts a told →
+    rest ≡ drop (length (guest_bytes (a ∷ (course m s steps).acts))) (sent_to_host (course m s steps)) → length (guest_bytes (a ∷ (course m s steps).acts)) ≤ length (sent_to_host (course m s steps)) →
+    after_step m s (course m s steps) x ≡ acted (course m s steps) a → told_by m s (course m s steps) x ≡ told_of m s (course m s steps) a → Takes m s new steps x told
+act-takes {S = S} m s old new steps x a told rest h d rest-is fits same same-told = record {
+  stands = record {
+    works = ap (λ (k : SystemKept S). k.failed) d.new-is ∙ h.works;
+    runs = subst (Runs m s new) (sym same) (act-runs m s old new (course m s steps) a told rest h.runs d rest-is fits);
+    known = subst (IsKnown m s) (sym same) (knows-act m s (course m s steps) a new.host d.host flown h.known);
+    trace-is = ap (λ (k : SystemKept S). k.trace) d.new-is ∙ (λ i. h.trace-is i ++ (ap (λ (t : Told). t.items) told-is) i);
+  };
+  told-is = told-is;
+}
+  where
+    told-is : told ≡ told_by m s (course m s steps) x
+    told-is = d.told-is ∙ ap (λ (l : List Submitted). told_of_act m s (course m s steps).acts a (act_items m s (course m s steps).acts l a)) h.runs.submits ∙ sym same-told
+
+    flown : Flows m s (acted (course m s steps) a)
+    flown =
+        subst (Flows m s) same
+        (flows-step m s (course m s steps) x (flows-steps m s steps h.known) h.known
+        (subst (λ (c : Course). AreBytes (flat_map piece_bytes c.events)) (sym same) h.known.bytes)
+        (subst (λ (c : Course). AreBytes (guest_bytes c.acts)) (sym same) d.host.stream.fits))

@@ -1,0 +1,46 @@
+-- What the present client is sent, by events and by moves, and which moves the bytes of clients can make.
+use Rattle.std.specs.Prelude.{List, [], ◌∷◌, ◌++◌}
+use Rattle.usbip_urb.specs.declared.client.ClientPacket.{ClientPacket}
+use Rattle.usbip_urb.specs.ClientPackets.{IsClientPacket}
+use Rattle.gate_core.specs.Events.{Event, ClientPiece, ClientEnd, HostPiece, HostEnd}
+use Rattle.gate_core.specs.Items.{Item, Asked, ClientWrong, ClientLeft, Told, HostWrong, HostLeft}
+use Rattle.gate_core.specs.Output.{to_client}
+use Rattle.model_device.specs.Meaning.{Meaning}
+use Rattle.direct_run.specs.Trace.{given_of}
+use Rattle.direct_run.specs.Moves.{Move, ByClient, HostReads, GateReads, Performs, Offers, Unplugs, move, run}
+
+-- ---- the packets to the present client, which began at the start or behind the last client's end
+
+abbrev pub present : List Event → List ClientPacket
+present [] = []
+present (ClientPiece b ∷ events) = present events ++ given_of to_client events (ClientPiece b)
+present (ClientEnd ∷ events) = []
+present (HostPiece b ∷ events) = present events ++ given_of to_client events (HostPiece b)
+present (HostEnd ∷ events) = present events ++ given_of to_client events HostEnd
+
+abbrev pub then_sent : Move → List ClientPacket → List ClientPacket → List ClientPacket
+then_sent (ByClient ClientLeft) before more = []
+then_sent _ before more = before ++ more
+
+abbrev pub present_outs : {S : Type 0} → Meaning S → S → List Move → List ClientPacket
+present_outs m s [] = []
+present_outs m s (x ∷ xs) = then_sent x (present_outs m s xs) (move m (run m s xs).world x).outs
+
+-- ---- moves that bytes can make
+
+-- a client's packets are in the ranges of their fields, and no client brings a packet of the host
+abbrev pub IsOfClient : Item → Type 0
+IsOfClient (Asked place packet) = IsClientPacket packet
+IsOfClient (ClientWrong place reason) = Unit {0}
+IsOfClient ClientLeft = Unit {0}
+IsOfClient (Told place header packet) = ⊥
+IsOfClient (HostWrong place reason) = ⊥
+IsOfClient HostLeft = ⊥
+
+abbrev pub IsMove : Move → Type 0
+IsMove (ByClient x) = IsOfClient x
+IsMove HostReads = Unit {0}
+IsMove (GateReads place) = Unit {0}
+IsMove (Performs ep) = Unit {0}
+IsMove (Offers ep) = Unit {0}
+IsMove Unplugs = Unit {0}

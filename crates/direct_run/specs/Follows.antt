@@ -1,0 +1,49 @@
+-- That a list of moves on packets follows a course of bytes.
+use Rattle.std.specs.Prelude.{◌≡◌, Bool, true, false, List, ◌∷◌, ◌++◌}
+use Rattle.std.specs.List.{list_any, AllByRecursion}
+use Rattle.gate_core.specs.All.{all_of}
+use Rattle.gate_core.specs.Bytes.{gateway_hello}
+use Rattle.gate_core.specs.History.{history}
+use Rattle.gate_core.specs.Output.{to_client}
+use Rattle.gate_core.specs.State.{state_of}
+use Rattle.gate_core.specs.Submits.{accepted}
+use Rattle.model_device.specs.Meaning.{Meaning}
+use Rattle.redir_host.specs.declared.note.HostNote.{HostNote}
+use Rattle.redir_host.specs.declared.note.HostNote.TheVariants as host_note
+use Rattle.redir_host.specs.History.{history as host_history}
+use Rattle.redir_host.specs.Machine.{all_given, notes_of as host_notes_of}
+use Rattle.redir_host.specs.Output.{first_packet, host_of}
+use Rattle.direct_run.specs.declared.item.Item.{Item}
+use Rattle.direct_run.specs.Clients.{IsMove, present, present_outs}
+use Rattle.direct_run.specs.Moves.{Made, Move, run}
+use Rattle.direct_run.specs.Packets.{sent_by_gate, sent_by_host, read_by_host, read_by_gate, bares}
+use Rattle.direct_run.specs.Trace.{submits_of}
+use Rattle.direct_run.specs.World.{Course, first_id}
+
+-- both sides are the same, the packets on the wires are those that were sent and haven't been read, and the same was sent to
+-- clients, told and accepted
+pub record Follows {S : Type 0} (m : Meaning S) (s : S) (c : Course) (items : List Item) (r : Made S) : Type 0 where
+  pub gate : r.world.gate ≡ state_of first_id (history first_id c.events)
+  pub host : r.world.host ≡ host_of m s c.acts
+  pub submits : r.world.submits ≡ submits_of c.events
+  pub to_host : (0, gateway_hello) ∷ sent_by_gate c ≡ bares (read_by_host c) ++ r.world.to_host
+  pub to_gate : first_packet ∷ sent_by_host m s c ≡ bares (read_by_gate c) ++ r.world.to_gate
+  -- to all clients
+  pub outs : r.outs ≡ all_of to_client first_id (history first_id c.events)
+  pub items-are : r.items ≡ items
+  pub accepted-are : r.accepted ≡ accepted (history first_id c.events)
+
+abbrev pub is_refusal : HostNote → Bool
+is_refusal (host_note.Refused place reason) = true
+is_refusal (host_note.Cancelled id) = false
+
+-- there are moves that follow the course and tell these items
+pub record AreMoves {S : Type 0} (m : Meaning S) (s : S) (c : Course) (items : List Item) : Type 0 where
+  pub moves : List Move
+  -- each is one that bytes can make
+  pub legal : AllByRecursion IsMove moves
+  pub follows : Follows m s c items (run m s moves)
+  -- and the present client is sent the same
+  pub present-is : present c.events ≡ present_outs m s moves
+  -- the host has refused nothing of what came
+  pub unrefused : list_any is_refusal (all_given host_notes_of m s (host_history c.acts)) ≡ false

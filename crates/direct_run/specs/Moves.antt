@@ -1,0 +1,122 @@
+-- The gateway and the modelled host as two machines on two wires of packets. Lists of moves have the latest first.
+use Rattle.std.specs.Prelude.{ℕ, if◌then◌else◌, List, [], ◌∷◌, ◌++◌}
+use Rattle.std.specs.List.{flat_map}
+use Rattle.redir_data.specs.declared.packet.RedirPacket.{RedirPacket}
+use Rattle.redir_data.specs.Sent.{sent_header}
+use Rattle.usbip_urb.specs.declared.client.ClientPacket.{ClientPacket}
+use Rattle.gate_core.specs.Items.{Item as GateItem, Told}
+use Rattle.gate_core.specs.Marks.{Submission, Mark}
+use Rattle.gate_core.specs.Submits.{opened}
+use Rattle.gate_core.specs.State.{State}
+use Rattle.gate_core.specs.Meaning.{mark_of}
+use Rattle.gate_core.specs.Past.{is_left_out}
+use Rattle.gate_core.specs.Output.{to_client, to_host}
+use Rattle.gate_core.specs.Notes.{notes_of}
+use Rattle.gate_core.specs.Bytes.{gateway_hello}
+use Rattle.gate_core.specs.Machine.{after, start as first_state}
+use Rattle.model_device.specs.Meaning.{Meaning}
+use Rattle.redir_host.specs.declared.host.Host.{Host}
+use Rattle.redir_host.specs.Machine.{first_host}
+use Rattle.redir_host.specs.Moves.{Move as HostMove}
+use Rattle.redir_host.specs.Offering.{offer_move, told_offered, unplug_move}
+use Rattle.redir_host.specs.Output.{first_packet}
+use Rattle.redir_host.specs.Packets.{packet_move}
+use Rattle.redir_host.specs.Performing.{perform_move, told_performed}
+use Rattle.direct_run.specs.declared.item.Item.{Item}
+use Rattle.direct_run.specs.declared.submitted.Submitted.{Submitted}
+use Rattle.direct_run.specs.Noted.{item_of, item_of_host, named, performed_item, offered_item}
+use Rattle.direct_run.specs.World.{first_id}
+
+-- the packets on the wires, each with its id, the next one first
+pub record World (S : Type 0) : Type 0 where
+  pub gate : State
+  pub host : Host S
+  pub to_host : List (ℕ × RedirPacket)
+  pub to_gate : List (ℕ × RedirPacket)
+  -- the submits that were accepted, with the ids of their packets
+  pub submits : List Submitted
+
+-- each side has sent its hello
+abbrev pub first_world : {S : Type 0} → S → World S
+first_world s = record {
+  gate = first_state first_id;
+  host = first_host s;
+  to_host = (0, gateway_hello) ∷ [];
+  to_gate = first_packet ∷ [];
+  submits = [];
+}
+
+-- what a move makes: the packets to the client, the items in the order in which they came about, and the submits that are
+-- accepted
+pub record Made (S : Type 0) : Type 0 where
+  pub world : World S
+  pub outs : List ClientPacket
+  pub items : List Item
+  pub accepted : List Submission
+
+abbrev pub quiet : {S : Type 0} → World S → Made S
+quiet w = record { world = w; outs = []; items = []; accepted = [] }
+
+-- first the one, then the other
+abbrev pub then_made : {S : Type 0} → Made S → Made S → Made S
+then_made x y = record { world = y.world; outs = x.outs ++ y.outs; items = x.items ++ y.items; accepted = x.accepted ++ y.accepted }
+
+-- ---- the gateway
+
+-- what an item opens
+abbrev pub opens : State → Mark → List Submission
+opens st m = opened m.what
+
+abbrev pub gate_made : {S : Type 0} → World S → Mark → Made S
+gate_made w m = record {
+  world = record w { gate = after w.gate m; to_host = w.to_host ++ to_host w.gate m; submits = w.submits ++ flat_map named (notes_of w.gate m) };
+  outs = to_client w.gate m;
+  items = flat_map item_of (notes_of w.gate m);
+  accepted = opens w.gate m;
+}
+
+-- an item of a side that is over is left out
+abbrev pub gate_move : {S : Type 0} → World S → GateItem → Made S
+gate_move w x = if is_left_out w.gate x then quiet w else gate_made w (mark_of w.gate x)
+
+-- the next packet, as it is read at this place of the host's stream
+abbrev pub gate_reads : {S : Type 0} → World S → ℕ → List (ℕ × RedirPacket) → Made S
+gate_reads w place [] = quiet w
+gate_reads w place (p ∷ ps) = gate_move (record w { to_gate = ps }) (Told place (sent_header w.gate.agreed p) p.1)
+
+-- ---- the host
+
+abbrev pub host_made : {S : Type 0} → World S → HostMove S → List Item → Made S
+host_made w v items = record { world = record w { host = v.host; to_gate = w.to_gate ++ v.sent }; outs = []; items = items; accepted = [] }
+
+abbrev pub host_takes : {S : Type 0} → World S → HostMove S → Made S
+host_takes w v = host_made w v (flat_map (item_of_host w.submits) v.notes)
+
+abbrev pub host_reads : {S : Type 0} → Meaning S → World S → List (ℕ × RedirPacket) → Made S
+host_reads m w [] = quiet w
+host_reads m w (p ∷ ps) = host_takes (record w { to_host = ps }) (packet_move m w.host p.0 p.1)
+
+-- ---- all moves
+
+pub data Move : Type 0 where
+  -- a packet or a wrong place of the client, or its end
+  ByClient : GateItem → Move
+  -- the next packet on a wire has got there
+  HostReads : Move
+  GateReads : (place : ℕ) → Move
+  -- what is done with the device
+  Performs : (ep : ℕ) → Move
+  Offers : (ep : ℕ) → Move
+  Unplugs : Move
+
+abbrev pub move : {S : Type 0} → Meaning S → World S → Move → Made S
+move m w (ByClient x) = gate_move w x
+move m w HostReads = host_reads m w w.to_host
+move m w (GateReads place) = gate_reads w place w.to_gate
+move m w (Performs ep) = host_made w (perform_move m w.host ep) (performed_item w.submits ep (told_performed m w.host ep))
+move m w (Offers ep) = host_made w (offer_move m w.host ep) (offered_item ep (told_offered m w.host ep))
+move m w Unplugs = host_made w (unplug_move w.host) []
+
+abbrev pub run : {S : Type 0} → Meaning S → S → List Move → Made S
+run m s [] = quiet (first_world s)
+run m s (x ∷ xs) = then_made (run m s xs) (move m (run m s xs).world x)
