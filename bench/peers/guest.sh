@@ -6,7 +6,7 @@ export PATH=/bin:/sbin:/usr/bin:/usr/sbin
 mount -t proc proc /proc
 mount -t sysfs sys /sys
 mount -t devtmpfs dev /dev
-mkdir -p /run /var/run /dev/bus/usb
+mkdir -p /run /var/run /dev/bus/usb /mnt
 GATEWAY=10.0.2.2
 
 say() { echo "@@ $*"; }
@@ -62,19 +62,30 @@ disk() { ls /dev/sd[a-z] 2> /dev/null | head -n 1; }
 
 has_disk() { [ -b "$(disk)" ] && [ "$(cat "/sys/block/$(basename "$(disk)")/size")" -gt 0 ]; }
 
-# Writes a mebibyte to the disk, and reads it back past the system's cache.
+forget_cache() { sync && echo 3 > /proc/sys/vm/drop_caches; }
+
+# copy_disk SIZE COUNT: writes so many pieces to the disk, and reads them back past the system's cache.
 copy_disk() {
     await has_disk || return
-    dd if=/dev/urandom of=/run/written bs=64k count=16 2> /dev/null &&
-        dd if=/run/written of="$(disk)" bs=64k conv=fsync 2> /dev/null &&
-        echo 3 > /proc/sys/vm/drop_caches &&
-        dd if="$(disk)" of=/run/read bs=64k count=16 2> /dev/null &&
-        cmp /run/written /run/read && echo "a mebibyte was written, and read back"
+    dd if=/dev/urandom of=/run/written bs="$1" count="$2" 2> /dev/null &&
+        dd if=/run/written of="$(disk)" bs="$1" conv=fsync 2> /dev/null &&
+        forget_cache &&
+        dd if="$(disk)" of=/run/read bs="$1" count="$2" 2> /dev/null &&
+        cmp /run/written /run/read && echo "$2 times $1 bytes were written, and read back"
+}
+
+# Makes a file system on the disk, and reads a file back once that is mounted anew.
+keep_file() {
+    dd if=/dev/urandom of=/run/file bs=1k count=12 2> /dev/null
+    mkfs.minix "$(disk)" > /dev/null && mount -t minix "$(disk)" /mnt && cp /run/file /mnt/file && umount /mnt || return
+    forget_cache
+    mount -t minix "$(disk)" /mnt && cmp /run/file /mnt/file && umount /mnt &&
+        echo "blocks, and a file of a file system, were written and read back"
 }
 
 # The report of a key that bench/peers/run presses once it reads this.
 press_key() {
-    say "keys" > /dev/console
+    say "key" > /dev/console
     usbfs "$1" interrupt 0x81 8 1
 }
 
@@ -84,7 +95,8 @@ transfers() {
         keyboard) usbfs "$2" interrupt 0x81 8 3 ;;
         loop) usbfs "$2" loop 0x01 0x81 512 && usbfs "$2" loop 0x01 0x81 16384 && usbfs "$2" loop 0x01 0x81 65536 ;;
         tone) usbfs "$2" iso 0 1 0x81 192 ;;
-        disk) copy_disk ;;
+        disk) copy_disk 64k 16 ;;
+        blocks) copy_disk 512 64 && keep_file ;;
         keys) press_key "$2" ;;
         sound) usbfs "$2" iso 1 1 0x01 192 ;;
     esac
@@ -135,12 +147,61 @@ client_session() {
     step "$1: detaches again" detach "$3"
 }
 
-# A report that is waited for ends with ESHUTDOWN, once the host's machine has been killed.
+# sees_loss MARK KIND ID: what waits, or runs, fails once bench/peers/run has read the mark and has taken the device away.
+# A read that waits ends with ESHUTDOWN.
 sees_loss() {
-    say "kill the host" > /dev/console
-    usbfs "$1" interrupt 0x81 8 1 > /run/lost
-    cat /run/lost
-    grep -q 'endpoint shutdown' /run/lost
+    say "$1" > /dev/console
+    case $2 in
+        blocks) while copy_disk 512 64; do :; done 2>&1 | tail -n 1 ;;
+        *)
+            usbfs "$3" interrupt 0x81 512 1 > /run/lost
+            cat /run/lost
+            grep -q 'endpoint shutdown' /run/lost
+            ;;
+    esac
+}
+
+has_port() { usbip port 2> /dev/null | grep '<Port in Use>'; }
+
+has_none() { ! has_port; }
+
+# The gateway lets a client go that has lost its device, where it was told so; else the client has to detach.
+leaves() {
+    if [ "$LOSS" = close ]; then
+        step "$1: its port is free by itself" await has_none
+    else
+        sleep 5
+        step "$1: its port stays taken" has_port
+        step "$1: detaches" detach "$2"
+    fi
+    step "$1: the device is gone" await is_gone "$2"
+}
+
+# The device may not be there yet.
+attach_soon() {
+    for _ in $(seq 30); do
+        attach "$@" && return
+        sleep 1
+    done
+}
+
+# A device that is pulled out while a client has it, and plugged in again.
+return_session() {
+    step "$1: attaches" attach "$2" "$3" || return
+    step "$1: transfers" transfers "$4" "$3"
+    step "$1: fails once it is pulled out" sees_loss "pull $1" "$4" "$3"
+    leaves "$1" "$3"
+    say "plug $1"
+    step "$1: attaches again" attach_soon "$2" "$3" || return
+    step "$1: transfers again" transfers "$4" "$3"
+    step "$1: detaches again" detach "$3"
+}
+
+# A device whose host is killed while a client has it.
+loss_session() {
+    step "$1: attaches" attach "$2" "$3" || return
+    step "$1: fails once its host is gone" sees_loss "kill the host" "$4" "$3"
+    leaves "$1" "$3"
 }
 
 network() {
@@ -155,7 +216,7 @@ network() {
 load() { for module in "$@"; do modprobe "$module" || say "FAILED: no module $module"; done; }
 
 . /session
-load virtio_pci virtio_net xhci-pci usb-storage sd_mod
+load virtio_pci virtio_net xhci-pci usb-storage sd_mod minix
 network
 case $ROLE in
     host)
@@ -194,13 +255,12 @@ case $ROLE in
         say "kill me"
         sleep 600
         ;;
-    loses)
+    returns | loses)
         load vhci-hcd
+        session=return_session
+        [ "$ROLE" = returns ] || session=loss_session
         echo "$DEVICES" | while read -r name port id kind; do
-            [ -n "$name" ] || continue
-            step "$name: attaches" attach "$port" "$id"
-            step "$name: a read that waits is answered once the host is gone" sees_loss "$id"
-            step "$name: detaches" detach "$id"
+            [ -z "$name" ] || $session "$name" "$port" "$id" "$kind"
         done
         ;;
     machine)
