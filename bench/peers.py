@@ -116,16 +116,18 @@ def gateway_at(host, listen, after_loss="keep"):
 class Session:
     """The program between a host and clients. It ends with the block, and with a status of its own."""
 
-    def __init__(self, cut=None, after_loss="keep"):
+    def __init__(self, cut=None, after_loss="keep", out=None):
         self.cut = cut
         self.after_loss = after_loss
+        self.out = out
         self.status = None
 
     def __enter__(self):
         self.port = free_port()
         with socket.create_server(("127.0.0.1", 0)) as door:
             door.settimeout(PATIENCE)
-            self.program = subprocess.Popen(gateway_at(door.getsockname()[1], self.port, self.after_loss))
+            command = gateway_at(door.getsockname()[1], self.port, self.after_loss)
+            self.program = subprocess.Popen(command, stdout=self.out, stderr=self.out)
             self.host = Host(tuned(door.accept()[0]), self.cut)
         return self
 
