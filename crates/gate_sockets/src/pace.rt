@@ -7,7 +7,7 @@ use std::time::Duration;
 const MADE_UP: u32 = 16;
 
 /// A poll that finds nothing ends an interval, one after another.
-#[derive(Clone, Copy, Debug)]
+#[derive(Clone, Copy)]
 pub(crate) struct Pace {
     interval: Duration,
     /// When the interval ends that has begun, by the clock.

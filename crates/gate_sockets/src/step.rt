@@ -7,7 +7,7 @@ use std::io;
 use std::io::ErrorKind;
 
 /// What one call of the system gave.
-#[derive(Clone, Copy, Debug)]
+#[derive(Clone, Copy)]
 pub(crate) enum Step {
     Moved(usize),
     /// Nothing can be moved until the system tells so.

@@ -6,7 +6,7 @@ use std::net::SocketAddr;
 use std::{fmt, io};
 
 /// One end of a link.
-#[derive(Clone, Copy, Debug)]
+#[derive(Clone, Copy)]
 pub(crate) struct Peer {
     pub(crate) side: Side,
     pub(crate) addr: Option<SocketAddr>,

@@ -17,7 +17,7 @@ use std::alloc::Global;
 use usb_base::{Bytes, EpAddr, Memory, StreamPacket};
 
 /// The device, and what its guest has asked of it.
-#[derive(Debug, Drop)]
+#[derive(Drop)]
 pub struct Host<G> {
     pub gadget: G,
     /// What the guest's hello has told.

@@ -17,7 +17,7 @@ use usb_base::{Bytes, EpAddr, Memory};
 
 /// The host of a device, and its guest's stream. Once memory has run out in a call, every later one answers `Memory`
 /// and changes nothing.
-#[derive(Debug, Drop)]
+#[derive(Drop)]
 pub struct HostCore<G: Gadget> {
     kept: Kept<G>,
 }

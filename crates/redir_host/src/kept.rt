@@ -25,7 +25,7 @@ use std::alloc::Global;
 use usb_base::{Bytes, EpAddr, Memory};
 
 /// The guest's stream, and the host that takes its packets.
-#[derive(Debug, Drop)]
+#[derive(Drop)]
 pub struct Kept<G> {
     pub alloc: Global,
     pub stream: Stream<FromGuest>,

@@ -14,7 +14,7 @@ use std::marker::Model;
 use usb_base::{EpAddr, EpTable, Memory};
 
 /// The requests in order of arrival, whatever their endpoint; contracts see it as their list.
-#[derive(Debug, Drop)]
+#[derive(Drop)]
 pub struct Queue {
     requests: Vec<Request>,
 }
@@ -29,7 +29,7 @@ impl Model for Queue {
 }
 
 /// A request that a cancel took.
-#[derive(Debug, Drop)]
+#[derive(Drop)]
 pub struct Cancelled {
     pub request: Request,
     /// Its mark goes to the next request that comes, since none is behind it.

@@ -3,7 +3,7 @@
 use usb_base::{Setup, Transfer};
 
 /// The packet by which a request came. Its answer repeats these fields.
-#[derive(Clone, Copy, Debug, PartialEq, Eq)]
+#[derive(Clone, Copy, PartialEq, Eq)]
 pub enum Form {
     /// `usb_redir_control_packet`, with the fields of its setup.
     Control(Setup),
@@ -22,7 +22,7 @@ pub enum Form {
 }
 
 /// A request that waits in the queue of its endpoint.
-#[derive(Debug, Drop)]
+#[derive(Drop)]
 pub struct Request {
     /// Of its packet. Nothing says that no two requests have one id.
     pub id: u64,
@@ -33,7 +33,7 @@ pub struct Request {
 }
 
 /// What a packet that moves data asks.
-#[derive(Debug, Drop)]
+#[derive(Drop)]
 pub enum Asking {
     /// Nothing: it is of a kind that a guest has no use for.
     Nothing,

@@ -12,21 +12,21 @@ use std::marker::Model;
 use usb_base::{EpAddr, EpTable, Memory};
 
 /// What a stream was started as. Its packets are of this type until it is stopped, whatever its endpoint is then.
-#[derive(Clone, Copy, Debug, PartialEq, Eq)]
+#[derive(Clone, Copy, PartialEq, Eq)]
 pub enum StreamKind {
     Iso,
     Interrupt,
 }
 
 /// A stream that runs: packets of this IN endpoint go to the guest as the device has them.
-#[derive(Clone, Copy, Debug)]
+#[derive(Clone, Copy)]
 pub struct Running {
     pub ep: EpAddr,
     pub kind: StreamKind,
 }
 
 /// The streams that run, at most one of an endpoint; contracts see the list of them.
-#[derive(Debug, Drop)]
+#[derive(Drop)]
 pub struct Streams {
     streams: Vec<Running>,
 }
