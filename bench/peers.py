@@ -1,5 +1,6 @@
 """The program between sockets of this machine, and the peers at both ends, as the scripts of this folder play them."""
 import os
+import signal
 import socket
 import struct
 import subprocess
@@ -63,6 +64,19 @@ class Peer:
         """Goes as a process does that is killed with bytes unread: its link is reset."""
         self.link.setsockopt(socket.SOL_SOCKET, socket.SO_LINGER, struct.pack("ii", 1, 0))
         self.close()
+
+    def kill(self):
+        """Goes with a process that holds the link as the last one, and is killed."""
+        holder = os.fork()
+        if holder == 0:
+            signal.pause()
+        self.close()
+        os.kill(holder, signal.SIGKILL)
+        os.waitpid(holder, 0)
+
+    def shut(self):
+        """Closes its own direction of the link."""
+        self.link.shutdown(socket.SHUT_WR)
 
 
 class Host(Peer):

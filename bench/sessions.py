@@ -85,7 +85,7 @@ def leave_unread(session, client, idents):
 
 def leave_half(_, client, idents):
     """Closes one direction, and waits for the other to be closed."""
-    client.link.shutdown(socket.SHUT_WR)
+    client.shut()
     assert client.ends(), "the link isn't closed"
     client.close()
     return idents
@@ -99,7 +99,7 @@ def leave(how):
 
 
 def fifty_clients_that_go():
-    ways = [leave(Peer.close), leave(Peer.reset), leave_unread, leave_half]
+    ways = [leave(Peer.close), leave(Peer.reset), leave(Peer.kill), leave_unread, leave_half]
     with Session() as session:
         for turn in range(50):
             client = imported(session)
@@ -124,7 +124,7 @@ def expect_lost(client):
 
 def hosts_that_go():
     for after_loss in ["keep", "close"]:
-        for how in [Peer.close, Peer.reset]:
+        for how in [Peer.close, Peer.reset, Peer.kill, Peer.shut]:
             with Session(after_loss=after_loss) as session:
                 client = Client(session.link())
                 ask(client)

@@ -1,5 +1,9 @@
 //! The pace at which a link is polled that has nothing to give.
 
+ghost use Rattle.std.specs.Prelude.{◌≡◌, ◌≤◌, ◌<◌, ◌+◌, ◌-◌, min};
+ghost use Rattle.std.specs.Duration.{as_nanos};
+ghost use Rattle.gate_sockets.specs.Pace.{next_due};
+
 use std::rt::Clock;
 use std::time::Duration;
 
@@ -15,23 +19,49 @@ pub(crate) struct Pace {
 }
 
 impl Pace {
-    pub(crate) fn new(interval: Duration) -> Pace {
+    pub(crate) fn new(interval: Duration) -> Pace
+        ensures { result.interval ≡ interval }
+    {
         Pace {
             interval,
             due: Duration::ZERO,
         }
     }
 
-    /// How long it is to the end of the interval. Where that has ended the next one begins.
-    pub(crate) fn left(&mut self, clock: &impl Clock) -> Duration {
-        let Ok(now) = clock.monotonic() else {
-            return self.interval;
-        };
-        if self.due <= now {
-            let most = self.interval.saturating_mul(MADE_UP);
-            let begun = self.due.max(now.saturating_sub(most));
-            self.due = begun.saturating_add(self.interval);
+    /// How long it is to the end of the interval, and never longer than one. Where that has ended the next one begins.
+    pub(crate) fn left(&mut self, clock: &impl Clock) -> Duration
+        ensures { as_nanos result ≤ as_nanos self.old.interval }
+    {
+        match clock.monotonic() {
+            Ok(now) => self.left_at(now),
+            Err(_) => self.interval,
         }
-        self.due.saturating_sub(now)
+    }
+
+    /// The same at this time.
+    fn left_at(&mut self, now: Duration) -> Duration
+        ensures early { as_nanos now < as_nanos self.old.due → self.new ≡ self.old }
+        ensures late { as_nanos self.old.due ≤ as_nanos now → as_nanos self.new.due ≡ next_due (as_nanos self.old.interval) (as_nanos self.old.due) (as_nanos now) }
+        ensures interval { self.new.interval ≡ self.old.interval }
+        ensures left { as_nanos result ≡ min (as_nanos self.new.due - as_nanos now) (as_nanos self.old.interval) }
+    {
+        if let Some(late) = now.checked_sub(self.due) {
+            self.due = self.next(late);
+        }
+        let left = self.due.saturating_sub(now);
+        match left.checked_sub(self.interval) {
+            Some(_) => self.interval,
+            None => left,
+        }
+    }
+
+    /// When the next interval ends, where the last one's end is so long ago.
+    fn next(&self, late: Duration) -> Duration
+        ensures { as_nanos result ≡ next_due (as_nanos self.now.interval) (as_nanos self.now.due) (as_nanos self.now.due + as_nanos late) }
+    {
+        let most = self.interval.saturating_mul(MADE_UP);
+        let given_up = late.saturating_sub(most);
+        let begun = self.due.saturating_add(given_up);
+        begun.saturating_add(self.interval)
     }
 }
