@@ -17,6 +17,8 @@ mod inbox;
 #[cfg(test)]
 mod laid_out;
 #[cfg(test)]
+mod lanes;
+#[cfg(test)]
 mod outside;
 #[cfg(test)]
 mod requests;

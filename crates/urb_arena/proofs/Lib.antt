@@ -1,0 +1,10 @@
+pub mod Ends
+pub mod Joins
+pub mod Keys
+pub mod Lanes
+pub mod Moves
+pub mod Parts
+pub mod Rooms
+pub mod Sharing
+pub mod Starts
+pub mod Views

@@ -1,0 +1,4 @@
+pub mod ArenaLends
+pub mod Inner
+pub mod Lanes
+pub mod Seen
