@@ -194,6 +194,7 @@ attach_soon() {
         attach "$@" && return
         sleep 1
     done
+    return 1
 }
 
 # A device that is pulled out while a client has it, and plugged in again.
@@ -213,6 +214,17 @@ loss_session() {
     step "$1: attaches" attach "$2" "$3" || return
     step "$1: fails once its host is gone" sees_loss "kill the host" "$4" "$3"
     leaves "$1" "$3"
+}
+
+# Offers a device whenever it is there. Where it is pulled out usbredirect stays, with no device, and has to begin anew.
+offers() {
+    while :; do
+        usbredirect --device "$1" --as "0.0.0.0:$2" &
+        while kill -0 $! && folder_of "$1"; do sleep 1; done
+        kill $!
+        wait
+        sleep 1
+    done
 }
 
 network() {
@@ -235,7 +247,7 @@ case $ROLE in
         echo "$DEVICES" | while read -r name port id kind; do
             [ -n "$name" ] || continue
             await is_up "$id"
-            ( while :; do usbredirect --device "$id" --as "0.0.0.0:$port"; sleep 1; done ) > "/run/$name" 2>&1 &
+            offers "$id" "$port" > "/run/$name" 2>&1 &
             say "ok $name: is offered at port $port"
         done
         say "ready"
