@@ -66,7 +66,6 @@ forget_cache() { sync && echo 3 > /proc/sys/vm/drop_caches; }
 
 # copy_disk SIZE COUNT: writes so many pieces to the disk, and reads them back past the system's cache.
 copy_disk() {
-    await has_disk || return
     dd if=/dev/urandom of=/run/written bs="$1" count="$2" 2> /dev/null &&
         dd if=/run/written of="$(disk)" bs="$1" conv=fsync 2> /dev/null &&
         forget_cache &&
@@ -95,8 +94,8 @@ transfers() {
         keyboard) usbfs "$2" interrupt 0x81 8 3 ;;
         loop) usbfs "$2" loop 0x01 0x81 512 && usbfs "$2" loop 0x01 0x81 16384 && usbfs "$2" loop 0x01 0x81 65536 ;;
         tone) usbfs "$2" iso 0 1 0x81 192 ;;
-        disk) copy_disk 64k 16 ;;
-        blocks) copy_disk 512 64 && keep_file ;;
+        disk) await has_disk && copy_disk 64k 16 ;;
+        blocks) await has_disk && copy_disk 512 64 && keep_file ;;
         keys) press_key "$2" ;;
         sound) usbfs "$2" iso 1 1 0x01 192 ;;
     esac
@@ -152,7 +151,10 @@ client_session() {
 sees_loss() {
     say "$1" > /dev/console
     case $2 in
-        blocks) while copy_disk 512 64; do :; done 2>&1 | tail -n 1 ;;
+        blocks)
+            while copy_disk 512 64; do :; done > /dev/null 2>&1
+            echo "a copy failed"
+            ;;
         *)
             usbfs "$3" interrupt 0x81 512 1 > /run/lost
             cat /run/lost
@@ -161,9 +163,18 @@ sees_loss() {
     esac
 }
 
-has_port() { usbip port 2> /dev/null | grep '<Port in Use>'; }
+# The kernel's own ports: 004 stands for a free one.
+VHCI=/sys/devices/platform/vhci_hcd.0
+
+has_port() { awk '$3 ~ /^[0-9]+$/ && $3 != "004" { print; taken = 1 } END { exit !taken }' "$VHCI/status"; }
 
 has_none() { ! has_port; }
+
+# usbip can't read the ports while one of them has a device that the kernel has given up.
+detach_lost() {
+    detach "$1" && echo "by usbip" && return
+    has_port | awk '{ print $2 + 0 }' > "$VHCI/detach" && await has_none && echo "by vhci_hcd's own file, since usbip can't"
+}
 
 # The gateway lets a client go that has lost its device, where it was told so; else the client has to detach.
 leaves() {
@@ -172,7 +183,7 @@ leaves() {
     else
         sleep 5
         step "$1: its port stays taken" has_port
-        step "$1: detaches" detach "$2"
+        step "$1: detaches" detach_lost "$2"
     fi
     step "$1: the device is gone" await is_gone "$2"
 }
@@ -183,6 +194,7 @@ attach_soon() {
         attach "$@" && return
         sleep 1
     done
+    return 1
 }
 
 # A device that is pulled out while a client has it, and plugged in again.
@@ -202,6 +214,17 @@ loss_session() {
     step "$1: attaches" attach "$2" "$3" || return
     step "$1: fails once its host is gone" sees_loss "kill the host" "$4" "$3"
     leaves "$1" "$3"
+}
+
+# Offers a device whenever it is there. Where it is pulled out usbredirect stays, with no device, and has to begin anew.
+offers() {
+    while :; do
+        usbredirect --device "$1" --as "0.0.0.0:$2" &
+        while kill -0 $! && folder_of "$1"; do sleep 1; done
+        kill $!
+        wait
+        sleep 1
+    done
 }
 
 network() {
@@ -224,7 +247,7 @@ case $ROLE in
         echo "$DEVICES" | while read -r name port id kind; do
             [ -n "$name" ] || continue
             await is_up "$id"
-            ( while :; do usbredirect --device "$id" --as "0.0.0.0:$port"; sleep 1; done ) > "/run/$name" 2>&1 &
+            offers "$id" "$port" > "/run/$name" 2>&1 &
             say "ok $name: is offered at port $port"
         done
         say "ready"

@@ -1,4 +1,5 @@
 """A modelled device that can be pulled out and plugged in again, while the link of its host stays up."""
+import contextlib
 import socket
 import struct
 import threading
@@ -43,7 +44,7 @@ class Plug:
     def hear_gateway(self):
         self.gateway, _ = self.door.accept()
         self.hello = read(self.gateway, HELLO_LENGTH)
-        self.gateway.sendall(self.plug())
+        self.plug(self.gateway.sendall)
         while said := packet(self.gateway):
             with self.lock:
                 # what is asked of a device that is gone is lost
@@ -56,15 +57,14 @@ class Plug:
                 if self.device is device:
                     self.gateway.sendall(said)
 
-    def plug(self):
-        """Plugs the device in, and gives the hello of its host."""
+    def plug(self, take_hello=lambda hello: None):
+        """Plugs the device in. Its host's hello is for the link's beginning alone."""
         device = socket.create_connection(("127.0.0.1", self.lend()))
         device.sendall(self.hello)
-        hello = read(device, HELLO_LENGTH)
+        take_hello(read(device, HELLO_LENGTH))
         with self.lock:
             self.device = device
         threading.Thread(target=self.hear_device, args=[device], daemon=True).start()
-        return hello
 
     def pull(self):
         with self.lock:
@@ -73,5 +73,6 @@ class Plug:
         device.shutdown(socket.SHUT_RDWR)
 
     def close(self):
-        """The host's end."""
-        self.gateway.shutdown(socket.SHUT_RDWR)
+        """Ends the host's link, unless the gateway has."""
+        with contextlib.suppress(OSError):
+            self.gateway.shutdown(socket.SHUT_RDWR)
