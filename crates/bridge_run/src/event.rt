@@ -2,7 +2,7 @@
 
 /// What comes by the links: a client, the next piece of a side's stream, its end, or nothing from the client that is
 /// there.
-#[derive(Clone, Copy, Debug)]
+#[derive(Clone, Copy)]
 pub enum Event<'a> {
     ClientComes,
     ClientPiece(&'a [u8]),

@@ -8,7 +8,7 @@ use crate::serve_end::ServeEnd;
 use usb_base::{Refusal, Side};
 
 /// Which links are up, and how long it goes on.
-#[derive(Clone, Copy, Debug)]
+#[derive(Clone, Copy)]
 pub struct Kept {
     pub client_up: bool,
     pub host_up: bool,

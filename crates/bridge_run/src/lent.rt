@@ -30,7 +30,7 @@ const IN_ADDRESSES: [u8; 15] = [
 ];
 
 /// What is done with an endpoint: its first request is performed, or its stream is offered a packet.
-#[derive(Clone, Copy, Debug)]
+#[derive(Clone, Copy)]
 pub enum Use {
     Perform,
     Offer,

@@ -10,7 +10,7 @@ use std::alloc::Global;
 use usb_base::{Bytes, List, Memory, Refusal, Side};
 
 /// The bytes that go to each side, the sides that are refused, and whether the client is let go.
-#[derive(Debug, Drop)]
+#[derive(Drop)]
 pub struct Sent {
     pub to_client: Bytes,
     pub to_host: Bytes,

@@ -3,7 +3,7 @@
 use usb_base::{Memory, Refusal, Side};
 
 /// Why serving has ended.
-#[derive(Clone, Copy, Debug, PartialEq, Eq)]
+#[derive(Clone, Copy, PartialEq, Eq)]
 pub enum ServeEnd {
     /// The host has ended or was refused, and no client's link is up. With the first refusal of all.
     Ended { refused: Option<Refusal> },

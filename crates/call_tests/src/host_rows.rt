@@ -3,7 +3,8 @@
 /// What a call tells: a word and its number, an id or a place.
 pub type Told = (&'static str, u64);
 
-/// A call, what it sends, and what it tells. A call is `g` and bytes of the guest, `p` or `o` and an endpoint, or `x`.
+/// A call, what it sends, and what it tells. A call is `g` and bytes of the guest, `b` and such bytes one by one, `p` or
+/// `o` and an endpoint, or `x`.
 pub type Row = (&'static str, &'static str, Told);
 
 pub const QUIET: Told = ("", 0);
@@ -326,3 +327,10 @@ pub const ANNOUNCES_NOTHING: &[Row] = &[
         ("cancelled", 2),
     ),
 ];
+
+/// A guest whose bytes come one by one.
+pub const BYTE_BY_BYTE: &[Row] = &[(
+    "b GH BULK @2 8000020000000000 0000 65000000 0e000000 @3 1100040000000000 0000 a1a2a3a4",
+    "EPU IIU DCL BULK @2 8002 00*8 BULK @3 1102 00*8",
+    QUIET,
+)];

@@ -5,14 +5,12 @@ use crate::laid_out::bytes;
 use model_device::{Gadget, Keyboard, Loopback, Tone};
 use redir_host::{HostCore, HostNote, Offered, Performed};
 use std::alloc::Global;
-use std::process::Abort;
 use std::test::Fail;
 use usb_base::{Bytes, EpAddr, Memory};
 
-fn address(alloc: Global, word: &str) -> Result<EpAddr, Fail> {
-    let byte = bytes(alloc, word)?;
-    let byte = byte.as_slice().first().copied().ok_or("no byte")?;
-    Ok(EpAddr::new(byte).ok_or("no address")?)
+/// The endpoint of these hexadecimal digits.
+fn address(digits: &str) -> Option<EpAddr> {
+    EpAddr::new(u8::from_str_radix(digits, 16).ok()?)
 }
 
 fn noted(notes: &[HostNote]) -> Told {
@@ -52,161 +50,176 @@ fn heard<G: Gadget>(
     Ok(noted(notes.as_slice()))
 }
 
+/// Each byte of these words is a piece of its own.
+fn heard_by_bytes<G: Gadget>(
+    alloc: Global,
+    core: &mut HostCore<G>,
+    words: &str,
+    out: &mut Bytes,
+) -> Result<Told, Memory> {
+    let bytes = bytes(alloc, words)?;
+    for byte in bytes.as_slice() {
+        core.take(&[*byte], out)?;
+    }
+    Ok(QUIET)
+}
+
+/// The device is used at this endpoint: performed, or offered.
+fn used<G: Gadget>(
+    core: &mut HostCore<G>,
+    letter: &str,
+    ep: EpAddr,
+    out: &mut Bytes,
+) -> Result<Told, Memory> {
+    match letter {
+        "p" => Ok(performed(core.perform(ep, out)?)),
+        _ => Ok(offered(core.offer(ep, out)?)),
+    }
+}
+
+fn unplugged<G: Gadget>(core: &mut HostCore<G>, out: &mut Bytes) -> Result<Told, Memory> {
+    let told = if core.unplug(out)? {
+        "gone"
+    } else {
+        "gone before"
+    };
+    Ok((told, 0))
+}
+
 fn called<G: Gadget>(
     alloc: Global,
     core: &mut HostCore<G>,
     call: &str,
     out: &mut Bytes,
-) -> Result<Told, Fail> {
+) -> Result<Told, Memory> {
     let (letter, words) = call.split_once(' ').unwrap_or((call, ""));
-    match letter {
-        "g" => Ok(heard(alloc, core, words, out)?),
-        "p" => Ok(performed(core.perform(address(alloc, words)?, out)?)),
-        "o" => Ok(offered(core.offer(address(alloc, words)?, out)?)),
-        _ => Ok((
-            if core.unplug(out)? {
-                "gone"
-            } else {
-                "gone before"
-            },
-            0,
-        )),
+    match (letter, address(words)) {
+        ("g", _) => heard(alloc, core, words, out),
+        ("b", _) => heard_by_bytes(alloc, core, words, out),
+        (letter, Some(ep)) => used(core, letter, ep, out),
+        (_, None) => unplugged(core, out),
     }
 }
 
-fn is_laid_out(rt: &(impl Abort + AllocGlobal), sent: &[u8], words: &str) -> Result<(), Memory> {
-    let wanted = bytes(rt.alloc(), words)?;
-    assert!(rt; sent == wanted.as_slice());
-    Ok(())
+/// Whether these words lay out what was sent.
+fn is_laid_out(alloc: Global, sent: &Bytes, words: &str) -> Result<bool, Memory> {
+    Ok(sent.as_slice() == bytes(alloc, words)?.as_slice())
+}
+
+/// What the host of this device sends as it is made.
+fn hello<G: Gadget>(alloc: Global, gadget: G) -> Result<Bytes, Memory> {
+    let mut out = Bytes::new(alloc);
+    HostCore::make(alloc, gadget, &mut out)?;
+    Ok(out)
 }
 
 /// The host of this device, which has sent its hello.
-fn made<G: Gadget>(rt: &(impl Abort + AllocGlobal), gadget: G) -> Result<HostCore<G>, Memory> {
-    let mut out = Bytes::new(rt.alloc());
-    let core = HostCore::make(rt.alloc(), gadget, &mut out)?;
-    is_laid_out(rt, out.as_slice(), "HG")?;
-    Ok(core)
+fn made<G: Gadget>(alloc: Global, gadget: G) -> Result<HostCore<G>, Memory> {
+    let mut out = Bytes::new(alloc);
+    HostCore::make(alloc, gadget, &mut out)
 }
 
-/// The host goes on so.
+/// Whether a call sends and tells what its row says.
+fn goes<G: Gadget>(alloc: Global, core: &mut HostCore<G>, row: &Row) -> Result<bool, Memory> {
+    let (call, sent, told) = row;
+    let mut out = Bytes::new(alloc);
+    let came = called(alloc, core, call, &mut out)?;
+    Ok(came == *told && is_laid_out(alloc, &out, sent)?)
+}
+
+/// The place of the first row that the host doesn't go by.
 fn goes_on<G: Gadget>(
-    rt: &(impl Abort + AllocGlobal),
+    alloc: Global,
     core: &mut HostCore<G>,
     rows: &[Row],
-) -> Result<(), Fail> {
-    for (call, sent, told) in rows {
-        let mut out = Bytes::new(rt.alloc());
-        let found = called(rt.alloc(), core, call, &mut out)?;
-        assert!(rt; found == *told);
-        is_laid_out(rt, out.as_slice(), sent)?;
+) -> Result<Option<usize>, Memory> {
+    for (place, row) in rows.iter().enumerate() {
+        if !goes(alloc, core, row)? {
+            return Ok(Some(place));
+        }
     }
+    Ok(None)
+}
+
+/// The place of the first row that a host of this device doesn't live by.
+fn lives<G: Gadget>(alloc: Global, gadget: G, rows: &[Row]) -> Result<Option<usize>, Memory> {
+    goes_on(alloc, &mut made(alloc, gadget)?, rows)
+}
+
+/// The place of the first row that the host of a loop doesn't go by once it is configured.
+fn goes_configured<G: Gadget>(
+    alloc: Global,
+    core: &mut HostCore<G>,
+    rows: &[Row],
+) -> Result<Option<usize>, Memory> {
+    match goes_on(alloc, core, CONFIGURED)? {
+        None => goes_on(alloc, core, rows),
+        wrong => Ok(wrong),
+    }
+}
+
+fn lives_configured<G: Gadget>(
+    alloc: Global,
+    gadget: G,
+    rows: &[Row],
+) -> Result<Option<usize>, Memory> {
+    goes_configured(alloc, &mut made(alloc, gadget)?, rows)
+}
+
+#[test]
+fn a_host_says_hello(rt: HostRuntime) -> Result<(), Fail> {
+    let sent = hello(rt.alloc(), Loopback::make(rt.alloc())?)?;
+    assert!(rt; is_laid_out(rt.alloc(), &sent, "HG")?);
     Ok(())
 }
 
-/// A host of this device lives so.
-fn lives<G: Gadget>(rt: &(impl Abort + AllocGlobal), gadget: G, rows: &[Row]) -> Result<(), Fail> {
-    let mut core = made(rt, gadget)?;
-    goes_on(rt, &mut core, rows)
-}
-
-/// After the loop is configured its host lives so.
-fn lives_configured(rt: &(impl Abort + AllocGlobal), rows: &[Row]) -> Result<(), Fail> {
-    let mut core = made(rt, Loopback::make(rt.alloc())?)?;
-    goes_on(rt, &mut core, CONFIGURED)?;
-    goes_on(rt, &mut core, rows)
-}
+/// Lives of the host of a loop that isn't configured.
+const OF_A_LOOP: [&[Row]; 4] = [ASKS_NOTHING, NO_HELLO, BYTE_BY_BYTE, ANNOUNCES_NOTHING];
 
 #[test]
-fn a_guest_that_asks_nothing_is_told_of_the_device_alone(rt: HostRuntime) -> Result<(), Fail> {
-    lives(&rt, Loopback::make(rt.alloc())?, ASKS_NOTHING)
-}
-
-#[test]
-fn a_guest_reads_and_writes_the_loop_until_it_is_unplugged(rt: HostRuntime) -> Result<(), Fail> {
-    lives_configured(&rt, READS_AND_WRITES)
+fn a_loop_is_lent(rt: HostRuntime) -> Result<(), Fail> {
+    for (life, rows) in OF_A_LOOP.iter().enumerate() {
+        let wrong = lives(rt.alloc(), Loopback::make(rt.alloc())?, rows)?;
+        assert_eq!(rt; (life, wrong), (life, None));
+    }
+    Ok(())
 }
 
 #[test]
 fn a_guest_streams_the_keyboard(rt: HostRuntime) -> Result<(), Fail> {
-    lives(&rt, Keyboard::make(rt.alloc())?, STREAMS)
+    assert_eq!(rt;
+        lives(rt.alloc(), Keyboard::make(rt.alloc())?, STREAMS)?,
+        None
+    );
+    Ok(())
 }
 
 #[test]
 fn a_change_ends_the_streams_that_it_touches(rt: HostRuntime) -> Result<(), Fail> {
-    lives(&rt, Tone::make(rt.alloc())?, CHANGES)
-}
-
-#[test]
-fn a_change_flushes_by_the_table_before_it(rt: HostRuntime) -> Result<(), Fail> {
-    lives_configured(&rt, FLUSHES)
-}
-
-#[test]
-fn a_reset_marks_the_next_request_of_endpoint_0(rt: HostRuntime) -> Result<(), Fail> {
-    lives_configured(&rt, RESETS)
-}
-
-#[test]
-fn a_mark_moves_when_its_packet_is_cancelled(rt: HostRuntime) -> Result<(), Fail> {
-    lives_configured(&rt, CANCELS_BEHIND_RESETS)
-}
-
-#[test]
-fn a_cancel_takes_the_first_packet_of_its_id(rt: HostRuntime) -> Result<(), Fail> {
-    lives_configured(&rt, CANCELS)
-}
-
-#[test]
-fn what_cannot_be_asked_is_answered_inval(rt: HostRuntime) -> Result<(), Fail> {
-    lives_configured(&rt, CANNOT_BE_ASKED)
-}
-
-#[test]
-fn bytes_behind_a_wrong_place_are_dropped(rt: HostRuntime) -> Result<(), Fail> {
-    lives_configured(&rt, WRONG_TYPE)?;
-    lives(&rt, Loopback::make(rt.alloc())?, NO_HELLO)
-}
-
-#[test]
-fn an_unplugged_host_reads_on(rt: HostRuntime) -> Result<(), Fail> {
-    lives_configured(&rt, UNPLUGGED)
-}
-
-fn by_bytes<G: Gadget>(
-    core: &mut HostCore<G>,
-    bytes: &[u8],
-    out: &mut Bytes,
-) -> Result<(), Memory> {
-    for byte in bytes {
-        core.take(&[*byte], out)?;
-    }
+    assert_eq!(rt; lives(rt.alloc(), Tone::make(rt.alloc())?, CHANGES)?, None);
     Ok(())
 }
 
-/// Each byte of these words is a piece of its own; all that is sent is this.
-fn sends_by_bytes<G: Gadget>(
-    rt: &(impl Abort + AllocGlobal),
-    gadget: G,
-    words: &str,
-    sent: &str,
-) -> Result<(), Fail> {
-    let mut out = Bytes::new(rt.alloc());
-    let mut core = HostCore::make(rt.alloc(), gadget, &mut out)?;
-    by_bytes(&mut core, bytes(rt.alloc(), words)?.as_slice(), &mut out)?;
-    Ok(is_laid_out(rt, out.as_slice(), sent)?)
-}
+/// Lives of the host of a configured loop: a guest reads and writes it until it is unplugged; a change flushes by the
+/// table before it; a reset marks the next request of endpoint 0; a mark moves when its packet is cancelled; a cancel
+/// takes the first packet of its id; what can't be asked is answered inval; bytes behind a wrong place are dropped; an
+/// unplugged host reads on.
+const OF_A_CONFIGURED_LOOP: [&[Row]; 8] = [
+    READS_AND_WRITES,
+    FLUSHES,
+    RESETS,
+    CANCELS_BEHIND_RESETS,
+    CANCELS,
+    CANNOT_BE_ASKED,
+    WRONG_TYPE,
+    UNPLUGGED,
+];
 
 #[test]
-fn bytes_may_come_one_by_one(rt: HostRuntime) -> Result<(), Fail> {
-    sends_by_bytes(
-        &rt,
-        Loopback::make(rt.alloc())?,
-        "GH BULK @2 8000020000000000 0000 65000000 0e000000 @3 1100040000000000 0000 a1a2a3a4",
-        "HG EPU IIU DCL BULK @2 8002 00*8 BULK @3 1102 00*8",
-    )
-}
-
-#[test]
-fn a_guest_may_announce_nothing(rt: HostRuntime) -> Result<(), Fail> {
-    lives(&rt, Loopback::make(rt.alloc())?, ANNOUNCES_NOTHING)
+fn a_configured_loop_is_lent(rt: HostRuntime) -> Result<(), Fail> {
+    for (life, rows) in OF_A_CONFIGURED_LOOP.iter().enumerate() {
+        let wrong = lives_configured(rt.alloc(), Loopback::make(rt.alloc())?, rows)?;
+        assert_eq!(rt; (life, wrong), (life, None));
+    }
+    Ok(())
 }

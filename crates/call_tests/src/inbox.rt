@@ -57,7 +57,7 @@ fn two(alloc: Global) -> Result<Descs, Memory> {
 
 fn cut(rt: &impl Abort, inbox: &mut Inbox) -> Result<(), Fail> {
     let outcome = inbox.cut_interrupt(4)?.ok_or("it is filled")?;
-    assert!(rt; outcome.status == OK && outcome.done == 3);
+    assert!(rt; (outcome.status, outcome.done) == (OK, 3));
     assert!(rt; outcome.body.as_slice() == [1, 1, 2].as_slice());
     Ok(())
 }
@@ -86,7 +86,7 @@ fn requests_take_packets(rt: HostRuntime) -> Result<(), Fail> {
 fn bodies_behind_one(rt: &impl Abort, inbox: &mut Inbox, out: &mut Bytes) -> Result<(), Fail> {
     assert!(rt; 1 <= inbox.len());
     let filling = inbox.filling(1, 9).ok_or("it is filled")?;
-    assert!(rt; filling.count == 1 && filling.status == OK && filling.done == 1);
+    assert!(rt; (filling.count, filling.status, filling.done) == (1, OK, 1));
     inbox.append_bodies(1, filling, out)?;
     assert!(rt; out.as_slice() == [2].as_slice());
     Ok(())
@@ -98,7 +98,7 @@ fn pieces_behind_three(
     descs: &Descs,
     out: &mut Bytes,
 ) -> Result<(), Fail> {
-    assert!(rt; inbox.len() == 6 && descs.len() == 2);
+    assert!(rt; (inbox.len(), descs.len()) == (6, 2));
     let filling = IsoFilling { done: 3, errors: 2 };
     assert!(rt; inbox.iso_filling(3, descs) == Some(filling));
     inbox.append_pieces(3, descs, out)?;

@@ -72,10 +72,21 @@ fn taken(found: Option<Live>) -> u32 {
 
 fn finds(rt: &impl Abort, lives: &Lives) -> Result<(), Fail> {
     let ep = EpAddr::new(0x82).ok_or("no endpoint")?;
-    assert!(rt; lives.len() == 6 && lives.has(3) && !lives.has(7));
-    assert!(rt; lives.holds_id(12) && !lives.holds_id(0) && lives.change_waits());
-    assert!(rt; number(lives.at(1)) == 2 && number(lives.find_number(2)) == 2);
-    assert!(rt; number(lives.find(12)) == 2 && number(lives.front(ep)) == 3);
+    let has = [
+        lives.has(3),
+        lives.has(7),
+        lives.holds_id(12),
+        lives.holds_id(0),
+    ];
+    assert!(rt; has == [true, false, true, false]);
+    assert!(rt; (lives.len(), lives.change_waits()) == (6, true));
+    let found = [
+        number(lives.at(1)),
+        number(lives.find_number(2)),
+        number(lives.find(12)),
+        number(lives.front(ep)),
+    ];
+    assert!(rt; found == [2, 2, 2, 3]);
     Ok(())
 }
 
@@ -95,13 +106,15 @@ fn takes(rt: &impl Abort, lives: &mut Lives) -> Result<(), Fail>
 {
     let ep = EpAddr::new(0x82).ok_or("no endpoint")?;
     assert!(rt; told(lives.unlink(1, 7)) == ("cancel", 11));
-    assert!(rt; taken(lives.finish_front(ep)) == 3);
-    assert!(rt; taken(lives.take_touched(&Route::Reset)) == 4);
-    assert!(rt; taken(lives.take_last()) == 6);
+    let out = [
+        taken(lives.finish_front(ep)),
+        taken(lives.take_touched(&Route::Reset)),
+        taken(lives.take_last()),
+    ];
+    assert!(rt; out == [3, 4, 6]);
     lives.drop_ended(&StreamEnd::Told(0x84));
     assert!(rt; lives.len() == 2);
-    assert!(rt; taken(lives.finish_number(2)) == 2);
-    assert!(rt; taken(lives.finish(11)) == 1);
+    assert!(rt; [taken(lives.finish_number(2)), taken(lives.finish(11))] == [2, 1]);
     Ok(())
 }
 

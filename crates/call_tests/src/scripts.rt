@@ -48,11 +48,14 @@ fn writes(rt: &impl Abort, doors: &mut ScriptDoors) {
     }
 }
 
+fn doors_of_one_client(alloc: Global) -> Result<ScriptDoors, Memory> {
+    let host = script(alloc, &["abcd", "", "-", "!", "e", ""])?;
+    ScriptDoors::make(alloc, 3, host, script(alloc, &["f"])?, &[3], &[])
+}
+
 #[test]
 fn a_script_is_given_poll_by_poll(rt: HostRuntime) -> Result<(), Fail> {
-    let host = script(rt.alloc(), &["abcd", "", "-", "!", "e", ""])?;
-    let client = script(rt.alloc(), &["f"])?;
-    let mut doors = ScriptDoors::make(rt.alloc(), 3, host, client, &[3], &[])?;
+    let mut doors = doors_of_one_client(rt.alloc())?;
     doors.dial("a:1")?;
     let answers = ["abc", "d", "!", "-", "!", "e", "."];
     polls(&rt, &mut doors, Side::Host, &answers);
@@ -68,11 +71,14 @@ fn two_clients(alloc: Global) -> Result<Scripts, Memory> {
     Ok(clients)
 }
 
+fn doors_of_two_clients(alloc: Global) -> Result<ScriptDoors, Memory> {
+    let clients = two_clients(alloc)?;
+    ScriptDoors::make_many(alloc, 9, Script::new(alloc), clients, &[0], &[1])
+}
+
 #[test]
 fn clients_come_one_after_the_other(rt: HostRuntime) -> Result<(), Fail> {
-    let host = script(rt.alloc(), &[])?;
-    let clients = two_clients(rt.alloc())?;
-    let mut doors = ScriptDoors::make_many(rt.alloc(), 9, host, clients, &[0], &[1])?;
+    let mut doors = doors_of_two_clients(rt.alloc())?;
     assert!(rt; doors.dial("a:1") == Err(Failed));
     doors.listen("b:2")?;
     assert!(rt; doors.accept() == Err(Failed));

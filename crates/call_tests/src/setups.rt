@@ -155,12 +155,6 @@ fn answer(
     Ok(standard(alloc, set, parts, state, &transfer)?)
 }
 
-fn gives(rt: &impl Abort, outcome: &Outcome, status: UsbStatus, bytes: &[u8]) {
-    assert!(rt; outcome.status == status);
-    assert!(rt; outcome.body.as_slice() == bytes);
-    assert!(rt; outcome.done as usize == bytes.len());
-}
-
 // What a request gives, and the state after it.
 fn answers(
     rt: &(impl Abort + AllocGlobal),
@@ -170,32 +164,38 @@ fn answers(
     status: UsbStatus,
 ) -> Result<(), Fail> {
     let mut state = before;
-    let outcome = answer(rt.alloc(), set, parts, &mut state, setup)?;
-    gives(rt, &outcome, status, given);
-    assert!(rt; state == after);
+    let Outcome {
+        status: told,
+        done,
+        body,
+    } = answer(rt.alloc(), set, parts, &mut state, setup)?;
+    assert!(rt; body.as_slice() == given);
+    assert!(rt; (told, done as usize, state) == (status, given.len(), after));
     Ok(())
 }
 
-#[test]
-fn what_requests_give_and_change(rt: HostRuntime) -> Result<(), Fail> {
-    let set = descriptors(rt.alloc())?;
-    let parts = walk(rt.alloc(), &CONFIGURATION)?;
+fn all_answer(
+    rt: &(impl Abort + AllocGlobal),
+    set: &DescriptorSet,
+    parts: &Parts,
+) -> Result<(), Fail> {
     for row in READS {
-        answers(&rt, &set, &parts, row, UsbStatus::Success)?;
+        answers(rt, set, parts, row, UsbStatus::Success)?;
     }
     for row in CHANGES {
-        answers(&rt, &set, &parts, row, UsbStatus::Success)?;
+        answers(rt, set, parts, row, UsbStatus::Success)?;
+    }
+    for (state, setup) in REFUSED {
+        answers(rt, set, parts, (state, setup, &[], state), UsbStatus::Stall)?;
     }
     Ok(())
 }
 
+fn answers_of(rt: &(impl Abort + AllocGlobal), set: &DescriptorSet) -> Result<(), Fail> {
+    all_answer(rt, set, &walk(rt.alloc(), &CONFIGURATION)?)
+}
+
 #[test]
-fn what_is_refused(rt: HostRuntime) -> Result<(), Fail> {
-    let set = descriptors(rt.alloc())?;
-    let parts = walk(rt.alloc(), &CONFIGURATION)?;
-    for (state, setup) in REFUSED {
-        let row = (state, setup, [].as_slice(), state);
-        answers(&rt, &set, &parts, row, UsbStatus::Stall)?;
-    }
-    Ok(())
+fn what_requests_give_and_change_and_what_is_refused(rt: HostRuntime) -> Result<(), Fail> {
+    answers_of(&rt, &descriptors(rt.alloc())?)
 }

@@ -19,7 +19,7 @@ use usbip_urb::{Descs, Head, IsoDesc, RetSubmit, RetUnlink, UrbPacket, total, wr
 const URB_SHORT_NOT_OK: u32 = 0x0001;
 
 /// What the answer of a submit has of the submit.
-#[derive(Clone, Copy, Debug)]
+#[derive(Clone, Copy)]
 pub struct Asked<'a> {
     /// The submit's number.
     pub number: u32,

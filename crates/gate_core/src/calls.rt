@@ -10,7 +10,7 @@ use std::marker::Model;
 use usb_base::EpAddr;
 
 /// Of each endpoint's place in the table the id of its last start, and that of the last stop after it.
-#[derive(Clone, Copy, Debug)]
+#[derive(Clone, Copy)]
 pub struct Calls {
     started: [Option<u64>; 32],
     stopped: [Option<u64>; 32],
@@ -76,7 +76,7 @@ fn is_id(held: &Option<u64>, id: u64) -> bool
 }
 
 /// What is kept once the packets that start or stop streams are sent.
-#[derive(Clone, Copy, Debug)]
+#[derive(Clone, Copy)]
 pub struct Called {
     pub calls: Calls,
     /// The id that was drawn last.

@@ -2,7 +2,7 @@
 
 /// The next piece of a side's stream, or its end. Pieces may be cut anywhere. After a client's end the next
 /// client's stream begins.
-#[derive(Clone, Copy, Debug)]
+#[derive(Clone, Copy)]
 pub enum Event<'a> {
     ClientPiece(&'a [u8]),
     ClientEnd,

@@ -9,7 +9,7 @@ use redir_wire::{Connect, InterfaceInfo, RedirControl};
 use usb_base::EpTable;
 
 /// What the host has told of its device since the device was last lost: of each fact the last.
-#[derive(Clone, Copy, Debug)]
+#[derive(Clone, Copy)]
 pub struct Facts {
     /// The device, which is there after its device_connect.
     pub connect: Option<Connect>,

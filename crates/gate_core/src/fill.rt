@@ -16,7 +16,7 @@ use unlink_race::Lives;
 use usb_base::{Bytes, EpAddr, Memory};
 
 /// How many of the requests that wait for a stream its packets fill, and how many packets these take.
-#[derive(Clone, Copy, Debug)]
+#[derive(Clone, Copy)]
 pub struct Filled {
     pub requests: usize,
     pub packets: usize,

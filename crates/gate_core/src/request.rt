@@ -10,7 +10,7 @@ use usb_base::{EpAddr, Setup, Transfer};
 use usbip_urb::{Descs, Submit, USBIP_DIR_OUT};
 
 /// A transfer, and what its answer has of the submit.
-#[derive(Debug, Drop)]
+#[derive(Drop)]
 pub struct Request {
     /// The submit's number, which its answer has.
     pub number: u32,

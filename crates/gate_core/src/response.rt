@@ -17,7 +17,7 @@ use unlink_race::{Live, LiveKind};
 use usb_base::{Bytes, EpKind, Memory, Outcome, Reason, Refusal, Side, UsbStatus};
 
 /// A packet of the host that answers a request by its id.
-#[derive(Debug, Drop)]
+#[derive(Drop)]
 pub enum Response {
     /// A data packet of this endpoint, whose length stands so many bytes behind its header.
     Data {

@@ -26,7 +26,7 @@ use usb_base::{Bytes, Memory, Reason};
 use usbip_urb::Unlink;
 
 /// What an unlink is told.
-#[derive(Clone, Copy, Debug)]
+#[derive(Clone, Copy)]
 pub enum Asked {
     /// It comes too late, or another one was first.
     Late,

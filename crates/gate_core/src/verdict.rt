@@ -15,7 +15,7 @@ use usb_base::{EpKind, EpRow, EpTable, Setup};
 use usbip_urb::laid;
 
 /// The kinds of transfers of which each is one packet to the host and one back.
-#[derive(Clone, Copy, Debug, PartialEq, Eq)]
+#[derive(Clone, Copy, PartialEq, Eq)]
 pub enum Pipe {
     Control,
     Bulk,
@@ -36,7 +36,7 @@ impl Pipe {
 }
 
 /// What is made of a submit.
-#[derive(Clone, Copy, Debug, PartialEq, Eq)]
+#[derive(Clone, Copy, PartialEq, Eq)]
 pub enum Verdict {
     /// It is answered at once with this status.
     Now(i32),

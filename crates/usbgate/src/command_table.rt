@@ -7,7 +7,7 @@ ghost use Rattle.usbgate.specs.inner.Given.{IsGiven};
 use crate::given::Given;
 
 /// Whether a word stands with a command.
-#[derive(Clone, Copy, Debug, PartialEq, Eq)]
+#[derive(Clone, Copy, PartialEq, Eq)]
 pub enum Need {
     Must,
     May,
@@ -15,7 +15,7 @@ pub enum Need {
 }
 
 /// What a command does.
-#[derive(Clone, Copy, Debug, PartialEq, Eq)]
+#[derive(Clone, Copy, PartialEq, Eq)]
 pub enum Verb {
     Replay,
     Model,
@@ -25,7 +25,7 @@ pub enum Verb {
 }
 
 /// A command, and which words stand with it.
-#[derive(Clone, Copy, Debug)]
+#[derive(Clone, Copy)]
 pub struct Row {
     pub verb: Verb,
     pub number: Need,

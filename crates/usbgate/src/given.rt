@@ -7,7 +7,7 @@ ghost use Rattle.usbgate.specs.inner.Given.{IsGiven};
 use clap::ArgMatches;
 
 /// What the words give: a command's name, a number, and a value for each option.
-#[derive(Clone, Copy, Debug)]
+#[derive(Clone, Copy)]
 pub struct Given<'a> {
     pub command: Option<&'a str>,
     pub number: Option<&'a str>,

@@ -9,7 +9,7 @@ use std::marker::Model;
 pub const BLOCKS: u32 = 64;
 
 /// The modelled devices.
-#[derive(Clone, Copy, Debug, PartialEq, Eq)]
+#[derive(Clone, Copy, PartialEq, Eq)]
 pub enum Device {
     Keyboard,
     Loopback,
@@ -33,7 +33,7 @@ impl Device {
 }
 
 /// Which device is lent, where the guest's door is, and when to end.
-#[derive(Debug, Drop)]
+#[derive(Drop)]
 pub struct Lending<'a> {
     pub device: Device,
     /// The address of the guest's door.

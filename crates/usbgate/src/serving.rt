@@ -5,7 +5,7 @@ use std::marker::Model;
 
 /// Where the host and the clients' door are, when to end, the id of the first packet to the host, and what becomes of
 /// a client whose device is lost.
-#[derive(Debug, Drop)]
+#[derive(Drop)]
 pub struct Serving<'a> {
     /// The host's address.
     pub host: &'a str,

@@ -21,7 +21,7 @@ use usbip_op::OpPacket;
 use usbip_urb::{ClientFormat, ClientPacket, UrbPacket};
 
 /// What an event is to a side's stream.
-#[derive(Clone, Copy, Debug)]
+#[derive(Clone, Copy)]
 pub enum Part<'a> {
     /// Its next piece.
     Piece(&'a [u8]),

@@ -7,7 +7,7 @@ use bridge_run::ServeEnd;
 use usb_base::Side;
 
 /// How a run ends.
-#[derive(Clone, Copy, Debug, PartialEq, Eq)]
+#[derive(Clone, Copy, PartialEq, Eq)]
 pub enum Status {
     /// The tape was read to its end, or the links have ended, and no side was refused.
     Done,

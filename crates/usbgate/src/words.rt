@@ -16,7 +16,7 @@ use std::alloc::Global;
 use usb_base::{Memory, Side};
 
 /// What the words ask for.
-#[derive(Debug, Drop)]
+#[derive(Drop)]
 pub enum Command<'a> {
     /// Puts a tape to a gate. The first packet to the host gets the first id.
     Replay { first_id: u32 },
