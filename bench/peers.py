@@ -18,6 +18,7 @@ CANCELLED, SHUT_DOWN = 1, -108
 
 
 def free_port():
+    """A port that nothing is bound to now."""
     with socket.socket() as probe:
         probe.bind(("127.0.0.1", 0))
         return probe.getsockname()[1]
@@ -137,8 +138,8 @@ class Session:
         self.status = None
 
     def __enter__(self):
-        self.port = free_port()
         with socket.create_server(("127.0.0.1", 0)) as door:
+            self.port = free_port()
             door.settimeout(PATIENCE)
             command = gateway_at(door.getsockname()[1], self.port, self.after_loss)
             self.program = subprocess.Popen(command, stdout=self.out, stderr=self.out)

@@ -1,0 +1,92 @@
+//! Packets by name.
+
+use hex::FromHexError;
+use std::alloc::Global;
+use usb_base::Memory;
+
+/// Packets by name, in hexadecimal. `#` stands for a number in four bytes, the high one first, and `@` for an id in
+/// eight, the low one first.
+#[derive(Drop)]
+pub struct Packets {
+    named: Vec<(String, String)>,
+}
+
+impl Packets {
+    pub fn new(alloc: Global) -> Packets {
+        Packets {
+            named: Vec::new(alloc),
+        }
+    }
+
+    /// Adds a packet: its name and its bytes.
+    pub fn add(&mut self, alloc: Global, packet: &str) -> Result<(), Memory> {
+        let (name, bytes) = packet.split_once(' ').unwrap_or((packet, ""));
+        let name = name.to_string(alloc)?;
+        self.named.push((name, bytes.to_string(alloc)?))?;
+        Ok(())
+    }
+
+    /// The bytes of packets, each by its name and its numbers. Words that are none give no bytes.
+    pub fn bytes_of(&self, alloc: Global, words: &str, turn: u32) -> Result<Vec<u8>, Memory> {
+        let mut digits = String::new(alloc);
+        for word in words.split_whitespace() {
+            self.push(&mut digits, word, turn)?;
+        }
+        match hex::decode(alloc, digits.as_str()) {
+            Ok(bytes) => Ok(bytes),
+            Err(FromHexError::OutOfMemory) => Err(Memory),
+            Err(_) => Ok(Vec::new(alloc)),
+        }
+    }
+
+    fn push(&self, digits: &mut String, word: &str, turn: u32) -> Result<(), Memory> {
+        let mut parts = word.split(':');
+        let name = parts.next().unwrap_or("");
+        for piece in self.named(name).split(' ') {
+            match piece {
+                "#" => push_number(digits, value_of(parts.next().unwrap_or(""), turn))?,
+                "@" => push_id(digits, value_of(parts.next().unwrap_or(""), turn))?,
+                _ => push_times(digits, piece)?,
+            }
+        }
+        Ok(())
+    }
+
+    /// The packet with this name. Other words are bytes themselves.
+    fn named<'a>(&'a self, name: &'a str) -> &'a str {
+        for (known, bytes) in &self.named {
+            if known.as_str() == name {
+                return bytes.as_str();
+            }
+        }
+        name
+    }
+}
+
+/// A number in decimal. `N` stands for how often the line has come, and `N+64` for 64 more.
+fn value_of(number: &str, turn: u32) -> u32 {
+    match number.strip_prefix("N+") {
+        Some(more) => turn.wrapping_add(more.parse().unwrap_or(0_u32)),
+        None => number.parse().unwrap_or(turn),
+    }
+}
+
+fn push_number(digits: &mut String, number: u32) -> Result<(), Memory> {
+    write!(digits, "{number:08x}")?;
+    Ok(())
+}
+
+fn push_id(digits: &mut String, id: u32) -> Result<(), Memory> {
+    let id = u64::from(id).swap_bytes();
+    write!(digits, "{id:016x}")?;
+    Ok(())
+}
+
+/// Appends bytes, which may be followed by how many times they come.
+fn push_times(digits: &mut String, bytes: &str) -> Result<(), Memory> {
+    let (bytes, times) = bytes.split_once('*').unwrap_or((bytes, "1"));
+    for _ in 0..times.parse().unwrap_or(0_u32) {
+        digits.push_str(bytes)?;
+    }
+    Ok(())
+}

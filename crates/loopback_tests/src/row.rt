@@ -1,0 +1,87 @@
+//! A row: what the peers do, and how serving has to end.
+
+use crate::act::{Act, Deed, side_of};
+use crate::packets::Packets;
+use crate::serving::{Outcome, served};
+use bridge_run::{AfterLoss, ServeEnd};
+use std::alloc::Global;
+use std::net::{Net, TcpListener, TcpStream};
+use std::rt::Clock;
+use usb_base::Memory;
+
+/// What the peers do, one act after another, and where a line is none.
+#[derive(Drop)]
+pub struct Row {
+    name: String,
+    acts: Vec<Act>,
+    is_known: bool,
+}
+
+impl Row {
+    pub fn new(alloc: Global) -> Row {
+        Row {
+            name: String::new(alloc),
+            acts: Vec::new(alloc),
+            is_known: true,
+        }
+    }
+
+    /// Begins another row.
+    pub fn start(&mut self, alloc: Global, name: &str) -> Result<(), Memory> {
+        self.name = name.to_string(alloc)?;
+        self.acts.clear();
+        self.is_known = true;
+        Ok(())
+    }
+
+    /// Appends the act that a line says.
+    pub fn push(
+        &mut self,
+        alloc: Global,
+        packets: &Packets,
+        line: &str,
+        turn: u32,
+    ) -> Result<(), Memory> {
+        let (letter, rest) = line.split_once(' ').unwrap_or((line, ""));
+        let (verb, words) = rest.split_once(' ').unwrap_or((rest, ""));
+        let (Some(side), Some(deed)) = (side_of(letter), Deed::named(verb)) else {
+            self.is_known = false;
+            return Ok(());
+        };
+        let bytes = packets.bytes_of(alloc, words, turn)?;
+        self.acts.push(Act { side, deed, bytes })?;
+        Ok(())
+    }
+
+    /// Serves between these peers, and says by the row's name whether they did all that, and serving ended so.
+    pub fn run<R: Eprint + Clock + AllocGlobal + Net<Stream = TcpStream, Listener = TcpListener>>(
+        &self,
+        rt: &R,
+        setting: &str,
+        end: &str,
+    ) -> anyhow::Result<String> {
+        let name = &self.name;
+        let alloc = rt.alloc();
+        let after_loss = match setting {
+            "close" => AfterLoss::Close,
+            _ => AfterLoss::Keep,
+        };
+        let outcome = served(rt, &self.acts, after_loss)?;
+        if self.is_known && outcome.done == self.acts.len() && word_of(outcome.end) == end {
+            return Ok(format!(in alloc; "{name}, {setting}: ok")?);
+        }
+        let Outcome { done, end } = outcome;
+        Ok(format!(in alloc; "{name}, {setting}: {done} acts were done, and it ended by {end:?}")?)
+    }
+}
+
+/// The word for an end.
+fn word_of(end: ServeEnd) -> &'static str {
+    match end {
+        ServeEnd::Ended { refused: None } => "ended",
+        ServeEnd::Ended { refused: Some(_) } => "refused",
+        ServeEnd::Idle => "idle",
+        ServeEnd::LinkFault(_) => "fault",
+        ServeEnd::WriteFault | ServeEnd::Spent | ServeEnd::Memory => "other",
+    }
+}
