@@ -2,7 +2,7 @@
 use Prim.Native.Nat.{ℕ, ◌+◌}
 use Rattle.std.specs.Prelude.{List, [], ◌∷◌, length, Option, Some, None}
 use seplogic.Ra.Ura.{Ura}
-use base.Fml.{Lft, Incl, ftrue, ffalse, fsep}
+use base.Fml.{Lft, Incl, ftrue, ffalse}
 use contract.BorrowLft.{⊑_static}
 use types.Logic.{Logic}
 use denote.RattleType.{RattleType, RowLaws}
