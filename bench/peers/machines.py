@@ -62,8 +62,8 @@ def install():
 def fetch(folder):
     """Unpacks the packages of the machines into a folder, which keeps them for the next time."""
     root = folder / "packages"
-    kept = root / "whole"
-    if kept.exists() and all(package in kept.read_text() for package in PACKAGES):
+    versions_file = root / "whole"
+    if versions_file.exists() and all(package in versions_file.read_text() for package in PACKAGES):
         return root
     shutil.rmtree(root, ignore_errors=True)
     root.mkdir(parents=True)
@@ -72,7 +72,7 @@ def fetch(folder):
     for package in root.glob("*.deb"):
         run("dpkg-deb", "-x", package, root)
     versions = [run("dpkg-deb", "-f", package, "Package", "Version").split() for package in sorted(root.glob("*.deb"))]
-    kept.write_text("".join("%s %s\n" % (fields[1], fields[3]) for fields in versions))
+    versions_file.write_text("".join("%s %s\n" % (fields[1], fields[3]) for fields in versions))
     return root
 
 
@@ -138,19 +138,18 @@ def free_port():
 
 
 class Machine:
-    """A QEMU without a disk of its own, whose console is read to its end. Its file system, in memory, is that of
-    make_image unless another one is given."""
+    """A QEMU without a disk of its own, whose console is read to its end."""
 
-    def __init__(self, peer, kernel, folder, role, devices, words=(), loss="keep", image="base.cpio"):
+    def __init__(self, peer, kernel, folder, role, devices, words=(), loss="keep"):
         self.peer, self.marks, self.ended = peer, [], threading.Event()
         self.folder = Path(tempfile.mkdtemp(dir=folder))
         (self.folder / "session").write_text('ROLE=%s\nLOSS=%s\nDEVICES="%s"\n' % (
             role, loss, "\n".join("%s %d %s %s" % device for device in devices)))
-        (self.folder / "image").write_bytes((folder / image).read_bytes() + packed("session", self.folder))
+        (self.folder / "image").write_bytes((folder / "base.cpio").read_bytes() + packed("session", self.folder))
         self.monitor = self.folder / "monitor"
         self.process = subprocess.Popen(
             ["qemu-system-x86_64", "-machine", "q35,accel=" + os.environ.get("PEERS_ACCEL", "tcg"), "-cpu", "max",
-             "-m", "1536" if image != "base.cpio" else "512", "-display", "none", "-no-reboot", "-nodefaults", "-serial", "stdio",
+             "-m", "512", "-display", "none", "-no-reboot", "-nodefaults", "-serial", "stdio",
              "-monitor", "unix:%s,server=on,wait=off" % self.monitor, "-kernel", str(kernel),
              "-initrd", str(self.folder / "image"), "-append", "console=ttyS0 quiet panic=-1 rdinit=/init", *words],
             stdin=subprocess.DEVNULL, stdout=subprocess.PIPE, stderr=subprocess.STDOUT)
@@ -201,19 +200,37 @@ def play(machine, answers=None):
     machine.stop()
 
 
+def kept():
+    """The folder that keeps what was fetched."""
+    return Path(os.environ.get("PEERS_KEEP", Path(tempfile.gettempdir()) / "usbgate-peers"))
+
+
+def chosen_program():
+    """That of the script's word, else the proved one, which is built where it isn't yet."""
+    if len(sys.argv) > 1:
+        return Path(sys.argv[1]).resolve()
+    run(TOP / "usbgate", "prove")
+    return PROGRAM
+
+
+def summary(begun):
+    """Prints how many steps were as they should be, and gives the exit code."""
+    failed = outcomes.count("FAILED")
+    print("%d steps as they should be, %d not; %d seconds" % (
+        len(outcomes) - failed, failed, time.monotonic() - begun))
+    return 1 if failed or not outcomes else 0
+
+
 def main(limit, sessions):
-    """Plays sessions, each with the kernel, a folder and the program, and prints how many steps were as they should be."""
+    """Plays sessions, each with the kernel, a folder and the program."""
     begun = time.monotonic()
     signal.signal(signal.SIGTERM, lambda *_: sys.exit("ended from outside"))
     signal.signal(signal.SIGALRM, lambda *_: sys.exit("not done within %d seconds" % limit))
     signal.alarm(limit)
     install()
-    keep = Path(os.environ.get("PEERS_KEEP", Path(tempfile.gettempdir()) / "usbgate-peers"))
-    root = fetch(keep)
-    program = Path(sys.argv[1]).resolve() if len(sys.argv) > 1 else PROGRAM
-    if program == PROGRAM:
-        run(TOP / "usbgate", "prove")
-    with tempfile.TemporaryDirectory(dir=keep) as name:
+    root = fetch(kept())
+    program = chosen_program()
+    with tempfile.TemporaryDirectory(dir=kept()) as name:
         folder = Path(name)
         kernel, version = make_image(root, folder)
         print("kernel %s; %s; %s" % (version, run("qemu-system-x86_64", "--version").splitlines()[0],
@@ -227,7 +244,4 @@ def main(limit, sessions):
             if CONSOLES:
                 for number, console in enumerate(sorted(folder.glob("*/console"), key=os.path.getmtime)):
                     shutil.copy(console, Path(CONSOLES) / ("console%d" % number))
-    failed = outcomes.count("FAILED")
-    print("%d steps as they should be, %d not; %d seconds" % (
-        len(outcomes) - failed, failed, time.monotonic() - begun))
-    return 1 if failed or not outcomes else 0
+    return summary(begun)

@@ -1,5 +1,5 @@
 #!/bin/bash
-# The session of bench/peers/unit, in its machine. Each step is a line '@@ ok STEP: what was seen' or '@@ FAILED STEP: ..'.
+# The session of bench/peers/unit, in its container. Each step is a line '@@ ok STEP: what was seen' or '@@ FAILED STEP: ..'.
 
 say() { echo "@@ $*"; }
 
@@ -58,12 +58,12 @@ echo 'WORDS=host --device loop --listen 127.0.0.1:4000 --idle 4294967295' > /etc
 echo 'WORDS=serve --host 127.0.0.1:4000 --listen 127.0.0.1:3240 --idle 4294967295' > /etc/usbgate/probe
 echo 'WORDS=sevre --host 127.0.0.1:4000' > /etc/usbgate/typo
 
-step "systemd" systemctl --version
+step "systemd" sh -c 'systemctl --version | head -n 1'
 step "is read without a word" test -z "$(systemd-analyze verify --man=no usbgate@probe.service 2>&1)"
 step "starts" systemctl enable --now usbgate@loop usbgate@probe
 step "serves" await lists
 step "has a user of its own, and no privilege" has_no_privilege probe
-step "has a bound of memory" grep -x 1073741824 "/sys/fs/cgroup/$(told probe ControlGroup)/memory.max"
+step "has a bound of memory" sh -c 'systemctl show -p MemoryMax usbgate@probe | grep =1073741824'
 step "is killed, and begins anew" killed probe
 step "serves again" await lists
 step "its host is killed, and begins anew" killed loop
