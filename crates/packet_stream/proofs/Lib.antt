@@ -1,6 +1,7 @@
 pub mod Formats
 pub mod Told
 pub mod Joins
+pub mod Awaiting
 pub mod Laws
 pub mod Splits
 pub mod Following

@@ -1,14 +1,20 @@
 -- A format: how its packets are spelled, which fields they may have, and the checks that find a wrong packet as
 -- soon as the bytes of the wrong field are there. What stands at the front of bytes follows from these.
-use Rattle.std.specs.Prelude.{◌≡◌, ℕ, ◌≤◌, ◌<◌, Bool, List, [], ◌∷◌, ◌++◌, length, take, Option, Some, None, nat_le, nat_lt, if◌then◌else◌, not, ◌&&◌}
+use Rattle.std.specs.Prelude.{◌≡◌, ℕ, ◌≤◌, ◌<◌, Bool, true, List, [], ◌∷◌, ◌++◌, length, take, Option, Some, None, nat_le, nat_lt, if◌then◌else◌, not, ◌&&◌}
 use Rattle.usb_base.specs.Number.{AreBytes}
 
 -- once the first `needed` bytes are there, a packet that fails the test is wrong at `place`
 pub record Check (R : Type 0) : Type 0 where
   pub place : ℕ
   pub needed : ℕ
+  -- whether it is tried in a packet that begins so, as far as the bytes tell: a packet in which it isn't tried passes
+  pub tried : List ℕ → Bool
   pub passes : List ℕ → Bool
   pub reason : R
+
+-- tried in every packet
+abbrev pub always : List ℕ → Bool
+always bytes = true
 
 -- the first check, in their order, whose bytes are there and whose test fails
 abbrev pub wrong_at : {R : Type 0} → List (Check R) → List ℕ → Option (ℕ × R)

@@ -1,5 +1,6 @@
 pub mod Format
 pub mod Joined
+pub mod Awaited
 pub mod Reads
 pub mod Writes
 pub mod Split

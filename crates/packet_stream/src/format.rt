@@ -2,7 +2,8 @@
 
 ghost use Rattle.std.specs.Prelude.{◌≡◌, Bool};
 ghost use Rattle.usb_base.specs.declared.reason.Reason.{Reason as Why};
-ghost use Rattle.packet_stream.specs.Format.{Format, IsSound, reading};
+ghost use Rattle.packet_stream.specs.Format.{Format, Short, IsSound, reading};
+ghost use Rattle.packet_stream.specs.Awaited.{IsAwaited, StaysShort};
 ghost use Rattle.packet_stream.specs.Reads.{Answers};
 
 use crate::read::{Read, ReadError};
@@ -28,6 +29,13 @@ pub trait PacketFormat {
         bytes: &[u8],
     ) -> Result<Read<Self::Packet>, ReadError>
         ensures { Answers takes_memory result (reading (format state.now) bytes.now) };
+
+    /// How many bytes are awaited where less than a packet is there: the least number at which anything of it is
+    /// decided. It takes no memory.
+    fn awaited(state: &Self::State, bytes: &[u8]) -> usize
+        requires { reading (format state.now) bytes.now ≡ Short }
+        ensures least { IsAwaited (format state.now) bytes.now result }
+        ensures quiet { StaysShort (format state.now) bytes.now result };
 
     /// The state after a packet.
     fn next(state: &mut Self::State, packet: &Self::Packet)

@@ -2,6 +2,7 @@
 
 ghost use Rattle.std.specs.Prelude.{◌≡◌, ◌≤◌, ◌<◌, ◌^◌, [], length, drop, true, false, OnOk, OnErr};
 ghost use Rattle.packet_stream.specs.Split.{reads};
+ghost use Rattle.packet_stream.specs.Awaited.{StaysShort};
 ghost use Rattle.packet_stream.specs.Streams.{Kept, passed, ended, after_piece, Follows, Puts, Nexts, Changes};
 
 use crate::format::PacketFormat;
@@ -30,6 +31,8 @@ pub struct Stream<F: PacketFormat> {
     given: Mark,
     /// The next packet.
     next: Mark,
+    /// How many bytes are awaited from there on: with fewer it isn't read.
+    awaited: usize,
     /// Nothing more is read of it.
     over: bool,
 }
@@ -46,7 +49,7 @@ impl<F: PacketFormat> Model for Stream<F> {
       over = s.over;
     } };
 
-    ghost invariant = { λ s. (s.given.index ≤ s.next.index) × (s.next.index ≤ length s.bytes) };
+    ghost invariant = { λ s. (s.given.index ≤ s.next.index) × (s.next.index ≤ length s.bytes) × StaysShort (F.format s.state) (drop s.next.index s.bytes) s.awaited };
 }
 
 impl<F: PacketFormat> Stream<F> {
@@ -61,6 +64,7 @@ impl<F: PacketFormat> Stream<F> {
             bytes: Bytes::new(alloc),
             given: start,
             next: start,
+            awaited: 0,
             over: false,
         }
     }
@@ -103,9 +107,9 @@ impl<F: PacketFormat> Stream<F> {
         self.bytes.append(piece)
     }
 
-    /// Takes the next packet with its place, `None` where it isn't whole yet or the stream is over. A wrong
-    /// packet ends the stream, and is told with its place in it. For want of memory the packet stays, to be
-    /// read again.
+    /// Takes the next packet with its place, `None` where it isn't whole yet or the stream is over. What is short is
+    /// not read again until as many bytes are there as it awaits. A wrong packet ends the stream, and is told with its
+    /// place in it. For want of memory the packet stays, to be read again.
     pub fn next(&mut self, alloc: Global) -> Result<Option<(u64, F::Packet)>, ReadError>
         ensures changes { Changes result self.old self.new }
         ensures over { self.old.over ≡ true → result ≡ Ok None }
@@ -115,18 +119,22 @@ impl<F: PacketFormat> Stream<F> {
         if self.over {
             return Ok(None);
         }
-        match F::read(
-            alloc,
-            &self.state,
-            &self.bytes.as_slice()[self.next.index..],
-        ) {
+        let rest = &self.bytes.as_slice()[self.next.index..];
+        if rest.len() < self.awaited {
+            return Ok(None);
+        }
+        match F::read(alloc, &self.state, rest) {
             Ok(Read::Whole(packet, len)) => {
                 F::next(&mut self.state, &packet);
                 self.next.index += len;
                 self.next.place = self.next.place.saturating_add(len as u64);
+                self.awaited = 0;
                 Ok(Some((self.given.place, packet)))
             }
-            Ok(Read::Short) => Ok(None),
+            Ok(Read::Short) => {
+                self.awaited = F::awaited(&self.state, rest);
+                Ok(None)
+            }
             Err(ReadError::Refused { place, reason }) => {
                 let place = self.given.place.saturating_add(place);
                 self.end();
@@ -153,6 +161,7 @@ impl<F: PacketFormat> Stream<F> {
         self.bytes.clear();
         self.given.index = 0;
         self.next.index = 0;
+        self.awaited = 0;
         self.over = true;
     }
 }

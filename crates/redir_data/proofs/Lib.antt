@@ -3,3 +3,4 @@ pub mod Front
 pub mod Written
 pub mod Back
 pub mod Sent
+pub mod Awaits

@@ -22,6 +22,7 @@ abbrev pub data_check : Caps → Way → DataKind → BodyCheck
 data_check caps way kind = record {
   place = length_place kind;
   needed = fixed caps kind;
+  tried = λ number. number == (data_row kind).number;
   passes = λ h b. not (h.kind == (data_row kind).number) || (h.length == fixed caps kind + data_count way (byte_at 0 b) (told_length caps kind b));
   reason = DataLength;
 }

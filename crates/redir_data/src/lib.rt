@@ -3,6 +3,7 @@
 
 mod data;
 mod laws;
+mod next;
 mod packet;
 mod read;
 mod redir;
@@ -13,6 +14,7 @@ mod write;
 pub use laws::{
     control_read_again, control_writes_back, data_read_again, data_writes_back, packets_sound,
 };
+pub use next::next_redir;
 pub use packet::{RedirData, RedirPacket, RedirRead};
 pub use read::read_data;
 pub use redir::read_redir;

@@ -69,7 +69,7 @@ fn behind_header(
 }
 
 /// The first number of the types that move data.
-const FIRST_DATA: u32 = 100;
+pub(crate) const FIRST_DATA: u32 = 100;
 
 fn plain_behind(
     alloc: Global,

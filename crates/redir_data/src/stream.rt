@@ -6,6 +6,7 @@ ghost use Rattle.redir_data.specs.Packets.{takes_memory as packet_takes_memory};
 ghost use Rattle.redir_data.specs.Streams.{start, advanced, after as after_packet, stream_format};
 ghost use Rattle.redir_data.specs.sound.Joined.{stream_sound};
 
+use crate::next::next_redir;
 use crate::packet::RedirPacket;
 use crate::redir::read_redir;
 use crate::state::RedirState;
@@ -59,6 +60,10 @@ impl PacketFormat for FromHost {
         read_redir(alloc, state.first, state.caps, Way::ToGuest, bytes)
     }
 
+    fn awaited(state: &RedirState, bytes: &[u8]) -> usize {
+        next_redir(state.first, state.caps, Way::ToGuest, bytes)
+    }
+
     fn next(state: &mut RedirState, packet: &(Header, RedirPacket)) {
         state.advance(&packet.1);
     }
@@ -86,6 +91,10 @@ impl PacketFormat for FromGuest {
         bytes: &[u8],
     ) -> Result<Read<(Header, RedirPacket)>, ReadError> {
         read_redir(alloc, state.first, state.caps, Way::ToHost, bytes)
+    }
+
+    fn awaited(state: &RedirState, bytes: &[u8]) -> usize {
+        next_redir(state.first, state.caps, Way::ToHost, bytes)
     }
 
     fn next(state: &mut RedirState, packet: &(Header, RedirPacket)) {

@@ -11,3 +11,4 @@ pub mod Numbers
 pub mod Controls
 pub mod Plain
 pub mod Told
+pub mod Awaits

@@ -14,6 +14,8 @@ use Rattle.redir_wire.specs.Header.{is_wide, head_size, head_bytes, header_at, h
 pub record BodyCheck : Type 0 where
   pub place : ℕ
   pub needed : ℕ
+  -- the numbers of the types in which it is tried: packets of others pass
+  pub tried : ℕ → Bool
   pub passes : Header → List ℕ → Bool
   pub reason : Reason
 
@@ -32,7 +34,7 @@ pub record Bodies (P : Type 0) : Type 1 where
 
 abbrev pub with_header : Header → List BodyCheck → List (Check Reason)
 with_header h [] = []
-with_header h (c ∷ cs) = check c.place c.needed c.reason (c.passes h) ∷ with_header h cs
+with_header h (c ∷ cs) = record (check c.place c.needed c.reason (c.passes h)) { tried = λ b. c.tried h.kind } ∷ with_header h cs
 
 -- the packet is whole once all that the header announces is there
 abbrev pub behind : {P : Type 0} → Bodies P → Header → Format P Reason
@@ -43,7 +45,8 @@ behind f h = record { checks = with_header h f.checks; size = λ b. h.length; pa
 abbrev pub behind_head : Bool → List BodyCheck → List (Check Reason)
 behind_head wide [] = []
 behind_head wide (c ∷ cs) =
-    check (head_size wide + c.place) (head_size wide + c.needed) c.reason (λ b. c.passes (header_at wide b) (drop (head_size wide) b)) ∷ behind_head wide cs
+    record (check (head_size wide + c.place) (head_size wide + c.needed) c.reason (λ b. c.passes (header_at wide b) (drop (head_size wide) b))) { tried = λ b. c.tried (le_at w32 0 b) }
+    ∷ behind_head wide cs
 
 -- a packet of another type is none of these
 abbrev pub own_check : {P : Type 0} → Bodies P → Check Reason

@@ -5,7 +5,7 @@ use Rattle.std.specs.Option.{option_map_or}
 use Rattle.usb_base.specs.declared.reason.Reason.{Reason}
 use Rattle.usb_base.specs.declared.reason.Reason.TheVariants.{HelloFirst, UnknownType, NotAgreed, WrongWay, BadLength, TooLong26}
 use Rattle.usb_base.specs.Number.{le, le_at}
-use Rattle.packet_stream.specs.Format.{Check, Format}
+use Rattle.packet_stream.specs.Format.{Check, always, Format}
 use Rattle.redir_wire.specs.declared.packet.Caps.{Caps}
 use Rattle.redir_wire.specs.declared.packet.Way.{Way}
 use Rattle.redir_wire.specs.declared.packet.Header.{Header}
@@ -66,7 +66,7 @@ abbrev pub is_its_length : Caps → ℕ → ℕ → Bool
 is_its_length caps number length = row_says (λ r. has_length caps r length) number
 
 abbrev pub check : ℕ → ℕ → Reason → (List ℕ → Bool) → Check Reason
-check place needed reason passes = record { place = place; needed = needed; passes = passes; reason = reason }
+check place needed reason passes = record { place = place; needed = needed; tried = always; passes = passes; reason = reason }
 
 abbrev pub head_checks : Bool → Caps → Way → List (Check Reason)
 head_checks first caps way =

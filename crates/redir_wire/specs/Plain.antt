@@ -21,7 +21,7 @@ is_plain number = nat_lt number 100
 
 -- an interface_info has at most 32 interfaces
 abbrev pub count_check : BodyCheck
-count_check = record { place = 0; needed = 4; passes = λ h b. not (h.kind == 4) || nat_le (le_at w32 0 b) 32; reason = Count }
+count_check = record { place = 0; needed = 4; tried = λ number. number == 4; passes = λ h b. not (h.kind == 4) || nat_le (le_at w32 0 b) 32; reason = Count }
 
 abbrev pub controls : Caps → Bodies RedirControl
 controls caps = record {

@@ -74,6 +74,14 @@ fn refused(place: u64, reason: Reason) -> HeaderRead
     Err(ReadError::Refused { place, reason })
 }
 
+/// How many bytes a header has.
+pub fn header_size(first: bool, caps: Caps) -> usize
+    ensures value { result ≡ head_size (is_wide first caps) }
+    ensures small { result ≤ 16 }
+{
+    if is_wide(first, caps) { 16 } else { 12 }
+}
+
 /// Whether ids have 64 bits. A hello's never has.
 pub(crate) fn is_wide(first: bool, caps: Caps) -> bool
     ensures { result ≡ is_wide first caps }

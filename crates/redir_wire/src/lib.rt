@@ -6,6 +6,7 @@ mod ep_table;
 mod header;
 mod kind;
 mod laws;
+mod next;
 mod packet;
 mod read;
 mod write;
@@ -13,9 +14,10 @@ mod write;
 pub use capability::{
     ANNOUNCED, CONNECT_VERSION, DISCONNECT_ACK, MAX_PACKET_SIZE, WIDE_BULK_LENGTH, WIDE_IDS,
 };
-pub use header::{MAX_LENGTH, read_header};
+pub use header::{MAX_LENGTH, header_size, read_header};
 pub use kind::{DataKind, Kind, More, PlainKind, Row, Tail, is_left_out};
 pub use laws::{headers_sound, plain_sound, read_again, read_by_parts};
+pub use next::next_control;
 pub use packet::{
     Caps, Connect, EpInfo, Header, HeaderRead, Hello, InterfaceInfo, MAX_INTERFACES, RedirControl,
     Way, WireError, Words,

@@ -47,8 +47,8 @@ pub is_code : (list import code : ℕ) → ((code == list) || (code == import)) 
 is_code list import code e = grind (arith, common_steps)
 
 -- the checks of both ways see only the bytes that they need
-pub head_steady : (list import : ℕ) (more : List (Check Reason)) → AreSteady 4 more → StaysWrong (version_check ∷ code_check list import ∷ more)
-head_steady list import more later = stays_wrong (version_check ∷ code_check list import ∷ more) 0 (
+pub heads_steady : (list import : ℕ) (more : List (Check Reason)) → AreSteady 4 more → AreSteady 0 (version_check ∷ code_check list import ∷ more)
+heads_steady list import more later = (
   omega arith,
   λ b rest h. ap (λ (n : ℕ). n == 0x0111) (be_at-append_16 0 b rest h),
   (
@@ -57,3 +57,6 @@ head_steady list import more later = stays_wrong (version_check ∷ code_check l
     later,
   ),
 )
+
+pub head_steady : (list import : ℕ) (more : List (Check Reason)) → AreSteady 4 more → StaysWrong (version_check ∷ code_check list import ∷ more)
+head_steady list import more later = stays_wrong (version_check ∷ code_check list import ∷ more) 0 (heads_steady list import more later)

@@ -5,3 +5,4 @@ pub mod Rows
 pub mod Devices
 pub mod Replies
 pub mod Packets
+pub mod Awaits

@@ -1,9 +1,9 @@
 -- What is read as a reply is spelled so, and what is spelled so is read.
 use Rattle.std.proofs.Common.{◌≡◌, ℕ, zero, suc, ◌+◌, ◌^◌, ◌<◌, ◌≤◌, ◌==◌, ◌||◌, ◌⊎◌, inl, inr, Bool, true, false, List, [], ◌∷◌, ◌++◌, length, take, drop, refl, sym, ap, subst, ◌∙◌, append_assoc, arith, Option, Some, None, length-append, cond, flat_map, rules}
-use Rattle.std.specs.Prelude.{nat_le, not, ◌&&◌}
+use Rattle.std.specs.Prelude.{nat_le, nat_lt, not, ◌&&◌}
 use Rattle.std.specs.Int.{w16, w32}
 use Rattle.std.proofs.lemmas.Grind.{common_steps}
-use Rattle.std.proofs.lemmas.Bool.{leb-true, le-leb}
+use Rattle.std.proofs.lemmas.Bool.{leb-true, le-leb, le-ltb}
 use Rattle.std.proofs.lemmas.List.{drop_at, append-nil, length-drop}
 use Rattle.usb_base.specs.Number.{be, be_at, part, AreBytes}
 use Rattle.packet_stream.specs.Format.{IsSound, Whole, wrong_at, reading}
@@ -18,7 +18,7 @@ use Rattle.usbip_op.proofs.Fitting.{IsReply, IsListReply, IsImportReply, reply_f
 use Rattle.usbip_op.specs.Rows.{rows_size, rows_at}
 use Rattle.usbip_op.specs.Devices.{device_at, listed_form}
 use Rattle.usbip_op.specs.Requests.{version_check, code_check}
-use Rattle.usbip_op.specs.Replies.{count_check, reply_checks, reply_size_by, reply_by, replies}
+use Rattle.usbip_op.specs.Replies.{count_check, reply_checks, reply_size_by, reply_size, reply_by, replies}
 use Rattle.usbip_op.proofs.Heads.{head_spelled, length-head, version_again, code_again, status_again, head_right, head_steady, is_version, is_code}
 use Rattle.usbip_op.proofs.Rows.{rows_found, rows_again, size_again}
 use Rattle.usbip_op.proofs.Devices.{device_found, device_again, device_long, listed_sound}
@@ -109,10 +109,28 @@ found_at b code are version is few there (inr e) =
     let s = be_at w32 4 b in
     subst (λ (k : ℕ). IsFound b k s) (sym e) (import_found b s are version (is ∙ e) refl (subst (λ (k : ℕ). reply_size_by k s b ≤ length b) e there))
 
-least : (s t : Bool) (n : ℕ) → 8 ≤ cond (not s) 8 (cond t (12 + n) 320)
+pub least : (s t : Bool) (n : ℕ) → 8 ≤ cond (not s) 8 (cond t (12 + n) 320)
 least false t n = omega arith
 least true true n = omega arith
 least true false n = omega arith
+
+pub size_least : (b : List ℕ) → 8 ≤ reply_size_by (be_at w16 2 b) (be_at w32 4 b) b
+size_least b = least (be_at w32 4 b == 0) (be_at w16 2 b == 0x0005) (rows_size listed_form (be_at w32 8 b) (drop 12 b))
+
+-- with its head
+pub size_headed : (b : List ℕ) → 8 ≤ length b → reply_size b ≡ reply_size_by (be_at w16 2 b) (be_at w32 4 b) b
+size_headed b long = rw (le-ltb (length b) 8 long) refl
+
+long_by : (t : Bool) (n m : ℕ) → 8 ≤ n → cond t 8 n ≤ m → 8 ≤ m
+long_by true n m least there = there
+long_by false n m least there = omega (arith, least, there)
+
+some_by : (t : Bool) (n : ℕ) → 8 ≤ n → 8 ≤ cond t 8 n
+some_by true n least = omega arith
+some_by false n least = least
+
+pub reply_long : (b : List ℕ) → 8 ≤ reply_size b
+reply_long b = some_by (nat_lt (length b) 8) (reply_size_by (be_at w16 2 b) (be_at w32 4 b) b) (size_least b)
 
 found : (b : List ℕ) → AreBytes b → wrong_at reply_checks b ≡ None → reply_size_by (be_at w16 2 b) (be_at w32 4 b) b ≤ length b → IsFound b (be_at w16 2 b) (be_at w32 4 b)
 found b are none there =
@@ -215,7 +233,7 @@ right p more fits =
 
 -- ---- the law
 
-count_steady : (b more : List ℕ) → 12 ≤ length b → count_check.passes (b ++ more) ≡ count_check.passes b
+pub count_steady : (b more : List ℕ) → 12 ≤ length b → count_check.passes (b ++ more) ≡ count_check.passes b
 count_steady b more there =
     let x = b ++ more in
     ap (λ (k : ℕ). is_few k (be_at w32 4 x) (be_at w32 8 x)) (be_at-append_16 2 b more (omega (arith, there)))
@@ -224,10 +242,16 @@ count_steady b more there =
 
 pub replies_sound : IsSound replies
 replies_sound = record {
-  found = λ b are none there. let h = found b are none there in (h.0, fits_reply (reply_by (be_at w16 2 b) (be_at w32 4 b) b) h.1);
+  found = λ b are none there.
+      let size = size_headed b (long_by (nat_lt (length b) 8) (reply_size_by (be_at w16 2 b) (be_at w32 4 b) b) (length b) (size_least b) there) in
+      let h = found b are none (subst (λ (n : ℕ). n ≤ length b) size there) in
+      (h.0 ∙ ap (λ (n : ℕ). take n b) (sym size), fits_reply (reply_by (be_at w16 2 b) (be_at w32 4 b) b) h.1);
   right = λ p more fits. right p more (reply_fits p fits);
-  size = λ p more fits. (again p more (reply_fits p fits)).size;
+  size = λ p more fits.
+      let x = spelling p ++ more in
+      let size = (again p more (reply_fits p fits)).size in
+      size_headed x (omega (arith, length-append (spelling p) more, size, size_least x)) ∙ size;
   packet = λ p more fits. (again p more (reply_fits p fits)).packet;
-  some = λ b. let h = least (be_at w32 4 b == 0) (be_at w16 2 b == 0x0005) (rows_size listed_form (be_at w32 8 b) (drop 12 b)) in omega (arith, h);
+  some = λ b. let h = reply_long b in omega (arith, h);
   steady = head_steady 0x0005 0x0003 (count_check ∷ []) (omega arith, count_steady, tt);
 }

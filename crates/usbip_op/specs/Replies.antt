@@ -1,5 +1,5 @@
 -- The replies of a server before a device is imported ("usbip_protocol", OP_REP_DEVLIST and OP_REP_IMPORT).
-use Rattle.std.specs.Prelude.{ℕ, ◌+◌, ◌==◌, ◌&&◌, ◌||◌, not, nat_le, if◌then◌else◌, List, [], ◌∷◌, drop, Some, None}
+use Rattle.std.specs.Prelude.{ℕ, ◌+◌, ◌==◌, ◌&&◌, ◌||◌, not, nat_le, nat_lt, if◌then◌else◌, Bool, List, [], ◌∷◌, length, drop, Some, None}
 use Rattle.std.specs.Int.{w16, w32}
 use Rattle.usb_base.specs.Number.{be_at}
 use Rattle.packet_stream.specs.Format.{Check, Format}
@@ -15,9 +15,13 @@ use Rattle.usbip_op.specs.Spelling.{spelling}
 use Rattle.usbip_op.specs.Ranges.{IsPacket}
 use Rattle.usbip_op.specs.Requests.{version_check, code_check}
 
--- a list reply with status 0 has at most 1,024 devices
+-- a list reply with status 0 tells a count, once its head is there
+abbrev pub has_count : List ℕ → Bool
+has_count b = nat_le 8 (length b) && ((be_at w16 2 b == OP_REP_DEVLIST) && (be_at w32 4 b == 0))
+
+-- which is at most 1,024
 abbrev pub count_check : Check Reason
-count_check = record { place = 8; needed = 12; passes = λ b. not ((be_at w16 2 b == OP_REP_DEVLIST) && (be_at w32 4 b == 0)) || nat_le (be_at w32 8 b) MAX_DEVICES; reason = Count }
+count_check = record { place = 8; needed = 12; tried = has_count; passes = λ b. not ((be_at w16 2 b == OP_REP_DEVLIST) && (be_at w32 4 b == 0)) || nat_le (be_at w32 8 b) MAX_DEVICES; reason = Count }
 
 abbrev pub reply_checks : List (Check Reason)
 reply_checks = version_check ∷ code_check OP_REP_DEVLIST OP_REP_IMPORT ∷ count_check ∷ []
@@ -28,6 +32,10 @@ reply_size_by code status b =
     if not (status == 0) then 8
     else if code == OP_REP_DEVLIST then 12 + rows_size listed_form (be_at w32 8 b) (drop 12 b)
     else 320
+
+-- before its head is there the least that a reply may have
+abbrev pub reply_size : List ℕ → ℕ
+reply_size b = if nat_lt (length b) 8 then 8 else reply_size_by (be_at w16 2 b) (be_at w32 4 b) b
 
 abbrev pub list_reply_by : ℕ → List ℕ → OpPacket
 list_reply_by status b = RepDevlist status (if status == 0 then rows_at listed_form (be_at w32 8 b) (drop 12 b) else [])
@@ -41,7 +49,7 @@ reply_by code status b = if code == OP_REP_DEVLIST then list_reply_by status b e
 abbrev pub replies : Format OpPacket Reason
 replies = record {
   checks = reply_checks;
-  size = λ b. reply_size_by (be_at w16 2 b) (be_at w32 4 b) b;
+  size = reply_size;
   packet = λ b. reply_by (be_at w16 2 b) (be_at w32 4 b) b;
   spelling = spelling;
   Fits = IsPacket Reply;

@@ -2,7 +2,7 @@
 use Rattle.std.specs.Prelude.{ℕ, ◌==◌, ◌||◌, if◌then◌else◌, List, [], ◌∷◌}
 use Rattle.std.specs.Int.{w16, w32}
 use Rattle.usb_base.specs.Number.{be_at, part}
-use Rattle.packet_stream.specs.Format.{Check, Format}
+use Rattle.packet_stream.specs.Format.{Check, always, Format}
 use Rattle.usb_base.specs.declared.reason.Reason.{Reason}
 use Rattle.usb_base.specs.declared.reason.Reason.TheVariants.{Version, OpCode}
 use Rattle.usbip_op.specs.declared.code.TheConstants.{OP_REQ_DEVLIST, OP_REQ_IMPORT, USBIP_VERSION}
@@ -14,11 +14,11 @@ use Rattle.usbip_op.specs.Ranges.{IsPacket}
 
 -- the first two bytes are version 1.1.1
 abbrev pub version_check : Check Reason
-version_check = record { place = 0; needed = 2; passes = λ b. be_at w16 0 b == USBIP_VERSION; reason = Version }
+version_check = record { place = 0; needed = 2; tried = always; passes = λ b. be_at w16 0 b == USBIP_VERSION; reason = Version }
 
 -- the next two are one of two codes
 abbrev pub code_check : ℕ → ℕ → Check Reason
-code_check list import = record { place = 2; needed = 4; passes = λ b. (be_at w16 2 b == list) || (be_at w16 2 b == import); reason = OpCode }
+code_check list import = record { place = 2; needed = 4; tried = always; passes = λ b. (be_at w16 2 b == list) || (be_at w16 2 b == import); reason = OpCode }
 
 abbrev pub request_checks : List (Check Reason)
 request_checks = version_check ∷ code_check OP_REQ_DEVLIST OP_REQ_IMPORT ∷ []

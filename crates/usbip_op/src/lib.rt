@@ -3,6 +3,7 @@
 #![tactic(auto)]
 
 mod code;
+mod next;
 mod packet;
 mod read;
 mod reply;
@@ -11,6 +12,7 @@ mod write;
 pub use code::{
     MAX_DEVICES, OP_REP_DEVLIST, OP_REP_IMPORT, OP_REQ_DEVLIST, OP_REQ_IMPORT, USBIP_VERSION,
 };
+pub use next::next_op;
 pub use packet::{
     DeviceRow, IfaceRow, IfaceRows, Listed, ListedRows, OpError, OpPacket, OpRead, OpWay,
 };

@@ -19,10 +19,10 @@ use std::alloc::Global;
 use usb_base::{List, Memory, Reason, array_at, be_u16_at, be_u32_at};
 
 /// How many bytes a device has, without its interfaces.
-const DEVICE_SIZE: usize = 312;
+pub(crate) const DEVICE_SIZE: usize = 312;
 
 /// How many bytes an interface has.
-const INTERFACE_SIZE: usize = 4;
+pub(crate) const INTERFACE_SIZE: usize = 4;
 
 /// Reads the reply at the front of the bytes.
 pub(crate) fn read_reply(alloc: Global, bytes: &[u8]) -> Result<OpRead, OpError>

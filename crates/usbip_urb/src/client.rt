@@ -7,6 +7,7 @@ ghost use Rattle.usbip_urb.specs.declared.client.ClientPacket.{ClientPacket as P
 ghost use Rattle.usbip_urb.specs.ClientPackets.{is_op, client_packets, client_spelling, IsClientPacket, takes_memory};
 ghost use Rattle.usbip_urb.specs.Sound.ClientPackets.{client_packets_sound};
 
+use crate::next::next_client;
 use crate::packet::UrbPacket;
 use crate::request::read_urb;
 use packet_stream::{PacketFormat, Read, ReadError};
@@ -92,6 +93,10 @@ impl PacketFormat for ClientFormat {
 
     fn read(alloc: Global, _state: &(), bytes: &[u8]) -> Result<Read<ClientPacket>, ReadError> {
         read_client(alloc, bytes)
+    }
+
+    fn awaited(_state: &(), bytes: &[u8]) -> usize {
+        next_client(bytes)
     }
 
     fn next(_state: &mut (), _packet: &ClientPacket) {}

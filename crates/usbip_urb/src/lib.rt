@@ -8,6 +8,7 @@ mod check;
 mod client;
 mod code;
 mod field;
+mod next;
 mod packet;
 mod payload;
 mod request;
@@ -23,6 +24,7 @@ pub use code::{
     NO_PACKETS, USBIP_CMD_SUBMIT, USBIP_CMD_UNLINK, USBIP_DIR_IN, USBIP_DIR_OUT, USBIP_RET_SUBMIT,
     USBIP_RET_UNLINK,
 };
+pub use next::{next_client, next_urb};
 pub use packet::{
     Descs, Head, IsoDesc, RetSubmit, RetUnlink, Submit, Unlink, UrbError, UrbPacket, UrbRead,
 };

@@ -49,8 +49,9 @@ pub(crate) fn payload_of(has_body: bool, bytes: &[u8]) -> Option<Payload<'_>>
     })
 }
 
-fn desc_count(bytes: &[u8]) -> usize
-    requires { HEAD_SIZE ≤ length bytes.now }
+/// How many descriptors a packet has.
+pub(crate) fn desc_count(bytes: &[u8]) -> usize
+    requires { 36 ≤ length bytes.now }
     ensures count { result ≡ count_of (be_at w32 32 bytes.now) }
     ensures in_range { result < 2 ^ 32 }
 {

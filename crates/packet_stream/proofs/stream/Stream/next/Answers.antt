@@ -1,5 +1,5 @@
-use Rattle.std.proofs.Common.{◌≡◌, sym, refl, drop}
-use Rattle.std.proofs.lemmas.List.{drop-drop}
+use Rattle.std.proofs.Common.{◌≡◌, ◌<◌, ◌++◌, [], length, sym, refl, ap, ◌∙◌, drop, arith}
+use Rattle.std.proofs.lemmas.List.{drop-drop, append-nil}
 use Rattle.packet_stream.specs.Format.{Whole, Short, Wrong, reading}
 use Rattle.packet_stream.specs.Split.{reads}
 use Rattle.packet_stream.specs.Streams.{Kept}
@@ -39,9 +39,9 @@ returns-in-Err-Refused-clause-follows g c start bytes given f =
     let own = c.self.inside in
     let place = c.in-Err-Refused.place in
     let why = c.in-Err-Refused.reason in
-    follows-wrong (reads g.F.PacketFormat.format g.F.PacketFormat.after) (reads_steady g.F.PacketFormat.format g.F.PacketFormat.after g.met.F.PacketFormat.sound) start _ c.args.self.now bytes given place c.saturating_add-place.result why c.self.view_is c.if-self.false
-    (read_behind (reading (g.F.PacketFormat.format own.state)) c.as_slice.result.now own.bytes own.next.index (Wrong place why) c.as_slice.ensures (rw c.in-Err-Refused.field-0-is at c.in-Err-Refused.ensures))
-    c.saturating_add-place.ensures f
+    let read = read_behind (reading (g.F.PacketFormat.format own.state)) c.as_slice.result.now own.bytes own.next.index (Wrong place why) c.as_slice.ensures (rw c.in-Err-Refused.field-0-is at c.in-Err-Refused.ensures) in
+    follows-wrong (reads g.F.PacketFormat.format g.F.PacketFormat.after) (reads_steady g.F.PacketFormat.format g.F.PacketFormat.after g.met.F.PacketFormat.sound) start _ c.args.self.now bytes given _ c.saturating_add-place.result _ c.self.view_is c.if-self.false
+    (read ∙ sym (λ t. Wrong (c.in-Err-Refused.place-is t) (c.in-Err-Refused.reason-is t))) c.saturating_add-place.ensures f
 
 pub returns-in-Err-Memory-clause-follows : goal.returns-in-Err-Memory-clause-follows
 returns-in-Err-Memory-clause-follows g c start bytes given f =
@@ -49,3 +49,13 @@ returns-in-Err-Memory-clause-follows g c start bytes given f =
     follows-wants (reads g.F.PacketFormat.format g.F.PacketFormat.after) (reads_steady g.F.PacketFormat.format g.F.PacketFormat.after g.met.F.PacketFormat.sound) g.F.PacketFormat.takes_memory start _ c.args.self.now bytes given _ c.self.view_is c.if-self.false
     (read_behind (reading (g.F.PacketFormat.format own.state)) c.as_slice.result.now own.bytes own.next.index _ c.as_slice.ensures refl)
     (rw c.in-Err-Memory.field-0-is at c.in-Err-Memory.ensures) f
+
+pub returns-then-rest-self-clause-follows : goal.returns-then-rest-self-clause-follows
+returns-then-rest-self-clause-follows g c start bytes given f runs =
+    let own = c.self.inside in
+    let rest = drop own.next.index own.bytes in
+    let none = append-nil rest in
+    let same = read_behind length c.as_slice.result.now own.bytes own.next.index _ c.as_slice.ensures refl in
+    let less : length (rest ++ []) < own.awaited = omega (arith, c.if-rest-self.true, same, ap length none) in
+    follows-short (reads g.F.PacketFormat.format g.F.PacketFormat.after) (reads_steady g.F.PacketFormat.format g.F.PacketFormat.after g.met.F.PacketFormat.sound) start _ c.args.self.now _ bytes given c.self.view_is c.if-self.false
+    (ap (reading (g.F.PacketFormat.format own.state)) (sym none) ∙ c.self.invariant.2 [] less) refl f

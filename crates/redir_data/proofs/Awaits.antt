@@ -1,0 +1,171 @@
+-- What a packet of any type awaits is what the one of both formats awaits.
+use Rattle.std.proofs.Common.{◌≡◌, ℕ, ◌+◌, ◌<◌, ◌≤◌, ◌==◌, inl, inr, Bool, true, false, cond, List, ◌++◌, length, Option, Some, None, refl, sym, ap, ◌∙◌, arith}
+use Rattle.std.specs.Prelude.{nat_lt, not, ◌||◌}
+use Rattle.std.specs.Int.{w32}
+use Rattle.std.proofs.lemmas.Bool.{eqb-true, le-ltb, lt-ltb}
+use Rattle.usb_base.specs.Number.{le_at, byte_at}
+use Rattle.usb_base.specs.declared.reason.Reason.{Reason}
+use Rattle.usb_base.proofs.Numbers.{le_at-append_32}
+use Rattle.packet_stream.specs.Format.{Found, Whole, Short, Wrong, wrong_at, reading}
+use Rattle.packet_stream.specs.Joined.{joined}
+use Rattle.packet_stream.specs.Awaited.{IsAwaited, StaysShort, awaited}
+use Rattle.packet_stream.proofs.Formats.{none_before}
+use Rattle.packet_stream.proofs.Joins.{found_as, reading-left, reading-right, reading-renamed}
+use Rattle.packet_stream.proofs.Awaiting.{IsPatient, short_parts, short_from, awaited_least, stays_short, awaited-left, awaited-right, stays-left, stays-right, stays-renamed}
+use Rattle.redir_wire.specs.declared.packet.Caps.{Caps}
+use Rattle.redir_wire.specs.declared.packet.Way.{Way}
+use Rattle.redir_wire.specs.declared.packet.Header.{Header}
+use Rattle.redir_wire.specs.declared.packet.RedirControl.{RedirControl}
+use Rattle.redir_wire.specs.declared.kind.DataKind.{DataKind}
+use Rattle.redir_wire.specs.declared.kind.DataKind.TheVariants.{Control, Bulk, Iso, Interrupt}
+use Rattle.redir_wire.specs.declared.kind.Kind.TheVariants.{Carrying}
+use Rattle.redir_wire.specs.Table.{data_row, data_numbered, has_length}
+use Rattle.redir_wire.specs.Header.{is_wide, head_size, header_at, is_its_length}
+use Rattle.redir_wire.specs.Bodies.{behind_head}
+use Rattle.redir_wire.specs.Plain.{is_plain, controls, plain}
+use Rattle.redir_wire.proofs.Checks.{passed}
+use Rattle.redir_wire.proofs.Numbers.{data_again}
+use Rattle.redir_wire.proofs.Packets.{headed, packets_steady}
+use Rattle.redir_wire.proofs.Plain.{plain_bodies}
+use Rattle.redir_wire.proofs.Awaits.{AreOwn, size_long, packets_patient, plain_patient}
+use Rattle.redir_data.specs.declared.packet.RedirData.{RedirData}
+use Rattle.redir_data.specs.Spelling.{data_count}
+use Rattle.redir_data.specs.Places.{fixed, told_length}
+use Rattle.redir_data.specs.Carrying.{data_check, transfers, carrying}
+use Rattle.redir_data.specs.Packets.{begins_plain, to_packet, from_packet, redir_packets}
+use Rattle.redir_data.specs.sound.Carrying.{data_bodies}
+use Rattle.redir_data.specs.sound.Checks.{is_numbered, least_length}
+
+-- ---- the packets that move data
+
+number_by : (t u : Bool) → t ≡ false → (not t || u) ≡ true
+number_by true u e = absurd cc
+number_by false u e = refl
+
+its_fields : (caps : Caps) (k : DataKind) (kind length : ℕ) → (kind == (data_row k).number) ≡ true → is_its_length caps kind length ≡ true → fixed caps k ≤ length
+its_fields caps k kind length is its =
+    least_length caps (record { kind = kind; length = length; id = 0 }) k (ap data_numbered (eqb-true kind (data_row k).number is) ∙ data_again k) its
+
+idle_of : (caps : Caps) (way : Way) (k : DataKind) (h : Header) (b : List ℕ) → (h.kind == (data_row k).number) ≡ false → (data_check caps way k).passes h b ≡ true
+idle_of caps way k h b untried = number_by (h.kind == (data_row k).number) (h.length == fixed caps k + data_count way (byte_at 0 b) (told_length caps k b)) untried
+
+transfers_own : (caps : Caps) (way : Way) → AreOwn caps (transfers caps way).checks
+transfers_own caps way = (
+  idle_of caps way Iso,
+  its_fields caps Iso,
+  (idle_of caps way Interrupt, its_fields caps Interrupt, (idle_of caps way Bulk, its_fields caps Bulk, (idle_of caps way Control, its_fields caps Control, tt))),
+)
+
+pub carrying_patient : (first : Bool) (caps : Caps) (way : Way) → IsPatient (carrying first caps way)
+carrying_patient first caps way = packets_patient (transfers caps way) first caps way (data_bodies first caps way).steady (transfers_own caps way)
+
+-- of a packet of this type
+pub data_awaited : (first : Bool) (caps : Caps) (way : Way) (k : DataKind) (b : List ℕ) → 8 ≤ length b → le_at w32 0 b ≡ (data_row k).number →
+    awaited (carrying first caps way) b
+    ≡ cond (nat_lt (length b) (head_size (is_wide first caps) + fixed caps k)) (head_size (is_wide first caps) + fixed caps k) (head_size (is_wide first caps) + le_at w32 4 b)
+data_awaited first caps way Control b there e = rw (le-ltb (length b) 4 (omega arith), le-ltb (length b) 8 there, e) refl
+data_awaited first caps way Bulk b there e = rw (le-ltb (length b) 4 (omega arith), le-ltb (length b) 8 there, e) refl
+data_awaited first caps way Iso b there e = rw (le-ltb (length b) 4 (omega arith), le-ltb (length b) 8 there, e) refl
+data_awaited first caps way Interrupt b there e = rw (le-ltb (length b) 4 (omega arith), le-ltb (length b) 8 there, e) refl
+
+awaited_by : (t : Bool) (f n m : ℕ) → t ≡ true → m ≡ f → m ≡ cond t f n
+awaited_by true f n m e is = is
+awaited_by false f n m e is = absurd cc
+
+behind_by : (t : Bool) (f n m : ℕ) → t ≡ false → m ≡ n → m ≡ cond t f n
+behind_by true f n m e is = absurd cc
+behind_by false f n m e is = is
+
+-- its fields are awaited, and then all of it
+pub fields_awaited : (first : Bool) (caps : Caps) (way : Way) (k : DataKind) (b : List ℕ) (s f : ℕ) → 8 ≤ length b → le_at w32 0 b ≡ (data_row k).number → s ≡ head_size (is_wide first caps) → f ≡ fixed caps k →
+    length b < s + f → s + f ≡ awaited (carrying first caps way) b
+fields_awaited first caps way k b s f there e size fields less =
+    let n = head_size (is_wide first caps) + fixed caps k in
+    let is : s + f ≡ n = λ i. size i + fields i in
+    awaited_by (nat_lt (length b) n) n (head_size (is_wide first caps) + le_at w32 4 b) (s + f) (lt-ltb (length b) n (omega (arith, less, is))) is ∙ sym (data_awaited first caps way k b there e)
+
+pub all_awaited : (first : Bool) (caps : Caps) (way : Way) (k : DataKind) (b : List ℕ) (s f l : ℕ) → 8 ≤ length b → le_at w32 0 b ≡ (data_row k).number → s ≡ head_size (is_wide first caps) → f ≡ fixed caps k →
+    l ≡ le_at w32 4 b → s + f ≤ length b → s + l ≡ awaited (carrying first caps way) b
+all_awaited first caps way k b s f l there e size fields told enough =
+    let n = head_size (is_wide first caps) + fixed caps k in
+    let is : s + f ≡ n = λ i. size i + fields i in
+    behind_by (nat_lt (length b) n) n (head_size (is_wide first caps) + le_at w32 4 b) (s + l) (le-ltb (length b) n (omega (arith, enough, is))) (λ i. size i + told i) ∙ sym (data_awaited first caps way k b there e)
+
+-- its type is one of those
+pub is_data : (first : Bool) (caps : Caps) (way : Way) (b : List ℕ) → reading (carrying first caps way) b ≡ Short → 8 ≤ length b → begins_plain b ≡ false → data_numbered (le_at w32 0 b) ≡ None → ⊥
+is_data first caps way b short there carries none =
+    let right = (short_parts (carrying first caps way) b short).0 in
+    let checks = passed (headed (transfers caps way) first caps way) (behind_head (is_wide first caps) (transfers caps way).checks) b right in
+    is_numbered caps (record { kind = le_at w32 0 b; length = le_at w32 4 b; id = 0 }) carries (checks.0.1.1.1.1.1.1.0 there) none
+
+-- ---- without a whole type
+
+plain_waits : (first : Bool) (caps : Caps) (way : Way) (x : List ℕ) → length x < 4 → reading (plain first caps way) x ≡ Short
+plain_waits first caps way x less =
+    short_from (plain first caps way) x (none_before (plain first caps way).checks 4 x (packets_steady (controls caps) first caps way (plain_bodies first caps way).steady) less) (omega (arith, less, size_long (is_wide first caps) x))
+
+data_waits : (first : Bool) (caps : Caps) (way : Way) (x : List ℕ) → length x < 4 → reading (carrying first caps way) x ≡ Short
+data_waits first caps way x less =
+    short_from (carrying first caps way) x (none_before (carrying first caps way).checks 4 x (packets_steady (transfers caps way) first caps way (data_bodies first caps way).steady) less)
+    (omega (arith, less, size_long (is_wide first caps) x))
+
+short_by : (first : Bool) (caps : Caps) (way : Way) (x : List ℕ) → length x < 4 → (t : Bool) → begins_plain x ≡ t → reading (redir_packets first caps way) x ≡ Short
+short_by first caps way x less true e =
+    reading-renamed to_packet from_packet (joined begins_plain (plain first caps way) (carrying first caps way)) x
+    ∙ ap (found_as to_packet) (reading-left begins_plain (plain first caps way) (carrying first caps way) x e ∙ ap (found_as inl) (plain_waits first caps way x less))
+short_by first caps way x less false e =
+    reading-renamed to_packet from_packet (joined begins_plain (plain first caps way) (carrying first caps way)) x
+    ∙ ap (found_as to_packet) (reading-right begins_plain (plain first caps way) (carrying first caps way) x e ∙ ap (found_as inr) (data_waits first caps way x less))
+
+pub four_quiet : (first : Bool) (caps : Caps) (way : Way) (b : List ℕ) → StaysShort (redir_packets first caps way) b 4
+four_quiet first caps way b more less = short_by first caps way (b ++ more) less (begins_plain (b ++ more)) refl
+
+four_by : (first : Bool) (caps : Caps) (way : Way) (b : List ℕ) → length b < 4 → (t : Bool) → begins_plain b ≡ t → IsAwaited (redir_packets first caps way) b 4
+four_by first caps way b less true e =
+    let is : 4 ≡ awaited (plain first caps way) b = rw (lt-ltb (length b) 4 less) refl in
+    awaited-left begins_plain (plain first caps way) (carrying first caps way) b 4 e (awaited_least (plain first caps way) (plain_patient first caps way) b (plain_waits first caps way b less) 4 is)
+four_by first caps way b less false e =
+    let is : 4 ≡ awaited (carrying first caps way) b = rw (lt-ltb (length b) 4 less) refl in
+    awaited-right begins_plain (plain first caps way) (carrying first caps way) b 4 e (awaited_least (carrying first caps way) (carrying_patient first caps way) b (data_waits first caps way b less) 4 is)
+
+pub four_awaited : (first : Bool) (caps : Caps) (way : Way) (b : List ℕ) → length b < 4 → IsAwaited (redir_packets first caps way) b 4
+four_awaited first caps way b less = four_by first caps way b less (begins_plain b) refl
+
+-- ---- with one
+
+sees : (b more : List ℕ) (t : Bool) → 4 ≤ length b → begins_plain b ≡ t → begins_plain (b ++ more) ≡ t
+sees b more t there e = ap is_plain (le_at-append_32 0 b more there) ∙ e
+
+unfound : {P Q R : Type 0} (to : P → Q) (then : Q → R) (found : Found P Reason) → found_as then (found_as to found) ≡ Short → found ≡ Short
+unfound to then (Whole p n) e = absurd cc
+unfound to then Short e = refl
+unfound to then (Wrong place reason) e = absurd cc
+
+pub plain_short : (first : Bool) (caps : Caps) (way : Way) (b : List ℕ) → begins_plain b ≡ true → reading (redir_packets first caps way) b ≡ Short → reading (plain first caps way) b ≡ Short
+plain_short first caps way b e short =
+    unfound inl to_packet (reading (plain first caps way) b)
+    (sym (reading-renamed to_packet from_packet (joined begins_plain (plain first caps way) (carrying first caps way)) b ∙ ap (found_as to_packet) (reading-left begins_plain (plain first caps way) (carrying first caps way) b e)) ∙ short)
+
+pub data_short : (first : Bool) (caps : Caps) (way : Way) (b : List ℕ) → begins_plain b ≡ false → reading (redir_packets first caps way) b ≡ Short → reading (carrying first caps way) b ≡ Short
+data_short first caps way b e short =
+    unfound inr to_packet (reading (carrying first caps way) b)
+    (sym (reading-renamed to_packet from_packet (joined begins_plain (plain first caps way) (carrying first caps way)) b ∙ ap (found_as to_packet) (reading-right begins_plain (plain first caps way) (carrying first caps way) b e)) ∙ short)
+
+pub plain_awaited : (first : Bool) (caps : Caps) (way : Way) (b : List ℕ) (n : ℕ) → begins_plain b ≡ true → IsAwaited (plain first caps way) b n → IsAwaited (redir_packets first caps way) b n
+plain_awaited first caps way b n e is = awaited-left begins_plain (plain first caps way) (carrying first caps way) b n e is
+
+pub plain_quiet : (first : Bool) (caps : Caps) (way : Way) (b : List ℕ) (n : ℕ) → 4 ≤ length b → begins_plain b ≡ true → StaysShort (plain first caps way) b n → StaysShort (redir_packets first caps way) b n
+plain_quiet first caps way b n there e stays =
+    stays-renamed to_packet from_packet (joined begins_plain (plain first caps way) (carrying first caps way)) b n
+    (stays-left begins_plain (plain first caps way) (carrying first caps way) b n (λ more. sees b more true there e) stays)
+
+pub data_least : (first : Bool) (caps : Caps) (way : Way) (b : List ℕ) (n : ℕ) → begins_plain b ≡ false → reading (redir_packets first caps way) b ≡ Short → n ≡ awaited (carrying first caps way) b →
+    IsAwaited (redir_packets first caps way) b n
+data_least first caps way b n e short is =
+    awaited-right begins_plain (plain first caps way) (carrying first caps way) b n e (awaited_least (carrying first caps way) (carrying_patient first caps way) b (data_short first caps way b e short) n is)
+
+pub data_quiet : (first : Bool) (caps : Caps) (way : Way) (b : List ℕ) (n : ℕ) → 4 ≤ length b → begins_plain b ≡ false → reading (redir_packets first caps way) b ≡ Short → n ≡ awaited (carrying first caps way) b →
+    StaysShort (redir_packets first caps way) b n
+data_quiet first caps way b n there e short is =
+    stays-renamed to_packet from_packet (joined begins_plain (plain first caps way) (carrying first caps way)) b n
+    (stays-right begins_plain (plain first caps way) (carrying first caps way) b n (λ more. sees b more false there e) (stays_short (carrying first caps way) (carrying_patient first caps way) b (data_short first caps way b e short) n is))

@@ -1,0 +1,169 @@
+-- What lets a reader wait for bytes: no later byte makes a packet shorter, and no check that isn't tried fails.
+use Rattle.std.proofs.Common.{◌≡◌, ℕ, ◌+◌, ◌<◌, ◌≤◌, ◌==◌, inl, inr, Bool, true, false, cond, List, [], ◌∷◌, ◌++◌, length, drop, None, refl, sym, ap, ◌∙◌, arith}
+use Rattle.std.specs.Prelude.{nat_le, nat_lt, not, ◌||◌}
+use Rattle.std.specs.Int.{w32}
+use Rattle.std.proofs.lemmas.Bool.{cases_lt, le-ltb, eqb-true}
+use Rattle.std.proofs.lemmas.List.{length-append}
+use Rattle.usb_base.specs.Number.{le_at}
+use Rattle.usb_base.proofs.Numbers.{le_at-append_32}
+use Rattle.packet_stream.specs.Format.{wrong_at}
+use Rattle.packet_stream.specs.Awaited.{awaited}
+use Rattle.packet_stream.proofs.Awaiting.{IsPatient, AreIdle, AreAtMost, first_soon, first_most}
+use Rattle.redir_wire.specs.declared.packet.Caps.{Caps}
+use Rattle.redir_wire.specs.declared.packet.Way.{Way}
+use Rattle.redir_wire.specs.declared.packet.Header.{Header}
+use Rattle.redir_wire.specs.Header.{is_wide, head_size, header_at, is_its_length}
+use Rattle.redir_wire.specs.Bodies.{BodyCheck, Bodies, behind_head, size, packets}
+use Rattle.redir_wire.specs.Plain.{controls, plain}
+use Rattle.redir_wire.specs.Table.{has_length}
+use Rattle.redir_wire.specs.declared.kind.Kind.TheVariants.{Plain}
+use Rattle.redir_wire.specs.declared.kind.PlainKind.TheVariants as plain_kinds
+use Rattle.redir_wire.proofs.Checks.{passed}
+use Rattle.redir_wire.proofs.Headers.{size_least}
+use Rattle.redir_wire.proofs.Numbers.{says}
+use Rattle.redir_wire.proofs.Plain.{plain_bodies}
+use Rattle.redir_wire.proofs.Packets.{AreSteadyBehind, headed, packets_steady}
+
+-- ---- what bodies owe
+
+-- each check passes where it isn't tried, and needs no more than a header announces where it is
+abbrev pub AreOwn : Caps → List BodyCheck → Type 0
+AreOwn caps [] = Unit {0}
+AreOwn caps (c ∷ cs) =
+    ((h : Header) (b : List ℕ) → c.tried h.kind ≡ false → c.passes h b ≡ true)
+    × ((kind length : ℕ) → c.tried kind ≡ true → is_its_length caps kind length ≡ true → c.needed ≤ length)
+    × AreOwn caps cs
+
+-- ---- how many bytes are awaited
+
+-- without a whole type it is the first thing that is awaited, and then the length
+no_type : {P : Type 0} (f : Bodies P) (first : Bool) (caps : Caps) (way : Way) (b : List ℕ) → AreSteadyBehind 0 f.checks → length b < 4 → awaited (packets f first caps way) b ≤ 4
+no_type f first caps way b steady less =
+    first_soon (packets f first caps way).checks 4 b (size (is_wide first caps) b) 4 (packets_steady f first caps way steady) less (inl (refl, refl))
+
+no_length : {P : Type 0} (f : Bodies P) (first : Bool) (caps : Caps) (way : Way) (b : List ℕ) → AreSteadyBehind 0 f.checks → length b < 8 → awaited (packets f first caps way) b ≤ 8
+no_length f first caps way b steady less =
+    first_soon (packets f first caps way).checks 4 b (size (is_wide first caps) b) 8 (packets_steady f first caps way steady) less (inr (inr (inr (inr (inr (inl (refl, refl)))))))
+
+-- ---- sizes
+
+size_by : (t : Bool) (k n : ℕ) → k ≤ cond t k (k + n)
+size_by true k n = omega arith
+size_by false k n = omega arith
+
+pub size_long : (wide : Bool) (b : List ℕ) → 12 ≤ size wide b
+size_long wide b = let least = size_least wide in let long = size_by (nat_lt (length b) 8) (head_size wide) (le_at w32 4 b) in omega (arith, least, long)
+
+size_told : (wide : Bool) (b : List ℕ) → 8 ≤ length b → size wide b ≡ head_size wide + le_at w32 4 b
+size_told wide b there = rw (le-ltb (length b) 8 there) refl
+
+same_size : (wide : Bool) (b more : List ℕ) → 8 ≤ length b → size wide (b ++ more) ≡ size wide b
+same_size wide b more there =
+    size_told wide (b ++ more) (omega (arith, there, length-append b more))
+    ∙ ap (λ (n : ℕ). head_size wide + n) (le_at-append_32 4 b more there)
+    ∙ sym (size_told wide b there)
+
+at_most_behind : (wide : Bool) (caps : Caps) (cs : List BodyCheck) (b : List ℕ) (n : ℕ) → AreOwn caps cs → is_its_length caps (le_at w32 0 b) (le_at w32 4 b) ≡ true → head_size wide + le_at w32 4 b ≤ n → AreAtMost n (behind_head wide cs) b
+at_most_behind wide caps [] b n own its le = tt
+at_most_behind wide caps (c ∷ cs) b n own its le =
+    (λ tried less. let most = own.1 (le_at w32 0 b) (le_at w32 4 b) tried its in omega (arith, most, le), at_most_behind wide caps cs b n own.2 its le)
+
+most_told : {P : Type 0} (f : Bodies P) (first : Bool) (caps : Caps) (way : Way) (b : List ℕ) → AreOwn caps f.checks → 8 ≤ length b → wrong_at (packets f first caps way).checks b ≡ None →
+    awaited (packets f first caps way) b ≤ size (is_wide first caps) b
+most_told f first caps way b own there none =
+    let wide = is_wide first caps in
+    let checks = passed (headed f first caps way) (behind_head wide f.checks) b none in
+    let its = checks.0.1.1.1.1.1.1.0 there in
+    let told = size_told wide b there in
+    let long = size_long wide b in
+    let late : (n : ℕ) → n ≤ 8 → n ≤ size wide b = λ n le. omega (arith, le, long) in
+    first_most (packets f first caps way).checks (size wide b) b (size wide b) (
+      λ _ _. late 4 (omega arith),
+      (
+        λ _ _. late 4 (omega arith),
+        (
+          λ _ _. late 4 (omega arith),
+          (
+            λ _ _. late 4 (omega arith),
+            (λ _ _. late 4 (omega arith), (λ _ _. late 8 (omega arith), (λ _ _. late 8 (omega arith), at_most_behind wide caps f.checks b (size wide b) own its (omega (arith, told))))),
+          ),
+        ),
+      ),
+    )
+    (omega arith)
+
+most : {P : Type 0} (f : Bodies P) (first : Bool) (caps : Caps) (way : Way) (b : List ℕ) → AreSteadyBehind 0 f.checks → AreOwn caps f.checks → wrong_at (packets f first caps way).checks b ≡ None →
+    awaited (packets f first caps way) b ≤ size (is_wide first caps) b
+most f first caps way b steady own none = elim (cases_lt (length b) 8) [
+  | inl short ↦ omega (arith, no_length f first caps way b steady short, size_long (is_wide first caps) b)
+  | inr there ↦ most_told f first caps way b own there none
+]
+
+longer : {P : Type 0} (f : Bodies P) (first : Bool) (caps : Caps) (way : Way) (b more : List ℕ) → AreSteadyBehind 0 f.checks → AreOwn caps f.checks → wrong_at (packets f first caps way).checks b ≡ None →
+    length (b ++ more) < awaited (packets f first caps way) b → length (b ++ more) < size (is_wide first caps) (b ++ more)
+longer f first caps way b more steady own none less = elim (cases_lt (length b) 8) [
+  | inl short ↦ omega (arith, less, no_length f first caps way b steady short, size_long (is_wide first caps) (b ++ more))
+  | inr there ↦ omega (arith, less, most f first caps way b steady own none, same_size (is_wide first caps) b more there)
+]
+
+-- ---- what isn't tried
+
+idle_behind : (wide : Bool) (caps : Caps) (cs : List BodyCheck) (b x : List ℕ) → AreOwn caps cs → (8 ≤ length x → le_at w32 0 x ≡ le_at w32 0 b) → AreIdle (behind_head wide cs) b x
+idle_behind wide caps [] b x own same = tt
+idle_behind wide caps (c ∷ cs) b x own same =
+    (λ untried there. let least = size_least wide in own.0 (header_at wide x) (drop (head_size wide) x) (ap c.tried (same (omega (arith, least, there))) ∙ untried), idle_behind wide caps cs b x own.2 same)
+
+same_type : {P : Type 0} (f : Bodies P) (first : Bool) (caps : Caps) (way : Way) (b more : List ℕ) → AreSteadyBehind 0 f.checks → length (b ++ more) < awaited (packets f first caps way) b → 8 ≤ length (b ++ more) →
+    le_at w32 0 (b ++ more) ≡ le_at w32 0 b
+same_type f first caps way b more steady less there = elim (cases_lt (length b) 4) [
+  | inl short ↦ absurd (omega (arith, less, no_type f first caps way b steady short, there))
+  | inr enough ↦ le_at-append_32 0 b more enough
+]
+
+idle : {P : Type 0} (f : Bodies P) (first : Bool) (caps : Caps) (way : Way) (b more : List ℕ) → AreSteadyBehind 0 f.checks → AreOwn caps f.checks → length (b ++ more) < awaited (packets f first caps way) b →
+    AreIdle (packets f first caps way).checks b (b ++ more)
+idle f first caps way b more steady own less = (
+  λ untried there. absurd cc,
+  (
+    λ untried there. absurd cc,
+    (
+      λ untried there. absurd cc,
+      (
+        λ untried there. absurd cc,
+        (
+          λ untried there. absurd cc,
+          (λ untried there. absurd cc, (λ untried there. absurd cc, idle_behind (is_wide first caps) caps f.checks b (b ++ more) own (same_type f first caps way b more steady less))),
+        ),
+      ),
+    ),
+  ),
+)
+
+-- ---- the law
+
+pub packets_patient : {P : Type 0} (f : Bodies P) (first : Bool) (caps : Caps) (way : Way) → AreSteadyBehind 0 f.checks → AreOwn caps f.checks → IsPatient (packets f first caps way)
+packets_patient f first caps way steady own = record {
+  first = 4;
+  steady = packets_steady f first caps way steady;
+  idle = λ b more less. idle f first caps way b more steady own less;
+  longer = λ b more none less. longer f first caps way b more steady own none less;
+  most = λ b none. most f first caps way b steady own none;
+}
+
+-- ---- the packets that move no data
+
+number_by : (t u : Bool) → t ≡ false → (not t || u) ≡ true
+number_by true u e = absurd cc
+number_by false u e = refl
+
+count_there : (caps : Caps) (kind length : ℕ) → (kind == 4) ≡ true → is_its_length caps kind length ≡ true → 4 ≤ length
+count_there caps kind length is its =
+    let same : is_its_length caps 4 length ≡ true = sym (ap (λ (n : ℕ). is_its_length caps n length) (eqb-true kind 4 is)) ∙ its in
+    let told : (length == 132) ≡ true = sym (says (λ r. has_length caps r length) (Plain plain_kinds.InterfaceInfo)) ∙ same in
+    omega (arith, eqb-true length 132 told)
+
+pub controls_own : (caps : Caps) → AreOwn caps (controls caps).checks
+controls_own caps = (λ h b untried. number_by (h.kind == 4) (nat_le (le_at w32 0 b) 32) untried, count_there caps, tt)
+
+pub plain_patient : (first : Bool) (caps : Caps) (way : Way) → IsPatient (plain first caps way)
+plain_patient first caps way = packets_patient (controls caps) first caps way (plain_bodies first caps way).steady (controls_own caps)

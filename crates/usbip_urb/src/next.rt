@@ -1,0 +1,82 @@
+//! How many bytes a packet awaits of which less than all is there.
+
+ghost use Rattle.std.specs.Prelude.{◌≡◌, ◌≤◌, length};
+ghost use Rattle.packet_stream.specs.Format.{Short, reading};
+ghost use Rattle.packet_stream.specs.Awaited.{IsAwaited, StaysShort, awaited};
+ghost use Rattle.usbip_urb.specs.ClientPackets.{client_packets};
+ghost use Rattle.usbip_urb.specs.Requests.{requests};
+ghost use Rattle.usbip_urb.specs.Sizes.{whole_size};
+
+use crate::code::{DESC_SIZE, HEAD_SIZE, USBIP_CMD_SUBMIT, USBIP_DIR_OUT};
+use crate::payload::desc_count;
+use usb_base::{be_u16_at, be_u32_at};
+use usbip_op::{OpWay, USBIP_VERSION, next_op};
+
+/// How many bytes are awaited where less than a request is there: the least number at which a check has its bytes, or
+/// the request with the fields that are there is whole. It takes no memory.
+pub fn next_urb(bytes: &[u8]) -> usize
+    requires { reading requests bytes.now ≡ Short }
+    ensures least { IsAwaited requests bytes.now result }
+    ensures quiet { StaysShort requests bytes.now result }
+{
+    next_request(bytes)
+}
+
+fn next_request(bytes: &[u8]) -> usize
+    ensures { result ≡ awaited requests bytes.now }
+{
+    if bytes.len() < 2 {
+        return 2;
+    }
+    if bytes.len() < 4 {
+        return 4;
+    }
+    if bytes.len() < 12 {
+        return 12;
+    }
+    if bytes.len() < 16 {
+        return 16;
+    }
+    if bytes.len() < 20 {
+        return 20;
+    }
+    if be_u32_at(bytes, 0) != USBIP_CMD_SUBMIT {
+        return HEAD_SIZE;
+    }
+    if bytes.len() < 28 {
+        return 28;
+    }
+    if bytes.len() < 36 {
+        return 36;
+    }
+    told_size(be_u32_at(bytes, 12) == USBIP_DIR_OUT, bytes)
+}
+
+/// How many bytes a packet has by its fields, where `has_body` says whether it has a body.
+fn told_size(has_body: bool, bytes: &[u8]) -> usize
+    requires { 36 ≤ length bytes.now }
+    ensures { result ≡ whole_size has_body bytes.now }
+{
+    let body_size = if has_body {
+        be_u32_at(bytes, 24) as usize
+    } else {
+        0
+    };
+    HEAD_SIZE + body_size + desc_count(bytes) * DESC_SIZE
+}
+
+/// How many bytes are awaited where less than a client's packet is there, as `next_op` and `next_urb` say.
+pub fn next_client(bytes: &[u8]) -> usize
+    requires { reading client_packets bytes.now ≡ Short }
+    ensures least { IsAwaited client_packets bytes.now result }
+    ensures quiet { StaysShort client_packets bytes.now result }
+{
+    if bytes.len() < 2 {
+        return 2;
+    }
+    if be_u16_at(bytes, 0) == USBIP_VERSION {
+        next_op(OpWay::Request, bytes)
+    } else {
+        next_urb(bytes)
+    }
+}
