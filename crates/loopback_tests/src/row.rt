@@ -2,7 +2,7 @@
 
 use crate::act::{Act, Deed, side_of};
 use crate::packets::Packets;
-use crate::serving::{Outcome, served};
+use crate::serving::served;
 use bridge_run::{AfterLoss, ServeEnd};
 use std::alloc::Global;
 use std::net::{Net, TcpListener, TcpStream};
@@ -67,11 +67,14 @@ impl Row {
             _ => AfterLoss::Keep,
         };
         let outcome = served(rt, &self.acts, after_loss)?;
-        if self.is_known && outcome.done == self.acts.len() && word_of(outcome.end) == end {
+        let ended = word_of(outcome.end);
+        if self.is_known && outcome.done == self.acts.len() && ended == end {
             return Ok(format!(in alloc; "{name}, {setting}: ok")?);
         }
-        let Outcome { done, end } = outcome;
-        Ok(format!(in alloc; "{name}, {setting}: {done} acts were done, and it ended by {end:?}")?)
+        let done = outcome.done;
+        Ok(format!(in alloc;
+            "{name}, {setting}: {done} acts were done, and serving ended: {ended}"
+        )?)
     }
 }
 

@@ -32,7 +32,7 @@ const LAST_LOOKS: u32 = 32;
 const ANY: &str = "127.0.0.1:0";
 
 /// How many acts were done, and how serving ended.
-#[derive(Clone, Copy, Debug)]
+#[derive(Clone, Copy)]
 pub struct Outcome {
     pub done: usize,
     pub end: ServeEnd,
