@@ -1,9 +1,11 @@
 -- What an effect does to the live requests, apart from how the code keeps them: who is left, what is sent to the client,
 -- who is noted, and who is dropped.
-use Rattle.std.proofs.Common.{◌≡◌, ℕ, ◌&&◌, Bool, true, false, cond, not, List, [], ◌++◌, map, Some, None, refl, sym, ap, ◌∙◌}
+use Rattle.std.proofs.Common.{◌≡◌, ℕ, ◌&&◌, Bool, true, false, cond, not, List, [], ◌∷◌, ◌++◌, map, Option, Some, None, refl, sym, ap, ◌∙◌}
 use Rattle.std.specs.Prelude.{◌==◌, is_none, filter}
 use Rattle.std.specs.List.{flat_map}
 use Rattle.std.proofs.lemmas.List.{append-nil}
+use Rattle.std.proofs.lemmas.List.Elements.{filter-append}
+use Rattle.std.proofs.lemmas.Grind.{flat_map-append}
 use Rattle.stream_buffers.specs.Interrupt.{is_success}
 use Rattle.usb_base.specs.declared.status.UsbStatus.{UsbStatus}
 use Rattle.usb_base.specs.declared.transfer.Outcome.{Outcome}
@@ -13,14 +15,14 @@ use Rattle.gate_core.specs.declared.note.Note.TheVariants as note
 use Rattle.gate_core.specs.Answers.{answers, answers_at, answers_by}
 use Rattle.gate_core.specs.Fillings.{Fill}
 use Rattle.gate_core.specs.Machine.{ask, live_after}
-use Rattle.gate_core.specs.Marks.{Submission, Effect, Answers, Arrives, StreamTold, Unlinks}
+use Rattle.gate_core.specs.Marks.{Submission, Effect, Answers, Arrives, Opens, StreamTold, Unlinks}
 use Rattle.gate_core.specs.Meaning.{mark_as}
 use Rattle.gate_core.specs.Notes.{answer_notes, is_by_answer, is_by_client, dropped}
 use Rattle.gate_core.specs.Output.{fresh, present, answered, to_client}
 use Rattle.gate_core.specs.Sides.{leaves, is_loss}
 use Rattle.gate_core.specs.State.{State}
-use Rattle.gate_core.specs.Submits.{Pending, ByAnswer, ByClient, ByLoss, ByStatus, ByUnlink, asks, ends, has_id, is_waiting, opened, own_end, packets_end, waits_at}
-use Rattle.gate_core.proofs.Lists.{every, filter-all, filter-same, filter-none, flat_map-same, flat_map-filter, flat_map-none}
+use Rattle.gate_core.specs.Submits.{Pending, End, at_once, ByAnswer, ByClient, ByLoss, ByStatus, ByUnlink, asks, ends, has_id, is_waiting, opened, own_end, packets_end, waits_at}
+use Rattle.gate_core.proofs.Lists.{Each, Each-weaker, every, filter-all, filter-same, filter-none, flat_map-same, flat_map-filter, flat_map-none}
 use Rattle.gate_core.proofs.Steady.{asks-none}
 
 -- ---- one that opens no request
@@ -124,6 +126,41 @@ module _ (st : State) (ep : ℕ) (fill : Fill) where
 
   pub arrival-sent : to_client st (mark_as st (Arrives ep fill) None) ≡ map Urb (flat_map (λ p. answers_at p.submit p.unlinker (packets_end ep fill.fillings p.submit)) st.live)
   arrival-sent = answered-of st (Arrives ep fill) refl
+
+-- ---- a submit is accepted that ends none of the others
+
+module _ (st : State) (s : Submission) (others : Each (λ p. ends (Opens s) p.submit ≡ None) st.live) (own : ends (Opens s) s ≡ at_once s.verdict) where
+  by-test : (test : Option End → Bool) (answer : Bool) → test None ≡ answer → filter (λ p. test (ends (Opens s) p.submit)) st.live ≡ filter (λ p. answer) st.live
+  by-test test answer h =
+      filter-same (λ p. test (ends (Opens s) p.submit)) (λ p. answer) st.live
+      (Each-weaker (λ p. ends (Opens s) p.submit ≡ None) (λ p. test (ends (Opens s) p.submit) ≡ answer) (λ p e. ap test e ∙ h) st.live others)
+
+  none-so : (test : Option End → Bool) → test None ≡ false → test (at_once s.verdict) ≡ false → filter (λ p. test (ends (Opens s) p.submit)) (present st (Opens s)) ≡ []
+  none-so test h k =
+      filter-append (λ p. test (ends (Opens s) p.submit)) st.live (fresh s ∷ [])
+      ∙ (λ i. (by-test test false h ∙ filter-none st.live) i ++ cond ((ap test own ∙ k) i) (fresh s ∷ []) [])
+
+  -- it is the last of them, unless it ends where it is accepted
+  pub opening-left : live_after st (Opens s) ≡ st.live ++ cond (is_none (at_once s.verdict)) (fresh s ∷ []) []
+  opening-left =
+      asks-none (Opens s) (λ t. refl) (filter (λ p. is_none (ends (Opens s) p.submit)) (present st (Opens s)))
+      ∙ filter-append (λ p. is_none (ends (Opens s) p.submit)) st.live (fresh s ∷ [])
+      ∙ (λ i. (by-test is_none true refl ∙ filter-all st.live) i ++ cond (is_none (own i)) (fresh s ∷ []) [])
+
+  pub opening-answered : answered st (Opens s) ≡ map Urb (answers_at s None (at_once s.verdict))
+  opening-answered =
+      ap (map Urb)
+      (flat_map-append (λ p. answers_at p.submit p.unlinker (ends (Opens s) p.submit)) st.live (fresh s ∷ [])
+      ∙ (λ i. (flat_map-same (λ p. answers_at p.submit p.unlinker (ends (Opens s) p.submit)) (λ p. []) st.live
+      (Each-weaker (λ p. ends (Opens s) p.submit ≡ None) (λ p. answers_at p.submit p.unlinker (ends (Opens s) p.submit) ≡ []) (λ p e. ap (answers_at p.submit p.unlinker) e) st.live others)
+      ∙ flat_map-none st.live) i ++ (answers_at s None (own i) ++ []))
+      ∙ append-nil (answers_at s None (at_once s.verdict)))
+
+  pub opening-noted : is_by_answer (at_once s.verdict) ≡ false → answer_notes st (Opens s) ≡ []
+  opening-noted by_answer = ap (map (λ (p : Pending). note.Answered p.submit.request.number)) (none-so is_by_answer refl by_answer)
+
+  pub opening-dropped : is_by_client (at_once s.verdict) ≡ false → dropped st (mark_as st (Opens s) None) ≡ []
+  opening-dropped by_client = ap (map (λ (p : Pending). p.submit)) (none-so is_by_client refl by_client)
 
 -- ---- the client leaves, or the device is lost: nobody is left
 

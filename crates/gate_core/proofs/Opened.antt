@@ -1,11 +1,8 @@
 -- What an accepted submit that ends no other makes of what is kept, and what it sends and tells.
-use Rattle.std.proofs.Common.{◌≡◌, ℕ, ◌+◌, ◌^◌, ◌-◌, ◌<◌, ◌≤◌, eqb, Bool, true, false, cond, List, [], ◌∷◌, ◌++◌, length, map, Option, Some, None, refl, sym, ap, ◌∙◌, arith}
+use Rattle.std.proofs.Common.{◌≡◌, ℕ, ◌+◌, ◌^◌, ◌-◌, ◌<◌, ◌≤◌, eqb, Bool, true, false, cond, List, [], ◌∷◌, ◌++◌, length, map, Some, None, sym, ap, ◌∙◌, arith}
 use Rattle.std.specs.Prelude.{is_none, filter, zip}
 use Rattle.std.specs.List.{flat_map}
 use Rattle.std.proofs.lemmas.List.{append-nil, map-append}
-use Rattle.std.proofs.lemmas.List.Elements.{filter-append}
-use Rattle.std.proofs.lemmas.Grind.{flat_map-append}
-use Rattle.usbip_urb.specs.declared.packet.UrbPacket.{UrbPacket}
 use Rattle.usbip_urb.specs.declared.client.ClientPacket.{ClientPacket}
 use Rattle.usbip_urb.specs.declared.client.ClientPacket.TheVariants.{Urb}
 use Rattle.usbip_urb.specs.ClientPackets.{client_spelling}
@@ -17,7 +14,7 @@ use Rattle.gate_core.specs.declared.kept.Kept.{Kept}
 use Rattle.gate_core.specs.Items.{capped}
 use Rattle.gate_core.specs.Verdict.{Verdict}
 use Rattle.gate_core.specs.Marks.{Submission, Opens}
-use Rattle.gate_core.specs.Submits.{Pending, End, ByChange, at_once, is_touched, ends}
+use Rattle.gate_core.specs.Submits.{Pending, ByChange, at_once, is_touched, ends}
 use Rattle.gate_core.specs.Ids.{last_of}
 use Rattle.gate_core.specs.Ups.{opened_streams}
 use Rattle.gate_core.specs.Calls.{called}
@@ -26,16 +23,16 @@ use Rattle.gate_core.specs.Packets.{packets_of}
 use Rattle.gate_core.specs.Meaning.{mark_as, drawn_for}
 use Rattle.gate_core.specs.Sound.{IsSound}
 use Rattle.gate_core.specs.Answers.{answers_at}
-use Rattle.gate_core.specs.Output.{fresh}
-use Rattle.gate_core.specs.Notes.{is_by_answer, is_by_client}
+use Rattle.gate_core.specs.Output.{fresh, answered}
+use Rattle.gate_core.specs.Notes.{answer_notes, is_by_answer, is_by_client}
 use Rattle.gate_core.specs.All.{is_ret_submit, is_won_unlink}
 use Rattle.gate_core.specs.Bytes.{host_packet_bytes}
-use Rattle.gate_core.specs.Machine.{ask}
 use Rattle.gate_core.specs.inner.Rows.{row, unmarked, left_row}
 use Rattle.gate_core.specs.inner.Holds.{Holds, Does}
-use Rattle.gate_core.proofs.Lists.{Each, Each-weaker, filter-same, filter-none, filter-all, flat_map-same, flat_map-none}
+use Rattle.gate_core.proofs.Lists.{Each, Each-weaker, filter-all}
 use Rattle.gate_core.proofs.Lost.{capped-same}
-use Rattle.gate_core.proofs.Steady.{asks-none, none-cancelled, stays-uncancelled}
+use Rattle.gate_core.proofs.Effects.{opening-left, opening-answered, opening-noted, opening-dropped}
+use Rattle.gate_core.proofs.Steady.{none-cancelled, stays-uncancelled}
 
 other-place : (n m : ℕ) → m < n → eqb n m ≡ false
 other-place n m h = grind arith
@@ -59,21 +56,6 @@ module _ (st : State) (s : Submission) (placed : s.place ≡ st.items) (sound : 
   own : ends (Opens s) s ≡ at_once s.verdict
   own = ap (λ (b : Bool). cond b (at_once s.verdict) (cond (is_touched s.verdict s.verdict) (Some ByChange) None)) (own-place s.place)
 
-  by_test : (test : Option End → Bool) (answer : Bool) → test None ≡ answer → filter (λ p. test (ends (Opens s) p.submit)) st.live ≡ filter (λ p. answer) st.live
-  by_test test answer h = filter-same (λ p. test (ends (Opens s) p.submit)) (λ p. answer) st.live (Each-weaker (λ p. ends (Opens s) p.submit ≡ None) (λ p. test (ends (Opens s) p.submit) ≡ answer) (λ p e. ap test e ∙ h) st.live others)
-
-  none-so : (test : Option End → Bool) → test None ≡ false → test (at_once s.verdict) ≡ false → filter (λ p. test (ends (Opens s) p.submit)) (st.live ++ fresh s ∷ []) ≡ []
-  none-so test h k =
-      filter-append (λ p. test (ends (Opens s) p.submit)) st.live (fresh s ∷ [])
-      ∙ (λ i. (by_test test false h ∙ filter-none st.live) i ++ cond ((ap test own ∙ k) i) (fresh s ∷ []) [])
-
-  opened-answers : flat_map (λ p. answers_at p.submit p.unlinker (ends (Opens s) p.submit)) (st.live ++ fresh s ∷ []) ≡ answers_at s None (at_once s.verdict)
-  opened-answers =
-      flat_map-append (λ p. answers_at p.submit p.unlinker (ends (Opens s) p.submit)) st.live (fresh s ∷ [])
-      ∙ (λ i. (flat_map-same (λ p. answers_at p.submit p.unlinker (ends (Opens s) p.submit)) (λ p. []) st.live (Each-weaker (λ p. ends (Opens s) p.submit ≡ None) (λ p. answers_at p.submit p.unlinker (ends (Opens s) p.submit) ≡ []) (λ p e. ap (answers_at p.submit p.unlinker) e) st.live others) ∙ flat_map-none st.live) i
-      ++ (answers_at s None (own i) ++ []))
-      ∙ append-nil (answers_at s None (at_once s.verdict))
-
   -- what is kept, sent and told, where so many more are live
   pub does-open : (old new : Kept) (more : List Pending) (client_old client_new host_old host_new : List ℕ) (notes_old notes_new : List Note) → Holds old st →
       old.unlinked ≤ 2 ^ 64 - 1 → old.dropped ≤ 2 ^ 64 - 1 →
@@ -93,6 +75,7 @@ module _ (st : State) (s : Submission) (placed : s.place ≡ st.items) (sound : 
       Does st (mark_as st (Opens s) None) old new client_old client_new host_old host_new notes_old notes_new
   does-open old new more client_old client_new host_old host_new notes_old notes_new h unlinked_fits dropped_fits kept by_answer by_client none_won is client host notes =
       let e = Opens s in
+      let sent : answered st e ≡ map Urb (answers_at s None (at_once s.verdict)) = opening-answered st s others own in
       record {
         holds = record {
           facts = ap (λ (k : Kept). k.facts) is ∙ h.facts;
@@ -106,20 +89,18 @@ module _ (st : State) (s : Submission) (placed : s.place ≡ st.items) (sound : 
           fence = ap (λ (k : Kept). k.fence) is ∙ h.fence;
           last = ap (λ (k : Kept). k.last) is ∙ ap (λ (n : ℕ). last_of n (drawn_for st s.request s.verdict)) h.last;
           live = ap (λ (k : Kept). k.lives.live) is ∙ ap (λ (ls : List Live). ls ++ map row more) h.live ∙ sym (map-append row st.live more)
-              ∙ ap (map row) (sym (asks-none e (λ t. refl) (st.live ++ more))
-              ∙ ap (map (ask e)) ((λ i. (sym (filter-all st.live) ∙ sym (by_test is_none true refl)) i ++ (sym kept ∙ ap (λ (x : Option End). cond (is_none x) (fresh s ∷ []) []) (sym own)) i)
-              ∙ sym (filter-append (λ p. is_none (ends e p.submit)) st.live (fresh s ∷ []))));
+              ∙ ap (map row) (ap (λ (ps : List Pending). st.live ++ ps) (sym kept) ∙ sym (opening-left st s others own));
           abandoned = ap (λ (k : Kept). map unmarked k.lives.abandoned) is ∙ h.abandoned ∙ ap (map left_row) (sym (filter-all st.abandoned));
         };
-        client = client ∙ ap (λ (ps : List UrbPacket). client_old ++ flat_map client_spelling (map Urb ps)) (sym opened-answers);
+        client = client ∙ ap (λ (ps : List ClientPacket). client_old ++ flat_map client_spelling ps) (sym sent);
         host = host ∙ ap (λ (bs : List ℕ). host_old ++ bs)
             ((λ i. flat_map (host_packet_bytes (h.caps i)) (zip (drawn_for st s.request s.verdict) (packets_of st.streams s.verdict s.request)))
             ∙ ap (flat_map (host_packet_bytes st.agreed)) (sym (append-nil (zip (drawn_for st s.request s.verdict) (packets_of st.streams s.verdict s.request)))
             ∙ ap (λ (ps : List (ℕ × RedirPacket)). (ps ++ zip (drawn_for st s.request s.verdict) (packets_of st.streams s.verdict s.request)) ++ []) (sym (none-cancelled e stays-uncancelled st.live))));
-        notes = notes ∙ ap (λ (ps : List Pending). notes_old ++ note.Submitted s.request.number s.id ∷ map (λ (p : Pending). note.Answered p.submit.request.number) ps) (sym (none-so is_by_answer refl by_answer)) ∙ closing (map (λ (p : Pending). note.Answered p.submit.request.number) (filter (λ p. is_by_answer (ends e p.submit)) (st.live ++ fresh s ∷ [])));
-        answered = ap (λ (k : Kept). k.answered) is ∙ ap (λ (ps : List UrbPacket). capped (old.answered + length (filter is_ret_submit (map Urb ps)))) (sym opened-answers);
-        unlinked = ap (λ (k : Kept). k.unlinked) is ∙ capped-same old.unlinked unlinked_fits ∙ ap (λ (ps : List ClientPacket). capped (old.unlinked + length ps)) (sym none_won ∙ ap (λ (ps : List UrbPacket). filter is_won_unlink (map Urb ps)) (sym opened-answers));
-        dropped = ap (λ (k : Kept). k.dropped) is ∙ capped-same old.dropped dropped_fits ∙ ap (λ (ps : List Pending). capped (old.dropped + length (map (λ (p : Pending). p.submit) ps))) (sym (none-so is_by_client refl by_client));
+        notes = notes ∙ ap (λ (ns : List Note). notes_old ++ note.Submitted s.request.number s.id ∷ ns) (sym (opening-noted st s others own by_answer)) ∙ closing (answer_notes st e);
+        answered = ap (λ (k : Kept). k.answered) is ∙ ap (λ (ps : List ClientPacket). capped (old.answered + length (filter is_ret_submit ps))) (sym sent);
+        unlinked = ap (λ (k : Kept). k.unlinked) is ∙ capped-same old.unlinked unlinked_fits ∙ ap (λ (ps : List ClientPacket). capped (old.unlinked + length ps)) (sym none_won ∙ ap (filter is_won_unlink) (sym sent));
+        dropped = ap (λ (k : Kept). k.dropped) is ∙ capped-same old.dropped dropped_fits ∙ ap (λ (ss : List Submission). capped (old.dropped + length ss)) (sym (opening-dropped st s others own by_client));
       }
     where
       closing : (ns : List Note) → notes_old ++ note.Submitted s.request.number s.id ∷ ns ≡ notes_old ++ (((((note.Submitted s.request.number s.id ∷ []) ++ ns) ++ []) ++ []) ++ [])
