@@ -32,8 +32,7 @@ use Rattle.redir_data.specs.Sent.{CanBeRead}
 use Rattle.direct_run.specs.Packets.{both_caps, Found, sent_by_gate, sent_by_host, read_by_host, read_by_gate}
 use Rattle.direct_run.specs.Known.{IsKnown}
 use Rattle.gate_core.specs.Readable.{piece_bytes}
-use Rattle.packet_stream.proofs.Spelled.{all_bytes, placed}
-use Rattle.packet_stream.proofs.Spelled.{IsCut, cut-at}
+use Rattle.packet_stream.proofs.Spelled.{IsCut, all_bytes, cut-at, placed}
 use Rattle.direct_run.proofs.Headed.{sound, empty, on_wire, wire-fits, host-hello, gate-hello, to-gate-bytes, to-host-bytes}
 use Rattle.direct_run.proofs.Comes.{Meets, Listens, each-front}
 
