@@ -1,0 +1,43 @@
+-- What is written to a tape, and why none is made.
+use Rattle.std.specs.Prelude.{◌≡◌, ℕ, List, ◌++◌, take, Option, Result, Ok, Err}
+use Rattle.std.specs.Io.KnownBytes.{append_known}
+use Rattle.gate_outside.specs.Faults.{Rose}
+use Rattle.session_tape.specs.declared.tape.Unmade.{Unmade}
+use Rattle.session_tape.specs.declared.tape.Unmade.TheVariants.{There, Failed}
+
+-- how often a tape has failed, and how often there was such a file before
+pub record Counts : Type 0 where
+  pub faults : ℕ
+  pub there : ℕ
+
+abbrev pub counts : ℕ → ℕ → Counts
+counts faults there = record { faults = faults; there = there }
+
+abbrev pub OneFault : Counts → Counts → Type 0
+OneFault old new = Rose old.faults new.faults × (new.there ≡ old.there)
+
+abbrev pub WasThere : Counts → Counts → Type 0
+WasThere old new = (new.faults ≡ old.faults) × Rose old.there new.there
+
+-- a file is made without a count, and each reason why it isn't counts one
+abbrev pub HasReason : {T : Type 0} → Result T Unmade → Counts → Counts → Type 0
+HasReason (Ok _) old new = new ≡ old
+HasReason (Err There) old new = WasThere old new
+HasReason (Err Failed) old new = OneFault old new
+
+-- a call that failed counted one fault, and any other none
+abbrev pub CountsFault : {T E : Type 0} → Result T E → Counts → Counts → Type 0
+CountsFault (Ok _) old new = new ≡ old
+CountsFault (Err _) old new = OneFault old new
+
+-- what a call of `write` took is behind what was there
+abbrev pub Takes : {E : Type 0} → Result ℕ E → List ℕ → Option (List ℕ) → Option (List ℕ) → Type 0
+Takes (Ok n) piece old new = new ≡ append_known old (take n piece)
+Takes (Err _) piece old new = new ≡ old
+
+-- known bytes grew by a front of `bytes`
+pub record GrowsInPart (old new : Option (List ℕ)) (bytes : List ℕ) : Type 0 where
+  pub front : List ℕ
+  pub back : List ℕ
+  pub parts : bytes ≡ front ++ back
+  pub grows : new ≡ append_known old front
