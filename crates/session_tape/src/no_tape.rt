@@ -8,7 +8,7 @@ use crate::tape::{Tape, Unmade};
 use gate_outside::Failed;
 
 /// A tape of which nothing is kept: no file is ever made, and what is written is lost.
-#[derive(Clone, Copy, Debug)]
+#[derive(Clone, Copy)]
 pub struct NoTape;
 
 impl Tape for NoTape {

@@ -12,7 +12,7 @@ use std::marker::Model;
 use usb_base::Memory;
 
 /// Holds what is written to it, as a `TextSink` does, once it is made. What `make` answers is chosen.
-#[derive(Debug, Drop)]
+#[derive(Drop)]
 pub struct TextTape {
     sink: TextSink,
     answer: Result<(), Unmade>,
