@@ -5,3 +5,4 @@ pub mod Events
 pub mod Modelled
 pub mod Showing
 pub mod Served
+pub mod Intervals

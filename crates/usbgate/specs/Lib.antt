@@ -13,4 +13,5 @@ pub mod Prescribed
 pub mod Run
 pub mod Serves
 pub mod Code
+pub mod Interval
 pub mod inner

@@ -6,6 +6,7 @@ mod command_table;
 mod event_tape;
 mod given;
 mod host;
+mod interval;
 mod lending;
 mod model;
 mod pace;
