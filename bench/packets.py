@@ -52,6 +52,10 @@ def submit(number, direction, length, byte=0x5A):
     return head + bytes(8) + (bytes([byte]) * length if direction == OUT else b"")
 
 
+def unlink(number, target):
+    return struct.pack(">6I", 2, number, 0x00010002, 0, 0, target) + bytes(24)
+
+
 def submit_control(number, setup):
     """A request of endpoint 0 that has no data to the device."""
     direction, length = setup[0] >> 7, struct.unpack("<H", setup[6:])[0]

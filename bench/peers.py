@@ -40,11 +40,14 @@ def dialed(port):
 
 
 class Peer:
-    """One end of a link, which reads exactly what it asks for."""
+    """One end of a link, which reads exactly what it asks for, and keeps it where that is asked."""
+
+    keeps = False
 
     def __init__(self, link):
         self.link = link
         self.stream = link.makefile("rb", buffering=1 << 18)
+        self.got = bytearray() if Peer.keeps else None
 
     def send(self, data):
         self.link.sendall(data)
@@ -52,6 +55,8 @@ class Peer:
     def read(self, count):
         data = self.stream.read(count)
         assert len(data) == count, "the link ended %d bytes early" % (count - len(data))
+        if self.got is not None:
+            self.got += data
         return data
 
     def ends(self):
@@ -123,25 +128,27 @@ def imported(session):
     raise AssertionError("the device isn't imported")
 
 
-def gateway_at(host, listen, after_loss="keep"):
+def gateway_at(host, listen, after_loss="keep", record=None):
     ends = ["--host", "127.0.0.1:%d" % host, "--listen", "127.0.0.1:%d" % listen]
-    return [PROGRAM, "serve", *ends, "--idle", "4294967295", "--after-loss", after_loss]
+    recorded = ["--record", record] if record else []
+    return [PROGRAM, "serve", *ends, "--idle", "4294967295", "--after-loss", after_loss, *recorded]
 
 
 class Session:
     """The program between a host and clients. It ends with the block, and with a status of its own."""
 
-    def __init__(self, cut=None, after_loss="keep", out=None):
+    def __init__(self, cut=None, after_loss="keep", out=None, record=None):
         self.cut = cut
         self.after_loss = after_loss
         self.out = out
+        self.record = record
         self.status = None
 
     def __enter__(self):
         with socket.create_server(("127.0.0.1", 0)) as door:
             self.port = free_port()
             door.settimeout(PATIENCE)
-            command = gateway_at(door.getsockname()[1], self.port, self.after_loss)
+            command = gateway_at(door.getsockname()[1], self.port, self.after_loss, self.record)
             self.program = subprocess.Popen(command, stdout=self.out, stderr=self.out)
             self.host = Host(tuned(door.accept()[0]), self.cut)
         return self

@@ -1,11 +1,14 @@
 """Sessions between real sockets, each of which fails where something isn't as it should be."""
+import os
 import socket
 import struct
 import subprocess
+import tempfile
 import threading
 import time
 
-from packets import HOST_HELLO, IN, OUT, answer, device, redir, ret_data, ret_submit, submit, submit_control, submit_stream
+from packets import HOST_HELLO, IN, OUT, answer, device, interrupt_packet, redir, ret_data, ret_submit, submit
+from packets import submit_control, submit_stream, unlink
 from peers import BULK_PACKET, CANCEL, CANCELLED, DISCONNECT, DISCONNECT_ACK, PATIENCE, PROGRAM, SHUT_DOWN
 from peers import Client, Lent, Peer, Session, dialed, free_port, gateway_at, imported, processor_time
 
@@ -271,5 +274,61 @@ def idle_with_a_stream_up():
         return "%.2f s" % took
 
 
-SESSIONS = [cut_into_odd_pieces, one_after_the_other, fifty_clients_that_go, hosts_that_go, device_that_is_replugged,
+def three_clients_and_a_host_that_goes(session):
+    first = Client(session.link())
+    first.send(submit(1, IN, 64))
+    assert session.host.packet()[:2] == (BULK_PACKET, 1)
+    first.send(unlink(2, 1))
+    assert session.host.packet()[:2] == (CANCEL, 1), "no cancel for an unlink"
+    session.host.send(answer(1, IN, 0, status=CANCELLED))
+    first.read(len(ret_submit(2, OUT, 0)))
+    first.send(submit_stream(3, 2, 8))
+    session.host.packet()
+    session.host.send(interrupt_packet(8))
+    assert first.read(len(ret_data(3, bytes(8)))) == ret_data(3, b"\xa5" * 8), "another packet came"
+    first.close()
+    session.host.packet()
+    second = Client(session.link())
+    second.send(submit(1, OUT, 65_536))
+    kind, ident, *_ = session.host.packet()
+    assert kind == BULK_PACKET
+    session.host.send(answer(ident, OUT, 65_536))
+    assert second.read(len(ret_submit(1, OUT, 65_536))) == ret_submit(1, OUT, 65_536), "another answer came"
+    second.close()
+    third = Client(session.link())
+    third.send(submit(1, IN, 64))
+    assert session.host.packet()[0] == BULK_PACKET
+    session.host.close()
+    third.read(len(ret_submit(1, IN, 0)))
+    third.close()
+    assert session.ended() == 0
+    return [first, second, third]
+
+
+def replayed(tape):
+    """What the replay of a tape sends to each side."""
+    with open(tape, "rb") as text:
+        lines = subprocess.run([PROGRAM, "replay"], stdin=text, capture_output=True, check=True).stdout.decode().split("\n")
+    return [b"".join(bytes.fromhex(line[2:]) for line in lines if line.startswith(side)) for side in ("C ", "H ")]
+
+
+def recorded_and_replayed():
+    Peer.keeps = True
+    try:
+        with tempfile.TemporaryDirectory() as folder:
+            tape = os.path.join(folder, "a.tape")
+            with Session(record=tape) as session:
+                clients = three_clients_and_a_host_that_goes(session)
+                to_host = bytes(session.host.got)
+            size = os.path.getsize(tape)
+            to_clients = b"".join(bytes(client.got) for client in clients)
+            assert replayed(tape) == [to_clients, to_host], "the replay sends something else"
+            again = subprocess.run([PROGRAM, *gateway_at(1, 1, record=tape)[1:]], capture_output=True)
+            assert again.returncode == 1 and os.path.getsize(tape) == size, "a file that is there is written"
+            return "%d bytes" % size
+    finally:
+        Peer.keeps = False
+
+
+SESSIONS = [cut_into_odd_pieces, recorded_and_replayed, one_after_the_other, fifty_clients_that_go, hosts_that_go, device_that_is_replugged,
             both_write_first, idle_share, reader_that_stops, device_that_is_lent, packets_a_second, idle_with_a_stream_up]

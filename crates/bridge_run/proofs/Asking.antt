@@ -15,10 +15,10 @@ use Rattle.bridge_run.specs.Prescribed.{Prescribed}
 use Rattle.bridge_run.specs.Course.{Setting, Course, Next, AtDoor, AtClient, AtHost, AtEnd, Takes}
 use Rattle.bridge_run.specs.Calls.{Goes, room, come, down, heard, poll, call, course_of}
 use Rattle.bridge_run.specs.Calls.{turned as passed}
-use Rattle.bridge_run.specs.Outside.{Outside, outside, NoFault, Shows, Tells, IsBetween, IsOneOf, Cut}
+use Rattle.bridge_run.specs.Outside.{Outside, outside, NoFault, Shows, Tells, IsBetween, IsOneOf, IsRecordedInPart, Cut, Written, Faults}
 use Rattle.bridge_run.specs.inner.Keeping.{up_of, with_up}
 use Rattle.bridge_run.specs.inner.Follows.{Follows, setting, polls, behind}
-use Rattle.bridge_run.proofs.Putting.{between-none}
+use Rattle.bridge_run.proofs.Putting.{between-none, all-recorded}
 
 -- ---- the door
 
@@ -43,12 +43,12 @@ come-is : (clients : List (List Turn)) (turns : List Turn) (later : List (List T
 come-is clients turns later c e = ap (λ (cs : List (List Turn)). come cs c) e
 
 -- a client has come, whose coming is the next event
-pub record HasCome (stands : List Event → Type 0) (p : Prescribed) (k : Kept) (w : Outside) (out : Option (List ℕ)) (c : Course) : Type 0 where
+pub record HasCome (stands : List Event → Type 0) (p : Prescribed) (k : Kept) (w : Outside) (out : Written) (c : Course) : Type 0 where
   pub course : Course
   pub is : come c.clients c ≡ Goes (Takes ClientComes AtClient) course
   pub follows : Follows stands p k w out course
 
-pub accepted : (stands : List Event → Type 0) (p : Prescribed) (k k' : Kept) (w w' : Outside) (out : Option (List ℕ)) (c : Course) → Follows stands p k w out c
+pub accepted : (stands : List Event → Type 0) (p : Prescribed) (k k' : Kept) (w w' : Outside) (out : Written) (c : Course) → Follows stands p k w out c
     → Accepts {E = Fault} (Ok true) w.door w'.door w.client w'.client → w'.host ≡ w.host → k' ≡ record k { client_up = true; busy = true; left = k.left - 1 }
     → HasCome stands p k' w' out c
 accepted stands p k k' w w' out c f a host kept =
@@ -67,6 +67,7 @@ accepted stands p k k' w w' out c f a host kept =
           host = subst (λ (l : Link). Shows l c.host_up c.host c.to_host) (sym host) f.tells.host;
           clients = ap (λ (d : Door). d.to_come) a.2 ∙ t.4;
           told = f.tells.told;
+          tape = f.tells.tape;
         };
         client_up = ap (λ (k : Kept). k.client_up) kept;
         host_up = ap (λ (k : Kept). k.host_up) kept ∙ f.host_up;
@@ -88,7 +89,7 @@ none-come (Some cs) clients e none = sym (some-is cs clients e) ∙ none
 same-shows : (old new : Link) (up : Bool) (turns : List Turn) (written : List ℕ) → new.up ≡ old.up → new.turns ≡ old.turns → new.written ≡ old.written → Shows old up turns written → Shows new up turns written
 same-shows old new up turns written a b d s = record { up-is = a ∙ s.up-is; turns-is = b ∙ s.turns-is; written-is = d ∙ s.written-is }
 
-pub waited : (stands : List Event → Type 0) (p : Prescribed) (k : Kept) (w w' : Outside) (out : Option (List ℕ)) (c : Course) → Follows stands p k w out c
+pub waited : (stands : List Event → Type 0) (p : Prescribed) (k : Kept) (w w' : Outside) (out : Written) (c : Course) → Follows stands p k w out c
     → Accepts {E = Fault} (Ok false) w.door w'.door w.client w'.client → w'.host ≡ w.host → (come c.clients c ≡ Goes AtClient c) × Follows stands p k w' out c
 waited stands p k w w' out c f a host = (
   ap (λ (cs : List (List Turn)). come cs c) (none-come w.door.to_come c.clients f.tells.clients a.0),
@@ -99,6 +100,7 @@ waited stands p k w w' out c f a host = (
       host = subst (λ (l : Link). Shows l c.host_up c.host c.to_host) (sym host) f.tells.host;
       clients = ap (λ (d : Door). d.to_come) a.2 ∙ f.tells.clients;
       told = f.tells.told;
+      tape = f.tells.tape;
     };
     client_up = f.client_up;
     host_up = f.host_up;
@@ -114,18 +116,23 @@ pub record WroteNothing (c d : Course) : Type 0 where
   pub to_client : d.to_client ≡ c.to_client
   pub to_host : d.to_host ≡ c.to_host
   pub told : d.told ≡ c.told
+  pub recorded : d.recorded ≡ c.recorded
 
 between-same : (x : List ℕ) (known : Option (List ℕ)) (y : List ℕ) → known ≡ Some x → y ≡ x → IsBetween x known y
 between-same x known y e f = between-none x known y [] e (f ∙ sym (append-nil x))
 
+-- nothing was recorded either
+pub same-recorded : (w : Outside) (out : Written) (c d : Course) (known : Option (List ℕ)) → IfSome known (λ held. held ≡ c.recorded) → d.recorded ≡ c.recorded → IfSome known (λ held. (held ≡ d.recorded) ⊎ IsRecordedInPart w out c d held)
+same-recorded w out c d known is same = all-recorded w out c d known (subst (λ (r : List ℕ). IfSome known (λ held. held ≡ r)) (sym same) is)
+
 come-writes : (clients : List (List Turn)) (c : Course) → WroteNothing c (course_of (come clients c))
-come-writes [] c = record { to_client = refl; to_host = refl; told = refl }
-come-writes (turns ∷ later) c = record { to_client = refl; to_host = refl; told = refl }
+come-writes [] c = record { to_client = refl; to_host = refl; told = refl; recorded = refl }
+come-writes (turns ∷ later) c = record { to_client = refl; to_host = refl; told = refl; recorded = refl }
 
 -- nobody has come, and the turns and all that was written are as they were
-pub door-cut : (w : Outside) (out : Option (List ℕ)) (c : Course) → w.client.turns ≡ Some c.client → w.host.turns ≡ Some c.host → w.door.to_come ≡ Some c.clients
-    → w.client.written ≡ Some c.to_client → w.host.written ≡ Some c.to_host → out ≡ Some c.told → Cut w out c (course_of (come c.clients c))
-door-cut w out c client host clients to_client to_host told =
+pub door-cut : (w : Outside) (out : Written) (c : Course) → w.client.turns ≡ Some c.client → w.host.turns ≡ Some c.host → w.door.to_come ≡ Some c.clients
+    → w.client.written ≡ Some c.to_client → w.host.written ≡ Some c.to_host → out.told ≡ Some c.told → IfSome out.tape (λ held. held ≡ c.recorded) → Cut w out c (course_of (come c.clients c))
+door-cut w out c client host clients to_client to_host told tape =
     let d = course_of (come c.clients c) in
     let same = come-writes c.clients c in
     record {
@@ -134,13 +141,14 @@ door-cut w out c client host clients to_client to_host told =
       clients = inl clients;
       to_client = between-same c.to_client w.client.written d.to_client to_client same.to_client;
       to_host = between-same c.to_host w.host.written d.to_host to_host same.to_host;
-      told = between-same c.told out d.told told same.told;
+      told = between-same c.told out.told d.told told same.told;
+      tape = same-recorded w out c d out.tape tape same.recorded;
     }
 
-pub not_accepted : (w w' : Outside) (out : Option (List ℕ)) (c : Course) → Tells w out c → w'.client ≡ faulted w.client → w'.host ≡ w.host → w'.door ≡ w.door → Cut w' out c (course_of (come c.clients c))
+pub not_accepted : (w w' : Outside) (out : Written) (c : Course) → Tells w out c → w'.client ≡ faulted w.client → w'.host ≡ w.host → w'.door ≡ w.door → Cut w' out c (course_of (come c.clients c))
 not_accepted w w' out c t client host door =
     door-cut w' out c (ap (λ (l : Link). l.turns) client ∙ t.client.turns-is) (ap (λ (l : Link). l.turns) host ∙ t.host.turns-is) (ap (λ (d : Door). d.to_come) door ∙ t.clients)
-    (ap (λ (l : Link). l.written) client ∙ t.client.written-is) (ap (λ (l : Link). l.written) host ∙ t.host.written-is) t.told
+    (ap (λ (l : Link). l.written) client ∙ t.client.written-is) (ap (λ (l : Link). l.written) host ∙ t.host.written-is) t.told t.tape
 
 -- ---- a side
 
@@ -174,12 +182,12 @@ gives-at polled buf None turns e g = absurd (none-some e)
     none-some e = cc
 gives-at polled buf (Some ts) turns e g = subst (λ (t : List Turn). Gives polled buf t) (some-is ts turns e) g
 
-shows-of : (side : Side) (links : Side → Link) (door : Door) (out : Option (List ℕ)) (c : Course) → Tells (outside links door) out c → (links side).turns ≡ Some (turns_of side c)
+shows-of : (side : Side) (links : Side → Link) (door : Door) (out : Written) (c : Course) → Tells (outside links door) out c → (links side).turns ≡ Some (turns_of side c)
 shows-of Client links door out c t = t.client.turns-is
 shows-of Host links door out c t = t.host.turns-is
 
 -- what the poll of an up side comes to
-pub poll-call : (s : Setting) (side : Side) (links : Side → Link) (door : Door) (out : Option (List ℕ)) (c : Course) (polled : Polled) (buf : List ℕ) → Tells (outside links door) out c → is_up side c ≡ true → length buf ≡ room
+pub poll-call : (s : Setting) (side : Side) (links : Side → Link) (door : Door) (out : Written) (c : Course) (polled : Polled) (buf : List ℕ) → Tells (outside links door) out c → is_up side c ≡ true → length buf ≡ room
     → IfSome (links side).turns (Gives polled buf) → call s (polls side) c ≡ heard side (behind side) polled (take (taken polled) buf) (passed side c)
 poll-call s side links door out c polled buf t up len gives =
     call-poll s side c up ∙ poll-is side (turns_of side c) (behind side) c polled buf len (gives-at polled buf (links side).turns (turns_of side c) (shows-of side links door out c t) gives)
@@ -201,7 +209,7 @@ pub record OneMoved (side : Side) (links links' : Side → Link) (door door' : D
   pub door-is : door' ≡ door
 
 -- no fault was counted
-pub moved-no_fault : (side : Side) (links links' : Side → Link) (door door' : Door) (sink : ℕ) → OneMoved side links links' door door' → (links' side).faults ≡ (links side).faults → NoFault (outside links door) (outside links' door') sink sink
+pub moved-no_fault : (side : Side) (links links' : Side → Link) (door door' : Door) (sink : Faults) → OneMoved side links links' door door' → (links' side).faults ≡ (links side).faults → NoFault (outside links door) (outside links' door') sink sink
 moved-no_fault Client links links' door door' sink moved same = record { client = same; host = ap (λ (l : Link). l.faults) moved.other-is; sink = refl }
 moved-no_fault Host links links' door door' sink moved same = record { client = ap (λ (l : Link). l.faults) moved.other-is; host = same; sink = refl }
 
@@ -210,7 +218,7 @@ abbrev pub held_up : Side → Bool → Course → Course
 held_up Client b c = record c { client_up = b }
 held_up Host b c = record c { host_up = b }
 
-pub passed-tells : (side : Side) (up : Bool) (links links' : Side → Link) (door door' : Door) (out : Option (List ℕ)) (c : Course) (len : ℕ) → Tells (outside links door) out c → len ≡ room
+pub passed-tells : (side : Side) (up : Bool) (links links' : Side → Link) (door door' : Door) (out : Written) (c : Course) (len : ℕ) → Tells (outside links door) out c → len ≡ room
     → OneMoved side links links' door door' → (links' side).up ≡ up → (links' side).turns ≡ option_map (λ ts. after len (pending ts)) (links side).turns → (links' side).written ≡ (links side).written
     → Tells (outside links' door') out (held_up side up (passed side c))
 passed-tells Client up links links' door door' out c len t is moved u turns written = record {
@@ -218,31 +226,33 @@ passed-tells Client up links links' door door' out c len t is moved u turns writ
   host = subst (λ (l : Link). Shows l c.host_up c.host c.to_host) (sym moved.other-is) t.host;
   clients = ap (λ (d : Door). d.to_come) moved.door-is ∙ t.clients;
   told = t.told;
+  tape = t.tape;
 }
 passed-tells Host up links links' door door' out c len t is moved u turns written = record {
   client = subst (λ (l : Link). Shows l c.client_up c.client c.to_client) (sym moved.other-is) t.client;
   host = turned-shows (links Host) (links' Host) c.host_up up c.host c.to_host len is u turns written t.host;
   clients = ap (λ (d : Door). d.to_come) moved.door-is ∙ t.clients;
   told = t.told;
+  tape = t.tape;
 }
 
 -- the poll gave nothing that is an event
-pub passed-follows : (side : Side) (stands : List Event → Type 0) (p : Prescribed) (k : Kept) (links links' : Side → Link) (door door' : Door) (out : Option (List ℕ)) (c : Course) (len : ℕ) → Follows stands p k (outside links door) out c → len ≡ room
+pub passed-follows : (side : Side) (stands : List Event → Type 0) (p : Prescribed) (k : Kept) (links links' : Side → Link) (door door' : Door) (out : Written) (c : Course) (len : ℕ) → Follows stands p k (outside links door) out c → len ≡ room
     → OneMoved side links links' door door' → (links' side).up ≡ (links side).up → (links' side).turns ≡ option_map (λ ts. after len (pending ts)) (links side).turns → (links' side).written ≡ (links side).written
     → Follows stands p k (outside links' door') out (passed side c)
 passed-follows Client stands p k links links' door door' out c len f is moved u turns written =
     let t = passed-tells Client c.client_up links links' door door' out c len f.tells is moved (u ∙ f.tells.client.up-is) turns written in
-    record { stands_for = f.stands_for; tells = record { client = t.client; host = t.host; clients = t.clients; told = t.told }; client_up = f.client_up; host_up = f.host_up; busy = f.busy; waits = f.waits; left = f.left; refused = f.refused }
+    record { stands_for = f.stands_for; tells = record { client = t.client; host = t.host; clients = t.clients; told = t.told; tape = t.tape }; client_up = f.client_up; host_up = f.host_up; busy = f.busy; waits = f.waits; left = f.left; refused = f.refused }
 passed-follows Host stands p k links links' door door' out c len f is moved u turns written =
     let t = passed-tells Host c.host_up links links' door door' out c len f.tells is moved (u ∙ f.tells.host.up-is) turns written in
-    record { stands_for = f.stands_for; tells = record { client = t.client; host = t.host; clients = t.clients; told = t.told }; client_up = f.client_up; host_up = f.host_up; busy = f.busy; waits = f.waits; left = f.left; refused = f.refused }
+    record { stands_for = f.stands_for; tells = record { client = t.client; host = t.host; clients = t.clients; told = t.told; tape = t.tape }; client_up = f.client_up; host_up = f.host_up; busy = f.busy; waits = f.waits; left = f.left; refused = f.refused }
 
 -- bytes have come
-pub took-follows : (stands : List Event → Type 0) (p : Prescribed) (k k' : Kept) (w : Outside) (out : Option (List ℕ)) (c : Course) (n : ℕ) → Follows stands p k w out c → k' ≡ record k { busy = true; left = k.left - n }
+pub took-follows : (stands : List Event → Type 0) (p : Prescribed) (k k' : Kept) (w : Outside) (out : Written) (c : Course) (n : ℕ) → Follows stands p k w out c → k' ≡ record k { busy = true; left = k.left - n }
     → Follows stands p k' w out (record c { busy = true; left = c.left - n })
 took-follows stands p k k' w out c n f kept = record {
   stands_for = f.stands_for;
-  tells = record { client = f.tells.client; host = f.tells.host; clients = f.tells.clients; told = f.tells.told };
+  tells = record { client = f.tells.client; host = f.tells.host; clients = f.tells.clients; told = f.tells.told; tape = f.tells.tape };
   client_up = ap (λ (k : Kept). k.client_up) kept ∙ f.client_up;
   host_up = ap (λ (k : Kept). k.host_up) kept ∙ f.host_up;
   busy = ap (λ (k : Kept). k.busy) kept;
@@ -252,14 +262,14 @@ took-follows stands p k k' w out c n f kept = record {
 }
 
 -- the link has ended
-pub ended-follows : (side : Side) (stands : List Event → Type 0) (p : Prescribed) (k k' : Kept) (links links' : Side → Link) (door door' : Door) (out : Option (List ℕ)) (c : Course) (len : ℕ) → Follows stands p k (outside links door) out c → len ≡ room
+pub ended-follows : (side : Side) (stands : List Event → Type 0) (p : Prescribed) (k k' : Kept) (links links' : Side → Link) (door door' : Door) (out : Written) (c : Course) (len : ℕ) → Follows stands p k (outside links door) out c → len ≡ room
     → OneMoved side links links' door door' → (links' side).up ≡ false → (links' side).turns ≡ option_map (λ ts. after len (pending ts)) (links side).turns → (links' side).written ≡ (links side).written
     → k' ≡ record (with_up side k) { busy = true } → Follows stands p k' (outside links' door') out (record (down side (passed side c)) { busy = true })
 ended-follows Client stands p k k' links links' door door' out c len f is moved u turns written kept =
     let t = passed-tells Client false links links' door door' out c len f.tells is moved u turns written in
     record {
       stands_for = f.stands_for;
-      tells = record { client = t.client; host = t.host; clients = t.clients; told = t.told };
+      tells = record { client = t.client; host = t.host; clients = t.clients; told = t.told; tape = t.tape };
       client_up = ap (λ (k : Kept). k.client_up) kept;
       host_up = ap (λ (k : Kept). k.host_up) kept ∙ f.host_up;
       busy = ap (λ (k : Kept). k.busy) kept;
@@ -271,7 +281,7 @@ ended-follows Host stands p k k' links links' door door' out c len f is moved u 
     let t = passed-tells Host false links links' door door' out c len f.tells is moved u turns written in
     record {
       stands_for = f.stands_for;
-      tells = record { client = t.client; host = t.host; clients = t.clients; told = t.told };
+      tells = record { client = t.client; host = t.host; clients = t.clients; told = t.told; tape = t.tape };
       client_up = ap (λ (k : Kept). k.client_up) kept ∙ f.client_up;
       host_up = ap (λ (k : Kept). k.host_up) kept;
       busy = ap (λ (k : Kept). k.busy) kept;
@@ -290,11 +300,11 @@ pub record MovesNothing (c d : Course) : Type 0 where
   pub writes : WroteNothing c d
 
 heard-moves : (side : Side) (next : Next) (polled : Polled) (bytes : List ℕ) (c : Course) → MovesNothing c (course_of (heard side next polled bytes c))
-heard-moves side next (Took n) bytes c = record { client = refl; host = refl; clients = refl; writes = record { to_client = refl; to_host = refl; told = refl } }
-heard-moves side next NotYet bytes c = record { client = refl; host = refl; clients = refl; writes = record { to_client = refl; to_host = refl; told = refl } }
-heard-moves Client next Ended bytes c = record { client = refl; host = refl; clients = refl; writes = record { to_client = refl; to_host = refl; told = refl } }
-heard-moves Host next Ended bytes c = record { client = refl; host = refl; clients = refl; writes = record { to_client = refl; to_host = refl; told = refl } }
-heard-moves side next Failed bytes c = record { client = refl; host = refl; clients = refl; writes = record { to_client = refl; to_host = refl; told = refl } }
+heard-moves side next (Took n) bytes c = record { client = refl; host = refl; clients = refl; writes = record { to_client = refl; to_host = refl; told = refl; recorded = refl } }
+heard-moves side next NotYet bytes c = record { client = refl; host = refl; clients = refl; writes = record { to_client = refl; to_host = refl; told = refl; recorded = refl } }
+heard-moves Client next Ended bytes c = record { client = refl; host = refl; clients = refl; writes = record { to_client = refl; to_host = refl; told = refl; recorded = refl } }
+heard-moves Host next Ended bytes c = record { client = refl; host = refl; clients = refl; writes = record { to_client = refl; to_host = refl; told = refl; recorded = refl } }
+heard-moves side next Failed bytes c = record { client = refl; host = refl; clients = refl; writes = record { to_client = refl; to_host = refl; told = refl; recorded = refl } }
 
 failed-turns : (old new : Link) (up : Bool) (turns : List Turn) (written : List ℕ) (behind : List Turn) → Shows old up turns written → PollFails old new → behind ≡ after room (pending turns) → IsOneOf turns new.turns behind
 failed-turns old new up turns written behind s fails is = go fails.turns
@@ -303,7 +313,7 @@ failed-turns old new up turns written behind s fails is = go fails.turns
     go (inl same) = inl (same ∙ s.turns-is)
     go (inr t) = inr (t.4 ∙ ap Some (sym (is ∙ ap (λ (ts : List Turn). after room (pending ts)) (some-is turns t.0 (sym s.turns-is ∙ t.2)) ∙ ap (λ (ts : List Turn). after room ts) t.3)))
 
-pub failed-cut : (side : Side) (s : Setting) (links links' : Side → Link) (door door' : Door) (out : Option (List ℕ)) (c : Course) → Tells (outside links door) out c → is_up side c ≡ true → OneMoved side links links' door door'
+pub failed-cut : (side : Side) (s : Setting) (links links' : Side → Link) (door door' : Door) (out : Written) (c : Course) → Tells (outside links door) out c → is_up side c ≡ true → OneMoved side links links' door door'
     → PollFails (links side) (links' side) → Cut (outside links' door') out c (course_of (call s (polls side) c))
 failed-cut Client s links links' door door' out c t up moved fails =
     let m = heard-moves Client AtHost (answer room (pending c.client)) (given room (pending c.client)) (passed Client c) in
@@ -314,6 +324,7 @@ failed-cut Client s links links' door door' out c t up moved fails =
       to_client = between-same c.to_client _ _ (ap (λ (l : Link). l.written) fails.same ∙ t.client.written-is) m.writes.to_client;
       to_host = between-same c.to_host _ _ (ap (λ (l : Link). l.written) moved.other-is ∙ t.host.written-is) m.writes.to_host;
       told = between-same c.told _ _ t.told m.writes.told;
+      tape = same-recorded _ out c _ out.tape t.tape m.writes.recorded;
     })
 failed-cut Host s links links' door door' out c t up moved fails =
     let m = heard-moves Host AtEnd (answer room (pending c.host)) (given room (pending c.host)) (passed Host c) in
@@ -324,9 +335,10 @@ failed-cut Host s links links' door door' out c t up moved fails =
       to_client = between-same c.to_client _ _ (ap (λ (l : Link). l.written) moved.other-is ∙ t.client.written-is) m.writes.to_client;
       to_host = between-same c.to_host _ _ (ap (λ (l : Link). l.written) fails.same ∙ t.host.written-is) m.writes.to_host;
       told = between-same c.told _ _ t.told m.writes.told;
+      tape = same-recorded _ out c _ out.tape t.tape m.writes.recorded;
     })
 
-pub up-is : (side : Side) (stands : List Event → Type 0) (p : Prescribed) (k : Kept) (w : Outside) (out : Option (List ℕ)) (c : Course) (b : Bool) → Follows stands p k w out c → up_of side k ≡ b → is_up side c ≡ b
+pub up-is : (side : Side) (stands : List Event → Type 0) (p : Prescribed) (k : Kept) (w : Outside) (out : Written) (c : Course) (b : Bool) → Follows stands p k w out c → up_of side k ≡ b → is_up side c ≡ b
 up-is Client stands p k w out c b f e = sym f.client_up ∙ e
 up-is Host stands p k w out c b f e = sym f.host_up ∙ e
 

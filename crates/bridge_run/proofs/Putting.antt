@@ -1,5 +1,5 @@
 -- What one event makes of the links and of what they tell.
-use Rattle.std.proofs.Common.{◌≡◌, ℕ, ◌&&◌, ◌||◌, not, Bool, true, false, cond, List, [], ◌∷◌, ◌++◌, Option, Some, None, Result, Ok, Err, refl, sym, ap, ◌∙◌, subst, inl, inr, append-nil, append_assoc}
+use Rattle.std.proofs.Common.{◌≡◌, ℕ, ◌&&◌, ◌||◌, not, Bool, true, false, cond, List, [], ◌∷◌, ◌++◌, Option, Some, None, IfSome, Result, Ok, Err, ◌⊎◌, refl, sym, ap, ◌∙◌, subst, inl, inr, append-nil, append_assoc}
 use Rattle.std.proofs.lemmas.Bool.{false≢true}
 use Rattle.std.specs.Io.KnownBytes.{append_known, Appends}
 use Rattle.std.specs.List.{flat_map}
@@ -16,10 +16,14 @@ use Rattle.gate_core.specs.Sides.{or_else}
 use Rattle.bridge_run.specs.declared.kept.Kept.{Kept}
 use Rattle.bridge_run.specs.declared.sent.Sent.{Sent}
 use Rattle.bridge_run.specs.declared.serve_end.ServeEnd.{ServeEnd}
+use Rattle.bridge_run.specs.declared.serve_end.ServeEnd.TheVariants.{Ended, LinkFault, WriteFault, Idle, Spent, Memory}
+use Rattle.bridge_run.specs.inner.Recording.{TapeFaults}
 use Rattle.bridge_run.specs.Prescribed.{Prescribed, gained, refuses, drops, first_of}
 use Rattle.bridge_run.specs.Course.{Course}
+use Rattle.session_tape.specs.Tapes.{Counts, GrowsInPart}
+use Rattle.bridge_run.specs.Recorded.{lines_of}
 use Rattle.bridge_run.specs.Calls.{put}
-use Rattle.bridge_run.specs.Outside.{Outside, Shows, Tells, IsBetween, IsOneOf, Cut}
+use Rattle.bridge_run.specs.Outside.{Outside, Shows, Tells, IsBetween, IsOneOf, IsRecordedInPart, Cut, Written, HasCause, faults}
 use Rattle.bridge_run.specs.inner.Links.{wrote_if, WritesFront, closed_if}
 use Rattle.bridge_run.specs.inner.Keeping.{refusing}
 use Rattle.bridge_run.specs.inner.Follows.{Prepared, Follows, Puts}
@@ -104,11 +108,56 @@ told-all (Some y) (Some z) x b e a = let same : y ≡ x = cc in ap Some (a ∙ a
 told-all (Some y) None x b e a = absurd a
 told-all None new x b e a = cc
 
-pub put-follows : (stands : List Event → Type 0) (p : Prescribed) (k k' : Kept) (w w' : Outside) (out out' : Option (List ℕ)) (c : Course) (e : Event) (sent : Sent) (lines : List ℕ)
+-- ---- the tape
+
+-- recording has no cause but the tape's own
+pub tape-faults : (e : ServeEnd) (w : Outside) (sink : ℕ) (old new : Counts) → TapeFaults {T = Unit {0}} (Err e) old new → HasCause e w w (faults sink old) (faults sink new)
+tape-faults WriteFault w sink old new is = record { client = refl; host = refl; sink = inr (refl, is) }
+tape-faults Memory w sink old new is = record { client = refl; host = refl; sink = ap (faults sink) is }
+tape-faults (LinkFault side) w sink old new is = absurd is
+tape-faults (Ended refused) w sink old new is = absurd is
+tape-faults Idle w sink old new is = absurd is
+tape-faults Spent w sink old new is = absurd is
+
+-- what known bytes are is what they were, and then more
+recorded-more : (known : Option (List ℕ)) (x b : List ℕ) → IfSome known (λ held. held ≡ x) → IfSome (append_known known b) (λ held. held ≡ x ++ b)
+recorded-more None x b is = tt
+recorded-more (Some held) x b is = ap (λ (l : List ℕ). l ++ b) is
+
+-- the lines of the event are all recorded
+taped : (p : Prescribed) (c : Course) (e : Event) (sent : Sent) (lines : List ℕ) (out out' : Written) → Prepared p c.events e sent lines → IfSome out.tape (λ held. held ≡ c.recorded)
+    → out'.tape ≡ append_known out.tape (lines_of e sent.refusals) → IfSome out'.tape (λ held. held ≡ (put p e c).recorded)
+taped p c e sent lines out out' prepared is recorded =
+    subst (λ (rs : List Refusal). IfSome out'.tape (λ held. held ≡ c.recorded ++ lines_of e rs)) prepared.refusals
+    (subst (λ (known : Option (List ℕ)). IfSome known (λ held. held ≡ c.recorded ++ lines_of e sent.refusals)) (sym recorded) (recorded-more out.tape c.recorded (lines_of e sent.refusals) is))
+
+pub all-recorded : (w : Outside) (out : Written) (c d : Course) (known : Option (List ℕ)) → IfSome known (λ held. held ≡ d.recorded) → IfSome known (λ held. (held ≡ d.recorded) ⊎ IsRecordedInPart w out c d held)
+all-recorded w out c d None is = tt
+all-recorded w out c d (Some held) is = inl is
+
+-- a front of them is recorded, and nothing is sent
+recorded-front : (w : Outside) (out : Written) (c d : Course) (front back : List ℕ) → d.recorded ≡ c.recorded ++ (front ++ back) → w.client.written ≡ Some c.to_client → w.host.written ≡ Some c.to_host → out.told ≡ Some c.told
+    → (known : Option (List ℕ)) → IfSome known (λ held. held ≡ c.recorded) → IfSome (append_known known front) (λ held. (held ≡ d.recorded) ⊎ IsRecordedInPart w out c d held)
+recorded-front w out c d front back all client host told None is = tt
+recorded-front w out c d front back all client host told (Some held) is = inr (record {
+  more = front;
+  lost = back;
+  held-is = ap (λ (l : List ℕ). l ++ front) is;
+  all-is = all ∙ sym (append_assoc c.recorded front back);
+  to_client = client;
+  to_host = host;
+  told = told;
+})
+
+none-recorded : (known : Option (List ℕ)) → append_known known [] ≡ known
+none-recorded None = refl
+none-recorded (Some held) = ap Some (append-nil held)
+
+pub put-follows : (stands : List Event → Type 0) (p : Prescribed) (k k' : Kept) (w w' : Outside) (out out' : Written) (c : Course) (e : Event) (sent : Sent) (lines : List ℕ)
     (old-stands : List Event → Type 0) → Follows old-stands p k w out c → Prepared p c.events e sent lines → stands (e ∷ c.events) → k' ≡ refusing sent.refusals sent.lets_go k
     → Shows w'.client (put p e c).client_up (put p e c).client (put p e c).to_client → Shows w'.host (put p e c).host_up (put p e c).host (put p e c).to_host
-    → w'.door ≡ w.door → Appends out out' lines → Follows stands p k' w' out' (put p e c)
-put-follows stands p k k' w w' out out' c e sent lines old-stands f prepared now kept client host door written =
+    → w'.door ≡ w.door → Appends out.told out'.told lines → out'.tape ≡ append_known out.tape (lines_of e sent.refusals) → Follows stands p k' w' out' (put p e c)
+put-follows stands p k k' w w' out out' c e sent lines old-stands f prepared now kept client host door written recorded =
     let refusals = prepared.refusals in
     record {
       stands_for = now;
@@ -116,7 +165,8 @@ put-follows stands p k k' w w' out out' c e sent lines old-stands f prepared now
         client = client;
         host = host;
         clients = ap (λ (d : Door). d.to_come) door ∙ f.tells.clients;
-        told = told-all out out' c.told lines f.tells.told written
+        tape = taped p c e sent lines out out' prepared f.tells.tape recorded;
+        told = told-all out.told out'.told c.told lines f.tells.told written
             ∙ ap (λ (l : List ℕ). Some (c.told ++ l)) (prepared.lines-is ∙ ap (flat_map refusal_line) refusals);
       };
       client_up = ap (λ (k : Kept). k.client_up) kept ∙ ap (λ (u : Bool). u && not (refuses Client sent.refusals || sent.lets_go)) f.client_up ∙ ap (λ (d : Bool). c.client_up && not d) (dropped-is p c.events e sent lines prepared);
@@ -142,17 +192,45 @@ host-before p c e l s = (inl s.turns-is, between-none c.to_host l.written (put p
 told-before : (p : Prescribed) (c : Course) (e : Event) (out : Option (List ℕ)) → out ≡ Some c.told → IsBetween c.told out (put p e c).told
 told-before p c e out s = between-none c.told out (put p e c).told _ s refl
 
+-- while its lines are recorded
+pub put-in_entry : (p : Prescribed) (c : Course) (e : Event) (sent : Sent) (lines : List ℕ) (w : Outside) (out out' : Written) → Prepared p c.events e sent lines → Tells w out c → out'.told ≡ out.told
+    → GrowsInPart out.tape out'.tape (lines_of e sent.refusals) → Cut w out' c (put p e c)
+put-in_entry p c e sent lines w out out' prepared t told grows =
+    let client = client-before p c e w.client t.client in
+    let host = host-before p c e w.host t.host in
+    let still = told ∙ t.told in
+    let all : (put p e c).recorded ≡ c.recorded ++ (grows.front ++ grows.back) = ap (λ (rs : List Refusal). c.recorded ++ lines_of e rs) (sym prepared.refusals) ∙ ap (λ (l : List ℕ). c.recorded ++ l) grows.parts in
+    record {
+      client = client.0;
+      host = host.0;
+      clients = inl t.clients;
+      to_client = client.1;
+      to_host = host.1;
+      told = told-before p c e out'.told still;
+      tape = subst (λ (known : Option (List ℕ)). IfSome known (λ held. (held ≡ (put p e c).recorded) ⊎ IsRecordedInPart w out' c (put p e c) held)) (sym grows.grows)
+          (recorded-front w out' c (put p e c) grows.front grows.back all t.client.written-is t.host.written-is still out.tape t.tape);
+    }
+
 -- before anything is written
-pub put-before : (p : Prescribed) (c : Course) (e : Event) (w : Outside) (out : Option (List ℕ)) → Tells w out c → Cut w out c (put p e c)
+pub put-before : (p : Prescribed) (c : Course) (e : Event) (w : Outside) (out : Written) → Tells w out c → Cut w out c (put p e c)
 put-before p c e w out t =
     let client = client-before p c e w.client t.client in
     let host = host-before p c e w.host t.host in
-    record { client = client.0; host = host.0; clients = inl t.clients; to_client = client.1; to_host = host.1; told = told-before p c e out t.told }
+    record {
+      client = client.0;
+      host = host.0;
+      clients = inl t.clients;
+      to_client = client.1;
+      to_host = host.1;
+      told = told-before p c e out.told t.told;
+      tape = subst (λ (known : Option (List ℕ)). IfSome known (λ held. (held ≡ (put p e c).recorded) ⊎ IsRecordedInPart w out c (put p e c) held)) (none-recorded out.tape)
+          (recorded-front w out c (put p e c) [] (lines_of e (gained p.refusals c.events e)) refl t.client.written-is t.host.written-is t.told out.tape t.tape);
+    }
 
 -- within what goes to the client
-pub put-in_client : (p : Prescribed) (c : Course) (e : Event) (sent : Sent) (lines : List ℕ) (w w' : Outside) (out : Option (List ℕ)) (up : Bool) → Prepared p c.events e sent lines → Tells w out c → up ≡ c.client_up
-    → WritesFront up sent.to_client w.client w'.client → w'.host ≡ w.host → w'.door ≡ w.door → Cut w' out c (put p e c)
-put-in_client p c e sent lines w w' out up prepared t u front host door =
+pub put-in_client : (p : Prescribed) (c : Course) (e : Event) (sent : Sent) (lines : List ℕ) (w w' : Outside) (out out' : Written) (up : Bool) → Prepared p c.events e sent lines → Tells w out c → out'.told ≡ out.told → out'.tape ≡ append_known out.tape (lines_of e sent.refusals)
+    → up ≡ c.client_up → WritesFront up sent.to_client w.client w'.client → w'.host ≡ w.host → w'.door ≡ w.door → Cut w' out' c (put p e c)
+put-in_client p c e sent lines w w' out out' up prepared t told recorded u front host door =
     let h = host-before p c e w'.host (subst (λ (l : Link). Shows l c.host_up c.host c.to_host) (sym host) t.host) in
     record {
       client = inl (ap (λ (l : Link). l.turns) front.link ∙ t.client.turns-is);
@@ -161,13 +239,15 @@ put-in_client p c e sent lines w w' out up prepared t u front host door =
       to_client = subst (λ (b : List ℕ). IsBetween c.to_client w'.client.written (cond c.client_up (c.to_client ++ b) c.to_client)) prepared.client
           (between-front c.client_up c.to_client sent.to_client w.client w'.client c.client t.client (subst (λ (v : Bool). WritesFront v sent.to_client w.client w'.client) u front));
       to_host = h.1;
-      told = told-before p c e out t.told;
+      told = told-before p c e out'.told (told ∙ t.told);
+      tape = all-recorded w' out' c (put p e c) out'.tape (taped p c e sent lines out out' prepared t.tape recorded);
     }
 
 -- within what goes to the host, behind all that goes to the client
-pub put-in_host : (p : Prescribed) (c : Course) (e : Event) (sent : Sent) (lines : List ℕ) (w w' : Outside) (out : Option (List ℕ)) (uc uh : Bool) → Prepared p c.events e sent lines → Tells w out c → uc ≡ c.client_up → uh ≡ c.host_up
-    → w'.client ≡ wrote_if uc sent.to_client w.client → WritesFront uh sent.to_host w.host w'.host → w'.door ≡ w.door → Cut w' out c (put p e c)
-put-in_host p c e sent lines w w' out uc uh prepared t vc vh client front door =
+pub put-in_host : (p : Prescribed) (c : Course) (e : Event) (sent : Sent) (lines : List ℕ) (w w' : Outside) (out out' : Written) (uc uh : Bool) → Prepared p c.events e sent lines → Tells w out c → out'.told ≡ out.told → out'.tape ≡ append_known out.tape (lines_of e sent.refusals)
+    → uc ≡ c.client_up → uh ≡ c.host_up
+    → w'.client ≡ wrote_if uc sent.to_client w.client → WritesFront uh sent.to_host w.host w'.host → w'.door ≡ w.door → Cut w' out' c (put p e c)
+put-in_host p c e sent lines w w' out out' uc uh prepared t told recorded vc vh client front door =
     let all = subst (λ (b : List ℕ). Shows (wrote_if c.client_up sent.to_client w.client) c.client_up c.client (cond c.client_up (c.to_client ++ b) c.to_client)) prepared.client
     (wrote-shows c.client_up sent.to_client w.client c.client c.to_client t.client) in
     let is = client ∙ ap (λ (v : Bool). wrote_if v sent.to_client w.client) vc in
@@ -178,7 +258,8 @@ put-in_host p c e sent lines w w' out uc uh prepared t vc vh client front door =
       to_client = between-all c.to_client w'.client.written (put p e c).to_client _ (ap (λ (l : Link). l.written) is ∙ all.written-is) (more_if c.client_up c.to_client (gained p.to_client c.events e));
       to_host = subst (λ (b : List ℕ). IsBetween c.to_host w'.host.written (cond c.host_up (c.to_host ++ b) c.to_host)) prepared.host
           (between-front c.host_up c.to_host sent.to_host w.host w'.host c.host t.host (subst (λ (v : Bool). WritesFront v sent.to_host w.host w'.host) vh front));
-      told = told-before p c e out t.told;
+      told = told-before p c e out'.told (told ∙ t.told);
+      tape = all-recorded w' out' c (put p e c) out'.tape (taped p c e sent lines out out' prepared t.tape recorded);
     }
 
 told-front : (known new : Option (List ℕ)) (x b : List ℕ) → known ≡ Some x → AppendsFront known new b → IsBetween x new (x ++ b)
@@ -190,16 +271,17 @@ told-front known new x b e a = record {
 }
 
 -- within the lines of refusals, behind all that goes to both sides
-pub put-in_lines : (p : Prescribed) (c : Course) (e : Event) (sent : Sent) (lines : List ℕ) (w w' : Outside) (out out' : Option (List ℕ)) → Prepared p c.events e sent lines → Tells w out c
+pub put-in_lines : (p : Prescribed) (c : Course) (e : Event) (sent : Sent) (lines : List ℕ) (w w' : Outside) (out out' : Written) → Prepared p c.events e sent lines → Tells w out c
     → Shows w'.client (put p e c).client_up (put p e c).client (put p e c).to_client → Shows w'.host (put p e c).host_up (put p e c).host (put p e c).to_host
-    → w'.door ≡ w.door → AppendsFront out out' lines → Cut w' out' c (put p e c)
-put-in_lines p c e sent lines w w' out out' prepared t client host door front = record {
+    → w'.door ≡ w.door → AppendsFront out.told out'.told lines → out'.tape ≡ append_known out.tape (lines_of e sent.refusals) → Cut w' out' c (put p e c)
+put-in_lines p c e sent lines w w' out out' prepared t client host door front recorded = record {
   client = inr client.turns-is;
   host = inr host.turns-is;
   clients = inl (ap (λ (d : Door). d.to_come) door ∙ t.clients);
   to_client = between-all c.to_client w'.client.written (put p e c).to_client _ client.written-is (more_if c.client_up c.to_client (gained p.to_client c.events e));
   to_host = between-all c.to_host w'.host.written (put p e c).to_host _ host.written-is (more_if c.host_up c.to_host (gained p.to_host c.events e));
-  told = subst (λ (l : List ℕ). IsBetween c.told out' (c.told ++ l)) (prepared.lines-is ∙ ap (flat_map refusal_line) prepared.refusals) (told-front out out' c.told lines t.told front);
+  told = subst (λ (l : List ℕ). IsBetween c.told out'.told (c.told ++ l)) (prepared.lines-is ∙ ap (flat_map refusal_line) prepared.refusals) (told-front out.told out'.told c.told lines t.told front);
+  tape = all-recorded w' out' c (put p e c) out'.tape (taped p c e sent lines out out' prepared t.tape recorded);
 }
 
 -- ---- a side that isn't refused
@@ -220,7 +302,7 @@ refusing-none refusals go k k' none stays is =
     ∙ ap (λ (r : Option Refusal). record k { refused = r }) (or_else-none k.refused)
 
 -- an error that a `?` hands on
-pub cut-puts : (Q : ServeEnd → Type 0) (result : Result Bool ServeEnd) (stands : List Event → Type 0) (p : Prescribed) (e : Event) (k : Kept) (w : Outside) (out : Option (List ℕ)) (c : Course) → IsErrAnd result Q → Cut w out c (put p e c)
+pub cut-puts : (Q : ServeEnd → Type 0) (result : Result Bool ServeEnd) (stands : List Event → Type 0) (p : Prescribed) (e : Event) (k : Kept) (w : Outside) (out : Written) (c : Course) → IsErrAnd result Q → Cut w out c (put p e c)
     → Puts result stands p e k w out c
 cut-puts Q (Ok x) stands p e k w out c is cut = absurd is
 cut-puts Q (Err x) stands p e k w out c is cut = cut

@@ -1,5 +1,5 @@
 -- Calls one after another.
-use Rattle.std.proofs.Common.{◌≡◌, ℕ, zero, suc, ◌+◌, List, Option, Result, Ok, Err, refl, sym, ap, ◌∙◌, subst, add-zero, add-suc}
+use Rattle.std.proofs.Common.{◌≡◌, ℕ, zero, suc, ◌+◌, List, Result, Ok, Err, refl, sym, ap, ◌∙◌, subst, add-zero, add-suc}
 use Rattle.std.specs.Result.{IsErrAnd}
 use Rattle.bridge_run.specs.Events.{Event}
 use Rattle.bridge_run.specs.declared.serve_end.ServeEnd.{ServeEnd}
@@ -7,7 +7,7 @@ use Rattle.bridge_run.specs.declared.serve_end.ServeEnd.TheVariants.{Ended, Link
 use Rattle.bridge_run.specs.declared.kept.Kept.{Kept}
 use Rattle.bridge_run.specs.Course.{Setting, Course, Next}
 use Rattle.bridge_run.specs.Calls.{Outcome, Goes, Stops, call, calls, and_then, course_of}
-use Rattle.bridge_run.specs.Outside.{Outside, Cut}
+use Rattle.bridge_run.specs.Outside.{Outside, Cut, Written}
 use Rattle.bridge_run.specs.Serves.{Reaches, EndsSo, CutShort, Leaves}
 use Rattle.bridge_run.specs.inner.Follows.{IsCutEnd, Runs}
 
@@ -26,13 +26,13 @@ reaches-call s from next c to r e = record { count = suc r.count; is = ap (λ (x
 pub reaches-then : (s : Setting) (from : Outcome) (next : Next) (c : Course) (to : Outcome) → Reaches s from (Goes next c) → Reaches s (Goes next c) to → Reaches s from to
 reaches-then s from next c to a b = record { count = a.count + b.count; is = calls-more s a.count b.count from ∙ ap (λ (x : Outcome). calls s b.count x) a.is ∙ b.is }
 
-ends-then : (s : Setting) (from : Outcome) (next : Next) (c : Course) (e : ServeEnd) (w : Outside) (out : Option (List ℕ)) → Reaches s from (Goes next c) → EndsSo s (Goes next c) e w out → EndsSo s from e w out
+ends-then : (s : Setting) (from : Outcome) (next : Next) (c : Course) (e : ServeEnd) (w : Outside) (out : Written) → Reaches s from (Goes next c) → EndsSo s (Goes next c) e w out → EndsSo s from e w out
 ends-then s from next c e w out r x = record { course = x.course; reaches = reaches-then s from next c (Stops e x.course) r x.reaches; tells = x.tells }
 
-cut-then : (s : Setting) (from : Outcome) (next : Next) (c : Course) (w : Outside) (out : Option (List ℕ)) → Reaches s from (Goes next c) → CutShort s (Goes next c) w out → CutShort s from w out
+cut-then : (s : Setting) (from : Outcome) (next : Next) (c : Course) (w : Outside) (out : Written) → Reaches s from (Goes next c) → CutShort s (Goes next c) w out → CutShort s from w out
 cut-then s from next c w out r x = record { next = x.next; course = x.course; reaches = reaches-then s from next c (Goes x.next x.course) r x.reaches; cut = x.cut }
 
-pub leaves-then : (e : ServeEnd) (s : Setting) (from : Outcome) (next : Next) (c : Course) (w : Outside) (out : Option (List ℕ)) → Reaches s from (Goes next c) → Leaves e s (Goes next c) w out → Leaves e s from w out
+pub leaves-then : (e : ServeEnd) (s : Setting) (from : Outcome) (next : Next) (c : Course) (w : Outside) (out : Written) → Reaches s from (Goes next c) → Leaves e s (Goes next c) w out → Leaves e s from w out
 leaves-then (Ended refused) s from next c w out r x = ends-then s from next c (Ended refused) w out r x
 leaves-then Idle s from next c w out r x = ends-then s from next c Idle w out r x
 leaves-then Spent s from next c w out r x = ends-then s from next c Spent w out r x
@@ -40,13 +40,13 @@ leaves-then (LinkFault side) s from next c w out r x = cut-then s from next c w 
 leaves-then WriteFault s from next c w out r x = cut-then s from next c w out r x
 leaves-then Memory s from next c w out r x = cut-then s from next c w out r x
 
-pub runs-then : {T : Type 0} → (result : Result T ServeEnd) (stands : List Event → Type 0) (s : Setting) (k : Kept) (w : Outside) (out : Option (List ℕ)) (from : Outcome) (next : Next) (c : Course) (to : Next)
+pub runs-then : {T : Type 0} → (result : Result T ServeEnd) (stands : List Event → Type 0) (s : Setting) (k : Kept) (w : Outside) (out : Written) (from : Outcome) (next : Next) (c : Course) (to : Next)
     → Reaches s from (Goes next c) → Runs result stands s k w out (Goes next c) to → Runs result stands s k w out from to
 runs-then (Ok x) stands s k w out from next c to r runs = record { course = runs.course; reaches = reaches-then s from next c (Goes to runs.course) r runs.reaches; follows = runs.follows }
 runs-then (Err e) stands s k w out from next c to r runs = leaves-then e s from next c w out r runs
 
 -- a call that was cut
-pub cut-leaves : (e : ServeEnd) (s : Setting) (from : Outcome) (w : Outside) (out : Option (List ℕ)) → IsCutEnd e → CutShort s from w out → Leaves e s from w out
+pub cut-leaves : (e : ServeEnd) (s : Setting) (from : Outcome) (w : Outside) (out : Written) → IsCutEnd e → CutShort s from w out → Leaves e s from w out
 cut-leaves (Ended refused) s from w out is x = absurd is
 cut-leaves Idle s from w out is x = absurd is
 cut-leaves Spent s from w out is x = absurd is
@@ -55,7 +55,7 @@ cut-leaves WriteFault s from w out is x = x
 cut-leaves Memory s from w out is x = x
 
 -- the next call was cut
-pub cut-next : (s : Setting) (from : Outcome) (next : Next) (c d : Course) (w : Outside) (out : Option (List ℕ)) → Reaches s from (Goes next c) → course_of (call s next c) ≡ d → Cut w out c d → CutShort s from w out
+pub cut-next : (s : Setting) (from : Outcome) (next : Next) (c d : Course) (w : Outside) (out : Written) → Reaches s from (Goes next c) → course_of (call s next c) ≡ d → Cut w out c d → CutShort s from w out
 cut-next s from next c d w out r is x = record { next = next; course = c; reaches = r; cut = subst (λ (b : Course). Cut w out c b) (sym is) x }
 
 -- what a `?` hands on

@@ -1,5 +1,5 @@
 -- The end of a round.
-use Rattle.std.proofs.Common.{◌≡◌, ◌⊎◌, ℕ, ◌+◌, ◌*◌, ◌-◌, ◌<◌, ◌≤◌, ◌==◌, Bool, true, false, cond, List, Option, Result, Ok, Err, refl, sym, ap, ◌∙◌, subst, inl, inr, arith}
+use Rattle.std.proofs.Common.{◌≡◌, ◌⊎◌, ℕ, ◌+◌, ◌*◌, ◌-◌, ◌<◌, ◌≤◌, ◌==◌, Bool, true, false, cond, List, Result, Ok, Err, refl, sym, ap, ◌∙◌, subst, inl, inr, arith}
 use Rattle.std.specs.Result.{OnOk}
 use Rattle.std.proofs.lemmas.Bool.{false≢true}
 use Rattle.std.proofs.Math.Nat.{mul-le-mul_left}
@@ -13,7 +13,7 @@ use Rattle.bridge_run.specs.declared.kept.Kept.{Kept}
 use Rattle.bridge_run.specs.Prescribed.{Prescribed}
 use Rattle.bridge_run.specs.Course.{Setting, Course, Next, AtDoor, AtEnd}
 use Rattle.bridge_run.specs.Calls.{Outcome, Goes, Stops, rest}
-use Rattle.bridge_run.specs.Outside.{Outside, NoFault}
+use Rattle.bridge_run.specs.Outside.{Outside, OneRose, NoFault, Written, Faults}
 use Rattle.bridge_run.specs.Serves.{Reaches}
 use Rattle.bridge_run.specs.inner.Keeping.{up_of, with_up, one_if, chances_of, Wears, rounds_of, IsLive, RestsBusy, Rests}
 use Rattle.bridge_run.specs.inner.Follows.{Follows, HasFaults, setting, Comes, Runs}
@@ -25,21 +25,21 @@ use Rattle.bridge_run.proofs.Settling.{positive-not_zero, choice}
 rose-from : (a b c : ℕ) → b ≡ a → Rose b c → Rose a c
 rose-from a b c e r = subst (λ (x : ℕ). Rose x c) e r
 
-pub faults-then : {T : Type 0} → (result : Result T ServeEnd) (a b c : Outside) (f g h : ℕ) → NoFault a b f g → HasFaults result b c g h → HasFaults result a c f h
+pub faults-then : {T : Type 0} → (result : Result T ServeEnd) (a b c : Outside) (f g h : Faults) → NoFault a b f g → HasFaults result b c g h → HasFaults result a c f h
 faults-then (Ok x) a b c f g h n m = record { client = m.client ∙ n.client; host = m.host ∙ n.host; sink = m.sink ∙ n.sink }
 faults-then (Err (LinkFault Client)) a b c f g h n m = record { client = rose-from a.client.faults b.client.faults c.client.faults n.client m.client; host = m.host ∙ n.host; sink = m.sink ∙ n.sink }
 faults-then (Err (LinkFault Host)) a b c f g h n m = record { client = m.client ∙ n.client; host = rose-from a.host.faults b.host.faults c.host.faults n.host m.host; sink = m.sink ∙ n.sink }
-faults-then (Err WriteFault) a b c f g h n m = record { client = m.client ∙ n.client; host = m.host ∙ n.host; sink = rose-from f g h n.sink m.sink }
+faults-then (Err WriteFault) a b c f g h n m = record { client = m.client ∙ n.client; host = m.host ∙ n.host; sink = subst (λ (x : Faults). OneRose x h) n.sink m.sink }
 faults-then (Err (Ended refused)) a b c f g h n m = record { client = m.client ∙ n.client; host = m.host ∙ n.host; sink = m.sink ∙ n.sink }
 faults-then (Err Idle) a b c f g h n m = record { client = m.client ∙ n.client; host = m.host ∙ n.host; sink = m.sink ∙ n.sink }
 faults-then (Err Spent) a b c f g h n m = record { client = m.client ∙ n.client; host = m.host ∙ n.host; sink = m.sink ∙ n.sink }
 faults-then (Err Memory) a b c f g h n m = record { client = m.client ∙ n.client; host = m.host ∙ n.host; sink = m.sink ∙ n.sink }
 
-pub no-fault : (w : Outside) (f : ℕ) → NoFault w w f f
+pub no-fault : (w : Outside) (f : Faults) → NoFault w w f f
 no-fault w f = record { client = refl; host = refl; sink = refl }
 
 -- an end of the round's last step is no fault
-pub rests-faults : (result : Result (Unit {0}) ServeEnd) (k k' : Kept) (a b : Outside) (f g : ℕ) → Rests result k k' → NoFault a b f g → HasFaults result a b f g
+pub rests-faults : (result : Result (Unit {0}) ServeEnd) (k k' : Kept) (a b : Outside) (f g : Faults) → Rests result k k' → NoFault a b f g → HasFaults result a b f g
 rests-faults (Ok x) k k' a b f g r n = n
 rests-faults (Err Idle) k k' a b f g r n = n
 rests-faults (Err (Ended refused)) k k' a b f g r n = absurd r
@@ -51,11 +51,11 @@ rests-faults (Err Memory) k k' a b f g r n = absurd r
 -- ---- the course
 
 -- what is kept has become another, and so has the course
-rested : (stands : List Event → Type 0) (p : Prescribed) (k k' : Kept) (w : Outside) (out : Option (List ℕ)) (c : Course) (busy : Bool) (waits : ℕ) → Follows stands p k w out c → k' ≡ record k { busy = busy; waits = waits }
+rested : (stands : List Event → Type 0) (p : Prescribed) (k k' : Kept) (w : Outside) (out : Written) (c : Course) (busy : Bool) (waits : ℕ) → Follows stands p k w out c → k' ≡ record k { busy = busy; waits = waits }
     → (n : ℕ) → waits ≡ n → Follows stands p k' w out (record c { busy = busy; waits = n })
 rested stands p k k' w out c busy waits f kept n is = record {
   stands_for = f.stands_for;
-  tells = record { client = f.tells.client; host = f.tells.host; clients = f.tells.clients; told = f.tells.told };
+  tells = record { client = f.tells.client; host = f.tells.host; clients = f.tells.clients; told = f.tells.told; tape = f.tells.tape };
   client_up = ap (λ (k : Kept). k.client_up) kept ∙ f.client_up;
   host_up = ap (λ (k : Kept). k.host_up) kept ∙ f.host_up;
   busy = ap (λ (k : Kept). k.busy) kept;
@@ -68,7 +68,7 @@ rest-is : (s : Setting) (c : Course) (b last : Bool) → c.busy ≡ b → (c.wai
     → rest s c ≡ cond b (Goes AtDoor (record c { busy = false; waits = s.idle })) (cond last (Stops Idle (record c { waits = c.waits - 1 })) (Goes AtDoor (record c { waits = c.waits - 1 })))
 rest-is s c b last p q = choice c.busy (c.waits - 1 == 0) b last (Goes AtDoor (record c { busy = false; waits = s.idle })) (Stops Idle (record c { waits = c.waits - 1 })) (Goes AtDoor (record c { waits = c.waits - 1 })) p q
 
-rest-ok : (b : Bool) (stands : List Event → Type 0) (p : Prescribed) (idle : ℕ) (k k' : Kept) (w : Outside) (out : Option (List ℕ)) (from : Outcome) (c : Course) → k.busy ≡ b → RestsBusy b k k' → k.idle ≡ idle
+rest-ok : (b : Bool) (stands : List Event → Type 0) (p : Prescribed) (idle : ℕ) (k k' : Kept) (w : Outside) (out : Written) (from : Outcome) (c : Course) → k.busy ≡ b → RestsBusy b k k' → k.idle ≡ idle
     → Follows stands p k w out c → Reaches (record { served = p; idle = idle }) from (Goes AtEnd c) → Runs {T = Unit {0}} (Ok tt) stands (record { served = p; idle = idle }) k' w out from AtDoor
 rest-ok true stands p idle k k' w out from c is r same f reach =
     let s : Setting = record { served = p; idle = idle } in
@@ -90,7 +90,7 @@ rest-ok false stands p idle k k' w out from c is r same f reach =
       follows = rested stands p k k' w out c false (k.waits - 1) f (r.0 ∙ ap (λ (b : Bool). record k { busy = b; waits = k.waits - 1 }) is) (c.waits - 1) fewer;
     }
 
-rest-idle : (stands : List Event → Type 0) (p : Prescribed) (idle : ℕ) (k k' : Kept) (w : Outside) (out : Option (List ℕ)) (from : Outcome) (c : Course) → Rests (Err Idle) k k'
+rest-idle : (stands : List Event → Type 0) (p : Prescribed) (idle : ℕ) (k k' : Kept) (w : Outside) (out : Written) (from : Outcome) (c : Course) → Rests (Err Idle) k k'
     → Follows stands p k w out c → Reaches (record { served = p; idle = idle }) from (Goes AtEnd c) → Runs {T = Unit {0}} (Err Idle) stands (record { served = p; idle = idle }) k' w out from AtDoor
 rest-idle stands p idle k k' w out from c r f reach =
     let s : Setting = record { served = p; idle = idle } in
@@ -98,10 +98,10 @@ rest-idle stands p idle k k' w out from c r f reach =
       course = record c { waits = c.waits - 1 };
       reaches = reaches-call s from AtEnd c (Stops Idle (record c { waits = c.waits - 1 })) reach
           (rest-is s c false true (sym f.busy ∙ r.0) (ap (λ (n : ℕ). n == 0) (ap (λ (n : ℕ). n - 1) (sym f.waits) ∙ sym (ap (λ (k : Kept). k.waits) r.1) ∙ r.2)));
-      tells = record { client = f.tells.client; host = f.tells.host; clients = f.tells.clients; told = f.tells.told };
+      tells = record { client = f.tells.client; host = f.tells.host; clients = f.tells.clients; told = f.tells.told; tape = f.tells.tape };
     }
 
-pub rests : (result : Result (Unit {0}) ServeEnd) (stands : List Event → Type 0) (p : Prescribed) (idle : ℕ) (k k' : Kept) (w : Outside) (out : Option (List ℕ)) (from : Outcome) (c : Course) → Rests result k k' → k.idle ≡ idle
+pub rests : (result : Result (Unit {0}) ServeEnd) (stands : List Event → Type 0) (p : Prescribed) (idle : ℕ) (k k' : Kept) (w : Outside) (out : Written) (from : Outcome) (c : Course) → Rests result k k' → k.idle ≡ idle
     → Follows stands p k w out c → Reaches (record { served = p; idle = idle }) from (Goes AtEnd c) → Runs result stands (record { served = p; idle = idle }) k' w out from AtDoor
 rests (Ok x) stands p idle k k' w out from c r same f reach = rest-ok k.busy stands p idle k k' w out from c refl r same f reach
 rests (Err Idle) stands p idle k k' w out from c r same f reach = rest-idle stands p idle k k' w out from c r f reach
@@ -162,7 +162,7 @@ live-if_ok (Err e) k m n w live left r = tt
 
 -- ---- one part of a round behind another
 
-pub goes-on : {T : Type 0} → (result : Result T ServeEnd) (stands stands2 : List Event → Type 0) (p : Prescribed) (k0 k1 k2 : Kept) (w w2 : Outside) (out out2 : Option (List ℕ)) (from : Outcome) (next1 next2 : Next)
+pub goes-on : {T : Type 0} → (result : Result T ServeEnd) (stands stands2 : List Event → Type 0) (p : Prescribed) (k0 k1 k2 : Kept) (w w2 : Outside) (out out2 : Written) (from : Outcome) (next1 next2 : Next)
     → (a : Comes stands (setting p k0) k1 w out from next1) → k1.idle ≡ k0.idle → Runs result stands2 (setting p k1) k2 w2 out2 (Goes next1 a.course) next2 → Runs result stands2 (setting p k0) k2 w2 out2 from next2
 goes-on result stands stands2 p k0 k1 k2 w w2 out out2 from next1 next2 a idle b =
     runs-then result stands2 (setting p k0) k2 w2 out2 from next1 a.course next2 a.reaches

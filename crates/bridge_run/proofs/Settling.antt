@@ -3,7 +3,6 @@ use Rattle.std.proofs.Common.{◌≡◌, ℕ, ◌<◌, ◌==◌, ◌&&◌, not, 
 use Rattle.std.specs.Result.{OnOk}
 use Rattle.std.proofs.lemmas.Bool.Decides.{nat_tests}
 use Rattle.usb_base.specs.declared.refusal.Refusal.{Refusal}
-use Rattle.usb_base.specs.declared.side.Side.TheVariants.{Client}
 use Rattle.bridge_run.specs.Events.{Event, ClientComes, ClientPiece, ClientQuiet, ClientEnd, HostPiece, HostEnd}
 use Rattle.bridge_run.specs.declared.serve_end.ServeEnd.{ServeEnd}
 use Rattle.bridge_run.specs.declared.serve_end.ServeEnd.TheVariants.{Ended, LinkFault, WriteFault, Idle, Spent, Memory}
@@ -11,7 +10,7 @@ use Rattle.bridge_run.specs.declared.kept.Kept.{Kept}
 use Rattle.bridge_run.specs.Prescribed.{Prescribed, drops, first_of}
 use Rattle.bridge_run.specs.Course.{Setting, Course, Next, Takes}
 use Rattle.bridge_run.specs.Calls.{Outcome, Goes, Stops, put, settle, ends_next, call, course_of}
-use Rattle.bridge_run.specs.Outside.{Outside}
+use Rattle.bridge_run.specs.Outside.{Outside, Written}
 use Rattle.bridge_run.specs.Serves.{Reaches}
 use Rattle.bridge_run.specs.inner.Keeping.{is_over, Settles}
 use Rattle.bridge_run.specs.inner.Follows.{Follows, Runs}
@@ -42,7 +41,7 @@ choice a b u v x y z p q = ap (λ (k : Bool). cond k x (cond b y z)) p ∙ ap (�
 over-is : (k : Kept) (c : Course) (b : Bool) → k.client_up ≡ c.client_up → k.host_up ≡ c.host_up → is_over k ≡ b → (not c.client_up && not c.host_up) ≡ b
 over-is k c b p q is = ap (λ (u : Bool). not u && not c.host_up) (sym p) ∙ ap (λ (u : Bool). not k.client_up && not u) (sym q) ∙ is
 
-pub settled : (result : Result (Unit {0}) ServeEnd) (stands : List Event → Type 0) (p : Prescribed) (idle : ℕ) (k : Kept) (w : Outside) (out : Option (List ℕ)) (from : Outcome) (now : Next) (b : Course) (next : Next) (c : Course)
+pub settled : (result : Result (Unit {0}) ServeEnd) (stands : List Event → Type 0) (p : Prescribed) (idle : ℕ) (k : Kept) (w : Outside) (out : Written) (from : Outcome) (now : Next) (b : Course) (next : Next) (c : Course)
     → Settles result k → Follows stands p k w out c → Reaches (record { served = p; idle = idle }) from (Goes now b) → call (record { served = p; idle = idle }) now b ≡ settle (record { served = p; idle = idle }) next c
     → Runs result stands (record { served = p; idle = idle }) k w out from next
 settled (Ok x) stands p idle k w out from now b next c is f r e =

@@ -5,6 +5,7 @@ use Rattle.gate_outside.specs.declared.turn.Turn.TheVariants.{Piece, Wait}
 use Rattle.bridge_run.specs.Events.{Event, ClientComes, ClientPiece, ClientQuiet, ClientEnd, HostPiece, HostEnd}
 use Rattle.bridge_run.specs.declared.serve_end.ServeEnd.TheVariants.{Ended}
 use Rattle.bridge_run.specs.Course.{Setting, Course, Making}
+use Rattle.bridge_run.specs.Recorded.{lines_of}
 use Rattle.bridge_run.specs.Calls.{Goes, Stops, calls}
 
 abbrev echo : List Event → List ℕ
@@ -33,7 +34,12 @@ start idle clients host = record {
   to_client = [];
   to_host = [];
   told = [];
+  recorded = [];
 }
+
+-- an event's lines are put behind those before it
+abbrev behind : List ℕ → Event → List ℕ
+behind lines e = lines ++ lines_of e []
 
 -- A host's three pieces and its end, and a client's one, behind which it waits once.
 toy-ended : calls (toy 5) 24 (Goes Making (start 5 ((Piece (7 ∷ []) ∷ Wait ∷ []) ∷ []) (Piece (1 ∷ []) ∷ Piece (2 ∷ []) ∷ Piece (3 ∷ []) ∷ [])))
@@ -50,5 +56,6 @@ toy-ended : calls (toy 5) 24 (Goes Making (start 5 ((Piece (7 ∷ []) ∷ Wait �
       to_client = 7 ∷ [];
       to_host = 9 ∷ [];
       told = [];
+      recorded = behind (behind (behind (behind (behind (behind (behind (behind [] ClientComes) (ClientPiece (7 ∷ []))) (HostPiece (1 ∷ []))) ClientQuiet) (HostPiece (2 ∷ []))) ClientEnd) (HostPiece (3 ∷ []))) HostEnd;
     })
 toy-ended = refl

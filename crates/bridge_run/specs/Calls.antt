@@ -9,6 +9,7 @@ use Rattle.gate_outside.specs.declared.turn.Polled.{Polled}
 use Rattle.gate_outside.specs.declared.turn.Polled.TheVariants.{Took, NotYet, Ended, Failed}
 use Rattle.gate_outside.specs.Turns.{pending, answer, given, after}
 use Rattle.bridge_run.specs.Events.{Event, ClientComes, ClientPiece, ClientQuiet, ClientEnd, HostPiece, HostEnd}
+use Rattle.bridge_run.specs.Recorded.{lines_of}
 use Rattle.bridge_run.specs.declared.serve_end.ServeEnd.{ServeEnd}
 use Rattle.bridge_run.specs.declared.serve_end.ServeEnd.TheVariants as end
 use Rattle.bridge_run.specs.Prescribed.{Prescribed, gained, refuses, drops, first_of}
@@ -25,8 +26,8 @@ room = 65536
 
 -- ---- an event
 
--- what it sends is written to each side whose link is up. Then a side that it refuses has its link closed, and a client
--- that it lets go. What that client had still to send is lost.
+-- its lines are recorded, and what it sends is written to each side whose link is up. Then a side that it refuses has
+-- its link closed, and a client that it lets go. What that client had still to send is lost.
 abbrev pub put : Prescribed → Event → Course → Course
 put p e c = let refused = gained p.refusals c.events e in record c {
   events = e ∷ c.events;
@@ -36,6 +37,7 @@ put p e c = let refused = gained p.refusals c.events e in record c {
   to_client = if c.client_up then c.to_client ++ gained p.to_client c.events e else c.to_client;
   to_host = if c.host_up then c.to_host ++ gained p.to_host c.events e else c.to_host;
   told = c.told ++ flat_map refusal_line refused;
+  recorded = c.recorded ++ lines_of e refused;
 }
 
 -- no client is there and the host is gone, or all bytes are taken that may be

@@ -29,6 +29,8 @@ pub record Course : Type 0 where
   pub to_client : List ℕ
   pub to_host : List ℕ
   pub told : List ℕ
+  -- what was written to the tape
+  pub recorded : List ℕ
 
 -- what is done next
 pub data Next : Type 0 where

@@ -1,6 +1,7 @@
 pub mod Events
 pub mod Prescribed
 pub mod Course
+pub mod Recorded
 pub mod Calls
 pub mod Outside
 pub mod Gate

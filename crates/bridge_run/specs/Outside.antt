@@ -1,10 +1,11 @@
 -- What is known of the doors, and what they tell.
-use Rattle.std.specs.Prelude.{◌≡◌, ◌⊎◌, ◌≤◌, ◌+◌, ◌-◌, ◌^◌, ℕ, min, Bool, true, false, List, ◌++◌, Option, Some}
+use Rattle.std.specs.Prelude.{◌≡◌, ◌⊎◌, ◌≤◌, ◌+◌, ◌-◌, ◌^◌, ℕ, min, Bool, true, false, List, ◌++◌, Option, Some, IfSome}
 use Rattle.usb_base.specs.declared.side.Side.{Side}
 use Rattle.usb_base.specs.declared.side.Side.TheVariants.{Client, Host}
 use Rattle.gate_outside.specs.declared.turn.Turn.{Turn}
 use Rattle.gate_outside.specs.Faults.{Rose}
 use Rattle.gate_outside.specs.Link.{Link, Door}
+use Rattle.session_tape.specs.Tapes.{Counts, OneFault}
 use Rattle.bridge_run.specs.declared.serve_end.ServeEnd.{ServeEnd}
 use Rattle.bridge_run.specs.declared.serve_end.ServeEnd.TheVariants.{Ended, LinkFault, WriteFault, Idle, Spent, Memory}
 use Rattle.bridge_run.specs.Course.{Course}
@@ -17,31 +18,51 @@ pub record Outside : Type 0 where
 abbrev pub outside : (Side → Link) → Door → Outside
 outside links door = record { client = links Client; host = links Host; door = door }
 
+-- the bytes of the sink, which takes the lines of refusals, and those of the tape, where they are told
+pub record Written : Type 0 where
+  pub told : Option (List ℕ)
+  pub tape : Option (List ℕ)
+
+abbrev pub written : Option (List ℕ) → Option (List ℕ) → Written
+written told tape = record { told = told; tape = tape }
+
 -- ---- causes, by the counts of faults
 
--- those of both sides and of the sink stand
-pub record NoFault (old new : Outside) (sink_old sink_new : ℕ) : Type 0 where
+-- those of the sink and of the tape
+pub record Faults : Type 0 where
+  pub sink : ℕ
+  pub tape : Counts
+
+abbrev pub faults : ℕ → Counts → Faults
+faults sink tape = record { sink = sink; tape = tape }
+
+-- one of them has one fault more, and the other stands
+abbrev pub OneRose : Faults → Faults → Type 0
+OneRose old new = (Rose old.sink new.sink × (new.tape ≡ old.tape)) ⊎ ((new.sink ≡ old.sink) × OneFault old.tape new.tape)
+
+-- those of both sides, of the sink and of the tape stand
+pub record NoFault (old new : Outside) (sink_old sink_new : Faults) : Type 0 where
   pub client : new.client.faults ≡ old.client.faults
   pub host : new.host.faults ≡ old.host.faults
   pub sink : sink_new ≡ sink_old
 
-pub record ClientFault (old new : Outside) (sink_old sink_new : ℕ) : Type 0 where
+pub record ClientFault (old new : Outside) (sink_old sink_new : Faults) : Type 0 where
   pub client : Rose old.client.faults new.client.faults
   pub host : new.host.faults ≡ old.host.faults
   pub sink : sink_new ≡ sink_old
 
-pub record HostFault (old new : Outside) (sink_old sink_new : ℕ) : Type 0 where
+pub record HostFault (old new : Outside) (sink_old sink_new : Faults) : Type 0 where
   pub client : new.client.faults ≡ old.client.faults
   pub host : Rose old.host.faults new.host.faults
   pub sink : sink_new ≡ sink_old
 
-pub record SinkFault (old new : Outside) (sink_old sink_new : ℕ) : Type 0 where
+pub record SinkFault (old new : Outside) (sink_old sink_new : Faults) : Type 0 where
   pub client : new.client.faults ≡ old.client.faults
   pub host : new.host.faults ≡ old.host.faults
-  pub sink : Rose sink_old sink_new
+  pub sink : OneRose sink_old sink_new
 
 -- each end has its cause: a fault comes with one more in its count, and no other count rises
-abbrev pub HasCause : ServeEnd → Outside → Outside → ℕ → ℕ → Type 0
+abbrev pub HasCause : ServeEnd → Outside → Outside → Faults → Faults → Type 0
 HasCause (LinkFault Client) old new sink_old sink_new = ClientFault old new sink_old sink_new
 HasCause (LinkFault Host) old new sink_old sink_new = HostFault old new sink_old sink_new
 HasCause WriteFault old new sink_old sink_new = SinkFault old new sink_old sink_new
@@ -82,12 +103,13 @@ pub record Shows (link : Link) (up : Bool) (turns : List Turn) (written : List �
   pub turns-is : link.turns ≡ Some turns
   pub written-is : link.written ≡ Some written
 
--- the doors and the sink tell that this is their course
-pub record Tells (w : Outside) (out : Option (List ℕ)) (c : Course) : Type 0 where
+-- the doors and the sink tell that this is their course, and so does the tape, where it tells its bytes
+pub record Tells (w : Outside) (out : Written) (c : Course) : Type 0 where
   pub client : Shows w.client c.client_up c.client c.to_client
   pub host : Shows w.host c.host_up c.host c.to_host
   pub clients : w.door.to_come ≡ Some c.clients
-  pub told : out ≡ Some c.told
+  pub told : out.told ≡ Some c.told
+  pub tape : IfSome out.tape (λ held. held ≡ c.recorded)
 
 -- at least the first bytes are written, and at most the last
 pub record IsBetween (least : List ℕ) (known : Option (List ℕ)) (most : List ℕ) : Type 0 where
@@ -100,11 +122,23 @@ pub record IsBetween (least : List ℕ) (known : Option (List ℕ)) (most : List
 abbrev pub IsOneOf : {X : Type 0} → X → Option X → X → Type 0
 IsOneOf before known behind = (known ≡ Some before) ⊎ (known ≡ Some behind)
 
--- a call that the first course makes and that leads to the second was cut: what it writes is written in part
-pub record Cut (w : Outside) (out : Option (List ℕ)) (before behind : Course) : Type 0 where
+-- of what a call records a front is there, and nothing that it writes
+pub record IsRecordedInPart (w : Outside) (out : Written) (before behind : Course) (held : List ℕ) : Type 0 where
+  pub more : List ℕ
+  pub lost : List ℕ
+  pub held-is : held ≡ before.recorded ++ more
+  pub all-is : behind.recorded ≡ before.recorded ++ more ++ lost
+  pub to_client : w.client.written ≡ Some before.to_client
+  pub to_host : w.host.written ≡ Some before.to_host
+  pub told : out.told ≡ Some before.told
+
+-- a call that the first course makes and that leads to the second was cut: what it writes is written in part, and not
+-- before all of it is recorded
+pub record Cut (w : Outside) (out : Written) (before behind : Course) : Type 0 where
   pub client : IsOneOf before.client w.client.turns behind.client
   pub host : IsOneOf before.host w.host.turns behind.host
   pub clients : IsOneOf before.clients w.door.to_come behind.clients
   pub to_client : IsBetween before.to_client w.client.written behind.to_client
   pub to_host : IsBetween before.to_host w.host.written behind.to_host
-  pub told : IsBetween before.told out behind.told
+  pub told : IsBetween before.told out.told behind.told
+  pub tape : IfSome out.tape (λ held. (held ≡ behind.recorded) ⊎ IsRecordedInPart w out before behind held)

@@ -1,10 +1,11 @@
 //! A modelled device between sockets: the guest comes to a door.
 
-ghost use Rattle.std.specs.Prelude.{◌≡◌, ◌≤◌, false};
+ghost use Rattle.std.specs.Prelude.{◌≡◌, ◌≤◌, false, None};
 ghost use Rattle.usb_base.specs.declared.side.Side.TheVariants.{Client, Host};
+ghost use Rattle.session_tape.specs.Tapes.{counts};
 ghost use Rattle.bridge_run.specs.Course.{Course, AtDoor};
 ghost use Rattle.bridge_run.specs.Calls.{Goes};
-ghost use Rattle.bridge_run.specs.Outside.{outside, Tells, HasCause, HasReason};
+ghost use Rattle.bridge_run.specs.Outside.{outside, written, faults, Tells, HasCause, HasReason};
 ghost use Rattle.bridge_run.specs.Lent.{lent_sends};
 ghost use Rattle.bridge_run.specs.Serves.{Begins, Leaves};
 
@@ -15,6 +16,7 @@ use crate::serving::ROOM;
 use crate::session::Session;
 use gate_outside::{Doors, Side, Sink};
 use model_device::Gadget;
+use session_tape::NoTape;
 use std::alloc::Global;
 
 /// Makes a door, lends the device to the guest that comes to it, and goes in rounds. A round asks for the guest, where
@@ -38,10 +40,10 @@ pub fn serve_host<G: Gadget, D: Doors, K: Sink>(
     requires idle { 1 ≤ idle }
     requires budget { 1 ≤ budget }
     // Over doors and a sink that tell.
-    ensures leaves { (c : Course) → Begins idle budget c → Tells (outside (D.link doors.old) (D.door doors.old)) (K.contents out.old) c
-        → Leaves result (record { served = lent_sends G.meaning gadget; idle = idle }) (Goes AtDoor c) (outside (D.link doors.new) (D.door doors.new)) (K.contents out.new) }
+    ensures leaves { (c : Course) → Begins idle budget c → Tells (outside (D.link doors.old) (D.door doors.old)) (written (K.contents out.old) None) c
+        → Leaves result (record { served = lent_sends G.meaning gadget; idle = idle }) (Goes AtDoor c) (outside (D.link doors.new) (D.door doors.new)) (written (K.contents out.new) None) }
     // Over any doors.
-    ensures cause { HasCause result (outside (D.link doors.old) (D.door doors.old)) (outside (D.link doors.new) (D.door doors.new)) (K.faults out.old) (K.faults out.new) }
+    ensures cause { HasCause result (outside (D.link doors.old) (D.door doors.old)) (outside (D.link doors.new) (D.door doors.new)) (faults (K.faults out.old) (counts 0 0)) (faults (K.faults out.new) (counts 0 0)) }
     ensures reason { HasReason result idle (outside (D.link doors.old) (D.door doors.old)) (outside (D.link doors.new) (D.door doors.new)) }
 {
     let core = match Lent::make(alloc, gadget) {
@@ -56,5 +58,5 @@ pub fn serve_host<G: Gadget, D: Doors, K: Sink>(
         return ServeEnd::LinkFault(Side::Client);
     }
     let mut session = Session::new(alloc, core, Kept::new(false, idle, budget));
-    session.run(&mut buf, doors, out)
+    session.run(&mut buf, doors, out, &mut NoTape)
 }

@@ -9,6 +9,7 @@ mod kept;
 mod lending;
 mod lent;
 mod link;
+mod recording;
 mod sent;
 mod serve_end;
 mod served;

@@ -1,11 +1,11 @@
 //! The gateway between a host that is dialled and clients that come to a door.
 
-ghost use Rattle.std.specs.Prelude.{◌≡◌, ◌≤◌, [], ℕ, List, Option, false, true, OnOk, IfErr};
+ghost use Rattle.std.specs.Prelude.{◌≡◌, ◌≤◌, [], false, true, OnOk, IfErr};
 ghost use Rattle.usb_base.specs.declared.side.Side.TheVariants.{Client, Host};
 ghost use Rattle.bridge_run.specs.Prescribed.{Prescribed};
 ghost use Rattle.bridge_run.specs.Course.{Course, Making};
 ghost use Rattle.bridge_run.specs.Calls.{Goes};
-ghost use Rattle.bridge_run.specs.Outside.{outside, Tells, HasCause, HasReason};
+ghost use Rattle.bridge_run.specs.Outside.{Written, Faults, outside, written, faults, Tells, HasCause, HasReason};
 ghost use Rattle.bridge_run.specs.Gate.{gate_sends};
 ghost use Rattle.bridge_run.specs.Serves.{Begins, Leaves};
 ghost use Rattle.bridge_run.specs.inner.Follows.{HasFaults, IsCutEnd, IsOpen, Opens};
@@ -19,6 +19,7 @@ use crate::serve_end::ServeEnd;
 use crate::session::Session;
 use gate_core::Gate;
 use gate_outside::{Doors, Side, Sink};
+use session_tape::Tape;
 use std::alloc::Global;
 use usb_base::Bytes;
 
@@ -27,12 +28,12 @@ pub const ROOM: usize = 65_536;
 
 /// Dials the host, makes the clients' door, and goes in rounds. A round asks for a client where none is there, and
 /// polls the client and then the host, whose link is up. What comes is an event of a gate that draws its ids from
-/// `first_id` on. What an event sends is written to the client and then to the host, where that link is up. Then a
+/// `first_id` on. Its line is written to the tape, where that is made, and a comment for each refusal. What an event sends is written to the client and then to the host, where that link is up. Then a
 /// side that it refuses has its link closed, and its line is written to `out`; and where `after_loss` says so, a
 /// client whose imported device it loses has its link closed, too. The end of a client whose link is closed so comes
 /// next. It ends after `idle` rounds in a row that bring nothing, and once `budget` bytes have come, where each
 /// client counts as one. The first call that fails is the last.
-pub fn serve<D: Doors, K: Sink>(
+pub fn serve<D: Doors, K: Sink, T: Tape>(
     alloc: Global,
     host: &str,
     listen: &str,
@@ -42,17 +43,18 @@ pub fn serve<D: Doors, K: Sink>(
     after_loss: AfterLoss,
     doors: &mut D,
     out: &mut K,
+    tape: &mut T,
 ) -> ServeEnd
     requires client_down { (D.link doors.old Client).up ≡ false }
     requires host_down { (D.link doors.old Host).up ≡ false }
     requires idle { 1 ≤ idle }
     requires budget { 1 ≤ budget }
     requires first_id { (1 ≤ first_id) × (first_id ≤ 4294967295) }
-    // Over doors and a sink that tell.
-    ensures leaves { (c : Course) → Begins idle budget c → Tells (outside (D.link doors.old) (D.door doors.old)) (K.contents out.old) c
-        → Leaves result (record { served = gate_sends after_loss first_id; idle = idle }) (Goes Making c) (outside (D.link doors.new) (D.door doors.new)) (K.contents out.new) }
+    // Over doors and a sink that tell, and a tape that may.
+    ensures leaves { (c : Course) → Begins idle budget c → Tells (outside (D.link doors.old) (D.door doors.old)) (written (K.contents out.old) (T.contents tape.old)) c
+        → Leaves result (record { served = gate_sends after_loss first_id; idle = idle }) (Goes Making c) (outside (D.link doors.new) (D.door doors.new)) (written (K.contents out.new) (T.contents tape.new)) }
     // Over any doors.
-    ensures cause { HasCause result (outside (D.link doors.old) (D.door doors.old)) (outside (D.link doors.new) (D.door doors.new)) (K.faults out.old) (K.faults out.new) }
+    ensures cause { HasCause result (outside (D.link doors.old) (D.door doors.old)) (outside (D.link doors.new) (D.door doors.new)) (faults (K.faults out.old) (T.counts tape.old)) (faults (K.faults out.new) (T.counts tape.new)) }
     ensures reason { HasReason result idle (outside (D.link doors.old) (D.door doors.old)) (outside (D.link doors.new) (D.door doors.new)) }
 {
     let mut hello = Bytes::new(alloc);
@@ -72,16 +74,16 @@ pub fn serve<D: Doors, K: Sink>(
         after_loss,
     };
     let mut session = Session::new(alloc, gateway, Kept::new(true, idle, budget));
-    session.run(&mut buf, doors, out)
+    session.run(&mut buf, doors, out, tape)
 }
 
 /// Dials the host, makes the clients' door, and writes the hello.
 fn open<D: Doors>(host: &str, listen: &str, hello: &[u8], doors: &mut D) -> Result<(), ServeEnd>
     requires client_down { (D.link doors.old Client).up ≡ false }
     requires host_down { (D.link doors.old Host).up ≡ false }
-    ensures course { (p : Prescribed) (c : Course) (out : Option (List ℕ)) → hello.now ≡ p.to_host [] → c.client_up ≡ false → Tells (outside (D.link doors.old) (D.door doors.old)) out c
+    ensures course { (p : Prescribed) (c : Course) (out : Written) → hello.now ≡ p.to_host [] → c.client_up ≡ false → Tells (outside (D.link doors.old) (D.door doors.old)) out c
         → Opens result p (outside (D.link doors.new) (D.door doors.new)) out c }
-    ensures faults { (sink : ℕ) → HasFaults result (outside (D.link doors.old) (D.door doors.old)) (outside (D.link doors.new) (D.door doors.new)) sink sink }
+    ensures faults { (sink : Faults) → HasFaults result (outside (D.link doors.old) (D.door doors.old)) (outside (D.link doors.new) (D.door doors.new)) sink sink }
     ensures cut { IfErr result IsCutEnd }
     ensures idles { OnOk result (NotIdle (outside (D.link doors.old) (D.door doors.old)) (outside (D.link doors.new) (D.door doors.new))) }
     ensures opened { OnOk result (IsOpen (outside (D.link doors.new) (D.door doors.new))) }

@@ -5,7 +5,7 @@ ghost use Rattle.bridge_run.specs.Events.{Event as PastEvent, event_of, is_quiet
 ghost use Rattle.bridge_run.specs.Course.{Course, Next};
 ghost use Rattle.bridge_run.specs.Course.{AtDoor, AtClient, Takes};
 ghost use Rattle.bridge_run.specs.Calls.{Goes, ends_next as has_end_next, piece as piece_of, end_of as past_end_of, quiet};
-ghost use Rattle.bridge_run.specs.Outside.{outside};
+ghost use Rattle.bridge_run.specs.Outside.{outside, written, faults};
 ghost use Rattle.bridge_run.specs.Serves.{Leaves};
 ghost use Rattle.bridge_run.specs.inner.Keeping.{Agrees, Wears, IsLive, rounds_of, up_of};
 ghost use Rattle.bridge_run.specs.inner.Follows.{Prepared, Follows, HasFaults, IsCutEnd, Puts, setting, Runs, polls, behind};
@@ -17,10 +17,12 @@ ghost use Rattle.gate_outside.specs.Link.{other};
 use crate::event::Event;
 use crate::kept::Kept;
 use crate::link::{close_link, write_link};
+use crate::recording::record_event;
 use crate::sent::Sent;
 use crate::serve_end::ServeEnd;
 use crate::served::Served;
 use gate_outside::{Doors, Polled, Side, Sink, write_all};
+use session_tape::Tape;
 use std::alloc::Global;
 use usb_base::{Bytes, Memory};
 
@@ -33,6 +35,8 @@ pub struct Session<C> {
     /// What the event at hand sends, and the lines that tell its refusals.
     sent: Sent,
     lines: Bytes,
+    /// Its lines on the tape.
+    entry: Bytes,
 }
 
 impl<C: Served + Drop> Session<C> {
@@ -47,6 +51,7 @@ impl<C: Served + Drop> Session<C> {
             kept,
             sent: Sent::new(alloc),
             lines: Bytes::new(alloc),
+            entry: Bytes::new(alloc),
         }
     }
 
@@ -64,19 +69,20 @@ impl<C: Served + Drop> Session<C> {
         self.sent.lines(self.alloc, &mut self.lines)
     }
 
-    /// Takes one event: what it sends is written to each side whose link is up, then a side that it refuses has
-    /// its link closed, or a client that it lets go, and the lines of refusals are written. Says whether the client's
-    /// link was closed.
-    fn put<D: Doors, K: Sink>(
+    /// Takes one event: its lines are recorded, what it sends is written to each side whose link is up, then a side that
+    /// it refuses has its link closed, or a client that it lets go, and the lines of refusals are written. Says whether
+    /// the client's link was closed.
+    fn put<D: Doors, K: Sink, T: Tape>(
         &mut self,
         event: Event,
         doors: &mut D,
         out: &mut K,
+        tape: &mut T,
     ) -> Result<bool, ServeEnd>
         requires { Agrees self.old.kept (outside (D.link doors.old) (D.door doors.old)) }
-        ensures course { (first : C.First) (c : Course) → Follows (C.stands first self.old.core) (C.sends first) self.old.kept (outside (D.link doors.old) (D.door doors.old)) (K.contents out.old) c
-            → Puts result (C.stands first self.new.core) (C.sends first) (event_of event.entry) self.new.kept (outside (D.link doors.new) (D.door doors.new)) (K.contents out.new) c }
-        ensures faults { HasFaults result (outside (D.link doors.old) (D.door doors.old)) (outside (D.link doors.new) (D.door doors.new)) (K.faults out.old) (K.faults out.new) }
+        ensures course { (first : C.First) (c : Course) → Follows (C.stands first self.old.core) (C.sends first) self.old.kept (outside (D.link doors.old) (D.door doors.old)) (written (K.contents out.old) (T.contents tape.old)) c
+            → Puts result (C.stands first self.new.core) (C.sends first) (event_of event.entry) self.new.kept (outside (D.link doors.new) (D.door doors.new)) (written (K.contents out.new) (T.contents tape.new)) c }
+        ensures faults { HasFaults result (outside (D.link doors.old) (D.door doors.old)) (outside (D.link doors.new) (D.door doors.new)) (faults (K.faults out.old) (T.counts tape.old)) (faults (K.faults out.new) (T.counts tape.new)) }
         ensures cut { IfErr result IsCutEnd }
         ensures agrees { OnOk result (Agrees self.new.kept (outside (D.link doors.new) (D.door doors.new))) }
         ensures wears { Wears self.old.kept self.new.kept }
@@ -85,6 +91,7 @@ impl<C: Served + Drop> Session<C> {
         ensures idles { OnOk result (NotIdle (outside (D.link doors.old) (D.door doors.old)) (outside (D.link doors.new) (D.door doors.new))) }
     {
         self.prepare(event)?;
+        record_event(self.alloc, event, &self.sent, &mut self.entry, tape)?;
         let Kept {
             client_up,
             host_up,
@@ -108,16 +115,17 @@ impl<C: Served + Drop> Session<C> {
     }
 
     /// Takes an event, and behind it the end of a client that it refuses or lets go.
-    fn happen<D: Doors, K: Sink>(
+    fn happen<D: Doors, K: Sink, T: Tape>(
         &mut self,
         event: Event,
         doors: &mut D,
         out: &mut K,
+        tape: &mut T,
     ) -> Result<(), ServeEnd>
         requires { Agrees self.old.kept (outside (D.link doors.old) (D.door doors.old)) }
-        ensures course { (first : C.First) (next : Next) (c : Course) → Follows (C.stands first self.old.core) (C.sends first) self.old.kept (outside (D.link doors.old) (D.door doors.old)) (K.contents out.old) c
-            → Runs result (C.stands first self.new.core) (setting (C.sends first) self.old.kept) self.new.kept (outside (D.link doors.new) (D.door doors.new)) (K.contents out.new) (Goes (Takes (event_of event.entry) next) c) next }
-        ensures faults { HasFaults result (outside (D.link doors.old) (D.door doors.old)) (outside (D.link doors.new) (D.door doors.new)) (K.faults out.old) (K.faults out.new) }
+        ensures course { (first : C.First) (next : Next) (c : Course) → Follows (C.stands first self.old.core) (C.sends first) self.old.kept (outside (D.link doors.old) (D.door doors.old)) (written (K.contents out.old) (T.contents tape.old)) c
+            → Runs result (C.stands first self.new.core) (setting (C.sends first) self.old.kept) self.new.kept (outside (D.link doors.new) (D.door doors.new)) (written (K.contents out.new) (T.contents tape.new)) (Goes (Takes (event_of event.entry) next) c) next }
+        ensures faults { HasFaults result (outside (D.link doors.old) (D.door doors.old)) (outside (D.link doors.new) (D.door doors.new)) (faults (K.faults out.old) (T.counts tape.old)) (faults (K.faults out.new) (T.counts tape.new)) }
         ensures agrees { OnOk result (Agrees self.new.kept (outside (D.link doors.new) (D.door doors.new))) }
         ensures wears { Wears self.old.kept self.new.kept }
         ensures left { OnOk result (0 < self.new.kept.left) }
@@ -125,21 +133,26 @@ impl<C: Served + Drop> Session<C> {
         ensures idles { OnOk result (NotIdle (outside (D.link doors.old) (D.door doors.old)) (outside (D.link doors.new) (D.door doors.new))) }
         ensures within { EndsWithin result (outside (D.link doors.new) (D.door doors.new)) }
     {
-        let dropped = self.put(event, doors, out)?;
+        let dropped = self.put(event, doors, out, tape)?;
         if !ends_next(event, dropped) {
             return self.kept.settle();
         }
-        self.put(Event::ClientEnd, doors, out)?;
+        self.put(Event::ClientEnd, doors, out, tape)?;
         self.kept.settle()
     }
 
     /// Asks for a client, where none is there.
-    fn ask_door<D: Doors, K: Sink>(&mut self, doors: &mut D, out: &mut K) -> Result<(), ServeEnd>
+    fn ask_door<D: Doors, K: Sink, T: Tape>(
+        &mut self,
+        doors: &mut D,
+        out: &mut K,
+        tape: &mut T,
+    ) -> Result<(), ServeEnd>
         requires agrees { Agrees self.old.kept (outside (D.link doors.old) (D.door doors.old)) }
         requires left { 0 < self.old.kept.left }
-        ensures course { (first : C.First) (c : Course) → Follows (C.stands first self.old.core) (C.sends first) self.old.kept (outside (D.link doors.old) (D.door doors.old)) (K.contents out.old) c
-            → Runs result (C.stands first self.new.core) (setting (C.sends first) self.old.kept) self.new.kept (outside (D.link doors.new) (D.door doors.new)) (K.contents out.new) (Goes AtDoor c) AtClient }
-        ensures faults { HasFaults result (outside (D.link doors.old) (D.door doors.old)) (outside (D.link doors.new) (D.door doors.new)) (K.faults out.old) (K.faults out.new) }
+        ensures course { (first : C.First) (c : Course) → Follows (C.stands first self.old.core) (C.sends first) self.old.kept (outside (D.link doors.old) (D.door doors.old)) (written (K.contents out.old) (T.contents tape.old)) c
+            → Runs result (C.stands first self.new.core) (setting (C.sends first) self.old.kept) self.new.kept (outside (D.link doors.new) (D.door doors.new)) (written (K.contents out.new) (T.contents tape.new)) (Goes AtDoor c) AtClient }
+        ensures faults { HasFaults result (outside (D.link doors.old) (D.door doors.old)) (outside (D.link doors.new) (D.door doors.new)) (faults (K.faults out.old) (T.counts tape.old)) (faults (K.faults out.new) (T.counts tape.new)) }
         ensures agrees { OnOk result (Agrees self.new.kept (outside (D.link doors.new) (D.door doors.new))) }
         ensures wears { Wears self.old.kept self.new.kept }
         ensures left { OnOk result (0 < self.new.kept.left) }
@@ -153,7 +166,7 @@ impl<C: Served + Drop> Session<C> {
         match doors.accept() {
             Ok(true) => {
                 self.kept.come();
-                self.happen(Event::ClientComes, doors, out)
+                self.happen(Event::ClientComes, doors, out, tape)
             }
             Ok(false) => Ok(()),
             Err(_) => Err(ServeEnd::LinkFault(Side::Client)),
@@ -161,17 +174,18 @@ impl<C: Served + Drop> Session<C> {
     }
 
     /// The side had nothing, which is an event where it is the client.
-    fn be_quiet<D: Doors, K: Sink>(
+    fn be_quiet<D: Doors, K: Sink, T: Tape>(
         &mut self,
         side: Side,
         doors: &mut D,
         out: &mut K,
+        tape: &mut T,
     ) -> Result<(), ServeEnd>
         requires agrees { Agrees self.old.kept (outside (D.link doors.old) (D.door doors.old)) }
         requires left { 0 < self.old.kept.left }
-        ensures course { (first : C.First) (next : Next) (c : Course) → Follows (C.stands first self.old.core) (C.sends first) self.old.kept (outside (D.link doors.old) (D.door doors.old)) (K.contents out.old) c
-            → Runs result (C.stands first self.new.core) (setting (C.sends first) self.old.kept) self.new.kept (outside (D.link doors.new) (D.door doors.new)) (K.contents out.new) (Goes (quiet side next) c) next }
-        ensures faults { HasFaults result (outside (D.link doors.old) (D.door doors.old)) (outside (D.link doors.new) (D.door doors.new)) (K.faults out.old) (K.faults out.new) }
+        ensures course { (first : C.First) (next : Next) (c : Course) → Follows (C.stands first self.old.core) (C.sends first) self.old.kept (outside (D.link doors.old) (D.door doors.old)) (written (K.contents out.old) (T.contents tape.old)) c
+            → Runs result (C.stands first self.new.core) (setting (C.sends first) self.old.kept) self.new.kept (outside (D.link doors.new) (D.door doors.new)) (written (K.contents out.new) (T.contents tape.new)) (Goes (quiet side next) c) next }
+        ensures faults { HasFaults result (outside (D.link doors.old) (D.door doors.old)) (outside (D.link doors.new) (D.door doors.new)) (faults (K.faults out.old) (T.counts tape.old)) (faults (K.faults out.new) (T.counts tape.new)) }
         ensures agrees { OnOk result (Agrees self.new.kept (outside (D.link doors.new) (D.door doors.new))) }
         ensures wears { Wears self.old.kept self.new.kept }
         ensures kept { OnOk result (self.new.kept ≡ self.old.kept) }
@@ -179,25 +193,26 @@ impl<C: Served + Drop> Session<C> {
         ensures within { EndsWithin result (outside (D.link doors.new) (D.door doors.new)) }
     {
         match side {
-            Side::Client => self.happen(Event::ClientQuiet, doors, out),
+            Side::Client => self.happen(Event::ClientQuiet, doors, out, tape),
             Side::Host => Ok(()),
         }
     }
 
     /// Polls the side, where its link is up.
-    fn ask<D: Doors, K: Sink>(
+    fn ask<D: Doors, K: Sink, T: Tape>(
         &mut self,
         side: Side,
         buf: &mut [u8],
         doors: &mut D,
         out: &mut K,
+        tape: &mut T,
     ) -> Result<(), ServeEnd>
         requires agrees { Agrees self.old.kept (outside (D.link doors.old) (D.door doors.old)) }
         requires left { 0 < self.old.kept.left }
         requires room { length buf.old ≡ 65536 }
-        ensures course { (first : C.First) (c : Course) → Follows (C.stands first self.old.core) (C.sends first) self.old.kept (outside (D.link doors.old) (D.door doors.old)) (K.contents out.old) c
-            → Runs result (C.stands first self.new.core) (setting (C.sends first) self.old.kept) self.new.kept (outside (D.link doors.new) (D.door doors.new)) (K.contents out.new) (Goes (polls side) c) (behind side) }
-        ensures faults { HasFaults result (outside (D.link doors.old) (D.door doors.old)) (outside (D.link doors.new) (D.door doors.new)) (K.faults out.old) (K.faults out.new) }
+        ensures course { (first : C.First) (c : Course) → Follows (C.stands first self.old.core) (C.sends first) self.old.kept (outside (D.link doors.old) (D.door doors.old)) (written (K.contents out.old) (T.contents tape.old)) c
+            → Runs result (C.stands first self.new.core) (setting (C.sends first) self.old.kept) self.new.kept (outside (D.link doors.new) (D.door doors.new)) (written (K.contents out.new) (T.contents tape.new)) (Goes (polls side) c) (behind side) }
+        ensures faults { HasFaults result (outside (D.link doors.old) (D.door doors.old)) (outside (D.link doors.new) (D.door doors.new)) (faults (K.faults out.old) (T.counts tape.old)) (faults (K.faults out.new) (T.counts tape.new)) }
         ensures agrees { OnOk result (Agrees self.new.kept (outside (D.link doors.new) (D.door doors.new))) }
         ensures wears { Wears self.old.kept self.new.kept }
         ensures left { OnOk result (0 < self.new.kept.left) }
@@ -211,55 +226,62 @@ impl<C: Served + Drop> Session<C> {
         match doors.poll(side, buf) {
             Polled::Took(n) => {
                 self.kept.take(n);
-                self.happen(piece(side, &buf[..n]), doors, out)
+                self.happen(piece(side, &buf[..n]), doors, out, tape)
             }
-            Polled::NotYet => self.be_quiet(side, doors, out),
+            Polled::NotYet => self.be_quiet(side, doors, out, tape),
             Polled::Ended => {
                 self.kept.end(side);
-                self.happen(end_of(side), doors, out)
+                self.happen(end_of(side), doors, out, tape)
             }
             Polled::Failed => Err(ServeEnd::LinkFault(side)),
         }
     }
 
     /// One round.
-    fn round<D: Doors, K: Sink>(
+    fn round<D: Doors, K: Sink, T: Tape>(
         &mut self,
         buf: &mut [u8],
         doors: &mut D,
         out: &mut K,
+        tape: &mut T,
     ) -> Result<(), ServeEnd>
         requires agrees { Agrees self.old.kept (outside (D.link doors.old) (D.door doors.old)) }
         requires live { IsLive self.old.kept }
         requires room { length buf.old ≡ 65536 }
-        ensures course { (first : C.First) (c : Course) → Follows (C.stands first self.old.core) (C.sends first) self.old.kept (outside (D.link doors.old) (D.door doors.old)) (K.contents out.old) c
-            → Runs result (C.stands first self.new.core) (setting (C.sends first) self.old.kept) self.new.kept (outside (D.link doors.new) (D.door doors.new)) (K.contents out.new) (Goes AtDoor c) AtDoor }
-        ensures faults { HasFaults result (outside (D.link doors.old) (D.door doors.old)) (outside (D.link doors.new) (D.door doors.new)) (K.faults out.old) (K.faults out.new) }
+        ensures course { (first : C.First) (c : Course) → Follows (C.stands first self.old.core) (C.sends first) self.old.kept (outside (D.link doors.old) (D.door doors.old)) (written (K.contents out.old) (T.contents tape.old)) c
+            → Runs result (C.stands first self.new.core) (setting (C.sends first) self.old.kept) self.new.kept (outside (D.link doors.new) (D.door doors.new)) (written (K.contents out.new) (T.contents tape.new)) (Goes AtDoor c) AtDoor }
+        ensures faults { HasFaults result (outside (D.link doors.old) (D.door doors.old)) (outside (D.link doors.new) (D.door doors.new)) (faults (K.faults out.old) (T.counts tape.old)) (faults (K.faults out.new) (T.counts tape.new)) }
         ensures agrees { OnOk result (Agrees self.new.kept (outside (D.link doors.new) (D.door doors.new))) }
         ensures live { OnOk result (IsLive self.new.kept) }
         ensures idle { OnOk result (self.new.kept.idle ≡ self.old.kept.idle) }
         ensures idles { RoundIdles result self.old.kept self.new.kept (outside (D.link doors.old) (D.door doors.old)) (outside (D.link doors.new) (D.door doors.new)) }
         ensures fewer { OnOk result (rounds_of self.new.kept < rounds_of self.old.kept) }
     {
-        self.ask_door(doors, out)?;
-        self.ask(Side::Client, buf, doors, out)?;
-        self.ask(Side::Host, buf, doors, out)?;
+        self.ask_door(doors, out, tape)?;
+        self.ask(Side::Client, buf, doors, out, tape)?;
+        self.ask(Side::Host, buf, doors, out, tape)?;
         self.kept.rest()
     }
 
     /// Rounds, one after another, to the end.
-    pub fn run<D: Doors, K: Sink>(&mut self, buf: &mut [u8], doors: &mut D, out: &mut K) -> ServeEnd
+    pub fn run<D: Doors, K: Sink, T: Tape>(
+        &mut self,
+        buf: &mut [u8],
+        doors: &mut D,
+        out: &mut K,
+        tape: &mut T,
+    ) -> ServeEnd
         requires agrees { Agrees self.old.kept (outside (D.link doors.old) (D.door doors.old)) }
         requires live { IsLive self.old.kept }
         requires room { length buf.old ≡ 65536 }
         requires fresh { self.old.kept.waits ≡ self.old.kept.idle }
-        ensures course { (first : C.First) (c : Course) → Follows (C.stands first self.old.core) (C.sends first) self.old.kept (outside (D.link doors.old) (D.door doors.old)) (K.contents out.old) c
-            → Leaves result (setting (C.sends first) self.old.kept) (Goes AtDoor c) (outside (D.link doors.new) (D.door doors.new)) (K.contents out.new) }
-        ensures cause { HasCause result (outside (D.link doors.old) (D.door doors.old)) (outside (D.link doors.new) (D.door doors.new)) (K.faults out.old) (K.faults out.new) }
+        ensures course { (first : C.First) (c : Course) → Follows (C.stands first self.old.core) (C.sends first) self.old.kept (outside (D.link doors.old) (D.door doors.old)) (written (K.contents out.old) (T.contents tape.old)) c
+            → Leaves result (setting (C.sends first) self.old.kept) (Goes AtDoor c) (outside (D.link doors.new) (D.door doors.new)) (written (K.contents out.new) (T.contents tape.new)) }
+        ensures cause { HasCause result (outside (D.link doors.old) (D.door doors.old)) (outside (D.link doors.new) (D.door doors.new)) (faults (K.faults out.old) (T.counts tape.old)) (faults (K.faults out.new) (T.counts tape.new)) }
         ensures reason { HasReason result self.old.kept.idle (outside (D.link doors.old) (D.door doors.old)) (outside (D.link doors.new) (D.door doors.new)) }
     {
         'rounds: loop {
-            if let Err(end) = self.round(buf, doors, out) {
+            if let Err(end) = self.round(buf, doors, out, tape) {
                 return end;
             }
         }

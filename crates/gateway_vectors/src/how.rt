@@ -21,6 +21,8 @@ pub struct How {
     pub client_fails: Option<u64>,
     /// How many bytes and links may come, where no words say it.
     pub budget: Option<u64>,
+    /// Some of what the session sends finds no link.
+    pub unsent: Option<u64>,
     /// Whether each mark is one of these.
     pub is_known: bool,
 }
@@ -37,6 +39,7 @@ const PLAIN: How = How {
     host_fails: None,
     client_fails: None,
     budget: None,
+    unsent: None,
     is_known: true,
 };
 
@@ -73,6 +76,7 @@ impl How {
             "host-fails" => self.host_fails = Some(call),
             "client-fails" => self.client_fails = Some(call),
             "budget" => self.budget = Some(call),
+            "unsent" => self.unsent = Some(call),
             _ => self.is_known = false,
         }
     }

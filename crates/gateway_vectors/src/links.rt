@@ -5,6 +5,7 @@ use crate::runs::Came;
 use crate::scripts::{script_of, scripts_of};
 use crate::spend::spend;
 use gate_outside::{Script, ScriptDoors, Scripts, Side, TextSink, TextSource};
+use session_tape::{TextTape, Unmade};
 use std::alloc::Global;
 use usb_base::Memory;
 use usbgate::{Status, run};
@@ -12,10 +13,23 @@ use usbgate::{Status, run};
 /// How many bytes can be written to each side.
 const ROOM: usize = 65_536;
 
-/// Runs the words between links that give what these lines say, over a tape that can't be read.
+/// Runs the words between links that give what these lines say, over a tape that can't be read, and that aren't
+/// recorded.
 pub fn ran_between(alloc: Global, words: &[&str], lines: &str, how: &How) -> Result<Came, Memory> {
+    let mut recording = TextTape::new(alloc, 0, Err(Unmade::Failed), &[])?;
+    ran_recorded(alloc, words, lines, how, &mut recording)
+}
+
+/// The same with a file to record in.
+pub fn ran_recorded(
+    alloc: Global,
+    words: &[&str],
+    lines: &str,
+    how: &How,
+    recording: &mut TextTape,
+) -> Result<Came, Memory> {
     let mut tape = TextSource::make(alloc, b"c 00\n", 9, &[0])?;
-    with_tape(alloc, words, lines, how, &mut tape)
+    with_tape(alloc, words, lines, how, &mut tape, recording)
 }
 
 fn with_tape(
@@ -24,10 +38,11 @@ fn with_tape(
     lines: &str,
     how: &How,
     tape: &mut TextSource,
+    recording: &mut TextTape,
 ) -> Result<Came, Memory> {
     let fails = how.write_fails;
     let mut out = TextSink::make(alloc, how.room, how.write_by.max(1), fails.as_slice())?;
-    with_out(alloc, words, lines, how, tape, &mut out)
+    with_out(alloc, words, lines, how, tape, &mut out, recording)
 }
 
 fn with_out(
@@ -37,10 +52,11 @@ fn with_out(
     how: &How,
     tape: &mut TextSource,
     out: &mut TextSink,
+    recording: &mut TextTape,
 ) -> Result<Came, Memory> {
     let host = script_of(alloc, lines, "h ")?;
     let clients = scripts_of(alloc, lines)?;
-    between(alloc, words, host, clients, how, tape, out)
+    between(alloc, words, host, clients, how, tape, out, recording)
 }
 
 fn between(
@@ -51,6 +67,7 @@ fn between(
     how: &How,
     tape: &mut TextSource,
     out: &mut TextSink,
+    recording: &mut TextTape,
 ) -> Result<Came, Memory> {
     let (host_fails, client_fails) = (how.host_fails, how.client_fails);
     let mut doors = ScriptDoors::make_many(
@@ -63,7 +80,7 @@ fn between(
     )?;
     let status = match how.budget {
         Some(budget) => spend(alloc, words, budget.max(1), &mut doors, out),
-        None => run(alloc, words, tape, out, &mut doors),
+        None => run(alloc, words, tape, out, &mut doors, recording),
     };
     left(alloc, status, &doors, out)
 }

@@ -7,6 +7,7 @@ mod how;
 mod lines;
 mod links;
 mod packets;
+mod recorded;
 mod row;
 mod runs;
 mod scripts;

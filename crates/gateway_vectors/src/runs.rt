@@ -3,7 +3,9 @@
 use crate::cut::cut_tape;
 use crate::how::How;
 use crate::links::ran_between;
+use crate::recorded::check_recording;
 use gate_outside::{NoDoors, TextSink, TextSource};
+use session_tape::NoTape;
 use std::alloc::Global;
 use usb_base::Memory;
 use usbgate::{Status, run};
@@ -19,9 +21,19 @@ pub struct Came {
 /// Runs the words: `serve` and `host` between links that give what the lines say, others over a tape of these lines.
 pub fn ran(alloc: Global, words: &[&str], lines: &str, how: &How) -> Result<Came, Memory> {
     match words {
-        ["serve" | "host", ..] => ran_between(alloc, words, lines, how),
+        ["serve", ..] => served(alloc, words, lines, how),
+        ["host", ..] => ran_between(alloc, words, lines, how),
         _ => ran_over(alloc, words, lines, how),
     }
+}
+
+/// Between links, and then once more, recorded, where nothing is printed that no link took.
+fn served(alloc: Global, words: &[&str], lines: &str, how: &How) -> Result<Came, Memory> {
+    let mut came = ran_between(alloc, words, lines, how)?;
+    if how.budget.is_none() && how.unsent.is_none() {
+        check_recording(alloc, words, lines, how, &mut came)?;
+    }
+    Ok(came)
 }
 
 fn ran_over(alloc: Global, words: &[&str], lines: &str, how: &How) -> Result<Came, Memory> {
@@ -48,7 +60,14 @@ fn over_source(
 ) -> Result<Came, Memory> {
     let fails = how.write_fails;
     let mut out = TextSink::make(alloc, how.room, how.write_by.max(1), fails.as_slice())?;
-    let status = run(alloc, words, source, &mut out, &mut NoDoors::new());
+    let status = run(
+        alloc,
+        words,
+        source,
+        &mut out,
+        &mut NoDoors::new(),
+        &mut NoTape,
+    );
     Ok(Came {
         text: String::from_utf8_lossy(alloc, out.held())?,
         is_joined: how.cut.is_some(),

@@ -6,6 +6,7 @@ ghost use Rattle.usb_base.specs.declared.side.Side.TheVariants.{Client, Host};
 use bridge_run::{AfterLoss, serve, serve_host};
 use gate_outside::{Doors, Sink};
 use model_device::Loopback;
+use session_tape::NoTape;
 use std::alloc::Global;
 use usbgate::Status;
 
@@ -40,7 +41,8 @@ fn serve_to_budget<D: Doors, K: Sink>(
     requires budget { 1 ≤ budget }
 {
     let keep = AfterLoss::Keep;
-    Status::from(serve(alloc, "a:1", "b:2", 5, budget, 1, keep, doors, out))
+    let tape = &mut NoTape;
+    Status::from(serve(alloc, "a:1", "b:2", 5, budget, 1, keep, doors, out, tape))
 }
 
 fn lend<D: Doors, K: Sink>(alloc: Global, budget: u64, doors: &mut D, out: &mut K) -> Status

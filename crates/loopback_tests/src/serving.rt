@@ -10,6 +10,7 @@ use crate::played::Played;
 use bridge_run::{AfterLoss, ServeEnd, serve};
 use gate_outside::{Doors, TextSink};
 use gate_sockets::TcpDoors;
+use session_tape::NoTape;
 use std::alloc::Global;
 use std::io;
 use std::net::{Net, TcpListener, TcpStream};
@@ -94,6 +95,7 @@ fn between<D: Doors + Drop, R: Net<Stream = TcpStream, Listener = TcpListener>>(
         after_loss,
         &mut played,
         &mut out,
+        &mut NoTape,
     );
     for _ in 0..LAST_LOOKS {
         played.peers.play();

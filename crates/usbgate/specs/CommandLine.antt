@@ -11,7 +11,7 @@ program = let a = new_app (codes "usbgate") in record a { top = record a.top { n
 
 abbrev pub command_line : App
 command_line =
-    with_rule (with_rule (with_rule (with_rule (with_rule (with_rule (with_rule (with_rule (with_rule program
+    with_rule (with_rule (with_rule (with_rule (with_rule (with_rule (with_rule (with_rule (with_rule (with_rule program
     (record (new_rule (codes "command")) { required = true }))
     (new_rule (codes "number")))
     (option_named (codes "device")))
@@ -20,7 +20,8 @@ command_line =
     (option_named (codes "listen")))
     (option_named (codes "idle")))
     (option_named (codes "first-id")))
-    (option_named (codes "after-loss"))
+    (option_named (codes "after-loss")))
+    (option_named (codes "record"))
 
 abbrev pub found_by : Kinds → List Row → Option (List Row)
 found_by [] rows = Some rows

@@ -11,6 +11,7 @@ pub mod Model
 pub mod Show
 pub mod Prescribed
 pub mod Run
+pub mod Recording
 pub mod Serves
 pub mod Code
 pub mod Interval

@@ -1,5 +1,5 @@
 -- What the gateway between sockets is asked.
-use Rattle.std.specs.Prelude.{ℕ, List}
+use Rattle.std.specs.Prelude.{ℕ, List, Option}
 use Rattle.bridge_run.specs.declared.after_loss.AfterLoss.{AfterLoss}
 
 pub record Asked : Type 0 where
@@ -11,3 +11,5 @@ pub record Asked : Type 0 where
   pub first_id : ℕ
   -- what becomes of a client whose device is lost
   pub after_loss : AfterLoss
+  -- the file that it is recorded in
+  pub recording : Option (List ℕ)

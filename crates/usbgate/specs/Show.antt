@@ -1,5 +1,5 @@
 -- The command `show`: a line for each packet of one side's stream, at its place. A wrong place has a line, too, which is
--- the side's last. A client's stream is split by itself.
+-- the last of its stream. Each client's stream is split by itself.
 use Rattle.std.specs.Prelude.{ℕ, ◌||◌, Bool, false, if◌then◌else◌, List, [], ◌∷◌, ◌++◌, length, drop, Option, Some, None, is_some}
 use Rattle.std.specs.List.{flat_map}
 use Rattle.usb_base.specs.declared.side.Side.{Side}
@@ -54,6 +54,10 @@ abbrev pub was_wrong : {S P : Type 0} → Shown S P → List Event → Bool
 was_wrong shown [] = false
 was_wrong shown (e ∷ events) = was_wrong shown events || is_some (stream_split shown (e ∷ events)).wrong
 
+-- the side's present stream has
+abbrev pub is_wrong : {S P : Type 0} → Shown S P → List Event → Bool
+is_wrong shown events = is_some (stream_split shown events).wrong
+
 -- the lines that the side's stream has with an event, and without it hasn't
 abbrev pub gained_lines : {S P : Type 0} → Shown S P → List Event → Event → List ℕ
 gained_lines shown events e = drop (length (split_text shown (stream_split shown events))) (split_text shown (stream_split shown (e ∷ events)))
@@ -61,7 +65,7 @@ gained_lines shown events e = drop (length (split_text shown (stream_split shown
 abbrev pub show_side : {S P : Type 0} → Shown S P → EventCommand
 show_side shown = record {
   opening = [];
-  text = λ events e. if was_wrong shown events then [] else gained_lines shown events e;
+  text = λ events e. if is_wrong shown events then [] else gained_lines shown events e;
   closing = λ events. [];
   refused = λ events. was_wrong shown events;
 }

@@ -49,6 +49,7 @@ is_met row given =
     ∷ (row.idle, given (codes "idle"))
     ∷ (row.first_id, given (codes "first-id"))
     ∷ (row.after_loss, given (codes "after-loss"))
+    ∷ (row.recording, given (codes "record"))
     ∷ [])
 
 abbrev pub name_of : Verb → Text
@@ -76,10 +77,10 @@ after_loss_of (Some text) = if bytes_eq text (codes "keep") then Some Keep else 
 abbrev pub side_of : Text → Option Side
 side_of text = if bytes_eq text (codes "client") then Some Client else if bytes_eq text (codes "host") then Some Host else None
 
-abbrev pub serving_of : (host listen : Option Text) → (idle first_id : Option ℕ) → Option AfterLoss → Option Asked
-serving_of (Some host) (Some listen) (Some idle) (Some first_id) (Some after_loss) =
-    Some (record { host = host; listen = listen; idle = idle; first_id = first_id; after_loss = after_loss })
-serving_of _ _ _ _ _ = None
+abbrev pub serving_of : (host listen : Option Text) → (idle first_id : Option ℕ) → Option AfterLoss → (recording : Option Text) → Option Asked
+serving_of (Some host) (Some listen) (Some idle) (Some first_id) (Some after_loss) recording =
+    Some (record { host = host; listen = listen; idle = idle; first_id = first_id; after_loss = after_loss; recording = recording })
+serving_of _ _ _ _ _ recording = None
 
 abbrev pub device_of : Text → Option Device
 device_of text =
@@ -97,7 +98,7 @@ abbrev pub asked_by : Verb → (Text → Option Text) → Option Command
 asked_by verb.Replay given = option_map Replay (first_id_of (given (codes "first-id")))
 asked_by verb.Model given = option_map Model (option_and_then device_of (given (codes "device")))
 asked_by verb.Show given = option_map Show (option_and_then side_of (given (codes "side")))
-asked_by verb.Serve given = option_map Serve (serving_of (given (codes "host")) (given (codes "listen")) (option_and_then number_of (given (codes "idle"))) (first_id_of (given (codes "first-id"))) (after_loss_of (given (codes "after-loss"))))
+asked_by verb.Serve given = option_map Serve (serving_of (given (codes "host")) (given (codes "listen")) (option_and_then number_of (given (codes "idle"))) (first_id_of (given (codes "first-id"))) (after_loss_of (given (codes "after-loss"))) (given (codes "record")))
 asked_by verb.Host given = option_map HostLent (lending_of (option_and_then device_of (given (codes "device"))) (given (codes "listen")) (option_and_then number_of (given (codes "idle"))))
 
 abbrev pub by_row : Option Row → (Text → Option Text) → Option Command

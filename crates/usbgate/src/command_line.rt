@@ -37,7 +37,8 @@ pub fn command_line<'a>(alloc: Global) -> Result<CommandLine<'a>, AllocError>
         .arg(option(alloc, "listen"))?
         .arg(option(alloc, "idle"))?
         .arg(option(alloc, "first-id"))?
-        .arg(option(alloc, "after-loss"))
+        .arg(option(alloc, "after-loss"))?
+        .arg(option(alloc, "record"))
 }
 
 /// `--NAME VALUE`, or `--NAME=VALUE`.

@@ -36,6 +36,7 @@ pub struct Row {
     pub idle: Need,
     pub first_id: Need,
     pub after_loss: Need,
+    pub recording: Need,
 }
 
 /// The commands that are built.
@@ -50,6 +51,7 @@ pub const ROWS: [Row; 5] = [
         idle: Need::MustNot,
         first_id: Need::May,
         after_loss: Need::MustNot,
+        recording: Need::MustNot,
     },
     Row {
         verb: Verb::Model,
@@ -61,6 +63,7 @@ pub const ROWS: [Row; 5] = [
         idle: Need::MustNot,
         first_id: Need::MustNot,
         after_loss: Need::MustNot,
+        recording: Need::MustNot,
     },
     Row {
         verb: Verb::Show,
@@ -72,6 +75,7 @@ pub const ROWS: [Row; 5] = [
         idle: Need::MustNot,
         first_id: Need::MustNot,
         after_loss: Need::MustNot,
+        recording: Need::MustNot,
     },
     Row {
         verb: Verb::Serve,
@@ -83,6 +87,7 @@ pub const ROWS: [Row; 5] = [
         idle: Need::Must,
         first_id: Need::May,
         after_loss: Need::May,
+        recording: Need::May,
     },
     Row {
         verb: Verb::Host,
@@ -94,6 +99,7 @@ pub const ROWS: [Row; 5] = [
         idle: Need::Must,
         first_id: Need::MustNot,
         after_loss: Need::MustNot,
+        recording: Need::MustNot,
     },
 ];
 
@@ -146,6 +152,7 @@ impl Row {
             (self.idle, given.idle),
             (self.first_id, given.first_id),
             (self.after_loss, given.after_loss),
+            (self.recording, given.recording),
         ];
         words.iter().all(|(need, word)| need.admits(word.is_some()))
     }

@@ -18,6 +18,7 @@ pub struct Given<'a> {
     pub idle: Option<&'a str>,
     pub first_id: Option<&'a str>,
     pub after_loss: Option<&'a str>,
+    pub recording: Option<&'a str>,
 }
 
 impl<'a> Given<'a> {
@@ -35,6 +36,7 @@ impl<'a> Given<'a> {
             idle: matches.get_str("idle"),
             first_id: matches.get_str("first-id"),
             after_loss: matches.get_str("after-loss"),
+            recording: matches.get_str("record"),
         }
     }
 }

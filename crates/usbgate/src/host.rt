@@ -1,10 +1,11 @@
 //! The command `host`: a modelled device between sockets.
 
-ghost use Rattle.std.specs.Prelude.{◌≡◌, ◌≤◌, false};
+ghost use Rattle.std.specs.Prelude.{◌≡◌, ◌≤◌, false, None};
 ghost use Rattle.usb_base.specs.declared.side.Side.TheVariants.{Client, Host};
 ghost use Rattle.bridge_run.specs.Course.{AtDoor};
 ghost use Rattle.bridge_run.specs.Lent.{lent_sends};
-ghost use Rattle.bridge_run.specs.Outside.{outside};
+ghost use Rattle.session_tape.specs.Tapes.{counts};
+ghost use Rattle.bridge_run.specs.Outside.{outside, written, faults};
 ghost use Rattle.usbgate.specs.Serves.{EndsOf, Lends};
 
 use crate::lending::{BLOCKS, Device, Lending};
@@ -61,7 +62,7 @@ fn lend<G: Gadget, D: Doors, K: Sink>(
     requires host_down { (D.link doors.old Host).up ≡ false }
     requires idle { 1 ≤ lending.now.idle }
     ensures { EndsOf (record { served = lent_sends G.meaning gadget; idle = lending.now.idle }) AtDoor result (outside (D.link doors.old) (D.door doors.old)) (outside (D.link doors.new) (D.door doors.new))
-        (K.faults out.old) (K.faults out.new) (K.contents out.old) (K.contents out.new) }
+        (faults (K.faults out.old) (counts 0 0)) (faults (K.faults out.new) (counts 0 0)) (written (K.contents out.old) None) (written (K.contents out.new) None) }
 {
     let end = serve_host(
         alloc,

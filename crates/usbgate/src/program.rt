@@ -1,10 +1,11 @@
 //! A run of the program, over a tape, a sink and doors.
 
-ghost use Rattle.std.specs.Prelude.{◌≡◌, ◌≢◌, ◌<◌, ◌≤◌, List, [], ℕ, length, false, Option, Some};
+ghost use Rattle.std.specs.Prelude.{◌≡◌, ◌≢◌, ◌⊎◌, ◌<◌, ◌≤◌, List, [], ℕ, length, false, Option, Some};
 ghost use Rattle.gate_outside.specs.Faults.{Rose};
 ghost use Rattle.usb_base.specs.declared.side.Side.{Side as ASide};
 ghost use Rattle.usb_base.specs.declared.side.Side.TheVariants.{Client, Host};
-ghost use Rattle.bridge_run.specs.Outside.{outside};
+ghost use Rattle.session_tape.specs.Tapes.{WasThere};
+ghost use Rattle.bridge_run.specs.Outside.{outside, written, faults, OneRose};
 ghost use Rattle.usbgate.specs.Run.{Leaves, OpensNoLink, IsOfNoCommand};
 ghost use Rattle.usbgate.specs.Prescribed.{Prescribed, prescribed, usage as usage_prescribed, over_tape as tape_prescribed};
 ghost use Rattle.usbgate.specs.TapeCommand.{TapeCommand as Told};
@@ -37,6 +38,7 @@ use disk_gadget::Disk;
 use gate_outside::{Doors, Sink, Source, write_all};
 use model_device::{Gadget, Keyboard, Loopback, Tone};
 use redir_data::FromHost;
+use session_tape::Tape;
 use std::alloc::Global;
 use usb_base::{Bytes, Side};
 use usbip_urb::ClientFormat;
@@ -48,12 +50,13 @@ const CHUNK: usize = 65_536;
 /// refuses; `model` does the steps of the tape with a gateway and a modelled device, and prints what each tells; `show` prints the packets of one side's stream in it; `serve` puts what comes by the doors to a gate, and
 /// prints which sides it refuses; `host` lends a modelled device to a guest that comes by the doors. Words that are no
 /// command print how they should be.
-pub fn run<S: Source, K: Sink, D: Doors>(
+pub fn run<S: Source, K: Sink, D: Doors, T: Tape>(
     alloc: Global,
     words: &[&str],
     tape: &mut S,
     out: &mut K,
     doors: &mut D,
+    recording: &mut T,
 ) -> Status
     requires client_down { (D.link doors.old Client).up ≡ false }
     requires host_down { (D.link doors.old Host).up ≡ false }
@@ -61,23 +64,26 @@ pub fn run<S: Source, K: Sink, D: Doors>(
         → Leaves result p (S.remaining tape.old) (S.remaining tape.new) (K.contents out.old) (K.contents out.new) }
     ensures serves { (asked : Asked) → command_of (texts words.now) ≡ Command.Serve asked
         → Serves result asked (outside (D.link doors.old) (D.door doors.old)) (outside (D.link doors.new) (D.door doors.new))
-        (K.faults out.old) (K.faults out.new) (K.contents out.old) (K.contents out.new) }
+        (faults (K.faults out.old) (T.counts recording.old)) (faults (K.faults out.new) (T.counts recording.new)) (written (K.contents out.old) (T.contents recording.old)) (written (K.contents out.new) (T.contents recording.new)) }
     ensures lends { (asked : AskedLent) → command_of (texts words.now) ≡ Command.Host asked
         → Lends result asked (outside (D.link doors.old) (D.door doors.old)) (outside (D.link doors.new) (D.door doors.new))
         (K.faults out.old) (K.faults out.new) (K.contents out.old) (K.contents out.new) }
-    ensures usage { result ≡ Status.Usage → command_of (texts words.now) ≡ Command.Unknown }
+    ensures usage { result ≡ Status.Usage → (command_of (texts words.now) ≡ Command.Unknown) ⊎ WasThere (T.counts recording.old) (T.counts recording.new) }
     ensures no_command { command_of (texts words.now) ≡ Command.Unknown → IsOfNoCommand result }
     ensures untouched { command_of (texts words.now) ≡ Command.Unknown → tape.new ≡ tape.old }
     ensures unread { (asked : Asked) → command_of (texts words.now) ≡ Command.Serve asked → tape.new ≡ tape.old }
     ensures unread_lent { (asked : AskedLent) → command_of (texts words.now) ≡ Command.Host asked → tape.new ≡ tape.old }
     ensures read_fault { result ≡ Status.ReadFault → Rose (S.faults tape.old) (S.faults tape.new) }
-    ensures write_fault { result ≡ Status.WriteFault → Rose (K.faults out.old) (K.faults out.new) }
+    ensures write_fault { result ≡ Status.WriteFault → OneRose (faults (K.faults out.old) (T.counts recording.old)) (faults (K.faults out.new) (T.counts recording.new)) }
     ensures reads_stand { result ≢ Status.ReadFault → S.faults tape.new ≡ S.faults tape.old }
     ensures writes_stand { result ≢ Status.WriteFault → K.faults out.new ≡ K.faults out.old }
+    ensures recording_stands { result ≢ Status.WriteFault → result ≢ Status.Usage → T.counts recording.new ≡ T.counts recording.old }
     ensures link_fault { (side : ASide) → result ≡ Status.LinkFault side → Rose (D.link doors.old side).faults (D.link doors.new side).faults }
     ensures links_stand { (side : ASide) → result ≢ Status.LinkFault side → (D.link doors.new side).faults ≡ (D.link doors.old side).faults }
     ensures no_links { (p : Prescribed) → prescribed (command_of (texts words.now)) ≡ Some p → OpensNoLink result }
     ensures doors { (p : Prescribed) → prescribed (command_of (texts words.now)) ≡ Some p → doors.new ≡ doors.old }
+    ensures unrecorded { (p : Prescribed) → prescribed (command_of (texts words.now)) ≡ Some p → recording.new ≡ recording.old }
+    ensures unrecorded_lent { (asked : AskedLent) → command_of (texts words.now) ≡ Command.Host asked → recording.new ≡ recording.old }
 {
     let Ok(command) = Command::read(alloc, words) else {
         return Status::OutOfMemory;
@@ -86,7 +92,7 @@ pub fn run<S: Source, K: Sink, D: Doors>(
         Command::Replay { first_id } => replay(alloc, first_id, tape, out),
         Command::Model { device } => model(alloc, device, tape, out),
         Command::Show { side } => show(alloc, side, tape, out),
-        Command::Serve(serving) => serve(alloc, &serving, doors, out),
+        Command::Serve(serving) => serve(alloc, &serving, doors, out, recording),
         Command::Host(lending) => host(alloc, &lending, doors, out),
         Command::Unknown => print_usage(out),
     }

@@ -1,6 +1,6 @@
 //! The command `show`: the packets of one side's stream as lines of text.
 
-ghost use Rattle.std.specs.Prelude.{◌≡◌, ◌++◌, ◌∷◌, [], List, OnOk, false};
+ghost use Rattle.std.specs.Prelude.{◌≡◌, ◌++◌, ◌∷◌, [], ℕ, List, OnOk};
 ghost use Rattle.gate_core.specs.Events.{Event as PastEvent};
 ghost use Rattle.usbgate.specs.inner.Show.{shown_by, HasShown, IsShow, Sees, ShowsPackets};
 
@@ -15,7 +15,7 @@ use usb_base::{Bytes, Memory, Refusal};
 #[derive(Drop)]
 pub struct Show<F: ShownFormat> {
     stream: Stream<F>,
-    /// A stream of the side was wrong: nothing more is shown.
+    /// This stream or one before it was wrong.
     refused: bool,
 }
 
@@ -30,9 +30,8 @@ impl<F: ShownFormat> Show<F> {
         }
     }
 
-    /// Takes a piece of the stream, and shows the packets that it makes whole.
+    /// Takes a piece of the stream, and shows the packets that it makes whole. Behind a wrong place there are none.
     fn take_piece(&mut self, alloc: Global, piece: &[u8], text: &mut Bytes) -> Result<(), Memory>
-        requires { self.old.refused ≡ false }
         ensures { OnOk result ((events : List PastEvent) (e : PastEvent) → F.bytes (e ∷ events) ≡ F.bytes events ++ piece.now
             → Sees (shown_by F.the_side F.format F.after F.first_state F.bytes F.line) events e self.old.refused self.new.refused self.old.stream self.new.stream text.old text.new) }
     {
@@ -52,22 +51,36 @@ impl<F: ShownFormat> Show<F> {
             Err(ReadError::Memory) => Err(Memory),
         }
     }
+
+    /// The side's next stream begins.
+    fn begin(&mut self, alloc: Global)
+        ensures { (events : List PastEvent) (e : PastEvent) (text : List ℕ) → F.bytes (e ∷ events) ≡ []
+            → Sees (shown_by F.the_side F.format F.after F.first_state F.bytes F.line) events e self.old.refused self.new.refused self.old.stream self.new.stream text text }
+    {
+        self.stream = Stream::new(alloc, F::first_state());
+    }
+
+    /// A law: an event of the other side shows nothing.
+    fn pass(&self)
+        ensures { (events : List PastEvent) (e : PastEvent) (text : List ℕ) → F.bytes (e ∷ events) ≡ F.bytes events
+            → Sees (shown_by F.the_side F.format F.after F.first_state F.bytes F.line) events e self.now.refused self.now.refused self.now.stream self.now.stream text text }
+    {}
 }
 
 impl<F: ShownFormat> EventCommand for Show<F> {
     ghost HasSeen = { λ command show events. IsShow (shown_by F.the_side F.format F.after F.first_state F.bytes F.line) command show.refused show.stream events };
 
     fn see(&mut self, alloc: Global, event: Event, text: &mut Bytes) -> Result<(), Memory> {
-        if self.refused {
-            return Ok(());
-        }
         match F::part(event) {
             Part::Piece(piece) => self.take_piece(alloc, piece, text),
             Part::End => {
-                self.stream = Stream::new(alloc, F::first_state());
+                self.begin(alloc);
                 Ok(())
             }
-            Part::Other => Ok(()),
+            Part::Other => {
+                self.pass();
+                Ok(())
+            }
         }
     }
 

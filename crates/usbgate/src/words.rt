@@ -102,7 +102,7 @@ fn show<'a>(given: &Given<'a>) -> Option<Command<'a>>
     Some(Command::Show { side })
 }
 
-/// `serve --host ADDR --listen ADDR --idle N [--first-id N] [--after-loss keep|close]`
+/// `serve --host ADDR --listen ADDR --idle N [--first-id N] [--after-loss keep|close] [--record FILE]`
 fn serve<'a>(given: &Given<'a>) -> Option<Command<'a>>
     ensures value { (words : List ℕ → Option (List ℕ)) → IsGiven given.now words → result ≡ asked_by verb.Serve words }
     ensures numbers { IfSome result HasNumbers }
@@ -113,6 +113,7 @@ fn serve<'a>(given: &Given<'a>) -> Option<Command<'a>>
         idle: read_number(given.idle?.as_bytes())?,
         first_id: first_id(given)?,
         after_loss: after_loss(given)?,
+        recording: given.recording,
     };
     Some(Command::Serve(serving))
 }

@@ -13,7 +13,7 @@ pub const COMMANDS: &str = "commands:
   replay [--first-id N]
   model --device keyboard|loop|tone|disk
   show --side client|host
-  serve --host ADDR --listen ADDR --idle N [--first-id N] [--after-loss keep|close]
+  serve --host ADDR --listen ADDR --idle N [--first-id N] [--after-loss keep|close] [--record FILE]
   host --device keyboard|loop|tone|disk --listen ADDR --idle N
 ";
 

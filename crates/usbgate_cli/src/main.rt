@@ -9,10 +9,11 @@ ghost use Rattle.usbgate.specs.Words.{texts};
 
 use gate_outside::{NoDoors, StdSink, StdSource};
 use gate_sockets::TcpDoors;
+use session_tape::FileTape;
 use std::alloc::Global;
 use std::net::Net;
 use std::process::ExitCode;
-use std::rt::{Clock, Env};
+use std::rt::{Clock, Env, Files};
 use std::{env, io, net};
 use usb_base::{Memory, Side};
 use usbgate::{COMMANDS, Status, pace_of, run, wrong_with};
@@ -28,14 +29,15 @@ fn exit_code(status: Status) -> ExitCode
     ExitCode::from(status.code())
 }
 
-/// Runs the command that the arguments name, over the standard streams and over sockets. Where the system gives none
-/// that can be waited for, no link comes up.
+/// Runs the command that the arguments name, over the standard streams, over sockets and over a file to record in. Where
+/// the system gives no sockets that can be waited for, no link comes up.
 fn run_args(
     rt: &(impl Env
         + Input
         + Print
         + Eprint
         + Clock
+        + Files
         + AllocGlobal
         + Net<Stream = net::TcpStream, Listener = net::TcpListener>),
 ) -> Status {
@@ -49,20 +51,35 @@ fn run_args(
     };
     let mut tape = StdSource::new(rt.reader());
     let mut out = StdSink::new(io::writer(rt));
+    let mut recording = FileTape::new(rt);
     match TcpDoors::new(rt, rt.alloc()) {
         Ok(mut doors) => {
             if let Ok(Some(interval)) = pace_of(rt.alloc(), &words) {
                 doors.keep_pace(interval);
             }
-            let status = run(rt.alloc(), &words, &mut tape, &mut out, &mut doors);
+            let status = run(
+                rt.alloc(),
+                &words,
+                &mut tape,
+                &mut out,
+                &mut doors,
+                &mut recording,
+            );
             if doors.were_used() {
-                tell_end(rt, status);
+                tell_end(rt, status, recording.has_failed());
             } else if let Status::Usage = status {
-                tell_wrong(rt, &words);
+                tell_wrong(rt, &words, recording.has_failed());
             }
             status
         }
-        Err(_) => run(rt.alloc(), &words, &mut tape, &mut out, &mut NoDoors::new()),
+        Err(_) => run(
+            rt.alloc(),
+            &words,
+            &mut tape,
+            &mut out,
+            &mut NoDoors::new(),
+            &mut recording,
+        ),
     }
 }
 
@@ -88,16 +105,20 @@ fn words_behind_the_name(alloc: Global, args: &[String]) -> Result<Vec<&str>, Me
     Ok(words)
 }
 
-/// Says on standard error what is wrong with words that are no command, and which commands there are.
-fn tell_wrong(rt: &(impl Eprint + AllocGlobal), words: &[&str]) {
+/// Says on standard error what is wrong with words that are no command, and which commands there are. Of a file that was
+/// there before the tape has said it.
+fn tell_wrong(rt: &(impl Eprint + AllocGlobal), words: &[&str], was_there: bool) {
+    if was_there {
+        return;
+    }
     if let Ok(wrong) = wrong_with(rt.alloc(), words) {
         let _ = rt.eprint(wrong);
     }
     let _ = rt.eprint(COMMANDS);
 }
 
-/// Says on standard error why serving or lending has ended.
-fn tell_end(rt: &impl Eprint, status: Status) {
+/// Says on standard error why serving or lending has ended. A recording that has failed has ended it.
+fn tell_end(rt: &impl Eprint, status: Status, is_unrecorded: bool) {
     let why = match status {
         Status::Done => "no link is left",
         Status::Refused => "no link is left, and a side was refused",
@@ -105,6 +126,7 @@ fn tell_end(rt: &impl Eprint, status: Status) {
         Status::LinkFault(Side::Host) => "a fault at the host's side",
         Status::Idle => "nothing has come for as many rounds as --idle says",
         Status::Spent => "as much has come as may",
+        Status::WriteFault if is_unrecorded => "the recording can't be written",
         Status::WriteFault => "standard output can't be written",
         Status::OutOfMemory => "memory ran out",
         Status::Usage | Status::ReadFault | Status::BadTape(_) => return,

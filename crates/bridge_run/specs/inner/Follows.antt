@@ -1,5 +1,5 @@
 -- When a session has come as far as a course, and what it makes of one event.
-use Rattle.std.specs.Prelude.{◌≡◌, ◌++◌, ◌∷◌, ℕ, Bool, true, false, List, Option, Result, Ok, Err}
+use Rattle.std.specs.Prelude.{◌≡◌, ◌++◌, ◌∷◌, ℕ, Bool, true, false, List, Result, Ok, Err}
 use Rattle.std.specs.List.{flat_map}
 use Rattle.usb_base.specs.Refusal.{refusal_line}
 use Rattle.bridge_run.specs.Events.{Event}
@@ -12,7 +12,7 @@ use Rattle.bridge_run.specs.declared.sent.Sent.{Sent}
 use Rattle.bridge_run.specs.Prescribed.{Prescribed, gained, drops, first_of}
 use Rattle.bridge_run.specs.Course.{Setting, Course, Next, AtClient, AtHost, AtEnd}
 use Rattle.bridge_run.specs.Calls.{Outcome, Goes, put, make}
-use Rattle.bridge_run.specs.Outside.{Outside, NoFault, HasCause, Tells, Cut}
+use Rattle.bridge_run.specs.Outside.{Outside, Written, Faults, NoFault, HasCause, Tells, Cut}
 use Rattle.bridge_run.specs.Serves.{Reaches, Leaves}
 
 -- what an event sends, and the lines that tell its refusals
@@ -24,8 +24,8 @@ pub record Prepared (p : Prescribed) (events : List Event) (e : Event) (sent : S
   pub lets_go : sent.lets_go ≡ p.lets_go (e ∷ events)
   pub lines-is : lines ≡ flat_map refusal_line sent.refusals
 
--- what is served stands for the course's events, the rest is kept, and the doors and the sink tell it
-pub record Follows (stands : List Event → Type 0) (p : Prescribed) (k : Kept) (w : Outside) (out : Option (List ℕ)) (c : Course) : Type 0 where
+-- what is served stands for the course's events, the rest is kept, and the outside tells it
+pub record Follows (stands : List Event → Type 0) (p : Prescribed) (k : Kept) (w : Outside) (out : Written) (c : Course) : Type 0 where
   pub stands_for : stands c.events
   pub tells : Tells w out c
   pub client_up : k.client_up ≡ c.client_up
@@ -37,7 +37,7 @@ pub record Follows (stands : List Event → Type 0) (p : Prescribed) (k : Kept) 
 
 -- ---- causes
 
-abbrev pub HasFaults : {T : Type 0} → Result T ServeEnd → Outside → Outside → ℕ → ℕ → Type 0
+abbrev pub HasFaults : {T : Type 0} → Result T ServeEnd → Outside → Outside → Faults → Faults → Type 0
 HasFaults (Ok _) old new sink_old sink_new = NoFault old new sink_old sink_new
 HasFaults (Err e) old new sink_old sink_new = HasCause e old new sink_old sink_new
 
@@ -52,7 +52,7 @@ IsCutEnd Spent = ⊥
 
 -- ---- one event
 
-abbrev pub Puts : Result Bool ServeEnd → (List Event → Type 0) → Prescribed → Event → Kept → Outside → Option (List ℕ) → Course → Type 0
+abbrev pub Puts : Result Bool ServeEnd → (List Event → Type 0) → Prescribed → Event → Kept → Outside → Written → Course → Type 0
 Puts (Ok dropped) stands p e k w out c = Follows stands p k w out (put p e c) × (dropped ≡ drops p c.events e)
 Puts (Err end) stands p e k w out c = Cut w out c (put p e c)
 
@@ -61,12 +61,12 @@ Puts (Err end) stands p e k w out c = Cut w out c (put p e c)
 abbrev pub setting : Prescribed → Kept → Setting
 setting p k = record { served = p; idle = k.idle }
 
-pub record Comes (stands : List Event → Type 0) (s : Setting) (k : Kept) (w : Outside) (out : Option (List ℕ)) (from : Outcome) (next : Next) : Type 0 where
+pub record Comes (stands : List Event → Type 0) (s : Setting) (k : Kept) (w : Outside) (out : Written) (from : Outcome) (next : Next) : Type 0 where
   pub course : Course
   pub reaches : Reaches s from (Goes next course)
   pub follows : Follows stands s.served k w out course
 
-abbrev pub Runs : {T : Type 0} → Result T ServeEnd → (List Event → Type 0) → Setting → Kept → Outside → Option (List ℕ) → Outcome → Next → Type 0
+abbrev pub Runs : {T : Type 0} → Result T ServeEnd → (List Event → Type 0) → Setting → Kept → Outside → Written → Outcome → Next → Type 0
 Runs (Ok _) stands s k w out from next = Comes stands s k w out from next
 Runs (Err e) stands s k w out from next = Leaves e s from w out
 
@@ -86,6 +86,6 @@ pub record IsOpen (w : Outside) : Type 0 where
   pub host : w.host.up ≡ true
   pub door : w.door.made ≡ true
 
-abbrev pub Opens : {T : Type 0} → Result T ServeEnd → Prescribed → Outside → Option (List ℕ) → Course → Type 0
+abbrev pub Opens : {T : Type 0} → Result T ServeEnd → Prescribed → Outside → Written → Course → Type 0
 Opens (Ok _) p w out c = Tells w out (make p c)
 Opens (Err e) p w out c = Cut w out c (make p c)

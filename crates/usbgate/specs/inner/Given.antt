@@ -17,3 +17,4 @@ pub record IsGiven (g : Given) (given : List ℕ → Option (List ℕ)) : Type 0
   pub idle : text_of g.idle ≡ given (codes "idle")
   pub first_id : text_of g.first_id ≡ given (codes "first-id")
   pub after_loss : text_of g.after_loss ≡ given (codes "after-loss")
+  pub recording : text_of g.recording ≡ given (codes "record")

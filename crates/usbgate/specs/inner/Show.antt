@@ -1,5 +1,5 @@
 -- What `show` keeps of the events that it has seen.
-use Rattle.std.specs.Prelude.{◌≡◌, ℕ, Bool, false, List, ◌∷◌, ◌++◌, None, Result, Ok, Err}
+use Rattle.std.specs.Prelude.{◌≡◌, ℕ, Bool, true, false, List, ◌∷◌, ◌++◌, None, Result, Ok, Err}
 use Rattle.usb_base.specs.declared.side.Side.{Side}
 use Rattle.usb_base.specs.declared.reason.Reason.{Reason}
 use Rattle.packet_stream.specs.declared.read.ReadError.{ReadError}
@@ -9,20 +9,17 @@ use Rattle.packet_stream.specs.Split.{reads, split}
 use Rattle.packet_stream.specs.Streams.{Kept, Follows, Drained, Wrongs}
 use Rattle.gate_core.specs.Events.{Event}
 use Rattle.usbgate.specs.EventCommand.{EventCommand}
-use Rattle.usbgate.specs.Show.{Shown, packet_lines, was_wrong, show_side}
+use Rattle.usbgate.specs.Show.{Shown, packet_lines, was_wrong, is_wrong, show_side}
 
 abbrev pub shown_by : {S P : Type 0} → Side → (S → Format P Reason) → (S → P → S) → S → (List Event → List ℕ) → (ℕ → P → List ℕ) → Shown S P
 shown_by side format next start bytes line = record { side = side; reader = reads format next; start = record { state = start; place = 0 }; bytes = bytes; line = line }
 
--- all packets of these bytes were given, and nothing is wrong
-pub record HasGiven {S P : Type 0} (shown : Shown S P) (kept : Kept S) (bytes : List ℕ) : Type 0 where
-  pub going : kept.over ≡ false
-  pub right : (split shown.reader shown.start bytes).wrong ≡ None
-  pub follows : Follows shown.reader shown.start kept bytes (split shown.reader shown.start bytes).packets
-
+-- all packets of the present stream were given, and it is over where something in it is wrong
 pub record HasShown {S P : Type 0} (shown : Shown S P) (refused : Bool) (kept : Kept S) (events : List Event) : Type 0 where
   pub refused-is : refused ≡ was_wrong shown events
-  pub given : refused ≡ false → HasGiven shown kept (shown.bytes events)
+  pub over-is : kept.over ≡ is_wrong shown events
+  pub over-refused : kept.over ≡ true → refused ≡ true
+  pub follows : Follows shown.reader shown.start kept (shown.bytes events) (split shown.reader shown.start (shown.bytes events)).packets
 
 -- it is the command that shows this side, and these events have been shown
 pub record IsShow {S P : Type 0} (shown : Shown S P) (command : EventCommand) (refused : Bool) (kept : Kept S) (events : List Event) : Type 0 where
@@ -67,4 +64,5 @@ Showed shown (Err Memory) new bytes given text_old text_new = Unit {0}
 -- whatever has come and was given
 pub record ShowsPackets {S P : Type 0} (shown : Shown S P) (result : Result (Unit {0}) ReadError) (old new : Kept S) (text_old text_new : List ℕ) : Type 0 where
   pub over : (v : Unit {0}) → result ≡ Ok v → new.over ≡ old.over
+  pub ends : (place : ℕ) (reason : Reason) → result ≡ Err (Refused place reason) → (old.over ≡ false) × (new.over ≡ true)
   pub shows : (bytes : List ℕ) (given : List (ℕ × P)) → Follows shown.reader shown.start old bytes given → Showed shown result new bytes given text_old text_new

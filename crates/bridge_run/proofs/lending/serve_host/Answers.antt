@@ -1,8 +1,9 @@
-use Rattle.std.proofs.Common.{List, [], Err, refl, sym, ◌∙◌, ap, subst}
+use Rattle.std.proofs.Common.{List, [], None, Err, refl, sym, ◌∙◌, ap, subst}
 use Rattle.gate_outside.specs.Link.{Link}
+use Rattle.session_tape.specs.Tapes.{counts}
 use Rattle.bridge_run.specs.Events.{Event}
 use Rattle.bridge_run.specs.Lent.{lent_sends}
-use Rattle.bridge_run.specs.Outside.{outside, HasReason}
+use Rattle.bridge_run.specs.Outside.{outside, HasReason, written, faults}
 use Rattle.bridge_run.specs.Course.{AtDoor}
 use Rattle.bridge_run.specs.Calls.{Goes}
 use Rattle.bridge_run.specs.Serves.{Leaves}
@@ -16,15 +17,15 @@ use Rattle.bridge_run.proofs.lending.serve_host.Goals as goal
 
 pub returns-in-Err-clause-leaves : goal.returns-in-Err-clause-leaves
 returns-in-Err-clause-leaves g c = λ k b t.
-    door-short (record { served = lent_sends g.G.Gadget.meaning c.args.gadget; idle = c.args.idle }) k (outside (g.D.Doors.link c.args.doors.now) (g.D.Doors.door c.args.doors.now)) (g.K.Sink.contents c.args.out.now) b.client_down t
+    door-short (record { served = lent_sends g.G.Gadget.meaning c.args.gadget; idle = c.args.idle }) k (outside (g.D.Doors.link c.args.doors.now) (g.D.Doors.door c.args.doors.now)) (written (g.K.Sink.contents c.args.out.now) None) b.client_down t
 
 pub returns-in-Err-vec-clause-leaves : goal.returns-in-Err-vec-clause-leaves
 returns-in-Err-vec-clause-leaves g c = λ k b t.
-    door-short (record { served = lent_sends g.G.Gadget.meaning c.args.gadget; idle = c.args.idle }) k (outside (g.D.Doors.link c.args.doors.now) (g.D.Doors.door c.args.doors.now)) (g.K.Sink.contents c.args.out.now) b.client_down t
+    door-short (record { served = lent_sends g.G.Gadget.meaning c.args.gadget; idle = c.args.idle }) k (outside (g.D.Doors.link c.args.doors.now) (g.D.Doors.door c.args.doors.now)) (written (g.K.Sink.contents c.args.out.now) None) b.client_down t
 
 pub returns-in-Err-listen-clause-leaves : goal.returns-in-Err-listen-clause-leaves
 returns-in-Err-listen-clause-leaves g c = λ k b t.
-    door-unmade (record { served = lent_sends g.G.Gadget.meaning c.args.gadget; idle = c.args.idle }) k (outside (g.D.Doors.link c.args.doors.now) (g.D.Doors.door c.args.doors.now)) (outside (g.D.Doors.link c.listen.new.self) (g.D.Doors.door c.listen.new.self)) (g.K.Sink.contents c.args.out.now)
+    door-unmade (record { served = lent_sends g.G.Gadget.meaning c.args.gadget; idle = c.args.idle }) k (outside (g.D.Doors.link c.args.doors.now) (g.D.Doors.door c.args.doors.now)) (outside (g.D.Doors.link c.listen.new.self) (g.D.Doors.door c.listen.new.self)) (written (g.K.Sink.contents c.args.out.now) None)
     b.client_down t c.in-Err-listen.ensures.listens.1 c.in-Err-listen.ensures.other c.in-Err-listen.ensures.listens.0
 
 pub returns-clause-leaves : goal.returns-clause-leaves
@@ -34,10 +35,10 @@ returns-clause-leaves g c = λ k b t.
     let p = lent_sends m first in
     let w = outside (g.D.Doors.link c.listen.new.self) (g.D.Doors.door c.listen.new.self) in
     let ends = outside (g.D.Doors.link c.run.new.doors) (g.D.Doors.door c.run.new.doors) in
-    let out = g.K.Sink.contents c.args.out.now in
+    let out = written (g.K.Sink.contents c.args.out.now) None in
     let core = c.new-session.result.core in
     let stands : List Event → Type 0 = λ events. IsLent m first core events in
-    subst (λ (q : Kept). Follows stands p q w out k → Leaves c.run.result (setting p q) (Goes AtDoor k) ends (g.K.Sink.contents c.run.new.out)) (c.new-session.ensures.kept ∙ c.new.ensures) (c.run.ensures.course first k)
+    subst (λ (q : Kept). Follows stands p q w out k → Leaves c.run.result (setting p q) (Goes AtDoor k) ends (written (g.K.Sink.contents c.run.new.out) None)) (c.new-session.ensures.kept ∙ c.new.ensures) (c.run.ensures.course first k)
     (door-follows stands p c.args.idle c.args.budget
     (outside (g.D.Doors.link c.args.doors.now) (g.D.Doors.door c.args.doors.now)) w out k b (subst (λ x. IsLent m first x []) (sym c.new-session.ensures.core) c.in-Ok.ensures) refl t
     c.in_default.ensures.listens.1 c.in_default.ensures.other c.in_default.ensures.listens.0)
@@ -45,7 +46,7 @@ returns-clause-leaves g c = λ k b t.
 pub returns-clause-cause : goal.returns-clause-cause
 returns-clause-cause g c =
     faults-then {T = Unit {0}} (Err c.run.result) (outside (g.D.Doors.link c.args.doors.now) (g.D.Doors.door c.args.doors.now)) (outside (g.D.Doors.link c.listen.new.self) (g.D.Doors.door c.listen.new.self)) (outside (g.D.Doors.link c.run.new.doors) (g.D.Doors.door c.run.new.doors))
-    (g.K.Sink.faults c.args.out.now) (g.K.Sink.faults c.args.out.now) (g.K.Sink.faults c.run.new.out)
+    (faults (g.K.Sink.faults c.args.out.now) (counts 0 0)) (faults (g.K.Sink.faults c.args.out.now) (counts 0 0)) (faults (g.K.Sink.faults c.run.new.out) (counts 0 0))
     (record { client = ap (λ (l : Link). l.faults) c.in_default.ensures.listens.1; host = ap (λ (l : Link). l.faults) c.in_default.ensures.other; sink = refl }) c.run.ensures.cause
 
 pub returns-clause-reason : goal.returns-clause-reason

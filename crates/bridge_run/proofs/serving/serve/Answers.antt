@@ -3,7 +3,7 @@ use Rattle.gate_core.specs.Bytes.{out_host}
 use Rattle.gate_core.specs.Stands.{Stands}
 use Rattle.bridge_run.specs.Course.{Setting, Making, AtDoor}
 use Rattle.bridge_run.specs.Calls.{Goes, make}
-use Rattle.bridge_run.specs.Outside.{outside, HasReason}
+use Rattle.bridge_run.specs.Outside.{outside, HasReason, written, faults}
 use Rattle.bridge_run.specs.Events.{Event}
 use Rattle.bridge_run.specs.Serves.{Leaves}
 use Rattle.bridge_run.specs.declared.kept.Kept.{Kept}
@@ -17,17 +17,17 @@ use Rattle.bridge_run.proofs.Opening.{making-short, begun-follows}
 use Rattle.bridge_run.proofs.serving.serve.Goals as goal
 
 pub returns-in-Err-clause-leaves : goal.returns-in-Err-clause-leaves
-returns-in-Err-clause-leaves g c = λ k b t. making-short (record { served = gate_sends c.args.after_loss c.args.first_id; idle = c.args.idle }) k (outside (g.D.Doors.link c.args.doors.now) (g.D.Doors.door c.args.doors.now)) (g.K.Sink.contents c.args.out.now) t
+returns-in-Err-clause-leaves g c = λ k b t. making-short (record { served = gate_sends c.args.after_loss c.args.first_id; idle = c.args.idle }) k (outside (g.D.Doors.link c.args.doors.now) (g.D.Doors.door c.args.doors.now)) (written (g.K.Sink.contents c.args.out.now) (g.T.Tape.contents c.args.tape.now)) t
 
 pub returns-in-Err-vec-clause-leaves : goal.returns-in-Err-vec-clause-leaves
-returns-in-Err-vec-clause-leaves g c = λ k b t. making-short (record { served = gate_sends c.args.after_loss c.args.first_id; idle = c.args.idle }) k (outside (g.D.Doors.link c.args.doors.now) (g.D.Doors.door c.args.doors.now)) (g.K.Sink.contents c.args.out.now) t
+returns-in-Err-vec-clause-leaves g c = λ k b t. making-short (record { served = gate_sends c.args.after_loss c.args.first_id; idle = c.args.idle }) k (outside (g.D.Doors.link c.args.doors.now) (g.D.Doors.door c.args.doors.now)) (written (g.K.Sink.contents c.args.out.now) (g.T.Tape.contents c.args.tape.now)) t
 
 pub returns-in-Err-open-clause-leaves : goal.returns-in-Err-open-clause-leaves
 returns-in-Err-open-clause-leaves g c = λ k b t.
     let p = gate_sends c.args.after_loss c.args.first_id in
     let s : Setting = record { served = p; idle = c.args.idle } in
     let w = (outside (g.D.Doors.link c.open.new.doors) (g.D.Doors.door c.open.new.doors)) in
-    let out = g.K.Sink.contents c.args.out.now in
+    let out = written (g.K.Sink.contents c.args.out.now) (g.T.Tape.contents c.args.tape.now) in
     cut-leaves c.in-Err-open.end s (Goes Making k) w out c.in-Err-open.ensures.cut
     (cut-next s (Goes Making k) Making k (make p k) w out (reaches-none s (Goes Making k)) refl (c.in-Err-open.ensures.course p k out (c.as_slice.ensures ∙ c.in-Ok.ensures.sent ∙ ap (λ (l : List ℕ). l ++ out_host c.args.first_id []) c.new-hello.ensures) b.client_down t))
 
@@ -38,18 +38,18 @@ returns-clause-leaves g c = λ k b t.
     let s : Setting = record { served = p; idle = c.args.idle } in
     let w = outside (g.D.Doors.link c.open.new.doors) (g.D.Doors.door c.open.new.doors) in
     let ends = outside (g.D.Doors.link c.run.new.doors) (g.D.Doors.door c.run.new.doors) in
-    let out = g.K.Sink.contents c.args.out.now in
+    let out = written (g.K.Sink.contents c.args.out.now) (g.T.Tape.contents c.args.tape.now) in
     let core = c.new-session.result.core in
     let stands : List Event → Type 0 = λ events. (core.after_loss ≡ c.args.after_loss) × Stands first core.gate (gate_events events) in
     let tells = c.in_default.ensures.course p k out (c.as_slice.ensures ∙ c.in-Ok.ensures.sent ∙ ap (λ (l : List ℕ). l ++ out_host first []) c.new-hello.ensures) b.client_down t in
-    leaves-then c.run.result s (Goes Making k) AtDoor (make p k) ends (g.K.Sink.contents c.run.new.out)
+    leaves-then c.run.result s (Goes Making k) AtDoor (make p k) ends (written (g.K.Sink.contents c.run.new.out) (g.T.Tape.contents c.run.new.tape))
     (reaches-call s (Goes Making k) Making k (Goes AtDoor (make p k)) (reaches-none s (Goes Making k)) refl)
-    (subst (λ (q : Kept). Follows stands p q w out (make p k) → Leaves c.run.result (setting p q) (Goes AtDoor (make p k)) ends (g.K.Sink.contents c.run.new.out)) (c.new-session.ensures.kept ∙ c.new.ensures) (c.run.ensures.course (c.args.after_loss, first) (make p k))
+    (subst (λ (q : Kept). Follows stands p q w out (make p k) → Leaves c.run.result (setting p q) (Goes AtDoor (make p k)) ends (written (g.K.Sink.contents c.run.new.out) (g.T.Tape.contents c.run.new.tape))) (c.new-session.ensures.kept ∙ c.new.ensures) (c.run.ensures.course (c.args.after_loss, first) (make p k))
     (begun-follows stands p c.args.idle c.args.budget w out k b (subst (λ (x : Gateway). (x.after_loss ≡ c.args.after_loss) × Stands first x.gate (gate_events [])) (sym c.new-session.ensures.core) (refl, c.in-Ok.ensures.made)) refl tells))
 
 pub returns-clause-cause : goal.returns-clause-cause
 returns-clause-cause g c =
-    faults-then {T = Unit {0}} (Err c.run.result) (outside (g.D.Doors.link c.args.doors.now) (g.D.Doors.door c.args.doors.now)) (outside (g.D.Doors.link c.open.new.doors) (g.D.Doors.door c.open.new.doors)) (outside (g.D.Doors.link c.run.new.doors) (g.D.Doors.door c.run.new.doors)) (g.K.Sink.faults c.args.out.now) (g.K.Sink.faults c.args.out.now) (g.K.Sink.faults c.run.new.out) (c.in_default.ensures.faults (g.K.Sink.faults c.args.out.now)) c.run.ensures.cause
+    faults-then {T = Unit {0}} (Err c.run.result) (outside (g.D.Doors.link c.args.doors.now) (g.D.Doors.door c.args.doors.now)) (outside (g.D.Doors.link c.open.new.doors) (g.D.Doors.door c.open.new.doors)) (outside (g.D.Doors.link c.run.new.doors) (g.D.Doors.door c.run.new.doors)) (faults (g.K.Sink.faults c.args.out.now) (g.T.Tape.counts c.args.tape.now)) (faults (g.K.Sink.faults c.args.out.now) (g.T.Tape.counts c.args.tape.now)) (faults (g.K.Sink.faults c.run.new.out) (g.T.Tape.counts c.run.new.tape)) (c.in_default.ensures.faults (faults (g.K.Sink.faults c.args.out.now) (g.T.Tape.counts c.args.tape.now))) c.run.ensures.cause
 
 pub returns-in-Err-open-clause-reason : goal.returns-in-Err-open-clause-reason
 returns-in-Err-open-clause-reason g c = cut-reason c.in-Err-open.end c.args.idle (outside (g.D.Doors.link c.args.doors.now) (g.D.Doors.door c.args.doors.now)) (outside (g.D.Doors.link c.open.new.doors) (g.D.Doors.door c.open.new.doors)) c.in-Err-open.ensures.cut

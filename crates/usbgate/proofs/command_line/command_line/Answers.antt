@@ -19,4 +19,5 @@ returns c =
     let listen = c.in_ok-arg-6.ensures.shape c.option-4.ensures.local ∙ ap₂ with_rule host c.option-4.ensures.rule in
     let idle = c.in_ok-arg-7.ensures.shape c.option-5.ensures.local ∙ ap₂ with_rule listen c.option-5.ensures.rule in
     let first_id = c.in_ok-arg-8.ensures.shape c.option-6.ensures.local ∙ ap₂ with_rule idle c.option-6.ensures.rule in
-    IfOk-weaker c.arg-9.result _ _ (λ line adds. adds.shape c.option-7.ensures.local ∙ ap₂ with_rule first_id c.option-7.ensures.rule) c.arg-9.ensures
+    let after_loss = c.in_ok-arg-9.ensures.shape c.option-7.ensures.local ∙ ap₂ with_rule first_id c.option-7.ensures.rule in
+    IfOk-weaker c.arg-10.result _ _ (λ line adds. adds.shape c.option-8.ensures.local ∙ ap₂ with_rule after_loss c.option-8.ensures.rule) c.arg-10.ensures

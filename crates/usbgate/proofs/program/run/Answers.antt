@@ -1,17 +1,17 @@
 use Rattle.std.proofs.Common.{sym, ap, subst, ◌∙◌}
 use Rattle.std.proofs.lemmas.Option.{same_Some}
-use Rattle.bridge_run.specs.Outside.{outside}
+use Rattle.bridge_run.specs.Outside.{outside, written, faults}
 use Rattle.usbgate.specs.EventCommand.{over_events}
 use Rattle.usbgate.specs.Replay.{replay}
 use Rattle.usbgate.specs.Model.{model_of}
 use Rattle.usbgate.specs.Prescribed.{Prescribed, over_tape, prescribed}
 use Rattle.usbgate.specs.Run.{Leaves}
-use Rattle.usbgate.proofs.Served.{unserved, unlent, links-stand}
+use Rattle.usbgate.proofs.Served.{unserved, unlent, links-stand, link-fault-of, link-stands}
 use Rattle.usbgate.proofs.program.run.Goals as goal
 
 pub returns-in_default-clause-serves : goal.returns-in_default-clause-serves
 returns-in_default-clause-serves g c = λ asked is.
-    unserved asked (outside (g.D.Doors.link c.args.doors.now) (g.D.Doors.door c.args.doors.now)) (g.K.Sink.faults c.args.out.now) (g.K.Sink.contents c.args.out.now)
+    unserved asked (outside (g.D.Doors.link c.args.doors.now) (g.D.Doors.door c.args.doors.now)) (faults (g.K.Sink.faults c.args.out.now) (g.T.Tape.counts c.args.recording.now)) (written (g.K.Sink.contents c.args.out.now) (g.T.Tape.contents c.args.recording.now))
 
 pub returns-in_default-clause-lends : goal.returns-in_default-clause-lends
 returns-in_default-clause-lends g c = λ asked is.
@@ -29,10 +29,11 @@ returns-in-Model-clause-leaves g c = λ p is.
     subst (λ (q : Prescribed). Leaves c.model.result q (g.S.Source.remaining c.args.tape.now) (g.S.Source.remaining c.model.new.tape) (g.K.Sink.contents c.args.out.now) (g.K.Sink.contents c.model.new.out))
     (same_Some command p (ap prescribed (sym c.in-Model.is ∙ c.in-Ok.ensures.value) ∙ is)) c.model.ensures.leaves
 
+pub returns-in-Serve-clause-link_fault : goal.returns-in-Serve-clause-link_fault
+returns-in-Serve-clause-link_fault g c = λ side is. link-fault-of c.serve.result side (g.D.Doors.link c.args.doors.now) (g.D.Doors.link c.serve.new.doors) (g.D.Doors.door c.args.doors.now) (g.D.Doors.door c.serve.new.doors) _ _ is c.serve.ensures.causes
+
 pub returns-in-Serve-clause-links_stand : goal.returns-in-Serve-clause-links_stand
-returns-in-Serve-clause-links_stand g c = λ side other.
-    let served = c.serve.ensures in
-    links-stand served.end (g.D.Doors.link c.args.doors.now) (g.D.Doors.link c.serve.new.doors) (g.D.Doors.door c.args.doors.now) (g.D.Doors.door c.serve.new.doors) (g.K.Sink.faults c.args.out.now) (g.K.Sink.faults c.serve.new.out) side served.cause (λ e. other (served.status-is ∙ e))
+returns-in-Serve-clause-links_stand g c = λ side other. link-stands c.serve.result side (g.D.Doors.link c.args.doors.now) (g.D.Doors.link c.serve.new.doors) (g.D.Doors.door c.args.doors.now) (g.D.Doors.door c.serve.new.doors) _ _ other c.serve.ensures.causes
 
 pub returns-in-Host-clause-links_stand : goal.returns-in-Host-clause-links_stand
 returns-in-Host-clause-links_stand g c = λ side other.

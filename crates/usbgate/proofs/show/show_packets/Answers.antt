@@ -9,7 +9,7 @@ returns-in_err-place g c =
     let side = g.F.ShownFormat in
     let format = g.F.PacketFormat in
     shows-handed (shown_by side.the_side format.format format.after side.first_state side.bytes side.line) format.takes_memory c.args.stream.now c.packets.stream c.next.new.self c.args.text.now c.packets.text c.next.result
-    c.in_err-place.field-0.0 c.from_residual.result c.packets.invariant.goes c.next.ensures.follows c.in_err-place.was c.from_residual.ensures.1
+    c.in_err-place.field-0.0 c.from_residual.result c.packets.invariant.over c.packets.invariant.goes c.next.ensures.changes c.next.ensures.follows c.in_err-place.was c.from_residual.ensures.1
 
 pub packets-preserved : goal.packets-preserved
 packets-preserved g c =

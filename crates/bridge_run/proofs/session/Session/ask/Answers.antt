@@ -5,7 +5,7 @@ use Rattle.bridge_run.specs.Events.{Event}
 use Rattle.bridge_run.specs.Course.{Setting, Takes}
 use Rattle.bridge_run.specs.Calls.{Goes, piece, end_of, down, quiet}
 use Rattle.bridge_run.specs.Calls.{turned as passed}
-use Rattle.bridge_run.specs.Outside.{outside}
+use Rattle.bridge_run.specs.Outside.{outside, written, faults}
 use Rattle.bridge_run.specs.inner.Follows.{Runs, setting, polls, behind}
 use Rattle.bridge_run.proofs.Reaching.{reaches-none, reaches-call, runs-then}
 use Rattle.bridge_run.proofs.Asking.{OneMoved, poll-call, passed-follows, took-follows, ended-follows, failed-cut, up-is, setting-down, moved-no_fault}
@@ -23,7 +23,7 @@ returns-in-Took-clause-course g c = λ first k f.
     let links' = g.D.Doors.link c.poll.new.self in
     let door = g.D.Doors.door c.args.doors.now in
     let door' = g.D.Doors.door c.poll.new.self in
-    let out = g.K.Sink.contents c.args.out.now in
+    let out = written (g.K.Sink.contents c.args.out.now) (g.T.Tape.contents c.args.tape.now) in
     let buf = c.poll.new.buf in
     let len : length buf ≡ 65536 = omega (arith, c.poll.auto.buf, c.requires.room) in
     let from = Goes (polls side) k in
@@ -34,11 +34,11 @@ returns-in-Took-clause-course g c = λ first k f.
     let f2 = took-follows stands p kept c.take.new.self (outside links' door') out (passed side k) n f1 c.take.ensures in
     let d = record (passed side k) { busy = true; left = (passed side k).left - n } in
     let next = Takes (piece side (take n buf)) (behind side) in
-    let run = subst (λ (e : Event). Runs c.happen.result (g.C.Served.stands first c.happen.new.self.core) (setting p c.take.new.self) c.happen.new.self.kept (outside (g.D.Doors.link c.happen.new.doors) (g.D.Doors.door c.happen.new.doors)) (g.K.Sink.contents c.happen.new.out) (Goes (Takes e (behind side)) d) (behind side))
+    let run = subst (λ (e : Event). Runs c.happen.result (g.C.Served.stands first c.happen.new.self.core) (setting p c.take.new.self) c.happen.new.self.kept (outside (g.D.Doors.link c.happen.new.doors) (g.D.Doors.door c.happen.new.doors)) (written (g.K.Sink.contents c.happen.new.out) (g.T.Tape.contents c.happen.new.tape)) (Goes (Takes e (behind side)) d) (behind side))
     c.piece.ensures (c.happen.ensures.course first (behind side) d f2) in
-    runs-then c.happen.result (g.C.Served.stands first c.happen.new.self.core) s c.happen.new.self.kept (outside (g.D.Doors.link c.happen.new.doors) (g.D.Doors.door c.happen.new.doors)) (g.K.Sink.contents c.happen.new.out) from next d (behind side)
+    runs-then c.happen.result (g.C.Served.stands first c.happen.new.self.core) s c.happen.new.self.kept (outside (g.D.Doors.link c.happen.new.doors) (g.D.Doors.door c.happen.new.doors)) (written (g.K.Sink.contents c.happen.new.out) (g.T.Tape.contents c.happen.new.tape)) from next d (behind side)
     (reaches-call s from (polls side) k (Goes next d) (reaches-none s from) (poll-call s side links door out k (Took n) buf f.tells up len c.in-Took.ensures.link.0))
-    (subst (λ (t : Setting). Runs c.happen.result (g.C.Served.stands first c.happen.new.self.core) t c.happen.new.self.kept (outside (g.D.Doors.link c.happen.new.doors) (g.D.Doors.door c.happen.new.doors)) (g.K.Sink.contents c.happen.new.out) (Goes next d) (behind side)) (ap (setting p) c.take.ensures) run)
+    (subst (λ (t : Setting). Runs c.happen.result (g.C.Served.stands first c.happen.new.self.core) t c.happen.new.self.kept (outside (g.D.Doors.link c.happen.new.doors) (g.D.Doors.door c.happen.new.doors)) (written (g.K.Sink.contents c.happen.new.out) (g.T.Tape.contents c.happen.new.tape)) (Goes next d) (behind side)) (ap (setting p) c.take.ensures) run)
 
 pub returns-in-NotYet-clause-course : goal.returns-in-NotYet-clause-course
 returns-in-NotYet-clause-course g c = λ first k f.
@@ -51,7 +51,7 @@ returns-in-NotYet-clause-course g c = λ first k f.
     let links' = g.D.Doors.link c.poll.new.self in
     let door = g.D.Doors.door c.args.doors.now in
     let door' = g.D.Doors.door c.poll.new.self in
-    let out = g.K.Sink.contents c.args.out.now in
+    let out = written (g.K.Sink.contents c.args.out.now) (g.T.Tape.contents c.args.tape.now) in
     let buf = c.poll.new.buf in
     let len : length buf ≡ 65536 = omega (arith, c.poll.auto.buf, c.requires.room) in
     let from = Goes (polls side) k in
@@ -59,7 +59,7 @@ returns-in-NotYet-clause-course g c = λ first k f.
     let moved : OneMoved side links links' door door' = record { other-is = c.in-NotYet.ensures.other; door-is = c.in-NotYet.ensures.door } in
     let f1 = passed-follows side stands p kept links links' door door' out k (length buf) f len moved (ap (λ (l : Link). l.up) c.in-NotYet.ensures.link.1) (ap (λ (l : Link). l.turns) c.in-NotYet.ensures.link.1) (ap (λ (l : Link). l.written) c.in-NotYet.ensures.link.1) in
     let next = quiet side (behind side) in
-    runs-then c.be_quiet.result (g.C.Served.stands first c.be_quiet.new.self.core) s c.be_quiet.new.self.kept (outside (g.D.Doors.link c.be_quiet.new.doors) (g.D.Doors.door c.be_quiet.new.doors)) (g.K.Sink.contents c.be_quiet.new.out) from next (passed side k) (behind side)
+    runs-then c.be_quiet.result (g.C.Served.stands first c.be_quiet.new.self.core) s c.be_quiet.new.self.kept (outside (g.D.Doors.link c.be_quiet.new.doors) (g.D.Doors.door c.be_quiet.new.doors)) (written (g.K.Sink.contents c.be_quiet.new.out) (g.T.Tape.contents c.be_quiet.new.tape)) from next (passed side k) (behind side)
     (reaches-call s from (polls side) k (Goes next (passed side k)) (reaches-none s from) (poll-call s side links door out k NotYet buf f.tells up len c.in-NotYet.ensures.link.0))
     (c.be_quiet.ensures.course first (behind side) (passed side k) f1)
 
@@ -74,7 +74,7 @@ returns-in-Ended-clause-course g c = λ first k f.
     let links' = g.D.Doors.link c.poll.new.self in
     let door = g.D.Doors.door c.args.doors.now in
     let door' = g.D.Doors.door c.poll.new.self in
-    let out = g.K.Sink.contents c.args.out.now in
+    let out = written (g.K.Sink.contents c.args.out.now) (g.T.Tape.contents c.args.tape.now) in
     let buf = c.poll.new.buf in
     let len : length buf ≡ 65536 = omega (arith, c.poll.auto.buf, c.requires.room) in
     let from = Goes (polls side) k in
@@ -83,11 +83,11 @@ returns-in-Ended-clause-course g c = λ first k f.
     let f2 = ended-follows side stands p kept c.end.new.self links links' door door' out k (length buf) f len moved (ap (λ (l : Link). l.up) c.in-Ended.ensures.link.1) (ap (λ (l : Link). l.turns) c.in-Ended.ensures.link.1) (ap (λ (l : Link). l.written) c.in-Ended.ensures.link.1) c.end.ensures in
     let d = record (down side (passed side k)) { busy = true } in
     let next = Takes (end_of side) (behind side) in
-    let run = subst (λ (e : Event). Runs c.happen-in-Ended.result (g.C.Served.stands first c.happen-in-Ended.new.self.core) (setting p c.end.new.self) c.happen-in-Ended.new.self.kept (outside (g.D.Doors.link c.happen-in-Ended.new.doors) (g.D.Doors.door c.happen-in-Ended.new.doors)) (g.K.Sink.contents c.happen-in-Ended.new.out) (Goes (Takes e (behind side)) d) (behind side))
+    let run = subst (λ (e : Event). Runs c.happen-in-Ended.result (g.C.Served.stands first c.happen-in-Ended.new.self.core) (setting p c.end.new.self) c.happen-in-Ended.new.self.kept (outside (g.D.Doors.link c.happen-in-Ended.new.doors) (g.D.Doors.door c.happen-in-Ended.new.doors)) (written (g.K.Sink.contents c.happen-in-Ended.new.out) (g.T.Tape.contents c.happen-in-Ended.new.tape)) (Goes (Takes e (behind side)) d) (behind side))
     c.end_of.ensures (c.happen-in-Ended.ensures.course first (behind side) d f2) in
-    runs-then c.happen-in-Ended.result (g.C.Served.stands first c.happen-in-Ended.new.self.core) s c.happen-in-Ended.new.self.kept (outside (g.D.Doors.link c.happen-in-Ended.new.doors) (g.D.Doors.door c.happen-in-Ended.new.doors)) (g.K.Sink.contents c.happen-in-Ended.new.out) from next d (behind side)
+    runs-then c.happen-in-Ended.result (g.C.Served.stands first c.happen-in-Ended.new.self.core) s c.happen-in-Ended.new.self.kept (outside (g.D.Doors.link c.happen-in-Ended.new.doors) (g.D.Doors.door c.happen-in-Ended.new.doors)) (written (g.K.Sink.contents c.happen-in-Ended.new.out) (g.T.Tape.contents c.happen-in-Ended.new.tape)) from next d (behind side)
     (reaches-call s from (polls side) k (Goes next d) (reaches-none s from) (poll-call s side links door out k Ended buf f.tells up len c.in-Ended.ensures.link.0))
-    (subst (λ (t : Setting). Runs c.happen-in-Ended.result (g.C.Served.stands first c.happen-in-Ended.new.self.core) t c.happen-in-Ended.new.self.kept (outside (g.D.Doors.link c.happen-in-Ended.new.doors) (g.D.Doors.door c.happen-in-Ended.new.doors)) (g.K.Sink.contents c.happen-in-Ended.new.out) (Goes next d) (behind side)) (ap (setting p) c.end.ensures ∙ setting-down p side kept) run)
+    (subst (λ (t : Setting). Runs c.happen-in-Ended.result (g.C.Served.stands first c.happen-in-Ended.new.self.core) t c.happen-in-Ended.new.self.kept (outside (g.D.Doors.link c.happen-in-Ended.new.doors) (g.D.Doors.door c.happen-in-Ended.new.doors)) (written (g.K.Sink.contents c.happen-in-Ended.new.out) (g.T.Tape.contents c.happen-in-Ended.new.tape)) (Goes next d) (behind side)) (ap (setting p) c.end.ensures ∙ setting-down p side kept) run)
 
 pub returns-in-Failed-clause-course : goal.returns-in-Failed-clause-course
 returns-in-Failed-clause-course g c = λ first k f.
@@ -100,7 +100,7 @@ returns-in-Failed-clause-course g c = λ first k f.
     let links' = g.D.Doors.link c.poll.new.self in
     let door = g.D.Doors.door c.args.doors.now in
     let door' = g.D.Doors.door c.poll.new.self in
-    let out = g.K.Sink.contents c.args.out.now in
+    let out = written (g.K.Sink.contents c.args.out.now) (g.T.Tape.contents c.args.tape.now) in
     let buf = c.poll.new.buf in
     let len : length buf ≡ 65536 = omega (arith, c.poll.auto.buf, c.requires.room) in
     let from = Goes (polls side) k in
@@ -114,8 +114,8 @@ returns-in-Took-clause-faults g c =
     let links' = g.D.Doors.link c.poll.new.self in
     let door = g.D.Doors.door c.args.doors.now in
     let door' = g.D.Doors.door c.poll.new.self in
-    let sink = g.K.Sink.faults c.args.out.now in
-    faults-then c.happen.result (outside links door) (outside links' door') (outside (g.D.Doors.link c.happen.new.doors) (g.D.Doors.door c.happen.new.doors)) sink sink (g.K.Sink.faults c.happen.new.out)
+    let sink = faults (g.K.Sink.faults c.args.out.now) (g.T.Tape.counts c.args.tape.now) in
+    faults-then c.happen.result (outside links door) (outside links' door') (outside (g.D.Doors.link c.happen.new.doors) (g.D.Doors.door c.happen.new.doors)) sink sink (faults (g.K.Sink.faults c.happen.new.out) (g.T.Tape.counts c.happen.new.tape))
     (moved-no_fault c.args.side links links' door door' sink (record { other-is = c.in-Took.ensures.other; door-is = c.in-Took.ensures.door }) (ap (λ (l : Link). l.faults) c.in-Took.ensures.link.1)) c.happen.ensures.faults
 
 pub returns-in-Ended-clause-faults : goal.returns-in-Ended-clause-faults
@@ -124,8 +124,8 @@ returns-in-Ended-clause-faults g c =
     let links' = g.D.Doors.link c.poll.new.self in
     let door = g.D.Doors.door c.args.doors.now in
     let door' = g.D.Doors.door c.poll.new.self in
-    let sink = g.K.Sink.faults c.args.out.now in
-    faults-then c.happen-in-Ended.result (outside links door) (outside links' door') (outside (g.D.Doors.link c.happen-in-Ended.new.doors) (g.D.Doors.door c.happen-in-Ended.new.doors)) sink sink (g.K.Sink.faults c.happen-in-Ended.new.out)
+    let sink = faults (g.K.Sink.faults c.args.out.now) (g.T.Tape.counts c.args.tape.now) in
+    faults-then c.happen-in-Ended.result (outside links door) (outside links' door') (outside (g.D.Doors.link c.happen-in-Ended.new.doors) (g.D.Doors.door c.happen-in-Ended.new.doors)) sink sink (faults (g.K.Sink.faults c.happen-in-Ended.new.out) (g.T.Tape.counts c.happen-in-Ended.new.tape))
     (moved-no_fault c.args.side links links' door door' sink (record { other-is = c.in-Ended.ensures.other; door-is = c.in-Ended.ensures.door }) (ap (λ (l : Link). l.faults) c.in-Ended.ensures.link.1)) c.happen-in-Ended.ensures.faults
 
 pub returns-in-Ended-clause-wears : goal.returns-in-Ended-clause-wears

@@ -4,7 +4,7 @@ use Rattle.bridge_run.specs.Events.{ClientEnd, event_of}
 use Rattle.bridge_run.specs.declared.serve_end.ServeEnd.{ServeEnd}
 use Rattle.bridge_run.specs.Course.{Takes}
 use Rattle.bridge_run.specs.Calls.{Goes, put}
-use Rattle.bridge_run.specs.Outside.{outside}
+use Rattle.bridge_run.specs.Outside.{outside, written}
 use Rattle.bridge_run.specs.inner.Follows.{Runs, setting}
 use Rattle.bridge_run.proofs.Reaching.{reaches-none, reaches-call, cut-leaves, cut-next, is-err}
 use Rattle.bridge_run.proofs.Settling.{settled, take-course, take-settles, take-ends, quiet-on, on-all}
@@ -15,7 +15,7 @@ returns-in_err-dropped-clause-course g c = λ first next k f.
     let p = g.C.Served.sends first in
     let s = setting p c.args.self.now.kept in
     let w = outside (g.D.Doors.link c.put.new.doors) (g.D.Doors.door c.put.new.doors) in
-    let out = g.K.Sink.contents c.put.new.out in
+    let out = written (g.K.Sink.contents c.put.new.out) (g.T.Tape.contents c.put.new.tape) in
     let e = event_of c.args.event in
     let from = Goes (Takes e next) k in
     let end = c.in_err-dropped.field-0.0 in
@@ -27,7 +27,7 @@ returns-in_err-put-clause-course g c = λ first next k f.
     let p = g.C.Served.sends first in
     let s = setting p c.args.self.now.kept in
     let w = outside (g.D.Doors.link c.put-2.new.doors) (g.D.Doors.door c.put-2.new.doors) in
-    let out = g.K.Sink.contents c.put-2.new.out in
+    let out = written (g.K.Sink.contents c.put-2.new.out) (g.T.Tape.contents c.put-2.new.tape) in
     let e = event_of c.args.event in
     let from = Goes (Takes e next) k in
     let end = c.in_err-put.field-0.0 in
@@ -42,7 +42,7 @@ returns-then-not-ends_next-clause-course g c = λ first next k f.
     let p = g.C.Served.sends first in
     let s = setting p c.args.self.now.kept in
     let w = outside (g.D.Doors.link c.put.new.doors) (g.D.Doors.door c.put.new.doors) in
-    let out = g.K.Sink.contents c.put.new.out in
+    let out = written (g.K.Sink.contents c.put.new.out) (g.T.Tape.contents c.put.new.tape) in
     let e = event_of c.args.event in
     let from = Goes (Takes e next) k in
     let first_put = c.in_ok-dropped.ensures.course first k f in
@@ -54,7 +54,7 @@ returns-clause-course g c = λ first next k f.
     let p = g.C.Served.sends first in
     let s = setting p c.args.self.now.kept in
     let w = outside (g.D.Doors.link c.put-2.new.doors) (g.D.Doors.door c.put-2.new.doors) in
-    let out = g.K.Sink.contents c.put-2.new.out in
+    let out = written (g.K.Sink.contents c.put-2.new.out) (g.T.Tape.contents c.put-2.new.tape) in
     let e = event_of c.args.event in
     let from = Goes (Takes e next) k in
     let first_put = c.in_ok-dropped.ensures.course first k f in

@@ -1,4 +1,4 @@
-use Rattle.std.proofs.Common.{ℕ, Bool, ◌||◌, List, ◌∙◌, ap, subst}
+use Rattle.std.proofs.Common.{ℕ, Bool, ◌||◌, List, Result, refl, sym, ◌∙◌, ap, subst}
 use Rattle.usb_base.specs.declared.side.Side.TheVariants.{Client, Host}
 use Rattle.usb_base.specs.declared.refusal.Refusal.{Refusal}
 use Rattle.std.specs.Io.KnownBytes.{Appends}
@@ -7,14 +7,36 @@ use Rattle.gate_outside.specs.Link.{Link}
 use Rattle.bridge_run.specs.Events.{event_of}
 use Rattle.bridge_run.specs.declared.kept.Kept.{Kept}
 use Rattle.bridge_run.specs.Prescribed.{refuses}
-use Rattle.bridge_run.specs.Outside.{outside}
+use Rattle.bridge_run.specs.Outside.{outside, written, faults}
+use Rattle.bridge_run.specs.declared.serve_end.ServeEnd.{ServeEnd}
+use Rattle.bridge_run.specs.inner.Follows.{HasFaults}
+use Rattle.bridge_run.proofs.Reaching.{is-err}
 use Rattle.bridge_run.specs.inner.Links.{wrote_if, WritesFront, closed_if}
 use Rattle.bridge_run.specs.inner.Keeping.{refusing}
-use Rattle.bridge_run.proofs.Putting.{cut-puts, dropped-is, put-client, put-host, put-follows, put-before, put-in_client, put-in_host, put-in_lines, refusing-none}
+use Rattle.bridge_run.proofs.Putting.{tape-faults, cut-puts, dropped-is, put-client, put-host, put-follows, put-before, put-in_entry, put-in_client, put-in_host, put-in_lines, refusing-none}
 use Rattle.bridge_run.proofs.session.Session.put.Goals as goal
 
 pub returns-in_err-prepare-clause-course : goal.returns-in_err-prepare-clause-course
-returns-in_err-prepare-clause-course g c = λ first k f. cut-puts _ c.from_residual.result (g.C.Served.stands first c.prepare.new.self.core) (g.C.Served.sends first) (event_of c.args.event) c.prepare.new.self.kept (outside (g.D.Doors.link c.args.doors.now) (g.D.Doors.door c.args.doors.now)) (g.K.Sink.contents c.args.out.now) k c.from_residual.ensures.1 (put-before (g.C.Served.sends first) k (event_of c.args.event) (outside (g.D.Doors.link c.args.doors.now) (g.D.Doors.door c.args.doors.now)) (g.K.Sink.contents c.args.out.now) f.tells)
+returns-in_err-prepare-clause-course g c = λ first k f. cut-puts _ c.from_residual.result (g.C.Served.stands first c.prepare.new.self.core) (g.C.Served.sends first) (event_of c.args.event) c.prepare.new.self.kept (outside (g.D.Doors.link c.args.doors.now) (g.D.Doors.door c.args.doors.now)) (written (g.K.Sink.contents c.args.out.now) (g.T.Tape.contents c.args.tape.now)) k c.from_residual.ensures.1 (put-before (g.C.Served.sends first) k (event_of c.args.event) (outside (g.D.Doors.link c.args.doors.now) (g.D.Doors.door c.args.doors.now)) (written (g.K.Sink.contents c.args.out.now) (g.T.Tape.contents c.args.tape.now)) f.tells)
+
+pub returns-in_err-record_event-clause-course : goal.returns-in_err-record_event-clause-course
+returns-in_err-record_event-clause-course g c = λ first k f.
+    let p = g.C.Served.sends first in
+    let e = event_of c.args.event in
+    let w = outside (g.D.Doors.link c.args.doors.now) (g.D.Doors.door c.args.doors.now) in
+    let out = (written (g.K.Sink.contents c.args.out.now) (g.T.Tape.contents c.record_event.new.tape)) in
+    cut-puts _ c.from_residual-in_err-record_event.result (g.C.Served.stands first c.prepare.new.self.core) p e c.prepare.new.self.kept w out k c.from_residual-in_err-record_event.ensures.1
+    (put-in_entry p k e c.prepare.new.self.sent c.prepare.new.self.lines w (written (g.K.Sink.contents c.args.out.now) (g.T.Tape.contents c.args.tape.now)) out (c.in_ok-prepare.ensures.prepared first k.events f.stands_for) f.tells refl c.in_err-record_event.ensures.err)
+
+pub returns-in_err-record_event-clause-faults : goal.returns-in_err-record_event-clause-faults
+returns-in_err-record_event-clause-faults g c =
+    let w = outside (g.D.Doors.link c.args.doors.now) (g.D.Doors.door c.args.doors.now) in
+    let sink = g.K.Sink.faults c.args.out.now in
+    let old = g.T.Tape.counts c.args.tape.now in
+    let new = g.T.Tape.counts c.record_event.new.tape in
+    let end = c.in_err-record_event.field-0.0 in
+    subst (λ (r : Result Bool ServeEnd). HasFaults r w w (faults sink old) (faults sink new)) (sym (is-err c.from_residual-in_err-record_event.result end c.from_residual-in_err-record_event.ensures.1))
+    (tape-faults end w sink old new c.in_err-record_event.ensures.cause)
 
 pub returns-in_err-write_link-clause-course : goal.returns-in_err-write_link-clause-course
 returns-in_err-write_link-clause-course g c = λ first k f.
@@ -25,8 +47,8 @@ returns-in_err-write_link-clause-course g c = λ first k f.
     let prepared = c.in_ok-prepare.ensures.prepared first k.events f.stands_for in
     let up_client = ap (λ (k : Kept). k.client_up) c.in_ok-prepare.ensures.kept ∙ f.client_up in
     let up_host = ap (λ (k : Kept). k.host_up) c.in_ok-prepare.ensures.kept ∙ f.host_up in
-    cut-puts _ c.from_residual-in_err-write_link.result (g.C.Served.stands first c.prepare.new.self.core) p e c.prepare.new.self.kept (outside (g.D.Doors.link c.write_link.new.doors) (g.D.Doors.door c.write_link.new.doors)) (g.K.Sink.contents c.args.out.now) k c.from_residual-in_err-write_link.ensures.1
-    (put-in_client p k e sent lines (outside (g.D.Doors.link c.args.doors.now) (g.D.Doors.door c.args.doors.now)) (outside (g.D.Doors.link c.write_link.new.doors) (g.D.Doors.door c.write_link.new.doors)) (g.K.Sink.contents c.args.out.now) c.prepare.new.self.kept.client_up prepared f.tells up_client
+    cut-puts _ c.from_residual-in_err-write_link.result (g.C.Served.stands first c.prepare.new.self.core) p e c.prepare.new.self.kept (outside (g.D.Doors.link c.write_link.new.doors) (g.D.Doors.door c.write_link.new.doors)) (written (g.K.Sink.contents c.args.out.now) (g.T.Tape.contents c.record_event.new.tape)) k c.from_residual-in_err-write_link.ensures.1
+    (put-in_client p k e sent lines (outside (g.D.Doors.link c.args.doors.now) (g.D.Doors.door c.args.doors.now)) (outside (g.D.Doors.link c.write_link.new.doors) (g.D.Doors.door c.write_link.new.doors)) (written (g.K.Sink.contents c.args.out.now) (g.T.Tape.contents c.args.tape.now)) (written (g.K.Sink.contents c.args.out.now) (g.T.Tape.contents c.record_event.new.tape)) c.prepare.new.self.kept.client_up prepared f.tells refl c.in_ok-record_event.ensures.ok up_client
     (subst (λ (b : List ℕ). WritesFront c.prepare.new.self.kept.client_up b (g.D.Doors.link c.args.doors.now Client) (g.D.Doors.link c.write_link.new.doors Client)) c.as_slice.ensures c.in_err-write_link.ensures.link)
     c.in_err-write_link.ensures.other c.in_err-write_link.ensures.door)
 
@@ -40,8 +62,8 @@ returns-in_err-write_link-2-clause-course g c = λ first k f.
     let up_client = ap (λ (k : Kept). k.client_up) c.in_ok-prepare.ensures.kept ∙ f.client_up in
     let up_host = ap (λ (k : Kept). k.host_up) c.in_ok-prepare.ensures.kept ∙ f.host_up in
     let wrote_client = c.in_ok-write_link.ensures.link ∙ ap (λ (b : List ℕ). wrote_if c.prepare.new.self.kept.client_up b (g.D.Doors.link c.args.doors.now Client)) c.as_slice.ensures in
-    cut-puts _ c.from_residual-in_err-write_link-2.result (g.C.Served.stands first c.prepare.new.self.core) p e c.prepare.new.self.kept (outside (g.D.Doors.link c.write_link-2.new.doors) (g.D.Doors.door c.write_link-2.new.doors)) (g.K.Sink.contents c.args.out.now) k c.from_residual-in_err-write_link-2.ensures.1
-    (put-in_host p k e sent lines (outside (g.D.Doors.link c.args.doors.now) (g.D.Doors.door c.args.doors.now)) (outside (g.D.Doors.link c.write_link-2.new.doors) (g.D.Doors.door c.write_link-2.new.doors)) (g.K.Sink.contents c.args.out.now) c.prepare.new.self.kept.client_up c.prepare.new.self.kept.host_up prepared f.tells up_client up_host
+    cut-puts _ c.from_residual-in_err-write_link-2.result (g.C.Served.stands first c.prepare.new.self.core) p e c.prepare.new.self.kept (outside (g.D.Doors.link c.write_link-2.new.doors) (g.D.Doors.door c.write_link-2.new.doors)) (written (g.K.Sink.contents c.args.out.now) (g.T.Tape.contents c.record_event.new.tape)) k c.from_residual-in_err-write_link-2.ensures.1
+    (put-in_host p k e sent lines (outside (g.D.Doors.link c.args.doors.now) (g.D.Doors.door c.args.doors.now)) (outside (g.D.Doors.link c.write_link-2.new.doors) (g.D.Doors.door c.write_link-2.new.doors)) (written (g.K.Sink.contents c.args.out.now) (g.T.Tape.contents c.args.tape.now)) (written (g.K.Sink.contents c.args.out.now) (g.T.Tape.contents c.record_event.new.tape)) c.prepare.new.self.kept.client_up c.prepare.new.self.kept.host_up prepared f.tells refl c.in_ok-record_event.ensures.ok up_client up_host
     (c.in_err-write_link-2.ensures.other ∙ wrote_client)
     (subst (λ (l : Link). WritesFront c.prepare.new.self.kept.host_up sent.to_host l (g.D.Doors.link c.write_link-2.new.doors Host)) c.in_ok-write_link.ensures.other
     (subst (λ (b : List ℕ). WritesFront c.prepare.new.self.kept.host_up b (g.D.Doors.link c.write_link.new.doors Host) (g.D.Doors.link c.write_link-2.new.doors Host)) c.as_slice-2.ensures c.in_err-write_link-2.ensures.link))
@@ -69,8 +91,8 @@ returns-in-Err-clause-course g c = λ first k f.
     let door = c.close_link-2.ensures.door ∙ c.close_link.ensures.door ∙ c.in_ok-write_link-2.ensures.door ∙ c.in_ok-write_link.ensures.door in
     let shows_client = put-client p k e sent lines (g.D.Doors.link c.args.doors.now Client) (g.D.Doors.link c.close_link-2.new.doors Client) c.prepare.new.self.kept.client_up prepared f.tells.client up_client client in
     let shows_host = put-host p k e sent lines (g.D.Doors.link c.args.doors.now Host) (g.D.Doors.link c.close_link-2.new.doors Host) c.prepare.new.self.kept.host_up prepared f.tells.host up_host host in
-    put-in_lines p k e sent lines (outside (g.D.Doors.link c.args.doors.now) (g.D.Doors.door c.args.doors.now)) (outside (g.D.Doors.link c.close_link-2.new.doors) (g.D.Doors.door c.close_link-2.new.doors)) (g.K.Sink.contents c.args.out.now) (g.K.Sink.contents c.write_all.new.sink) prepared f.tells shows_client shows_host door
-    (subst (λ (b : List ℕ). AppendsFront (g.K.Sink.contents c.args.out.now) (g.K.Sink.contents c.write_all.new.sink) b) c.as_slice-3.ensures c.in-Err.ensures.err)
+    put-in_lines p k e sent lines (outside (g.D.Doors.link c.args.doors.now) (g.D.Doors.door c.args.doors.now)) (outside (g.D.Doors.link c.close_link-2.new.doors) (g.D.Doors.door c.close_link-2.new.doors)) (written (g.K.Sink.contents c.args.out.now) (g.T.Tape.contents c.args.tape.now)) (written (g.K.Sink.contents c.write_all.new.sink) (g.T.Tape.contents c.record_event.new.tape)) prepared f.tells shows_client shows_host door
+    (subst (λ (b : List ℕ). AppendsFront (g.K.Sink.contents c.args.out.now) (g.K.Sink.contents c.write_all.new.sink) b) c.as_slice-3.ensures c.in-Err.ensures.err) c.in_ok-record_event.ensures.ok
 
 pub returns-in-Ok-clause-course : goal.returns-in-Ok-clause-course
 returns-in-Ok-clause-course g c = λ first k f.
@@ -94,9 +116,9 @@ returns-in-Ok-clause-course g c = λ first k f.
     let door = c.close_link-2.ensures.door ∙ c.close_link.ensures.door ∙ c.in_ok-write_link-2.ensures.door ∙ c.in_ok-write_link.ensures.door in
     let shows_client = put-client p k e sent lines (g.D.Doors.link c.args.doors.now Client) (g.D.Doors.link c.close_link-2.new.doors Client) c.prepare.new.self.kept.client_up prepared f.tells.client up_client client in
     let shows_host = put-host p k e sent lines (g.D.Doors.link c.args.doors.now Host) (g.D.Doors.link c.close_link-2.new.doors Host) c.prepare.new.self.kept.host_up prepared f.tells.host up_host host in (
-      put-follows (g.C.Served.stands first c.prepare.new.self.core) p c.args.self.now.kept c.refuse.new.self (outside (g.D.Doors.link c.args.doors.now) (g.D.Doors.door c.args.doors.now)) (outside (g.D.Doors.link c.close_link-2.new.doors) (g.D.Doors.door c.close_link-2.new.doors)) (g.K.Sink.contents c.args.out.now) (g.K.Sink.contents c.write_all.new.sink) k e sent lines
+      put-follows (g.C.Served.stands first c.prepare.new.self.core) p c.args.self.now.kept c.refuse.new.self (outside (g.D.Doors.link c.args.doors.now) (g.D.Doors.door c.args.doors.now)) (outside (g.D.Doors.link c.close_link-2.new.doors) (g.D.Doors.door c.close_link-2.new.doors)) (written (g.K.Sink.contents c.args.out.now) (g.T.Tape.contents c.args.tape.now)) (written (g.K.Sink.contents c.write_all.new.sink) (g.T.Tape.contents c.record_event.new.tape)) k e sent lines
           (g.C.Served.stands first c.args.self.now.core) f prepared (c.in_ok-prepare.ensures.stands first k.events f.stands_for) (c.refuse.ensures ∙ ap (refusing sent.refusals sent.lets_go) c.in_ok-prepare.ensures.kept) shows_client shows_host door
-          (subst (λ (b : List ℕ). Appends (g.K.Sink.contents c.args.out.now) (g.K.Sink.contents c.write_all.new.sink) b) c.as_slice-3.ensures c.in-Ok.ensures.ok),
+          (subst (λ (b : List ℕ). Appends (g.K.Sink.contents c.args.out.now) (g.K.Sink.contents c.write_all.new.sink) b) c.as_slice-3.ensures c.in-Ok.ensures.ok) c.in_ok-record_event.ensures.ok,
       c.drops_client-dropped.ensures ∙ dropped-is p k.events e sent lines prepared,
     )
 

@@ -2,7 +2,7 @@ use Rattle.std.proofs.Common.{Result, Ok, Err, sym, ◌∙◌, subst}
 use Rattle.bridge_run.specs.declared.serve_end.ServeEnd.{ServeEnd}
 use Rattle.bridge_run.specs.Course.{AtDoor, AtClient, AtHost, AtEnd}
 use Rattle.bridge_run.specs.Calls.{Goes}
-use Rattle.bridge_run.specs.Outside.{outside}
+use Rattle.bridge_run.specs.Outside.{outside, written, faults}
 use Rattle.bridge_run.specs.inner.Follows.{HasFaults, setting, Runs}
 use Rattle.bridge_run.proofs.Reaching.{is-err}
 use Rattle.bridge_run.specs.inner.Idling.{RoundIdles}
@@ -16,7 +16,7 @@ returns-in_err-ask-clause-course g c = λ first k f.
     let k0 = c.args.self.now.kept in
     let s = setting p k0 in
     let from = Goes AtDoor k in
-    let out0 = g.K.Sink.contents c.ask_door.new.out in
+    let out0 = written (g.K.Sink.contents c.ask_door.new.out) (g.T.Tape.contents c.ask_door.new.tape) in
     let k1 = c.ask_door.new.self.kept in
     let stands1 = g.C.Served.stands first c.ask_door.new.self.core in
     let w1 = (outside (g.D.Doors.link c.ask_door.new.doors) (g.D.Doors.door c.ask_door.new.doors)) in
@@ -24,15 +24,15 @@ returns-in_err-ask-clause-course g c = λ first k f.
     let e = c.in_err-ask.field-0.0 in
     let stands2 = g.C.Served.stands first c.ask.new.self.core in
     let w2 = (outside (g.D.Doors.link c.ask.new.doors) (g.D.Doors.door c.ask.new.doors)) in
-    let out2 = g.K.Sink.contents c.ask.new.out in
+    let out2 = written (g.K.Sink.contents c.ask.new.out) (g.T.Tape.contents c.ask.new.tape) in
     subst (λ (r : Result (Unit {0}) ServeEnd). Runs r stands2 s c.ask.new.self.kept w2 out2 from AtDoor) (sym (is-err c.from_residual-in_err-ask.result e c.from_residual-in_err-ask.ensures.1))
     (goes-on {T = Unit {0}} (Err e) stands1 stands2 p k0 k1 c.ask.new.self.kept w1 w2 out0 out2 from AtClient AtDoor a c.ask_door.ensures.wears.idle (c.in_err-ask.ensures.course first a.course a.follows))
 
 pub returns-in_err-ask-clause-faults : goal.returns-in_err-ask-clause-faults
 returns-in_err-ask-clause-faults g c =
     let e = c.in_err-ask.field-0.0 in
-    subst (λ (r : Result (Unit {0}) ServeEnd). HasFaults r (outside (g.D.Doors.link c.args.doors.now) (g.D.Doors.door c.args.doors.now)) (outside (g.D.Doors.link c.ask.new.doors) (g.D.Doors.door c.ask.new.doors)) (g.K.Sink.faults c.args.out.now) (g.K.Sink.faults c.ask.new.out)) (sym (is-err c.from_residual-in_err-ask.result e c.from_residual-in_err-ask.ensures.1))
-    (faults-then {T = Unit {0}} (Err e) (outside (g.D.Doors.link c.args.doors.now) (g.D.Doors.door c.args.doors.now)) (outside (g.D.Doors.link c.ask_door.new.doors) (g.D.Doors.door c.ask_door.new.doors)) (outside (g.D.Doors.link c.ask.new.doors) (g.D.Doors.door c.ask.new.doors)) (g.K.Sink.faults c.args.out.now) (g.K.Sink.faults c.ask_door.new.out) (g.K.Sink.faults c.ask.new.out) c.in_ok-ask_door.ensures.faults c.in_err-ask.ensures.faults)
+    subst (λ (r : Result (Unit {0}) ServeEnd). HasFaults r (outside (g.D.Doors.link c.args.doors.now) (g.D.Doors.door c.args.doors.now)) (outside (g.D.Doors.link c.ask.new.doors) (g.D.Doors.door c.ask.new.doors)) (faults (g.K.Sink.faults c.args.out.now) (g.T.Tape.counts c.args.tape.now)) (faults (g.K.Sink.faults c.ask.new.out) (g.T.Tape.counts c.ask.new.tape))) (sym (is-err c.from_residual-in_err-ask.result e c.from_residual-in_err-ask.ensures.1))
+    (faults-then {T = Unit {0}} (Err e) (outside (g.D.Doors.link c.args.doors.now) (g.D.Doors.door c.args.doors.now)) (outside (g.D.Doors.link c.ask_door.new.doors) (g.D.Doors.door c.ask_door.new.doors)) (outside (g.D.Doors.link c.ask.new.doors) (g.D.Doors.door c.ask.new.doors)) (faults (g.K.Sink.faults c.args.out.now) (g.T.Tape.counts c.args.tape.now)) (faults (g.K.Sink.faults c.ask_door.new.out) (g.T.Tape.counts c.ask_door.new.tape)) (faults (g.K.Sink.faults c.ask.new.out) (g.T.Tape.counts c.ask.new.tape)) c.in_ok-ask_door.ensures.faults c.in_err-ask.ensures.faults)
 
 pub returns-in_err-ask-2-clause-course : goal.returns-in_err-ask-2-clause-course
 returns-in_err-ask-2-clause-course g c = λ first k f.
@@ -40,7 +40,7 @@ returns-in_err-ask-2-clause-course g c = λ first k f.
     let k0 = c.args.self.now.kept in
     let s = setting p k0 in
     let from = Goes AtDoor k in
-    let out0 = g.K.Sink.contents c.ask_door.new.out in
+    let out0 = written (g.K.Sink.contents c.ask_door.new.out) (g.T.Tape.contents c.ask_door.new.tape) in
     let k1 = c.ask_door.new.self.kept in
     let stands1 = g.C.Served.stands first c.ask_door.new.self.core in
     let w1 = (outside (g.D.Doors.link c.ask_door.new.doors) (g.D.Doors.door c.ask_door.new.doors)) in
@@ -48,21 +48,21 @@ returns-in_err-ask-2-clause-course g c = λ first k f.
     let k2 = c.ask.new.self.kept in
     let stands2 = g.C.Served.stands first c.ask.new.self.core in
     let w2 = (outside (g.D.Doors.link c.ask.new.doors) (g.D.Doors.door c.ask.new.doors)) in
-    let out2 = g.K.Sink.contents c.ask.new.out in
+    let out2 = written (g.K.Sink.contents c.ask.new.out) (g.T.Tape.contents c.ask.new.tape) in
     let b = goes-on {T = Unit {0}} (Ok tt) stands1 stands2 p k0 k1 k2 w1 w2 out0 out2 from AtClient AtHost a c.ask_door.ensures.wears.idle (c.in_ok-ask.ensures.course first a.course a.follows) in
     let e = c.in_err-ask-2.field-0.0 in
     let stands3 = g.C.Served.stands first c.ask-2.new.self.core in
     let w3 = (outside (g.D.Doors.link c.ask-2.new.doors) (g.D.Doors.door c.ask-2.new.doors)) in
-    let out3 = g.K.Sink.contents c.ask-2.new.out in
+    let out3 = written (g.K.Sink.contents c.ask-2.new.out) (g.T.Tape.contents c.ask-2.new.tape) in
     subst (λ (r : Result (Unit {0}) ServeEnd). Runs r stands3 s c.ask-2.new.self.kept w3 out3 from AtDoor) (sym (is-err c.from_residual-in_err-ask-2.result e c.from_residual-in_err-ask-2.ensures.1))
     (goes-on {T = Unit {0}} (Err e) stands2 stands3 p k0 k2 c.ask-2.new.self.kept w2 w3 out2 out3 from AtHost AtDoor b (c.ask.ensures.wears.idle ∙ c.ask_door.ensures.wears.idle) (c.in_err-ask-2.ensures.course first b.course b.follows))
 
 pub returns-in_err-ask-2-clause-faults : goal.returns-in_err-ask-2-clause-faults
 returns-in_err-ask-2-clause-faults g c =
     let e = c.in_err-ask-2.field-0.0 in
-    subst (λ (r : Result (Unit {0}) ServeEnd). HasFaults r (outside (g.D.Doors.link c.args.doors.now) (g.D.Doors.door c.args.doors.now)) (outside (g.D.Doors.link c.ask-2.new.doors) (g.D.Doors.door c.ask-2.new.doors)) (g.K.Sink.faults c.args.out.now) (g.K.Sink.faults c.ask-2.new.out)) (sym (is-err c.from_residual-in_err-ask-2.result e c.from_residual-in_err-ask-2.ensures.1))
-    (faults-then {T = Unit {0}} (Err e) (outside (g.D.Doors.link c.args.doors.now) (g.D.Doors.door c.args.doors.now)) (outside (g.D.Doors.link c.ask_door.new.doors) (g.D.Doors.door c.ask_door.new.doors)) (outside (g.D.Doors.link c.ask-2.new.doors) (g.D.Doors.door c.ask-2.new.doors)) (g.K.Sink.faults c.args.out.now) (g.K.Sink.faults c.ask_door.new.out) (g.K.Sink.faults c.ask-2.new.out) c.in_ok-ask_door.ensures.faults
-    (faults-then {T = Unit {0}} (Err e) (outside (g.D.Doors.link c.ask_door.new.doors) (g.D.Doors.door c.ask_door.new.doors)) (outside (g.D.Doors.link c.ask.new.doors) (g.D.Doors.door c.ask.new.doors)) (outside (g.D.Doors.link c.ask-2.new.doors) (g.D.Doors.door c.ask-2.new.doors)) (g.K.Sink.faults c.ask_door.new.out) (g.K.Sink.faults c.ask.new.out) (g.K.Sink.faults c.ask-2.new.out) c.in_ok-ask.ensures.faults c.in_err-ask-2.ensures.faults))
+    subst (λ (r : Result (Unit {0}) ServeEnd). HasFaults r (outside (g.D.Doors.link c.args.doors.now) (g.D.Doors.door c.args.doors.now)) (outside (g.D.Doors.link c.ask-2.new.doors) (g.D.Doors.door c.ask-2.new.doors)) (faults (g.K.Sink.faults c.args.out.now) (g.T.Tape.counts c.args.tape.now)) (faults (g.K.Sink.faults c.ask-2.new.out) (g.T.Tape.counts c.ask-2.new.tape))) (sym (is-err c.from_residual-in_err-ask-2.result e c.from_residual-in_err-ask-2.ensures.1))
+    (faults-then {T = Unit {0}} (Err e) (outside (g.D.Doors.link c.args.doors.now) (g.D.Doors.door c.args.doors.now)) (outside (g.D.Doors.link c.ask_door.new.doors) (g.D.Doors.door c.ask_door.new.doors)) (outside (g.D.Doors.link c.ask-2.new.doors) (g.D.Doors.door c.ask-2.new.doors)) (faults (g.K.Sink.faults c.args.out.now) (g.T.Tape.counts c.args.tape.now)) (faults (g.K.Sink.faults c.ask_door.new.out) (g.T.Tape.counts c.ask_door.new.tape)) (faults (g.K.Sink.faults c.ask-2.new.out) (g.T.Tape.counts c.ask-2.new.tape)) c.in_ok-ask_door.ensures.faults
+    (faults-then {T = Unit {0}} (Err e) (outside (g.D.Doors.link c.ask_door.new.doors) (g.D.Doors.door c.ask_door.new.doors)) (outside (g.D.Doors.link c.ask.new.doors) (g.D.Doors.door c.ask.new.doors)) (outside (g.D.Doors.link c.ask-2.new.doors) (g.D.Doors.door c.ask-2.new.doors)) (faults (g.K.Sink.faults c.ask_door.new.out) (g.T.Tape.counts c.ask_door.new.tape)) (faults (g.K.Sink.faults c.ask.new.out) (g.T.Tape.counts c.ask.new.tape)) (faults (g.K.Sink.faults c.ask-2.new.out) (g.T.Tape.counts c.ask-2.new.tape)) c.in_ok-ask.ensures.faults c.in_err-ask-2.ensures.faults))
 
 pub returns-clause-course : goal.returns-clause-course
 returns-clause-course g c = λ first k f.
@@ -70,7 +70,7 @@ returns-clause-course g c = λ first k f.
     let k0 = c.args.self.now.kept in
     let s = setting p k0 in
     let from = Goes AtDoor k in
-    let out0 = g.K.Sink.contents c.ask_door.new.out in
+    let out0 = written (g.K.Sink.contents c.ask_door.new.out) (g.T.Tape.contents c.ask_door.new.tape) in
     let k1 = c.ask_door.new.self.kept in
     let stands1 = g.C.Served.stands first c.ask_door.new.self.core in
     let w1 = (outside (g.D.Doors.link c.ask_door.new.doors) (g.D.Doors.door c.ask_door.new.doors)) in
@@ -78,20 +78,20 @@ returns-clause-course g c = λ first k f.
     let k2 = c.ask.new.self.kept in
     let stands2 = g.C.Served.stands first c.ask.new.self.core in
     let w2 = (outside (g.D.Doors.link c.ask.new.doors) (g.D.Doors.door c.ask.new.doors)) in
-    let out2 = g.K.Sink.contents c.ask.new.out in
+    let out2 = written (g.K.Sink.contents c.ask.new.out) (g.T.Tape.contents c.ask.new.tape) in
     let b = goes-on {T = Unit {0}} (Ok tt) stands1 stands2 p k0 k1 k2 w1 w2 out0 out2 from AtClient AtHost a c.ask_door.ensures.wears.idle (c.in_ok-ask.ensures.course first a.course a.follows) in
     let k3 = c.ask-2.new.self.kept in
     let stands3 = g.C.Served.stands first c.ask-2.new.self.core in
     let w3 = (outside (g.D.Doors.link c.ask-2.new.doors) (g.D.Doors.door c.ask-2.new.doors)) in
-    let out3 = g.K.Sink.contents c.ask-2.new.out in
+    let out3 = written (g.K.Sink.contents c.ask-2.new.out) (g.T.Tape.contents c.ask-2.new.tape) in
     let d = goes-on {T = Unit {0}} (Ok tt) stands2 stands3 p k0 k2 k3 w2 w3 out2 out3 from AtHost AtEnd b (c.ask.ensures.wears.idle ∙ c.ask_door.ensures.wears.idle) (c.in_ok-ask-2.ensures.course first b.course b.follows) in
     rests c.rest.result stands3 p k0.idle k3 c.rest.new.self w3 out3 from d.course c.rest.ensures (c.ask-2.ensures.wears.idle ∙ c.ask.ensures.wears.idle ∙ c.ask_door.ensures.wears.idle) d.follows d.reaches
 
 pub returns-clause-faults : goal.returns-clause-faults
 returns-clause-faults g c =
-    rests-faults c.rest.result c.ask-2.new.self.kept c.rest.new.self (outside (g.D.Doors.link c.args.doors.now) (g.D.Doors.door c.args.doors.now)) (outside (g.D.Doors.link c.ask-2.new.doors) (g.D.Doors.door c.ask-2.new.doors)) (g.K.Sink.faults c.args.out.now) (g.K.Sink.faults c.ask-2.new.out) c.rest.ensures
-    (faults-then {T = Unit {0}} (Ok tt) (outside (g.D.Doors.link c.args.doors.now) (g.D.Doors.door c.args.doors.now)) (outside (g.D.Doors.link c.ask_door.new.doors) (g.D.Doors.door c.ask_door.new.doors)) (outside (g.D.Doors.link c.ask-2.new.doors) (g.D.Doors.door c.ask-2.new.doors)) (g.K.Sink.faults c.args.out.now) (g.K.Sink.faults c.ask_door.new.out) (g.K.Sink.faults c.ask-2.new.out) c.in_ok-ask_door.ensures.faults
-    (faults-then {T = Unit {0}} (Ok tt) (outside (g.D.Doors.link c.ask_door.new.doors) (g.D.Doors.door c.ask_door.new.doors)) (outside (g.D.Doors.link c.ask.new.doors) (g.D.Doors.door c.ask.new.doors)) (outside (g.D.Doors.link c.ask-2.new.doors) (g.D.Doors.door c.ask-2.new.doors)) (g.K.Sink.faults c.ask_door.new.out) (g.K.Sink.faults c.ask.new.out) (g.K.Sink.faults c.ask-2.new.out) c.in_ok-ask.ensures.faults c.in_ok-ask-2.ensures.faults))
+    rests-faults c.rest.result c.ask-2.new.self.kept c.rest.new.self (outside (g.D.Doors.link c.args.doors.now) (g.D.Doors.door c.args.doors.now)) (outside (g.D.Doors.link c.ask-2.new.doors) (g.D.Doors.door c.ask-2.new.doors)) (faults (g.K.Sink.faults c.args.out.now) (g.T.Tape.counts c.args.tape.now)) (faults (g.K.Sink.faults c.ask-2.new.out) (g.T.Tape.counts c.ask-2.new.tape)) c.rest.ensures
+    (faults-then {T = Unit {0}} (Ok tt) (outside (g.D.Doors.link c.args.doors.now) (g.D.Doors.door c.args.doors.now)) (outside (g.D.Doors.link c.ask_door.new.doors) (g.D.Doors.door c.ask_door.new.doors)) (outside (g.D.Doors.link c.ask-2.new.doors) (g.D.Doors.door c.ask-2.new.doors)) (faults (g.K.Sink.faults c.args.out.now) (g.T.Tape.counts c.args.tape.now)) (faults (g.K.Sink.faults c.ask_door.new.out) (g.T.Tape.counts c.ask_door.new.tape)) (faults (g.K.Sink.faults c.ask-2.new.out) (g.T.Tape.counts c.ask-2.new.tape)) c.in_ok-ask_door.ensures.faults
+    (faults-then {T = Unit {0}} (Ok tt) (outside (g.D.Doors.link c.ask_door.new.doors) (g.D.Doors.door c.ask_door.new.doors)) (outside (g.D.Doors.link c.ask.new.doors) (g.D.Doors.door c.ask.new.doors)) (outside (g.D.Doors.link c.ask-2.new.doors) (g.D.Doors.door c.ask-2.new.doors)) (faults (g.K.Sink.faults c.ask_door.new.out) (g.T.Tape.counts c.ask_door.new.tape)) (faults (g.K.Sink.faults c.ask.new.out) (g.T.Tape.counts c.ask.new.tape)) (faults (g.K.Sink.faults c.ask-2.new.out) (g.T.Tape.counts c.ask-2.new.tape)) c.in_ok-ask.ensures.faults c.in_ok-ask-2.ensures.faults))
 
 pub returns-clause-fewer : goal.returns-clause-fewer
 returns-clause-fewer g c = fewer-if_ok c.rest.result c.args.self.now.kept c.ask-2.new.self.kept c.rest.new.self

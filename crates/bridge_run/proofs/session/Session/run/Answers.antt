@@ -1,7 +1,7 @@
 use Rattle.std.proofs.Common.{Ok, Err, refl, ◌∙◌, arith}
 use Rattle.bridge_run.specs.Course.{AtDoor}
 use Rattle.bridge_run.specs.Calls.{Goes}
-use Rattle.bridge_run.specs.Outside.{outside}
+use Rattle.bridge_run.specs.Outside.{outside, written, faults}
 use Rattle.bridge_run.specs.inner.Follows.{setting}
 use Rattle.bridge_run.proofs.Reaching.{reaches-none}
 use Rattle.bridge_run.proofs.Resting.{faults-then, no-fault, goes-on}
@@ -12,7 +12,7 @@ pub returns-in-Err-clause-course : goal.returns-in-Err-clause-course
 returns-in-Err-clause-course g c = λ first k f.
     let a = c.rounds.invariant.comes first k f in
     goes-on {T = Unit {0}} (Err c.in-Err.end) (g.C.Served.stands first c.rounds.self.core) (g.C.Served.stands first c.round.new.self.core) (g.C.Served.sends first) c.args.self.now.kept c.rounds.self.kept c.round.new.self.kept (outside (g.D.Doors.link c.rounds.doors) (g.D.Doors.door c.rounds.doors)) (outside (g.D.Doors.link c.round.new.doors) (g.D.Doors.door c.round.new.doors))
-    (g.K.Sink.contents c.rounds.out) (g.K.Sink.contents c.round.new.out) (Goes AtDoor k) AtDoor AtDoor a c.rounds.invariant.idle (c.in-Err.ensures.course first a.course a.follows)
+    (written (g.K.Sink.contents c.rounds.out) (g.T.Tape.contents c.rounds.tape)) (written (g.K.Sink.contents c.round.new.out) (g.T.Tape.contents c.round.new.tape)) (Goes AtDoor k) AtDoor AtDoor a c.rounds.invariant.idle (c.in-Err.ensures.course first a.course a.follows)
 
 pub rounds-preserved : goal.rounds-preserved
 rounds-preserved g c = record {
@@ -21,11 +21,11 @@ rounds-preserved g c = record {
   room = omega (arith, c.round.auto.buf, c.rounds.invariant.room);
   idle = c.in_default.ensures.idle ∙ c.rounds.invariant.idle;
   waited = waited-more c.args.self.now.kept.idle c.rounds.self.kept c.round.new.self.kept (outside (g.D.Doors.link c.args.doors.now) (g.D.Doors.door c.args.doors.now)) (outside (g.D.Doors.link c.rounds.doors) (g.D.Doors.door c.rounds.doors)) (outside (g.D.Doors.link c.round.new.doors) (g.D.Doors.door c.round.new.doors)) c.rounds.invariant.idle c.rounds.invariant.live c.rounds.invariant.waited c.in_default.ensures.idles;
-  faults = faults-then {T = Unit {0}} (Ok tt) (outside (g.D.Doors.link c.args.doors.now) (g.D.Doors.door c.args.doors.now)) (outside (g.D.Doors.link c.rounds.doors) (g.D.Doors.door c.rounds.doors)) (outside (g.D.Doors.link c.round.new.doors) (g.D.Doors.door c.round.new.doors)) (g.K.Sink.faults c.args.out.now) (g.K.Sink.faults c.rounds.out) (g.K.Sink.faults c.round.new.out) c.rounds.invariant.faults c.in_default.ensures.faults;
+  faults = faults-then {T = Unit {0}} (Ok tt) (outside (g.D.Doors.link c.args.doors.now) (g.D.Doors.door c.args.doors.now)) (outside (g.D.Doors.link c.rounds.doors) (g.D.Doors.door c.rounds.doors)) (outside (g.D.Doors.link c.round.new.doors) (g.D.Doors.door c.round.new.doors)) (faults (g.K.Sink.faults c.args.out.now) (g.T.Tape.counts c.args.tape.now)) (faults (g.K.Sink.faults c.rounds.out) (g.T.Tape.counts c.rounds.tape)) (faults (g.K.Sink.faults c.round.new.out) (g.T.Tape.counts c.round.new.tape)) c.rounds.invariant.faults c.in_default.ensures.faults;
   comes = λ first k f.
       let a = c.rounds.invariant.comes first k f in
       goes-on {T = Unit {0}} (Ok tt) (g.C.Served.stands first c.rounds.self.core) (g.C.Served.stands first c.round.new.self.core) (g.C.Served.sends first) c.args.self.now.kept c.rounds.self.kept c.round.new.self.kept (outside (g.D.Doors.link c.rounds.doors) (g.D.Doors.door c.rounds.doors)) (outside (g.D.Doors.link c.round.new.doors) (g.D.Doors.door c.round.new.doors))
-      (g.K.Sink.contents c.rounds.out) (g.K.Sink.contents c.round.new.out) (Goes AtDoor k) AtDoor AtDoor a c.rounds.invariant.idle (c.in_default.ensures.course first a.course a.follows);
+      (written (g.K.Sink.contents c.rounds.out) (g.T.Tape.contents c.rounds.tape)) (written (g.K.Sink.contents c.round.new.out) (g.T.Tape.contents c.round.new.tape)) (Goes AtDoor k) AtDoor AtDoor a c.rounds.invariant.idle (c.in_default.ensures.course first a.course a.follows);
 }
 
 pub returns-in-Err-clause-reason : goal.returns-in-Err-clause-reason
@@ -38,6 +38,6 @@ rounds-init g c = record {
   room = c.requires.room;
   idle = refl;
   waited = waited-none c.args.self.now.kept.idle c.args.self.now.kept (outside (g.D.Doors.link c.args.doors.now) (g.D.Doors.door c.args.doors.now)) c.requires.fresh;
-  faults = no-fault (outside (g.D.Doors.link c.args.doors.now) (g.D.Doors.door c.args.doors.now)) (g.K.Sink.faults c.args.out.now);
+  faults = no-fault (outside (g.D.Doors.link c.args.doors.now) (g.D.Doors.door c.args.doors.now)) (faults (g.K.Sink.faults c.args.out.now) (g.T.Tape.counts c.args.tape.now));
   comes = λ first k f. record { course = k; reaches = reaches-none (setting (g.C.Served.sends first) c.args.self.now.kept) (Goes AtDoor k); follows = f };
 }

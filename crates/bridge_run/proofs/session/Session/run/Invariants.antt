@@ -1,7 +1,7 @@
 use Rattle.std.proofs.Common.{◌≡◌, length}
 use Rattle.bridge_run.specs.Course.{Course, AtDoor}
 use Rattle.bridge_run.specs.Calls.{Goes}
-use Rattle.bridge_run.specs.Outside.{outside, NoFault}
+use Rattle.bridge_run.specs.Outside.{outside, NoFault, written, faults}
 use Rattle.bridge_run.specs.inner.Keeping.{Agrees, IsLive, rounds_of}
 use Rattle.bridge_run.specs.inner.Follows.{Follows, setting, Comes}
 use Rattle.bridge_run.proofs.Idling.{HasWaited}
@@ -14,9 +14,9 @@ invariant-rounds g l = record {
   room : length l.buf ≡ 65536;
   idle : l.self.kept.idle ≡ l.initial.self.kept.idle;
   waited : HasWaited l.initial.self.kept.idle l.self.kept (outside (g.D.Doors.link l.initial.doors) (g.D.Doors.door l.initial.doors)) (outside (g.D.Doors.link l.doors) (g.D.Doors.door l.doors));
-  faults : NoFault (outside (g.D.Doors.link l.initial.doors) (g.D.Doors.door l.initial.doors)) (outside (g.D.Doors.link l.doors) (g.D.Doors.door l.doors)) (g.K.Sink.faults l.initial.out) (g.K.Sink.faults l.out);
-  comes : (first : g.C.Served.First) (c : Course) → Follows (g.C.Served.stands first l.initial.self.core) (g.C.Served.sends first) l.initial.self.kept (outside (g.D.Doors.link l.initial.doors) (g.D.Doors.door l.initial.doors)) (g.K.Sink.contents l.initial.out) c
-      → Comes (g.C.Served.stands first l.self.core) (setting (g.C.Served.sends first) l.initial.self.kept) l.self.kept (outside (g.D.Doors.link l.doors) (g.D.Doors.door l.doors)) (g.K.Sink.contents l.out) (Goes AtDoor c) AtDoor;
+  faults : NoFault (outside (g.D.Doors.link l.initial.doors) (g.D.Doors.door l.initial.doors)) (outside (g.D.Doors.link l.doors) (g.D.Doors.door l.doors)) (faults (g.K.Sink.faults l.initial.out) (g.T.Tape.counts l.initial.tape)) (faults (g.K.Sink.faults l.out) (g.T.Tape.counts l.tape));
+  comes : (first : g.C.Served.First) (c : Course) → Follows (g.C.Served.stands first l.initial.self.core) (g.C.Served.sends first) l.initial.self.kept (outside (g.D.Doors.link l.initial.doors) (g.D.Doors.door l.initial.doors)) (written (g.K.Sink.contents l.initial.out) (g.T.Tape.contents l.initial.tape)) c
+      → Comes (g.C.Served.stands first l.self.core) (setting (g.C.Served.sends first) l.initial.self.kept) l.self.kept (outside (g.D.Doors.link l.doors) (g.D.Doors.door l.doors)) (written (g.K.Sink.contents l.out) (g.T.Tape.contents l.tape)) (Goes AtDoor c) AtDoor;
 }
 
 abbrev pub decreases-rounds : goal.decreases-rounds

@@ -15,7 +15,7 @@ Word = Need × Option (Bor (List ℕ))
 
 abbrev words_of : Row → Given → List Word
 words_of row g =
-    (row.number, g.number) ∷ (row.device, g.device) ∷ (row.side, g.side) ∷ (row.host, g.host) ∷ (row.listen, g.listen) ∷ (row.idle, g.idle) ∷ (row.first_id, g.first_id) ∷ (row.after_loss, g.after_loss) ∷ []
+    (row.number, g.number) ∷ (row.device, g.device) ∷ (row.side, g.side) ∷ (row.host, g.host) ∷ (row.listen, g.listen) ∷ (row.idle, g.idle) ∷ (row.first_id, g.first_id) ∷ (row.after_loss, g.after_loss) ∷ (row.recording, g.recording) ∷ []
 
 abbrev passes : Word → Bool
 passes word = admits word.0 (is_some word.1)
@@ -33,7 +33,8 @@ met row g given h =
     let listen = given-some g.listen _ h.listen in
     let idle = given-some g.idle _ h.idle in
     let first_id = given-some g.first_id _ h.first_id in
-    let after_loss = given-some g.after_loss _ h.after_loss in cc
+    let after_loss = given-some g.after_loss _ h.after_loss in
+    let recording = given-some g.recording _ h.recording in cc
 
 pub returns : goal.returns
 returns c = λ given h.

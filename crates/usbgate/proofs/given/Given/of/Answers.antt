@@ -16,4 +16,5 @@ returns c =
       idle = c.get_str-7.ensures ∙ first_value-rows found (codes "idle");
       first_id = c.get_str-8.ensures ∙ first_value-rows found (codes "first-id");
       after_loss = c.get_str-9.ensures ∙ first_value-rows found (codes "after-loss");
+      recording = c.get_str-10.ensures ∙ first_value-rows found (codes "record");
     }
