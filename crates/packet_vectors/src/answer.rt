@@ -3,6 +3,7 @@
 use crate::buffers::{push_endpoint, push_laid, push_parts, push_total};
 use crate::data_rows::push_data_row;
 use crate::fronts::push_fronts;
+use crate::next::push_awaited;
 use crate::reader::{Reader, caps_of, is_in};
 use crate::streams::push_stream;
 use crate::tapes::{push_read_number, push_tape_line};
@@ -57,6 +58,7 @@ fn push_of_bytes(
         "line" => push_tape_line(alloc, bytes, out),
         "number" => push_read_number(alloc, bytes, out),
         "seqnum" => push_seqnums(alloc, bytes, out),
+        "next" => push_awaited(alloc, setting, bytes, out),
         "endpoint" => push_endpoint(alloc, setting, bytes, out),
         "device" => push_to_device(alloc, setting.parse()?, bytes, out),
         "around" => push_around_body(alloc, is_in(setting)?, bytes, out),

@@ -7,6 +7,7 @@ mod buffers;
 mod data_rows;
 mod fronts;
 mod lines;
+mod next;
 mod packets;
 mod reader;
 mod replies;
