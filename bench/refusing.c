@@ -5,6 +5,8 @@
 #include <stdlib.h>
 #include <unistd.h>
 
+#define MARK "[a request for memory is refused]"
+
 extern void *__libc_malloc(size_t);
 extern void *__libc_realloc(void *, size_t);
 
@@ -21,7 +23,7 @@ __attribute__((constructor)) static void read_words(void)
 static int refuses(void)
 {
     requests++;
-    if (requests == refused && write(STDERR_FILENO, "refused", 7) != 7)
+    if (requests == refused && write(STDERR_FILENO, MARK, sizeof MARK - 1) != sizeof MARK - 1)
         _exit(125);
     return requests == refused || (behind && refused && requests > refused);
 }
