@@ -27,10 +27,11 @@ pub fn ran(alloc: Global, words: &[&str], lines: &str, how: &How) -> Result<Came
     }
 }
 
-/// Between links, and then once more, recorded, where nothing is printed that no link took.
+/// Between links, and then once more, recorded, where the words are a session's and links took all that it sends.
 fn served(alloc: Global, words: &[&str], lines: &str, how: &How) -> Result<Came, Memory> {
     let mut came = ran_between(alloc, words, lines, how)?;
-    if how.budget.is_none() && how.unsent.is_none() {
+    let is_session = came.status != Status::Usage;
+    if is_session && how.budget.is_none() && how.unsent.is_none() {
         check_recording(alloc, words, lines, how, &mut came)?;
     }
     Ok(came)
