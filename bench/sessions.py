@@ -245,6 +245,7 @@ CONFIGURATION = (redir(6, 1, bytes([1])), 8)
 KEYS = [CONFIGURATION, (redir(15, 2, bytes([0x81])), 17)]
 TONE = [CONFIGURATION, (redir(9, 2, bytes([0, 1])), 11), (redir(12, 3, bytes([0x81, 8, 2])), 14)]
 INTERRUPT_PACKET, ISO_PACKET = 103, 102
+STOP_INTERRUPT, INTERRUPT_STATUS = 16, 17
 
 
 def packets_a_second():
@@ -287,7 +288,9 @@ def three_clients_and_a_host_that_goes(session):
     session.host.send(interrupt_packet(8))
     assert first.read(len(ret_data(3, bytes(8)))) == ret_data(3, b"\xa5" * 8), "another packet came"
     first.close()
-    session.host.packet()
+    kind, ident, *_ = session.host.packet()
+    assert kind == STOP_INTERRUPT, "no stop for a client that has left"
+    session.host.send(redir(INTERRUPT_STATUS, ident, bytes([0, 0x82])))
     second = Client(session.link())
     second.send(submit(1, OUT, 65_536))
     kind, ident, *_ = session.host.packet()
@@ -330,5 +333,6 @@ def recorded_and_replayed():
         Peer.keeps = False
 
 
-SESSIONS = [cut_into_odd_pieces, recorded_and_replayed, one_after_the_other, fifty_clients_that_go, hosts_that_go, device_that_is_replugged,
-            both_write_first, idle_share, reader_that_stops, device_that_is_lent, packets_a_second, idle_with_a_stream_up]
+SESSIONS = [cut_into_odd_pieces, recorded_and_replayed, one_after_the_other, fifty_clients_that_go, hosts_that_go,
+            device_that_is_replugged, both_write_first, idle_share, reader_that_stops, device_that_is_lent,
+            packets_a_second, idle_with_a_stream_up]
