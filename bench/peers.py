@@ -1,5 +1,6 @@
 """The program between sockets of this machine, and the peers at both ends, as the scripts of this folder play them."""
 import os
+import resource
 import signal
 import socket
 import struct
@@ -134,10 +135,17 @@ def gateway_at(host, listen, after_loss="keep", record=None):
     return [PROGRAM, "serve", *ends, "--idle", "4294967295", "--after-loss", after_loss, *recorded]
 
 
+def limited(most):
+    """From now on no file of this process can have more bytes, and a write that would need that fails."""
+    signal.signal(signal.SIGXFSZ, signal.SIG_IGN)
+    resource.setrlimit(resource.RLIMIT_FSIZE, (most, most))
+
+
 class Session:
     """The program between a host and clients. It ends with the block, and with a status of its own."""
 
-    def __init__(self, cut=None, after_loss="keep", out=None, record=None):
+    def __init__(self, cut=None, after_loss="keep", out=None, record=None, most=None):
+        self.limit = None if most is None else lambda: limited(most)
         self.cut = cut
         self.after_loss = after_loss
         self.out = out
@@ -149,7 +157,7 @@ class Session:
             self.port = free_port()
             door.settimeout(PATIENCE)
             command = gateway_at(door.getsockname()[1], self.port, self.after_loss, self.record)
-            self.program = subprocess.Popen(command, stdout=self.out, stderr=self.out)
+            self.program = subprocess.Popen(command, stdout=self.out, stderr=self.out, preexec_fn=self.limit)
             self.host = Host(tuned(door.accept()[0]), self.cut)
         return self
 

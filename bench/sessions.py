@@ -328,11 +328,21 @@ def recorded_and_replayed():
             assert replayed(tape) == [to_clients, to_host], "the replay sends something else"
             again = subprocess.run([PROGRAM, *gateway_at(1, 1, record=tape)[1:]], capture_output=True)
             assert again.returncode == 1 and os.path.getsize(tape) == size, "a file that is there is written"
+            assert os.stat(tape).st_mode & 0o777 == 0o600, "others may read it"
             return "%d bytes" % size
     finally:
         Peer.keeps = False
 
 
-SESSIONS = [cut_into_odd_pieces, recorded_and_replayed, one_after_the_other, fifty_clients_that_go, hosts_that_go,
-            device_that_is_replugged, both_write_first, idle_share, reader_that_stops, device_that_is_lent,
+def recorded_until_the_disk_is_full():
+    with tempfile.TemporaryDirectory() as folder:
+        tape = os.path.join(folder, "a.tape")
+        with Session(record=tape, most=100) as session:
+            assert session.ended() == 4, "it goes on unrecorded"
+        assert os.path.getsize(tape) == 100
+        return "100 bytes"
+
+
+SESSIONS = [cut_into_odd_pieces, recorded_and_replayed, recorded_until_the_disk_is_full, one_after_the_other,
+            fifty_clients_that_go, hosts_that_go, device_that_is_replugged, both_write_first, idle_share, reader_that_stops, device_that_is_lent,
             packets_a_second, idle_with_a_stream_up]

@@ -8,8 +8,8 @@ ghost use Rattle.bridge_run.specs.inner.Links.{WritesAll, closed_if};
 use crate::serve_end::ServeEnd;
 use gate_outside::{Doors, Side};
 
-/// Writes all of the bytes to the side's link, if it is up, or, where that fails, which is a fault of that side's link, a
-/// front of them.
+/// Writes all of the bytes to the side's link, if it is up, or, where that fails, which is a fault of that side's link,
+/// a front of them.
 pub fn write_link<D: Doors>(
     doors: &mut D,
     side: Side,

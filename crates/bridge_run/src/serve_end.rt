@@ -3,13 +3,13 @@
 use usb_base::{Memory, Refusal, Side};
 
 /// Why serving has ended.
-#[derive(Clone, Copy, PartialEq, Eq)]
+#[derive(Clone, Copy)]
 pub enum ServeEnd {
     /// The host has ended or was refused, and no client's link is up. With the first refusal of all.
     Ended { refused: Option<Refusal> },
     /// A call on this side failed.
     LinkFault(Side),
-    /// The lines of refusals could not be written.
+    /// The lines of refusals, or what is recorded, could not be written.
     WriteFault,
     /// For so many rounds in a row nothing has come.
     Idle,

@@ -28,11 +28,12 @@ pub const ROOM: usize = 65_536;
 
 /// Dials the host, makes the clients' door, and goes in rounds. A round asks for a client where none is there, and
 /// polls the client and then the host, whose link is up. What comes is an event of a gate that draws its ids from
-/// `first_id` on. Its line is written to the tape, where that is made, and a comment for each refusal. What an event sends is written to the client and then to the host, where that link is up. Then a
-/// side that it refuses has its link closed, and its line is written to `out`; and where `after_loss` says so, a
-/// client whose imported device it loses has its link closed, too. The end of a client whose link is closed so comes
-/// next. It ends after `idle` rounds in a row that bring nothing, and once `budget` bytes have come, where each
-/// client counts as one. The first call that fails is the last.
+/// `first_id` on. Its line is written to the tape, where that is made, and a comment for each refusal. What an event
+/// sends is written to the client and then to the host, where that link is up. Then a side that it refuses has its link
+/// closed, and its line is written to `out`; and where `after_loss` says so, a client whose imported device it loses
+/// has its link closed, too. The end of a client whose link is closed so comes next. It ends after `idle` rounds in a
+/// row that bring nothing, and once `budget` bytes have come, where each client counts as one. The first call that
+/// fails is the last.
 pub fn serve<D: Doors, K: Sink, T: Tape>(
     alloc: Global,
     host: &str,

@@ -19,7 +19,7 @@ const INTERFACE: u8 = 4;
 const ENDPOINT: u8 = 5;
 
 /// Why a configuration isn't walked.
-#[derive(Clone, Copy, Debug, PartialEq, Eq)]
+#[derive(Clone, Copy, Debug)]
 pub enum WalkError {
     /// The first wrong descriptor stands at this place, counted in bytes.
     Bad { place: usize },

@@ -3,7 +3,7 @@
 use usb_base::{EpAddr, EpKind, List};
 
 /// One descriptor of a configuration.
-#[derive(Clone, Copy, PartialEq, Eq)]
+#[derive(Clone, Copy)]
 pub enum Part {
     /// The configuration's own descriptor (9.6.3): the value that selects it, and how many interfaces it has.
     Config {

@@ -46,7 +46,7 @@ const ENDPOINT_HALT: u16 = 0;
 const PORT_RESET: u16 = 4;
 
 /// A request whose data go to the host. It leaves the device's state as it is.
-#[derive(Clone, Copy, PartialEq, Eq)]
+#[derive(Clone, Copy)]
 pub enum ControlRead {
     /// GET_STATUS of the device (USB 2.0, 9.4.5).
     DeviceStatus,
@@ -63,7 +63,7 @@ pub enum ControlRead {
 }
 
 /// A request without data, which changes the device's state.
-#[derive(Clone, Copy, PartialEq, Eq)]
+#[derive(Clone, Copy)]
 pub enum ControlWrite {
     /// CLEAR_FEATURE of an endpoint's halt (USB 2.0, 9.4.1).
     ClearHalt,
@@ -80,7 +80,7 @@ pub enum ControlWrite {
 }
 
 /// A request that a device answers.
-#[derive(Clone, Copy, PartialEq, Eq)]
+#[derive(Clone, Copy)]
 pub enum Request {
     Read(ControlRead),
     Write(ControlWrite),

@@ -12,7 +12,7 @@ use usb_base::Setup;
 /// What the gateway does with a control transfer. Configurations, interfaces and alternate settings are kept
 /// by the host that has the device, so it is asked to change them by packets of their own (usbredir protocol
 /// description 0.7, usb_redir_set_configuration to usb_redir_alt_setting_status, and usb_redir_reset).
-#[derive(Clone, Copy, PartialEq, Eq)]
+#[derive(Clone, Copy)]
 pub enum Route {
     /// SET_ADDRESS: it succeeds, and nothing is sent. The host's own bus has given the device its address.
     Local,

@@ -12,7 +12,7 @@ mod Flowing
 mod Flown
 mod Following
 mod Moved
-mod Courses
+pub mod Courses
 mod Knowing
 mod Taking
 mod Examples

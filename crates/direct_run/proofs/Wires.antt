@@ -28,7 +28,7 @@ use Rattle.direct_run.specs.World.{Course, first_id, happened, acted, sent_to_ho
 use Rattle.direct_run.specs.Noted.{item_of, refusal_in, named}
 use Rattle.direct_run.specs.Trace.{given_of, trace}
 use Rattle.direct_run.specs.Stands.{Runs}
-use Rattle.direct_run.specs.inner.Doing.{DoesEvent, DoesAct}
+use Rattle.direct_run.specs.inner.Doing.{untold, DoesEvent, DoesAct}
 
 pub if-ok : {T E : Type 0} (r : Result T E) (P Q : T → Type 0) → ((v : T) → P v → Q v) → IfOk r P → IfOk r Q
 if-ok (Ok v) P Q f h = f v h
@@ -72,6 +72,20 @@ event-done old gate events e c0 c1 h0 h1 from wire i0 items trace r0 refusals su
   where
     notes-are : notes ≡ given_of notes_of events e
     notes-are = append_cancel_left (all_of notes_of first_id (history first_id events)) notes (given_of notes_of events e) (sym t.told ∙ event-gives notes_of first_id events e)
+
+-- the same of what was told before and is told now
+pub event-told : {S : Type 0} (old new : SystemKept S) (gate : GateKept) (events : List Event) (e : Event) (c1 h1 wire : List ℕ) (before now : Told) (notes : List Note) →
+    GateTakes first_id gate events e before.to_client c1 before.to_host h1 notes → before ≡ untold → wire ≡ old.to_host ++ h1 →
+    now ≡ record before { to_client = c1; to_host = h1; items = before.items ++ flat_map item_of notes; refusals = before.refusals ++ flat_map refusal_in notes } →
+    new ≡ record old { gate = gate; to_host = wire; trace = old.trace ++ now.items; submits = old.submits ++ flat_map named notes } →
+    DoesEvent old new events e now
+event-told {S} old new gate events e c1 h1 wire before now notes takes none wire-is now-is new-is =
+    subst (λ (k : SystemKept S). DoesEvent old k events e now) (sym new-is)
+    (subst (λ (t : Told). DoesEvent old (record old { gate = gate; to_host = wire; trace = old.trace ++ t.items; submits = old.submits ++ flat_map named notes }) events e t) (sym now-is)
+    (event-done old gate events e before.to_client c1 before.to_host h1 before.from_host wire before.items (before.items ++ flat_map item_of notes) (old.trace ++ (before.items ++ flat_map item_of notes))
+    before.refusals (before.refusals ++ flat_map refusal_in notes) (old.submits ++ flat_map named notes) notes takes
+    (ap (λ (t : Told). t.to_client) none) (ap (λ (t : Told). t.to_host) none) (ap (λ (t : Told). t.from_host) none) (ap (λ (t : Told). t.items) none) (ap (λ (t : Told). t.refusals) none)
+    wire-is refl refl refl refl))
 
 -- ---- what they make of the wires
 

@@ -1,6 +1,7 @@
 //! What a system keeps, and how steps change it.
 
-ghost use Rattle.std.specs.Prelude.{◌≡◌, ◌++◌, [], List as ListOf, IfOk, OnOk, OnErr, IsErr, take, drop, true};
+ghost use Rattle.std.specs.Prelude.{◌≡◌, ◌++◌, [], List as ListOf, IfOk, OnOk, OnErr, IsErr, take, drop, true, false};
+ghost use Rattle.std.specs.List.{flat_map};
 ghost use Rattle.gate_core.specs.Events.{Event as PastEvent, HostPiece, event_of};
 ghost use Rattle.gate_core.specs.Stands.{Stands as GateStands};
 ghost use Rattle.redir_host.specs.Acts.{Act, Piece, Perform, Offer, Unplug};
@@ -9,7 +10,8 @@ ghost use Rattle.direct_run.specs.Steps.{Step as PastStep, step_of};
 ghost use Rattle.direct_run.specs.World.{first_id, sent_to_host, sent_to_gate, nothing_yet};
 ghost use Rattle.direct_run.specs.Stands.{Stands, Takes};
 ghost use Rattle.direct_run.specs.inner.Views.{kept_of};
-ghost use Rattle.direct_run.specs.inner.Doing.{DoesEvent, DoesAct};
+ghost use Rattle.direct_run.specs.Noted.{item_of, refusal_in, named};
+ghost use Rattle.direct_run.specs.inner.Doing.{untold, DoesEvent, DoesAct};
 
 use crate::item::Items;
 use crate::notes::{
@@ -19,7 +21,7 @@ use crate::notes::{
 use crate::step::Step;
 use crate::submitted::Submits;
 use crate::told::Told;
-use gate_core::{Event, Gate};
+use gate_core::{Event, Gate, Notes};
 use model_device::Gadget;
 use redir_host::HostCore;
 use std::alloc::Global;
@@ -41,28 +43,48 @@ pub struct Inner<G: Gadget> {
 }
 
 impl<G: Gadget> Inner<G> {
-    /// The system of a device that was just plugged in. It tells the hellos of both.
+    /// The system of a device that was just plugged in. It tells the hellos of both, where nothing was told before.
     #[tactic(auto, using(crate::proofs::Knowing::known_first))]
     pub fn make(alloc: Global, gadget: G, told: &mut Told) -> Result<Inner<G>, Memory>
+        requires { told.old ≡ untold }
         ensures made { IfOk result (λ inner. Stands G.meaning gadget (kept_of inner) []) }
-        ensures told { OnOk result (told.new ≡ record told.old { to_host = told.old.to_host ++ sent_to_host nothing_yet; from_host = told.old.from_host ++ sent_to_gate G.meaning gadget nothing_yet }) }
+        ensures told { OnOk result (told.new ≡ record told.old { to_host = sent_to_host nothing_yet; from_host = sent_to_gate G.meaning gadget nothing_yet }) }
     {
-        let mut to_host = Bytes::new(alloc);
-        let gate = Gate::make(alloc, 1, &mut to_host)?;
-        let mut to_gate = Bytes::new(alloc);
-        let host = HostCore::make(alloc, gadget, &mut to_gate)?;
-        told.to_host.append(to_host.as_slice())?;
-        told.from_host.append(to_gate.as_slice())?;
+        let mut inner = Inner::silent(alloc, gadget, told)?;
+        inner.carry(told)?;
+        Ok(inner)
+    }
+
+    /// The same with nothing on the wires.
+    fn silent(alloc: Global, gadget: G, told: &mut Told) -> Result<Inner<G>, Memory>
+        requires { told.old ≡ untold }
+        ensures gate { IfOk result (λ inner. GateStands first_id inner.gate []) }
+        ensures host { IfOk result (λ inner. HostStands G.meaning gadget inner.host []) }
+        ensures wires { IfOk result (λ inner. (inner.to_host ≡ []) × (inner.to_gate ≡ [])) }
+        ensures lists { IfOk result (λ inner. (inner.trace ≡ []) × (inner.submits ≡ [])) }
+        ensures works { IfOk result (λ inner. inner.failed ≡ false) }
+        ensures told { OnOk result (told.new ≡ record told.old { to_host = sent_to_host nothing_yet; from_host = sent_to_gate G.meaning gadget nothing_yet }) }
+    {
+        let gate = Gate::make(alloc, 1, &mut told.to_host)?;
+        let host = HostCore::make(alloc, gadget, &mut told.from_host)?;
         Ok(Inner {
             alloc,
             gate,
             host,
-            to_host,
-            to_gate,
+            to_host: Bytes::new(alloc),
+            to_gate: Bytes::new(alloc),
             trace: List::new(alloc),
             submits: List::new(alloc),
             failed: false,
         })
+    }
+
+    /// Puts the hellos on the wires.
+    fn carry(&mut self, hellos: &Told) -> Result<(), Memory>
+        ensures { OnOk result (self.new ≡ record self.old { to_host = self.old.to_host ++ hellos.now.to_host; to_gate = self.old.to_gate ++ hellos.now.from_host }) }
+    {
+        self.to_host.append(hellos.to_host.as_slice())?;
+        self.to_gate.append(hellos.from_host.as_slice())
     }
 
     /// Does a step. Once memory has run out it does nothing.
@@ -131,15 +153,34 @@ impl<G: Gadget> Inner<G> {
     {
         self.works()?;
         let mut told = Told::new(self.alloc);
+        match self.take_event(event, &mut told) {
+            Ok(()) => Ok(told),
+            Err(memory) => Err(memory),
+        }
+    }
+
+    /// The same, where nothing is told yet and memory has not run out.
+    fn take_event(&mut self, event: Event, told: &mut Told) -> Result<(), Memory>
+        requires { told.old ≡ untold }
+        ensures { OnOk result ((past : ListOf PastEvent) → GateStands first_id self.old.gate past
+            → DoesEvent (kept_of self.old) (kept_of self.new) past (event_of event.entry) told.new) }
+    {
         let notes = self
             .gate
             .take(event, &mut told.to_client, &mut told.to_host)?;
         self.to_host.append(told.to_host.as_slice())?;
-        push_items(&notes, &mut told.items)?;
-        push_refusals(&notes, &mut told.refusals)?;
-        push_submits(&notes, &mut self.submits)?;
-        push_all(&told.items, &mut self.trace)?;
-        Ok(told)
+        self.tell(&notes, told)
+    }
+
+    /// Tells what the gateway notes of an event, and keeps it.
+    fn tell(&mut self, notes: &Notes, told: &mut Told) -> Result<(), Memory>
+        ensures { OnOk result ((told.new ≡ record told.old { items = told.old.items ++ flat_map item_of notes.now; refusals = told.old.refusals ++ flat_map refusal_in notes.now })
+            × (self.new ≡ record self.old { trace = self.old.trace ++ told.new.items; submits = self.old.submits ++ flat_map named notes.now })) }
+    {
+        push_items(notes, &mut told.items)?;
+        push_refusals(notes, &mut told.refusals)?;
+        push_submits(notes, &mut self.submits)?;
+        push_all(&told.items, &mut self.trace)
     }
 
     /// Has the host take a piece of the gateway's bytes.
@@ -150,11 +191,22 @@ impl<G: Gadget> Inner<G> {
     {
         self.works()?;
         let mut told = Told::new(self.alloc);
+        match self.take_piece(bytes, &mut told) {
+            Ok(()) => Ok(told),
+            Err(memory) => Err(memory),
+        }
+    }
+
+    /// The same, where nothing is told yet and memory has not run out.
+    fn take_piece(&mut self, bytes: &[u8], told: &mut Told) -> Result<(), Memory>
+        requires { told.old ≡ untold }
+        ensures { OnOk result ((first : G) (past : ListOf Act) → HostStands G.meaning first self.old.host past
+            → DoesAct G.meaning first (kept_of self.old) (kept_of self.new) past (Piece bytes.now) told.new) }
+    {
         let notes = self.host.take(bytes, &mut told.from_host)?;
         self.to_gate.append(told.from_host.as_slice())?;
         push_host_items(&notes, &self.submits, &mut told.items)?;
-        push_all(&told.items, &mut self.trace)?;
-        Ok(told)
+        push_all(&told.items, &mut self.trace)
     }
 
     /// Has the device perform the first request of an endpoint.
@@ -165,11 +217,22 @@ impl<G: Gadget> Inner<G> {
     {
         self.works()?;
         let mut told = Told::new(self.alloc);
+        match self.do_perform(ep, &mut told) {
+            Ok(()) => Ok(told),
+            Err(memory) => Err(memory),
+        }
+    }
+
+    /// The same, where nothing is told yet and memory has not run out.
+    fn do_perform(&mut self, ep: EpAddr, told: &mut Told) -> Result<(), Memory>
+        requires { told.old ≡ untold }
+        ensures { OnOk result ((first : G) (past : ListOf Act) → HostStands G.meaning first self.old.host past
+            → DoesAct G.meaning first (kept_of self.old) (kept_of self.new) past (Perform ep) told.new) }
+    {
         let performed = self.host.perform(ep, &mut told.from_host)?;
         self.to_gate.append(told.from_host.as_slice())?;
         push_performed(performed, ep, &self.submits, &mut told.items)?;
-        push_all(&told.items, &mut self.trace)?;
-        Ok(told)
+        push_all(&told.items, &mut self.trace)
     }
 
     /// Offers the gateway what the device has for an endpoint.
@@ -180,11 +243,22 @@ impl<G: Gadget> Inner<G> {
     {
         self.works()?;
         let mut told = Told::new(self.alloc);
+        match self.do_offer(ep, &mut told) {
+            Ok(()) => Ok(told),
+            Err(memory) => Err(memory),
+        }
+    }
+
+    /// The same, where nothing is told yet and memory has not run out.
+    fn do_offer(&mut self, ep: EpAddr, told: &mut Told) -> Result<(), Memory>
+        requires { told.old ≡ untold }
+        ensures { OnOk result ((first : G) (past : ListOf Act) → HostStands G.meaning first self.old.host past
+            → DoesAct G.meaning first (kept_of self.old) (kept_of self.new) past (Offer ep) told.new) }
+    {
         let offered = self.host.offer(ep, &mut told.from_host)?;
         self.to_gate.append(told.from_host.as_slice())?;
         push_offered(offered, ep, &mut told.items)?;
-        push_all(&told.items, &mut self.trace)?;
-        Ok(told)
+        push_all(&told.items, &mut self.trace)
     }
 
     /// Takes the device away.
@@ -195,9 +269,20 @@ impl<G: Gadget> Inner<G> {
     {
         self.works()?;
         let mut told = Told::new(self.alloc);
+        match self.do_unplug(&mut told) {
+            Ok(()) => Ok(told),
+            Err(memory) => Err(memory),
+        }
+    }
+
+    /// The same, where nothing is told yet and memory has not run out.
+    fn do_unplug(&mut self, told: &mut Told) -> Result<(), Memory>
+        requires { told.old ≡ untold }
+        ensures { OnOk result ((first : G) (past : ListOf Act) → HostStands G.meaning first self.old.host past
+            → DoesAct G.meaning first (kept_of self.old) (kept_of self.new) past Unplug told.new) }
+    {
         self.host.unplug(&mut told.from_host)?;
-        self.to_gate.append(told.from_host.as_slice())?;
-        Ok(told)
+        self.to_gate.append(told.from_host.as_slice())
     }
 }
 

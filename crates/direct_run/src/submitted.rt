@@ -6,7 +6,7 @@ ghost use Rattle.direct_run.specs.Noted.{number_in};
 use usb_base::List;
 
 /// A submit that was accepted, with the id of its packet to the host, 0 where its answer goes by none.
-#[derive(Clone, Copy, PartialEq, Eq)]
+#[derive(Clone, Copy)]
 pub struct Submitted {
     pub seqnum: u32,
     pub id: u64,

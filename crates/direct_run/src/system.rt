@@ -18,8 +18,8 @@ use std::alloc::Global;
 use std::marker::Model;
 use usb_base::Memory;
 
-/// The gateway, the device's host, and the wires between them. Once memory has run out in a step, every later one answers
-/// `Memory` and changes nothing.
+/// The gateway, the device's host, and the wires between them. Once memory has run out in a step, every later one
+/// answers `Memory` and changes nothing.
 #[derive(Drop)]
 pub struct System<G: Gadget> {
     inner: Inner<G>,

@@ -1,10 +1,9 @@
--- What a change of the device's interfaces makes of what is kept, and what it sends and tells: the requests that wait for
--- streams which it touches end with it.
+-- What a change of the device's interfaces makes of what is kept, and what it sends and tells: the requests that wait
+-- for streams which it touches end with it.
 use Rattle.std.proofs.Common.{◌≡◌, ℕ, ◌+◌, ◌^◌, ◌-◌, ◌<◌, ◌≤◌, eqb, Bool, true, false, cond, not, List, [], ◌∷◌, ◌++◌, length, map, Option, Some, None, refl, sym, ap, ◌∙◌, arith}
-use Rattle.std.specs.Prelude.{is_none, filter, zip}
+use Rattle.std.specs.Prelude.{filter, zip}
 use Rattle.std.specs.List.{flat_map}
 use Rattle.std.proofs.lemmas.List.{append-nil, map-append}
-use Rattle.std.proofs.lemmas.List.Elements.{filter-append}
 use Rattle.std.proofs.lemmas.Grind.{flat_map-append}
 use Rattle.usbip_urb.specs.declared.packet.UrbPacket.{UrbPacket}
 use Rattle.usbip_urb.specs.declared.client.ClientPacket.TheVariants.{Urb}
@@ -22,7 +21,7 @@ use Rattle.gate_core.specs.Errno.{eshutdown}
 use Rattle.gate_core.specs.Requests.{Request}
 use Rattle.gate_core.specs.Verdict.{Routed}
 use Rattle.gate_core.specs.Marks.{Submission, Effect, Opens}
-use Rattle.gate_core.specs.Submits.{Pending, End, ByChange, at_once, touches_stream, ends}
+use Rattle.gate_core.specs.Submits.{Pending, ByChange, at_once, touches_stream, ends}
 use Rattle.gate_core.specs.Ids.{last_of}
 use Rattle.gate_core.specs.Ups.{lower, is_ended}
 use Rattle.gate_core.specs.Calls.{called}
@@ -32,18 +31,19 @@ use Rattle.gate_core.specs.Meaning.{mark_as, drawn_for, submission}
 use Rattle.gate_core.specs.Sound.{IsSound}
 use Rattle.gate_core.specs.Answers.{without_packets, answers_at}
 use Rattle.gate_core.specs.Output.{fresh}
-use Rattle.gate_core.specs.Notes.{is_by_answer, is_by_client}
+use Rattle.gate_core.specs.Notes.{answer_notes}
 use Rattle.gate_core.specs.All.{is_ret_submit, is_won_unlink}
 use Rattle.gate_core.specs.Bytes.{host_packet_bytes}
-use Rattle.gate_core.specs.Machine.{ask}
+use Rattle.gate_core.specs.Machine.{live_after}
 use Rattle.gate_core.specs.inner.Rows.{row, unmarked, left_row, row_request}
 use Rattle.gate_core.specs.inner.Ending.{ended_bytes}
 use Rattle.gate_core.specs.inner.Holds.{Holds, Does}
-use Rattle.gate_core.proofs.Lists.{Each, filter-all}
+use Rattle.gate_core.proofs.Lists.{Each, Each-weaker, filter-all, filter-map, filter-same}
 use Rattle.gate_core.proofs.Lost.{capped-same}
-use Rattle.gate_core.proofs.Steady.{asks-none, none-cancelled, stays-uncancelled}
+use Rattle.gate_core.proofs.Steady.{none-cancelled, stays-uncancelled}
+use Rattle.gate_core.proofs.Effects.{change-left, change-noted, change-dropped}
 use Rattle.gate_core.proofs.Waiting.{IsGoing, each-mapped, all-going, touched-row}
-use Rattle.gate_core.proofs.Enders.{EndsSo, ends-so, ended_packets, stay-rows, ended-bytes, counted-all, counted-none, none-told, none-dropped}
+use Rattle.gate_core.proofs.Enders.{EndsSo, ends-so, ended_packets, ended-bytes, counted-all, counted-none}
 
 other-place : (n m : ℕ) → m < n → eqb n m ≡ false
 other-place n m h = grind arith
@@ -68,11 +68,12 @@ module _ (st : State) (sound : IsSound st) (q : Request) (r : Route) where
   abbrev So : Pending → Type 0
   So p = EndsSo e (touched_by r) packet p
 
+  other-end : (p : Pending) → p.submit.place < st.items → ends e p.submit ≡ cond (touches_stream r p.submit.verdict) (Some ByChange) None
+  other-end p placed =
+      ap (λ (b : Bool). cond b (at_once p.submit.verdict) (cond (touches_stream r p.submit.verdict) (Some ByChange) None)) (other-place st.items p.submit.place placed)
+
   other-so : (p : Pending) → p.submit.place < st.items → IsGoing p → So p
-  other-so p placed going =
-      ends-so e (touched_by r) packet p (touches_stream r p.submit.verdict) ByChange
-      (ap (λ (b : Bool). cond b (at_once p.submit.verdict) (cond (touches_stream r p.submit.verdict) (Some ByChange) None)) (other-place st.items p.submit.place placed))
-      (touched-row r p going) refl refl refl
+  other-so p placed going = ends-so e (touched_by r) packet p (touches_stream r p.submit.verdict) ByChange (other-end p placed) (touched-row r p going) refl refl refl
 
   all-so : Each (EndsSo e (touched_by r) packet) st.live
   all-so =
@@ -82,19 +83,22 @@ module _ (st : State) (sound : IsSound st) (q : Request) (r : Route) where
   own : ends e change ≡ None
   own = ap (λ (b : Bool). cond b None (cond (touches_stream r (Routed r)) (Some ByChange) None)) (own-place st.items)
 
-  -- the change itself passes no test that one without an end doesn't
-  with-own : (test : Option End → Bool) → test None ≡ false → filter (λ p. test (ends e p.submit)) st.live ≡ [] → filter (λ p. test (ends e p.submit)) (st.live ++ fresh change ∷ []) ≡ []
-  with-own test h none =
-      filter-append (λ p. test (ends e p.submit)) st.live (fresh change ∷ [])
-      ∙ (λ i. none i ++ cond ((ap test own ∙ h) i) (fresh change ∷ []) [])
+  abbrev touched : Pending → Bool
+  touched p = touches_stream r p.submit.verdict
 
-  live-rows : map row (map (ask e) (filter (λ p. is_none (ends e p.submit)) (st.live ++ fresh change ∷ []))) ≡ filter (λ l. not (touched_by r l)) (map row st.live) ++ row (fresh change) ∷ []
+  others : Each (λ p. ends e p.submit ≡ cond (touched p) (Some ByChange) None) st.live
+  others =
+      Each-weaker (λ p. p.submit.place < st.items) (λ p. ends e p.submit ≡ cond (touched p) (Some ByChange) None) other-end st.live
+      (each-mapped (λ (s : Submission). s.place < st.items) (λ (p : Pending). p.submit) st.live sound.places)
+
+  live-rows : map row (live_after st e) ≡ filter (λ l. not (touched_by r l)) (map row st.live) ++ row (fresh change) ∷ []
   live-rows =
-      ap (map row) (asks-none e (λ s. refl) (filter (λ p. is_none (ends e p.submit)) (st.live ++ fresh change ∷ []))
-      ∙ filter-append (λ p. is_none (ends e p.submit)) st.live (fresh change ∷ [])
-      ∙ (λ i. filter (λ p. is_none (ends e p.submit)) st.live ++ cond (is_none (own i)) (fresh change ∷ []) []))
-      ∙ map-append row (filter (λ p. is_none (ends e p.submit)) st.live) (fresh change ∷ [])
-      ∙ ap (λ (ls : List Live). ls ++ row (fresh change) ∷ []) (stay-rows e (touched_by r) packet st.live all-so)
+      ap (map row) (change-left st change touched ByChange others own)
+      ∙ map-append row (filter (λ p. not (touched p)) st.live) (fresh change ∷ [])
+      ∙ ap (λ (ls : List Live). ls ++ row (fresh change) ∷ [])
+      (ap (map row) (filter-same (λ p. not (touched p)) (λ p. not (touched_by r (row p))) st.live
+      (Each-weaker IsGoing (λ p. not (touched p) ≡ not (touched_by r (row p))) (λ p going. ap not (sym (touched-row r p going))) st.live (all-going st sound)))
+      ∙ sym (filter-map (λ l. not (touched_by r l)) row st.live))
 
   change-sent : ended_packets e (touched_by r) packet (st.live ++ fresh change ∷ []) ≡ ended_packets e (touched_by r) packet st.live
   change-sent =
@@ -140,8 +144,7 @@ module _ (st : State) (sound : IsSound st) (q : Request) (r : Route) where
         host = host ∙ ap (λ (bs : List ℕ). host_old ++ bs)
             ((λ i. flat_map (host_packet_bytes (h.caps i)) asked)
             ∙ ap (flat_map (host_packet_bytes st.agreed)) (sym (append-nil asked) ∙ ap (λ (ps : List (ℕ × RedirPacket)). (ps ++ asked) ++ []) (sym (none-cancelled e stays-uncancelled st.live))));
-        notes = notes ∙ ap (λ (ps : List Pending). notes_old ++ note.Submitted q.number change.id ∷ map (λ (p : Pending). note.Answered p.submit.request.number) ps) (sym (with-own is_by_answer refl (none-told e (touched_by r) packet st.live all-so)))
-            ∙ closing (map (λ (p : Pending). note.Answered p.submit.request.number) (filter (λ p. is_by_answer (ends e p.submit)) (st.live ++ fresh change ∷ [])));
+        notes = notes ∙ ap (λ (ns : List Note). notes_old ++ note.Submitted q.number change.id ∷ ns) (sym (change-noted st change touched ByChange others own refl)) ∙ closing (answer_notes st e);
         answered = ap (λ (k : Kept). k.answered) is ∙ ap (λ (ls : List Live). capped (old.answered + length (filter (touched_by r) ls))) h.live
             ∙ ap (λ (n : ℕ). capped (old.answered + n)) (sym done)
             ∙ ap (λ (ps : List UrbPacket). capped (old.answered + length (filter is_ret_submit (map Urb ps)))) (sym change-sent);
@@ -149,7 +152,7 @@ module _ (st : State) (sound : IsSound st) (q : Request) (r : Route) where
             ∙ ap (λ (n : ℕ). capped (old.unlinked + n)) (sym won)
             ∙ ap (λ (ps : List UrbPacket). capped (old.unlinked + length (filter is_won_unlink (map Urb ps)))) (sym change-sent);
         dropped = ap (λ (k : Kept). k.dropped) is ∙ capped-same old.dropped dropped_fits
-            ∙ ap (λ (ps : List Pending). capped (old.dropped + length (map (λ (p : Pending). p.submit) ps))) (sym (with-own is_by_client refl (none-dropped e (touched_by r) packet st.live all-so)));
+            ∙ ap (λ (ss : List Submission). capped (old.dropped + length ss)) (sym (change-dropped st change touched ByChange others own refl));
       }
     where
       closing : (ns : List Note) → notes_old ++ note.Submitted q.number change.id ∷ ns ≡ notes_old ++ (((((note.Submitted q.number change.id ∷ []) ++ ns) ++ []) ++ []) ++ [])

@@ -1,5 +1,5 @@
--- What an effect does to the live requests, apart from how the code keeps them: who is left, what is sent to the client,
--- who is noted, and who is dropped.
+-- What an effect does to the live requests, apart from how the code keeps them: who is left, what is sent to the
+-- client, who is noted, and who is dropped.
 use Rattle.std.proofs.Common.{◌≡◌, ℕ, ◌&&◌, Bool, true, false, cond, not, List, [], ◌∷◌, ◌++◌, map, Option, Some, None, refl, sym, ap, ◌∙◌}
 use Rattle.std.specs.Prelude.{◌==◌, is_none, filter}
 use Rattle.std.specs.List.{flat_map}
@@ -13,9 +13,9 @@ use Rattle.usbip_urb.specs.declared.client.ClientPacket.TheVariants.{Urb}
 use Rattle.usbip_urb.specs.declared.packet.UrbPacket.{UrbPacket}
 use Rattle.gate_core.specs.declared.note.Note.TheVariants as note
 use Rattle.gate_core.specs.Answers.{answers, answers_at, answers_by}
-use Rattle.gate_core.specs.Fillings.{Fill}
+use Rattle.gate_core.specs.Fillings.{Filling, Fill}
 use Rattle.gate_core.specs.Machine.{ask, live_after}
-use Rattle.gate_core.specs.Marks.{Submission, Effect, Answers, Arrives, Opens, StreamTold, Unlinks}
+use Rattle.gate_core.specs.Marks.{Submission, Effect, Answers, Arrives, Opens, StreamTold, Unlinks, Waits}
 use Rattle.gate_core.specs.Meaning.{mark_as}
 use Rattle.gate_core.specs.Notes.{answer_notes, is_by_answer, is_by_client, dropped}
 use Rattle.gate_core.specs.Output.{fresh, present, answered, to_client}
@@ -118,14 +118,53 @@ module _ (st : State) (by target : ℕ) where
       answered-for st (Unlinks by target) refl taken (λ p. answers p.submit p.unlinker (ByUnlink by))
       (λ p. elim (taken p) as (λ b. answers_at p.submit p.unlinker (cond b (Some (ByUnlink by)) None) ≡ cond b (answers p.submit p.unlinker (ByUnlink by)) []) [ true ↦ refl | false ↦ refl ])
 
--- ---- a packet of a stream fills requests that wait
+-- ---- packets of a stream fill requests that wait: it ends those that they fill, and none but them
 
+module _ (st : State) (e : Effect) (ep : ℕ) (fs : List Filling) (fills : (s : Submission) → ends e s ≡ packets_end ep fs s) where
+  pub filled-left : ((s : Submission) → asks e s ≡ None) → live_after st e ≡ filter (λ p. is_none (packets_end ep fs p.submit)) (present st e)
+  filled-left none =
+      asks-none e none (filter (λ p. is_none (ends e p.submit)) (present st e))
+      ∙ filter-same (λ p. is_none (ends e p.submit)) (λ p. is_none (packets_end ep fs p.submit)) (present st e)
+      (every (λ p. is_none (ends e p.submit) ≡ is_none (packets_end ep fs p.submit)) (λ p. ap is_none (fills p.submit)) (present st e))
+
+  pub filled-answered : answered st e ≡ map Urb (flat_map (λ p. answers_at p.submit p.unlinker (packets_end ep fs p.submit)) (present st e))
+  filled-answered =
+      ap (map Urb)
+      (flat_map-same (λ p. answers_at p.submit p.unlinker (ends e p.submit)) (λ p. answers_at p.submit p.unlinker (packets_end ep fs p.submit)) (present st e)
+      (every (λ p. answers_at p.submit p.unlinker (ends e p.submit) ≡ answers_at p.submit p.unlinker (packets_end ep fs p.submit)) (λ p. ap (answers_at p.submit p.unlinker) (fills p.submit)) (present st e)))
+
+  by-packets : (test : Option End → Bool) → filter (λ p. test (ends e p.submit)) (present st e) ≡ filter (λ p. test (packets_end ep fs p.submit)) (present st e)
+  by-packets test =
+      filter-same (λ p. test (ends e p.submit)) (λ p. test (packets_end ep fs p.submit)) (present st e)
+      (every (λ p. test (ends e p.submit) ≡ test (packets_end ep fs p.submit)) (λ p. ap test (fills p.submit)) (present st e))
+
+  pub filled-noted : answer_notes st e ≡ map (λ p. note.Answered p.submit.request.number) (filter (λ p. is_by_answer (packets_end ep fs p.submit)) (present st e))
+  filled-noted = ap (map (λ (p : Pending). note.Answered p.submit.request.number)) (by-packets is_by_answer)
+
+  pub filled-dropped : dropped st (mark_as st e None) ≡ map (λ p. p.submit) (filter (λ p. is_by_client (packets_end ep fs p.submit)) (present st e))
+  filled-dropped = ap (map (λ (p : Pending). p.submit)) (by-packets is_by_client)
+
+-- a packet of a stream
 module _ (st : State) (ep : ℕ) (fill : Fill) where
   pub arrival-left : live_after st (Arrives ep fill) ≡ filter (λ p. is_none (packets_end ep fill.fillings p.submit)) st.live
   arrival-left = live-of st (Arrives ep fill) refl ∙ asks-none (Arrives ep fill) (λ s. refl) (filter (λ p. is_none (packets_end ep fill.fillings p.submit)) st.live)
 
   pub arrival-sent : to_client st (mark_as st (Arrives ep fill) None) ≡ map Urb (flat_map (λ p. answers_at p.submit p.unlinker (packets_end ep fill.fillings p.submit)) st.live)
   arrival-sent = answered-of st (Arrives ep fill) refl
+
+-- a submit is accepted that waits for a stream's packets, those that are held already
+module _ (st : State) (s : Submission) (fill : Fill) where
+  abbrev ep : ℕ
+  ep = s.request.transfer.ep
+
+  pub waits-left : live_after st (Waits s fill) ≡ filter (λ p. is_none (packets_end s.request.transfer.ep fill.fillings p.submit)) (st.live ++ fresh s ∷ [])
+  waits-left = filled-left st (Waits s fill) ep fill.fillings (λ t. refl) (λ t. refl)
+
+  pub waits-answered : answered st (Waits s fill) ≡ map Urb (flat_map (λ p. answers_at p.submit p.unlinker (packets_end s.request.transfer.ep fill.fillings p.submit)) (st.live ++ fresh s ∷ []))
+  waits-answered = filled-answered st (Waits s fill) ep fill.fillings (λ t. refl)
+
+  pub waits-noted : answer_notes st (Waits s fill) ≡ map (λ p. note.Answered p.submit.request.number) (filter (λ p. is_by_answer (packets_end s.request.transfer.ep fill.fillings p.submit)) (st.live ++ fresh s ∷ []))
+  waits-noted = filled-noted st (Waits s fill) ep fill.fillings (λ t. refl)
 
 -- ---- a submit is accepted that ends none of the others
 
@@ -161,6 +200,42 @@ module _ (st : State) (s : Submission) (others : Each (λ p. ends (Opens s) p.su
 
   pub opening-dropped : is_by_client (at_once s.verdict) ≡ false → dropped st (mark_as st (Opens s) None) ≡ []
   opening-dropped by_client = ap (map (λ (p : Pending). p.submit)) (none-so is_by_client refl by_client)
+
+-- ---- a submit is accepted that ends others, so: a change ends those that wait for streams which it touches
+
+module _ (st : State) (s : Submission) (gone : Pending → Bool) (x : End) (others : Each (λ p. ends (Opens s) p.submit ≡ cond (gone p) (Some x) None) st.live) (own : ends (Opens s) s ≡ None) where
+  ended-by : (test : Option End → Bool) (so : Bool → Bool) → test (Some x) ≡ so true → test None ≡ so false → filter (λ p. test (ends (Opens s) p.submit)) st.live ≡ filter (λ p. so (gone p)) st.live
+  ended-by test so ended stays =
+      filter-same (λ p. test (ends (Opens s) p.submit)) (λ p. so (gone p)) st.live
+      (Each-weaker (λ p. ends (Opens s) p.submit ≡ cond (gone p) (Some x) None) (λ p. test (ends (Opens s) p.submit) ≡ so (gone p))
+      (λ p e. ap test e ∙ elim (gone p) as (λ b. test (cond b (Some x) None) ≡ so b) [ true ↦ ended | false ↦ stays ]) st.live others)
+
+  none-ended : (test : Option End → Bool) → test (Some x) ≡ false → test None ≡ false → filter (λ p. test (ends (Opens s) p.submit)) (present st (Opens s)) ≡ []
+  none-ended test ended stays =
+      filter-append (λ p. test (ends (Opens s) p.submit)) st.live (fresh s ∷ [])
+      ∙ (λ i. (ended-by test (λ b. false) ended stays ∙ filter-none st.live) i ++ cond ((ap test own ∙ stays) i) (fresh s ∷ []) [])
+
+  pub change-left : live_after st (Opens s) ≡ filter (λ p. not (gone p)) st.live ++ fresh s ∷ []
+  change-left =
+      asks-none (Opens s) (λ t. refl) (filter (λ p. is_none (ends (Opens s) p.submit)) (present st (Opens s)))
+      ∙ filter-append (λ p. is_none (ends (Opens s) p.submit)) st.live (fresh s ∷ [])
+      ∙ (λ i. ended-by is_none not refl refl i ++ cond (is_none (own i)) (fresh s ∷ []) [])
+
+  pub change-answered : answered st (Opens s) ≡ map Urb (flat_map (λ p. answers p.submit p.unlinker x) (filter gone st.live))
+  change-answered =
+      ap (map Urb)
+      (flat_map-append (λ p. answers_at p.submit p.unlinker (ends (Opens s) p.submit)) st.live (fresh s ∷ [])
+      ∙ (λ i. (flat_map-same (λ p. answers_at p.submit p.unlinker (ends (Opens s) p.submit)) (λ p. cond (gone p) (answers p.submit p.unlinker x) []) st.live
+      (Each-weaker (λ p. ends (Opens s) p.submit ≡ cond (gone p) (Some x) None) (λ p. answers_at p.submit p.unlinker (ends (Opens s) p.submit) ≡ cond (gone p) (answers p.submit p.unlinker x) [])
+      (λ p e. ap (answers_at p.submit p.unlinker) e ∙ elim (gone p) as (λ b. answers_at p.submit p.unlinker (cond b (Some x) None) ≡ cond b (answers p.submit p.unlinker x) []) [ true ↦ refl | false ↦ refl ]) st.live others)
+      ∙ sym (flat_map-filter (λ p. answers p.submit p.unlinker x) gone st.live)) i ++ (answers_at s None (own i) ++ []))
+      ∙ append-nil (flat_map (λ p. answers p.submit p.unlinker x) (filter gone st.live)))
+
+  pub change-noted : is_by_answer (Some x) ≡ false → answer_notes st (Opens s) ≡ []
+  change-noted by_answer = ap (map (λ (p : Pending). note.Answered p.submit.request.number)) (none-ended is_by_answer by_answer refl)
+
+  pub change-dropped : is_by_client (Some x) ≡ false → dropped st (mark_as st (Opens s) None) ≡ []
+  change-dropped by_client = ap (map (λ (p : Pending). p.submit)) (none-ended is_by_client by_client refl)
 
 -- ---- the client leaves, or the device is lost: nobody is left
 

@@ -1,4 +1,5 @@
--- Items by which the packets of a stream may fill requests: what they make of what is kept, and what they send and tell.
+-- Items by which the packets of a stream may fill requests: what they make of what is kept, and what they send and
+-- tell.
 use Rattle.std.proofs.Common.{◌≡◌, ℕ, ◌+◌, ◌^◌, ◌-◌, ◌≤◌, ◌&&◌, ◌||◌, Bool, true, false, cond, not, List, [], ◌++◌, length, map, Option, Some, None, sym, ap, ◌∙◌}
 use Rattle.std.specs.Prelude.{is_none, unwrap_or, filter, zip, slice_set}
 use Rattle.std.specs.Option.{option_map}
@@ -34,13 +35,14 @@ use Rattle.gate_core.specs.Output.{present, answered, replies, cancels, acknowle
 use Rattle.gate_core.specs.Notes.{when, import_notes, submit_notes, unlink_notes, arrival_notes, answer_notes, is_by_answer, refusal_notes, is_by_client, dropped}
 use Rattle.gate_core.specs.All.{is_ret_submit, is_won_unlink}
 use Rattle.gate_core.specs.Bytes.{host_packet_bytes}
-use Rattle.gate_core.specs.Machine.{ask}
+use Rattle.gate_core.specs.Machine.{live_after}
 use Rattle.gate_core.specs.inner.Rows.{row, unmarked, left_row}
 use Rattle.gate_core.specs.inner.Filling.{rows_fill, filled_bytes, filled_notes, waiting_rows, without_firsts, up_fill, up_bytes, HasEnded}
 use Rattle.gate_core.specs.inner.Holds.{Holds, Does}
-use Rattle.gate_core.proofs.Lists.{every, filter-same, filter-all, flat_map-same}
+use Rattle.gate_core.proofs.Lists.{every, filter-same, filter-all}
 use Rattle.gate_core.proofs.Lost.{capped-same}
-use Rattle.gate_core.proofs.Steady.{asks-none, none-cancelled}
+use Rattle.gate_core.proofs.Steady.{none-cancelled}
+use Rattle.gate_core.proofs.Effects.{filled-left, filled-answered, filled-noted, filled-dropped}
 use Rattle.gate_core.proofs.Filled.{requests, waiters, fillings, FillsAll}
 use Rattle.gate_core.proofs.Places.{set-twice}
 
@@ -66,35 +68,20 @@ module _ (st : State) (e : Effect) (max_packet ep : ℕ) (packets : List StreamP
   abbrev fs : List Filling
   fs = fillings max_packet (waiters ep (present st e)) packets
 
-  ends-so : (p : Pending) → ends e p.submit ≡ packets_end ep fs p.submit
-  ends-so p = λ i. cond (l.stays i) (Some ByClient) (cond (l.keeps i) (Some ByLoss) (l.fills p.submit i))
-
-  answered-so : answered st e ≡ map Urb (flat_map (λ p. answers_at p.submit p.unlinker (packets_end ep fs p.submit)) (present st e))
-  answered-so =
-      ap (map Urb) (flat_map-same (λ p. answers_at p.submit p.unlinker (ends e p.submit)) (λ p. answers_at p.submit p.unlinker (packets_end ep fs p.submit)) (present st e)
-      (every (λ p. answers_at p.submit p.unlinker (ends e p.submit) ≡ answers_at p.submit p.unlinker (packets_end ep fs p.submit)) (λ p. ap (answers_at p.submit p.unlinker) (ends-so p)) (present st e)))
+  ends-so : (s : Submission) → ends e s ≡ packets_end ep fs s
+  ends-so s = λ i. cond (l.stays i) (Some ByClient) (cond (l.keeps i) (Some ByLoss) (l.fills s i))
 
   sent-so : to_client st (mark_as st e None) ≡ map Urb (flat_map (λ p. answers_at p.submit p.unlinker (packets_end ep fs p.submit)) (present st e))
-  sent-so = λ i. l.no_reply i ++ answered-so i
+  sent-so = λ i. l.no_reply i ++ filled-answered st e ep fs ends-so i
 
-  left-so : map row (map (ask e) (filter (λ p. is_none (ends e p.submit)) (present st e))) ≡ without_firsts (length fs) (waits_for ep) (map row (present st e))
-  left-so =
-      ap (map row) (asks-none e l.no_asks (filter (λ p. is_none (ends e p.submit)) (present st e))
-      ∙ filter-same (λ p. is_none (ends e p.submit)) (λ p. is_none (packets_end ep fs p.submit)) (present st e)
-      (every (λ p. is_none (ends e p.submit) ≡ is_none (packets_end ep fs p.submit)) (λ p. ap is_none (ends-so p)) (present st e)))
-      ∙ all.rows
+  left-so : map row (live_after st e) ≡ without_firsts (length fs) (waits_for ep) (map row (present st e))
+  left-so = ap (map row) (filled-left st e ep fs ends-so l.no_asks) ∙ all.rows
 
   told-so : answer_notes st e ≡ filled_notes (fill max_packet (requests (waiters ep (present st e))) packets)
-  told-so =
-      ap (map (λ (p : Pending). note.Answered p.submit.request.number)) (filter-same (λ p. is_by_answer (ends e p.submit)) (λ p. is_by_answer (packets_end ep fs p.submit)) (present st e)
-      (every (λ p. is_by_answer (ends e p.submit) ≡ is_by_answer (packets_end ep fs p.submit)) (λ p. ap is_by_answer (ends-so p)) (present st e)))
-      ∙ all.told
+  told-so = filled-noted st e ep fs ends-so ∙ all.told
 
-  undropped-so : filter (λ p. is_by_client (ends e p.submit)) (present st e) ≡ []
-  undropped-so =
-      filter-same (λ p. is_by_client (ends e p.submit)) (λ p. is_by_client (packets_end ep fs p.submit)) (present st e)
-      (every (λ p. is_by_client (ends e p.submit) ≡ is_by_client (packets_end ep fs p.submit)) (λ p. ap is_by_client (ends-so p)) (present st e))
-      ∙ all.undropped
+  undropped-so : dropped st (mark_as st e None) ≡ []
+  undropped-so = filled-dropped st e ep fs ends-so ∙ ap (map (λ (p : Pending). p.submit)) all.undropped
 
   -- the rows of all that are there are these, and it tells this before the answers
   pub does-fill : (old new : Kept) (rows : List Live) (client_old client_new host_old host_new : List ℕ) (notes_old notes_new : List Note) → Holds old st → old.unlinked ≤ 2 ^ 64 - 1 → old.dropped ≤ 2 ^ 64 - 1 →
@@ -136,7 +123,7 @@ module _ (st : State) (e : Effect) (max_packet ep : ℕ) (packets : List StreamP
             ∙ (λ i. (((told ++ answer_notes st e) ++ when ((sym l.keeps i && st.imported) && not st.lost) note.DeviceGone) ++ when (sym l.stays i && not st.client_over) note.ClientGone) ++ refusal_notes (sym l.no_place i)));
         answered = ap (λ (k : Kept). k.answered) is ∙ ap (λ (n : ℕ). capped (old.answered + n)) (sym (ap (λ (ps : List ClientPacket). length (filter is_ret_submit ps)) sent-so ∙ all.counted));
         unlinked = ap (λ (k : Kept). k.unlinked) is ∙ capped-same old.unlinked unlinked_fits ∙ ap (λ (ps : List ClientPacket). capped (old.unlinked + length ps)) (sym (ap (filter is_won_unlink) sent-so ∙ all.won));
-        dropped = ap (λ (k : Kept). k.dropped) is ∙ capped-same old.dropped dropped_fits ∙ ap (λ (ps : List Pending). capped (old.dropped + length (map (λ (p : Pending). p.submit) ps))) (sym undropped-so);
+        dropped = ap (λ (k : Kept). k.dropped) is ∙ capped-same old.dropped dropped_fits ∙ ap (λ (ss : List Submission). capped (old.dropped + length ss)) (sym undropped-so);
       }
     where
       told : List Note

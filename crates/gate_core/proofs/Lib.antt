@@ -23,7 +23,7 @@ pub mod Interfaces
 pub mod Carried
 pub mod Sendable
 pub mod Sending
-mod Quiet
+pub mod Quiet
 pub mod Flying
 pub mod Answered
 pub mod Fronts

@@ -36,8 +36,8 @@ impl Filled {
     }
 }
 
-/// Appends the answers of the requests that the packets of their endpoint's stream fill, the earliest first, and tells of
-/// each. It gives how many these are; requests and packets stay.
+/// Appends the answers of the requests that the packets of their endpoint's stream fill, the earliest first, and tells
+/// of each. It gives how many these are; requests and packets stay.
 pub fn write_fillings(
     alloc: Global,
     lives: &Lives,

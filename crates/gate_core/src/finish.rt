@@ -28,8 +28,8 @@ pub fn asked_by(live: &Live) -> Asked<'_>
     }
 }
 
-/// Appends the answer of a request whose device is lost: its unlink's where it was asked back, and else its own. For want
-/// of memory `out` stands.
+/// Appends the answer of a request whose device is lost: its unlink's where it was asked back, and else its own. For
+/// want of memory `out` stands.
 pub fn write_lost(alloc: Global, live: &Live, out: &mut Bytes) -> Result<(), Memory>
     requires { HasItsPackets live.now.packets live.now.descs }
     ensures ok { OnOk result (out.new ≡ out.old ++ lost_bytes live.now) }

@@ -63,13 +63,15 @@ pub fn losses_end_all()
 {}
 
 /// A law: after every past few requests are live, none of which is one that is answered where it is accepted, what a
-/// former client left is gone before the next one has imported, and a number and an id are each that of one request at most.
+/// former client left is gone before the next one has imported, and a number and an id are each that of one request at
+/// most.
 pub fn states_are_sound()
     ensures { (first : ℕ) (items : List Item) → IsSound (state_of first (past first items)) }
 {}
 
 /// A law: no id is in flight twice. The ids that an item draws, but for a submit with more descriptors than any that
-/// is read, are in range and in flight nowhere, and no two are one. A drawn id is the first after the last one that isn't in flight.
+/// is read, are in range and in flight nowhere, and no two are one. A drawn id is the first after the last one that
+/// isn't in flight.
 pub fn ids_fly_once()
     ensures once { (first : ℕ) (items : List Item) → Once (in_flight (past first items)) }
     ensures fresh { (first : ℕ) (items : List Item) (item : Item) → HasFewPackets item

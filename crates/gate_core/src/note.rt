@@ -3,7 +3,7 @@
 use usb_base::{EpAddr, List, Refusal};
 
 /// What an event told.
-#[derive(Clone, Copy, PartialEq, Eq)]
+#[derive(Clone, Copy)]
 pub enum Note {
     /// The client has imported the device.
     Imported,
@@ -27,7 +27,7 @@ pub enum Note {
 pub type Notes = List<Note>;
 
 /// What was counted. Each number stands still at `u64::MAX`.
-#[derive(Clone, Copy, PartialEq, Eq)]
+#[derive(Clone, Copy)]
 pub struct Counts {
     /// RET_SUBMITs that were sent.
     pub answered: u64,

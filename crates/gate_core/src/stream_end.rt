@@ -44,8 +44,8 @@ impl Kept {
         self.answered = self.answered.saturating_add(ended as u64);
     }
 
-    /// The host tells this of the stream of an endpoint: any status but success ends it, and is that of the requests that
-    /// wait for its packets.
+    /// The host tells this of the stream of an endpoint: any status but success ends it, and is that of the requests
+    /// that wait for its packets.
     pub fn end_stream(
         &mut self,
         endpoint: u8,

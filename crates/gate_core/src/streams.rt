@@ -23,8 +23,8 @@ use usbip_urb::Descs;
 /// How many places a table of endpoints has.
 const PLACES: usize = 32;
 
-/// A stream that is up, with the row that its endpoint had when it went up, and the packets that came and that no request
-/// took.
+/// A stream that is up, with the row that its endpoint had when it went up, and the packets that came and that no
+/// request took.
 #[derive(Drop)]
 pub struct Up {
     ep: EpAddr,
@@ -128,8 +128,8 @@ impl Up {
         self.inbox.filling(from, wanted)
     }
 
-    /// Appends what fits of the packets behind the first `from` that fill an interrupt request. For want of memory some of
-    /// the bytes may be there, which the caller cuts off.
+    /// Appends what fits of the packets behind the first `from` that fill an interrupt request. For want of memory some
+    /// of the bytes may be there, which the caller cuts off.
     pub fn append_bodies(
         &self,
         from: usize,
@@ -151,8 +151,8 @@ impl Up {
         self.inbox.iso_filling(from, descs)
     }
 
-    /// Appends what fits of the packets behind the first `from`, one for each descriptor, without gaps. For want of memory
-    /// some of the bytes may be there, which the caller cuts off.
+    /// Appends what fits of the packets behind the first `from`, one for each descriptor, without gaps. For want of
+    /// memory some of the bytes may be there, which the caller cuts off.
     pub fn append_pieces(&self, from: usize, descs: &Descs, out: &mut Bytes) -> Result<(), Memory>
         requires { from + length descs.now ≤ length self.now.held }
         ensures { AppendsSome result out.old out.new (pieces descs.now (drop from self.now.held)) }

@@ -204,8 +204,8 @@ impl Kept {
         }
     }
 
-    /// The host answers the request that has the packet's id. It is refused where the answer isn't that of the request; an
-    /// answer to nobody means nothing.
+    /// The host answers the request that has the packet's id. It is refused where the answer isn't that of the request;
+    /// an answer to nobody means nothing.
     fn answer(
         &mut self,
         place: u64,

@@ -15,7 +15,7 @@ use usb_base::{EpKind, EpRow, EpTable, Setup};
 use usbip_urb::laid;
 
 /// The kinds of transfers of which each is one packet to the host and one back.
-#[derive(Clone, Copy, PartialEq, Eq)]
+#[derive(Clone, Copy)]
 pub enum Pipe {
     Control,
     Bulk,
@@ -36,7 +36,7 @@ impl Pipe {
 }
 
 /// What is made of a submit.
-#[derive(Clone, Copy, PartialEq, Eq)]
+#[derive(Clone, Copy)]
 pub enum Verdict {
     /// It is answered at once with this status.
     Now(i32),
@@ -44,7 +44,8 @@ pub enum Verdict {
     Wire(Pipe),
     /// It goes to the host by the packets of its route.
     Routed(Route),
-    /// It goes to the host as isochronous packets by the stream of an endpoint that has this row, and is answered at once.
+    /// It goes to the host as isochronous packets by the stream of an endpoint that has this row, and is answered at
+    /// once.
     IsoOut(EpRow),
     /// It waits for the packets of its endpoint's stream, which keeps this row.
     Stream(EpRow),

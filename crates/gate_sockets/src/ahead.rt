@@ -1,12 +1,11 @@
 //! The bytes of a link that were read ahead of the polls that give them.
 
-ghost use Rattle.std.specs.Prelude.{◌≡◌, ◌++◌, [], length, min, take, drop};
-ghost use Rattle.gate_sockets.specs.Step.{IsStepWithin, moved_of};
+ghost use Rattle.std.specs.Prelude.{◌≡◌, [], length, min, take, drop};
+ghost use Rattle.gate_sockets.specs.Ahead.{ReadsAhead};
 
+use crate::connection::Connection;
 use crate::step::{Step, step_of};
-use mio::net::TcpStream;
 use std::alloc::Global;
-use std::io::Read;
 use std::marker::Model;
 
 /// A queue of bytes. It takes memory as they come, and gives it back once all are given.
@@ -49,16 +48,21 @@ impl Ahead {
     }
 
     /// Reads what the link has now behind the others, where there is memory for it, as far as `most` bytes in all.
-    pub(crate) fn read_on(&mut self, mut stream: &TcpStream, most: usize, chunk: &mut [u8]) -> Step
-        ensures within { IsStepWithin (length chunk.new) result }
-        ensures kept { self.new ≡ self.old ++ moved_of result chunk.new }
+    pub(crate) fn read_on<S: Connection>(
+        &mut self,
+        stream: &mut S,
+        most: usize,
+        chunk: &mut [u8],
+    ) -> Step
+        ensures { ReadsAhead S.read_gives result stream.old stream.new self.old self.new }
     {
         let free = most.saturating_sub(self.bytes.len());
         let room = chunk.len().min(free);
         if room == 0 || self.bytes.reserve(room).is_err() {
             return Step::Blocked;
         }
-        let step = step_of(stream.read(&mut chunk[..room]), room);
+        let chunk = &mut chunk[..room];
+        let step = step_of(stream.read_once(chunk), room);
         if let Step::Moved(count) = step {
             match self.bytes.extend_from_slice(&chunk[..count]) {
                 Ok(()) => {}

@@ -1,10 +1,11 @@
 //! The pace at which a link is polled that has nothing to give.
 
-ghost use Rattle.std.specs.Prelude.{◌≡◌, ◌≤◌, ◌<◌, ◌+◌, ◌-◌, min};
+ghost use Rattle.std.specs.Prelude.{◌≡◌, ◌+◌, Option};
 ghost use Rattle.std.specs.Duration.{as_nanos};
-ghost use Rattle.gate_sockets.specs.Pace.{next_due};
+ghost use Rattle.std.specs.declared.time.Duration.{Duration as Time};
+ghost use Rattle.gate_sockets.specs.Pace.{next_due, IsLeft, IsLeftBy};
 
-use std::rt::Clock;
+use crate::network::Network;
 use std::time::Duration;
 
 /// How many intervals are made up for at most, where polls came too late.
@@ -29,21 +30,21 @@ impl Pace {
     }
 
     /// How long it is to the end of the interval, and never longer than one. Where that has ended the next one begins.
-    pub(crate) fn left(&mut self, clock: &impl Clock) -> Duration
-        ensures { as_nanos result ≤ as_nanos self.old.interval }
+    /// Where the system tells no time it is an interval.
+    pub(crate) fn left<N: Network>(&mut self, network: &N) -> Duration
+        ensures interval { self.new.interval ≡ self.old.interval }
+        ensures left { (time : Option Time) × (N.time_gives time × IsLeftBy time (as_nanos result) (as_nanos self.old.interval) (as_nanos self.old.due) (as_nanos self.new.due)) }
     {
-        match clock.monotonic() {
-            Ok(now) => self.left_at(now),
-            Err(_) => self.interval,
+        match network.time() {
+            Some(now) => self.left_at(now),
+            None => self.interval,
         }
     }
 
     /// The same at this time.
     fn left_at(&mut self, now: Duration) -> Duration
-        ensures early { as_nanos now < as_nanos self.old.due → self.new ≡ self.old }
-        ensures late { as_nanos self.old.due ≤ as_nanos now → as_nanos self.new.due ≡ next_due (as_nanos self.old.interval) (as_nanos self.old.due) (as_nanos now) }
         ensures interval { self.new.interval ≡ self.old.interval }
-        ensures left { as_nanos result ≡ min (as_nanos self.new.due - as_nanos now) (as_nanos self.old.interval) }
+        ensures left { IsLeft (as_nanos now) (as_nanos result) (as_nanos self.old.interval) (as_nanos self.old.due) (as_nanos self.new.due) }
     {
         if let Some(late) = now.checked_sub(self.due) {
             self.due = self.next(late);

@@ -1,5 +1,6 @@
 //! When to read from the sockets, when to wait for them, and for which.
 
+use crate::network::Network;
 use crate::pace::Pace;
 use gate_outside::Side;
 use mio::net::{TcpListener, TcpStream};
@@ -7,14 +8,10 @@ use mio::{Events, Interest, Poll, Token};
 use std::alloc::Global;
 use std::io;
 use std::net::Net;
-use std::rt::Clock;
 use std::time::Duration;
 
 /// How many looks in a row find nothing before one waits.
 const QUIET_LOOKS: u32 = 2;
-
-/// At which look a side that had nothing to read is read again, where the system tells of nothing before.
-const DUE_LOOK: u32 = 8;
 
 /// How long a look waits at most for something to come.
 const READ_WAIT_MILLIS: u64 = 10;
@@ -34,13 +31,13 @@ fn token(side: Side) -> Token {
 /// The sockets that are waited for: to read in one set, and to write in the other. Both are edge-triggered, so
 /// a caller looks at its socket before it waits.
 #[derive(Drop)]
-pub(crate) struct Ready {
+pub struct Ready {
     reading: Poll,
     writing: Poll,
     events: Events<Global>,
-    // At which look from now each side is read, where the system tells of nothing before.
-    client_due_in: u32,
-    host_due_in: u32,
+    // Whether the system has told of something to read since the side was read.
+    client_told: bool,
+    host_told: bool,
     // How many looks in a row have found nothing.
     quiet: u32,
     // How long a look waits that finds nothing, where that is asked.
@@ -53,8 +50,8 @@ impl Ready {
             reading: Poll::new(net)?,
             writing: Poll::new(net)?,
             events: Events::with_capacity(alloc, 4)?,
-            client_due_in: 0,
-            host_due_in: 0,
+            client_told: false,
+            host_told: false,
             quiet: 0,
             pace: None,
         })
@@ -65,20 +62,11 @@ impl Ready {
         reading.register(door, DOOR, Interest::READABLE)
     }
 
-    pub(crate) fn add(&mut self, side: Side, stream: &mut TcpStream) -> io::Result<()> {
+    pub(crate) fn add(&self, side: Side, stream: &mut TcpStream) -> io::Result<()> {
         let reading = self.reading.registry();
         reading.register(stream, token(side), Interest::READABLE)?;
         let writing = self.writing.registry();
-        writing.register(stream, token(side), Interest::WRITABLE)?;
-        *self.due_in(side) = 0;
-        Ok(())
-    }
-
-    fn due_in(&mut self, side: Side) -> &mut u32 {
-        match side {
-            Side::Client => &mut self.client_due_in,
-            Side::Host => &mut self.host_due_in,
-        }
+        writing.register(stream, token(side), Interest::WRITABLE)
     }
 
     /// A look that finds nothing waits from now on to the end of such an interval, one after another.
@@ -91,43 +79,46 @@ impl Ready {
         self.quiet = 0;
     }
 
-    /// Whether to read from the side, after a moment at most. Where a read found nothing, the next looks pass the
-    /// side over until the system tells of something; but not for long, since nobody waits for what it tells while
-    /// the other side never rests.
-    pub(crate) fn is_due(&mut self, side: Side, clock: &impl Clock) -> bool {
-        let due_in = self.due_in(side);
-        if *due_in > 0 {
-            *due_in -= 1;
-            self.found_nothing(clock);
+    /// The side is read now, so that what was told of it is done with.
+    pub(crate) fn reads(&mut self, side: Side) {
+        match side {
+            Side::Client => self.client_told = false,
+            Side::Host => self.host_told = false,
         }
-        *self.due_in(side) == 0
+    }
+
+    /// Whether the system has told of something to read from the side since it was read.
+    pub(crate) fn is_told(&self, side: Side) -> bool {
+        match side {
+            Side::Client => self.client_told,
+            Side::Host => self.host_told,
+        }
     }
 
     /// A read from the side found nothing.
-    pub(crate) fn drained(&mut self, side: Side) {
+    pub(crate) fn drained(&mut self) {
         self.quiet = self.quiet.saturating_add(1);
-        *self.due_in(side) = DUE_LOOK;
     }
 
     /// A look found nothing. Waits for something to read if the last looks found nothing either, and says
-    /// whether to look again. Where the system can't wait, both sides are due.
-    pub(crate) fn found_nothing(&mut self, clock: &impl Clock) -> bool {
+    /// whether to look again. Where the system can't wait, both sides are to be read.
+    pub(crate) fn found_nothing(&mut self, network: &impl Network) -> bool {
         self.quiet = self.quiet.saturating_add(1);
         let most = match &mut self.pace {
-            Some(pace) => pace.left(clock),
+            Some(pace) => pace.left(network),
             None if self.quiet < QUIET_LOOKS => return false,
             None => Duration::from_millis(READ_WAIT_MILLIS),
         };
         if self.reading.poll(&mut self.events, Some(most)).is_err() {
-            self.client_due_in = 0;
-            self.host_due_in = 0;
+            self.client_told = true;
+            self.host_told = true;
         }
         for event in self.events.iter() {
             if event.token() == token(Side::Client) {
-                self.client_due_in = 0;
+                self.client_told = true;
             }
             if event.token() == token(Side::Host) {
-                self.host_due_in = 0;
+                self.host_told = true;
             }
         }
         true

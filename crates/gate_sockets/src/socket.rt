@@ -1,59 +1,65 @@
 //! One side's connection, and what became of the calls on it.
 
-ghost use Rattle.std.specs.Prelude.{◌≡◌, ◌<◌, ℕ, List, length, IsTrue};
+ghost use Rattle.std.specs.Prelude.{◌≡◌, ◌<◌, false, length, IsTrue, is_some};
 ghost use Rattle.gate_outside.specs.Doors.{Polls, TookWithin};
-ghost use Rattle.gate_sockets.specs.State.{fresh, opened, closed, broke, faulted, idled, untold, PollSteps, ReadSteps, ReadOn, WroteOnce};
-ghost use Rattle.gate_sockets.specs.Step.{IsStepWithin, Hears, Takes};
+ghost use Rattle.gate_sockets.specs.Polling.{PassesOver, ReadsOnce, Heard, Hears, PollSteps};
+ghost use Rattle.gate_sockets.specs.State.{fresh, opened, closed, broke, faulted, idled, untold};
+ghost use Rattle.gate_sockets.specs.Step.{IsStepWithin};
+ghost use Rattle.gate_sockets.specs.Writing.{ReadOn, WritesOnce, WroteOnce, Takes};
 
 use crate::ahead::Ahead;
+use crate::connection::Connection;
+use crate::network::Network;
 use crate::ready::Ready;
 use crate::step::{Step, step_of};
 use crate::telling::Peer;
 use gate_outside::{Failed, Polled, Side};
-use mio::net::TcpStream;
 use std::alloc::Global;
 use std::io;
-use std::io::{Read, Write};
 use std::marker::Model;
 use std::net::SocketAddr;
-use std::rt::Clock;
 
 /// How many bytes are read ahead at a time, and how often in a row.
 const CHUNK: usize = 16_384;
 
 const CHUNKS: u32 = 256;
 
+/// How many polls pass over a link whose read had to wait, where the system tells of nothing before.
+const RESTS: u32 = 8;
+
 /// A connection while there is one, and its counts.
 #[derive(Drop)]
-pub(crate) struct Socket {
+pub(crate) struct Socket<S: Connection> {
     side: Side,
-    stream: Option<TcpStream>,
+    stream: Option<S>,
     /// The other end of the link, and why that broke: of the last one where none is up.
     addr: Option<SocketAddr>,
     why: Option<io::Error>,
     ahead: Ahead,
     broken: bool,
+    /// How many polls from now on may pass the link over.
+    rests: u32,
     faults: u64,
     idle: u64,
 }
 
-impl Model for Socket {
-    ghost use Rattle.std.specs.Prelude.{is_some};
+impl<S: Connection> Model for Socket<S> {
     ghost use Rattle.gate_sockets.specs.State.{State};
 
-    ghost Value = { State };
+    ghost Value = { State S };
 
     ghost view = { λ socket. record {
-      up = is_some socket.stream;
+      stream = socket.stream;
       ahead = socket.ahead;
       broken = socket.broken;
+      rests = socket.rests;
       faults = socket.faults;
       idle = socket.idle;
     } };
 }
 
-impl Socket {
-    pub(crate) fn new(side: Side, alloc: Global) -> Socket
+impl<S: Connection> Socket<S> {
+    pub(crate) fn new(side: Side, alloc: Global) -> Socket<S>
         ensures { result ≡ fresh }
     {
         Socket {
@@ -63,23 +69,25 @@ impl Socket {
             why: None,
             ahead: Ahead::new(alloc),
             broken: false,
+            rests: 0,
             faults: 0,
             idle: 0,
         }
     }
 
-    pub(crate) fn open(&mut self, stream: TcpStream)
-        ensures { self.new ≡ opened self.old }
+    pub(crate) fn open(&mut self, stream: S)
+        ensures { self.new ≡ opened stream self.old }
     {
-        self.addr = stream.peer_addr().ok();
+        self.addr = stream.peer();
         self.why = None;
         self.stream = Some(stream);
         self.ahead.clear();
         self.broken = false;
+        self.rests = 0;
     }
 
     /// The other end, of the last link where none is up.
-    pub(crate) fn peer(&self) -> Peer {
+    pub(crate) fn other_end(&self) -> Peer {
         Peer {
             side: self.side,
             addr: self.addr,
@@ -97,6 +105,7 @@ impl Socket {
         self.stream = None;
         self.ahead.clear();
         self.broken = false;
+        self.rests = 0;
     }
 
     /// The link has broken.
@@ -123,11 +132,16 @@ impl Socket {
     }
 
     /// What the connection has to give, after a moment at most: first what was read ahead.
-    pub(crate) fn poll(&mut self, buf: &mut [u8], ready: &mut Ready, clock: &impl Clock) -> Polled
-        requires up { IsTrue self.old.up }
+    pub(crate) fn poll<N: Network>(
+        &mut self,
+        buf: &mut [u8],
+        ready: &mut Ready,
+        network: &N,
+    ) -> Polled
+        requires up { IsTrue (is_some self.old.stream) }
         requires room { 0 < length buf.old }
         ensures bound { TookWithin result buf.new }
-        ensures state { PollSteps result buf.new self.old self.new }
+        ensures state { PollSteps S.read_gives result buf.new self.old self.new }
         ensures link { Polls result buf.new (untold self.old) (untold self.new) }
     {
         let given = self.ahead.give(buf);
@@ -135,19 +149,52 @@ impl Socket {
             ready.moved();
             return Polled::Took(given);
         }
-        let step = self.look(buf, ready, clock);
+        if self.passes_over(ready, network) {
+            self.rest();
+            return Polled::NotYet;
+        }
+        self.hear_once(buf, ready)
+    }
+
+    /// Whether the poll passes the link over, after a moment. Where a read had to wait the next polls do so, until the
+    /// system tells of something; but not for long, since nobody waits for what it tells while the other side never
+    /// rests. A link that has broken is read to its end.
+    fn passes_over<N: Network>(&mut self, ready: &mut Ready, network: &N) -> bool
+        ensures over { IsTrue result → PassesOver self.old self.new }
+        ensures reads { result ≡ false → self.new ≡ record self.old { rests = self.new.rests } }
+    {
+        if self.broken || self.rests == 0 {
+            return false;
+        }
+        ready.found_nothing(network);
+        self.rests -= 1;
+        self.rests > 0 && !ready.is_told(self.side)
+    }
+
+    /// Reads once, and says what that means.
+    fn hear_once(&mut self, buf: &mut [u8], ready: &mut Ready) -> Polled
+        requires up { IsTrue (is_some self.old.stream) }
+        requires room { 0 < length buf.old }
+        ensures bound { TookWithin result buf.new }
+        ensures heard { Heard S.read_gives result buf.new self.old self.new }
+    {
+        ready.reads(self.side);
+        let step = self.read_once(buf);
+        match step {
+            Step::Blocked => ready.drained(),
+            _ => ready.moved(),
+        }
         self.hear(step)
     }
 
     /// What a read means.
     fn hear(&mut self, step: Step) -> Polled
         ensures hears { Hears step result self.old self.new }
-        ensures state { ReadSteps result self.old self.new }
-        ensures link { (buf : List ℕ) → Polls result buf (untold self.old) (untold self.new) }
     {
         match step {
             Step::Moved(count) if count > 0 => Polled::Took(count),
             Step::Blocked if !self.broken => {
+                self.rests = RESTS;
                 self.rest();
                 Polled::NotYet
             }
@@ -178,38 +225,24 @@ impl Socket {
         self.end()
     }
 
-    /// Reads, where that is due. A link that has broken is read to its end.
-    fn look(&self, buf: &mut [u8], ready: &mut Ready, clock: &impl Clock) -> Step
-        requires { IsTrue self.now.up }
-        ensures { IsStepWithin (length buf.new) result }
+    fn read_once(&mut self, buf: &mut [u8]) -> Step
+        requires { IsTrue (is_some self.old.stream) }
+        ensures within { IsStepWithin (length buf.new) result }
+        ensures reads { ReadsOnce S.read_gives buf.new result self.old self.new }
     {
-        if !self.broken && !ready.is_due(self.side, clock) {
-            return Step::Blocked;
-        }
-        let step = self.read_once(buf);
-        match step {
-            Step::Blocked => ready.drained(self.side),
-            _ => ready.moved(),
-        }
-        step
-    }
-
-    fn read_once(&self, buf: &mut [u8]) -> Step
-        requires { IsTrue self.now.up }
-        ensures { IsStepWithin (length buf.new) result }
-    {
-        let Some(mut stream) = self.stream.as_ref() else {
-            unreachable!()
-        };
         let limit = buf.len();
-        step_of(stream.read(buf), limit)
+        self.rests = 0;
+        match &mut self.stream {
+            Some(stream) => step_of(stream.read_once(buf), limit),
+            None => unreachable!(),
+        }
     }
 
     /// Writes a front of the piece, where that need not wait.
     pub(crate) fn write_once(&mut self, piece: &[u8]) -> Option<usize>
-        requires up { IsTrue self.old.up }
+        requires up { IsTrue (is_some self.old.stream) }
         requires some { 0 < length piece.now }
-        ensures { WroteOnce result (length piece.now) self.old self.new }
+        ensures { WroteOnce S.read_gives S.write_gives result piece.now self.old self.new }
     {
         if self.broken {
             return Some(piece.len());
@@ -218,14 +251,15 @@ impl Socket {
         self.take(step, piece.len())
     }
 
-    fn send(&self, piece: &[u8]) -> Step
-        requires { IsTrue self.now.up }
-        ensures { IsStepWithin (length piece.now) result }
+    fn send(&mut self, piece: &[u8]) -> Step
+        requires { IsTrue (is_some self.old.stream) }
+        ensures within { IsStepWithin (length piece.now) result }
+        ensures writes { WritesOnce S.write_gives piece.now result self.old self.new }
     {
-        let Some(mut stream) = self.stream.as_ref() else {
-            unreachable!()
-        };
-        step_of(stream.write(piece), piece.len())
+        match &mut self.stream {
+            Some(stream) => step_of(stream.write_once(piece), piece.len()),
+            None => unreachable!(),
+        }
     }
 
     /// How many bytes a write of so many has taken.
@@ -244,7 +278,7 @@ impl Socket {
 
     /// Reads ahead what the link has now, if it is up.
     pub(crate) fn read_on(&mut self, most: usize)
-        ensures { ReadOn self.old self.new }
+        ensures { ReadOn S.read_gives S.write_gives self.old self.new }
     {
         let mut chunk = [0; CHUNK];
         for _ in 0..CHUNKS {
@@ -256,9 +290,9 @@ impl Socket {
 
     /// Reads ahead once, and says whether that brought something.
     fn read_ahead(&mut self, most: usize, chunk: &mut [u8]) -> bool
-        ensures { ReadOn self.old self.new }
+        ensures { ReadOn S.read_gives S.write_gives self.old self.new }
     {
-        let Some(stream) = self.stream.as_ref() else {
+        let Some(stream) = &mut self.stream else {
             return false;
         };
         match self.ahead.read_on(stream, most, chunk) {

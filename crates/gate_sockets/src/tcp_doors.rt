@@ -1,21 +1,22 @@
 //! The doors over TCP.
 
-ghost use Rattle.std.specs.Prelude.{◌≡◌, ◌<◌, length, IfOk, OnOk, OnErr, IsOkAnd, IsTrue, true, false};
-ghost use Rattle.gate_sockets.specs.State.{fresh, opened, faulted, state_of, Came, CameOrRested, ReadOn, WroteOnce, PollSteps, WriteSteps};
+ghost use Rattle.std.specs.Prelude.{◌≡◌, ◌<◌, Bool, length, None, IfOk, IsOkAnd, IsTrue, is_ok};
+ghost use Rattle.gate_sockets.specs.Door.{CameOnce, Came, DialledBy, MadeBy};
+ghost use Rattle.gate_sockets.specs.State.{fresh, faulted, state_of, link_of, door_of};
+ghost use Rattle.gate_sockets.specs.Writing.{ReadOn, WroteOnce};
 ghost use Rattle.gate_outside.specs.Link.{other};
 
+use crate::connection::Connection;
+use crate::network::Network;
 use crate::ready::Ready;
 use crate::socket::Socket;
 use crate::telling;
 use gate_outside::{Doors, Failed, Polled, Side};
-use mio::net::{TcpListener, TcpStream};
 use std::alloc::Global;
+use std::io;
 use std::io::ErrorKind;
 use std::marker::Model;
-use std::net::Net;
-use std::rt::Clock;
 use std::time::Duration;
-use std::{io, net};
 
 /// How often a write that is blocked is tried.
 const TRIES: u32 = 1_000_000;
@@ -25,21 +26,18 @@ const CLIENT_AHEAD: usize = 16_793_647;
 
 const HOST_AHEAD: usize = 16_777_295;
 
-/// Connections of the system. Of what comes and goes by them they tell nothing but what was read ahead. What is proved
-/// of them is which call counts as a fault and which as idle, that what was read ahead is given in order and before
-/// what came later, and that a link which has broken takes what is written to it, and ends.
+/// Connections of a network. The contracts say what each call asked of them, and what they answered: a poll gives what
+/// was read ahead, or is one read and tells what that gave; the bytes that a write tells as written are those that the
+/// connection took; a client has come where the door gave one. Of what is to come they tell nothing.
 ///
 /// The door stays open: a client that comes while another one is served waits until that one has left.
 #[derive(Drop)]
-pub struct TcpDoors<
-    'rt,
-    R: Net<Stream = net::TcpStream, Listener = net::TcpListener> + Eprint + Clock,
-> {
-    rt: &'rt R,
+pub struct TcpDoors<'rt, N: Network + Eprint> {
+    rt: &'rt N,
     ready: Ready,
-    door: Option<TcpListener>,
-    client: Socket,
-    host: Socket,
+    door: Option<N::Door>,
+    client: Socket<N::Stream>,
+    host: Socket<N::Stream>,
     /// A call has tried to open a link or the door, and a host was dialled.
     used: bool,
     dialled: bool,
@@ -47,29 +45,24 @@ pub struct TcpDoors<
     wants: bool,
 }
 
-impl<'rt, R: Net<Stream = net::TcpStream, Listener = net::TcpListener> + Eprint + Clock> Model
-    for TcpDoors<'rt, R> {
-    ghost use Rattle.std.specs.Prelude.{is_some};
+impl<'rt, N: Network + Eprint> Model for TcpDoors<'rt, N> {
     ghost use Rattle.gate_sockets.specs.State.{States};
 
-    ghost Value = { States };
+    ghost Value = { States N.Stream N.Door };
 
-    ghost view = { λ doors. record { client = doors.client; host = doors.host; made = is_some doors.door } };
+    ghost view = { λ doors. record { client = doors.client; host = doors.host; door = doors.door } };
 }
 
-impl<'rt, R: Net<Stream = net::TcpStream, Listener = net::TcpListener> + Eprint + Clock> TcpDoors<
-    'rt,
-    R,
-> {
+impl<'rt, N: Network + Eprint> TcpDoors<'rt, N> {
     /// Doors with no link up.
-    pub fn new(rt: &'rt R, alloc: Global) -> io::Result<TcpDoors<'rt, R>>
+    pub fn new(rt: &'rt N, alloc: Global) -> io::Result<TcpDoors<'rt, N>>
         ensures client { IfOk result (λ doors. doors.client ≡ fresh) }
         ensures host { IfOk result (λ doors. doors.host ≡ fresh) }
-        ensures door { IfOk result (λ doors. doors.made ≡ false) }
+        ensures door { IfOk result (λ doors. doors.door ≡ None) }
     {
         Ok(TcpDoors {
             rt,
-            ready: Ready::new(rt, alloc)?,
+            ready: rt.ready(alloc)?,
             door: None,
             client: Socket::new(Side::Client, alloc),
             host: Socket::new(Side::Host, alloc),
@@ -93,53 +86,46 @@ impl<'rt, R: Net<Stream = net::TcpStream, Listener = net::TcpListener> + Eprint 
     }
 
     fn try_dial(&mut self, addr: &str) -> io::Result<()>
-        ensures ok { OnOk result (self.new ≡ record self.old { host = opened self.old.host }) }
-        ensures err { OnErr result (self.new ≡ self.old) }
+        ensures { DialledBy N.dial_gives N.Stream.set_up_gives addr.now (is_ok result) self.old self.new }
     {
-        let stream = net::TcpStream::connect(self.rt, addr)?;
-        stream.set_nonblocking(true)?;
-        let stream = prepared(TcpStream::from_std(stream), Side::Host, &mut self.ready)?;
+        let mut stream = self.rt.dial_at(addr)?;
+        stream.set_up(Side::Host, &self.ready)?;
         self.host.open(stream);
         self.dialled = true;
         Ok(())
     }
 
     fn try_listen(&mut self, addr: &str) -> io::Result<()>
-        ensures ok { OnOk result (self.new ≡ record self.old { made = true }) }
-        ensures err { OnErr result (self.new ≡ self.old) }
+        ensures { MadeBy N.listen_gives addr.now (is_ok result) self.old self.new }
     {
-        let door = net::TcpListener::bind(self.rt, addr)?;
-        door.set_nonblocking(true)?;
-        let mut door = TcpListener::from_std(door);
-        self.ready.add_door(&mut door)?;
-        telling::listens(self.rt, addr, door.local_addr().ok());
+        let door = self.rt.listen_at(addr, &self.ready)?;
+        telling::listens(self.rt, addr, self.rt.address(&door));
         self.door = Some(door);
         Ok(())
     }
 
     /// Lets a client in that waits at the door, if the system has descriptors and buffers for it.
     fn try_accept(&mut self) -> io::Result<()>
-        requires { IsTrue self.old.made }
-        ensures ok { OnOk result (self.new ≡ record self.old { client = opened self.old.client }) }
-        ensures err { OnErr result (self.new ≡ self.old) }
+        requires { IsTrue (door_of self.old).made }
+        ensures { CameOnce N.accept_gives N.Stream.set_up_gives (is_ok result) self.old self.new }
     {
-        let Some(door) = &self.door else {
+        let Some(door) = &mut self.door else {
             unreachable!()
         };
-        let (stream, _) = door.accept()?;
-        let stream = prepared(stream, Side::Client, &mut self.ready)?;
+        let mut stream = self.rt.accept_at(door)?;
+        stream.set_up(Side::Client, &self.ready)?;
         self.client.open(stream);
         Ok(())
     }
 
     /// Whether a client waits at the door, who is then let in. One that can't be let in hasn't come yet.
     fn let_in(&mut self) -> bool
-        requires { IsTrue self.old.made }
-        ensures { Came result self.old self.new }
+        requires { IsTrue (door_of self.old).made }
+        ensures { CameOnce N.accept_gives N.Stream.set_up_gives result self.old self.new }
     {
         match self.try_accept() {
             Ok(()) => {
-                telling::came(self.rt, self.client.peer());
+                telling::came(self.rt, self.client.other_end());
                 self.wants = false;
                 true
             }
@@ -156,8 +142,8 @@ impl<'rt, R: Net<Stream = net::TcpStream, Listener = net::TcpListener> + Eprint 
     /// Says that the side's link has come to its end.
     fn tell_end(&self, side: Side) {
         match side {
-            Side::Client => telling::left(self.rt, self.client.peer(), self.client.why()),
-            Side::Host => telling::left(self.rt, self.host.peer(), self.host.why()),
+            Side::Client => telling::left(self.rt, self.client.other_end(), self.client.why()),
+            Side::Host => telling::left(self.rt, self.host.other_end(), self.host.why()),
         }
     }
 
@@ -167,27 +153,27 @@ impl<'rt, R: Net<Stream = net::TcpStream, Listener = net::TcpListener> + Eprint 
         match side {
             Side::Client if self.dialled => {
                 let why = "it was refused, or its device is lost";
-                telling::let_go(self.rt, self.client.peer(), why);
+                telling::let_go(self.rt, self.client.other_end(), why);
             }
-            Side::Client => telling::let_go(self.rt, self.client.peer(), "it was refused"),
-            Side::Host => telling::let_go(self.rt, self.host.peer(), "it was refused"),
+            Side::Client => telling::let_go(self.rt, self.client.other_end(), "it was refused"),
+            Side::Host => telling::let_go(self.rt, self.host.other_end(), "it was refused"),
         }
     }
 
     /// Looks at the door, and once more where nobody stood there at first and it was worth a wait.
     fn look(&mut self) -> bool
-        requires { IsTrue self.old.made }
-        ensures { Came result self.old self.new }
+        requires { IsTrue (door_of self.old).made }
+        ensures { Came N.accept_gives N.Stream.set_up_gives result self.old self.new }
     {
         self.let_in() || self.ready.found_nothing(self.rt) && self.let_in()
     }
 
     fn write_once(&mut self, side: Side, piece: &[u8]) -> Option<usize>
-        requires up { IsTrue (state_of self.old side).up }
+        requires up { IsTrue (link_of self.old side).up }
         requires some { 0 < length piece.now }
-        ensures side { WroteOnce result (length piece.now) (state_of self.old side) (state_of self.new side) }
+        ensures side { WroteOnce N.Stream.read_gives N.Stream.write_gives result piece.now (state_of self.old side) (state_of self.new side) }
         ensures other { state_of self.new (other side) ≡ state_of self.old (other side) }
-        ensures door { self.new.made ≡ self.old.made }
+        ensures door { self.new.door ≡ self.old.door }
     {
         match side {
             Side::Client => self.client.write_once(piece),
@@ -197,9 +183,9 @@ impl<'rt, R: Net<Stream = net::TcpStream, Listener = net::TcpListener> + Eprint 
 
     /// Reads ahead on both links: a peer that writes before it reads may be what a write waits for.
     fn read_on(&mut self)
-        ensures client { ReadOn self.old.client self.new.client }
-        ensures host { ReadOn self.old.host self.new.host }
-        ensures door { self.new.made ≡ self.old.made }
+        ensures client { ReadOn N.Stream.read_gives N.Stream.write_gives self.old.client self.new.client }
+        ensures host { ReadOn N.Stream.read_gives N.Stream.write_gives self.old.host self.new.host }
+        ensures door { self.new.door ≡ self.old.door }
     {
         self.client.read_on(CLIENT_AHEAD);
         self.host.read_on(HOST_AHEAD);
@@ -208,43 +194,42 @@ impl<'rt, R: Net<Stream = net::TcpStream, Listener = net::TcpListener> + Eprint 
     fn fail(&mut self, side: Side) -> Failed
         ensures side { state_of self.new side ≡ faulted (state_of self.old side) }
         ensures other { state_of self.new (other side) ≡ state_of self.old (other side) }
-        ensures door { self.new.made ≡ self.old.made }
+        ensures door { self.new.door ≡ self.old.door }
     {
         match side {
             Side::Client => {
-                telling::stuck(self.rt, self.client.peer());
+                telling::stuck(self.rt, self.client.other_end());
                 self.client.fail()
             }
             Side::Host => {
-                telling::stuck(self.rt, self.host.peer());
+                telling::stuck(self.rt, self.host.other_end());
                 self.host.fail()
             }
         }
     }
 }
 
-/// A connection whose bytes go at once, and which can be waited for.
-fn prepared(mut stream: TcpStream, side: Side, ready: &mut Ready) -> io::Result<TcpStream> {
-    stream.set_nodelay(true)?;
-    ready.add(side, &mut stream)?;
-    Ok(stream)
-}
-
-impl<'rt, R: Net<Stream = net::TcpStream, Listener = net::TcpListener> + Eprint + Clock> Doors
-    for TcpDoors<'rt, R> {
+impl<'rt, N: Network + Eprint> Doors for TcpDoors<'rt, N> {
     ghost use Rattle.usb_base.specs.declared.side.Side.TheVariants.{Client, Host};
-    ghost use Rattle.gate_outside.specs.Doors.{Accepts, Polls, Writes, TookWithin};
-    ghost use Rattle.gate_sockets.specs.State.{link_of, door_of};
+    ghost use Rattle.gate_outside.specs.Doors.{Dials, Listens, Accepts, Polls, Writes, TookWithin};
+    ghost use Rattle.gate_sockets.specs.Door.{Dials as DialsBy, Makes, IsAccepted};
+    ghost use Rattle.gate_sockets.specs.Polling.{PollSteps};
+    ghost use Rattle.gate_sockets.specs.Writing.{WriteSteps};
 
     ghost link = { λ doors side. link_of doors side };
 
     ghost door = { λ doors. door_of doors };
 
-    fn dial(&mut self, addr: &str) -> Result<(), Failed> {
+    fn dial(&mut self, addr: &str) -> Result<(), Failed>
+        ensures dials { DialsBy N.dial_gives N.Stream.set_up_gives addr.now (is_ok result) self.old self.new }
+        ensures link { Dials result (link_of self.old Host) (link_of self.new Host) }
+        ensures other { link_of self.new Client ≡ link_of self.old Client }
+        ensures door { door_of self.new ≡ door_of self.old }
+    {
         self.used = true;
         match self.try_dial(addr) {
             Ok(()) => {
-                telling::came(self.rt, self.host.peer());
+                telling::came(self.rt, self.host.other_end());
                 Ok(())
             }
             Err(error) => {
@@ -254,7 +239,11 @@ impl<'rt, R: Net<Stream = net::TcpStream, Listener = net::TcpListener> + Eprint 
         }
     }
 
-    fn listen(&mut self, addr: &str) -> Result<(), Failed> {
+    fn listen(&mut self, addr: &str) -> Result<(), Failed>
+        ensures makes { Makes N.listen_gives addr.now (is_ok result) self.old self.new }
+        ensures listens { Listens result (door_of self.old) (door_of self.new) (link_of self.old Client) (link_of self.new Client) }
+        ensures other { link_of self.new Host ≡ link_of self.old Host }
+    {
         self.used = true;
         match self.try_listen(addr) {
             Ok(()) => Ok(()),
@@ -266,10 +255,10 @@ impl<'rt, R: Net<Stream = net::TcpStream, Listener = net::TcpListener> + Eprint 
     }
 
     fn accept(&mut self) -> Result<bool, Failed>
-        requires { IsTrue self.old.made }
-        ensures came { IsOkAnd result (λ came. CameOrRested came self.old self.new) }
+        requires { IsTrue (door_of self.old).made }
+        ensures came { IsOkAnd result (λ came. IsAccepted N.accept_gives N.Stream.set_up_gives came self.old self.new) }
         ensures accepts { Accepts result (door_of self.old) (door_of self.new) (link_of self.old Client) (link_of self.new Client) }
-        ensures other { state_of self.new Host ≡ state_of self.old Host }
+        ensures other { link_of self.new Host ≡ link_of self.old Host }
     {
         let came = self.look();
         if !came {
@@ -279,13 +268,14 @@ impl<'rt, R: Net<Stream = net::TcpStream, Listener = net::TcpListener> + Eprint 
     }
 
     fn poll(&mut self, side: Side, buf: &mut [u8]) -> Polled
-        requires up { IsTrue (state_of self.old side).up }
+        requires up { IsTrue (link_of self.old side).up }
         requires room { 0 < length buf.old }
         ensures bound { TookWithin result buf.new }
-        ensures side { PollSteps result buf.new (state_of self.old side) (state_of self.new side) }
+        ensures side { PollSteps N.Stream.read_gives result buf.new (state_of self.old side) (state_of self.new side) }
         ensures link { Polls result buf.new (link_of self.old side) (link_of self.new side) }
-        ensures other { state_of self.new (other side) ≡ state_of self.old (other side) }
-        ensures door { self.new.made ≡ self.old.made }
+        ensures stands { state_of self.new (other side) ≡ state_of self.old (other side) }
+        ensures other { link_of self.new (other side) ≡ link_of self.old (other side) }
+        ensures door { self.new.door ≡ self.old.door }
     {
         let polled = match side {
             Side::Client => self.client.poll(buf, &mut self.ready, self.rt),
@@ -298,15 +288,15 @@ impl<'rt, R: Net<Stream = net::TcpStream, Listener = net::TcpListener> + Eprint 
     }
 
     fn write(&mut self, side: Side, piece: &[u8]) -> Result<usize, Failed>
-        requires up { IsTrue (state_of self.old side).up }
+        requires up { IsTrue (link_of self.old side).up }
         requires some { 0 < length piece.now }
-        ensures side { WriteSteps result (length piece.now) (state_of self.old side) (state_of self.new side) }
+        ensures side { WriteSteps N.Stream.read_gives N.Stream.write_gives result piece.now (state_of self.old side) (state_of self.new side) }
         ensures link { Writes result piece.now (link_of self.old side) (link_of self.new side) }
-        ensures read_on { ReadOn (state_of self.old (other side)) (state_of self.new (other side)) }
+        ensures read_on { ReadOn N.Stream.read_gives N.Stream.write_gives (state_of self.old (other side)) (state_of self.new (other side)) }
         ensures other { link_of self.new (other side) ≡ link_of self.old (other side) }
-        ensures door { self.new.made ≡ self.old.made }
+        ensures door { self.new.door ≡ self.old.door }
     {
-        for _ in 0..TRIES {
+        for _tried in 0..TRIES {
             if let Some(count) = self.write_once(side, piece) {
                 self.ready.moved();
                 return Ok(count);

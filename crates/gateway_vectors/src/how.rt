@@ -19,15 +19,23 @@ pub struct How {
     pub write_fails: Option<u64>,
     pub host_fails: Option<u64>,
     pub client_fails: Option<u64>,
+    /// How many bytes the file to record in can have, the write to it that fails, and that it is there or can't be made.
+    pub tape_room: usize,
+    pub tape_fails: Option<u64>,
+    pub there: Option<u64>,
+    pub unmade: Option<u64>,
     /// How many bytes and links may come, where no words say it.
     pub budget: Option<u64>,
     /// Some of what the session sends finds no link.
     pub unsent: Option<u64>,
+    /// Only the last lines are compared.
+    pub last: Option<u64>,
     /// Whether each mark is one of these.
     pub is_known: bool,
 }
 
-const PLAIN: How = How {
+/// A run with nothing that stands in its way.
+pub const PLAIN: How = How {
     read_by: 65_536,
     write_by: 1_000_000,
     room: 1_000_000,
@@ -38,8 +46,13 @@ const PLAIN: How = How {
     write_fails: None,
     host_fails: None,
     client_fails: None,
+    tape_room: 1_000_000,
+    tape_fails: None,
+    there: None,
+    unmade: None,
     budget: None,
     unsent: None,
+    last: None,
     is_known: true,
 };
 
@@ -65,6 +78,7 @@ impl How {
             "printed" => self.printed = number,
             "cut" => self.cut = Some(number),
             "first" => self.first = Some(number),
+            "tape-room" => self.tape_room = number,
             _ => self.set_fails(name, number as u64),
         }
     }
@@ -75,8 +89,12 @@ impl How {
             "write-fails" => self.write_fails = Some(call),
             "host-fails" => self.host_fails = Some(call),
             "client-fails" => self.client_fails = Some(call),
+            "tape-fails" => self.tape_fails = Some(call),
+            "there" => self.there = Some(call),
+            "unmade" => self.unmade = Some(call),
             "budget" => self.budget = Some(call),
             "unsent" => self.unsent = Some(call),
+            "last" => self.last = Some(call),
             _ => self.is_known = false,
         }
     }

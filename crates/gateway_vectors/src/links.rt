@@ -1,11 +1,12 @@
 //! Runs between links in memory, and what they leave.
 
 use crate::how::How;
+use crate::recorded::{push_recorded, recording_of};
 use crate::runs::Came;
 use crate::scripts::{script_of, scripts_of};
 use crate::spend::spend;
 use gate_outside::{Script, ScriptDoors, Scripts, Side, TextSink, TextSource};
-use session_tape::{TextTape, Unmade};
+use session_tape::TextTape;
 use std::alloc::Global;
 use usb_base::Memory;
 use usbgate::{Status, run};
@@ -13,14 +14,16 @@ use usbgate::{Status, run};
 /// How many bytes can be written to each side.
 const ROOM: usize = 65_536;
 
-/// Runs the words between links that give what these lines say, over a tape that can't be read, and that aren't
-/// recorded.
+/// Runs the words between links that give what these lines say, over a tape that can't be read. Behind its text come
+/// the lines that it recorded.
 pub fn ran_between(alloc: Global, words: &[&str], lines: &str, how: &How) -> Result<Came, Memory> {
-    let mut recording = TextTape::new(alloc, 0, Err(Unmade::Failed), &[])?;
-    ran_recorded(alloc, words, lines, how, &mut recording)
+    let mut recording = recording_of(alloc, how)?;
+    let mut came = ran_recorded(alloc, words, lines, how, &mut recording)?;
+    push_recorded(alloc, &mut came.text, recording.held())?;
+    Ok(came)
 }
 
-/// The same with a file to record in.
+/// The same with this file to record in, whose lines aren't told.
 pub fn ran_recorded(
     alloc: Global,
     words: &[&str],

@@ -1,20 +1,49 @@
-//! The recording of a run, replayed.
+//! Recordings of runs.
 
 use crate::cut::joined;
-use crate::how::How;
+use crate::how::{How, PLAIN};
 use crate::links::ran_recorded;
 use crate::runs::Came;
 use gate_outside::{NoDoors, TextSink, TextSource};
-use session_tape::{NoTape, TextTape};
+use session_tape::{TextTape, Unmade};
 use std::alloc::Global;
 use usb_base::Memory;
-use usbgate::run;
+use usbgate::{Status, run};
 
 /// How many bytes a recording, and its replay's text, may have.
 const ROOM: usize = 1_000_000;
 
+/// The file to record in, which isn't made yet.
+pub fn recording_of(alloc: Global, how: &How) -> Result<TextTape, Memory> {
+    let answer = match (how.there, how.unmade) {
+        (Some(_), _) => Err(Unmade::There),
+        (None, Some(_)) => Err(Unmade::Failed),
+        (None, None) => Ok(()),
+    };
+    let fails = how.tape_fails;
+    TextTape::new(alloc, how.tape_room, answer, fails.as_slice())
+}
+
+/// Appends the lines of a recording, each behind a `T`.
+pub fn push_recorded(alloc: Global, text: &mut String, held: &[u8]) -> Result<(), Memory> {
+    let held = String::from_utf8_lossy(alloc, held)?;
+    for line in held.split('\n') {
+        if !line.is_empty() {
+            push_line(text, line)?;
+        }
+    }
+    Ok(())
+}
+
+fn push_line(text: &mut String, line: &str) -> Result<(), Memory> {
+    text.push_str("T ")?;
+    text.push_str(line)?;
+    text.push('\n')?;
+    Ok(())
+}
+
 /// Runs the words of `serve` once more, with a recording, and replays that. Where the run does something else then, or
-/// the replay prints other bytes than were written to the links, or other refusals, a line says so.
+/// the replay prints other bytes than were written to the links, or other refusals, or ends otherwise, a line says so.
 pub fn check_recording(
     alloc: Global,
     words: &[&str],
@@ -22,19 +51,45 @@ pub fn check_recording(
     how: &How,
     came: &mut Came,
 ) -> Result<(), Memory> {
-    let mut recording = TextTape::new(alloc, ROOM, Ok(()), &[])?;
+    let mut recording = recording_of(alloc, &PLAIN)?;
     let more = with_option(alloc, words)?;
     let again = ran_recorded(alloc, &more, lines, how, &mut recording)?;
-    if again.text.as_str() != came.text.as_str() {
+    if again.text.as_str() != came.text.as_str() || again.status != came.status {
         came.text.push_str("recorded it goes otherwise\n")?;
         return Ok(());
     }
     let replayed = replay(alloc, words, recording.held())?;
-    if !replayed.starts_with(came.text.as_str()) {
+    if !is_replayed(came, &replayed) {
         came.text.push_str("its recording sends ")?;
-        came.text.push_str(replayed.as_str())?;
+        came.text.push_str(replayed.text.as_str())?;
     }
     Ok(())
+}
+
+/// Whether a replay printed all that a run did, and then the counts, and ended by whether a side was refused. Of a run
+/// that had a fault it may print more.
+fn is_replayed(came: &Came, replayed: &Came) -> bool {
+    let Some(more) = replayed.text.strip_prefix(came.text.as_str()) else {
+        return false;
+    };
+    match came.status {
+        Status::WriteFault | Status::LinkFault(_) | Status::OutOfMemory => true,
+        _ => is_counts(more) && replayed.status == end_of(came.text.as_str()),
+    }
+}
+
+/// Whether it is one line, of counts, and the empty one in which a joined text ends.
+fn is_counts(text: &str) -> bool {
+    text.starts_with("answered ") && text.find('\n') == Some(text.len().saturating_sub(2))
+}
+
+/// How the replay ends of a session with this text.
+fn end_of(text: &str) -> Status {
+    if text.contains("\n! ") {
+        Status::Refused
+    } else {
+        Status::Done
+    }
 }
 
 /// The words, with a file to record in.
@@ -48,21 +103,35 @@ fn with_option<'a>(alloc: Global, words: &[&'a str]) -> Result<Vec<&'a str>, Mem
     Ok(more)
 }
 
-/// What the replay of a tape prints, with the bytes of each side joined.
-fn replay(alloc: Global, words: &[&str], tape: &[u8]) -> Result<String, Memory> {
+/// What the replay of a tape prints, with the bytes of each side joined, and how it ends.
+fn replay(alloc: Global, words: &[&str], tape: &[u8]) -> Result<Came, Memory> {
     let mut source = TextSource::make(alloc, tape, ROOM, &[])?;
     let mut out = TextSink::make(alloc, ROOM, ROOM, &[])?;
     let words = replaying(alloc, words)?;
-    let _ = run(
-        alloc,
-        &words,
-        &mut source,
-        &mut out,
-        &mut NoDoors::new(),
-        &mut NoTape,
-    );
+    let status = replay_over(alloc, &words, &mut source, &mut out)?;
     let text = String::from_utf8_lossy(alloc, out.held())?;
-    joined(alloc, text.as_str())
+    Ok(Came {
+        text: joined(alloc, text.as_str())?,
+        status,
+        is_joined: true,
+    })
+}
+
+fn replay_over(
+    alloc: Global,
+    words: &[&str],
+    source: &mut TextSource,
+    out: &mut TextSink,
+) -> Result<Status, Memory> {
+    let mut recording = recording_of(alloc, &PLAIN)?;
+    Ok(run(
+        alloc,
+        words,
+        source,
+        out,
+        &mut NoDoors::new(),
+        &mut recording,
+    ))
 }
 
 /// The words of a replay with the first id of these.

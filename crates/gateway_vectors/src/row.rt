@@ -68,6 +68,17 @@ impl Row {
         push_characters(&mut self.text, words)
     }
 
+    /// Appends to the tape what these words print.
+    pub fn push_printed(&mut self, alloc: Global, words: &str) -> Result<(), Memory> {
+        let mut list = Vec::new(alloc);
+        for word in words.split_whitespace() {
+            list.push(word)?;
+        }
+        let came = ran(alloc, &list, "", &How::read(""))?;
+        self.tape.push_str(came.text.as_str())?;
+        Ok(())
+    }
+
     /// Runs the words over the tape, and says by the row's name whether it printed the text and had this end.
     pub fn run(&mut self, alloc: Global, end: &str) -> Result<String, Memory> {
         self.runs = self.runs.saturating_add(1);

@@ -3,9 +3,8 @@
 use crate::cut::cut_tape;
 use crate::how::How;
 use crate::links::ran_between;
-use crate::recorded::check_recording;
+use crate::recorded::{check_recording, recording_of};
 use gate_outside::{NoDoors, TextSink, TextSource};
-use session_tape::NoTape;
 use std::alloc::Global;
 use usb_base::Memory;
 use usbgate::{Status, run};
@@ -27,10 +26,11 @@ pub fn ran(alloc: Global, words: &[&str], lines: &str, how: &How) -> Result<Came
     }
 }
 
-/// Between links, and then once more, recorded, where the words are a session's and links took all that it sends.
+/// Between links, and then once more, recorded, where the words are a session's that isn't recorded, and links took all
+/// that it sends.
 fn served(alloc: Global, words: &[&str], lines: &str, how: &How) -> Result<Came, Memory> {
     let mut came = ran_between(alloc, words, lines, how)?;
-    let is_session = came.status != Status::Usage;
+    let is_session = came.status != Status::Usage && !words.contains(&"--record");
     if is_session && how.budget.is_none() && how.unsent.is_none() {
         check_recording(alloc, words, lines, how, &mut came)?;
     }
@@ -61,13 +61,14 @@ fn over_source(
 ) -> Result<Came, Memory> {
     let fails = how.write_fails;
     let mut out = TextSink::make(alloc, how.room, how.write_by.max(1), fails.as_slice())?;
+    let mut recording = recording_of(alloc, how)?;
     let status = run(
         alloc,
         words,
         source,
         &mut out,
         &mut NoDoors::new(),
-        &mut NoTape,
+        &mut recording,
     );
     Ok(Came {
         text: String::from_utf8_lossy(alloc, out.held())?,

@@ -36,6 +36,7 @@ impl Vectors {
             "@" => self.packets.add(alloc, rest),
             "=" => self.row.start(alloc, rest),
             "$" => self.row.set_words(alloc, rest),
+            "%" => self.row.push_printed(alloc, rest),
             "*" => self.push_times(rest),
             _ => self.push(line, 0),
         }

@@ -18,9 +18,24 @@ pub fn told(
     if came.is_joined {
         return told_joined(alloc, came, wanted, end);
     }
+    if how.last.is_some() {
+        let printed = last_line(came.text.as_str());
+        return verdict(
+            alloc,
+            printed.as_bytes(),
+            wanted.as_bytes(),
+            came.status,
+            end,
+        );
+    }
     let wanted = wanted.as_bytes();
     let printed = &wanted[..how.printed.min(wanted.len())];
     verdict(alloc, came.text.as_bytes(), printed, came.status, end)
+}
+
+/// The last line, with its LF.
+fn last_line(text: &str) -> &str {
+    text.split_inclusive('\n').last().unwrap_or("")
 }
 
 /// The same where only the bytes of each side are compared, however they are cut.

@@ -9,11 +9,11 @@ use std::alloc::Global;
 use usb_base::{Bytes, EpAddr, Memory};
 
 /// Which lines a tape has.
-#[derive(Clone, Copy, PartialEq, Eq)]
+#[derive(Clone, Copy)]
 pub enum TapeKind {
     /// The bytes of both sides, as they come to the gateway.
     Replay,
-    /// The client's bytes, and the steps of a modelled host.
+    /// The client's bytes, and the steps of the two wires and of a modelled device.
     Model,
 }
 
@@ -43,7 +43,7 @@ pub enum TapeLine {
 }
 
 /// Why a line says nothing.
-#[derive(Clone, Copy, Debug, PartialEq, Eq)]
+#[derive(Clone, Copy, Debug)]
 pub enum LineError {
     /// It isn't a line of such a tape.
     Bad,
@@ -90,7 +90,7 @@ fn read_host(alloc: Global, line: &[u8]) -> Result<TapeLine, LineError>
     }
 }
 
-/// Reads a step of a modelled host.
+/// Reads a step of the wires or of a modelled device.
 fn read_step(line: &[u8]) -> Result<TapeLine, LineError>
     ensures ok { IfOk result (λ said. model_line line.now ≡ Some said) }
     ensures bad { result ≡ Err LineError.Bad → model_line line.now ≡ None }

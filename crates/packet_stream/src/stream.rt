@@ -166,8 +166,8 @@ impl<F: PacketFormat> Stream<F> {
     }
 }
 
-/// Drops the first `count` bytes. Where there are none, those behind them stay where they are: a long packet that comes in
-/// many pieces is not moved with each.
+/// Drops the first `count` bytes. Where there are none, those behind them stay where they are: a long packet that comes
+/// in many pieces is not moved with each.
 fn drop_front(bytes: &mut Bytes, count: usize)
     requires { count ≤ length bytes.old }
     ensures { bytes.new ≡ drop count bytes.old }

@@ -2,18 +2,19 @@
 
 use crate::buffers::{push_endpoint, push_laid, push_parts, push_total};
 use crate::data_rows::push_data_row;
-use crate::fronts::push_fronts;
+use crate::fronts::{push_found, push_fronts};
 use crate::next::push_awaited;
 use crate::reader::{Reader, caps_of, is_in};
 use crate::streams::push_stream;
 use crate::tapes::{push_read_number, push_tape_line};
-use crate::texts::{Texts, number_of, push_string};
+use crate::texts::{Texts, number_of};
 use crate::type_rows::push_type_row;
 use crate::usb_words::{
     push_address, push_agreed, push_kind, push_refusal, push_route, push_setup, push_speed,
     push_status,
 };
 use crate::written::{push_around_body, push_iso_out, push_to_device};
+use crate::wrong::Wrong;
 use std::alloc::Global;
 use usb_base::Bytes;
 use usbip_urb::ret_seqnum;
@@ -25,7 +26,7 @@ pub fn push_answer(
     call: &str,
     input: &str,
     out: &mut Bytes,
-) -> anyhow::Result<()> {
+) -> Result<(), Wrong> {
     let (name, setting) = call.split_once(' ').unwrap_or((call, ""));
     match name {
         "stream" => push_stream(alloc, texts, setting, input, out),
@@ -51,7 +52,7 @@ fn push_of_bytes(
     setting: &str,
     bytes: &[u8],
     out: &mut Bytes,
-) -> anyhow::Result<()> {
+) -> Result<(), Wrong> {
     match name {
         "setup" => push_setup(alloc, bytes.try_into()?, out),
         "route" => push_route(alloc, bytes.try_into()?, out),
@@ -68,32 +69,20 @@ fn push_of_bytes(
 }
 
 /// Appends a line for each front of an answer's bytes at which another number is told of its request than before.
-fn push_seqnums(alloc: Global, bytes: &[u8], out: &mut Bytes) -> anyhow::Result<()> {
+fn push_seqnums(alloc: Global, bytes: &[u8], out: &mut Bytes) -> Result<(), Wrong> {
     let mut last = None;
     for count in 0..=bytes.len() {
         let seqnum = ret_seqnum(&bytes[..count]);
         if last != Some(seqnum) {
-            push_seqnum(alloc, count, seqnum, out)?;
+            push_found(alloc, count, seqnum.map(u64::from), out)?;
             last = Some(seqnum);
         }
     }
     Ok(())
 }
 
-fn push_seqnum(
-    alloc: Global,
-    count: usize,
-    seqnum: Option<u32>,
-    out: &mut Bytes,
-) -> anyhow::Result<()> {
-    match seqnum {
-        Some(seqnum) => push_string(format!(in alloc; "{count} {seqnum}\n")?, out),
-        None => push_string(format!(in alloc; "{count} none\n")?, out),
-    }
-}
-
 /// Appends an isochronous packet. The words are the endpoint's byte, the agreed capabilities and the id.
-fn push_iso(alloc: Global, words: &str, body: &[u8], out: &mut Bytes) -> anyhow::Result<()> {
+fn push_iso(alloc: Global, words: &str, body: &[u8], out: &mut Bytes) -> Result<(), Wrong> {
     let mut words = words.split_whitespace();
     let endpoint = u8::from_str_radix(words.next().unwrap_or(""), 16)?;
     let caps = caps_of(words.next().unwrap_or(""))?;
@@ -108,7 +97,7 @@ fn push_reads(
     setting: &str,
     bytes: &[u8],
     out: &mut Bytes,
-) -> anyhow::Result<()> {
+) -> Result<(), Wrong> {
     let (setting, place) = setting.split_once("at ").unwrap_or((setting, "0"));
     let (setting, every) = setting.split_once("every ").unwrap_or((setting, "1"));
     let reader = Reader::named(name, setting.trim())?;

@@ -1,9 +1,9 @@
 //! Rows of the fixed fields of packets with data, against every front of packets with right and wrong numbers of data.
 
+use crate::fronts::push_answer;
 use crate::reader::{Told, told_by};
 use crate::texts::{push_string, push_text};
-use crate::type_rows::push_told;
-use anyhow::anyhow;
+use crate::wrong::Wrong;
 use packet_stream::ReadError;
 use redir_data::read_redir;
 use redir_wire::{Caps, Way};
@@ -42,12 +42,7 @@ struct Case {
 
 /// Appends `as told` where packets of this type are read as the row says, and else the first that isn't. The row is how
 /// many bytes its fixed fields have, the place of the length, and what lengthens them, as `6:10`.
-pub fn push_data_row(
-    alloc: Global,
-    number: &str,
-    row: &str,
-    out: &mut Bytes,
-) -> anyhow::Result<()> {
+pub fn push_data_row(alloc: Global, number: &str, row: &str, out: &mut Bytes) -> Result<(), Wrong> {
     let form = form_of(number, row)?;
     match other_of(alloc, form)? {
         Some((case, count)) => push_other(alloc, form, case, count, out),
@@ -55,7 +50,7 @@ pub fn push_data_row(
     }
 }
 
-fn form_of(number: &str, row: &str) -> anyhow::Result<Form> {
+fn form_of(number: &str, row: &str) -> Result<Form, Wrong> {
     let mut words = row.split_whitespace();
     Ok(Form {
         number: number.parse()?,
@@ -68,15 +63,15 @@ fn form_of(number: &str, row: &str) -> anyhow::Result<Form> {
     })
 }
 
-fn longer_of(word: &str) -> anyhow::Result<(u32, u8)> {
+fn longer_of(word: &str) -> Result<(u32, u8), Wrong> {
     match word.split_once(':') {
         Some((bit, size)) => Ok((bit.parse()?, size.parse()?)),
-        None => Err(anyhow!("{word} is no capability with a size")),
+        None => Err(Wrong::Words),
     }
 }
 
 /// The first front of a packet that is read as the row doesn't say.
-fn other_of(alloc: Global, form: Form) -> anyhow::Result<Option<(Case, usize)>> {
+fn other_of(alloc: Global, form: Form) -> Result<Option<(Case, usize)>, Wrong> {
     for bits in CAPS {
         for way in WAYS {
             for endpoint in ENDPOINTS {
@@ -98,7 +93,7 @@ fn other_of(alloc: Global, form: Form) -> anyhow::Result<Option<(Case, usize)>> 
     Ok(None)
 }
 
-fn other_front(alloc: Global, form: Form, case: Case) -> anyhow::Result<Option<usize>> {
+fn other_front(alloc: Global, form: Form, case: Case) -> Result<Option<usize>, Wrong> {
     let bytes = packet(alloc, form, case)?;
     for count in 0..=bytes.len() {
         if read(alloc, case, &bytes.as_slice()[..count]) != said(form, case, bytes.len(), count) {
@@ -177,13 +172,13 @@ fn push_other(
     case: Case,
     count: usize,
     out: &mut Bytes,
-) -> anyhow::Result<()> {
+) -> Result<(), Wrong> {
     push_case(alloc, form, case, count, out)?;
     let bytes = packet(alloc, form, case)?;
     let front = bytes.as_slice().get(..count).unwrap_or(&[]);
-    push_told(alloc, read(alloc, case, front), out)?;
+    push_answer(alloc, read(alloc, case, front), out)?;
     push_text(", not ", out)?;
-    push_told(alloc, said(form, case, bytes.len(), count), out)?;
+    push_answer(alloc, said(form, case, bytes.len(), count), out)?;
     push_text("\n", out)
 }
 
@@ -193,7 +188,7 @@ fn push_case(
     case: Case,
     count: usize,
     out: &mut Bytes,
-) -> anyhow::Result<()> {
+) -> Result<(), Wrong> {
     let number = form.number;
     let Case {
         bits,

@@ -4,7 +4,8 @@ ghost use Rattle.std.specs.Prelude.{◌<◌};
 
 use crate::packets::push_packet;
 use crate::reader::{Reader, Told};
-use crate::texts::push_string;
+use crate::texts::{push_number, push_string, push_text};
+use crate::wrong::Wrong;
 use std::alloc::Global;
 use usb_base::Bytes;
 
@@ -17,7 +18,7 @@ pub fn push_fronts(
     every: usize,
     bytes: &[u8],
     out: &mut Bytes,
-) -> anyhow::Result<()>
+) -> Result<(), Wrong>
     requires { 0 < every }
 {
     let mut last = None;
@@ -41,19 +42,37 @@ fn push_told(
     told: Told,
     front: &[u8],
     out: &mut Bytes,
-) -> anyhow::Result<()> {
-    push_answer(alloc, front.len(), told, out)?;
+) -> Result<(), Wrong> {
+    push_number(alloc, "", front.len() as u64, " ", out)?;
+    push_answer(alloc, told, out)?;
     match told {
-        Told::Whole(_) => push_packet(alloc, reader, place, front, out),
-        Told::Short | Told::Wrong(_) => Ok(()),
+        Told::Whole(_) => {
+            push_text(": ", out)?;
+            push_packet(alloc, reader, place, front, out)
+        }
+        Told::Short | Told::Wrong(_) => push_text("\n", out),
     }
 }
 
-/// Appends how many bytes were read, and what was answered. Behind a whole packet's size its line follows.
-fn push_answer(alloc: Global, count: usize, told: Told, out: &mut Bytes) -> anyhow::Result<()> {
+/// Appends an answer.
+pub fn push_answer(alloc: Global, told: Told, out: &mut Bytes) -> Result<(), Wrong> {
     match told {
-        Told::Whole(size) => push_string(format!(in alloc; "{count} whole {size}: ")?, out),
-        Told::Short => push_string(format!(in alloc; "{count} short\n")?, out),
-        Told::Wrong(error) => push_string(format!(in alloc; "{count} {error}\n")?, out),
+        Told::Whole(size) => push_number(alloc, "whole ", size as u64, "", out),
+        Told::Short => push_text("short", out),
+        Told::Wrong(error) => push_string(error.to_string(alloc)?, out),
+    }
+}
+
+/// Appends how many bytes a front has, and the number that was found in it, or `none`.
+pub fn push_found(
+    alloc: Global,
+    count: usize,
+    found: Option<u64>,
+    out: &mut Bytes,
+) -> Result<(), Wrong> {
+    push_number(alloc, "", count as u64, " ", out)?;
+    match found {
+        Some(number) => push_number(alloc, "", number, "\n", out),
+        None => push_text("none\n", out),
     }
 }

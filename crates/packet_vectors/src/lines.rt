@@ -2,7 +2,8 @@
 //! have theirs here.
 
 use crate::replies::{push_device, push_devices, push_ret_submit, push_ret_unlink};
-use crate::texts::{push_string, push_text};
+use crate::texts::{push_number, push_numbers, push_text};
+use crate::wrong::Wrong;
 use packet_show::{show_client, show_redir, show_urb};
 use redir_data::RedirPacket;
 use redir_wire::Header;
@@ -12,23 +13,18 @@ use usbip_op::OpPacket;
 use usbip_urb::UrbPacket;
 
 /// Appends the line of a list or import packet.
-pub fn push_op(
-    alloc: Global,
-    place: u64,
-    packet: &OpPacket,
-    out: &mut Bytes,
-) -> anyhow::Result<()> {
+pub fn push_op(alloc: Global, place: u64, packet: &OpPacket, out: &mut Bytes) -> Result<(), Wrong> {
     match packet {
         OpPacket::ReqDevlist { .. } | OpPacket::ReqImport { .. } => {
             show_client(alloc, place, packet, out)?;
             Ok(())
         }
         OpPacket::RepDevlist { status, devices } => {
-            push_begin(alloc, place, "REP_DEVLIST", *status, out)?;
+            push_begin(alloc, place, " REP_DEVLIST", &[i64::from(*status)], out)?;
             push_devices(alloc, devices, out)
         }
         OpPacket::RepImport { status, device } => {
-            push_begin(alloc, place, "REP_IMPORT", *status, out)?;
+            push_begin(alloc, place, " REP_IMPORT", &[i64::from(*status)], out)?;
             if let Some(device) = device {
                 push_device(alloc, device, out)?;
             }
@@ -37,14 +33,16 @@ pub fn push_op(
     }
 }
 
-fn push_begin(
+/// Appends the place, a name with a space in front, and numbers behind it.
+pub fn push_begin(
     alloc: Global,
     place: u64,
     name: &str,
-    status: u32,
+    numbers: &[i64],
     out: &mut Bytes,
-) -> anyhow::Result<()> {
-    push_string(format!(in alloc; "{place} {name} {status}")?, out)
+) -> Result<(), Wrong> {
+    push_number(alloc, "", place, name, out)?;
+    push_numbers(alloc, numbers, out)
 }
 
 /// Appends the line of a URB packet.
@@ -53,7 +51,7 @@ pub fn push_urb(
     place: u64,
     packet: &UrbPacket,
     out: &mut Bytes,
-) -> anyhow::Result<()> {
+) -> Result<(), Wrong> {
     match packet {
         UrbPacket::Submit(_) | UrbPacket::Unlink(_) => {
             show_urb(alloc, place, packet, out)?;
@@ -71,7 +69,7 @@ pub fn push_redir(
     head: &Header,
     packet: &RedirPacket,
     out: &mut Bytes,
-) -> anyhow::Result<()> {
+) -> Result<(), Wrong> {
     show_redir(alloc, place, head, packet, out)?;
     Ok(())
 }

@@ -18,12 +18,14 @@ mod texts;
 mod type_rows;
 mod usb_words;
 mod written;
+mod wrong;
 
+use crate::wrong::Wrong;
 use rows::Rows;
 use std::alloc::Global;
 use usb_base::Bytes;
 
-fn main(rt: HostRuntime) -> anyhow::Result<()> {
+fn main(rt: HostRuntime) -> Result<(), Wrong> {
     let mut rows = Rows::new(rt.alloc());
     for line in rt.lines(rt.alloc()) {
         take(&rt, &mut rows, line?.as_str())?;
@@ -32,13 +34,12 @@ fn main(rt: HostRuntime) -> anyhow::Result<()> {
 }
 
 /// Takes a line, and prints what is told of it.
-fn take(rt: &(impl Print + AllocGlobal), rows: &mut Rows, line: &str) -> anyhow::Result<()> {
+fn take(rt: &(impl Print + AllocGlobal), rows: &mut Rows, line: &str) -> Result<(), Wrong> {
     let told = told_of(rt.alloc(), rows, line)?;
-    rt.print(str::from_utf8(told.as_slice())?)?;
-    Ok(())
+    Ok(rt.print(String::from_utf8_lossy(rt.alloc(), told.as_slice())?)?)
 }
 
-fn told_of(alloc: Global, rows: &mut Rows, line: &str) -> anyhow::Result<Bytes> {
+fn told_of(alloc: Global, rows: &mut Rows, line: &str) -> Result<Bytes, Wrong> {
     let mut told = Bytes::new(alloc);
     rows.take(alloc, line, &mut told)?;
     Ok(told)

@@ -2,9 +2,9 @@
 
 use crate::lines::{push_op, push_redir, push_urb};
 use crate::reader::{Reader, Setting};
-use crate::texts::push_string;
+use crate::texts::push_number;
 use crate::written::{push_op_again, push_redir_again, push_ret_again, push_urb_again};
-use anyhow::anyhow;
+use crate::wrong::Wrong;
 use packet_stream::Read;
 use redir_data::{control_writes_back, data_writes_back, read_redir};
 use redir_wire::read_header;
@@ -21,7 +21,7 @@ pub fn push_packet(
     place: u64,
     bytes: &[u8],
     out: &mut Bytes,
-) -> anyhow::Result<()> {
+) -> Result<(), Wrong> {
     match reader {
         Reader::Client => client_packet(alloc, place, bytes, out),
         Reader::Urb => urb_packet(alloc, place, bytes, out),
@@ -33,10 +33,10 @@ pub fn push_packet(
     }
 }
 
-fn client_packet(alloc: Global, place: u64, bytes: &[u8], out: &mut Bytes) -> anyhow::Result<()> {
-    match read_client(alloc, bytes)? {
-        Read::Whole(packet, _) => push_client(alloc, place, &packet, out),
-        Read::Short => Ok(()),
+fn client_packet(alloc: Global, place: u64, bytes: &[u8], out: &mut Bytes) -> Result<(), Wrong> {
+    match read_client(alloc, bytes) {
+        Ok(Read::Whole(packet, _)) => push_client(alloc, place, &packet, out),
+        _ => Ok(()),
     }
 }
 
@@ -46,21 +46,20 @@ pub fn push_client(
     place: u64,
     packet: &ClientPacket,
     out: &mut Bytes,
-) -> anyhow::Result<()> {
+) -> Result<(), Wrong> {
     match packet {
         ClientPacket::Op(packet) => push_op(alloc, place, packet, out),
         ClientPacket::Urb(packet) => push_urb(alloc, place, packet, out),
     }
 }
 
-fn urb_packet(alloc: Global, place: u64, bytes: &[u8], out: &mut Bytes) -> anyhow::Result<()> {
+fn urb_packet(alloc: Global, place: u64, bytes: &[u8], out: &mut Bytes) -> Result<(), Wrong> {
     match read_urb(alloc, bytes) {
         Ok(Read::Whole(packet, size)) => {
             push_urb(alloc, place, &packet, out)?;
             push_urb_again(alloc, &packet, &bytes[..size], out)
         }
-        Ok(Read::Short) => Ok(()),
-        Err(error) => Err(anyhow!(error)),
+        _ => Ok(()),
     }
 }
 
@@ -70,14 +69,13 @@ fn ret_packet(
     place: u64,
     bytes: &[u8],
     out: &mut Bytes,
-) -> anyhow::Result<()> {
+) -> Result<(), Wrong> {
     match read_ret(alloc, is_in, bytes) {
         Ok(Read::Whole(packet, size)) => {
             push_urb(alloc, place, &packet, out)?;
             push_ret_again(alloc, is_in, &packet, &bytes[..size], out)
         }
-        Ok(Read::Short) => Ok(()),
-        Err(error) => Err(anyhow!(error)),
+        _ => Ok(()),
     }
 }
 
@@ -87,25 +85,23 @@ fn op_packet(
     place: u64,
     bytes: &[u8],
     out: &mut Bytes,
-) -> anyhow::Result<()> {
+) -> Result<(), Wrong> {
     match read_op(alloc, way, bytes) {
         Ok(Read::Whole(packet, size)) => {
             push_op(alloc, place, &packet, out)?;
             push_op_again(alloc, &packet, &bytes[..size], out)
         }
-        Ok(Read::Short) => Ok(()),
-        Err(error) => Err(anyhow!(error)),
+        _ => Ok(()),
     }
 }
 
 /// Appends the fields of a header.
-fn header(alloc: Global, setting: Setting, bytes: &[u8], out: &mut Bytes) -> anyhow::Result<()> {
+fn header(alloc: Global, setting: Setting, bytes: &[u8], out: &mut Bytes) -> Result<(), Wrong> {
     let Setting { first, caps, way } = setting;
-    if let Read::Whole(head, _) = read_header(first, caps, way, bytes)? {
-        push_string(
-            format!(in alloc; "HEADER {} {} {}\n", head.kind, head.length, head.id)?,
-            out,
-        )?;
+    if let Ok(Read::Whole(head, _)) = read_header(first, caps, way, bytes) {
+        push_number(alloc, "HEADER ", u64::from(head.kind), " ", out)?;
+        push_number(alloc, "", u64::from(head.length), " ", out)?;
+        push_number(alloc, "", head.id, "\n", out)?;
     }
     Ok(())
 }
@@ -116,7 +112,7 @@ fn redir_packet(
     place: u64,
     bytes: &[u8],
     out: &mut Bytes,
-) -> anyhow::Result<()> {
+) -> Result<(), Wrong> {
     let Setting { first, caps, way } = setting;
     control_writes_back();
     data_writes_back();
@@ -125,7 +121,6 @@ fn redir_packet(
             push_redir(alloc, place, &found.0, &found.1, out)?;
             push_redir_again(alloc, setting, found.0.id, &found.1, &bytes[..size], out)
         }
-        Ok(Read::Short) => Ok(()),
-        Err(error) => Err(anyhow!(error)),
+        _ => Ok(()),
     }
 }

@@ -1,6 +1,8 @@
 //! The readers, by their words.
 
-use anyhow::anyhow;
+ghost use Rattle.std.specs.Prelude.{◌≡◌, Ok};
+
+use crate::wrong::Wrong;
 use packet_stream::{Read, ReadError};
 use redir_data::read_redir;
 use redir_wire::{Caps, Way, read_header};
@@ -9,7 +11,7 @@ use usbip_op::{OpWay, read_op, read_request};
 use usbip_urb::{read_client, read_ret, read_urb};
 
 /// What decides how a usbredir packet is read.
-#[derive(Clone, Copy, PartialEq, Eq)]
+#[derive(Clone, Copy)]
 pub struct Setting {
     /// The stream's hello is still to come.
     pub first: bool,
@@ -19,7 +21,7 @@ pub struct Setting {
 }
 
 /// A reader, with what it is told beside the bytes.
-#[derive(Clone, Copy, PartialEq, Eq)]
+#[derive(Clone, Copy)]
 pub enum Reader {
     Client,
     Urb,
@@ -42,7 +44,7 @@ pub enum Told {
 
 impl Reader {
     /// The reader of this name, with this setting.
-    pub fn named(name: &str, setting: &str) -> anyhow::Result<Reader> {
+    pub fn named(name: &str, setting: &str) -> Result<Reader, Wrong> {
         match name {
             "client" => Ok(Reader::Client),
             "urb" => Ok(Reader::Urb),
@@ -51,7 +53,7 @@ impl Reader {
             "op" => Ok(Reader::Op(op_way(setting)?)),
             "header" => Ok(Reader::Header(Setting::of(setting)?)),
             "redir" => Ok(Reader::Redir(Setting::of(setting)?)),
-            _ => Err(anyhow!("there is no call {name}")),
+            _ => Err(Wrong::Words),
         }
     }
 
@@ -74,7 +76,9 @@ impl Reader {
 }
 
 /// What this answer says, but for the packet.
-pub fn told_by<P: Drop>(read: Result<Read<P>, ReadError>) -> Told {
+pub fn told_by<P: Drop>(read: Result<Read<P>, ReadError>) -> Told
+    ensures { result ≡ Told.Short → read ≡ Ok Read.Short }
+{
     match read {
         Ok(Read::Whole(_, size)) => Told::Whole(size),
         Ok(Read::Short) => Told::Short,
@@ -83,25 +87,25 @@ pub fn told_by<P: Drop>(read: Result<Read<P>, ReadError>) -> Told {
 }
 
 /// Whether a direction is IN.
-pub fn is_in(direction: &str) -> anyhow::Result<bool> {
+pub fn is_in(direction: &str) -> Result<bool, Wrong> {
     match direction {
         "in" => Ok(true),
         "out" => Ok(false),
-        _ => Err(anyhow!("{direction} is neither in nor out")),
+        _ => Err(Wrong::Words),
     }
 }
 
-fn op_way(way: &str) -> anyhow::Result<OpWay> {
+fn op_way(way: &str) -> Result<OpWay, Wrong> {
     match way {
         "request" => Ok(OpWay::Request),
         "reply" => Ok(OpWay::Reply),
-        _ => Err(anyhow!("{way} is neither request nor reply")),
+        _ => Err(Wrong::Words),
     }
 }
 
 impl Setting {
     /// The setting of words: the way, the agreed capabilities in hexadecimal, and `first` where the hello is to come.
-    pub fn of(words: &str) -> anyhow::Result<Setting> {
+    pub fn of(words: &str) -> Result<Setting, Wrong> {
         let mut parts = words.split_whitespace();
         let way = redir_way(parts.next().unwrap_or(""))?;
         let caps = caps_of(parts.next().unwrap_or(""))?;
@@ -111,16 +115,16 @@ impl Setting {
 }
 
 /// The way of this name.
-pub fn redir_way(way: &str) -> anyhow::Result<Way> {
+pub fn redir_way(way: &str) -> Result<Way, Wrong> {
     match way {
         "guest" => Ok(Way::ToGuest),
         "host" => Ok(Way::ToHost),
-        _ => Err(anyhow!("{way} is neither guest nor host")),
+        _ => Err(Wrong::Words),
     }
 }
 
 /// Capabilities, of which bit n says that capability n is there, in hexadecimal.
-pub fn caps_of(digits: &str) -> anyhow::Result<Caps> {
+pub fn caps_of(digits: &str) -> Result<Caps, Wrong> {
     Ok(Caps {
         bits: u32::from_str_radix(digits, 16)?,
     })

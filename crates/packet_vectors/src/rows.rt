@@ -1,7 +1,8 @@
 //! A row: a call, what it is put to, and what it has to give.
 
 use crate::answer::push_answer;
-use crate::texts::{Texts, push_string, push_text};
+use crate::texts::{Texts, push_number, push_text};
+use crate::wrong::Wrong;
 use std::alloc::Global;
 use usb_base::{Bytes, Memory};
 
@@ -24,7 +25,7 @@ impl Rows {
     }
 
     /// Takes a line, and appends what is told of it.
-    pub fn take(&mut self, alloc: Global, line: &str, told: &mut Bytes) -> anyhow::Result<()> {
+    pub fn take(&mut self, alloc: Global, line: &str, told: &mut Bytes) -> Result<(), Wrong> {
         match line.split_once(' ') {
             Some(("@", text)) => self.texts.add(alloc, text)?,
             Some(("=", group)) => self.begin(alloc, group)?,
@@ -41,7 +42,7 @@ impl Rows {
     }
 
     /// Puts a row to its call, and appends the verdict.
-    fn check(&mut self, alloc: Global, row: &str, told: &mut Bytes) -> anyhow::Result<()> {
+    fn check(&mut self, alloc: Global, row: &str, told: &mut Bytes) -> Result<(), Wrong> {
         self.count = self.count.saturating_add(1);
         push_name(alloc, self.group.as_str(), self.count, told)?;
         let (call, rest) = row.split_once(" | ").unwrap_or((row, ""));
@@ -52,34 +53,38 @@ impl Rows {
     }
 }
 
-fn answer_of(alloc: Global, texts: &Texts, call: &str, input: &str) -> anyhow::Result<Bytes> {
+fn answer_of(alloc: Global, texts: &Texts, call: &str, input: &str) -> Result<Bytes, Wrong> {
     let mut came = Bytes::new(alloc);
-    push_answer(alloc, texts, call.trim(), input.trim(), &mut came)?;
+    match push_answer(alloc, texts, call.trim(), input.trim(), &mut came) {
+        Ok(()) => {}
+        Err(Wrong::Words) => push_text("the row can't be read\n", &mut came)?,
+        Err(Wrong::Memory) => return Err(Wrong::Memory),
+    }
     Ok(came)
 }
 
-fn push_name(alloc: Global, group: &str, count: u32, told: &mut Bytes) -> anyhow::Result<()> {
-    push_string(format!(in alloc; "{group} {count}: ")?, told)
+fn push_name(alloc: Global, group: &str, count: u32, told: &mut Bytes) -> Result<(), Wrong> {
+    push_text(group, told)?;
+    push_number(alloc, " ", u64::from(count), ": ", told)
 }
 
 /// Appends `ok`, or where the text that came parts from the wanted one, and both from a little before that on.
-fn push_verdict(alloc: Global, came: &[u8], wanted: &[u8], told: &mut Bytes) -> anyhow::Result<()> {
+fn push_verdict(alloc: Global, came: &[u8], wanted: &[u8], told: &mut Bytes) -> Result<(), Wrong> {
     if came == wanted {
         return push_text("ok\n", told);
     }
     let place = common(came, wanted);
-    push_place(alloc, place, told)?;
+    push_number(
+        alloc,
+        "another text from byte ",
+        place as u64,
+        " on\n",
+        told,
+    )?;
     push_text("    came:   ", told)?;
     push_around(came, place, told)?;
     push_text("    wanted: ", told)?;
     push_around(wanted, place, told)
-}
-
-fn push_place(alloc: Global, place: usize, told: &mut Bytes) -> anyhow::Result<()> {
-    push_string(
-        format!(in alloc; "another text from byte {place} on\n")?,
-        told,
-    )
 }
 
 /// How many bytes both begin with.
@@ -96,7 +101,7 @@ const BEFORE: usize = 80;
 const BEHIND: usize = 120;
 
 /// Appends what stands around a place as one line, with a semicolon for the end of each line.
-fn push_around(text: &[u8], place: usize, told: &mut Bytes) -> anyhow::Result<()> {
+fn push_around(text: &[u8], place: usize, told: &mut Bytes) -> Result<(), Wrong> {
     let first = place.saturating_sub(BEFORE);
     for byte in text.iter().skip(first).take(BEFORE + BEHIND) {
         match byte {

@@ -1,9 +1,11 @@
 //! A stream that comes in pieces, and the packets that become whole.
 
+use crate::fronts::push_answer;
 use crate::lines::push_redir;
 use crate::packets::push_client;
-use crate::texts::{Texts, push_string, push_text};
-use anyhow::anyhow;
+use crate::reader::Told;
+use crate::texts::{Texts, push_number, push_string, push_text};
+use crate::wrong::Wrong;
 use packet_stream::{PacketFormat, ReadError, Stream};
 use redir_data::{FromGuest, FromHost, RedirPacket, RedirState};
 use redir_wire::Header;
@@ -14,15 +16,10 @@ use usbip_urb::{ClientFormat, ClientPacket};
 /// A format whose packets have lines.
 trait Lined: PacketFormat {
     /// Appends the packet's line.
-    fn push(
-        alloc: Global,
-        place: u64,
-        packet: &Self::Packet,
-        out: &mut Bytes,
-    ) -> anyhow::Result<()>;
+    fn push(alloc: Global, place: u64, packet: &Self::Packet, out: &mut Bytes) -> Result<(), Wrong>;
 
     /// Appends what decides how the next packet is read.
-    fn push_state(alloc: Global, state: &Self::State, out: &mut Bytes) -> anyhow::Result<()>;
+    fn push_state(alloc: Global, state: &Self::State, out: &mut Bytes) -> Result<(), Wrong>;
 }
 
 impl Lined for ClientFormat {
@@ -31,11 +28,11 @@ impl Lined for ClientFormat {
         place: u64,
         packet: &ClientPacket,
         out: &mut Bytes,
-    ) -> anyhow::Result<()> {
+    ) -> Result<(), Wrong> {
         push_client(alloc, place, packet, out)
     }
 
-    fn push_state(_alloc: Global, _state: &(), out: &mut Bytes) -> anyhow::Result<()> {
+    fn push_state(_alloc: Global, _state: &(), out: &mut Bytes) -> Result<(), Wrong> {
         push_text("nothing\n", out)
     }
 }
@@ -46,11 +43,11 @@ impl Lined for FromHost {
         place: u64,
         packet: &(Header, RedirPacket),
         out: &mut Bytes,
-    ) -> anyhow::Result<()> {
+    ) -> Result<(), Wrong> {
         push_redir(alloc, place, &packet.0, &packet.1, out)
     }
 
-    fn push_state(alloc: Global, state: &RedirState, out: &mut Bytes) -> anyhow::Result<()> {
+    fn push_state(alloc: Global, state: &RedirState, out: &mut Bytes) -> Result<(), Wrong> {
         push_redir_state(alloc, state, out)
     }
 }
@@ -61,16 +58,16 @@ impl Lined for FromGuest {
         place: u64,
         packet: &(Header, RedirPacket),
         out: &mut Bytes,
-    ) -> anyhow::Result<()> {
+    ) -> Result<(), Wrong> {
         push_redir(alloc, place, &packet.0, &packet.1, out)
     }
 
-    fn push_state(alloc: Global, state: &RedirState, out: &mut Bytes) -> anyhow::Result<()> {
+    fn push_state(alloc: Global, state: &RedirState, out: &mut Bytes) -> Result<(), Wrong> {
         push_redir_state(alloc, state, out)
     }
 }
 
-fn push_redir_state(alloc: Global, state: &RedirState, out: &mut Bytes) -> anyhow::Result<()> {
+fn push_redir_state(alloc: Global, state: &RedirState, out: &mut Bytes) -> Result<(), Wrong> {
     let bits = state.caps.bits;
     let hello = if state.first { "to come" } else { "come" };
     push_string(format!(in alloc; "hello {hello}, agreed {bits:x}\n")?, out)
@@ -83,12 +80,12 @@ pub fn push_stream(
     side: &str,
     steps: &str,
     out: &mut Bytes,
-) -> anyhow::Result<()> {
+) -> Result<(), Wrong> {
     match side {
         "client" => push_steps::<ClientFormat>(alloc, texts, (), steps, out),
         "host" => push_steps::<FromHost>(alloc, texts, RedirState::start(), steps, out),
         "guest" => push_steps::<FromGuest>(alloc, texts, RedirState::start(), steps, out),
-        _ => Err(anyhow!("there is no stream of {side}")),
+        _ => Err(Wrong::Words),
     }
 }
 
@@ -98,7 +95,7 @@ fn push_steps<F: Lined>(
     state: F::State,
     steps: &str,
     out: &mut Bytes,
-) -> anyhow::Result<()> {
+) -> Result<(), Wrong> {
     let mut stream = Stream::<F>::new(alloc, state);
     for step in steps.split_whitespace() {
         push_step(alloc, texts, &mut stream, step, out)?;
@@ -113,7 +110,7 @@ fn push_step<F: Lined>(
     stream: &mut Stream<F>,
     step: &str,
     out: &mut Bytes,
-) -> anyhow::Result<()> {
+) -> Result<(), Wrong> {
     match step {
         "next" => push_next(alloc, stream, out)?,
         "all" => push_all(alloc, stream, out)?,
@@ -133,7 +130,7 @@ fn put_piece<F: Lined>(
     stream: &mut Stream<F>,
     step: &str,
     out: &mut Bytes,
-) -> anyhow::Result<()> {
+) -> Result<(), Wrong> {
     match step.strip_prefix("each:") {
         Some(piece) => push_each(alloc, stream, &texts.bytes_of(alloc, piece)?, out),
         None => {
@@ -148,7 +145,7 @@ fn push_next<F: Lined>(
     alloc: Global,
     stream: &mut Stream<F>,
     out: &mut Bytes,
-) -> anyhow::Result<()> {
+) -> Result<(), Wrong> {
     match stream.next(alloc) {
         Ok(Some((place, packet))) => F::push(alloc, place, &packet, out),
         Ok(None) => Ok(()),
@@ -156,16 +153,13 @@ fn push_next<F: Lined>(
     }
 }
 
-fn push_error(alloc: Global, error: ReadError, out: &mut Bytes) -> anyhow::Result<()> {
-    push_string(format!(in alloc; "{error}\n")?, out)
+fn push_error(alloc: Global, error: ReadError, out: &mut Bytes) -> Result<(), Wrong> {
+    push_answer(alloc, Told::Wrong(error), out)?;
+    push_text("\n", out)
 }
 
 /// Takes packets while one is whole: at most as many as bytes are held, since each has one at least.
-fn push_all<F: Lined>(
-    alloc: Global,
-    stream: &mut Stream<F>,
-    out: &mut Bytes,
-) -> anyhow::Result<()> {
+fn push_all<F: Lined>(alloc: Global, stream: &mut Stream<F>, out: &mut Bytes) -> Result<(), Wrong> {
     for _ in 0..=stream.held() {
         match stream.next(alloc) {
             Ok(Some((place, packet))) => F::push(alloc, place, &packet, out)?,
@@ -182,7 +176,7 @@ fn push_each<F: Lined>(
     stream: &mut Stream<F>,
     bytes: &[u8],
     out: &mut Bytes,
-) -> anyhow::Result<()> {
+) -> Result<(), Wrong> {
     for byte in bytes {
         stream.put(&[*byte])?;
         push_all(alloc, stream, out)?;
@@ -194,14 +188,13 @@ fn push_refused<F: Lined>(
     alloc: Global,
     stream: &mut Stream<F>,
     out: &mut Bytes,
-) -> anyhow::Result<()> {
+) -> Result<(), Wrong> {
     let place = stream.refuse();
-    push_string(format!(in alloc; "refused at {place}\n")?, out)
+    push_number(alloc, "refused at ", place, "\n", out)
 }
 
 /// Appends how many bytes are held, and whether the stream is over.
-fn push_held<F: Lined>(alloc: Global, stream: &Stream<F>, out: &mut Bytes) -> anyhow::Result<()> {
-    let held = stream.held();
-    let over = if stream.is_over() { ", over" } else { "" };
-    push_string(format!(in alloc; "held {held}{over}\n")?, out)
+fn push_held<F: Lined>(alloc: Global, stream: &Stream<F>, out: &mut Bytes) -> Result<(), Wrong> {
+    let end = if stream.is_over() { ", over\n" } else { "\n" };
+    push_number(alloc, "held ", stream.held() as u64, end, out)
 }

@@ -1,12 +1,13 @@
 //! Lines of tapes, and the numbers in them.
 
-use crate::texts::{push_hex, push_string, push_text};
+use crate::texts::{push_hex, push_number, push_text};
+use crate::wrong::Wrong;
 use packet_show::{LineError, TapeKind, TapeLine, read_line, read_number};
 use std::alloc::Global;
 use usb_base::Bytes;
 
-/// Appends what a line says in a tape to replay, and what it says in one for a modelled host.
-pub fn push_tape_line(alloc: Global, line: &[u8], out: &mut Bytes) -> anyhow::Result<()> {
+/// Appends what a line says in a tape to replay, and what it says in one of a model's steps.
+pub fn push_tape_line(alloc: Global, line: &[u8], out: &mut Bytes) -> Result<(), Wrong> {
     push_text("replay: ", out)?;
     push_read(alloc, read_line(alloc, TapeKind::Replay, line), out)?;
     push_text("model: ", out)?;
@@ -17,7 +18,7 @@ fn push_read(
     alloc: Global,
     read: Result<TapeLine, LineError>,
     out: &mut Bytes,
-) -> anyhow::Result<()> {
+) -> Result<(), Wrong> {
     match read {
         Ok(line) => push_said(alloc, &line, out)?,
         Err(LineError::Bad) => push_text("bad", out)?,
@@ -26,15 +27,15 @@ fn push_read(
     push_text("\n", out)
 }
 
-fn push_said(alloc: Global, line: &TapeLine, out: &mut Bytes) -> anyhow::Result<()> {
+fn push_said(alloc: Global, line: &TapeLine, out: &mut Bytes) -> Result<(), Wrong> {
     match line {
         TapeLine::Skip => push_text("nothing", out)?,
         TapeLine::Client(bytes) => push_piece(alloc, "client ", bytes, out)?,
         TapeLine::ClientEnd => push_text("the client's end", out)?,
         TapeLine::Host(bytes) => push_piece(alloc, "host ", bytes, out)?,
         TapeLine::HostEnd => push_text("the host's end", out)?,
-        TapeLine::ToHost(count) => push_count(alloc, "to the host ", *count, out)?,
-        TapeLine::ToGate(count) => push_count(alloc, "to the gate ", *count, out)?,
+        TapeLine::ToHost(count) => push_number(alloc, "to the host ", u64::from(*count), "", out)?,
+        TapeLine::ToGate(count) => push_number(alloc, "to the gate ", u64::from(*count), "", out)?,
         TapeLine::Perform(ep) => push_byte(alloc, "perform ", ep.byte(), out)?,
         TapeLine::Offer(ep) => push_byte(alloc, "offer ", ep.byte(), out)?,
         TapeLine::Unplug => push_text("unplug", out)?,
@@ -42,25 +43,20 @@ fn push_said(alloc: Global, line: &TapeLine, out: &mut Bytes) -> anyhow::Result<
     Ok(())
 }
 
-fn push_piece(alloc: Global, name: &str, piece: &Bytes, out: &mut Bytes) -> anyhow::Result<()> {
+fn push_piece(alloc: Global, name: &str, piece: &Bytes, out: &mut Bytes) -> Result<(), Wrong> {
     push_text(name, out)?;
     push_hex(alloc, piece.as_slice(), out)
 }
 
-fn push_byte(alloc: Global, name: &str, byte: u8, out: &mut Bytes) -> anyhow::Result<()> {
+fn push_byte(alloc: Global, name: &str, byte: u8, out: &mut Bytes) -> Result<(), Wrong> {
     push_text(name, out)?;
     push_hex(alloc, &[byte], out)
 }
 
-fn push_count(alloc: Global, name: &str, count: u32, out: &mut Bytes) -> anyhow::Result<()> {
-    push_string(format!(in alloc; "{name}{count}")?, out)
-}
-
 /// Appends the number of a text.
-pub fn push_read_number(alloc: Global, text: &[u8], out: &mut Bytes) -> anyhow::Result<()> {
+pub fn push_read_number(alloc: Global, text: &[u8], out: &mut Bytes) -> Result<(), Wrong> {
     match read_number(text) {
-        Some(number) => push_count(alloc, "", number, out)?,
-        None => push_text("none", out)?,
+        Some(number) => push_number(alloc, "", u64::from(number), "\n", out),
+        None => push_text("none\n", out),
     }
-    push_text("\n", out)
 }

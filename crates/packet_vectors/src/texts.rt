@@ -1,6 +1,6 @@
 //! Texts by name, texts with repetitions, and the bytes that hexadecimal digits stand for.
 
-use anyhow::Context;
+use crate::wrong::Wrong;
 use std::alloc::Global;
 use usb_base::{Bytes, Memory};
 
@@ -93,7 +93,7 @@ impl Texts {
     }
 
     /// The bytes of words, or those of a text in quotation marks. A word `PLACE=WORD` puts other bytes at a place.
-    pub fn bytes_of(&self, alloc: Global, words: &str) -> anyhow::Result<Vec<u8>> {
+    pub fn bytes_of(&self, alloc: Global, words: &str) -> Result<Vec<u8>, Wrong> {
         if let Some(text) = words.strip_prefix('"') {
             let text = text.strip_suffix('"').unwrap_or(text);
             return Ok(text.as_bytes().to_vec(alloc)?);
@@ -105,7 +105,7 @@ impl Texts {
         Ok(bytes)
     }
 
-    fn put_word(&self, alloc: Global, word: &str, bytes: &mut Vec<u8>) -> anyhow::Result<()> {
+    fn put_word(&self, alloc: Global, word: &str, bytes: &mut Vec<u8>) -> Result<(), Wrong> {
         match word.split_once('=') {
             Some((place, field)) => {
                 let place = number_of(place)?;
@@ -116,9 +116,9 @@ impl Texts {
         Ok(())
     }
 
-    fn decoded(&self, alloc: Global, word: &str) -> anyhow::Result<Vec<u8>> {
+    fn decoded(&self, alloc: Global, word: &str) -> Result<Vec<u8>, Wrong> {
         let digits = self.joined(alloc, word)?;
-        Ok(hex::decode(alloc, digits.as_slice()).context(format_args!("the bytes {word}"))?)
+        Ok(hex::decode(alloc, digits.as_slice())?)
     }
 }
 
@@ -130,35 +130,55 @@ fn replace(bytes: &mut Vec<u8>, place: usize, field: &[u8]) {
 }
 
 /// A number in decimal.
-pub fn number_of(digits: &str) -> anyhow::Result<usize> {
-    digits
-        .parse()
-        .context(format_args!("the number {digits:?}"))
+pub fn number_of(digits: &str) -> Result<usize, Wrong> {
+    Ok(digits.parse()?)
 }
 
 /// Appends a text.
-pub fn push_text(text: &str, out: &mut Bytes) -> anyhow::Result<()> {
+pub fn push_text(text: &str, out: &mut Bytes) -> Result<(), Wrong> {
     out.append(text.as_bytes())?;
     Ok(())
 }
 
 /// Appends a text, and drops it.
-pub fn push_string(text: String, out: &mut Bytes) -> anyhow::Result<()> {
+pub fn push_string(text: String, out: &mut Bytes) -> Result<(), Wrong> {
     push_text(text.as_str(), out)
 }
 
 /// Appends bytes in hexadecimal, or `-` where there are none.
-pub fn push_hex(alloc: Global, bytes: &[u8], out: &mut Bytes) -> anyhow::Result<()> {
+pub fn push_hex(alloc: Global, bytes: &[u8], out: &mut Bytes) -> Result<(), Wrong> {
     if bytes.is_empty() {
         return push_text("-", out);
     }
     push_string(hex::encode(alloc, bytes)?, out)
 }
 
+/// Appends a number in decimal between two texts.
+pub fn push_number(
+    alloc: Global,
+    before: &str,
+    number: u64,
+    behind: &str,
+    out: &mut Bytes,
+) -> Result<(), Wrong> {
+    push_string(format!(in alloc; "{before}{number}{behind}")?, out)
+}
+
 /// Appends numbers in decimal, each with a space in front.
-pub fn push_numbers(alloc: Global, numbers: &[i64], out: &mut Bytes) -> anyhow::Result<()> {
+pub fn push_numbers(alloc: Global, numbers: &[i64], out: &mut Bytes) -> Result<(), Wrong> {
+    push_joined(alloc, " ", numbers, out)
+}
+
+/// Appends a space, and four numbers in decimal with colons between them.
+pub fn push_four(alloc: Global, numbers: &[i64; 4], out: &mut Bytes) -> Result<(), Wrong> {
+    push_joined(alloc, " ", &numbers[..1], out)?;
+    push_joined(alloc, ":", &numbers[1..], out)
+}
+
+/// Appends numbers in decimal, each behind a mark.
+fn push_joined(alloc: Global, mark: &str, numbers: &[i64], out: &mut Bytes) -> Result<(), Wrong> {
     for number in numbers {
-        push_string(format!(in alloc; " {number}")?, out)?;
+        push_string(format!(in alloc; "{mark}{number}")?, out)?;
     }
     Ok(())
 }

@@ -1,8 +1,9 @@
 //! Rows of the protocol description's table of types, against every front of every header that tells them apart.
 
+use crate::fronts::push_answer;
 use crate::reader::{Told, redir_way, told_by};
 use crate::texts::{push_string, push_text};
-use anyhow::anyhow;
+use crate::wrong::Wrong;
 use packet_stream::ReadError;
 use redir_wire::{Caps, Way, read_header};
 use std::alloc::Global;
@@ -57,7 +58,7 @@ pub fn push_type_row(
     numbers: &str,
     row: &str,
     out: &mut Bytes,
-) -> anyhow::Result<()> {
+) -> Result<(), Wrong> {
     let (from, to) = numbers.split_once('-').unwrap_or((numbers, numbers));
     let listed = listed_of(row)?;
     for number in from.parse()?..=to.parse::<u32>()? {
@@ -68,7 +69,7 @@ pub fn push_type_row(
     push_text("as told\n", out)
 }
 
-fn listed_of(row: &str) -> anyhow::Result<Listed> {
+fn listed_of(row: &str) -> Result<Listed, Wrong> {
     match row {
         "unknown" => Ok(Listed::Unknown),
         "left out" => Ok(Listed::LeftOut),
@@ -76,7 +77,7 @@ fn listed_of(row: &str) -> anyhow::Result<Listed> {
     }
 }
 
-fn form_of(row: &str) -> anyhow::Result<Form> {
+fn form_of(row: &str) -> Result<Form, Wrong> {
     let mut words = row.split_whitespace();
     let only = match words.next() {
         Some("-") => None,
@@ -99,10 +100,10 @@ fn form_of(row: &str) -> anyhow::Result<Form> {
     })
 }
 
-fn longer_of(word: &str) -> anyhow::Result<(u32, u32)> {
+fn longer_of(word: &str) -> Result<(u32, u32), Wrong> {
     match word.split_once(':') {
         Some((bit, length)) => Ok((bit.parse()?, length.parse()?)),
-        None => Err(anyhow!("{word} is no capability with a length")),
+        None => Err(Wrong::Words),
     }
 }
 
@@ -243,7 +244,7 @@ fn push_other(
     count: usize,
     listed: Listed,
     out: &mut Bytes,
-) -> anyhow::Result<()> {
+) -> Result<(), Wrong> {
     let Case {
         first,
         bits,
@@ -258,17 +259,8 @@ fn push_other(
         out,
     )?;
     let bytes = header_bytes(number, length);
-    push_told(alloc, read(case, &bytes, count), out)?;
+    push_answer(alloc, read(case, &bytes, count), out)?;
     push_text(", not ", out)?;
-    push_told(alloc, said(case, listed, size_of(case), count), out)?;
+    push_answer(alloc, said(case, listed, size_of(case), count), out)?;
     push_text("\n", out)
-}
-
-/// Appends an answer.
-pub fn push_told(alloc: Global, told: Told, out: &mut Bytes) -> anyhow::Result<()> {
-    match told {
-        Told::Whole(size) => push_string(format!(in alloc; "whole {size}")?, out),
-        Told::Short => push_text("short", out),
-        Told::Wrong(error) => push_string(format!(in alloc; "{error}")?, out),
-    }
 }

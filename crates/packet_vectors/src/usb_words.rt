@@ -1,7 +1,7 @@
 //! USB's words: reasons and refusals, speeds, statuses, endpoints, setups and their routes, capabilities.
 
 use crate::texts::{push_hex, push_numbers, push_string, push_text};
-use anyhow::anyhow;
+use crate::wrong::Wrong;
 use control_route::{Route, is_change, route_of, touches};
 use redir_wire::{ANNOUNCED, Caps};
 use std::alloc::Global;
@@ -32,30 +32,30 @@ const REASONS: [Reason; 22] = [
     Reason::Length,
 ];
 
-fn reason_named(name: &str) -> anyhow::Result<Reason> {
+fn reason_named(name: &str) -> Result<Reason, Wrong> {
     for reason in REASONS {
         if reason.name() == name {
             return Ok(reason);
         }
     }
-    Err(anyhow!("there is no reason {name}"))
+    Err(Wrong::Words)
 }
 
-fn side_named(name: &str) -> anyhow::Result<Side> {
+fn side_named(name: &str) -> Result<Side, Wrong> {
     match name {
         "client" => Ok(Side::Client),
         "host" => Ok(Side::Host),
-        _ => Err(anyhow!("there is no side {name}")),
+        _ => Err(Wrong::Words),
     }
 }
 
 /// Appends the line of a refusal, of which the words are the side, the place, the reason and any two values.
-pub fn push_refusal(alloc: Global, words: &str, out: &mut Bytes) -> anyhow::Result<()> {
+pub fn push_refusal(alloc: Global, words: &str, out: &mut Bytes) -> Result<(), Wrong> {
     refusal_of(words)?.line(alloc, out)?;
     Ok(())
 }
 
-fn refusal_of(words: &str) -> anyhow::Result<Refusal> {
+fn refusal_of(words: &str) -> Result<Refusal, Wrong> {
     let mut words = words.split_whitespace();
     let side = side_named(words.next().unwrap_or(""))?;
     let place = words.next().unwrap_or("").parse()?;
@@ -73,22 +73,28 @@ fn refusal_of(words: &str) -> anyhow::Result<Refusal> {
 }
 
 /// Appends the number of a speed's byte in USB/IP, and its byte in usbredir again.
-pub fn push_speed(alloc: Global, byte: &str, out: &mut Bytes) -> anyhow::Result<()> {
+pub fn push_speed(alloc: Global, byte: &str, out: &mut Bytes) -> Result<(), Wrong> {
     let speed = Speed::from_redir(byte.parse()?);
     let numbers = [i64::from(speed.usbip()), i64::from(speed.to_redir())];
     push_line(alloc, "speed", &numbers, out)
 }
 
 /// Appends the error number of a status, and its byte again.
-pub fn push_status(alloc: Global, byte: &str, out: &mut Bytes) -> anyhow::Result<()> {
+pub fn push_status(alloc: Global, byte: &str, out: &mut Bytes) -> Result<(), Wrong> {
     let status = UsbStatus::from_byte(byte.parse()?);
     let numbers = [i64::from(status.errno()), i64::from(status.to_byte())];
     push_line(alloc, "status", &numbers, out)
 }
 
-fn push_line(alloc: Global, name: &str, numbers: &[i64], out: &mut Bytes) -> anyhow::Result<()> {
+/// Appends a name and numbers behind it.
+fn push_named(alloc: Global, name: &str, numbers: &[i64], out: &mut Bytes) -> Result<(), Wrong> {
     push_text(name, out)?;
-    push_numbers(alloc, numbers, out)?;
+    push_numbers(alloc, numbers, out)
+}
+
+/// Appends a name and numbers as a line.
+pub fn push_line(alloc: Global, name: &str, numbers: &[i64], out: &mut Bytes) -> Result<(), Wrong> {
+    push_named(alloc, name, numbers, out)?;
     push_text("\n", out)
 }
 
@@ -104,20 +110,20 @@ pub fn kind_name(kind: EpKind) -> &'static str {
 }
 
 /// Appends the name of the kind that a byte of an ep_info tells.
-pub fn push_kind(byte: &str, out: &mut Bytes) -> anyhow::Result<()> {
+pub fn push_kind(byte: &str, out: &mut Bytes) -> Result<(), Wrong> {
     push_text(kind_name(EpKind::from_byte(byte.parse()?)), out)?;
     push_text("\n", out)
 }
 
 /// Appends an endpoint's place among 32 and its direction, and its byte and its kind in a table without endpoints.
-pub fn push_address(alloc: Global, byte: &str, out: &mut Bytes) -> anyhow::Result<()> {
+pub fn push_address(alloc: Global, byte: &str, out: &mut Bytes) -> Result<(), Wrong> {
     match EpAddr::new(u8::from_str_radix(byte, 16)?) {
         Some(ep) => push_ep(alloc, ep, out),
         None => { push_text("no address\n", out) }
     }
 }
 
-fn push_ep(alloc: Global, ep: EpAddr, out: &mut Bytes) -> anyhow::Result<()> {
+fn push_ep(alloc: Global, ep: EpAddr, out: &mut Bytes) -> Result<(), Wrong> {
     let index = ep.index();
     let way = if ep.is_in() { "in" } else { "out" };
     let byte = ep.byte();
@@ -126,7 +132,7 @@ fn push_ep(alloc: Global, ep: EpAddr, out: &mut Bytes) -> anyhow::Result<()> {
 }
 
 /// Appends the fields of a setup, and the bytes that spell it.
-pub fn push_setup(alloc: Global, bytes: [u8; 8], out: &mut Bytes) -> anyhow::Result<()> {
+pub fn push_setup(alloc: Global, bytes: [u8; 8], out: &mut Bytes) -> Result<(), Wrong> {
     let setup = Setup::read(bytes);
     let numbers = [
         i64::from(setup.kind),
@@ -141,7 +147,7 @@ pub fn push_setup(alloc: Global, bytes: [u8; 8], out: &mut Bytes) -> anyhow::Res
 }
 
 /// Appends the route of a setup, whether it is a change, and which of the interfaces 1 and 2 it touches.
-pub fn push_route(alloc: Global, bytes: [u8; 8], out: &mut Bytes) -> anyhow::Result<()> {
+pub fn push_route(alloc: Global, bytes: [u8; 8], out: &mut Bytes) -> Result<(), Wrong> {
     let route = route_of(&Setup::read(bytes));
     push_route_name(alloc, &route, out)?;
     if is_change(&route) {
@@ -155,17 +161,20 @@ pub fn push_route(alloc: Global, bytes: [u8; 8], out: &mut Bytes) -> anyhow::Res
     push_text("\n", out)
 }
 
-fn push_route_name(alloc: Global, route: &Route, out: &mut Bytes) -> anyhow::Result<()> {
-    match route {
+fn push_route_name(alloc: Global, route: &Route, out: &mut Bytes) -> Result<(), Wrong> {
+    match *route {
         Route::Local => push_text("Local", out),
-        Route::SetConfig(configuration) => {
-            push_string(format!(in alloc; "SetConfig {configuration}")?, out)
-        }
+        Route::SetConfig(number) => push_named(alloc, "SetConfig", &[i64::from(number)], out),
         Route::GetConfig => push_text("GetConfig", out),
         Route::SetAlt { interface, alt } => {
-            push_string(format!(in alloc; "SetAlt {interface} {alt}")?, out)
+            push_named(
+                alloc,
+                "SetAlt",
+                &[i64::from(interface), i64::from(alt)],
+                out,
+            )
         }
-        Route::GetAlt(interface) => push_string(format!(in alloc; "GetAlt {interface}")?, out),
+        Route::GetAlt(interface) => push_named(alloc, "GetAlt", &[i64::from(interface)], out),
         Route::Reset => push_text("Reset", out),
         Route::Plain => push_text("Plain", out),
         Route::Bad => push_text("Bad", out),
@@ -173,7 +182,7 @@ fn push_route_name(alloc: Global, route: &Route, out: &mut Bytes) -> anyhow::Res
 }
 
 /// Appends the capabilities that the gateway announces and that are among these.
-pub fn push_agreed(alloc: Global, caps: Caps, out: &mut Bytes) -> anyhow::Result<()> {
+pub fn push_agreed(alloc: Global, caps: Caps, out: &mut Bytes) -> Result<(), Wrong> {
     let agreed = Caps { bits: ANNOUNCED }.agreed(caps);
     push_text("agreed", out)?;
     for bit in 0..32 {

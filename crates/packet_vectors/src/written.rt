@@ -9,7 +9,7 @@ ghost use Rattle.packet_vectors.specs.Writable.{CanWrite};
 
 use crate::reader::Setting;
 use crate::texts::{push_hex, push_text};
-use anyhow::anyhow;
+use crate::wrong::Wrong;
 use packet_stream::Read;
 use redir_data::{RedirData, RedirPacket, write_data, write_iso_out};
 use redir_wire::{Caps, RedirControl, WIDE_IDS, Way, write_control};
@@ -41,7 +41,7 @@ fn push_if_other(
     written: &[u8],
     bytes: &[u8],
     out: &mut Bytes,
-) -> anyhow::Result<()> {
+) -> Result<(), Wrong> {
     if is_behind(written, bytes) {
         return Ok(());
     }
@@ -56,7 +56,7 @@ pub fn push_op_again(
     packet: &OpPacket,
     bytes: &[u8],
     out: &mut Bytes,
-) -> anyhow::Result<()>
+) -> Result<(), Wrong>
     requires { IsWritableOp packet.now }
 {
     let mut again = started(alloc)?;
@@ -70,7 +70,7 @@ pub fn push_urb_again(
     packet: &UrbPacket,
     bytes: &[u8],
     out: &mut Bytes,
-) -> anyhow::Result<()>
+) -> Result<(), Wrong>
     requires { IsRequest packet.now }
 {
     let mut again = started(alloc)?;
@@ -85,7 +85,7 @@ pub fn push_ret_again(
     packet: &UrbPacket,
     bytes: &[u8],
     out: &mut Bytes,
-) -> anyhow::Result<()>
+) -> Result<(), Wrong>
     requires { IsAnswer is_in packet.now }
 {
     let mut again = started(alloc)?;
@@ -101,7 +101,7 @@ pub fn push_redir_again(
     packet: &RedirPacket,
     bytes: &[u8],
     out: &mut Bytes,
-) -> anyhow::Result<()>
+) -> Result<(), Wrong>
     requires { CanWrite id setting.way setting.caps packet.now }
 {
     let Setting { caps, way, .. } = setting;
@@ -118,7 +118,7 @@ fn push_control_again(
     caps: Caps,
     bytes: &[u8],
     out: &mut Bytes,
-) -> anyhow::Result<()>
+) -> Result<(), Wrong>
     requires { CanWriteControl id caps control.now }
 {
     let mut again = started(alloc)?;
@@ -134,7 +134,7 @@ fn push_moved_again(
     caps: Caps,
     bytes: &[u8],
     out: &mut Bytes,
-) -> anyhow::Result<()>
+) -> Result<(), Wrong>
     requires { CanWriteData id way caps moved.now }
 {
     let mut again = started(alloc)?;
@@ -148,19 +148,19 @@ pub fn push_to_device(
     devid: u32,
     bytes: &[u8],
     out: &mut Bytes,
-) -> anyhow::Result<()> {
+) -> Result<(), Wrong> {
     match read_urb(alloc, bytes) {
         Ok(Read::Whole(UrbPacket::Submit(submit), _)) => {
             let mut submit = submit;
             submit.head.devid = devid;
             push_written(alloc, &UrbPacket::Submit(submit), out)
         }
-        _ => Err(anyhow!("no submit")),
+        _ => Err(Wrong::Words),
     }
 }
 
 /// Appends the bytes of a request to any device.
-fn push_written(alloc: Global, packet: &UrbPacket, out: &mut Bytes) -> anyhow::Result<()>
+fn push_written(alloc: Global, packet: &UrbPacket, out: &mut Bytes) -> Result<(), Wrong>
     requires { IsWritableUrb packet.now }
 {
     let mut written = Bytes::new(alloc);
@@ -176,14 +176,14 @@ pub fn push_around_body(
     is_in: bool,
     bytes: &[u8],
     out: &mut Bytes,
-) -> anyhow::Result<()> {
-    match read_ret(alloc, is_in, bytes)? {
-        Read::Whole(UrbPacket::RetSubmit(answer), _) => push_parts(alloc, &answer, out),
-        _ => Err(anyhow!("no answer of a submit")),
+) -> Result<(), Wrong> {
+    match read_ret(alloc, is_in, bytes) {
+        Ok(Read::Whole(UrbPacket::RetSubmit(answer), _)) => push_parts(alloc, &answer, out),
+        _ => Err(Wrong::Words),
     }
 }
 
-fn push_parts(alloc: Global, answer: &RetSubmit, out: &mut Bytes) -> anyhow::Result<()> {
+fn push_parts(alloc: Global, answer: &RetSubmit, out: &mut Bytes) -> Result<(), Wrong> {
     let mut written = Bytes::new(alloc);
     push_ret_fields(answer, &mut written)?;
     written.append(answer.body.as_slice())?;
@@ -202,9 +202,9 @@ pub fn push_iso_out(
     caps: Caps,
     body: &[u8],
     out: &mut Bytes,
-) -> anyhow::Result<()> {
+) -> Result<(), Wrong> {
     if body.len() > 65_535 || !caps.has(WIDE_IDS) && id > u64::from(u32::MAX) {
-        return Err(anyhow!("there is no such packet"));
+        return Err(Wrong::Words);
     }
     let mut written = started(alloc)?;
     write_iso_out(endpoint, body, id, caps, &mut written)?;

@@ -3,7 +3,7 @@
 use redir_wire::Caps;
 
 /// What a stream has told so far that its next packet hangs on.
-#[derive(Clone, Copy, PartialEq, Eq)]
+#[derive(Clone, Copy)]
 pub struct RedirState {
     /// The stream's hello is still to come.
     pub first: bool,

@@ -3,7 +3,7 @@
 use usb_base::{List, Reason};
 
 /// What happened as the guest's bytes were taken.
-#[derive(Clone, Copy, PartialEq, Eq)]
+#[derive(Clone, Copy)]
 pub enum HostNote {
     /// A request with this id was taken out of its queue by a cancel.
     Cancelled { id: u64 },
@@ -16,7 +16,7 @@ pub enum HostNote {
 pub type HostNotes = List<HostNote>;
 
 /// What became of an endpoint's first request.
-#[derive(Clone, Copy, PartialEq, Eq)]
+#[derive(Clone, Copy)]
 pub enum Performed {
     /// It was performed and answered.
     Done { id: u64 },
@@ -27,7 +27,7 @@ pub enum Performed {
 }
 
 /// What became of an offer of an endpoint's stream.
-#[derive(Clone, Copy, PartialEq, Eq)]
+#[derive(Clone, Copy)]
 pub enum Offered {
     /// A packet went to the guest.
     Sent,

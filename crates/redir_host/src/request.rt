@@ -3,7 +3,7 @@
 use usb_base::{Setup, Transfer};
 
 /// The packet by which a request came. Its answer repeats these fields.
-#[derive(Clone, Copy, PartialEq, Eq)]
+#[derive(Clone, Copy)]
 pub enum Form {
     /// `usb_redir_control_packet`, with the fields of its setup.
     Control(Setup),

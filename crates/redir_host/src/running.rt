@@ -12,7 +12,7 @@ use std::marker::Model;
 use usb_base::{EpAddr, EpTable, Memory};
 
 /// What a stream was started as. Its packets are of this type until it is stopped, whatever its endpoint is then.
-#[derive(Clone, Copy, PartialEq, Eq)]
+#[derive(Clone, Copy)]
 pub enum StreamKind {
     Iso,
     Interrupt,

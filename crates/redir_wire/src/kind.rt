@@ -12,7 +12,7 @@ pub(crate) const HELLO: u32 = 0;
 pub(crate) const INTERFACE_INFO: u32 = 4;
 
 /// The types of packets that move no data of a transfer ("Control packets").
-#[derive(Clone, Copy, PartialEq, Eq)]
+#[derive(Clone, Copy)]
 pub enum PlainKind {
     Hello,
     Connect,
@@ -37,7 +37,7 @@ pub enum PlainKind {
 }
 
 /// The types of packets that move data ("Data packets").
-#[derive(Clone, Copy, PartialEq, Eq)]
+#[derive(Clone, Copy)]
 pub enum DataKind {
     Control,
     Bulk,
@@ -46,21 +46,21 @@ pub enum DataKind {
 }
 
 /// The types of packets.
-#[derive(Clone, Copy, PartialEq, Eq)]
+#[derive(Clone, Copy)]
 pub enum Kind {
     Plain(PlainKind),
     Carrying(DataKind),
 }
 
 /// Fields that a packet has only with a capability, behind its other fixed fields.
-#[derive(Clone, Copy, PartialEq, Eq)]
+#[derive(Clone, Copy)]
 pub struct More {
     pub capability: u32,
     pub bytes: u32,
 }
 
 /// What follows a packet's fixed fields.
-#[derive(Clone, Copy, PartialEq, Eq)]
+#[derive(Clone, Copy)]
 pub enum Tail {
     Nothing,
     /// At most 32 words.
@@ -70,7 +70,7 @@ pub enum Tail {
 }
 
 /// What the protocol says of a type.
-#[derive(Clone, Copy, PartialEq, Eq)]
+#[derive(Clone, Copy)]
 pub struct Row {
     pub number: u32,
     /// The one way that it goes, or none where it goes both.

@@ -14,7 +14,7 @@ pub enum Way {
 }
 
 /// Capabilities, of which bit n says that capability n is there.
-#[derive(Clone, Copy, PartialEq, Eq)]
+#[derive(Clone, Copy)]
 pub struct Caps {
     pub bits: u32,
 }

@@ -1,7 +1,10 @@
 -- What is written to a tape, and why none is made.
-use Rattle.std.specs.Prelude.{◌≡◌, ℕ, List, ◌++◌, take, Option, Result, Ok, Err}
-use Rattle.std.specs.Io.KnownBytes.{append_known}
+use Rattle.std.specs.Prelude.{◌≡◌, ℕ, List, ◌++◌, Option, Some, None, Result, Ok, Err}
+use Rattle.std.specs.Io.KnownBytes.{append_known, Appends}
 use Rattle.gate_outside.specs.Faults.{Rose}
+use Rattle.gate_outside.specs.Std.{output_writer}
+use Rattle.gate_outside.specs.declared.std_sink.StdSink.{StdSink}
+use Rattle.session_tape.specs.declared.telling.Telling.{Telling}
 use Rattle.session_tape.specs.declared.tape.Unmade.{Unmade}
 use Rattle.session_tape.specs.declared.tape.Unmade.TheVariants.{There, Failed}
 
@@ -30,14 +33,19 @@ abbrev pub CountsFault : {T E : Type 0} → Result T E → Counts → Counts →
 CountsFault (Ok _) old new = new ≡ old
 CountsFault (Err _) old new = OneFault old new
 
--- what a call of `write` took is behind what was there
-abbrev pub Takes : {E : Type 0} → Result ℕ E → List ℕ → Option (List ℕ) → Option (List ℕ) → Type 0
-Takes (Ok n) piece old new = new ≡ append_known old (take n piece)
-Takes (Err _) piece old new = new ≡ old
-
 -- known bytes grew by a front of `bytes`
 pub record GrowsInPart (old new : Option (List ℕ)) (bytes : List ℕ) : Type 0 where
   pub front : List ℕ
   pub back : List ℕ
   pub parts : bytes ≡ front ++ back
   pub grows : new ≡ append_known old front
+
+-- all of the bytes went to what is there
+abbrev pub GoesTo : {K : Type 0} → (K → Option (List ℕ)) → Option K → Option K → List ℕ → Type 0
+GoesTo contents (Some old) (Some new) bytes = Appends (contents old) (contents new) bytes
+GoesTo contents (Some old) None bytes = ⊥
+GoesTo contents None new bytes = ⊥
+
+-- what the writer of a file holds, where it tells that
+abbrev pub told_by : {R W : Type 0} → (W → Option (List ℕ)) → StdSink (Telling R W) → Option (List ℕ)
+told_by contents sink = contents (output_writer sink).writer

@@ -1,20 +1,23 @@
 //! A tape in a file.
 
-ghost use Rattle.std.specs.Prelude.{◌≡◌, ◌<◌, [], length, false, None, IfSome, IfOk, OnOk};
-ghost use Rattle.std.specs.Io.{WritesAtMost};
-ghost use Rattle.session_tape.specs.Tapes.{HasReason, CountsFault, Takes};
+ghost use Rattle.std.specs.Prelude.{◌≡◌, true, false, None, is_some, OnOk, OnErr};
+ghost use Rattle.std.specs.Fs.{asks_create_new, asks_write};
+ghost use Rattle.std.specs.Io.KnownBytes.{append_known};
+ghost use Rattle.session_tape.specs.Tapes.{counts, HasReason, CountsFault, GrowsInPart, GoesTo, told_by};
 
-use crate::tape::{Tape, Unmade};
-use gate_outside::Failed;
-use std::fs::{File, Files};
+use crate::tape::{MakeTape, Tape, Unmade};
+use crate::telling::Telling;
+use gate_outside::{Failed, Sink, StdSink, write_all};
+use std::fs::{Files, OpenOptions};
 use std::io;
-use std::io::{ErrorKind, Write};
+use std::io::ErrorKind;
+use std::os::unix::fs::OpenOptionsExt;
 
 /// A file of the system's, once it is made. It says on standard error why a call of it has failed.
 #[derive(Drop)]
 pub struct FileTape<'a, R: Files + Eprint> {
     system: &'a R,
-    file: Option<R::File>,
+    file: Option<StdSink<Telling<'a, R, R::File>>>,
     faults: u64,
     there: u64,
 }
@@ -37,17 +40,46 @@ impl<'a, R: Files + Eprint> FileTape<'a, R> {
 }
 
 impl<'a, R: Files + Eprint> Tape for FileTape<'a, R> {
-    ghost use Rattle.std.specs.Prelude.{None};
+    ghost use Rattle.std.specs.Prelude.{None, is_some};
     ghost use Rattle.session_tape.specs.Tapes.{counts};
+
+    ghost made = { λ tape. is_some tape.file };
 
     ghost contents = { λ tape. None };
 
     ghost counts = { λ tape. counts tape.faults tape.there };
 
+    fn is_made(&self) -> bool {
+        self.file.is_some()
+    }
+
+    /// All of the bytes go to the file, which is there.
+    fn put(&mut self, bytes: &[u8]) -> Result<(), Failed>
+        ensures made { is_some self.new.file ≡ is_some self.old.file }
+        ensures ok { OnOk result (None ≡ append_known None bytes.now) }
+        ensures err { OnErr result (GrowsInPart None None bytes.now) }
+        ensures cause { CountsFault result (counts self.old.faults self.old.there) (counts self.new.faults self.new.there) }
+        ensures goes { OnOk result (GoesTo (told_by R.File.contents) self.old.file self.new.file bytes.now) }
+    {
+        match put_all(&mut self.file, bytes) {
+            Ok(()) => Ok(()),
+            Err(failed) => {
+                self.faults = self.faults.saturating_add(1);
+                Err(failed)
+            }
+        }
+    }
+}
+
+impl<'a, R: Files + Eprint> MakeTape for FileTape<'a, R> {
     fn make(&mut self, name: &str) -> Result<(), Unmade> {
-        match File::create_new(self.system, name) {
+        match make_file(self.system, name) {
             Ok(file) => {
-                self.file = Some(file);
+                let told = Telling {
+                    system: self.system,
+                    writer: file,
+                };
+                self.file = Some(StdSink::new(told));
                 Ok(())
             }
             Err(error) => {
@@ -63,32 +95,29 @@ impl<'a, R: Files + Eprint> Tape for FileTape<'a, R> {
             }
         }
     }
-
-    fn is_made(&self) -> bool {
-        self.file.is_some()
-    }
-
-    fn write(&mut self, piece: &[u8]) -> Result<usize, Failed> {
-        match write_once(&mut self.file, piece) {
-            Ok(n) if n > 0 => return Ok(n),
-            Ok(_) => {}
-            Err(error) => {
-                let _ = self
-                    .system
-                    .eprintln(format_args!("usbgate: the recording: {error}"));
-            }
-        }
-        self.faults = self.faults.saturating_add(1);
-        Err(Failed)
-    }
 }
 
-/// Writes once to the file, if there is one.
-fn write_once<W: Write>(file: &mut Option<W>, piece: &[u8]) -> io::Result<usize>
-    ensures { WritesAtMost result piece.now }
+/// Makes a file that isn't there yet, which its owner alone may read and write.
+fn make_file<R: Files>(system: &R, name: &str) -> io::Result<R::File> {
+    let mut how = OpenOptions::new();
+    open_new(system, name, how.mode(0o600).write(true).create_new(true))
+}
+
+/// Opens the file, which must not be there.
+fn open_new<R: Files>(system: &R, name: &str, how: &OpenOptions) -> io::Result<R::File>
+    requires new { asks_create_new how.now ≡ true }
+    requires write { asks_write how.now ≡ true }
 {
-    match file {
-        Some(file) => file.write(piece),
-        None => Ok(0),
+    how.open(system, name)
+}
+
+/// Writes all of the bytes to what is there, or, where that fails, a front of them. Where nothing is there it fails, too.
+fn put_all<K: Sink>(there: &mut Option<K>, bytes: &[u8]) -> Result<(), Failed>
+    ensures made { is_some there.new ≡ is_some there.old }
+    ensures goes { OnOk result (GoesTo K.contents there.old there.new bytes.now) }
+{
+    match there {
+        Some(sink) => write_all(sink, bytes),
+        None => Err(Failed),
     }
 }

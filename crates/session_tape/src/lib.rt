@@ -5,10 +5,11 @@ mod file_tape;
 mod lines;
 mod no_tape;
 mod tape;
+mod telling;
 mod text_tape;
 
 pub use file_tape::FileTape;
 pub use lines::{first_comment, push_end, push_piece, push_refusal};
 pub use no_tape::NoTape;
-pub use tape::{Tape, Unmade, record};
+pub use tape::{MakeTape, Tape, Unmade, record};
 pub use text_tape::TextTape;

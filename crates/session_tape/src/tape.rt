@@ -1,9 +1,8 @@
 //! Where a tape is written.
 
-ghost use Rattle.std.specs.Prelude.{◌≡◌, ◌<◌, ℕ, List, [], length, false, Option, None, IfSome, IfOk, OnOk, OnErr};
-ghost use Rattle.std.specs.Io.{WritesAtMost};
+ghost use Rattle.std.specs.Prelude.{◌≡◌, Bool, ℕ, List, [], true, false, Option, None, IfSome, OnOk, OnErr};
 ghost use Rattle.std.specs.Io.KnownBytes.{append_known};
-ghost use Rattle.session_tape.specs.Tapes.{Counts, HasReason, CountsFault, Takes, GrowsInPart};
+ghost use Rattle.session_tape.specs.Tapes.{Counts, HasReason, CountsFault, GrowsInPart};
 
 use gate_outside::Failed;
 
@@ -16,55 +15,47 @@ pub enum Unmade {
     Failed,
 }
 
-/// A file that is made by its name, and then written. Until then nothing is written.
+/// What lines are written to, once it is made.
 pub trait Tape {
-    /// The bytes of the file, where it is made and tells them.
+    /// It is made.
+    ghost made: { Self → Bool };
+
+    /// Its bytes, where it is made and tells them.
     ghost contents: { Self → Option (List ℕ) };
 
     /// How often it has failed, and how often there was such a file before. Both stand still at `u64::MAX`.
     ghost counts: { Self → Counts };
 
-    /// Makes the file of this name, which must not be there.
-    fn make(&mut self, name: &str) -> Result<(), Unmade>
-        ensures empty { OnOk result (IfSome (contents self.new) (λ held. held ≡ [])) }
-        ensures cause { HasReason result (counts self.old) (counts self.new) };
-
-    /// Whether there is a file to write to.
+    /// Whether it is made. What isn't has no bytes.
     fn is_made(&self) -> bool
-        ensures { result ≡ false → contents self.now ≡ None };
+        ensures made { result ≡ made self.now }
+        ensures none { result ≡ false → contents self.now ≡ None };
 
-    /// Writes a front of `piece`, at least one byte of it, and returns how many. A call that fails writes none.
-    fn write(&mut self, piece: &[u8]) -> Result<usize, Failed>
-        requires { 0 < length piece.now }
-        ensures bound { WritesAtMost result piece.now }
-        ensures some { IfOk result (λ n. 0 < n) }
-        ensures bytes { Takes result piece.now (contents self.old) (contents self.new) }
+    /// Writes all of the bytes, or, where that fails, a front of them. Where it isn't made, `record` isn't called.
+    fn put(&mut self, bytes: &[u8]) -> Result<(), Failed>
+        ensures made { made self.new ≡ made self.old }
+        ensures ok { OnOk result (contents self.new ≡ append_known (contents self.old) bytes.now) }
+        ensures err { OnErr result (GrowsInPart (contents self.old) (contents self.new) bytes.now) }
         ensures cause { CountsFault result (counts self.old) (counts self.new) };
 }
 
-/// Writes all of the bytes, where there is a file, or, where that fails, a front of them.
-pub fn record<T: Tape>(tape: &mut T, bytes: &[u8]) -> Result<(), Failed>
-    ensures ok { OnOk result (T.contents tape.new ≡ append_known (T.contents tape.old) bytes.now) }
-    ensures err { OnErr result (GrowsInPart (T.contents tape.old) (T.contents tape.new) bytes.now) }
-    ensures cause { CountsFault result (T.counts tape.old) (T.counts tape.new) }
-{
-    if tape.is_made() {
-        return write_all(tape, bytes);
-    }
-    Ok(())
+/// A tape that is made by a file's name.
+pub trait MakeTape: Tape {
+    /// Makes the file of this name, which must not be there. Where that fails, what was made before stays so.
+    fn make(&mut self, name: &str) -> Result<(), Unmade>
+        ensures made { OnOk result (Self.made self.new ≡ true) }
+        ensures empty { OnOk result (IfSome (Self.contents self.new) (λ held. held ≡ [])) }
+        ensures kept { OnErr result ((Self.made self.new ≡ Self.made self.old) × (Self.contents self.new ≡ Self.contents self.old)) }
+        ensures cause { HasReason result (Self.counts self.old) (Self.counts self.new) };
 }
 
-fn write_all<T: Tape>(tape: &mut T, bytes: &[u8]) -> Result<(), Failed>
+/// Writes all of the bytes to a tape that is made, or, where that fails, a front of them.
+pub fn record<T: Tape>(tape: &mut T, bytes: &[u8]) -> Result<(), Failed>
+    requires { T.made tape.old ≡ true }
+    ensures made { T.made tape.new ≡ true }
     ensures ok { OnOk result (T.contents tape.new ≡ append_known (T.contents tape.old) bytes.now) }
     ensures err { OnErr result (GrowsInPart (T.contents tape.old) (T.contents tape.new) bytes.now) }
     ensures cause { CountsFault result (T.counts tape.old) (T.counts tape.new) }
 {
-    let mut done = 0;
-    'pieces: while done < bytes.len() {
-        match tape.write(&bytes[done..]) {
-            Ok(n) => done += n,
-            Err(failed) => return Err(failed),
-        }
-    }
-    Ok(())
+    tape.put(bytes)
 }

@@ -1,12 +1,12 @@
 //! A tape in memory.
 
-ghost use Rattle.std.specs.Prelude.{◌≡◌, ◌<◌, [], ℕ, List, length, true, false, Option, Some, None, IfSome, IfOk, OnOk};
-ghost use Rattle.std.specs.Io.{WritesAtMost};
-ghost use Rattle.session_tape.specs.Tapes.{HasReason, CountsFault, Takes};
+ghost use Rattle.std.specs.Prelude.{◌≡◌, [], ℕ, List, true, false, Option, Some, None, IfSome, IfOk, OnOk, OnErr};
+ghost use Rattle.std.specs.Io.KnownBytes.{append_known};
+ghost use Rattle.session_tape.specs.Tapes.{HasReason, CountsFault, GrowsInPart};
 ghost use Rattle.session_tape.specs.Text.{told};
 
-use crate::tape::{Tape, Unmade};
-use gate_outside::{Failed, Sink, TextSink};
+use crate::tape::{MakeTape, Tape, Unmade};
+use gate_outside::{Failed, TextSink, write_all};
 use std::alloc::Global;
 use std::marker::Model;
 use usb_base::Memory;
@@ -33,8 +33,8 @@ impl Model for TextTape {
 }
 
 impl TextTape {
-    /// A tape that isn't made, with room for `room` bytes. Calls of `write` are counted from 0, and exactly those
-    /// fail whose number is in `fails`, and those that find no room.
+    /// A tape that isn't made, with room for `room` bytes. Each piece is a write, which are counted from 0, and exactly
+    /// those fail whose number is in `fails`, and those that find no room.
     pub fn new(
         alloc: Global,
         room: usize,
@@ -65,10 +65,28 @@ impl Tape for TextTape {
     ghost use Rattle.session_tape.specs.Text.{told};
     ghost use Rattle.session_tape.specs.Tapes.{counts};
 
+    ghost made = { λ tape. tape.is_made };
+
     ghost contents = { λ tape. told tape };
 
     ghost counts = { λ tape. counts tape.faults tape.there };
 
+    fn is_made(&self) -> bool {
+        self.is_made
+    }
+
+    fn put(&mut self, bytes: &[u8]) -> Result<(), Failed> {
+        if self.is_made {
+            if let Ok(()) = write_all(&mut self.sink, bytes) {
+                return Ok(());
+            }
+        }
+        self.faults = self.faults.saturating_add(1);
+        Err(Failed)
+    }
+}
+
+impl MakeTape for TextTape {
     fn make(&mut self, _name: &str) -> Result<(), Unmade> {
         if self.is_made {
             self.there = self.there.saturating_add(1);
@@ -88,22 +106,5 @@ impl Tape for TextTape {
                 Err(Unmade::Failed)
             }
         }
-    }
-
-    fn is_made(&self) -> bool
-        ensures none { result ≡ false → told self.now ≡ None }
-        ensures made { result ≡ self.now.is_made }
-    {
-        self.is_made
-    }
-
-    fn write(&mut self, piece: &[u8]) -> Result<usize, Failed> {
-        if self.is_made {
-            if let Ok(n) = self.sink.write(piece) {
-                return Ok(n);
-            }
-        }
-        self.faults = self.faults.saturating_add(1);
-        Err(Failed)
     }
 }

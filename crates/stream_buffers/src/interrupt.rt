@@ -12,7 +12,7 @@ use std::collections::VecDeque;
 use usb_base::{Bytes, Memory, Outcome, StreamPacket, UsbStatus};
 
 /// What an interrupt request is given of the packets behind a place; its bytes stay with them.
-#[derive(Clone, Copy, PartialEq, Eq)]
+#[derive(Clone, Copy)]
 pub struct Filling {
     /// How many packets fill it, at least one.
     pub count: usize,

@@ -8,7 +8,7 @@ use usb_base::{EpAddr, EpKind};
 use usbip_urb::Descs;
 
 /// What a request waits for.
-#[derive(Clone, Copy, PartialEq, Eq)]
+#[derive(Clone, Copy)]
 pub enum LiveKind {
     /// The host's answer with its id: it went as a packet with the transfer, of the kind that the endpoint had then.
     Wire { ep: EpAddr, kind: EpKind },
@@ -19,7 +19,7 @@ pub enum LiveKind {
 }
 
 /// What ends streams, and with them the requests that wait for their packets.
-#[derive(Clone, Copy, PartialEq, Eq)]
+#[derive(Clone, Copy)]
 pub enum StreamEnd {
     /// Their client goes, and all streams with it.
     ClientGone,

@@ -18,7 +18,7 @@ use std::marker::Model;
 use usb_base::{EpAddr, Memory};
 
 /// Why a submit isn't accepted.
-#[derive(Clone, Copy, Debug, PartialEq, Eq)]
+#[derive(Clone, Copy, Debug)]
 pub enum NotAccepted {
     /// 4,096 requests are live.
     Full,

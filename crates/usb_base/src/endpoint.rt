@@ -7,7 +7,7 @@ use std::marker::Model;
 
 /// The address of an endpoint: the number in bits 0 to 3, and in bit 7 whether it is an IN endpoint, from
 /// the device to the host. Contracts see it as its byte.
-#[derive(Clone, Copy, PartialEq, Eq)]
+#[derive(Clone, Copy)]
 pub struct EpAddr {
     byte: u8,
 }
@@ -105,7 +105,7 @@ pub struct EpRow {
 }
 
 /// A device's endpoints by their index: places 0 to 15 are those to the device, 16 to 31 those from it.
-#[derive(Clone, Copy, PartialEq, Eq)]
+#[derive(Clone, Copy)]
 pub struct EpTable {
     pub rows: [EpRow; 32],
 }

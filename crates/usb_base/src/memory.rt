@@ -7,7 +7,7 @@ use std::error::Error;
 use std::fmt;
 
 /// No memory was left. What the call was lent is as before, unless its own text says otherwise.
-#[derive(Clone, Copy, Debug, PartialEq, Eq)]
+#[derive(Clone, Copy, Debug)]
 pub struct Memory;
 
 impl fmt::Display for Memory {

@@ -10,7 +10,7 @@ use std::alloc::Global;
 
 /// A side is refused: nothing of it is read from `place` on, which counts bytes from the first of that
 /// side's stream and stands still at `u64::MAX`. Some reasons keep two values.
-#[derive(Clone, Copy, PartialEq, Eq)]
+#[derive(Clone, Copy)]
 pub struct Refusal {
     pub side: Side,
     pub place: u64,

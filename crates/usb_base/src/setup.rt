@@ -6,7 +6,7 @@ ghost use Rattle.usb_base.specs.Setup.{setup_at, setup_bytes, ReadsSpelled, Spel
 use byteorder::{ByteOrder, LittleEndian};
 
 /// The eight bytes that begin a control transfer, as fields. Numbers are little-endian on the wire.
-#[derive(Clone, Copy, PartialEq, Eq)]
+#[derive(Clone, Copy)]
 pub struct Setup {
     /// bmRequestType: bit 7 is the direction, bits 5 and 6 the type, bits 0 to 4 the recipient.
     pub kind: u8,

@@ -4,7 +4,7 @@ ghost use Rattle.std.specs.Prelude.{◌≡◌};
 ghost use Rattle.usb_base.specs.Speed.{speed_of, redir_speed, usbip_speed};
 
 /// How fast a device is.
-#[derive(Clone, Copy, PartialEq, Eq)]
+#[derive(Clone, Copy)]
 pub enum Speed {
     Unknown,
     Low,

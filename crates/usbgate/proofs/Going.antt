@@ -79,7 +79,7 @@ refused-bad n e = cc
 
 -- the tape has come to its end, or the status is that of a bad line
 ends_by : (status : Status) (p : Prescribed) (tape text : List ℕ) (remaining contents : Option (List ℕ)) → is_quiet status ≡ true → WrittenWhole status p tape text contents
-    → ((number : ℕ) × (status ≡ BadTape number)) ⊎ (remaining ≡ Some []) → LeavesTold status p tape text remaining contents
+    → ((number : ℕ) × (status ≡ BadTape number)) ⊎ (remaining ≡ Some (p.rest tape)) → LeavesTold status p tape text remaining contents
 ends_by Done p tape text remaining contents e written (inl b) = done-bad b.0 b.1
 ends_by Done p tape text remaining contents e written (inr none) = (none, written)
 ends_by Refused p tape text remaining contents e written (inl b) = refused-bad b.0 b.1

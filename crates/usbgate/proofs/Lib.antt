@@ -3,6 +3,8 @@ pub mod Stages
 pub mod Going
 pub mod Events
 pub mod Modelled
+pub mod Loaded
+pub mod Doing
 pub mod Showing
 pub mod Served
 pub mod Intervals

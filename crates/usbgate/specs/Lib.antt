@@ -9,6 +9,7 @@ pub mod EventCommand
 pub mod Replay
 pub mod Model
 pub mod Show
+pub mod Made
 pub mod Prescribed
 pub mod Run
 pub mod Recording

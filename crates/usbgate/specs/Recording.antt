@@ -1,11 +1,18 @@
--- Why a recording wasn't begun, and what serving counts.
-use Rattle.std.specs.Prelude.{◌≡◌, ◌≢◌}
+-- Which commands record, why a recording wasn't begun, and what serving counts.
+use Rattle.std.specs.Prelude.{◌≡◌, ◌≢◌, Bool, false, is_some}
 use Rattle.usb_base.specs.declared.side.Side.TheVariants.{Client, Host}
 use Rattle.gate_outside.specs.Faults.{Rose}
 use Rattle.session_tape.specs.Tapes.{Counts, OneFault, WasThere}
 use Rattle.bridge_run.specs.Outside.{Outside, Faults, OneRose}
+use Rattle.usbgate.specs.declared.words.Command.{Command}
+use Rattle.usbgate.specs.declared.words.Command.TheVariants.{Serve}
 use Rattle.usbgate.specs.declared.status.Status.{Status}
 use Rattle.usbgate.specs.declared.status.Status.TheVariants.{Done, Usage, Refused, ReadFault, WriteFault, LinkFault, OutOfMemory, BadTape, Idle, Spent}
+
+-- a file to record in is asked for
+abbrev pub records : Command → Bool
+records (Serve asked) = is_some asked.recording
+records _ = false
 
 -- there was a file of that name, it can't be made or written, or memory ran out
 abbrev pub IsUnmade : Status → Counts → Counts → Type 0

@@ -46,9 +46,9 @@ pub record WrittenWhole (status : Status) (p : Prescribed) (tape text : List ℕ
 
 -- what of this tape remains, and what the sink then has that had this text
 abbrev pub LeavesTold : Status → Prescribed → List ℕ → List ℕ → Option (List ℕ) → Option (List ℕ) → Type 0
-LeavesTold Done p tape text remaining contents = (remaining ≡ Some []) × WrittenWhole Done p tape text contents
-LeavesTold Refused p tape text remaining contents = (remaining ≡ Some []) × WrittenWhole Refused p tape text contents
-LeavesTold Usage p tape text remaining contents = (remaining ≡ Some tape) × WrittenWhole Usage p tape text contents
+LeavesTold Done p tape text remaining contents = (remaining ≡ Some (p.rest tape)) × WrittenWhole Done p tape text contents
+LeavesTold Refused p tape text remaining contents = (remaining ≡ Some (p.rest tape)) × WrittenWhole Refused p tape text contents
+LeavesTold Usage p tape text remaining contents = (remaining ≡ Some (p.rest tape)) × WrittenWhole Usage p tape text contents
 LeavesTold (BadTape n) p tape text remaining contents = WrittenWhole (BadTape n) p tape text contents
 LeavesTold ReadFault p tape text remaining contents = ReadInPart p tape text remaining contents
 LeavesTold WriteFault p tape text remaining contents = WrittenInPart p tape text contents
@@ -78,3 +78,7 @@ OpensNoLink Spent = ⊥
 -- how a run can end whose words are no command
 abbrev pub IsOfNoCommand : Status → Type 0
 IsOfNoCommand status = (status ≡ Usage) ⊎ (status ≡ WriteFault) ⊎ (status ≡ OutOfMemory)
+
+-- how a run of `make` or `load` can end
+abbrev pub IsOfNoTape : Status → Type 0
+IsOfNoTape status = (status ≡ Done) ⊎ (status ≡ WriteFault) ⊎ (status ≡ OutOfMemory)

@@ -1,5 +1,5 @@
 -- What the words ask for.
-use Rattle.std.specs.Prelude.{ℕ, ◌≤◌, ◌<◌, ◌^◌, not, Bool, true, if◌then◌else◌, List, [], ◌∷◌, map, codes, find, Option, Some, None, is_some, option_map, option_and_then}
+use Rattle.std.specs.Prelude.{ℕ, nat_le, ◌≤◌, ◌<◌, ◌^◌, not, Bool, true, if◌then◌else◌, List, [], ◌∷◌, map, codes, find, Option, Some, None, is_some, option_map, option_and_then}
 use Rattle.std.specs.Borrow.{Bor}
 use Rattle.std.specs.List.{list_all}
 use Rattle.std.specs.Str.{bytes_eq}
@@ -8,7 +8,7 @@ use Rattle.packet_show.specs.Number.{number_of}
 use Rattle.usb_base.specs.declared.side.Side.{Side}
 use Rattle.usb_base.specs.declared.side.Side.TheVariants.{Client, Host}
 use Rattle.usbgate.specs.declared.words.Command.{Command}
-use Rattle.usbgate.specs.declared.words.Command.TheVariants.{Replay, Model, Show, Serve, Host as HostLent, Unknown}
+use Rattle.usbgate.specs.declared.words.Command.TheVariants.{Replay, Model, Show, Serve, Host as HostLent, Make, Load, Unknown}
 use Rattle.usbgate.specs.declared.command_table.Need.{Need}
 use Rattle.usbgate.specs.declared.command_table.Need.TheVariants.{Must, May, MustNot}
 use Rattle.usbgate.specs.declared.command_table.Verb.{Verb}
@@ -58,6 +58,8 @@ name_of verb.Model = codes "model"
 name_of verb.Show = codes "show"
 name_of verb.Serve = codes "serve"
 name_of verb.Host = codes "host"
+name_of verb.Make = codes "make"
+name_of verb.Load = codes "load"
 
 abbrev pub row_named : Text → Option Row
 row_named name = find (λ row. bytes_eq (name_of row.verb) name) ROWS
@@ -94,12 +96,22 @@ abbrev pub lending_of : Option Device → (listen : Option Text) → (idle : Opt
 lending_of (Some device) (Some listen) (Some idle) = Some (record { device = device; listen = listen; idle = idle })
 lending_of _ _ _ = None
 
+-- how many rounds a made tape has, 1,000 at most
+abbrev pub few_of : Option ℕ → Option ℕ
+few_of None = None
+few_of (Some n) = if nat_le n 1000 then Some n else None
+
+abbrev pub count_of : Option Text → Option ℕ
+count_of text = few_of (option_and_then number_of text)
+
 abbrev pub asked_by : Verb → (Text → Option Text) → Option Command
 asked_by verb.Replay given = option_map Replay (first_id_of (given (codes "first-id")))
 asked_by verb.Model given = option_map Model (option_and_then device_of (given (codes "device")))
 asked_by verb.Show given = option_map Show (option_and_then side_of (given (codes "side")))
 asked_by verb.Serve given = option_map Serve (serving_of (given (codes "host")) (given (codes "listen")) (option_and_then number_of (given (codes "idle"))) (first_id_of (given (codes "first-id"))) (after_loss_of (given (codes "after-loss"))) (given (codes "record")))
 asked_by verb.Host given = option_map HostLent (lending_of (option_and_then device_of (given (codes "device"))) (given (codes "listen")) (option_and_then number_of (given (codes "idle"))))
+asked_by verb.Make given = option_map Make (count_of (given (codes "number")))
+asked_by verb.Load given = option_map Load (count_of (given (codes "number")))
 
 abbrev pub by_row : Option Row → (Text → Option Text) → Option Command
 by_row None given = None
@@ -119,11 +131,13 @@ command_by (Some rows) = or_unknown (command_in (given_by rows))
 abbrev pub command_of : List Text → Command
 command_of words = command_by (found words)
 
--- its numbers are from 1 to 4294967295
+-- its numbers are from 1 to 4294967295, and those of made tapes at most 1,000
 abbrev pub HasNumbers : Command → Type 0
 HasNumbers (Replay first) = (1 ≤ first) × (first < 2 ^ 32)
 HasNumbers (Model device) = Unit {0}
 HasNumbers (Show side) = Unit {0}
 HasNumbers (Serve asked) = (1 ≤ asked.idle) × ((1 ≤ asked.first_id) × (asked.first_id < 2 ^ 32))
 HasNumbers (HostLent asked) = 1 ≤ asked.idle
+HasNumbers (Make count) = count ≤ 1000
+HasNumbers (Load count) = count ≤ 1000
 HasNumbers Unknown = Unit {0}

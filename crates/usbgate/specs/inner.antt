@@ -3,6 +3,7 @@ pub mod Given
 pub mod EventTape
 pub mod Replay
 pub mod Model
+pub mod Loaded
 pub mod Part
 pub mod Shown
 pub mod Show

@@ -22,6 +22,8 @@ pub enum Verb {
     Show,
     Serve,
     Host,
+    Make,
+    Load,
 }
 
 /// A command, and which words stand with it.
@@ -40,7 +42,7 @@ pub struct Row {
 }
 
 /// The commands that are built.
-pub const ROWS: [Row; 5] = [
+pub const ROWS: [Row; 7] = [
     Row {
         verb: Verb::Replay,
         number: Need::MustNot,
@@ -101,6 +103,30 @@ pub const ROWS: [Row; 5] = [
         after_loss: Need::MustNot,
         recording: Need::MustNot,
     },
+    Row {
+        verb: Verb::Make,
+        number: Need::Must,
+        device: Need::MustNot,
+        side: Need::MustNot,
+        host: Need::MustNot,
+        listen: Need::MustNot,
+        idle: Need::MustNot,
+        first_id: Need::MustNot,
+        after_loss: Need::MustNot,
+        recording: Need::MustNot,
+    },
+    Row {
+        verb: Verb::Load,
+        number: Need::Must,
+        device: Need::MustNot,
+        side: Need::MustNot,
+        host: Need::MustNot,
+        listen: Need::MustNot,
+        idle: Need::MustNot,
+        first_id: Need::MustNot,
+        after_loss: Need::MustNot,
+        recording: Need::MustNot,
+    },
 ];
 
 impl Need {
@@ -127,6 +153,8 @@ impl Verb {
             Verb::Show => "show",
             Verb::Serve => "serve",
             Verb::Host => "host",
+            Verb::Make => "make",
+            Verb::Load => "load",
         }
     }
 }

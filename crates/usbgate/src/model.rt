@@ -33,11 +33,13 @@ impl<G: Gadget> ModelRun<G> {
         ensures text { OnOk result (text.new ≡ text.old ++ told_text (told_first G.meaning gadget)) }
     {
         let (system, told) = System::make(alloc, gadget)?;
-        push_told(alloc, &told, text)?;
-        Ok(ModelRun {
-            system,
-            refused: false,
-        })
+        match push_first(alloc, told, text) {
+            Ok(()) => Ok(ModelRun {
+                system,
+                refused: false,
+            }),
+            Err(memory) => Err(memory),
+        }
     }
 
     /// Appends what the step tells that was just done.
@@ -52,8 +54,15 @@ impl<G: Gadget> ModelRun<G> {
     }
 }
 
+/// Appends what is told first, which is told once.
+fn push_first(alloc: Global, told: Told, text: &mut Bytes) -> Result<(), Memory>
+    ensures { OnOk result (text.new ≡ text.old ++ told_text told) }
+{
+    push_told(alloc, &told, text)
+}
+
 /// Does the step that a line says, if there is one.
-fn do_line<G: Gadget>(system: &mut System<G>, line: &TapeLine) -> Result<Option<Told>, Memory>
+pub fn do_line<G: Gadget>(system: &mut System<G>, line: &TapeLine) -> Result<Option<Told>, Memory>
     ensures takes { IfOk result (λ told. (first : G) (past : List PastStep) → Stands G.meaning first system.old past → TakesSaid G.meaning first system.new past (step_said line.now) told) }
     ensures told { IfOk result (λ told. IsSome told → IsSome (step_said line.now)) }
     ensures err { OnErr result (IsSome (step_said line.now)) }

@@ -1,12 +1,12 @@
 //! A run of the program, over a tape, a sink and doors.
 
-ghost use Rattle.std.specs.Prelude.{◌≡◌, ◌≢◌, ◌⊎◌, ◌<◌, ◌≤◌, List, [], ℕ, length, false, Option, Some};
+ghost use Rattle.std.specs.Prelude.{◌≡◌, ◌≢◌, ◌⊎◌, ◌<◌, ◌≤◌, List, [], ℕ, length, true, false, Option, Some};
 ghost use Rattle.gate_outside.specs.Faults.{Rose};
 ghost use Rattle.usb_base.specs.declared.side.Side.{Side as ASide};
 ghost use Rattle.usb_base.specs.declared.side.Side.TheVariants.{Client, Host};
 ghost use Rattle.session_tape.specs.Tapes.{WasThere};
 ghost use Rattle.bridge_run.specs.Outside.{outside, written, faults, OneRose};
-ghost use Rattle.usbgate.specs.Run.{Leaves, OpensNoLink, IsOfNoCommand};
+ghost use Rattle.usbgate.specs.Run.{Leaves, OpensNoLink, IsOfNoCommand, IsOfNoTape};
 ghost use Rattle.usbgate.specs.Prescribed.{Prescribed, prescribed, usage as usage_prescribed, over_tape as tape_prescribed};
 ghost use Rattle.usbgate.specs.TapeCommand.{TapeCommand as Told};
 ghost use Rattle.usbgate.specs.EventCommand.{over_events};
@@ -16,6 +16,7 @@ ghost use Rattle.usbgate.specs.Show.{show as showing, show_side};
 ghost use Rattle.usbgate.specs.Serving.{Asked};
 ghost use Rattle.usbgate.specs.Lending.{AskedLent};
 ghost use Rattle.usbgate.specs.Serves.{Serves, Lends};
+ghost use Rattle.usbgate.specs.Recording.{records};
 ghost use Rattle.usbgate.specs.inner.Show.{shown_by};
 ghost use Rattle.usbgate.specs.Words.{texts, command_of};
 ghost use Rattle.usbgate.specs.inner.Causes.{HasCauses};
@@ -24,6 +25,8 @@ ghost use Rattle.usbgate.specs.inner.TapeReader.{Stage};
 use crate::event_tape::EventTape;
 use crate::host::host;
 use crate::lending::{BLOCKS, Device};
+use crate::load::load;
+use crate::make::make;
 use crate::model::ModelRun;
 use crate::replay::Replay;
 use crate::serve::serve;
@@ -38,7 +41,7 @@ use disk_gadget::Disk;
 use gate_outside::{Doors, Sink, Source, write_all};
 use model_device::{Gadget, Keyboard, Loopback, Tone};
 use redir_data::FromHost;
-use session_tape::Tape;
+use session_tape::MakeTape;
 use std::alloc::Global;
 use usb_base::{Bytes, Side};
 use usbip_urb::ClientFormat;
@@ -46,11 +49,13 @@ use usbip_urb::ClientFormat;
 /// How many bytes of a tape are read at a time.
 const CHUNK: usize = 65_536;
 
-/// Does what the words say: `replay` puts the tape to a gate, and prints what that sends and which sides it
-/// refuses; `model` does the steps of the tape with a gateway and a modelled device, and prints what each tells; `show` prints the packets of one side's stream in it; `serve` puts what comes by the doors to a gate, and
-/// prints which sides it refuses; `host` lends a modelled device to a guest that comes by the doors. Words that are no
-/// command print how they should be.
-pub fn run<S: Source, K: Sink, D: Doors, T: Tape>(
+/// Does what the words say: `replay` puts the tape to a gate, and prints what that sends and which sides it refuses;
+/// `model` does the steps of the tape with a gateway and a modelled device, and prints what each tells; `show` prints the
+/// packets of one side's stream in it; `serve` puts what comes by the doors to a gate, prints which sides it refuses, and
+/// records what comes, where that is asked; `host` lends a modelled device to a guest that comes by the doors; `make`
+/// prints the tape that a number stands for, and `load` what a modelled loop counts over it. Words that are no command
+/// print how they should be.
+pub fn run<S: Source, K: Sink, D: Doors, T: MakeTape>(
     alloc: Global,
     words: &[&str],
     tape: &mut S,
@@ -68,13 +73,16 @@ pub fn run<S: Source, K: Sink, D: Doors, T: Tape>(
     ensures lends { (asked : AskedLent) → command_of (texts words.now) ≡ Command.Host asked
         → Lends result asked (outside (D.link doors.old) (D.door doors.old)) (outside (D.link doors.new) (D.door doors.new))
         (K.faults out.old) (K.faults out.new) (K.contents out.old) (K.contents out.new) }
-    ensures usage { result ≡ Status.Usage → (command_of (texts words.now) ≡ Command.Unknown) ⊎ WasThere (T.counts recording.old) (T.counts recording.new) }
+    ensures usage { result ≡ Status.Usage → (command_of (texts words.now) ≡ Command.Unknown) ⊎ ((records (command_of (texts words.now)) ≡ true) × WasThere (T.counts recording.old) (T.counts recording.new)) }
     ensures no_command { command_of (texts words.now) ≡ Command.Unknown → IsOfNoCommand result }
+    ensures made { (count : ℕ) → command_of (texts words.now) ≡ Command.Make count → IsOfNoTape result × (tape.new ≡ tape.old) }
+    ensures loaded { (count : ℕ) → command_of (texts words.now) ≡ Command.Load count → IsOfNoTape result × (tape.new ≡ tape.old) }
     ensures untouched { command_of (texts words.now) ≡ Command.Unknown → tape.new ≡ tape.old }
     ensures unread { (asked : Asked) → command_of (texts words.now) ≡ Command.Serve asked → tape.new ≡ tape.old }
     ensures unread_lent { (asked : AskedLent) → command_of (texts words.now) ≡ Command.Host asked → tape.new ≡ tape.old }
     ensures read_fault { result ≡ Status.ReadFault → Rose (S.faults tape.old) (S.faults tape.new) }
     ensures write_fault { result ≡ Status.WriteFault → OneRose (faults (K.faults out.old) (T.counts recording.old)) (faults (K.faults out.new) (T.counts recording.new)) }
+    ensures sink_fault { records (command_of (texts words.now)) ≡ false → result ≡ Status.WriteFault → Rose (K.faults out.old) (K.faults out.new) }
     ensures reads_stand { result ≢ Status.ReadFault → S.faults tape.new ≡ S.faults tape.old }
     ensures writes_stand { result ≢ Status.WriteFault → K.faults out.new ≡ K.faults out.old }
     ensures recording_stands { result ≢ Status.WriteFault → result ≢ Status.Usage → T.counts recording.new ≡ T.counts recording.old }
@@ -82,8 +90,7 @@ pub fn run<S: Source, K: Sink, D: Doors, T: Tape>(
     ensures links_stand { (side : ASide) → result ≢ Status.LinkFault side → (D.link doors.new side).faults ≡ (D.link doors.old side).faults }
     ensures no_links { (p : Prescribed) → prescribed (command_of (texts words.now)) ≡ Some p → OpensNoLink result }
     ensures doors { (p : Prescribed) → prescribed (command_of (texts words.now)) ≡ Some p → doors.new ≡ doors.old }
-    ensures unrecorded { (p : Prescribed) → prescribed (command_of (texts words.now)) ≡ Some p → recording.new ≡ recording.old }
-    ensures unrecorded_lent { (asked : AskedLent) → command_of (texts words.now) ≡ Command.Host asked → recording.new ≡ recording.old }
+    ensures unrecorded { records (command_of (texts words.now)) ≡ false → recording.new ≡ recording.old }
 {
     let Ok(command) = Command::read(alloc, words) else {
         return Status::OutOfMemory;
@@ -94,6 +101,8 @@ pub fn run<S: Source, K: Sink, D: Doors, T: Tape>(
         Command::Show { side } => show(alloc, side, tape, out),
         Command::Serve(serving) => serve(alloc, &serving, doors, out, recording),
         Command::Host(lending) => host(alloc, &lending, doors, out),
+        Command::Make { count } => make(alloc, count, out),
+        Command::Load { count } => load(alloc, count, out),
         Command::Unknown => print_usage(out),
     }
 }

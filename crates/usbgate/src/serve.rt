@@ -1,8 +1,8 @@
 //! The command `serve`: the gateway between sockets.
 
-ghost use Rattle.std.specs.Prelude.{◌≡◌, ◌≤◌, ◌<◌, ◌^◌, false, IfSome, OnOk, IfErr};
+ghost use Rattle.std.specs.Prelude.{◌≡◌, ◌≤◌, ◌<◌, ◌^◌, true, false, is_some, IfSome, OnOk, IfErr};
 ghost use Rattle.usb_base.specs.declared.side.Side.TheVariants.{Client, Host};
-ghost use Rattle.std.specs.Io.KnownBytes.{append_known};
+ghost use Rattle.gate_outside.specs.Faults.{Rose};
 ghost use Rattle.session_tape.specs.Lines.{first_comment};
 ghost use Rattle.bridge_run.specs.Course.{Making};
 ghost use Rattle.bridge_run.specs.Outside.{outside, written, faults};
@@ -12,7 +12,7 @@ ghost use Rattle.usbgate.specs.Serves.{Serves, EndsOf, setting_of};
 use crate::serving::Serving;
 use crate::status::Status;
 use gate_outside::{Doors, Sink};
-use session_tape::{NoTape, Tape, Unmade, first_comment, record};
+use session_tape::{MakeTape, NoTape, Tape, Unmade, first_comment, record};
 use std::alloc::Global;
 
 /// How many bytes and clients may come.
@@ -20,7 +20,7 @@ pub const BUDGET: u64 = 4_611_686_018_427_387_904;
 
 /// Serves the device of a host to clients, one after another, and writes a line for each refusal. Where that is asked a
 /// file is made first, and what comes is recorded in it.
-pub fn serve<D: Doors, K: Sink, T: Tape>(
+pub fn serve<D: Doors, K: Sink, T: MakeTape>(
     alloc: Global,
     serving: &Serving<'_>,
     doors: &mut D,
@@ -35,6 +35,9 @@ pub fn serve<D: Doors, K: Sink, T: Tape>(
         (faults (K.faults out.old) (T.counts recording.old)) (faults (K.faults out.new) (T.counts recording.new)) (written (K.contents out.old) (T.contents recording.old)) (written (K.contents out.new) (T.contents recording.new)) }
     ensures causes { HasServed result (outside (D.link doors.old) (D.door doors.old)) (outside (D.link doors.new) (D.door doors.new))
         (faults (K.faults out.old) (T.counts recording.old)) (faults (K.faults out.new) (T.counts recording.new)) }
+    ensures asked { result ≡ Status.Usage → is_some serving.now.recording ≡ true }
+    ensures sink_fault { is_some serving.now.recording ≡ false → result ≡ Status.WriteFault → Rose (K.faults out.old) (K.faults out.new) }
+    ensures unasked { is_some serving.now.recording ≡ false → recording.new ≡ recording.old }
 {
     let Some(name) = serving.recording else {
         return between(alloc, serving, doors, out, &mut NoTape);
@@ -45,28 +48,25 @@ pub fn serve<D: Doors, K: Sink, T: Tape>(
     }
 }
 
-/// Makes the file, and writes its first line.
-fn begin<T: Tape>(alloc: Global, name: &str, first_id: u32, recording: &mut T) -> Result<(), Status>
+/// Makes the file, and writes its first line, which has the first id and is spelled before.
+fn begin<T: MakeTape>(
+    alloc: Global,
+    name: &str,
+    first_id: u32,
+    recording: &mut T,
+) -> Result<(), Status>
     ensures first_line { OnOk result (IfSome (T.contents recording.new) (λ held. held ≡ first_comment first_id)) }
-    ensures stands { OnOk result (T.counts recording.new ≡ T.counts recording.old) }
-    ensures cause { IfErr result (λ status. IsUnmade status (T.counts recording.old) (T.counts recording.new)) }
-{
-    match recording.make(name) {
-        Ok(()) => write_first(alloc, first_id, recording),
-        Err(Unmade::There) => Err(Status::Usage),
-        Err(Unmade::Failed) => Err(Status::WriteFault),
-    }
-}
-
-/// Writes the first line, which has the first id.
-fn write_first<T: Tape>(alloc: Global, first_id: u32, recording: &mut T) -> Result<(), Status>
-    ensures line { OnOk result (T.contents recording.new ≡ append_known (T.contents recording.old) (first_comment first_id)) }
     ensures stands { OnOk result (T.counts recording.new ≡ T.counts recording.old) }
     ensures cause { IfErr result (λ status. IsUnmade status (T.counts recording.old) (T.counts recording.new)) }
 {
     let Ok(comment) = first_comment(alloc, u64::from(first_id)) else {
         return Err(Status::OutOfMemory);
     };
+    match recording.make(name) {
+        Ok(()) => {}
+        Err(Unmade::There) => return Err(Status::Usage),
+        Err(Unmade::Failed) => return Err(Status::WriteFault),
+    }
     match record(recording, comment.as_bytes()) {
         Ok(()) => Ok(()),
         Err(_) => Err(Status::WriteFault),

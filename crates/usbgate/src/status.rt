@@ -11,13 +11,13 @@ use usb_base::Side;
 pub enum Status {
     /// The tape was read to its end, or the links have ended, and no side was refused.
     Done,
-    /// The words are no command.
+    /// The words are no command, or the file to record in was there before.
     Usage,
     /// The tape was read to its end, or the links have ended, and a side was refused.
     Refused,
     /// The tape could not be read on.
     ReadFault,
-    /// The output could not be written on.
+    /// The output could not be written on, or the recording not made or written on.
     WriteFault,
     /// A side's link failed.
     LinkFault(Side),

@@ -9,8 +9,8 @@ use std::alloc::Global;
 use usb_base::{Bytes, Memory};
 
 /// A command over a tape: it takes the lines one by one, and then ends. What it is to do is plain data (`Told`, by
-/// what it keeps of the lines), `Keeps` says when it is that command and keeps that, and `Wants` for which lines memory may
-/// be wanting.
+/// what it keeps of the lines), `Keeps` says when it is that command and keeps that, and `Wants` for which lines memory
+/// may be wanting.
 pub trait TapeCommand {
     ghost Kept: { Type 0 };
 

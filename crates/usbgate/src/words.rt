@@ -2,7 +2,7 @@
 
 ghost use Rattle.std.specs.Prelude.{◌≡◌, ◌≤◌, ◌<◌, ◌^◌, ℕ, List, Option, IfOk, IfSome, codes};
 ghost use Rattle.usbgate.specs.declared.command_table.Verb.TheVariants as verb;
-ghost use Rattle.usbgate.specs.Words.{texts, first_id_of, after_loss_of, asked_by, or_unknown, command_in, command_of, HasNumbers};
+ghost use Rattle.usbgate.specs.Words.{texts, first_id_of, after_loss_of, count_of, asked_by, or_unknown, command_in, command_of, HasNumbers};
 ghost use Rattle.usbgate.specs.inner.Given.{IsGiven};
 
 use crate::command_line::found;
@@ -14,6 +14,9 @@ use bridge_run::AfterLoss;
 use packet_show::read_number;
 use std::alloc::Global;
 use usb_base::{Memory, Side};
+
+/// How many rounds a made tape may have.
+const MOST: u32 = 1000;
 
 /// What the words ask for.
 #[derive(Drop)]
@@ -28,6 +31,10 @@ pub enum Command<'a> {
     Serve(Serving<'a>),
     /// Lends a modelled device to a guest, over sockets.
     Host(Lending<'a>),
+    /// Prints the tape of a number.
+    Make { count: u16 },
+    /// Counts what a modelled loop makes of that tape.
+    Load { count: u16 },
     /// They are no command.
     Unknown,
 }
@@ -68,6 +75,8 @@ fn known<'a>(given: &Given<'a>) -> Option<Command<'a>>
         Verb::Show => show(given),
         Verb::Serve => serve(given),
         Verb::Host => host(given),
+        Verb::Make => make(given),
+        Verb::Load => load(given),
     }
 }
 
@@ -129,6 +138,35 @@ fn host<'a>(given: &Given<'a>) -> Option<Command<'a>>
         idle: read_number(given.idle?.as_bytes())?,
     };
     Some(Command::Host(lending))
+}
+
+/// `make N`
+fn make<'a>(given: &Given<'a>) -> Option<Command<'a>>
+    ensures value { (words : List ℕ → Option (List ℕ)) → IsGiven given.now words → result ≡ asked_by verb.Make words }
+    ensures numbers { IfSome result HasNumbers }
+{
+    let count = count(given)?;
+    Some(Command::Make { count })
+}
+
+/// `load N`
+fn load<'a>(given: &Given<'a>) -> Option<Command<'a>>
+    ensures value { (words : List ℕ → Option (List ℕ)) → IsGiven given.now words → result ≡ asked_by verb.Load words }
+    ensures numbers { IfSome result HasNumbers }
+{
+    let count = count(given)?;
+    Some(Command::Load { count })
+}
+
+/// The number of a made tape.
+fn count(given: &Given<'_>) -> Option<u16>
+    ensures value { (words : List ℕ → Option (List ℕ)) → IsGiven given.now words → result ≡ count_of (words (codes "number")) }
+    ensures few { IfSome result (λ n. n ≤ 1000) }
+{
+    match read_number(given.number?.as_bytes())? {
+        number if number <= MOST => Some(number as u16),
+        _ => None,
+    }
 }
 
 /// The value of `--first-id`; without the option the first id is 1.

@@ -15,6 +15,8 @@ pub const COMMANDS: &str = "commands:
   show --side client|host
   serve --host ADDR --listen ADDR --idle N [--first-id N] [--after-loss keep|close] [--record FILE]
   host --device keyboard|loop|tone|disk --listen ADDR --idle N
+  make N
+  load N
 ";
 
 /// Why words are no command.

@@ -6,7 +6,7 @@ use usb_base::List;
 /// A device as a list or an import tells it, 312 bytes ("usbip_protocol", OP_REP_DEVLIST). The texts end at
 /// their first zero byte. The numbers are in the units of the protocol: `version` is bcdDevice, `speed` is 1
 /// (low), 2 (full), 3 (high) or 5 (super).
-#[derive(Clone, Copy, PartialEq, Eq)]
+#[derive(Clone, Copy)]
 pub struct DeviceRow {
     pub path: [u8; 256],
     pub busid: [u8; 32],
@@ -25,7 +25,7 @@ pub struct DeviceRow {
 }
 
 /// An interface as a list tells it, 4 bytes. Senders write `pad` as 0, readers keep any value.
-#[derive(Clone, Copy, PartialEq, Eq)]
+#[derive(Clone, Copy)]
 pub struct IfaceRow {
     pub class: u8,
     pub subclass: u8,
@@ -71,7 +71,7 @@ pub enum OpPacket {
 }
 
 /// Which way packets go: requests to a server, or its replies.
-#[derive(Clone, Copy, PartialEq, Eq)]
+#[derive(Clone, Copy)]
 pub enum OpWay {
     Request,
     Reply,

@@ -77,7 +77,7 @@ fn urb_at_front(alloc: Global, bytes: &[u8]) -> Result<Read<ClientPacket>, ReadE
 }
 
 /// How all that a client sends is read: what came before decides nothing.
-#[derive(Clone, Copy, PartialEq, Eq)]
+#[derive(Clone, Copy)]
 pub struct ClientFormat;
 
 impl PacketFormat for ClientFormat {

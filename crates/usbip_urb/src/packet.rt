@@ -4,7 +4,7 @@ use packet_stream::{Read, ReadError};
 use usb_base::{Bytes, List};
 
 /// What each URB packet begins with, after its command: 16 bytes.
-#[derive(Clone, Copy, PartialEq, Eq)]
+#[derive(Clone, Copy)]
 pub struct Head {
     /// The number that an answer shares with its request.
     pub seqnum: u32,
@@ -18,7 +18,7 @@ pub struct Head {
 
 /// An isochronous packet of a request, 16 bytes: its stretch of the transfer buffer, in bytes, and what came
 /// of it.
-#[derive(Clone, Copy, PartialEq, Eq)]
+#[derive(Clone, Copy)]
 pub struct IsoDesc {
     pub offset: u32,
     pub length: u32,
@@ -69,7 +69,7 @@ pub struct RetSubmit {
 }
 
 /// Asks to take back a submit (USBIP_CMD_UNLINK), 48 bytes.
-#[derive(Clone, Copy, PartialEq, Eq)]
+#[derive(Clone, Copy)]
 pub struct Unlink {
     pub head: Head,
     /// The number of the submit.
@@ -79,7 +79,7 @@ pub struct Unlink {
 }
 
 /// Answers an unlink (USBIP_RET_UNLINK), 48 bytes.
-#[derive(Clone, Copy, PartialEq, Eq)]
+#[derive(Clone, Copy)]
 pub struct RetUnlink {
     pub head: Head,
     /// -104 (ECONNRESET) where the submit was taken back, and 0 where it was answered before.

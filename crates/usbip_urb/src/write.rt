@@ -70,8 +70,9 @@ fn push_ret_submit(answer: &RetSubmit, out: &mut Bytes) -> Result<(), Memory>
     Ok(())
 }
 
-/// Appends the fields of a submit's answer in front of its body, 48 bytes, for a body and descriptors that are elsewhere;
-/// those of the answer don't matter. For want of memory some of the bytes may be there, which the caller cuts off.
+/// Appends the fields of a submit's answer in front of its body, 48 bytes, for a body and descriptors that are
+/// elsewhere; those of the answer don't matter. For want of memory some of the bytes may be there, which the caller
+/// cuts off.
 pub fn push_ret_fields(answer: &RetSubmit, out: &mut Bytes) -> Result<(), Memory>
     ensures { AppendsSome result out.old out.new (words (ret_submit_words answer.now) ++ answer.now.tail) }
 {

@@ -1,5 +1,5 @@
 -- What an event of the gateway and an act of the host make of a system.
-use Rattle.std.specs.Prelude.{◌≡◌, List, ◌∷◌, ◌++◌}
+use Rattle.std.specs.Prelude.{◌≡◌, List, [], ◌∷◌, ◌++◌}
 use Rattle.std.specs.List.{flat_map}
 use Rattle.gate_core.specs.Events.{Event}
 use Rattle.gate_core.specs.Notes.{notes_of}
@@ -12,6 +12,10 @@ use Rattle.direct_run.specs.Kept.{SystemKept}
 use Rattle.direct_run.specs.World.{first_id}
 use Rattle.direct_run.specs.Noted.{named}
 use Rattle.direct_run.specs.Trace.{given_of, told_of_event, told_of_act, act_items}
+
+-- nothing is told
+abbrev pub untold : Told
+untold = record { to_client = []; to_host = []; from_host = []; items = []; refusals = [] }
 
 -- the gateway has taken the event, and what it sent to the host is on the wire
 pub record DoesEvent {S : Type 0} (old new : SystemKept S) (events : List Event) (e : Event) (told : Told) : Type 0 where

@@ -1,10 +1,12 @@
-use Rattle.std.proofs.Common.{sym, ap, subst, ◌∙◌}
+use Rattle.std.proofs.Common.{inr, sym, ap, subst, ◌∙◌}
 use Rattle.std.proofs.lemmas.Option.{same_Some}
 use Rattle.bridge_run.specs.Outside.{outside, written, faults}
 use Rattle.usbgate.specs.EventCommand.{over_events}
 use Rattle.usbgate.specs.Replay.{replay}
 use Rattle.usbgate.specs.Model.{model_of}
-use Rattle.usbgate.specs.Prescribed.{Prescribed, over_tape, prescribed}
+use Rattle.usbgate.specs.Made.{made, loaded}
+use Rattle.usbgate.specs.Prescribed.{Prescribed, over_tape, printed, prescribed}
+use Rattle.usbgate.specs.Recording.{records}
 use Rattle.usbgate.specs.Run.{Leaves}
 use Rattle.usbgate.proofs.Served.{unserved, unlent, links-stand, link-fault-of, link-stands}
 use Rattle.usbgate.proofs.program.run.Goals as goal
@@ -29,6 +31,15 @@ returns-in-Model-clause-leaves g c = λ p is.
     subst (λ (q : Prescribed). Leaves c.model.result q (g.S.Source.remaining c.args.tape.now) (g.S.Source.remaining c.model.new.tape) (g.K.Sink.contents c.args.out.now) (g.K.Sink.contents c.model.new.out))
     (same_Some command p (ap prescribed (sym c.in-Model.is ∙ c.in-Ok.ensures.value) ∙ is)) c.model.ensures.leaves
 
+pub returns-in-Serve-clause-usage : goal.returns-in-Serve-clause-usage
+returns-in-Serve-clause-usage g c = λ is. inr (ap records (sym c.in-Ok.ensures.value ∙ c.in-Serve.is) ∙ c.serve.ensures.asked is, (c.serve.ensures.causes.usage is).1)
+
+pub returns-in-Serve-clause-sink_fault : goal.returns-in-Serve-clause-sink_fault
+returns-in-Serve-clause-sink_fault g c = λ none. c.serve.ensures.sink_fault (ap records (sym c.in-Serve.is ∙ c.in-Ok.ensures.value) ∙ none)
+
+pub returns-in-Serve-clause-unrecorded : goal.returns-in-Serve-clause-unrecorded
+returns-in-Serve-clause-unrecorded g c = λ none. c.serve.ensures.unasked (ap records (sym c.in-Serve.is ∙ c.in-Ok.ensures.value) ∙ none)
+
 pub returns-in-Serve-clause-link_fault : goal.returns-in-Serve-clause-link_fault
 returns-in-Serve-clause-link_fault g c = λ side is. link-fault-of c.serve.result side (g.D.Doors.link c.args.doors.now) (g.D.Doors.link c.serve.new.doors) (g.D.Doors.door c.args.doors.now) (g.D.Doors.door c.serve.new.doors) _ _ is c.serve.ensures.causes
 
@@ -42,3 +53,19 @@ returns-in-Host-clause-links_stand g c = λ side other.
 
 pub returns-in-Unknown-clause-writes_stand : goal.returns-in-Unknown-clause-writes_stand
 returns-in-Unknown-clause-writes_stand g c = (c.print_usage.ensures.causes 0).writes_stand
+
+pub returns-in-Make-clause-leaves : goal.returns-in-Make-clause-leaves
+returns-in-Make-clause-leaves g c = λ p is.
+    subst (λ (q : Prescribed). Leaves c.make.result q (g.S.Source.remaining c.args.tape.now) (g.S.Source.remaining c.args.tape.now) (g.K.Sink.contents c.args.out.now) (g.K.Sink.contents c.make.new.out))
+    (same_Some (printed (made c.in-Make.count)) p (ap prescribed (sym c.in-Make.is ∙ c.in-Ok.ensures.value) ∙ is)) (c.make.ensures.leaves (g.S.Source.remaining c.args.tape.now))
+
+pub returns-in-Load-clause-leaves : goal.returns-in-Load-clause-leaves
+returns-in-Load-clause-leaves g c = λ p is.
+    subst (λ (q : Prescribed). Leaves c.load.result q (g.S.Source.remaining c.args.tape.now) (g.S.Source.remaining c.args.tape.now) (g.K.Sink.contents c.args.out.now) (g.K.Sink.contents c.load.new.out))
+    (same_Some (printed (loaded c.in-Load.count)) p (ap prescribed (sym c.in-Load.is ∙ c.in-Ok.ensures.value) ∙ is)) (c.load.ensures.leaves (g.S.Source.remaining c.args.tape.now))
+
+pub returns-in-Make-clause-writes_stand : goal.returns-in-Make-clause-writes_stand
+returns-in-Make-clause-writes_stand g c = (c.make.ensures.causes 0).writes_stand
+
+pub returns-in-Load-clause-writes_stand : goal.returns-in-Load-clause-writes_stand
+returns-in-Load-clause-writes_stand g c = (c.load.ensures.causes 0).writes_stand

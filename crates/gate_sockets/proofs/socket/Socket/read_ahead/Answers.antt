@@ -1,12 +1,38 @@
-use Rattle.std.proofs.Common.{ap, ◌∙◌, ◌++◌, take, subst, ◌≡◌, true}
+use Rattle.std.proofs.Common.{ap, sym, subst, ◌∙◌, Some}
+use Rattle.gate_sockets.specs.Calls.{broken_by}
 use Rattle.gate_sockets.specs.State.{State}
-use Rattle.gate_sockets.proofs.Reading.{reads_more}
+use Rattle.gate_sockets.specs.Writing.{ReadOn}
+use Rattle.gate_sockets.proofs.Calling.{read-ahead, still-whole}
 use Rattle.gate_sockets.proofs.socket.Socket.read_ahead.Goals as goal
 
 pub returns-in-Moved : goal.returns-in-Moved
-returns-in-Moved c =
-    let more = take c.in-Moved.count c.read_on.new.chunk in
-    reads_more _ _ more
-    (c.in-Moved.ensures.kept ∙ ap (λ (s : State). s.ahead ++ more) c.self.view_is)
-    (ap (λ (s : State). record s { ahead = c.read_on.new.self; broken = c.self.inside.broken }) c.self.view_is)
-    (subst (λ (s : State). s.broken ≡ true → c.self.inside.broken ≡ true) c.self.view_is (λ h. h))
+returns-in-Moved g c =
+    let i = c.self.inside in
+    let r = g.S.Connection.read_gives in
+    let w = g.S.Connection.write_gives in
+    let old : State _ = record { stream = i.stream; ahead = i.ahead; broken = i.broken; rests = i.rests; faults = i.faults; idle = i.idle } in
+    let new : State _ = record old { stream = Some c.read_on.new.stream; ahead = c.read_on.new.self } in
+    subst (λ s. ReadOn r w s new) c.self.view_is
+    (read-ahead r w c.read_on.result c.in-Some.stream c.read_on.new.stream c.read_on.new.self old new c.read_on.ensures c.in-Some.is
+    (ap (λ z. record new { broken = broken_by z i.broken }) (sym c.in-Moved.is)))
+
+pub returns-in-Blocked : goal.returns-in-Blocked
+returns-in-Blocked g c =
+    let i = c.self.inside in
+    let r = g.S.Connection.read_gives in
+    let w = g.S.Connection.write_gives in
+    let old : State _ = record { stream = i.stream; ahead = i.ahead; broken = i.broken; rests = i.rests; faults = i.faults; idle = i.idle } in
+    let new : State _ = record old { stream = Some c.read_on.new.stream; ahead = c.read_on.new.self } in
+    subst (λ s. ReadOn r w s new) c.self.view_is
+    (read-ahead r w c.read_on.result c.in-Some.stream c.read_on.new.stream c.read_on.new.self old new c.read_on.ensures c.in-Some.is
+    (ap (λ b. record new { broken = b }) (still-whole c.read_on.result i.broken c.in-Blocked.is)))
+
+pub returns-in-Broken : goal.returns-in-Broken
+returns-in-Broken g c =
+    let i = c.self.inside in
+    let r = g.S.Connection.read_gives in
+    let w = g.S.Connection.write_gives in
+    let old : State _ = record { stream = i.stream; ahead = i.ahead; broken = i.broken; rests = i.rests; faults = i.faults; idle = i.idle } in
+    subst (λ s. ReadOn r w s c.break_off.new.self) c.self.view_is
+    (read-ahead r w c.read_on.result c.in-Some.stream c.read_on.new.stream c.read_on.new.self old c.break_off.new.self c.read_on.ensures c.in-Some.is
+    (c.break_off.ensures ∙ ap (λ z. record old { stream = Some c.read_on.new.stream; ahead = c.read_on.new.self; broken = broken_by z i.broken }) (sym c.in-Broken.is)))

@@ -1,0 +1,99 @@
+-- Where an item of a trace is allowed to the device attached directly, and what it answers to a whole trace.
+use Rattle.std.specs.Prelude.{◌≡◌, ℕ, Bool, true, false, List, [], ◌∷◌, ◌++◌, map, Option, Some, None, is_some}
+use Rattle.std.specs.List.{find, list_any, flat_map}
+use Rattle.usb_base.specs.declared.transfer.StreamPacket.{StreamPacket}
+use Rattle.usbip_urb.specs.declared.packet.UrbPacket.{UrbPacket}
+use Rattle.model_device.specs.Meaning.{Meaning}
+use Rattle.gate_core.specs.Requests.{Request}
+use Rattle.gate_core.specs.Submits.{is_waiting, waits_at}
+use Rattle.gate_core.specs.Ups.{Up, stream_of}
+use Rattle.direct_run.specs.declared.item.Item.{Item}
+use Rattle.direct_run.specs.declared.item.Item.TheVariants as item
+use Rattle.direct_device.specs.Direct.{first_direct, Load, Live, Waiting, Ran, Direct, as_submission, is_number, normal_of, is_at}
+use Rattle.direct_device.specs.Acting.{Deed, Import, Submit, Unlink, Perform, Cancel, Answer, Offer, Arrive, Gone, ClientGone, act, answers, is_cancelled_by, first_ran, cut_for}
+
+-- ---- one item
+
+-- this is the first of its queue, and the device is ready for it
+abbrev pub CanPerform : {S : Type 0} → Meaning S → Direct S → ℕ → Option Waiting → Type 0
+CanPerform m d n None = ⊥
+CanPerform m d n (Some q) = (is_number n q.load ≡ true) × (is_some (m.perform d.gadget (normal_of q.load)) ≡ true)
+
+abbrev pub CanCancel : Option Waiting → Type 0
+CanCancel None = ⊥
+CanCancel (Some q) = q.asked ≡ true
+
+-- of those that wait for a stream it is the earliest, and what is held fills it; of the others it is the first that ran
+abbrev pub IsEarliest : {S : Type 0} → Direct S → Load → Option Live → Type 0
+IsEarliest d l None = ⊥
+IsEarliest d l (Some e) = (is_number l.request.number e.load ≡ true) × (is_some (cut_for d l) ≡ true)
+
+abbrev pub IsRan : ℕ → Option Ran → Type 0
+IsRan n None = ⊥
+IsRan n (Some r) = is_number n r.load ≡ true
+
+abbrev pub CanAnswerBy : {S : Type 0} → Direct S → Load → Bool → Type 0
+CanAnswerBy d l true =
+    IsEarliest d l (find (λ (e : Live). waits_at l.request.transfer.ep (as_submission e.load)) d.live)
+CanAnswerBy d l false = IsRan l.request.number (first_ran d.ran)
+
+abbrev pub CanAnswer : {S : Type 0} → Direct S → Option Live → Type 0
+CanAnswer d None = ⊥
+CanAnswer d (Some l) = CanAnswerBy d l.load (is_waiting l.load.verdict)
+
+abbrev pub CanArrive : Option Up → List StreamPacket → Type 0
+CanArrive None packets = ⊥
+CanArrive (Some up) [] = ⊥
+CanArrive (Some up) (p ∷ packets) = Unit {0}
+
+abbrev pub IsAllowed : {S : Type 0} → Meaning S → Direct S → Deed → Type 0
+IsAllowed m d Import = (d.imported ≡ false) × (d.gone ≡ false) × (d.queue ≡ [])
+IsAllowed m d (Submit r) = (d.imported ≡ true) × (list_any (λ (l : Live). is_number r.number l.load) d.live ≡ false)
+IsAllowed m d (Unlink by target) = d.imported ≡ true
+IsAllowed m d (Perform ep n) = (d.gone ≡ false) × CanPerform m d n (find (is_at ep) d.queue)
+IsAllowed m d (Cancel n) = (d.gone ≡ false) × CanCancel (find (is_cancelled_by n) d.queue)
+IsAllowed m d (Answer n) = (d.imported ≡ true) × CanAnswer d (find (λ (l : Live). is_number n l.load) d.live)
+IsAllowed m d (Offer ep) = (d.gone ≡ false) × (is_some (m.offer d.gadget ep) ≡ true)
+IsAllowed m d (Arrive ep) = CanArrive (stream_of d.streams ep) (d.way ep)
+IsAllowed m d Gone = (d.imported ≡ true) × (d.gone ≡ false) × (d.ran ≡ [])
+IsAllowed m d ClientGone = Unit {0}
+
+-- ---- a trace, the earliest item first
+
+abbrev pub acts : {S : Type 0} → Meaning S → Direct S → List Deed → Direct S
+acts m d [] = d
+acts m d (x ∷ xs) = acts m (act m d x) xs
+
+abbrev pub AreAllowed : {S : Type 0} → Meaning S → Direct S → List Deed → Type 0
+AreAllowed m d [] = Unit {0}
+AreAllowed m d (x ∷ xs) = IsAllowed m d x × AreAllowed m (act m d x) xs
+
+abbrev pub all_answers : {S : Type 0} → Meaning S → Direct S → List Deed → List UrbPacket
+all_answers m d [] = []
+all_answers m d (x ∷ xs) = answers m d x ++ all_answers m (act m d x) xs
+
+-- ---- the items of a trace, and the requests of its submits
+
+abbrev pub item_of : Deed → Item
+item_of Import = item.Import
+item_of (Submit r) = item.Submit r.number
+item_of (Unlink by target) = item.Unlink by target
+item_of (Perform ep seqnum) = item.Perform ep seqnum
+item_of (Cancel seqnum) = item.Cancel seqnum
+item_of (Answer seqnum) = item.Answer seqnum
+item_of (Offer ep) = item.Offer ep
+item_of (Arrive ep) = item.Arrive ep
+item_of Gone = item.Gone
+item_of ClientGone = item.ClientGone
+
+abbrev pub request_in : Deed → List Request
+request_in (Submit r) = r ∷ []
+request_in _ = []
+
+-- the items, of which the k-th submit asks what the k-th of these requests asks, are legal, and give these answers
+pub record IsDirect {S : Type 0} (m : Meaning S) (s : S) (requests : List Request) (items : List Item) (given : List UrbPacket) : Type 0 where
+  pub deeds : List Deed
+  pub items-are : items ≡ map item_of deeds
+  pub requests-are : requests ≡ flat_map request_in deeds
+  pub legal : AreAllowed m (first_direct s) deeds
+  pub answers-are : given ≡ all_answers m (first_direct s) deeds

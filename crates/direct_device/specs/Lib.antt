@@ -1,0 +1,4 @@
+pub mod Direct
+pub mod Acting
+pub mod Legal
+pub mod Performed

@@ -1,0 +1,94 @@
+-- Performed at most once: how often a submit has been performed where an item of a legal trace stands, by what the item
+-- answers. A number names the submit of its last item, up to its end.
+use Rattle.std.specs.Prelude.{◌≡◌, ℕ, ◌+◌, ◌==◌, Bool, true, false, if◌then◌else◌, List, [], ◌∷◌, ◌++◌, Option, Some, None, ℤ, pos, negsuc}
+use Rattle.std.specs.List.{find, list_any, AllByRecursion}
+use Rattle.usb_base.specs.declared.transfer.Transfer.{Transfer}
+use Rattle.usb_base.specs.declared.transfer.Outcome.{Outcome}
+use Rattle.usbip_urb.specs.declared.packet.UrbPacket.{UrbPacket}
+use Rattle.usbip_urb.specs.declared.packet.UrbPacket.TheVariants as urb
+use Rattle.model_device.specs.Meaning.{Meaning}
+use Rattle.gate_core.specs.Errno.{is_zero}
+use Rattle.gate_core.specs.Verdict.{goes_by_id}
+use Rattle.gate_core.specs.Answers.{is_cancelled}
+use Rattle.direct_device.specs.Direct.{Live, Direct, first_direct, number, is_number}
+use Rattle.direct_device.specs.Acting.{Deed, Import, Submit, Unlink, Perform, Cancel, Answer, Offer, Arrive, Gone, ClientGone, answers}
+use Rattle.direct_device.specs.Legal.{AreAllowed, acts}
+
+-- ---- performs
+
+-- how often this number is performed since it was last submitted, where it was so often before
+abbrev pub times_performed : ℕ → ℕ → List Deed → ℕ
+times_performed n before [] = before
+times_performed n before (Submit r ∷ xs) = times_performed n (if r.number == n then 0 else before) xs
+times_performed n before (Perform ep k ∷ xs) = times_performed n (if k == n then before + 1 else before) xs
+times_performed n before (Import ∷ xs) = times_performed n before xs
+times_performed n before (Unlink by target ∷ xs) = times_performed n before xs
+times_performed n before (Cancel k ∷ xs) = times_performed n before xs
+times_performed n before (Answer k ∷ xs) = times_performed n before xs
+times_performed n before (Offer ep ∷ xs) = times_performed n before xs
+times_performed n before (Arrive ep ∷ xs) = times_performed n before xs
+times_performed n before (Gone ∷ xs) = times_performed n before xs
+times_performed n before (ClientGone ∷ xs) = times_performed n before xs
+
+-- the device ends no transfer as cancelled by itself
+abbrev pub NeverCancels : {S : Type 0} → Meaning S → Type 0
+NeverCancels {S = S} m =
+    (s : S) (t : Transfer) (done : S × Outcome) → m.perform s t ≡ Some done → is_cancelled done.1.status ≡ false
+
+-- ---- answers
+
+-- -104
+abbrev pub is_reset : ℤ → Bool
+is_reset (pos n) = false
+is_reset (negsuc n) = n == 103
+
+-- an unlink that took its submit back
+abbrev pub is_won : UrbPacket → Bool
+is_won (urb.Submit p) = false
+is_won (urb.Unlink p) = false
+is_won (urb.RetSubmit p) = false
+is_won (urb.RetUnlink p) = is_reset p.status
+
+-- a submit that is answered 0
+abbrev pub is_good : UrbPacket → Bool
+is_good (urb.Submit p) = false
+is_good (urb.Unlink p) = false
+is_good (urb.RetSubmit p) = is_zero p.status
+is_good (urb.RetUnlink p) = false
+
+-- ---- items
+
+-- these answers of a submit's own end fit that it was performed so often
+pub record FitsAnswers (given : List UrbPacket) (performed : ℕ) (l : Live) : Type 0 where
+  pub won : list_any is_won given ≡ true → performed ≡ 0
+  pub good : goes_by_id l.load.verdict ≡ true → list_any is_good given ≡ true → performed ≡ 1
+
+abbrev pub FitsEnd : List UrbPacket → ℕ → Option Live → Type 0
+FitsEnd given performed None = Unit {0}
+FitsEnd given performed (Some l) = FitsAnswers given performed l
+
+-- none is performed twice, nor, in a session, after its end
+pub record FitsPerform {S : Type 0} (d : Direct S) (performed n : ℕ) : Type 0 where
+  pub first : performed ≡ 0
+  pub live : d.imported ≡ true → list_any (λ (l : Live). is_number n l.load) d.live ≡ true
+
+-- none was performed that an unlink takes back at once, or that the device's loss ends; and where the device never answers
+-- cancelled, none that is answered as taken back
+abbrev pub Fits : {S : Type 0} → Meaning S → Direct S → (ℕ → ℕ) → Deed → Type 0
+Fits m d performed (Perform ep n) = FitsPerform d (performed n) n
+Fits m d performed (Unlink by target) = list_any is_won (answers m d (Unlink by target)) ≡ true → performed target ≡ 0
+Fits m d performed (Answer n) =
+    NeverCancels m → FitsEnd (answers m d (Answer n)) (performed n) (find (λ (l : Live). is_number n l.load) d.live)
+Fits m d performed Gone = AllByRecursion (λ (l : Live). performed (number l.load) ≡ 0) d.live
+Fits m d performed Import = Unit {0}
+Fits m d performed (Submit r) = Unit {0}
+Fits m d performed (Cancel n) = Unit {0}
+Fits m d performed (Offer ep) = Unit {0}
+Fits m d performed (Arrive ep) = Unit {0}
+Fits m d performed ClientGone = Unit {0}
+
+-- each item of a legal trace fits the performs before it
+abbrev pub ItemsFit : {S : Type 0} → Meaning S → Type 0
+ItemsFit {S = S} m =
+    (s : S) (before after : List Deed) (x : Deed) → AreAllowed m (first_direct s) (before ++ x ∷ after)
+    → Fits m (acts m (first_direct s) before) (λ n. times_performed n 0 before) x

@@ -1,0 +1,15 @@
+pub mod lists
+pub mod shared
+pub mod answers
+pub mod performs
+pub mod heard
+pub mod submits
+pub mod meeting
+pub mod races
+pub mod unlinks
+pub mod deeds
+pub mod clients
+pub mod steps
+pub mod streams
+pub mod leaving
+pub mod built

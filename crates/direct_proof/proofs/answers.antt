@@ -1,0 +1,4 @@
+pub mod Loads
+pub mod Answering
+pub mod Answered
+pub mod Replying

@@ -1,0 +1,35 @@
+-- An effect with which the client is gone, and that does nothing else.
+use Rattle.std.proofs.Common.{◌≡◌, ℕ, true, false, [], ◌++◌, None, refl}
+use Rattle.std.specs.List.{flat_map}
+use Rattle.usb_base.specs.declared.reason.Reason.{Reason}
+use Rattle.usb_base.specs.declared.side.Side.TheVariants.{Client}
+use Rattle.gate_core.specs.Marks.{Effect, Ends}
+use Rattle.gate_core.specs.Meaning.{refused}
+use Rattle.gate_core.specs.Notes.{import_notes, submit_notes, unlink_notes, arrival_notes, refusal_notes}
+use Rattle.gate_core.specs.Output.{replies, acknowledgements}
+use Rattle.gate_core.specs.Packets.{asked_packets, stops}
+use Rattle.gate_core.specs.Sides.{refused_at, leaves, is_loss, closes_host, imports, agrees}
+use Rattle.gate_core.specs.State.{State}
+use Rattle.gate_core.specs.Ups.{is_ended}
+use Rattle.direct_run.specs.Noted.{named}
+use Rattle.direct_proof.specs.Moves.{import_deeds, submit_deeds, unlink_deeds, arrive_deeds}
+
+-- with this the client is gone, and nothing else is done
+pub record Leaves (st : State) (e : Effect) : Type 0 where
+  pub gone : leaves e ≡ true
+  pub keeps : is_loss e ≡ false
+  pub open_host : closes_host e ≡ false
+  pub no_caps : agrees e ≡ None
+  pub no_import : imports e ≡ false
+  pub silent : replies st e ≡ []
+  pub asked : asked_packets st.streams e ≡ stops (is_ended None) st.streams
+  pub no_word : acknowledgements st.agreed e ≡ []
+  pub no_deed : import_deeds e ++ submit_deeds e ++ unlink_deeds e ++ arrive_deeds e ≡ []
+  pub no_note : flat_map named (import_notes e ++ submit_notes e ++ unlink_notes e ++ arrival_notes e) ≡ []
+  pub unnamed : flat_map named (refusal_notes (refused_at e)) ≡ []
+
+pub end-leaves : (st : State) → Leaves st (Ends Client)
+end-leaves st = record { gone = refl; keeps = refl; open_host = refl; no_caps = refl; no_import = refl; silent = refl; asked = refl; no_word = refl; no_deed = refl; no_note = refl; unnamed = refl }
+
+pub refusal-leaves : (st : State) (place : ℕ) (why : Reason) → Leaves st (refused Client place why)
+refusal-leaves st place why = record { gone = refl; keeps = refl; open_host = refl; no_caps = refl; no_import = refl; silent = refl; asked = refl; no_word = refl; no_deed = refl; no_note = refl; unnamed = refl }

@@ -1,0 +1,107 @@
+-- The deeds of a move tell what its items tell, and carry the requests of the submits that are accepted.
+use Rattle.std.proofs.Common.{◌≡◌, ℕ, ◌&&◌, not, Bool, true, false, List, [], ◌∷◌, ◌++◌, map, filter, Option, Some, None, refl, ap, ◌∙◌, append-nil}
+use Rattle.std.specs.List.{flat_map}
+use Rattle.std.proofs.lemmas.Grind.{flat_map-append}
+use Rattle.redir_host.specs.declared.note.HostNote.{HostNote}
+use Rattle.redir_host.specs.declared.note.HostNote.TheVariants as host_note
+use Rattle.redir_host.specs.declared.note.Offered.{Offered}
+use Rattle.redir_host.specs.declared.note.Offered.TheVariants as offered
+use Rattle.redir_host.specs.Moves.{Move}
+use Rattle.redir_host.specs.Performing.{told_performed_by}
+use Rattle.gate_core.specs.Requests.{Request}
+use Rattle.gate_core.specs.Marks.{Submission, Effect, Imports, Unlinks, Arrives, Mark}
+use Rattle.gate_core.specs.Sides.{leaves, is_loss}
+use Rattle.gate_core.specs.Submits.{Pending, opened, ends}
+use Rattle.gate_core.specs.State.{State}
+use Rattle.gate_core.specs.Output.{present}
+use Rattle.gate_core.specs.Notes.{is_by_answer}
+use Rattle.direct_run.specs.declared.item.Item.{Item as Told}
+use Rattle.direct_run.specs.declared.submitted.Submitted.{Submitted}
+use Rattle.direct_run.specs.Noted.{item_of_host, performed_item, offered_item}
+use Rattle.direct_device.specs.Acting.{Deed, Submit, Answer, Gone, ClientGone}
+use Rattle.direct_device.specs.Legal.{item_of as deed_item, request_in}
+use Rattle.direct_proof.specs.Moves.{import_deeds, submit_deeds, unlink_deeds, arrive_deeds, answer_deeds, deeds_of, cancel_deed, performed_deed, offered_deed, when}
+
+-- ---- at the host
+
+pub host-items : (submits : List Submitted) (ns : List HostNote) → map deed_item (flat_map (cancel_deed submits) ns) ≡ flat_map (item_of_host submits) ns
+host-items submits [] = refl
+host-items submits (host_note.Cancelled id ∷ ns) = ap (λ (l : List Told). item_of_host submits (host_note.Cancelled id) ++ l) (host-items submits ns)
+host-items submits (host_note.Refused place why ∷ ns) = host-items submits ns
+
+pub perform-items : {S : Type 0} (submits : List Submitted) (ep : ℕ) (b : Bool) (o : Option (ℕ × Move S)) → map deed_item (performed_deed submits ep o) ≡ performed_item submits ep (told_performed_by b o)
+perform-items submits ep true None = refl
+perform-items submits ep false None = refl
+perform-items submits ep b (Some r) = refl
+
+pub offer-items : (ep : ℕ) (o : Offered) → map deed_item (offered_deed ep o) ≡ offered_item ep o
+offer-items ep offered.Sent = refl
+offer-items ep offered.Nothing = refl
+offer-items ep offered.Closed = refl
+offer-items ep offered.Unplugged = refl
+
+-- ---- requests
+
+abbrev pub request : Submission → Request
+request s = s.request
+
+lacks-import : (e : Effect) → flat_map request_in (import_deeds e) ≡ []
+lacks-import (Imports reply) = refl
+lacks-import e = refl
+
+lacks-unlink : (e : Effect) → flat_map request_in (unlink_deeds e) ≡ []
+lacks-unlink (Unlinks by target) = refl
+lacks-unlink e = refl
+
+lacks-arrive : (e : Effect) → flat_map request_in (arrive_deeds e) ≡ []
+lacks-arrive (Arrives ep fill) = refl
+lacks-arrive e = refl
+
+lacks-answer : (ps : List Pending) → flat_map request_in (map (λ (p : Pending). Answer p.submit.request.number) ps) ≡ []
+lacks-answer [] = refl
+lacks-answer (p ∷ ps) = lacks-answer ps
+
+lacks-gone : (b : Bool) → flat_map request_in (when b Gone) ≡ []
+lacks-gone true = refl
+lacks-gone false = refl
+
+lacks-left : (b : Bool) → flat_map request_in (when b ClientGone) ≡ []
+lacks-left true = refl
+lacks-left false = refl
+
+has-submits : (ss : List Submission) → flat_map request_in (map (λ (s : Submission). Submit s.request) ss) ≡ map request ss
+has-submits [] = refl
+has-submits (s ∷ ss) = ap (λ (l : List Request). s.request ∷ l) (has-submits ss)
+
+-- none of the deeds behind these carries one
+more-lack : (xs ys : List Deed) (rs : List Request) → flat_map request_in xs ≡ rs → flat_map request_in ys ≡ [] → flat_map request_in (xs ++ ys) ≡ rs
+more-lack xs ys rs h k = flat_map-append request_in xs ys ∙ (λ i. h i ++ k i) ∙ append-nil rs
+
+pub mark-requests : (st : State) (m : Mark) → flat_map request_in (deeds_of st m) ≡ map request (opened m.what)
+mark-requests st m =
+    let e = m.what in
+    let lost : Bool = is_loss e && st.imported && not st.lost in
+    let left : Bool = leaves e && not st.client_over in
+    let rs = map request (opened e) in
+    let a : flat_map request_in (import_deeds e ++ submit_deeds e) ≡ rs = flat_map-append request_in (import_deeds e) (submit_deeds e) ∙ (λ i. lacks-import e i ++ has-submits (opened e) i) in
+    let b = more-lack (import_deeds e ++ submit_deeds e) (unlink_deeds e) rs a (lacks-unlink e) in
+    let c = more-lack (import_deeds e ++ submit_deeds e ++ unlink_deeds e) (arrive_deeds e) rs b (lacks-arrive e) in
+    let d = more-lack (import_deeds e ++ submit_deeds e ++ unlink_deeds e ++ arrive_deeds e) (answer_deeds st e) rs c (lacks-answer (filter (λ (p : Pending). is_by_answer (ends e p.submit)) (present st e))) in
+    let f = more-lack (import_deeds e ++ submit_deeds e ++ unlink_deeds e ++ arrive_deeds e ++ answer_deeds st e) (when lost Gone) rs d (lacks-gone lost) in
+    more-lack (import_deeds e ++ submit_deeds e ++ unlink_deeds e ++ arrive_deeds e ++ answer_deeds st e ++ when lost Gone) (when left ClientGone) rs f (lacks-left left)
+
+-- what is done at the host carries none
+pub host-requests : (submits : List Submitted) (ns : List HostNote) → flat_map request_in (flat_map (cancel_deed submits) ns) ≡ []
+host-requests submits [] = refl
+host-requests submits (host_note.Cancelled id ∷ ns) = host-requests submits ns
+host-requests submits (host_note.Refused place why ∷ ns) = host-requests submits ns
+
+pub perform-requests : {S : Type 0} (submits : List Submitted) (ep : ℕ) (o : Option (ℕ × Move S)) → flat_map request_in (performed_deed submits ep o) ≡ []
+perform-requests submits ep None = refl
+perform-requests submits ep (Some r) = refl
+
+pub offer-requests : (ep : ℕ) (o : Offered) → flat_map request_in (offered_deed ep o) ≡ []
+offer-requests ep offered.Sent = refl
+offer-requests ep offered.Nothing = refl
+offer-requests ep offered.Closed = refl
+offer-requests ep offered.Unplugged = refl

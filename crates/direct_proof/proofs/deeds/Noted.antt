@@ -1,0 +1,115 @@
+-- The deeds of an item are what its notes tell, and carry the requests that it accepts.
+use Rattle.std.proofs.Common.{◌≡◌, ◌&&◌, not, Bool, true, false, List, [], ◌∷◌, ◌++◌, map, filter, Option, Some, None, refl, sym, ap, ◌∙◌, append-nil}
+use Rattle.std.specs.List.{flat_map}
+use Rattle.std.proofs.lemmas.Grind.{flat_map-append}
+use Rattle.usb_base.specs.declared.refusal.Refusal.{Refusal}
+use Rattle.gate_core.specs.declared.note.Note.{Note}
+use Rattle.gate_core.specs.declared.note.Note.TheVariants as note
+use Rattle.gate_core.specs.Marks.{Submission, Effect, Idle, Replies, Imports, Opens, Waits, Arrives, Unlinks, Agrees, Answers, StreamTold, Disconnects, Ends, Refuses, Mark}
+use Rattle.gate_core.specs.Sides.{refused_at, leaves, is_loss}
+use Rattle.gate_core.specs.Submits.{Pending, opened, ends}
+use Rattle.gate_core.specs.State.{State}
+use Rattle.gate_core.specs.Output.{present}
+use Rattle.gate_core.specs.Notes.{when, import_notes, submit_notes, unlink_notes, arrival_notes, answer_notes, refusal_notes, notes_of, is_by_answer}
+use Rattle.direct_run.specs.declared.item.Item.{Item}
+use Rattle.direct_run.specs.Noted.{item_of}
+use Rattle.direct_device.specs.Acting.{Deed, Submit, Answer, Gone, ClientGone}
+use Rattle.direct_device.specs.Legal.{item_of as deed_item}
+use Rattle.direct_proof.specs.Moves.{import_deeds, submit_deeds, unlink_deeds, arrive_deeds, answer_deeds, deeds_of, when as when_deed}
+use Rattle.direct_proof.proofs.shared.Traces.{map-append}
+
+flat-ones : {X : Type 0} (f : X → Note) (g : X → Item) → ((x : X) → item_of (f x) ≡ g x ∷ []) → (xs : List X) → flat_map item_of (map f xs) ≡ map g xs
+flat-ones f g h [] = refl
+flat-ones f g h (x ∷ xs) = λ i. h x i ++ flat-ones f g h xs i
+
+imports : (e : Effect) → map deed_item (import_deeds e) ≡ flat_map item_of (import_notes e)
+imports (Imports reply) = refl
+imports Idle = refl
+imports (Replies reply) = refl
+imports (Opens s) = refl
+imports (Waits s fill) = refl
+imports (Unlinks by target) = refl
+imports (Agrees caps) = refl
+imports (Answers id o) = refl
+imports (Arrives ep fill) = refl
+imports (StreamTold id ep status) = refl
+imports (Disconnects id) = refl
+imports (Ends side) = refl
+imports (Refuses r) = refl
+
+unlinks : (e : Effect) → map deed_item (unlink_deeds e) ≡ flat_map item_of (unlink_notes e)
+unlinks (Imports reply) = refl
+unlinks Idle = refl
+unlinks (Replies reply) = refl
+unlinks (Opens s) = refl
+unlinks (Waits s fill) = refl
+unlinks (Unlinks by target) = refl
+unlinks (Agrees caps) = refl
+unlinks (Answers id o) = refl
+unlinks (Arrives ep fill) = refl
+unlinks (StreamTold id ep status) = refl
+unlinks (Disconnects id) = refl
+unlinks (Ends side) = refl
+unlinks (Refuses r) = refl
+
+arrives : (e : Effect) → map deed_item (arrive_deeds e) ≡ flat_map item_of (arrival_notes e)
+arrives (Imports reply) = refl
+arrives Idle = refl
+arrives (Replies reply) = refl
+arrives (Opens s) = refl
+arrives (Waits s fill) = refl
+arrives (Unlinks by target) = refl
+arrives (Agrees caps) = refl
+arrives (Answers id o) = refl
+arrives (Arrives ep fill) = refl
+arrives (StreamTold id ep status) = refl
+arrives (Disconnects id) = refl
+arrives (Ends side) = refl
+arrives (Refuses r) = refl
+
+submits-told : (e : Effect) → map deed_item (submit_deeds e) ≡ flat_map item_of (submit_notes e)
+submits-told e = go (opened e)
+  where
+    go : (ss : List Submission) → map deed_item (map (λ (s : Submission). Submit s.request) ss) ≡ flat_map item_of (map (λ (s : Submission). note.Submitted s.request.number s.id) ss)
+    go [] = refl
+    go (s ∷ ss) = ap (λ (l : List Item). deed_item (Submit s.request) ∷ l) (go ss)
+
+answers-told : (st : State) (e : Effect) → map deed_item (answer_deeds st e) ≡ flat_map item_of (answer_notes st e)
+answers-told st e = go (filter (λ (p : Pending). is_by_answer (ends e p.submit)) (present st e))
+  where
+    go : (ps : List Pending) → map deed_item (map (λ (p : Pending). Answer p.submit.request.number) ps) ≡ flat_map item_of (map (λ (p : Pending). note.Answered p.submit.request.number) ps)
+    go [] = refl
+    go (p ∷ ps) = ap (λ (l : List Item). deed_item (Answer p.submit.request.number) ∷ l) (go ps)
+
+-- a refusal is no item
+none-refused : (o : Option Refusal) → flat_map item_of (refusal_notes o) ≡ []
+none-refused None = refl
+none-refused (Some r) = refl
+
+gone-told : (b : Bool) → map deed_item (when_deed b Gone) ≡ flat_map item_of (when b note.DeviceGone)
+gone-told true = refl
+gone-told false = refl
+
+left-told : (b : Bool) → map deed_item (when_deed b ClientGone) ≡ flat_map item_of (when b note.ClientGone)
+left-told true = refl
+left-told false = refl
+
+-- side by side
+beside : (xs ys : List Deed) (ns ms : List Note) → map deed_item xs ≡ flat_map item_of ns → map deed_item ys ≡ flat_map item_of ms → map deed_item (xs ++ ys) ≡ flat_map item_of (ns ++ ms)
+beside xs ys ns ms h k = map-append deed_item xs ys ∙ (λ i. h i ++ k i) ∙ sym (flat_map-append item_of ns ms)
+
+pub told-deeds : (st : State) (m : Mark) → map deed_item (deeds_of st m) ≡ flat_map item_of (notes_of st m)
+told-deeds st m =
+    let e = m.what in
+    let lost : Bool = is_loss m.what && st.imported && not st.lost in
+    let left : Bool = leaves m.what && not st.client_over in
+    let a = beside (import_deeds e) (submit_deeds e) (import_notes e) (submit_notes e) (imports e) (submits-told e) in
+    let b = beside (import_deeds e ++ submit_deeds e) (unlink_deeds e) (import_notes e ++ submit_notes e) (unlink_notes e) a (unlinks e) in
+    let c = beside (import_deeds e ++ submit_deeds e ++ unlink_deeds e) (arrive_deeds e) (import_notes e ++ submit_notes e ++ unlink_notes e) (arrival_notes e) b (arrives e) in
+    let d = beside (import_deeds e ++ submit_deeds e ++ unlink_deeds e ++ arrive_deeds e) (answer_deeds st e) (import_notes e ++ submit_notes e ++ unlink_notes e ++ arrival_notes e) (answer_notes st e) c (answers-told st e) in
+    let f = beside (import_deeds e ++ submit_deeds e ++ unlink_deeds e ++ arrive_deeds e ++ answer_deeds st e) (when_deed lost Gone) (import_notes e ++ submit_notes e ++ unlink_notes e ++ arrival_notes e ++ answer_notes st e) (when lost note.DeviceGone) d (gone-told lost) in
+    let g = beside (import_deeds e ++ submit_deeds e ++ unlink_deeds e ++ arrive_deeds e ++ answer_deeds st e ++ when_deed lost Gone) (when_deed left ClientGone) (import_notes e ++ submit_notes e ++ unlink_notes e ++ arrival_notes e ++ answer_notes st e ++ when lost note.DeviceGone) (when left note.ClientGone) f (left-told left) in
+    g
+    ∙ sym (append-nil (flat_map item_of (import_notes e ++ submit_notes e ++ unlink_notes e ++ arrival_notes e ++ answer_notes st e ++ when lost note.DeviceGone ++ when left note.ClientGone)))
+    ∙ ap (λ (l : List Item). flat_map item_of (import_notes e ++ submit_notes e ++ unlink_notes e ++ arrival_notes e ++ answer_notes st e ++ when lost note.DeviceGone ++ when left note.ClientGone) ++ l) (sym (none-refused (refused_at e)))
+    ∙ sym (flat_map-append item_of (import_notes e ++ submit_notes e ++ unlink_notes e ++ arrival_notes e ++ answer_notes st e ++ when lost note.DeviceGone ++ when left note.ClientGone) (refusal_notes (refused_at e)))

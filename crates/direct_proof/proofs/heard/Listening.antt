@@ -1,0 +1,163 @@
+-- The host reads what asks it for a transfer, or the reset before it: it joins its queue as it stands there.
+use Rattle.std.proofs.Common.{◌≡◌, ℕ, ◌||◌, Bool, true, false, cond, List, [], ◌∷◌, ◌++◌, map, Option, None, refl, sym, ap, ◌∙◌, subst, append-nil, append_assoc}
+use Rattle.usb_base.specs.declared.transfer.Transfer.{Transfer}
+use Rattle.redir_data.specs.declared.packet.RedirPacket.{RedirPacket}
+use Rattle.redir_data.specs.Streams.{advanced}
+use Rattle.model_device.specs.Meaning.{Meaning}
+use Rattle.redir_host.specs.declared.host.Host.{Host}
+use Rattle.redir_host.specs.declared.request.Request.{Request as HostRequest}
+use Rattle.redir_host.specs.declared.request.Form.{Form}
+use Rattle.redir_host.specs.Line.{Waiting as InLine, Waits}
+use Rattle.redir_host.specs.Moves.{quiet as host_quiet}
+use Rattle.redir_host.specs.Packets.{packet_move_by, joins}
+use Rattle.redir_host.specs.Sound.{Each}
+use Rattle.gate_core.specs.Bytes.{gateway_hello}
+use Rattle.direct_run.specs.Moves.{World, HostReads}
+use Rattle.direct_proof.specs.Moves.{move, quiet, host_reads, host_takes}
+use Rattle.direct_proof.specs.Requests.{Entry, at_queue, at_device}
+use Rattle.direct_proof.specs.Shared.{Shared, in_line, lines, half_line, view}
+use Rattle.direct_proof.specs.Tagged.{runs_in}
+use Rattle.direct_proof.specs.Related.{Related}
+use Rattle.direct_proof.specs.Loads.{IsLoad}
+use Rattle.direct_proof.specs.Cancels.{IsAsking, CancelsFit, moved, left, begins, is_change, any_change, Behind}
+use Rattle.direct_proof.specs.Ids.{Ids}
+use Rattle.direct_proof.specs.Stale.{asks, Clean}
+use Rattle.direct_proof.specs.Running.{Quits, Trails, StartsFit, started_kind, called_endpoint}
+use Rattle.direct_proof.specs.Kinds.{StartOfKind, CallIsIn}
+use Rattle.direct_proof.specs.Session.{down_in, runs}
+use Rattle.direct_proof.specs.Calls.{Fenced, Controls}
+use Rattle.direct_proof.proofs.shared.Folds.{clash, any-append, Next, next-line}
+use Rattle.direct_proof.proofs.shared.Streaming.{IsQuiet, controls-heard, fenced-heard}
+use Rattle.direct_proof.proofs.heard.Hears.{not-greeting, form_changes, change-form, joined}
+use Rattle.direct_proof.proofs.shared.Traces.{map-append}
+use Rattle.direct_proof.proofs.shared.Keeps.{Keeps, keeps-quiet}
+
+-- only its hello is read before the hello
+pub greeted : {S : Type 0} (m : Meaning S) (w : World S) (j : Shared) (p : ℕ × RedirPacket) (ps : List (ℕ × RedirPacket)) → Related m w j → w.to_host ≡ p ∷ ps → (b : Bool) → w.host.guest.first ≡ b → IsAsking p.1 → b ≡ false
+greeted m w j p ps rel wire true first k = absurd (subst (λ (x : ℕ × RedirPacket). IsAsking x.1) same k)
+  where
+    heads : {X : Type 0} (x y : X) (xs ys : List X) → x ∷ xs ≡ y ∷ ys → x ≡ y
+    heads x y xs ys e = cc
+
+    same : p ≡ (0, gateway_hello)
+    same = heads p (0, gateway_hello) ps [] (sym wire ∙ (rel.meets.before first).wire)
+greeted m w j p ps rel wire false first k = refl
+
+-- what the host reads, where it sends nothing and tells nothing
+pub host-reads : {S : Type 0} (m : Meaning S) (w : World S) (p : ℕ × RedirPacket) (ps : List (ℕ × RedirPacket)) (h : Host S) → w.to_host ≡ p ∷ ps → IsAsking p.1 → (b : Bool) → w.host.unplugged ≡ b → (b ≡ false → packet_move_by m w.host p.0 p.1 ≡ host_quiet h) →
+    move m w HostReads ≡ quiet (record w { to_host = ps; to_gate = w.to_gate ++ []; host = cond b w.host h })
+host-reads {S = S} m w p ps h wire k true off by =
+    ap (host_reads m w) wire ∙ ap (host_takes (record w { to_host = ps })) ((λ i. cond (off i) (host_quiet (record w.host { guest = not-greeting w.host.guest p.1 k i })) (packet_move_by m (record w.host { guest = advanced w.host.guest p.1 }) p.0 p.1)))
+host-reads {S = S} m w p ps h wire k false off by =
+    ap (host_reads m w) wire ∙ ap (host_takes (record w { to_host = ps })) ((λ i. cond (off i) (host_quiet (record w.host { guest = advanced w.host.guest p.1 })) (packet_move_by m (record w.host { guest = not-greeting w.host.guest p.1 k i }) p.0 p.1)) ∙ by refl)
+
+-- ---- a request
+
+sums : (a h c : Bool) → ((a || h) || c) ≡ ((a || ((h || c) || false)) || false)
+sums true h c = refl
+sums false true c = refl
+sums false false true = refl
+sums false false false = refl
+
+-- the world once a packet is read that sends nothing
+abbrev pub read_world : {S : Type 0} → World S → List (ℕ × RedirPacket) → List HostRequest → Bool → World S
+read_world w ps queue next = record w { to_host = ps; to_gate = w.to_gate ++ []; host = record w.host { queue = queue; resets_next = next } }
+
+abbrev pub joined_shared : Shared → Entry → List Entry → Shared
+joined_shared j e es = record j { held = j.held ++ e ∷ []; half = false; coming = es }
+
+after-joined : {S : Type 0} (m : Meaning S) (w : World S) (j : Shared) (p : ℕ × RedirPacket) (ps : List (ℕ × RedirPacket)) (f : Form) (t : Transfer) (queue : List HostRequest) (next : Bool) → Related m w j → w.to_host ≡ p ∷ ps → w.host.guest.first ≡ false →
+    begins p.1 ≡ true → IsQuiet p → ((fence : Option ℕ) → asks fence p ≡ form_changes f) → (n : Next j.half p.0 f t (lines ps) j.coming) →
+    queue ≡ cond w.host.unplugged [] (map at_queue (j.held ++ n.entry ∷ [])) → (w.host.unplugged ≡ false → next ≡ false) →
+    Related m (read_world w ps queue next) (joined_shared j n.entry n.rest)
+after-joined {S = S} m w j p ps f t queue next rel wire first begin calm asked n queued marked = record {
+  held = queued;
+  half = marked;
+  coming = n.others;
+  answers = append-nil w.to_gate ∙ rel.answers;
+  loads = subst (Each (λ (e : Entry). IsLoad e.load)) same rel.loads;
+  tagged = rel.tagged;
+  ids = subst (λ (l : List Entry). Ids j.debts w.submits l (runs_in j.back)) same rel.ids;
+  real = rel.real;
+  calls_in = (subst (Each (λ (q : ℕ × RedirPacket). CallIsIn (called_endpoint q.1))) wire rel.calls_in).1;
+  runs_at_in = rel.runs_at_in;
+  meets = record {
+    host = rel.meets.host;
+    gate = rel.meets.gate;
+    before = λ h. absurd (clash w.host.guest.first h first);
+    announced = rel.meets.announced;
+    asked = λ h. (subst (Each (λ (q : ℕ × RedirPacket). IsAsking q.1)) wire (rel.meets.asked h)).1;
+    behind = rel.meets.behind;
+    no_session = rel.meets.no_session;
+    once = rel.meets.once;
+    plugged = rel.meets.plugged;
+  };
+  debts = rel.debts;
+  controls = λ h. controls-heard w.gate.calls p ps j.back (subst (λ (l : List (ℕ × RedirPacket)). Controls w.gate.calls l j.back) wire (rel.controls h));
+  fenced = λ h. fenced-heard w.gate.fence j.fenced p ps j.back (subst (λ (l : List (ℕ × RedirPacket)). Fenced w.gate.fence j.fenced l j.back) wire (rel.fenced h));
+  cancels = subst (λ (l : List Entry). CancelsFit (moved true j.held l) ps (left true l)) n.is
+      (subst (λ (b : Bool). CancelsFit (moved b j.held j.coming) ps (left b j.coming)) begin (subst (λ (l : List (ℕ × RedirPacket)). CancelsFit j.held l j.coming) wire rel.cancels).1);
+  behind = subst Behind same rel.behind;
+  alone = rel.alone;
+  session = λ h a. let s = rel.session h a in record {
+    table = s.table;
+    faces = s.faces;
+    clean = subst (λ (l : List Entry). Clean w.gate.fence (down_in w.gate.streams) (any_change l || j.fenced) j.back) same s.clean;
+    quits = λ ep d. subst (λ (b : Bool). Quits w.gate.fence ep b ps) (calm.2 ep (runs w.host ep)) (subst (Quits w.gate.fence ep (runs w.host ep)) wire (s.quits ep d)).1;
+    trails = (subst (Trails w.gate.fence (down_in w.gate.streams)) wire s.trails).1;
+    starts = subst (λ (b : Bool). StartsFit (m.table w.host.gadget) b ps) changed (subst (StartsFit (m.table w.host.gadget) (any_change j.held || j.half)) wire s.starts).1;
+    kinds = s.kinds;
+    start_kinds = (subst (Each (λ (q : ℕ × RedirPacket). StartOfKind w.gate.streams (started_kind q.1))) wire s.start_kinds).1;
+  };
+  ups = rel.ups;
+  lost = rel.lost;
+  reads = rel.reads;
+  refused = rel.refused;
+  down = rel.down;
+  gone = rel.gone;
+  seen = rel.seen;
+  still = rel.still;
+  bye = rel.bye;
+  bye_last = rel.bye_last;
+}
+  where
+    same : j.held ++ j.coming ≡ (j.held ++ n.entry ∷ []) ++ n.rest
+    same = ap (λ (l : List Entry). j.held ++ l) n.is ∙ sym (append_assoc j.held (n.entry ∷ []) n.rest)
+
+    is-change : (j.half || asks None p) ≡ is_change n.entry
+    is-change = (λ i. sym n.reset i || (asked None ∙ ap form_changes n.same_form) i) ∙ sym (change-form n.entry.load.request n.entry.load.verdict)
+
+    changed : ((any_change j.held || j.half) || asks None p) ≡ (any_change (j.held ++ n.entry ∷ []) || false)
+    changed = sums (any_change j.held) j.half (asks None p) ∙ (λ i. (any_change j.held || (is-change i || false)) || false) ∙ ap (λ (b : Bool). b || false) (sym (any-append is_change j.held (n.entry ∷ [])))
+
+pub keep-joined : {S : Type 0} (m : Meaning S) (w : World S) (j : Shared) (p : ℕ × RedirPacket) (ps : List (ℕ × RedirPacket)) (f : Form) (t : Transfer) → Related m w j → w.to_host ≡ p ∷ ps → IsAsking p.1 → w.host.guest.first ≡ false →
+    in_line p ≡ Waits p.0 f t ∷ [] → begins p.1 ≡ true → IsQuiet p → ((fence : Option ℕ) → asks fence p ≡ form_changes f) → packet_move_by m w.host p.0 p.1 ≡ joins w.host p.0 f t → Keeps m w j (move m w HostReads)
+keep-joined {S = S} m w j p ps f t rel wire k first line begin calm asked host = go w.host.unplugged refl
+  where
+    n : Next j.half p.0 f t (lines ps) j.coming
+    n = next-line j.half p.0 f t (lines ps) j.coming (ap (λ (l : List InLine). half_line j.half ++ (l ++ lines ps)) (sym line) ∙ ap (λ (l : List (ℕ × RedirPacket)). half_line j.half ++ lines l) (sym wire) ∙ rel.coming)
+
+    e : Entry
+    e = n.entry
+
+    later : Shared
+    later = joined_shared j e n.rest
+
+    same : j.held ++ j.coming ≡ (j.held ++ e ∷ []) ++ n.rest
+    same = ap (λ (l : List Entry). j.held ++ l) n.is ∙ sym (append_assoc j.held (e ∷ []) n.rest)
+
+    waits : (w' : World S) → view w j ≡ record (view w j) { queue = map at_device ((j.held ++ e ∷ []) ++ n.rest) }
+    waits w' = λ i. record (view w j) { queue = map at_device (same i) }
+
+    go : (b : Bool) → w.host.unplugged ≡ b → Keeps m w j (move m w HostReads)
+    go true off = keeps-quiet m w j later (move m w HostReads) (read_world w ps w.host.queue w.host.resets_next)
+        (host-reads m w p ps w.host wire k true off (λ z. absurd (clash true refl z)))
+        (after-joined m w j p ps f t w.host.queue w.host.resets_next rel wire first begin calm asked n
+        (rel.held ∙ ap (λ (b : Bool). cond b [] (map at_queue j.held)) off ∙ ap (λ (b : Bool). cond b [] (map at_queue (j.held ++ e ∷ []))) (sym off)) (λ h. absurd (clash w.host.unplugged off h)))
+        (waits w)
+    go false on = keeps-quiet m w j later (move m w HostReads) (read_world w ps (w.host.queue ++ at_queue e ∷ []) false)
+        (host-reads m w p ps (record w.host { queue = w.host.queue ++ at_queue e ∷ []; resets_next = false }) wire k false on
+        (λ z. host ∙ ap host_quiet (joined w.host e p.0 f t (rel.half on ∙ sym n.reset) n.same_id n.same_form n.same_transfer)))
+        (after-joined m w j p ps f t (w.host.queue ++ at_queue e ∷ []) false rel wire first begin calm asked n
+        ((λ i. (rel.held ∙ ap (λ (b : Bool). cond b [] (map at_queue j.held)) on) i ++ at_queue e ∷ []) ∙ sym (map-append at_queue j.held (e ∷ [])) ∙ ap (λ (b : Bool). cond b [] (map at_queue (j.held ++ e ∷ []))) (sym on)) (λ h. refl))
+        (waits w)

@@ -1,0 +1,8 @@
+pub mod Left
+pub mod Last
+pub mod LeftLists
+pub mod LeftWire
+pub mod LeftSent
+pub mod LeftKept
+pub mod Stopping
+pub mod Leaving

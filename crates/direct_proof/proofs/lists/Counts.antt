@@ -1,0 +1,150 @@
+-- Counting.
+use Rattle.std.proofs.Common.{◌≡◌, ℕ, ◌+◌, ◌≤◌, ◌<◌, ◌||◌, Bool, true, false, cond, not, eqb, List, [], ◌∷◌, ◌++◌, map, refl, sym, ap, ◌∙◌, arith}
+use Rattle.std.specs.Prelude.{filter}
+use Rattle.std.specs.List.{list_any}
+use Rattle.redir_host.specs.Sound.{Each}
+use Rattle.gate_core.proofs.Lists.{both}
+use Rattle.direct_proof.specs.Ids.{count}
+
+pub count-append : {X : Type 0} (p : X → Bool) (xs ys : List X) → count p (xs ++ ys) ≡ count p xs + count p ys
+count-append p [] ys = omega arith
+count-append p (x ∷ xs) ys = let e = count-append p xs ys in omega arith
+
+pub count-map : {X Y : Type 0} (p : Y → Bool) (f : X → Y) (xs : List X) → count p (map f xs) ≡ count (λ x. p (f x)) xs
+count-map p f [] = refl
+count-map p f (x ∷ xs) = ap (λ (n : ℕ). cond (p (f x)) 1 0 + n) (count-map p f xs)
+
+-- what a filter keeps and what it drops
+pub count-parts : {X : Type 0} (p q : X → Bool) (xs : List X) → count p (filter q xs) + count p (filter (λ x. not (q x)) xs) ≡ count p xs
+count-parts p q [] = refl
+count-parts p q (x ∷ xs) =
+    let rest = count-parts p q xs in
+    elim (q x) as (λ b. count p (cond b (x ∷ filter q xs) (filter q xs)) + count p (cond (not b) (x ∷ filter (λ y. not (q y)) xs) (filter (λ y. not (q y)) xs)) ≡ cond (p x) 1 0 + count p xs)
+    [ true ↦ omega arith | false ↦ omega arith ]
+
+pub count-some : {X : Type 0} (p : X → Bool) (xs : List X) → list_any p xs ≡ true → 1 ≤ count p xs
+count-some p [] e = absurd (cc)
+count-some p (x ∷ xs) e0 =
+    let rest : list_any p xs ≡ true → 1 ≤ count p xs = count-some p xs in
+    (elim (p x) as (λ b. (b || list_any p xs) ≡ true → 1 ≤ cond b 1 0 + count p xs)
+    [ true ↦ (λ e. omega arith) | false ↦ (λ e. let r : 1 ≤ count p xs = rest e in omega arith) ]) e0
+
+pub any-some : {X : Type 0} (p : X → Bool) (xs : List X) → 1 ≤ count p xs → list_any p xs ≡ true
+any-some p [] e = absurd (omega arith)
+any-some p (x ∷ xs) e0 =
+    let rest : 1 ≤ count p xs → list_any p xs ≡ true = any-some p xs in
+    (elim (p x) as (λ b. 1 ≤ cond b 1 0 + count p xs → (b || list_any p xs) ≡ true)
+    [ true ↦ (λ e. refl) | false ↦ (λ e. rest (omega arith)) ]) e0
+
+pub any-none : {X : Type 0} (p : X → Bool) (xs : List X) → list_any p xs ≡ false → Each (λ x. p x ≡ false) xs
+any-none p [] e = tt
+any-none p (x ∷ xs) e0 = go (p x) refl (any-none p xs) e0
+  where
+    go : (b : Bool) → p x ≡ b → (list_any p xs ≡ false → Each (λ y. p y ≡ false) xs) → (b || list_any p xs) ≡ false → Each (λ y. p y ≡ false) (x ∷ xs)
+    go true h rest e = absurd (cc)
+    go false h rest e = (h, rest e)
+
+pub count-zero : {X : Type 0} (p : X → Bool) (xs : List X) → Each (λ x. p x ≡ false) xs → count p xs ≡ 0
+count-zero p [] e = refl
+count-zero p (x ∷ xs) e = ap (λ (b : Bool). cond b 1 0 + count p xs) e.0 ∙ ap (λ (n : ℕ). 0 + n) (count-zero p xs e.1)
+
+pub zero-count : {X : Type 0} (p : X → Bool) (xs : List X) → count p xs ≡ 0 → Each (λ x. p x ≡ false) xs
+zero-count p [] e = tt
+zero-count p (x ∷ xs) e0 = go (p x) refl (zero-count p xs) e0
+  where
+    go : (b : Bool) → p x ≡ b → (count p xs ≡ 0 → Each (λ y. p y ≡ false) xs) → cond b 1 0 + count p xs ≡ 0 → Each (λ y. p y ≡ false) (x ∷ xs)
+    go true h rest e = absurd (omega arith)
+    go false h rest e = (h, rest (omega arith))
+
+pub count-both : {X : Type 0} (p q : X → Bool) (xs : List X) → count (λ x. both (p x) (q x)) xs ≤ count p xs
+count-both p q [] = omega arith
+count-both p q (x ∷ xs) =
+    let rest = count-both p q xs in
+    elim (p x) as (λ b. cond (both b (q x)) 1 0 + count (λ y. both (p y) (q y)) xs ≤ cond b 1 0 + count p xs)
+    [ true ↦ elim (q x) as (λ c. cond c 1 0 + count (λ y. both (p y) (q y)) xs ≤ 1 + count p xs) [ true ↦ omega arith | false ↦ omega arith ] | false ↦ omega arith ]
+
+pub count-both_right : {X : Type 0} (p q : X → Bool) (xs : List X) → count (λ x. both (p x) (q x)) xs ≤ count q xs
+count-both_right p q [] = omega arith
+count-both_right p q (x ∷ xs) =
+    let rest = count-both_right p q xs in
+    elim (p x) as (λ b. cond (both b (q x)) 1 0 + count (λ y. both (p y) (q y)) xs ≤ cond (q x) 1 0 + count q xs)
+    [ true ↦ omega arith | false ↦ omega arith ]
+
+-- two tests of which each finds one at most, and which find one together, are the same there
+pub same_test : {X : Type 0} (p q : X → Bool) (xs : List X) → count p xs ≤ 1 → count q xs ≤ 1 → 1 ≤ count (λ x. both (p x) (q x)) xs → Each (λ x. p x ≡ q x) xs
+same_test p q [] a b c = tt
+same_test {X = X} p q (x ∷ xs) a0 b0 c0 = go (p x) (q x) refl refl (same_test p q xs) a0 b0 c0
+  where
+    both_none : count p xs ≡ 0 → count q xs ≡ 0 → Each (λ y. p y ≡ q y) xs
+    both_none h k = pairs xs (zero-count p xs h) (zero-count q xs k)
+      where
+        pairs : (ys : List X) → Each (λ y. p y ≡ false) ys → Each (λ y. q y ≡ false) ys → Each (λ y. p y ≡ q y) ys
+        pairs [] h k = tt
+        pairs (y ∷ ys) h k = (h.0 ∙ sym k.0, pairs ys h.1 k.1)
+
+    go : (b c : Bool) → p x ≡ b → q x ≡ c → (count p xs ≤ 1 → count q xs ≤ 1 → 1 ≤ count (λ y. both (p y) (q y)) xs → Each (λ y. p y ≡ q y) xs) →
+        cond b 1 0 + count p xs ≤ 1 → cond c 1 0 + count q xs ≤ 1 → 1 ≤ cond (both b c) 1 0 + count (λ y. both (p y) (q y)) xs → Each (λ y. p y ≡ q y) (x ∷ xs)
+    go true true h k rest a b c = (h ∙ sym k, both_none (omega arith) (omega arith))
+    go true false h k rest a b c = absurd (omega (arith, count-both p q xs))
+    go false true h k rest a b c = absurd (omega (arith, count-both_right p q xs))
+    go false false h k rest a b c = (h ∙ sym k, rest (omega arith) (omega arith) (omega arith))
+
+pub apart : (i n : ℕ) → i < n → eqb i n ≡ false
+apart i n h = grind arith
+
+pub itself : (n : ℕ) → eqb n n ≡ true
+itself n = grind arith
+
+pub Each-weaker : {X : Type 0} (P Q : X → Type 0) → ((x : X) → P x → Q x) → (xs : List X) → Each P xs → Each Q xs
+Each-weaker P Q h [] e = tt
+Each-weaker P Q h (x ∷ xs) e = (h x e.0, Each-weaker P Q h xs e.1)
+
+-- the one that a test finds
+pub single : {X : Type 0} (p q : X → Bool) (xs : List X) → count p xs ≤ 1 → 1 ≤ count (λ x. both (p x) (q x)) xs → (x : X) × (filter p xs ≡ x ∷ []) × (p x ≡ true) × (q x ≡ true)
+single p q [] a b = absurd (omega arith)
+single {X = X} p q (x ∷ xs) a0 b0 = go (p x) (q x) refl refl (single p q xs) a0 b0
+  where
+    no_more : (ys : List X) → Each (λ y. p y ≡ false) ys → filter p ys ≡ []
+    no_more [] e = refl
+    no_more (y ∷ ys) e = ap (λ (b : Bool). cond b (y ∷ filter p ys) (filter p ys)) e.0 ∙ no_more ys e.1
+
+    go : (b c : Bool) → p x ≡ b → q x ≡ c → (count p xs ≤ 1 → 1 ≤ count (λ y. both (p y) (q y)) xs → (z : X) × (filter p xs ≡ z ∷ []) × (p z ≡ true) × (q z ≡ true)) →
+        cond b 1 0 + count p xs ≤ 1 → 1 ≤ cond (both b c) 1 0 + count (λ y. both (p y) (q y)) xs → (z : X) × (cond b (x ∷ filter p xs) (filter p xs) ≡ z ∷ []) × (p z ≡ true) × (q z ≡ true)
+    go true true h k rest a b = (x, ap (λ (l : List X). x ∷ l) (no_more xs (zero-count p xs (omega arith))), h, k)
+    go true false h k rest a b = absurd (omega (arith, count-both p q xs))
+    go false c h k rest a b = rest (omega arith) (omega arith)
+
+pub Each-and : {X : Type 0} (P Q R : X → Type 0) → ((x : X) → P x → Q x → R x) → (xs : List X) → Each P xs → Each Q xs → Each R xs
+Each-and P Q R h [] e f = tt
+Each-and P Q R h (x ∷ xs) e f = (h x e.0 f.0, Each-and P Q R h xs e.1 f.1)
+
+pub Each-front : {X : Type 0} (P : X → Type 0) (xs ys : List X) → Each P (xs ++ ys) → Each P xs
+Each-front P [] ys e = tt
+Each-front P (x ∷ xs) ys e = (e.0, Each-front P xs ys e.1)
+
+pub Each-back : {X : Type 0} (P : X → Type 0) (xs ys : List X) → Each P (xs ++ ys) → Each P ys
+Each-back P [] ys e = e
+Each-back P (x ∷ xs) ys e = Each-back P xs ys e.1
+
+pub Each-map : {X Y : Type 0} (P : Y → Type 0) (f : X → Y) (xs : List X) → Each (λ x. P (f x)) xs → Each P (map f xs)
+Each-map P f [] e = tt
+Each-map P f (x ∷ xs) e = (e.0, Each-map P f xs e.1)
+
+pub list_any-same : {X : Type 0} (p q : X → Bool) (xs : List X) → Each (λ x. p x ≡ q x) xs → list_any p xs ≡ list_any q xs
+list_any-same p q [] e = refl
+list_any-same p q (x ∷ xs) e = λ t. e.0 t || list_any-same p q xs e.1 t
+
+pub Each-swap : {X Y : Type 0} (R : X → Y → Type 0) (xs : List X) (ys : List Y) → Each (λ y. Each (λ x. R x y) xs) ys → Each (λ x. Each (R x) ys) xs
+Each-swap R [] ys e = tt
+Each-swap R (x ∷ xs) ys e =
+    (Each-weaker (λ y. Each (λ z. R z y) (x ∷ xs)) (R x) (λ y h. h.0) ys e, Each-swap R xs ys (Each-weaker (λ y. Each (λ z. R z y) (x ∷ xs)) (λ y. Each (λ z. R z y) xs) (λ y h. h.1) ys e))
+
+-- each element is found by its own test
+pub Each-found : {X : Type 0} (R : X → X → Bool) → ((x : X) → R x x ≡ true) → (xs : List X) → Each (λ x. 1 ≤ count (R x) xs) xs
+Each-found R same [] = tt
+Each-found {X = X} R same (x ∷ xs) =
+    (first (R x x) (same x), Each-weaker (λ y. 1 ≤ count (R y) xs) (λ y. 1 ≤ count (R y) (x ∷ xs)) (λ y h. omega arith) xs (Each-found R same xs))
+  where
+    first : (b : Bool) → b ≡ true → 1 ≤ cond b 1 0 + count (R x) xs
+    first true e = omega arith
+    first false e = absurd (cc)

@@ -1,0 +1,75 @@
+-- In the first world, where nothing but the two hellos is on a wire, the two stand for the device attached directly.
+use Rattle.std.proofs.Common.{◌≡◌, ℕ, zero, suc, ◌%◌, nat_lt, Bool, true, false, cond, [], ◌∷◌, get_or, Option, None, refl, sym, subst, arith, inl}
+use Rattle.std.specs.Prelude.{replicate}
+use Rattle.usb_base.specs.Endpoint.{endpoint_index}
+use Rattle.model_device.specs.Meaning.{Meaning}
+use Rattle.gate_core.specs.Ups.{Up, stream_of, stream_at, no_streams}
+use Rattle.direct_run.specs.Moves.{first_world}
+use Rattle.direct_proof.specs.Shared.{Shared}
+use Rattle.direct_proof.specs.Tagged.{Greeted}
+use Rattle.direct_proof.specs.Related.{Related}
+use Rattle.direct_proof.specs.Kinds.{UpsFit, UpFits}
+use Rattle.direct_proof.proofs.shared.Folds.{not-both}
+
+abbrev pub first_shared : Shared
+first_shared = record { held = []; half = false; coming = []; back = Greeted ∷ []; debts = []; fenced = false; gone = false }
+
+abbrev nothing : Option Up
+nothing = None
+
+none-up : (n i : ℕ) → get_or (replicate n nothing) i nothing ≡ nothing
+none-up zero i = refl
+none-up (suc n) zero = refl
+none-up (suc n) (suc i) = none-up n i
+
+pub none-ups : UpsFit no_streams
+none-ups = record { count_is = refl; each = λ i. subst (UpFits i) (sym (none-up 32 i)) tt }
+
+pub all-down : (ep : ℕ) → stream_of no_streams ep ≡ None
+all-down ep = go (nat_lt (ep % 128) 16)
+  where
+    go : (b : Bool) → cond b (stream_at no_streams ep) None ≡ None
+    go true = none-up 32 (endpoint_index ep)
+    go false = refl
+
+pub first-related : {S : Type 0} (m : Meaning S) (s : S) → Related m (first_world s) first_shared
+first-related m s = record {
+  held = refl;
+  half = λ h. refl;
+  coming = refl;
+  answers = refl;
+  loads = tt;
+  tagged = (tt, tt);
+  ids = record { balance = λ test. refl; one_id = λ id. omega arith; one_number = λ n. omega arith; named = tt; entries_agree = tt; ran_agrees = tt };
+  real = tt;
+  calls_in = (tt, tt);
+  runs_at_in = tt;
+  meets = record {
+    host = λ h. absurd (not-both h);
+    gate = λ h. absurd (not-both h);
+    before = λ h. record { back = inl refl; wire = refl; held = refl; half = refl; running = refl };
+    announced = λ h k. absurd (not-both h);
+    asked = λ h. absurd (not-both h);
+    behind = λ h. absurd (not-both (sym h));
+    once = ((λ h. absurd (not-both (sym h))), tt);
+    plugged = λ h. absurd (not-both (sym h));
+    no_session = λ h k. absurd (not-both (sym h));
+  };
+  debts = λ h. refl;
+  controls = λ h. record { once = λ id. omega arith; calls_kept = (tt, tt); statuses_kept = (tt, tt) };
+  fenced = λ h. refl;
+  cancels = ((λ h. absurd (not-both (sym h))), tt);
+  behind = tt;
+  alone = λ h. absurd (not-both (sym h));
+  session = λ h a. absurd (not-both (sym a));
+  ups = record { count_is = refl; each = λ i. subst (UpFits i) (sym (none-up 32 i)) tt };
+  lost = λ h. absurd (not-both (sym h));
+  reads = refl;
+  refused = λ h. absurd (not-both (sym h));
+  down = λ h. refl;
+  gone = λ h. absurd (not-both (sym h));
+  seen = λ h. absurd (not-both (sym h));
+  still = λ h. absurd (not-both (sym h));
+  bye = λ h. refl;
+  bye_last = ((λ h. absurd (not-both (sym h))), tt);
+}

@@ -1,0 +1,201 @@
+-- The gateway reads the device's end: all that is live is answered, and nothing comes any more.
+use Rattle.std.proofs.Common.{◌≡◌, ℕ, suc, ◌&&◌, not, Bool, true, false, cond, List, [], ◌∷◌, ◌++◌, map, Option, Some, None, refl, sym, ap, ◌∙◌, subst, append-nil, inl, inr, ◌⊎◌}
+use Rattle.std.specs.List.{flat_map}
+use Rattle.usbip_urb.specs.declared.packet.UrbPacket.{UrbPacket}
+use Rattle.usbip_urb.specs.declared.client.ClientPacket.TheVariants.{Urb}
+use Rattle.redir_wire.specs.Capability.{has}
+use Rattle.redir_wire.specs.declared.packet.RedirControl.TheVariants as plain
+use Rattle.redir_data.specs.declared.packet.RedirPacket.{RedirPacket}
+use Rattle.redir_data.specs.declared.packet.RedirPacket.TheVariants.{Plain}
+use Rattle.model_device.specs.Meaning.{Meaning}
+use Rattle.redir_host.specs.Line.{Waiting as InLine}
+use Rattle.redir_host.specs.Sound.{Each}
+use Rattle.gate_core.specs.Marks.{Submission, Effect, Disconnects}
+use Rattle.gate_core.specs.Submits.{Pending, ends}
+use Rattle.gate_core.specs.Answers.{answers_at, lost_answer}
+use Rattle.gate_core.specs.Output.{present, acknowledgements}
+use Rattle.gate_core.specs.Notes as notes
+use Rattle.gate_core.specs.Facts.{no_facts}
+use Rattle.gate_core.specs.State.{State}
+use Rattle.gate_core.specs.Sound.{IsSound}
+use Rattle.gate_core.specs.Machine.{ask}
+use Rattle.gate_core.specs.Meaning.{mark_as}
+use Rattle.gate_core.specs.Ups.{no_streams, stream_of}
+use Rattle.gate_core.specs.declared.note.Note.TheVariants as note
+use Rattle.gate_core.proofs.Lists.{filter-none}
+use Rattle.gate_core.proofs.Steady.{none-cancelled, stays-uncancelled}
+use Rattle.direct_run.specs.Noted.{named}
+use Rattle.direct_run.specs.Moves.{World, GateReads}
+use Rattle.direct_device.specs.Direct.{Live, as_submission}
+use Rattle.direct_device.specs.Acting.{Gone, Answer}
+use Rattle.direct_proof.specs.Moves.{Made, move, quiet, gate_reads, gate_made, when}
+use Rattle.direct_proof.specs.Shared.{Shared, lines, half_line, way_of, view}
+use Rattle.direct_proof.specs.Tagged.{Greeted, Bye}
+use Rattle.direct_proof.specs.Requests.{live_of, load_of}
+use Rattle.direct_proof.specs.Related.{Related}
+use Rattle.direct_proof.specs.Cancels.{IsAsking, CancelsFit}
+use Rattle.direct_proof.specs.Kinds.{CallIsIn}
+use Rattle.direct_proof.specs.Running.{called_endpoint}
+use Rattle.direct_proof.proofs.answers.Answered.{with_back}
+use Rattle.direct_proof.proofs.shared.Owed.{each-append}
+use Rattle.direct_proof.proofs.shared.Folds.{clash, not-both, lines-append}
+use Rattle.direct_proof.proofs.shared.Fits.{fits-nil}
+use Rattle.direct_proof.proofs.answers.Replying.{still-there}
+use Rattle.direct_proof.proofs.meeting.First.{none-ups, all-down}
+use Rattle.direct_proof.proofs.shared.Keeps.{Keeps, keeps-quiet, keeps-deed, not-gone}
+
+module _ {S : Type 0} (m : Meaning S) (w : World S) (j : Shared) (place : ℕ) (rel : Related m w (with_back j (Bye ∷ []))) (sound : IsSound w.gate) where
+  abbrev st : State
+  st = w.gate
+
+  abbrev effect : Effect
+  effect = Disconnects 0
+
+  abbrev acks : List (ℕ × RedirPacket)
+  acks = acknowledgements st.agreed effect
+
+  abbrev lost_world : World S
+  lost_world = record w {
+    gate = record st { items = suc st.items; facts = no_facts; lost = true; live = []; abandoned = []; streams = no_streams; fence = None };
+    to_host = w.to_host ++ acks;
+    to_gate = [];
+  }
+
+  there : st.lost ≡ false
+  there = still-there m w j Bye [] rel
+
+  off : w.host.unplugged ≡ true
+  off = go w.host.unplugged refl
+    where
+      go : (b : Bool) → w.host.unplugged ≡ b → b ≡ true
+      go true h = refl
+      go false h = absurd (not-both (rel.bye h))
+
+  met : w.host.guest.first ≡ false
+  met = go w.host.guest.first refl
+    where
+      early : (Bye ∷ [] ≡ Greeted ∷ []) ⊎ (Bye ∷ [] ≡ []) → ⊥
+      early (inl e) = cc
+      early (inr e) = cc
+
+      go : (b : Bool) → w.host.guest.first ≡ b → b ≡ false
+      go true h = absurd (early (rel.meets.before h).back)
+      go false h = refl
+
+  made-is : move m w (GateReads place) ≡ record { world = lost_world; outs = map Urb (map (λ (p : Pending). lost_answer p.submit p.unlinker) st.live); deeds = when st.imported Gone }
+  made-is = ap (gate_reads w place) rel.answers
+      ∙ (λ i. cond (rel.reads i) (quiet (record w { to_gate = [] })) (gate_made (record w { to_gate = [] }) (mark_as st effect None)))
+      ∙ (λ i. record {
+        world = record w {
+          gate = record st { items = suc st.items; facts = no_facts; lost = true; live = map (ask effect) (filter-none (present st effect) i); abandoned = []; streams = no_streams; fence = None };
+          to_host = w.to_host ++ ((none-cancelled effect stays-uncancelled st.live i ++ []) ++ acks);
+          to_gate = [];
+          submits = (ap (λ (ps : List Pending). w.submits ++ flat_map named (((map (λ (p : Pending). note.Answered p.submit.request.number) ps ++ notes.when (st.imported && not st.lost) note.DeviceGone) ++ []) ++ [])) (filter-none (present st effect)) ∙ unnamed (st.imported && not st.lost)) i;
+        };
+        outs = map Urb (told (st.live ++ []) i);
+        deeds = (ap (λ (ps : List Pending). (map (λ (p : Pending). Answer p.submit.request.number) ps ++ when (st.imported && not st.lost) Gone) ++ []) (filter-none (present st effect)) ∙ append-nil (when (st.imported && not st.lost) Gone)) i;
+      })
+      ∙ (λ i. record { world = lost_world; outs = map Urb (map (λ (p : Pending). lost_answer p.submit p.unlinker) (append-nil st.live i)); deeds = when ((ap (λ (b : Bool). st.imported && not b) there ∙ and-true st.imported) i) Gone })
+    where
+      and-true : (b : Bool) → (b && true) ≡ b
+      and-true true = refl
+      and-true false = refl
+
+      unnamed : (b : Bool) → w.submits ++ flat_map named ((notes.when b note.DeviceGone ++ []) ++ []) ≡ w.submits
+      unnamed true = append-nil w.submits
+      unnamed false = append-nil w.submits
+
+      told : (ps : List Pending) → flat_map (λ p. answers_at p.submit p.unlinker (ends effect p.submit)) ps ≡ map (λ (p : Pending). lost_answer p.submit p.unlinker) ps
+      told [] = refl
+      told (p ∷ ps) = ap (λ (l : List UrbPacket). lost_answer p.submit p.unlinker ∷ l) (told ps)
+
+  -- the acknowledgement is nothing that the host does
+  acked : (b : Bool) → (lines (cond b ((0, Plain plain.DisconnectAck) ∷ []) []) ≡ []) × (Each (λ (p : ℕ × RedirPacket). IsAsking p.1) (cond b ((0, Plain plain.DisconnectAck) ∷ []) [])) × CancelsFit (j.held ++ j.coming) (cond b ((0, Plain plain.DisconnectAck) ∷ []) []) []
+  acked true = (refl, (tt, tt), ((λ h. absurd (not-both (sym h))), tt))
+  acked false = (refl, tt, tt)
+
+  uncalled : (b : Bool) → Each (λ (p : ℕ × RedirPacket). CallIsIn (called_endpoint p.1)) (cond b ((0, Plain plain.DisconnectAck) ∷ []) [])
+  uncalled true = (tt, tt)
+  uncalled false = tt
+
+  abbrev lost_shared : Bool → Shared
+  lost_shared gone = record j { back = []; gone = gone }
+
+  related : (gone : Bool) → (st.imported ≡ true → gone ≡ true) → Related m lost_world (lost_shared gone)
+  related gone is = record {
+    held = rel.held;
+    half = rel.half;
+    coming = ap (λ (l : List InLine). half_line j.half ++ l) (lines-append w.to_host acks ∙ ap (λ (l : List InLine). lines w.to_host ++ l) (acked (has st.agreed 3)).0 ∙ append-nil (lines w.to_host)) ∙ rel.coming;
+    answers = refl;
+    loads = rel.loads;
+    tagged = tt;
+    ids = rel.ids;
+    real = rel.real;
+    calls_in = each-append (λ (p : ℕ × RedirPacket). CallIsIn (called_endpoint p.1)) w.to_host acks rel.calls_in (uncalled (has st.agreed 3));
+    runs_at_in = rel.runs_at_in;
+    meets = record {
+      host = rel.meets.host;
+      gate = rel.meets.gate;
+      before = λ h. absurd (clash w.host.guest.first h met);
+      asked = λ h. each-append (λ (p : ℕ × RedirPacket). IsAsking p.1) w.to_host acks (rel.meets.asked h) (acked (has st.agreed 3)).1;
+      announced = λ h k. absurd (clash w.host.unplugged off k);
+      behind = λ h. absurd (not-both (sym h));
+      once = tt;
+      plugged = λ h. met;
+      no_session = λ h k. absurd (not-both k);
+    };
+    debts = λ h. absurd (not-both h);
+    controls = λ h. absurd (not-both h);
+    fenced = λ h. absurd (not-both h);
+    cancels = fits-nil j.half j.held w.to_host acks j.coming rel.coming rel.cancels (acked (has st.agreed 3)).2;
+    behind = rel.behind;
+    alone = λ h. (refl, refl);
+    session = λ h a. absurd (not-both h);
+    ups = none-ups;
+    lost = λ h. (refl, off, refl, refl, all-down);
+    reads = rel.reads;
+    refused = rel.refused;
+    down = λ h. refl;
+    gone = λ h. refl;
+    seen = λ h. sym (is h);
+    still = rel.still;
+    bye = λ h. refl;
+    bye_last = tt;
+  }
+
+  pub keep-bye : Keeps m w (with_back j (Bye ∷ [])) (move m w (GateReads place))
+  keep-bye = go st.imported refl
+    where
+      no-ways : (ep : ℕ) → way_of (stream_of no_streams ep) ep [] ≡ []
+      no-ways ep = ap (λ o. way_of o ep []) (all-down ep)
+
+      go : (b : Bool) → st.imported ≡ b → Keeps m w (with_back j (Bye ∷ [])) (move m w (GateReads place))
+      go true inside = keeps-deed m w (with_back j (Bye ∷ [])) (lost_shared true) (move m w (GateReads place)) Gone (record {
+        deeds = ap (λ (x : Made S). x.deeds) made-is ∙ ap (λ (b : Bool). when b Gone) inside;
+        outs = ap (λ (x : Made S). x.outs) made-is ∙ ap (map Urb) (same-answers st.live);
+        same = (λ i. record (view w (with_back j (Bye ∷ []))) {
+          live = [];
+          ran = cond st.imported [] [];
+          streams = no_streams;
+          way = λ ep. sym (no-ways ep) i;
+          gone = true;
+        }) ∙ ap (λ (x : Made S). view x.world (lost_shared true)) (sym made-is);
+        allowed = (inside, not-gone m w (with_back j (Bye ∷ [])) rel there, ap (λ (b : Bool). cond b [] []) inside);
+      })
+          (subst (λ (x : Made S). Related m x.world (lost_shared true)) (sym made-is) (related true (λ h. refl)))
+        where
+          same-answers : (ps : List Pending) → map (λ (p : Pending). lost_answer p.submit p.unlinker) ps ≡ map (λ (l : Live). lost_answer (as_submission l.load) l.unlinker) (map live_of ps)
+          same-answers [] = refl
+          same-answers (p ∷ ps) = λ i. one p.submit p.unlinker i ∷ same-answers ps i
+            where
+              one : (s : Submission) (by : Option ℕ) → lost_answer s by ≡ lost_answer (as_submission (load_of s)) by
+              one s None = refl
+              one s (Some x) = refl
+      go false out = keeps-quiet m w (with_back j (Bye ∷ [])) (lost_shared j.gone) (move m w (GateReads place)) lost_world
+          (made-is ∙ (λ i. record { world = lost_world; outs = map Urb (map (λ (p : Pending). lost_answer p.submit p.unlinker) (sound.gone out i)); deeds = when (out i) Gone }))
+          (related j.gone (λ h. absurd (clash st.imported h out)))
+          (λ i. record (view w (with_back j (Bye ∷ []))) {
+            live = ap (map live_of) (sound.gone out) i;
+            streams = rel.down out i;
+            way = λ ep. (ap (λ ups. way_of (stream_of ups ep) ep (Bye ∷ [])) (rel.down out) ∙ ap (λ o. way_of o ep (Bye ∷ [])) (all-down ep) ∙ sym (no-ways ep)) i;
+          })

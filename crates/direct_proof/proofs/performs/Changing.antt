@@ -1,0 +1,210 @@
+-- The device performs a change, with success or refusing it, also a reset: what it flushes, and the facts that it tells.
+use Rattle.std.proofs.Common.{◌≡◌, ℕ, ◌||◌, ◌&&◌, not, Bool, true, false, cond, List, [], ◌∷◌, ◌++◌, map, filter, Option, Some, None, refl, sym, ap, ◌∙◌, subst, arith, append-nil}
+use Rattle.std.specs.Prelude.{IfSome}
+use Rattle.std.specs.List.{find, list_any}
+use Rattle.usb_base.specs.declared.transfer.Outcome.{Outcome}
+use Rattle.usb_base.specs.declared.endpoint.EpTable.{EpTable}
+use Rattle.control_route.specs.declared.route.Route.{Route}
+use Rattle.control_route.specs.Changes.{is_change as is_route_change}
+use Rattle.model_device.specs.Meaning.{Meaning}
+use Rattle.model_device.specs.Gadget.{IsGadget, IsNamed}
+use Rattle.model_device.specs.Device.{is_success}
+use Rattle.model_device.specs.Transfer.{IsOutcome, is_control}
+use Rattle.redir_host.specs.declared.host.Host.{Host}
+use Rattle.redir_host.specs.declared.request.Request.{Request as HostRequest}
+use Rattle.redir_host.specs.declared.running.Running.{Running}
+use Rattle.redir_host.specs.Queues.{queue_of, is_at, without_first}
+use Rattle.redir_host.specs.Performing.{performs_any, does, with_id}
+use Rattle.redir_host.specs.Sound.{Each}
+use Rattle.gate_core.specs.Verdict.{Verdict, Now, Wire, Routed, IsoOut, Stream, changes}
+use Rattle.gate_core.specs.Ups.{stream_of}
+use Rattle.gate_core.specs.Facts.{tell}
+use Rattle.gate_core.specs.Meaning.{fact_of}
+use Rattle.gate_core.specs.declared.facts.Facts.{Facts}
+use Rattle.direct_run.specs.Noted.{queue_byte, number_in}
+use Rattle.direct_run.specs.Moves.{World, Performs}
+use Rattle.direct_device.specs.Direct.{number, normal_of, change_in}
+use Rattle.direct_device.specs.Acting.{Perform}
+use Rattle.direct_proof.specs.Moves.{move, performs}
+use Rattle.direct_proof.specs.Requests.{Entry, Coming, at_queue}
+use Rattle.direct_proof.specs.Shared.{Shared}
+use Rattle.direct_proof.specs.Tagged.{Tagged, ToldTable, ToldFaces, Answered, on_wire, runs_in, told}
+use Rattle.direct_proof.specs.Related.{Related}
+use Rattle.direct_proof.specs.Session.{Session, down_in}
+use Rattle.direct_proof.specs.Loads.{IsLoad, IsComing}
+use Rattle.direct_proof.specs.Ids.{Ids}
+use Rattle.direct_proof.specs.Cancels.{Behind, is_change, any_change}
+use Rattle.direct_proof.specs.Stale.{ends}
+use Rattle.direct_proof.specs.Running.{StartsFit}
+use Rattle.direct_proof.specs.Kinds.{TaggedOfKind, OfKind, IsIn}
+use Rattle.direct_proof.proofs.answers.Loads.{performed-as}
+use Rattle.direct_proof.proofs.performs.Performs.{First, answered}
+use Rattle.direct_proof.proofs.shared.Owed.{each-append, each-filter, each-parts, ids-perform}
+use Rattle.direct_proof.proofs.lists.Counts.{Each-front, Each-back}
+use Rattle.direct_proof.proofs.shared.Folds.{not-both, or-left, or-right, any-append}
+use Rattle.direct_proof.proofs.shared.Streaming.{starts-none}
+use Rattle.direct_proof.proofs.shared.Backs.{told-append, clean-append}
+use Rattle.direct_proof.proofs.shared.Debts.{filter-append}
+use Rattle.direct_proof.proofs.shared.Sending.{IsNews, after-host, sent_world, sent_shared, answer-tells}
+use Rattle.direct_proof.proofs.shared.Ran.{Held, held-parts, greeted-held, behind-drop}
+use Rattle.direct_proof.proofs.performs.Flushes.{control-untouched, flushed_tag, behind-filter, behind-zeros, filter-kept, ids-flush, runs-flushed, clean-flushed}
+use Rattle.direct_proof.proofs.performs.Performing.{queue-held, performed-first}
+use Rattle.direct_proof.proofs.performs.Flushing.{flushes, still_running, change_news, host-change}
+use Rattle.direct_proof.proofs.performs.StillRunning.{quits-still, each-still}
+
+changes-in : (v : Verdict) (r : Route) → change_in v ≡ Some r → changes v ≡ true
+changes-in (Now status) r h = absurd (cc)
+changes-in (Wire pipe) r h = absurd (cc)
+changes-in (IsoOut row) r h = absurd (cc)
+changes-in (Stream row) r h = absurd (cc)
+changes-in (Routed x) r h = go (is_route_change x) h
+  where
+    go : (b : Bool) → cond b (Some x) None ≡ Some r → b ≡ true
+    go true z = refl
+    go false z = absurd (cc)
+
+-- ---- the move
+
+module _ {S : Type 0} (m : Meaning S) (laws : IsGadget m) (w : World S) (j : Shared) (ep : ℕ) (q : HostRequest) (rel : Related m w j) (there : w.host.unplugged ≡ false) (here : find (is_at ep) w.host.queue ≡ Some q) (f : First (queue_of ep) j.held j.coming q)
+    (r : Route) (change : change_in f.entry.load.verdict ≡ Some r) (done : S × Outcome) (ready : m.perform w.host.gadget (normal_of f.entry.load) ≡ Some done) where
+  abbrev e : Entry
+  e = f.entry
+
+  abbrev table : EpTable
+  table = m.table w.host.gadget
+
+  abbrev success : Bool
+  success = is_success done.1.status
+
+  abbrev out : Entry → Bool
+  out = flushes success r table
+
+  abbrev c : Coming
+  c = answered m e done
+
+  abbrev left : List Entry
+  left = filter (λ x. not (out x)) f.rest
+
+  abbrev gone : List Entry
+  gone = filter out f.rest
+
+  abbrev cs : List Tagged
+  cs = change_news m done.0 gone c
+
+  abbrev running : List Running
+  running = still_running success r table w.host.running
+
+  held : Held j f.front e f.back
+  held = held-parts j f.front e f.back f.es-is
+
+  first : w.host.guest.first ≡ false
+  first = greeted-held m w j f.front e f.back rel held.is w.host.guest.first refl
+
+  -- the move
+  pub moved : move m w (Performs ep) ≡ record { world = sent_world w done.0 left running cs; outs = []; deeds = Perform (queue_byte ep) (number_in e.id w.submits) ∷ [] }
+  moved = ap (performs w ep) (
+      performed-first m w ep (Some q) there here
+      ∙ (λ i. with_id (f.is i) (performs_any m (record w.host { queue = (ap (without_first (is_at ep)) (queue-held m w j rel there) ∙ f.host_rest) i }) (f.is i)))
+      ∙ ap (with_id (at_queue e)) (performed-as m rested e ∙ (λ i. does m rested (at_queue e) (change i) (ready i))
+      ∙ ap Some (host-change m (record rested { gadget = done.0 }) table r success f.rest e (m.configuration done.0) done.1 (rel.meets.host first) refl)))
+    where
+      rested : Host S
+      rested = record w.host { queue = map at_queue f.rest }
+
+  load : IsLoad e.load
+  load = (each-parts (λ (x : Entry). IsLoad x.load) f.front e (f.back ++ j.coming) (subst (Each (λ (x : Entry). IsLoad x.load)) held.inside rel.loads)).0
+
+  pub named : number_in e.id w.submits ≡ number e.load
+  named = (each-parts (λ (x : Entry). number_in x.id w.submits ≡ number x.load) f.front e (f.back ++ j.coming) (subst (Each (λ (x : Entry). number_in x.id w.submits ≡ number x.load)) held.inside rel.ids.named)).0
+
+  is-it : is_change e ≡ true
+  is-it = changes-in e.load.verdict r change
+
+  came : IsComing c
+  came = record {
+    load = load;
+    outcome = subst (λ (o : Option (S × Outcome)). IfSome o (λ x. IsOutcome (normal_of e.load) x.1)) ready (laws.outcomes w.host.gadget (normal_of e.load) load.transfer);
+    status = subst (λ (o : Option (S × Outcome)). IfSome o (λ x. IsNamed x.1.status)) ready (laws.named w.host.gadget (normal_of e.load) load.transfer);
+  }
+
+  -- those behind it are of endpoint 0, and stay
+  untouched : Each (λ (x : Entry). out x ≡ false) j.coming
+  untouched = go j.coming (Each-back (λ (y : Entry). is_control (normal_of y.load).ep ≡ true) f.back j.coming (behind-zeros f.front e (f.back ++ j.coming) (subst Behind held.inside rel.behind) is-it))
+    where
+      never : (b : Bool) → (b && false) ≡ false
+      never true = refl
+      never false = refl
+
+      go : (es : List Entry) → Each (λ (y : Entry). is_control (normal_of y.load).ep ≡ true) es → Each (λ (x : Entry). out x ≡ false) es
+      go [] h = tt
+      go (x ∷ es) h = (ap (λ (b : Bool). success && b) (control-untouched r table (normal_of x.load).ep h.0) ∙ never success, go es h.1)
+
+  rested : f.front ++ (f.back ++ j.coming) ≡ f.rest ++ j.coming
+  rested = held.outside ∙ ap (λ (l : List Entry). l ++ j.coming) (sym f.rest-is)
+
+  pub rest-loads : Each (λ (x : Entry). IsLoad x.load) (f.rest ++ j.coming)
+  rest-loads = subst (Each (λ (x : Entry). IsLoad x.load)) rested (each-parts (λ (x : Entry). IsLoad x.load) f.front e (f.back ++ j.coming) (subst (Each (λ (x : Entry). IsLoad x.load)) held.inside rel.loads)).1
+
+  pub all-left : filter (λ x. not (out x)) (f.rest ++ j.coming) ≡ left ++ j.coming
+  all-left = filter-append (λ x. not (out x)) f.rest j.coming ∙ ap (λ (l : List Entry). left ++ l) (filter-kept out j.coming untouched).1
+
+  pub all-gone : filter out (f.rest ++ j.coming) ≡ gone
+  all-gone = filter-append out f.rest j.coming ∙ ap (λ (l : List Entry). gone ++ l) (filter-kept out j.coming untouched).0 ∙ append-nil gone
+
+  ids : Ids j.debts w.submits (left ++ j.coming) (runs_in j.back ++ runs_in cs)
+  ids = subst (λ (l : List Coming). Ids j.debts w.submits (left ++ j.coming) (runs_in j.back ++ l)) (sym (runs-flushed gone (ToldTable (m.table done.0) ∷ ToldFaces (m.interfaces done.0) ∷ Answered c ∷ [])))
+      (ids-flush j.debts w.submits f.rest j.coming (runs_in j.back) c out (subst (λ (l : List Entry). Ids j.debts w.submits l (runs_in j.back ++ c ∷ [])) rested
+      (ids-perform j.debts w.submits f.front (f.back ++ j.coming) e (runs_in j.back) (m.configuration done.0) done.1 (subst (λ (l : List Entry). Ids j.debts w.submits l (runs_in j.back)) held.inside rel.ids))))
+
+  news : Each IsNews cs
+  news = each-append IsNews (map flushed_tag gone) (ToldTable (m.table done.0) ∷ ToldFaces (m.interfaces done.0) ∷ Answered c ∷ []) (all gone) (tt, (tt, (tt, tt)))
+    where
+      all : (es : List Entry) → Each IsNews (map flushed_tag es)
+      all [] = tt
+      all (x ∷ es) = (tt, all es)
+
+  tagged : Each (TaggedOfKind w.gate.streams) cs
+  tagged = each-append (TaggedOfKind w.gate.streams) (map flushed_tag gone) (ToldTable (m.table done.0) ∷ ToldFaces (m.interfaces done.0) ∷ Answered c ∷ []) (all gone (each-filter (λ (x : Entry). IsLoad x.load) out f.rest (Each-front (λ (x : Entry). IsLoad x.load) f.rest j.coming rest-loads))) (tt, (tt, (came, tt)))
+    where
+      all : (es : List Entry) → Each (λ (x : Entry). IsLoad x.load) es → Each (TaggedOfKind w.gate.streams) (map flushed_tag es)
+      all [] h = tt
+      all (x ∷ es) h = (record { load = h.0; outcome = record { done = omega arith; from_device = λ z. refl; to_device = λ z. refl }; status = refl }, all es h.1)
+
+  ends-in : (fence : Option ℕ) → list_any (ends fence) cs ≡ true
+  ends-in fence = any-append (ends fence) (map flushed_tag gone) (ToldTable (m.table done.0) ∷ ToldFaces (m.interfaces done.0) ∷ Answered c ∷ [])
+      ∙ or-right (list_any (ends fence) (map flushed_tag gone)) (changes e.load.verdict || false) (or-left (changes e.load.verdict) false is-it)
+
+  session : Session m w j → Session m (sent_world w done.0 left running cs) (sent_shared j left cs)
+  session s = record {
+    table = ap (λ (f : Facts). f.table) facts ∙ (answer-tells (tell (tell before (fact_of (on_wire (ToldTable (m.table done.0))).1)) (fact_of (on_wire (ToldFaces (m.interfaces done.0))).1)) c).table;
+    faces = ap (λ (f : Facts). f.interfaces) facts ∙ (answer-tells (tell (tell before (fact_of (on_wire (ToldTable (m.table done.0))).1)) (fact_of (on_wire (ToldFaces (m.interfaces done.0))).1)) c).interfaces;
+    clean = clean-append w.gate.fence (down_in w.gate.streams) (any_change (j.held ++ j.coming) || j.fenced) (any_change (left ++ j.coming) || j.fenced) j.back cs
+        (λ z. or-right (any_change (left ++ j.coming) || j.fenced) (list_any (ends w.gate.fence) cs) (ends-in w.gate.fence)) s.clean
+        (clean-flushed w.gate.fence (down_in w.gate.streams) (any_change (left ++ j.coming) || j.fenced) gone (ToldTable (m.table done.0) ∷ ToldFaces (m.interfaces done.0) ∷ Answered c ∷ [])
+        ((λ z. ended-soon), ((λ z. ended-soon), ((λ z. absurd (not-both (sym z))), tt))));
+    quits = λ k d. quits-still success r table w.gate.fence k w.host.running w.to_host (s.quits k d);
+    trails = s.trails;
+    starts = starts-none table (m.table done.0) (any_change left || j.half) w.to_host (subst (λ (b : Bool). StartsFit table b w.to_host) (or-left (any_change j.held) j.half some-change) s.starts);
+    kinds = each-still (λ (x : Running). OfKind (stream_of w.gate.streams x.ep) x.kind) success r table w.host.running s.kinds;
+    start_kinds = s.start_kinds;
+  }
+    where
+      before : Facts
+      before = told (told w.gate.facts j.back) (map flushed_tag gone)
+
+      facts : told w.gate.facts (j.back ++ cs) ≡ tell (tell (tell before (fact_of (on_wire (ToldTable (m.table done.0))).1)) (fact_of (on_wire (ToldFaces (m.interfaces done.0))).1)) (fact_of (on_wire (Answered c)).1)
+      facts = told-append w.gate.facts j.back cs ∙ told-append (told w.gate.facts j.back) (map flushed_tag gone) (ToldTable (m.table done.0) ∷ ToldFaces (m.interfaces done.0) ∷ Answered c ∷ [])
+
+      ended-soon : ((any_change (left ++ j.coming) || j.fenced) || (changes e.load.verdict || false)) ≡ true
+      ended-soon = or-right (any_change (left ++ j.coming) || j.fenced) (changes e.load.verdict || false) (or-left (changes e.load.verdict) false is-it)
+
+      some-change : any_change j.held ≡ true
+      some-change = ap any_change held.is ∙ any-append is_change f.front (e ∷ f.back) ∙ or-right (any_change f.front) (is_change e || any_change f.back) (or-left (is_change e) (any_change f.back) is-it)
+
+  pub related : Related m (sent_world w done.0 left running cs) (sent_shared j left cs)
+  related = after-host m w j done.0 left running cs rel there first news
+      (each-append (λ (x : Entry). IsLoad x.load) left j.coming (each-filter (λ (x : Entry). IsLoad x.load) (λ x. not (out x)) f.rest (Each-front (λ (x : Entry). IsLoad x.load) f.rest j.coming rest-loads)) (Each-back (λ (x : Entry). IsLoad x.load) f.rest j.coming rest-loads))
+      tagged ids
+      (λ P h. each-filter P (λ x. not (out x)) f.rest (subst (Each P) (sym f.rest-is) (each-parts P f.front e f.back (subst (Each P) held.is h)).1))
+      (subst Behind all-left (behind-filter (λ x. not (out x)) (f.rest ++ j.coming) (subst Behind rested (behind-drop f.front e (f.back ++ j.coming) (subst Behind held.inside rel.behind)))))
+      session (each-still (λ (x : Running). IsIn x.ep) success r table w.host.running rel.runs_at_in)

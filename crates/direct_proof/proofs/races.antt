@@ -1,0 +1,4 @@
+pub mod Kinds
+pub mod Gates
+pub mod Schedules
+pub mod Submits

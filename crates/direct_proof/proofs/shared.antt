@@ -1,0 +1,16 @@
+pub mod New
+pub mod Folds
+pub mod Streaming
+pub mod Asked
+pub mod Backs
+pub mod Traces
+pub mod Owed
+pub mod Found
+pub mod Debts
+pub mod Keeps
+pub mod Sending
+pub mod Ran
+pub mod UpsFound
+pub mod Counted
+pub mod Fits
+pub mod WireBack

@@ -1,0 +1,71 @@
+-- An item that changes nothing of what is shared is only counted.
+use Rattle.std.proofs.Common.{◌≡◌, ℕ, suc, ◌==◌, Bool, true, false, cond, List, [], ◌∷◌, ◌++◌, ap, ◌∙◌}
+use Rattle.redir_host.specs.Sound.{Each}
+use Rattle.model_device.specs.Meaning.{Meaning}
+use Rattle.direct_run.specs.declared.submitted.Submitted.{Submitted}
+use Rattle.direct_run.specs.Moves.{World}
+use Rattle.direct_run.specs.Noted.{number_in}
+use Rattle.direct_device.specs.Direct.{number}
+use Rattle.direct_proof.specs.Ids.{Ids}
+use Rattle.direct_proof.specs.Related.{Related}
+use Rattle.direct_proof.specs.Requests.{Entry, Coming, Debt}
+use Rattle.direct_proof.specs.Shared.{Shared}
+use Rattle.direct_proof.specs.Tagged.{runs_in}
+use Rattle.direct_proof.proofs.shared.Owed.{entries-old, number-last}
+
+abbrev pub replied_world : {S : Type 0} → World S → World S
+replied_world w = record w { gate = record w.gate { items = suc w.gate.items } }
+
+-- the accepted submits are those, and the client is over or not
+abbrev pub counted_world : {S : Type 0} → World S → List Submitted → Bool → World S
+counted_world w names over = record w { gate = record w.gate { items = suc w.gate.items; client_over = over }; submits = names }
+
+pub counted-related : {S : Type 0} (m : Meaning S) (w : World S) (j : Shared) (names : List Submitted) (over : Bool) → Related m w j → Ids j.debts names (j.held ++ j.coming) (runs_in j.back) → (over ≡ true → w.gate.imported ≡ false) → Related m (counted_world w names over) j
+counted-related m w j names over rel ids refused = record {
+  held = rel.held;
+  half = rel.half;
+  coming = rel.coming;
+  answers = rel.answers;
+  loads = rel.loads;
+  tagged = rel.tagged;
+  ids = ids;
+  real = rel.real;
+  calls_in = rel.calls_in;
+  runs_at_in = rel.runs_at_in;
+  meets = record { host = rel.meets.host; gate = rel.meets.gate; before = λ h. let e = rel.meets.before h in record { back = e.back; wire = e.wire; held = e.held; half = e.half; running = e.running }; announced = rel.meets.announced; asked = rel.meets.asked; behind = rel.meets.behind; once = rel.meets.once; plugged = rel.meets.plugged; no_session = rel.meets.no_session };
+  debts = rel.debts;
+  controls = rel.controls;
+  fenced = rel.fenced;
+  cancels = rel.cancels;
+  behind = rel.behind;
+  alone = rel.alone;
+  session = λ h a. let s = rel.session h a in record { table = s.table; faces = s.faces; clean = s.clean; quits = s.quits; trails = s.trails; starts = s.starts; kinds = s.kinds; start_kinds = s.start_kinds };
+  ups = rel.ups;
+  lost = rel.lost;
+  reads = rel.reads;
+  refused = refused;
+  down = rel.down;
+  gone = rel.gone;
+  seen = rel.seen;
+  still = rel.still;
+  bye = rel.bye;
+  bye_last = rel.bye_last;
+}
+
+pub replied-related : {S : Type 0} (m : Meaning S) (w : World S) (j : Shared) → Related m w j → Related m (replied_world w) j
+replied-related m w j rel = counted-related m w j w.submits w.gate.client_over rel rel.ids rel.refused
+
+-- one that goes by no id has a number, and no entry
+pub ids-named : (ds : List Debt) (names : List Submitted) (es : List Entry) (ran : List Coming) (n : ℕ) → Each (λ (d : Debt). (d.id == 0) ≡ false) ds → Ids ds names es ran → Ids ds (names ++ record { seqnum = n; id = 0 } ∷ []) es ran
+ids-named ds names es ran n real ids = record {
+  balance = ids.balance;
+  one_id = ids.one_id;
+  one_number = ids.one_number;
+  named = olds es ids.named (entries-old ds names es ran ids 0 real);
+  entries_agree = ids.entries_agree;
+  ran_agrees = ids.ran_agrees;
+}
+  where
+    olds : (xs : List Entry) → Each (λ (x : Entry). number_in x.id names ≡ number x.load) xs → Each (λ (x : Entry). (0 == x.id) ≡ false) xs → Each (λ (x : Entry). number_in x.id (names ++ record { seqnum = n; id = 0 } ∷ []) ≡ number x.load) xs
+    olds [] h k = tt
+    olds (x ∷ xs) h k = (number-last x.id names _ ∙ ap (λ (b : Bool). cond b n (number_in x.id names)) k.0 ∙ h.0, olds xs h.1 k.1)

@@ -1,0 +1,187 @@
+-- The ids of what is owed: a submit, a perform and an answer keep them.
+use Rattle.std.proofs.Common.{◌≡◌, ℕ, ◌+◌, ◌≤◌, ◌==◌, not, Bool, true, false, cond, List, [], ◌∷◌, ◌++◌, filter, refl, sym, ap, ◌∙◌, subst, arith, Some}
+use Rattle.std.proofs.lemmas.List.{reverse-append}
+use Rattle.usb_base.specs.declared.transfer.Outcome.{Outcome}
+use Rattle.redir_host.specs.Sound.{Each}
+use Rattle.gate_core.proofs.Lists.{both}
+use Rattle.direct_run.specs.declared.submitted.Submitted.{Submitted}
+use Rattle.direct_run.specs.Noted.{number_in, number_of}
+use Rattle.direct_device.specs.Direct.{Load, number}
+use Rattle.direct_proof.specs.Requests.{Entry, Coming, Debt}
+use Rattle.direct_proof.specs.Ids.{count, Ids, Agrees}
+use Rattle.direct_proof.proofs.shared.New.{IsNew}
+use Rattle.direct_proof.proofs.lists.Counts.{count-append, count-parts, count-zero, count-both, single, itself, Each-weaker, Each-found}
+use Rattle.std.specs.Prelude.{find, reverse}
+
+abbrev weight : Bool → ℕ
+weight b = cond b 1 0
+
+false-true : false ≡ true → ⊥
+false-true h = cc
+
+pub each-append : {X : Type 0} (P : X → Type 0) (xs ys : List X) → Each P xs → Each P ys → Each P (xs ++ ys)
+each-append P [] ys e f = f
+each-append P (x ∷ xs) ys e f = (e.0, each-append P xs ys e.1 f)
+
+pub each-filter : {X : Type 0} (P : X → Type 0) (p : X → Bool) (xs : List X) → Each P xs → Each P (filter p xs)
+each-filter P p [] e = tt
+each-filter P p (x ∷ xs) e =
+    elim (p x) as (λ b. Each P (cond b (x ∷ filter p xs) (filter p xs))) [ true ↦ (e.0, each-filter P p xs e.1) | false ↦ each-filter P p xs e.1 ]
+
+abbrev pub IsNewNumber : ℕ → List Debt → Type 0
+IsNewNumber n ds = Each (λ (d : Debt). (number d.load == n) ≡ false) ds
+
+abbrev pair : ℕ → ℕ → ℕ → ℕ → Bool
+pair id n i k = both (i == id) (k == n)
+
+pair-itself : (id n : ℕ) → pair id n id n ≡ true
+pair-itself id n = ap (λ (b : Bool). both b (n == n)) (itself id) ∙ itself n
+
+-- what is under way has the id of a debt
+debts-some : (id n : ℕ) (ds : List Debt) → IsNew id ds → count (λ (d : Debt). pair id n d.id (number d.load)) ds ≡ 0
+debts-some id n ds h = let z = count-zero (λ (d : Debt). d.id == id) ds h in let le = count-both (λ (d : Debt). d.id == id) (λ (d : Debt). number d.load == n) ds in omega (arith, z, le)
+
+pub entries-old : (ds : List Debt) (names : List Submitted) (es : List Entry) (ran : List Coming) → Ids ds names es ran → (id : ℕ) → IsNew id ds → Each (λ (e : Entry). (id == e.id) ≡ false) es
+entries-old ds names es ran ids id new =
+    Each-weaker (λ (e : Entry). 1 ≤ count (λ (y : Entry). pair e.id (number e.load) y.id (number y.load)) es) (λ (e : Entry). (id == e.id) ≡ false)
+    (λ e h. go e (id == e.id) refl h) es
+    (Each-found (λ (e y : Entry). pair e.id (number e.load) y.id (number y.load)) (λ e. pair-itself e.id (number e.load)) es)
+  where
+    go : (e : Entry) (b : Bool) → (id == e.id) ≡ b → 1 ≤ count (λ (y : Entry). pair e.id (number e.load) y.id (number y.load)) es → b ≡ false
+    go e false i h = refl
+    go e true i h =
+        let same : id ≡ e.id = grind (arith, i) in
+        let z = debts-some e.id (number e.load) ds (subst (λ (n : ℕ). IsNew n ds) same new) in
+        absurd (omega (arith, z, h, ids.balance (pair e.id (number e.load))))
+
+pub ran-old : (ds : List Debt) (names : List Submitted) (es : List Entry) (ran : List Coming) → Ids ds names es ran → (id : ℕ) → IsNew id ds → Each (λ (c : Coming). (id == c.id) ≡ false) ran
+ran-old ds names es ran ids id new =
+    Each-weaker (λ (e : Coming). 1 ≤ count (λ (y : Coming). pair e.id (number e.load) y.id (number y.load)) ran) (λ (e : Coming). (id == e.id) ≡ false)
+    (λ e h. go e (id == e.id) refl h) ran
+    (Each-found (λ (e y : Coming). pair e.id (number e.load) y.id (number y.load)) (λ e. pair-itself e.id (number e.load)) ran)
+  where
+    go : (e : Coming) (b : Bool) → (id == e.id) ≡ b → 1 ≤ count (λ (y : Coming). pair e.id (number e.load) y.id (number y.load)) ran → b ≡ false
+    go e false i h = refl
+    go e true i h =
+        let same : id ≡ e.id = grind (arith, i) in
+        let z = debts-some e.id (number e.load) ds (subst (λ (n : ℕ). IsNew n ds) same new) in
+        absurd (omega (arith, z, h, ids.balance (pair e.id (number e.load))))
+
+-- ---- a submit
+
+pub number-last : (id : ℕ) (xs : List Submitted) (x : Submitted) → number_in id (xs ++ x ∷ []) ≡ cond (x.id == id) x.seqnum (number_in id xs)
+number-last id xs x = ap (λ (l : List Submitted). number_of (find (λ (y : Submitted). y.id == id) l)) (reverse-append xs (x ∷ [])) ∙ go (x.id == id)
+  where
+    go : (b : Bool) → number_of (cond b (Some x) (find (λ (y : Submitted). y.id == id) (reverse xs))) ≡ cond b x.seqnum (number_in id xs)
+    go true = refl
+    go false = refl
+
+one-more : {X : Type 0} (p : X → Bool) (xs : List X) (x : X) → count p xs ≤ 1 → (p x ≡ true → count p xs ≡ 0) → count p (xs ++ x ∷ []) ≤ 1
+one-more p xs x h k = go (p x) refl
+  where
+    go : (b : Bool) → p x ≡ b → count p (xs ++ x ∷ []) ≤ 1
+    go true i = let z = k i in let w = ap weight i in omega (arith, z, w, count-append p xs (x ∷ []))
+    go false i = let w = ap weight i in omega (arith, h, w, count-append p xs (x ∷ []))
+
+pub ids-submit : (ds : List Debt) (names : List Submitted) (es : List Entry) (ran : List Coming) (id : ℕ) (l : Load) (asked : Bool) → Ids ds names es ran → IsNew id ds → IsNewNumber (number l) ds →
+    Ids (ds ++ record { id = id; load = l } ∷ []) (names ++ record { seqnum = number l; id = id } ∷ []) (es ++ record { id = id; load = l; asked = asked } ∷ []) ran
+ids-submit ds names es ran id l asked ids new new_number = record {
+  balance = λ test. omega (arith, ids.balance test, count-append (λ (x : Entry). test x.id (number x.load)) es (e ∷ []), count-append (λ (x : Debt). test x.id (number x.load)) ds (d ∷ []));
+  one_id = λ i. one-more (λ (x : Debt). x.id == i) ds d (ids.one_id i) (λ h. let same : id ≡ i = grind (arith, h) in count-zero (λ (x : Debt). x.id == i) ds (subst (λ (n : ℕ). IsNew n ds) same new));
+  one_number = λ n. one-more (λ (x : Debt). number x.load == n) ds d (ids.one_number n) (λ h. let same : number l ≡ n = grind (arith, h) in count-zero (λ (x : Debt). number x.load == n) ds (subst (λ (k : ℕ). IsNewNumber k ds) same new_number));
+  named = each-append Named es (e ∷ []) (olds es ids.named old-entries) (number-last id names _ ∙ ap (λ (b : Bool). cond b (number l) (number_in id names)) (itself id), tt);
+  entries_agree = each-append (λ (x : Entry). Each (λ (y : Debt). Agrees y x.id x.load) (ds ++ d ∷ [])) es (e ∷ []) (old-agree es ids.entries_agree old-entries)
+      (each-append (λ (y : Debt). Agrees y id l) ds (d ∷ []) (Each-weaker (λ (y : Debt). (y.id == id) ≡ false) (λ (y : Debt). Agrees y id l) (λ y h k. absurd (false-true (sym h ∙ k))) ds new) ((λ k. refl), tt), tt);
+  ran_agrees = old-ran ran ids.ran_agrees (ran-old ds names es ran ids id new);
+}
+  where
+    d : Debt
+    d = record { id = id; load = l }
+
+    e : Entry
+    e = record { id = id; load = l; asked = asked }
+
+    old-entries : Each (λ (x : Entry). (id == x.id) ≡ false) es
+    old-entries = entries-old ds names es ran ids id new
+
+    Named : Entry → Type 0
+    Named x = number_in x.id (names ++ record { seqnum = number l; id = id } ∷ []) ≡ number x.load
+
+    olds : (xs : List Entry) → Each (λ (x : Entry). number_in x.id names ≡ number x.load) xs → Each (λ (x : Entry). (id == x.id) ≡ false) xs → Each Named xs
+    olds [] h k = tt
+    olds (x ∷ xs) h k = (number-last x.id names _ ∙ ap (λ (b : Bool). cond b (number l) (number_in x.id names)) k.0 ∙ h.0, olds xs h.1 k.1)
+
+    old-agree : (xs : List Entry) → Each (λ (x : Entry). Each (λ (y : Debt). Agrees y x.id x.load) ds) xs → Each (λ (x : Entry). (id == x.id) ≡ false) xs → Each (λ (x : Entry). Each (λ (y : Debt). Agrees y x.id x.load) (ds ++ d ∷ [])) xs
+    old-agree [] h k = tt
+    old-agree (x ∷ xs) h k = (each-append (λ (y : Debt). Agrees y x.id x.load) ds (d ∷ []) h.0 ((λ z. absurd (false-true (sym k.0 ∙ z))), tt), old-agree xs h.1 k.1)
+
+    old-ran : (xs : List Coming) → Each (λ (x : Coming). Each (λ (y : Debt). Agrees y x.id x.load) ds) xs → Each (λ (x : Coming). (id == x.id) ≡ false) xs → Each (λ (x : Coming). Each (λ (y : Debt). Agrees y x.id x.load) (ds ++ d ∷ [])) xs
+    old-ran [] h k = tt
+    old-ran (x ∷ xs) h k = (each-append (λ (y : Debt). Agrees y x.id x.load) ds (d ∷ []) h.0 ((λ z. absurd (false-true (sym k.0 ∙ z))), tt), old-ran xs h.1 k.1)
+
+-- ---- a perform: an entry leaves, and its answer is under way
+
+pub each-parts : {X : Type 0} (P : X → Type 0) (xs : List X) (x : X) (ys : List X) → Each P (xs ++ x ∷ ys) → P x × Each P (xs ++ ys)
+each-parts P [] x ys h = (h.0, h.1)
+each-parts P (z ∷ xs) x ys h = let r = each-parts P xs x ys h.1 in (r.0, (h.0, r.1))
+
+pub count-middle : {X : Type 0} (p : X → Bool) (xs : List X) (x : X) (ys : List X) → count p (xs ++ x ∷ ys) ≡ cond (p x) 1 0 + count p (xs ++ ys)
+count-middle p [] x ys = refl
+count-middle p (z ∷ xs) x ys = let r = count-middle p xs x ys in omega (arith, r)
+
+pub ids-perform : (ds : List Debt) (names : List Submitted) (front back : List Entry) (e : Entry) (ran : List Coming) (configuration : ℕ) (o : Outcome) → Ids ds names (front ++ e ∷ back) ran →
+    Ids ds names (front ++ back) (ran ++ record { id = e.id; load = e.load; configuration = configuration; outcome = o } ∷ [])
+ids-perform ds names front back e ran configuration o ids = record {
+  balance = λ test. omega (arith, ids.balance test, count-middle (λ (x : Entry). test x.id (number x.load)) front e back, count-append (λ (x : Coming). test x.id (number x.load)) ran (c ∷ []));
+  one_id = ids.one_id;
+  one_number = ids.one_number;
+  named = (each-parts (λ (x : Entry). number_in x.id names ≡ number x.load) front e back ids.named).1;
+  entries_agree = (each-parts (λ (x : Entry). Each (λ (d : Debt). Agrees d x.id x.load) ds) front e back ids.entries_agree).1;
+  ran_agrees = each-append (λ (x : Coming). Each (λ (d : Debt). Agrees d x.id x.load) ds) ran (c ∷ []) ids.ran_agrees ((each-parts (λ (x : Entry). Each (λ (d : Debt). Agrees d x.id x.load) ds) front e back ids.entries_agree).0, tt);
+}
+  where
+    c : Coming
+    c = record { id = e.id; load = e.load; configuration = configuration; outcome = o }
+
+-- ---- an answer: it leaves, and so does its debt
+
+-- the debt of an answer that is under way
+pub record IsOwed (ds : List Debt) (c : Coming) : Type 0 where
+  pub debt : Debt
+  pub only : filter (λ (d : Debt). d.id == c.id) ds ≡ debt ∷ []
+  pub same_id : debt.id ≡ c.id
+  pub same_load : debt.load ≡ c.load
+
+each-one : {X : Type 0} (P : X → Type 0) (p : X → Bool) (xs : List X) (x : X) → Each P xs → filter p xs ≡ x ∷ [] → P x
+each-one P p xs x h e = (subst (Each P) e (each-filter P p xs h)).0
+
+pub owed-some : (ds : List Debt) (names : List Submitted) (es : List Entry) (ran : List Coming) (c : Coming) → Ids ds names es (c ∷ ran) → 1 ≤ count (λ (d : Debt). both (d.id == c.id) (number d.load == number c.load)) ds
+owed-some ds names es ran c ids = let w = ap weight (pair-itself c.id (number c.load)) in omega (arith, w, ids.balance (pair c.id (number c.load)))
+
+pub owed : (ds : List Debt) (names : List Submitted) (es : List Entry) (ran : List Coming) (c : Coming) → Ids ds names es (c ∷ ran) → IsOwed ds c
+owed ds names es ran c ids =
+    let some = owed-some ds names es ran c ids in
+    let one = single (λ (d : Debt). d.id == c.id) (λ (d : Debt). number d.load == number c.load) ds (ids.one_id c.id) some in
+    record {
+      debt = one.0;
+      only = one.1;
+      same_id = grind (arith, one.2);
+      same_load = each-one (λ (d : Debt). Agrees d c.id c.load) (λ (d : Debt). d.id == c.id) ds one.0 ids.ran_agrees.0 one.1 one.2;
+    }
+
+pub ids-answer : (ds : List Debt) (names : List Submitted) (es : List Entry) (ran : List Coming) (c : Coming) → Ids ds names es (c ∷ ran) → Ids (filter (λ (d : Debt). not (d.id == c.id)) ds) names es ran
+ids-answer ds names es ran c ids = record {
+  balance = λ test. (
+      let p : Debt → Bool = λ d. test d.id (number d.load) in
+      let gone = ap (count p) o.only in
+      let same : weight (test o.debt.id (number o.debt.load)) ≡ weight (test c.id (number c.load)) = (λ i. weight (test (o.same_id i) (number (o.same_load i)))) in
+      omega (arith, ids.balance test, count-parts p (λ (d : Debt). d.id == c.id) ds, gone, same));
+  one_id = λ i. (let a = count-parts (λ (d : Debt). d.id == i) (λ (d : Debt). d.id == c.id) ds in let b = ids.one_id i in omega (arith, a, b));
+  one_number = λ n. (let a = count-parts (λ (d : Debt). number d.load == n) (λ (d : Debt). d.id == c.id) ds in let b = ids.one_number n in omega (arith, a, b));
+  named = ids.named;
+  entries_agree = Each-weaker (λ (x : Entry). Each (λ (d : Debt). Agrees d x.id x.load) ds) (λ (x : Entry). Each (λ (d : Debt). Agrees d x.id x.load) (filter (λ (d : Debt). not (d.id == c.id)) ds)) (λ x h. each-filter (λ (d : Debt). Agrees d x.id x.load) (λ (d : Debt). not (d.id == c.id)) ds h) es ids.entries_agree;
+  ran_agrees = Each-weaker (λ (x : Coming). Each (λ (d : Debt). Agrees d x.id x.load) ds) (λ (x : Coming). Each (λ (d : Debt). Agrees d x.id x.load) (filter (λ (d : Debt). not (d.id == c.id)) ds)) (λ x h. each-filter (λ (d : Debt). Agrees d x.id x.load) (λ (d : Debt). not (d.id == c.id)) ds h) ran ids.ran_agrees.1;
+}
+  where
+    o : IsOwed ds c
+    o = owed ds names es ran c ids

@@ -1,0 +1,146 @@
+-- The wire to the host: streams that quit, starts and stops, and their ids, as it grows and is read.
+use Rattle.std.proofs.Common.{◌≡◌, ℕ, ◌+◌, ◌≤◌, ◌||◌, Bool, true, false, cond, List, [], ◌∷◌, ◌++◌, Option, Some, None, refl, sym, ap, ◌∙◌, subst, arith, append-nil, append_assoc, is_some}
+use Rattle.std.specs.List.{list_any}
+use Rattle.usb_base.specs.declared.endpoint.EpTable.{EpTable}
+use Rattle.redir_data.specs.declared.packet.RedirPacket.{RedirPacket}
+use Rattle.redir_host.specs.declared.running.StreamKind.{StreamKind}
+use Rattle.redir_host.specs.Sound.{Each}
+use Rattle.gate_core.specs.Ids.{times}
+use Rattle.gate_core.specs.Calls.{Calls}
+use Rattle.direct_proof.specs.Tagged.{Tagged}
+use Rattle.direct_proof.specs.Stale.{asks}
+use Rattle.direct_proof.specs.Running.{Quits, runs_after, Trails, passes, called_endpoint, started_kind, CanStart, StartsFit}
+use Rattle.direct_proof.specs.Calls.{call_id, calls_on, statuses_on, status_id, Controls, CallIsKept, StatusIsKept, Fenced}
+use Rattle.direct_proof.specs.Kinds.{CallIsIn}
+use Rattle.direct_proof.proofs.shared.Folds.{not-both, or-left, or-assoc, or-false, any-append}
+
+-- ---- packets that say nothing of streams
+
+abbrev pub IsQuiet : ℕ × RedirPacket → Type 0
+IsQuiet p = (called_endpoint p.1 ≡ None) × (started_kind p.1 ≡ None) × ((ep : ℕ) (b : Bool) → runs_after ep p.1 b ≡ b)
+
+quits-quiet : (fence : Option ℕ) (ep : ℕ) (qs : List (ℕ × RedirPacket)) → Each IsQuiet qs → Quits fence ep false qs
+quits-quiet fence ep [] h = refl
+quits-quiet fence ep (q ∷ qs) h = ((λ e. absurd (not-both (sym e))), subst (λ (b : Bool). Quits fence ep b qs) (sym (h.0.2 ep false)) (quits-quiet fence ep qs h.1))
+
+pub quits-more : (fence : Option ℕ) (ep : ℕ) (r : Bool) (ps qs : List (ℕ × RedirPacket)) → Each IsQuiet qs → Quits fence ep r ps → Quits fence ep r (ps ++ qs)
+quits-more fence ep r [] qs k h = subst (λ (b : Bool). Quits fence ep b qs) (sym h) (quits-quiet fence ep qs k)
+quits-more fence ep r (p ∷ ps) qs k h =
+    ((λ e. any-append (asks fence) (p ∷ ps) qs ∙ or-left (list_any (asks fence) (p ∷ ps)) (list_any (asks fence) qs) (h.0 e)), quits-more fence ep (runs_after ep p.1 r) ps qs k h.1)
+
+trails-quiet : (fence : Option ℕ) (down : ℕ → Bool) (qs : List (ℕ × RedirPacket)) → Each IsQuiet qs → Trails fence down qs
+trails-quiet fence down [] h = tt
+trails-quiet fence down (q ∷ qs) h = ((λ e. absurd (not-both (sym e ∙ ap (passes down) h.0.0))), trails-quiet fence down qs h.1)
+
+pub trails-append : (fence : Option ℕ) (down : ℕ → Bool) (ps qs : List (ℕ × RedirPacket)) → Trails fence down ps → Trails fence down qs → Trails fence down (ps ++ qs)
+trails-append fence down [] qs h k = k
+trails-append fence down (p ∷ ps) qs h k =
+    ((λ e. any-append (asks fence) (p ∷ ps) qs ∙ or-left (list_any (asks fence) (p ∷ ps)) (list_any (asks fence) qs) (h.0 e)), trails-append fence down ps qs h.1 k)
+
+pub trails-more : (fence : Option ℕ) (down : ℕ → Bool) (ps qs : List (ℕ × RedirPacket)) → Each IsQuiet qs → Trails fence down ps → Trails fence down (ps ++ qs)
+trails-more fence down ps qs k h = trails-append fence down ps qs h (trails-quiet fence down qs k)
+
+starts-quiet : (table : EpTable) (c : Bool) (qs : List (ℕ × RedirPacket)) → Each IsQuiet qs → StartsFit table c qs
+starts-quiet table c [] h = tt
+starts-quiet table c (q ∷ qs) h = (subst (CanStart table c) (sym h.0.1) tt, starts-quiet table (c || asks None q) qs h.1)
+
+pub starts-append : (table : EpTable) (c : Bool) (ps qs : List (ℕ × RedirPacket)) → StartsFit table c ps → StartsFit table (c || list_any (asks None) ps) qs → StartsFit table c (ps ++ qs)
+starts-append table c [] qs h k = subst (λ (b : Bool). StartsFit table b qs) (or-false c) k
+starts-append table c (p ∷ ps) qs h k = (h.0, starts-append table (c || asks None p) ps qs h.1 (subst (λ (b : Bool). StartsFit table b qs) (or-assoc c (asks None p) (list_any (asks None) ps)) k))
+
+pub starts-more : (table : EpTable) (c : Bool) (ps qs : List (ℕ × RedirPacket)) → Each IsQuiet qs → StartsFit table c ps → StartsFit table c (ps ++ qs)
+starts-more table c ps qs k h = starts-append table c ps qs h (starts-quiet table (c || list_any (asks None) ps) qs k)
+
+-- behind a change there is no start
+pub starts-none : (t u : EpTable) (c : Bool) (ps : List (ℕ × RedirPacket)) → StartsFit t true ps → StartsFit u c ps
+starts-none t u c [] h = tt
+starts-none t u c (p ∷ ps) h = (go (started_kind p.1) h.0, starts-none t u (c || asks None p) ps h.1)
+  where
+    go : (o : Option (StreamKind × ℕ)) → CanStart t true o → CanStart u c o
+    go None k = tt
+    go (Some s) k = absurd (not-both k.0)
+
+-- ---- ids
+
+pub times-append : (id : ℕ) (xs ys : List ℕ) → times id (xs ++ ys) ≡ times id xs + times id ys
+times-append id [] ys = omega arith
+times-append id (x ∷ xs) ys = let r = times-append id xs ys in omega (arith, r)
+
+pub calls-append : (ps qs : List (ℕ × RedirPacket)) → calls_on (ps ++ qs) ≡ calls_on ps ++ calls_on qs
+calls-append [] qs = refl
+calls-append (p ∷ ps) qs = ap (λ (l : List ℕ). call_id p ++ l) (calls-append ps qs) ∙ sym (append_assoc (call_id p) (calls_on ps) (calls_on qs))
+
+pub statuses-append : (bs cs : List Tagged) → statuses_on (bs ++ cs) ≡ statuses_on bs ++ statuses_on cs
+statuses-append [] cs = refl
+statuses-append (b ∷ bs) cs = ap (λ (l : List ℕ). status_id b ++ l) (statuses-append bs cs) ∙ sym (append_assoc (status_id b) (statuses_on bs) (statuses_on cs))
+
+calls-quiet : (qs : List (ℕ × RedirPacket)) → Each IsQuiet qs → calls_on qs ≡ []
+calls-quiet [] h = refl
+calls-quiet (q ∷ qs) h = (λ i. cond (is_some (h.0.0 i)) (q.0 ∷ []) [] ++ calls-quiet qs h.1 i)
+
+kept-quiet : (c : Calls) (qs : List (ℕ × RedirPacket)) → Each IsQuiet qs → Each (λ (p : ℕ × RedirPacket). CallIsKept c p.0 (called_endpoint p.1)) qs
+kept-quiet c [] h = tt
+kept-quiet c (q ∷ qs) h = (subst (CallIsKept c q.0) (sym h.0.0) tt, kept-quiet c qs h.1)
+
+pub each-append : {X : Type 0} (P : X → Type 0) (xs ys : List X) → Each P xs → Each P ys → Each P (xs ++ ys)
+each-append P [] ys e f = f
+each-append P (x ∷ xs) ys e f = (e.0, each-append P xs ys e.1 f)
+
+pub calls-same : (ps qs : List (ℕ × RedirPacket)) → Each IsQuiet qs → calls_on (ps ++ qs) ≡ calls_on ps
+calls-same ps qs h = calls-append ps qs ∙ ap (λ (l : List ℕ). calls_on ps ++ l) (calls-quiet qs h) ∙ append-nil (calls_on ps)
+
+-- and they call no endpoint
+pub calls-quiet-in : (qs : List (ℕ × RedirPacket)) → Each IsQuiet qs → Each (λ (p : ℕ × RedirPacket). CallIsIn (called_endpoint p.1)) qs
+calls-quiet-in [] h = tt
+calls-quiet-in (q ∷ qs) h = (subst CallIsIn (sym h.0.0) tt, calls-quiet-in qs h.1)
+
+-- more is asked
+pub controls-more : (c : Calls) (ps qs : List (ℕ × RedirPacket)) (back : List Tagged) → Each IsQuiet qs → Controls c ps back → Controls c (ps ++ qs) back
+controls-more c ps qs back quiet k = record {
+  once = λ id. subst (λ (l : List ℕ). times id l + times id (statuses_on back) ≤ 1) (sym (calls-same ps qs quiet)) (k.once id);
+  calls_kept = each-append (λ (p : ℕ × RedirPacket). CallIsKept c p.0 (called_endpoint p.1)) ps qs k.calls_kept (kept-quiet c qs quiet);
+  statuses_kept = k.statuses_kept;
+}
+
+pub fenced-more : (fence : Option ℕ) (fenced : Bool) (ps qs : List (ℕ × RedirPacket)) (back : List Tagged) → Each IsQuiet qs → Fenced fence fenced ps back → Fenced fence fenced (ps ++ qs) back
+fenced-more None fenced ps qs back quiet h = h
+fenced-more (Some f) fenced ps qs back quiet h = ((λ k. h.0 (subst (λ (l : List ℕ). 1 ≤ times f l) (calls-same ps qs quiet) k)), h.1)
+
+-- the host has read a packet
+pub controls-heard : (c : Calls) (p : ℕ × RedirPacket) (ps : List (ℕ × RedirPacket)) (back : List Tagged) → Controls c (p ∷ ps) back → Controls c ps back
+controls-heard c p ps back k = record {
+  once = λ id. let z = k.once id in let y = times-append id (call_id p) (calls_on ps) in omega (arith, z, y);
+  calls_kept = k.calls_kept.1;
+  statuses_kept = k.statuses_kept;
+}
+
+pub fenced-heard : (fence : Option ℕ) (fenced : Bool) (p : ℕ × RedirPacket) (ps : List (ℕ × RedirPacket)) (back : List Tagged) → Fenced fence fenced (p ∷ ps) back → Fenced fence fenced ps back
+fenced-heard None fenced p ps back h = h
+fenced-heard (Some f) fenced p ps back h = ((λ k. h.0 (let y = times-append f (call_id p) (calls_on ps) in omega (arith, k, y))), h.1)
+
+-- the gateway has read one
+pub controls-read : (c : Calls) (ps : List (ℕ × RedirPacket)) (b : Tagged) (bs : List Tagged) → Controls c ps (b ∷ bs) → Controls c ps bs
+controls-read c ps b bs k = record {
+  once = λ id. let z = k.once id in let y = times-append id (status_id b) (statuses_on bs) in omega (arith, z, y);
+  calls_kept = k.calls_kept;
+  statuses_kept = k.statuses_kept.1;
+}
+
+pub fenced-read : (fence : Option ℕ) (fenced : Bool) (ps : List (ℕ × RedirPacket)) (b : Tagged) (bs : List Tagged) → Fenced fence fenced ps (b ∷ bs) → Fenced fence fenced ps bs
+fenced-read None fenced ps b bs h = h
+fenced-read (Some f) fenced ps b bs h = (h.0, λ k. let z = h.1 k in let y = times-append f (status_id b) (statuses_on bs) in omega (arith, z, y))
+
+-- the host has sent more, and no status
+pub controls-sent : (c : Calls) (ps : List (ℕ × RedirPacket)) (bs cs : List Tagged) → statuses_on cs ≡ [] → Each (StatusIsKept c) cs → Controls c ps bs → Controls c ps (bs ++ cs)
+controls-sent c ps bs cs none kept k = record {
+  once = λ id. subst (λ (l : List ℕ). times id (calls_on ps) + times id l ≤ 1) (sym same) (k.once id);
+  calls_kept = k.calls_kept;
+  statuses_kept = each-append (StatusIsKept c) bs cs k.statuses_kept kept;
+}
+  where
+    same : statuses_on (bs ++ cs) ≡ statuses_on bs
+    same = statuses-append bs cs ∙ ap (λ (l : List ℕ). statuses_on bs ++ l) none ∙ append-nil (statuses_on bs)
+
+pub fenced-sent : (fence : Option ℕ) (fenced : Bool) (ps : List (ℕ × RedirPacket)) (bs cs : List Tagged) → statuses_on cs ≡ [] → Fenced fence fenced ps bs → Fenced fence fenced ps (bs ++ cs)
+fenced-sent None fenced ps bs cs none h = h
+fenced-sent (Some f) fenced ps bs cs none h = (h.0, λ k. ap (times f) (statuses-append bs cs ∙ ap (λ (l : List ℕ). statuses_on bs ++ l) none ∙ append-nil (statuses_on bs)) ∙ h.1 k)

@@ -1,0 +1,90 @@
+-- A gateway that still reads its host has never refused it.
+use Rattle.std.proofs.Common.{◌≡◌, ℕ, Bool, true, false, ◌||◌, ◌&&◌, not, cond, List, [], ◌∷◌, ◌++◌, map, filter, Option, Some, None, refl, ap, ◌∙◌}
+use Rattle.std.specs.List.{flat_map, list_any}
+use Rattle.std.proofs.lemmas.List.Folds.{list_any-append}
+use Rattle.std.proofs.lemmas.Grind.{flat_map-append}
+use Rattle.usb_base.specs.declared.refusal.Refusal.{Refusal}
+use Rattle.gate_core.specs.declared.note.Note.{Note}
+use Rattle.gate_core.specs.declared.note.Note.TheVariants as note
+use Rattle.gate_core.specs.Marks.{Submission, Effect, Imports, Unlinks, Arrives, Mark}
+use Rattle.gate_core.specs.Sides.{is_client, is_of, refused_at, refuses_host as effect_refuses, ends_host, leaves, is_loss, closes_host, host_over}
+use Rattle.gate_core.specs.Submits.{Pending, opened, ends}
+use Rattle.gate_core.specs.State.{State, state_of}
+use Rattle.gate_core.specs.Output.{present}
+use Rattle.gate_core.specs.Notes.{when, import_notes, submit_notes, unlink_notes, arrival_notes, answer_notes, refusal_notes, is_by_answer, notes_of}
+use Rattle.gate_core.specs.All.{all_of}
+use Rattle.direct_run.specs.Noted.{refusal_in}
+use Rattle.direct_proof.specs.Simulates.{refuses_host}
+
+abbrev refuses : List Note → Bool
+refuses ns = list_any refuses_host (flat_map refusal_in ns)
+
+refuses-append : (ns ms : List Note) → refuses (ns ++ ms) ≡ (refuses ns || refuses ms)
+refuses-append ns ms = ap (list_any refuses_host) (flat_map-append refusal_in ns ms) ∙ list_any-append refuses_host (flat_map refusal_in ns) (flat_map refusal_in ms)
+
+none-of-both : (ns ms : List Note) → refuses ns ≡ false → refuses ms ≡ false → refuses (ns ++ ms) ≡ false
+none-of-both ns ms h k = refuses-append ns ms ∙ (λ i. h i || k i)
+
+import-spares : (e : Effect) → refuses (import_notes e) ≡ false
+import-spares (Imports reply) = refl
+import-spares e = refl
+
+unlink-spares : (e : Effect) → refuses (unlink_notes e) ≡ false
+unlink-spares (Unlinks by target) = refl
+unlink-spares e = refl
+
+arrival-spares : (e : Effect) → refuses (arrival_notes e) ≡ false
+arrival-spares (Arrives ep fill) = refl
+arrival-spares e = refl
+
+submit-spares : (ss : List Submission) → refuses (map (λ (s : Submission). note.Submitted s.request.number s.id) ss) ≡ false
+submit-spares [] = refl
+submit-spares (s ∷ ss) = submit-spares ss
+
+answer-spares : (ps : List Pending) → refuses (map (λ (p : Pending). note.Answered p.submit.request.number) ps) ≡ false
+answer-spares [] = refl
+answer-spares (p ∷ ps) = answer-spares ps
+
+gone-spares : (b : Bool) → refuses (when b note.DeviceGone) ≡ false
+gone-spares true = refl
+gone-spares false = refl
+
+left-spares : (b : Bool) → refuses (when b note.ClientGone) ≡ false
+left-spares true = refl
+left-spares false = refl
+
+refused-is : (o : Option Refusal) → refuses (refusal_notes o) ≡ is_of false o
+refused-is None = refl
+refused-is (Some r) = or-false (not (is_client r.side))
+  where
+    or-false : (b : Bool) → (b || false) ≡ b
+    or-false true = refl
+    or-false false = refl
+
+mark-refuses : (st : State) (m : Mark) → refuses (notes_of st m) ≡ effect_refuses m.what
+mark-refuses st m =
+    let e = m.what in
+    let lost : Bool = is_loss e && st.imported && not st.lost in
+    let left : Bool = leaves e && not st.client_over in
+    let a = none-of-both (import_notes e) (submit_notes e) (import-spares e) (submit-spares (opened e)) in
+    let b = none-of-both (import_notes e ++ submit_notes e) (unlink_notes e) a (unlink-spares e) in
+    let c = none-of-both (import_notes e ++ submit_notes e ++ unlink_notes e) (arrival_notes e) b (arrival-spares e) in
+    let d = none-of-both (import_notes e ++ submit_notes e ++ unlink_notes e ++ arrival_notes e) (answer_notes st e) c (answer-spares (filter (λ (p : Pending). is_by_answer (ends e p.submit)) (present st e))) in
+    let f = none-of-both (import_notes e ++ submit_notes e ++ unlink_notes e ++ arrival_notes e ++ answer_notes st e) (when lost note.DeviceGone) d (gone-spares lost) in
+    let g = none-of-both (import_notes e ++ submit_notes e ++ unlink_notes e ++ arrival_notes e ++ answer_notes st e ++ when lost note.DeviceGone) (when left note.ClientGone) f (left-spares left) in
+    refuses-append (import_notes e ++ submit_notes e ++ unlink_notes e ++ arrival_notes e ++ answer_notes st e ++ when lost note.DeviceGone ++ when left note.ClientGone) (refusal_notes (refused_at e))
+    ∙ (λ i. g i || refused-is (refused_at e) i)
+
+stays-open : (e : Effect) (before : Bool) → cond (closes_host e) true (cond false false before) ≡ false → (effect_refuses e ≡ false) × (before ≡ false)
+stays-open e before h = go (ends_host e) (effect_refuses e) h
+  where
+    go : (a b : Bool) → cond (a || b) true before ≡ false → (b ≡ false) × (before ≡ false)
+    go true b k = absurd (let no : true ≡ false = k in cc)
+    go false true k = absurd (let no : true ≡ false = k in cc)
+    go false false k = (refl, k)
+
+pub never-refused : (first : ℕ) (ms : List Mark) → host_over ms ≡ false → list_any refuses_host (flat_map refusal_in (all_of notes_of first ms)) ≡ false
+never-refused first [] going = refl
+never-refused first (m ∷ ms) going =
+    let parts = stays-open m.what (host_over ms) going in
+    none-of-both (all_of notes_of first ms) (notes_of (state_of first ms) m) (never-refused first ms parts.1) (mark-refuses (state_of first ms) m ∙ parts.0)

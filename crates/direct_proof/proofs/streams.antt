@@ -1,0 +1,11 @@
+pub mod Kinds
+pub mod Keeping
+pub mod wires
+pub mod fills
+pub mod reads
+pub mod hears
+pub mod submits
+pub mod changes
+pub mod gates
+pub mod Told
+pub mod StreamMoves

@@ -1,0 +1,9 @@
+pub mod Stops
+pub mod StopIds
+pub mod Changing
+pub mod ChangeTail
+pub mod ChangeWire
+pub mod Changed
+pub mod ChangeLists
+pub mod ChangeFree
+pub mod ChangeKept

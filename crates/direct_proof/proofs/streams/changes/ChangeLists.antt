@@ -1,0 +1,117 @@
+-- A change's verdict, its debt, and its place behind the others.
+use Rattle.std.proofs.Common.{◌≡◌, ℕ, ◌<◌, ◌==◌, not, nat_le, Bool, true, false, cond, List, [], ◌∷◌, ◌++◌, map, filter, Option, Some, None, refl, sym, ap, ◌∙◌, arith}
+use Rattle.std.specs.Prelude.{ℤ}
+use Rattle.std.specs.List.{list_any, AllByRecursion}
+use Rattle.usb_base.specs.declared.setup.Setup.{Setup}
+use Rattle.usb_base.specs.declared.endpoint.EpTable.{EpTable}
+use Rattle.control_route.specs.declared.route.Route.{Route}
+use Rattle.control_route.specs.declared.route.Route.TheVariants as route
+use Rattle.control_route.specs.Changes.{is_change}
+use Rattle.model_device.specs.Transfer.{is_control}
+use Rattle.redir_host.specs.Sound.{Each}
+use Rattle.gate_core.specs.Requests.{Request}
+use Rattle.gate_core.specs.Verdict.{Verdict, Now, Wire, Routed, IsoOut, Stream, verdict, by_transfer, max_live, goes_by_id}
+use Rattle.gate_core.specs.Errno.{eshutdown, ebusy}
+use Rattle.gate_core.specs.Ids.{holds}
+use Rattle.gate_core.specs.Marks.{Submission}
+use Rattle.gate_core.specs.Submits.{Pending, touches_stream}
+use Rattle.gate_core.specs.Output.{fresh}
+use Rattle.gate_core.specs.State.{State, is_number as has_seq}
+use Rattle.gate_core.specs.Meaning.{by_stream}
+use Rattle.gate_core.specs.Ups.{Up}
+use Rattle.direct_device.specs.Direct.{number, normal_of, normal_by}
+use Rattle.direct_proof.proofs.shared.New.{IsNew}
+use Rattle.direct_proof.specs.Requests.{Entry, Debt, load_of, debts_of}
+use Rattle.direct_proof.specs.Tagged.{Tagged}
+use Rattle.direct_proof.specs.Cancels.{Behind}
+use Rattle.direct_proof.specs.Stale.{Clean}
+use Rattle.direct_proof.proofs.shared.Owed.{each-append, IsNewNumber}
+use Rattle.direct_proof.proofs.shared.Folds.{not-both, or-left, or-none, any-append}
+use Rattle.direct_proof.proofs.submits.Submitting.{AreBefore}
+use Rattle.direct_proof.proofs.streams.changes.Changing.{changer, touched, staying}
+
+-- ---- the verdict
+
+pub past : (b : Bool) (status : ℤ) (v : Verdict) (x : Route) → cond b (Now status) v ≡ Routed x → (b ≡ false) × (v ≡ Routed x)
+past true status v x h = absurd (cc)
+past false status v x h = (refl, h)
+
+-- of a control transfer no table is read
+pub setup-alone : (lost : Bool) (live : ℕ) (changing : Bool) (t u : EpTable) (wide : Bool) (r : Request) (s : Setup) → r.transfer.setup ≡ Some s → verdict lost live changing t wide r ≡ verdict lost live changing u wide r
+setup-alone lost live changing t u wide r s h =
+    (λ i. cond lost (Now eshutdown) (cond (nat_le max_live live) (Now ebusy) (by_transfer changing t wide r (h i))))
+    ∙ (λ i. cond lost (Now eshutdown) (cond (nat_le max_live live) (Now ebusy) (by_transfer changing u wide r (sym h i))))
+
+pub by-routed : (up : Option Up) (x : Route) → by_stream up (Routed x) ≡ Routed x
+by-routed None x = refl
+by-routed (Some up) x = refl
+
+-- ---- debts
+
+abbrev pub debt_in : Submission → Debt
+debt_in s = record { id = s.id; load = load_of s }
+
+abbrev pub by_id : Submission → Bool
+by_id s = goes_by_id s.verdict
+
+touched-waits : (x : Route) (v : Verdict) → touches_stream x v ≡ true → goes_by_id v ≡ false
+touched-waits x (Now status) h = refl
+touched-waits x (Wire pipe) h = absurd (not-both (sym h))
+touched-waits x (Routed y) h = absurd (not-both (sym h))
+touched-waits x (IsoOut row) h = refl
+touched-waits x (Stream row) h = refl
+
+pub debts-changer : (st : State) (r : Request) (x : Route) (ps : List Pending) → debts_of (map (λ (p : Pending). p.submit) (staying x ps ++ fresh (changer st r x) ∷ [])) ≡ debts_of (map (λ (p : Pending). p.submit) ps) ++ debt_in (changer st r x) ∷ []
+debts-changer st r x [] = refl
+debts-changer st r x (p ∷ ps) = go (touched x p) refl (debts-changer st r x ps)
+  where
+    go : (b : Bool) → touched x p ≡ b → debts_of (map (λ (q : Pending). q.submit) (staying x ps ++ fresh (changer st r x) ∷ [])) ≡ debts_of (map (λ (q : Pending). q.submit) ps) ++ debt_in (changer st r x) ∷ [] →
+        debts_of (map (λ (q : Pending). q.submit) (cond (not b) (p ∷ staying x ps) (staying x ps) ++ fresh (changer st r x) ∷ [])) ≡ debts_of (p.submit ∷ map (λ (q : Pending). q.submit) ps) ++ debt_in (changer st r x) ∷ []
+    go true e ih = ih ∙ ap (λ (c : Bool). map debt_in (cond c (p.submit ∷ filter by_id (map (λ (q : Pending). q.submit) ps)) (filter by_id (map (λ (q : Pending). q.submit) ps))) ++ debt_in (changer st r x) ∷ []) (sym (touched-waits x p.submit.verdict e))
+    go false e ih = elim (goes_by_id p.submit.verdict) as (λ c. map debt_in (cond c (p.submit ∷ filter by_id (map (λ (q : Pending). q.submit) (staying x ps ++ fresh (changer st r x) ∷ []))) (filter by_id (map (λ (q : Pending). q.submit) (staying x ps ++ fresh (changer st r x) ∷ [])))) ≡
+        map debt_in (cond c (p.submit ∷ filter by_id (map (λ (q : Pending). q.submit) ps)) (filter by_id (map (λ (q : Pending). q.submit) ps))) ++ debt_in (changer st r x) ∷ [])
+        [ true ↦ ap (λ (l : List Debt). debt_in p.submit ∷ l) ih | false ↦ ih ]
+
+pub new-debts : (id : ℕ) (ss : List Submission) → holds (map (λ (s : Submission). s.id) ss) id ≡ false → IsNew id (map debt_in ss)
+new-debts id [] h = tt
+new-debts id (s ∷ ss) h = let p = or-none (id == s.id) (holds (map (λ (y : Submission). y.id) ss) id) h in (flip id s.id p.0, new-debts id ss p.1)
+  where
+    flip : (a b : ℕ) → (a == b) ≡ false → (b == a) ≡ false
+    flip a b e = grind (arith, e)
+
+pub new-numbers : (n : ℕ) (ss : List Submission) → list_any (has_seq n) ss ≡ false → IsNewNumber n (debts_of ss)
+new-numbers n [] h = tt
+new-numbers n (s ∷ ss) h =
+    let p = or-none (has_seq n s) (list_any (has_seq n) ss) h in
+    let rest = new-numbers n ss p.1 in
+    elim (goes_by_id s.verdict) as (λ c. Each (λ (d : Debt). (number d.load == n) ≡ false) (map debt_in (cond c (s ∷ filter by_id ss) (filter by_id ss)))) [ true ↦ (p.0, rest) | false ↦ rest ]
+
+pub holds-front : (xs ys : List ℕ) (id : ℕ) → holds (xs ++ ys) id ≡ false → holds xs id ≡ false
+holds-front xs ys id h = (or-none (holds xs id) (holds ys id) (sym (any-append (λ y. id == y) xs ys) ∙ h)).0
+
+-- ---- behind
+
+pub zero-route : (r : Request) (x : Route) → is_change x ≡ true → is_control (normal_by r (Routed x)).ep ≡ true
+zero-route r (route.SetConfig c) h = refl
+zero-route r (route.SetAlt i a) h = refl
+zero-route r route.Reset h = refl
+zero-route r route.GetConfig h = absurd (not-both (sym h))
+zero-route r (route.GetAlt i) h = absurd (not-both (sym h))
+zero-route r route.Local h = absurd (not-both (sym h))
+zero-route r route.Plain h = absurd (not-both (sym h))
+zero-route r route.Bad h = absurd (not-both (sym h))
+
+pub behind-more : (es : List Entry) (e : Entry) → is_control (normal_of e.load).ep ≡ true → Behind es → Behind (es ++ e ∷ [])
+behind-more [] e h b = ((λ z. tt), tt)
+behind-more (y ∷ es) e h b = ((λ z. each-append (λ (q : Entry). is_control (normal_of q.load).ep ≡ true) es (e ∷ []) (b.0 z) (h, tt)), behind-more es e h b.1)
+
+pub clean-true : (fence : Option ℕ) (down : ℕ → Bool) (p : Bool) → p ≡ true → (bs : List Tagged) → Clean fence down p bs
+clean-true fence down p h [] = tt
+clean-true fence down p h (b ∷ bs) = ((λ s. or-left p _ h), clean-true fence down p h bs)
+
+pub before-all : (n : ℕ) (ps : List Pending) → AllByRecursion (λ (s : Submission). s.place < n) (map (λ (p : Pending). p.submit) ps) → AreBefore n ps
+before-all n [] h = tt
+before-all n (p ∷ ps) h = (apart n p.submit.place h.0, before-all n ps h.1)
+  where
+    apart : (a b : ℕ) → b < a → (a == b) ≡ false
+    apart a b k = grind (arith, k)

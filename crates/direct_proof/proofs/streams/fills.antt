@@ -1,0 +1,4 @@
+pub mod FillLists
+pub mod Filling
+pub mod Fills
+pub mod FillsDone

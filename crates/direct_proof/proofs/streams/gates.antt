@@ -1,0 +1,4 @@
+pub mod Unstopped
+pub mod UnstoppedLaw
+pub mod Gates
+pub mod GateRuns

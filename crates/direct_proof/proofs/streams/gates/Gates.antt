@@ -1,0 +1,77 @@
+-- What the lemmas of streams take of a gateway is what its own laws say: its state is sound, two lists have 32 places, and streams
+-- that are up keep no stop. An item keeps the last two.
+use Rattle.std.proofs.Common.{◌≡◌, ◌≤◌, Bool, true, false, List, ◌++◌, length, filter, Some, arith}
+use Rattle.std.proofs.lemmas.List.{length-map, length-append}
+use Rattle.control_route.specs.declared.route.Route.{Route}
+use Rattle.control_route.specs.declared.route.Route.TheVariants as route
+use Rattle.gate_core.specs.Calls.{call_ids, asking}
+use Rattle.gate_core.specs.Flight.{wide_ids, ids_of}
+use Rattle.gate_core.specs.Ids.{greatest}
+use Rattle.gate_core.specs.Machine.{after}
+use Rattle.gate_core.specs.Marks.{Submission, Mark}
+use Rattle.gate_core.specs.Packets.{stops, route_packets}
+use Rattle.gate_core.specs.Sound.{IsSound}
+use Rattle.gate_core.specs.State.{State, submits, flying}
+use Rattle.gate_core.specs.Submits.{Pending}
+use Rattle.gate_core.specs.Ups.{is_ended}
+use Rattle.gate_core.specs.Verdict.{goes_by_id}
+use Rattle.gate_core.proofs.Called.{AreLong, few-ids, long-called, few-stops}
+use Rattle.gate_core.proofs.Draws.{draws-fresh}
+use Rattle.gate_core.proofs.Lists.{length-filter}
+use Rattle.direct_proof.proofs.streams.gates.Unstopped.{Unstopped}
+use Rattle.direct_proof.proofs.streams.submits.Accepted.{IsGate}
+use Rattle.direct_proof.proofs.streams.changes.ChangeWire.{IsChanging}
+
+few-of : (ss : List Submission) → length (ids_of ss) ≤ length ss
+few-of ss = let a = length-map (filter (λ (s : Submission). goes_by_id s.verdict) ss) (λ (s : Submission). s.id) in let b = length-filter (λ (s : Submission). goes_by_id s.verdict) ss in omega (arith, a, b)
+
+pub few-flying : (st : State) → IsSound st → AreLong st.calls → length (flying st) ≤ 8256
+few-flying st sound long =
+    let a = few-of (submits st) in
+    let b = few-of st.abandoned in
+    let c = few-ids st.calls long in
+    let d = length-map st.live (λ (p : Pending). p.submit) in
+    let e = length-append (ids_of (submits st) ++ ids_of st.abandoned) (call_ids st.calls) in
+    let f = length-append (ids_of (submits st)) (ids_of st.abandoned) in
+    let few = sound.few in
+    let left = sound.left in
+    omega (arith, a, b, c, d, e, f, few, left)
+
+pub many : (b : Bool) → 4294967295 ≤ greatest b
+many true = omega arith
+many false = omega arith
+
+pub is-gate : (st : State) → IsSound st → AreLong st.calls → IsGate st
+is-gate st sound long = record {
+  sound = sound;
+  long = long;
+  fresh = let a = few-flying st sound long in let b = many (wide_ids st.agreed) in draws-fresh (greatest (wide_ids st.agreed)) (flying st) st.last 1 (omega (arith, a, b));
+}
+
+few-route : (x : Route) → length (route_packets x) ≤ 2
+few-route (route.SetConfig c) = omega arith
+few-route route.GetConfig = omega arith
+few-route (route.SetAlt i a) = omega arith
+few-route (route.GetAlt i) = omega arith
+few-route route.Reset = omega arith
+few-route route.Local = omega arith
+few-route route.Plain = omega arith
+few-route route.Bad = omega arith
+
+pub is-changing : (st : State) (x : Route) → IsSound st → AreLong st.calls → length st.streams ≡ 32 → Unstopped st.streams st.calls → IsChanging st x
+is-changing st x sound long places free = record {
+  sound = sound;
+  long = long;
+  fresh =
+      let a = few-flying st sound long in
+      let b = many (wide_ids st.agreed) in
+      let c = few-stops (is_ended (Some x)) st.streams in
+      let d = few-route x in
+      let e = length-append (stops (is_ended (Some x)) st.streams) (route_packets x) in
+      draws-fresh (greatest (wide_ids st.agreed)) (flying st) st.last (length (stops (is_ended (Some x)) st.streams ++ route_packets x)) (omega (arith, a, b, c, d, e, places));
+  unstopped = free.fresh;
+}
+
+-- an item keeps the places of ids
+pub long-after : (st : State) (m : Mark) → AreLong st.calls → AreLong (after st m).calls
+long-after st m long = long-called (asking st.streams m) st.calls long

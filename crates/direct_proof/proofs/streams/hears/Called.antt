@@ -1,0 +1,219 @@
+-- The host reads a start or a stop of a stream, and what is shared is kept.
+use Rattle.direct_proof.proofs.streams.hears.CalledFence.{called_world, called-moved, unheard-moved, unfenced, stays-clean, fenced-called}
+use Rattle.std.proofs.Common.{◌≡◌, ℕ, ◌+◌, ◌||◌, ◌⊎◌, inl, inr, Bool, true, false, cond, List, [], ◌∷◌, ◌++◌, map, Option, Some, None, is_some, refl, sym, ap, ◌∙◌, subst, arith}
+use Rattle.std.specs.List.{list_any}
+use Rattle.redir_data.specs.declared.packet.RedirPacket.{RedirPacket}
+use Rattle.redir_data.specs.Streams.{advanced}
+use Rattle.model_device.specs.Meaning.{Meaning}
+use Rattle.redir_host.specs.declared.running.Running.{Running}
+use Rattle.redir_host.specs.Packets.{runs_at}
+use Rattle.redir_host.specs.Sound.{Each}
+use Rattle.gate_core.specs.Ids.{times}
+use Rattle.gate_core.specs.Ups.{stream_of}
+use Rattle.gate_core.specs.declared.facts.Facts.{Facts}
+use Rattle.gate_core.proofs.Called.{times-append}
+use Rattle.direct_run.specs.Moves.{World, HostReads}
+use Rattle.direct_proof.specs.Moves.{move}
+use Rattle.direct_proof.specs.Tagged.{Tagged, Stated, on_wire, told}
+use Rattle.direct_proof.specs.Shared.{Shared, in_line, view}
+use Rattle.direct_proof.specs.Requests.{ran_of}
+use Rattle.direct_proof.specs.Related.{Related}
+use Rattle.direct_proof.specs.Session.{Session, down_in, runs}
+use Rattle.direct_proof.specs.Calls.{Controls, Fenced, StatusIsKept, CallIsKept, call_id, statuses_on, calls_on}
+use Rattle.direct_proof.specs.Ids.{Ids}
+use Rattle.direct_proof.specs.Kinds.{TaggedOfKind, StartOfKind}
+use Rattle.direct_proof.specs.Meets.{is_greeting, is_plug, is_bye}
+use Rattle.direct_proof.specs.Cancels.{any_change}
+use Rattle.direct_proof.specs.Stale.{asks, is_fence}
+use Rattle.direct_proof.specs.Running.{passes, called_endpoint, started_kind, Quits, Trails, runs_after}
+use Rattle.direct_proof.proofs.shared.Traces.{map-append}
+use Rattle.direct_proof.proofs.shared.Owed.{each-append}
+use Rattle.direct_proof.proofs.shared.Keeps.{Keeps, keeps-quiet}
+use Rattle.direct_proof.proofs.streams.wires.Sorts.{asks-parts, line_changes}
+use Rattle.direct_proof.proofs.streams.wires.SortsMore.{call-stays}
+use Rattle.direct_proof.proofs.shared.Folds.{clash, not-both, or-left, or-right}
+use Rattle.direct_proof.proofs.streams.wires.Folds.{or-either, quits-off}
+use Rattle.direct_proof.proofs.shared.Backs.{clean-append}
+use Rattle.direct_proof.proofs.shared.Streaming.{statuses-append}
+use Rattle.direct_proof.proofs.streams.wires.Growing.{any-last, plug-last, runs-last, told-last, no-fact-told, bye-last, way-stated}
+use Rattle.direct_proof.proofs.streams.wires.Pending.{asked-pending}
+use Rattle.direct_proof.proofs.streams.hears.Calling.{HostCalls}
+use Rattle.direct_proof.proofs.streams.hears.Hearing.{asked-tail, call-of, cancels, controls-at, here, in-tail, is_call, known, line, not-first, starts-tail}
+
+module _ {S : Type 0} (m : Meaning S) (w : World S) (j : Shared) (rel : Related m w j) (q : ℕ × RedirPacket) (ps : List (ℕ × RedirPacket)) (wire : w.to_host ≡ q ∷ ps) (x : ℕ) (at-x : called_endpoint q.1 ≡ Some x) where
+  module _ (plugged : w.host.unplugged ≡ false) (there : w.gate.lost ≡ false) (session : Session m w j) (c : HostCalls m w.host w.gate.streams q) where
+    abbrev b : Tagged
+    b = Stated c.kind q.0 c.ep 0
+
+    abbrev fenced' : Bool
+    fenced' = unfenced w.gate.fence q.0 j.fenced
+
+    abbrev later : Shared
+    later = record j { back = j.back ++ b ∷ []; fenced = fenced' }
+
+    abbrev new : World S
+    new = called_world w ps c.running (on_wire b)
+
+    controls : Controls w.gate.calls (q ∷ ps) j.back
+    controls = (controls-at m w j rel q ps wire x at-x) there
+
+    statuses : statuses_on (j.back ++ b ∷ []) ≡ statuses_on j.back ++ q.0 ∷ []
+    statuses = statuses-append j.back (b ∷ [])
+
+    new-fenced : Fenced w.gate.fence fenced' ps (j.back ++ b ∷ [])
+    new-fenced = fenced-called w.gate.fence j.fenced q ps j.back b (is_call m w j rel q ps wire x at-x).id statuses controls.once (subst (λ (l : List (ℕ × RedirPacket)). Fenced w.gate.fence j.fenced l j.back) wire (rel.fenced there))
+
+    trails : Trails w.gate.fence (down_in w.gate.streams) (q ∷ ps)
+    trails = subst (Trails w.gate.fence (down_in w.gate.streams)) wire session.trails
+
+    -- a status of a stream that is down has an end behind it, or is one
+    covered : down_in w.gate.streams c.ep ≡ true → ((any_change (j.held ++ j.coming) || fenced') || (is_fence w.gate.fence q.0 || false)) ≡ true
+    covered down = go (or-either (asks w.gate.fence q) (list_any (asks w.gate.fence) ps) (trails.0 (ap (passes (down_in w.gate.streams)) c.at ∙ down)))
+      where
+        stop : (list_any line_changes (in_line q) ≡ true) ⊎ ((is_fence w.gate.fence q.0 ≡ true) × (call_id q ≡ q.0 ∷ [])) → is_fence w.gate.fence q.0 ≡ true
+        stop (inl k) = absurd (not-both (sym k ∙ ap (list_any line_changes) (is_call m w j rel q ps wire x at-x).line))
+        stop (inr k) = k.0
+
+        go : (asks w.gate.fence q ≡ true) ⊎ (list_any (asks w.gate.fence) ps ≡ true) → ((any_change (j.held ++ j.coming) || fenced') || (is_fence w.gate.fence q.0 || false)) ≡ true
+        go (inl k) = or-right (any_change (j.held ++ j.coming) || fenced') (is_fence w.gate.fence q.0 || false) (or-left (is_fence w.gate.fence q.0) false (stop (asks-parts w.gate.fence q k)))
+        go (inr k) = or-left (any_change (j.held ++ j.coming) || fenced') (is_fence w.gate.fence q.0 || false) (asked-pending w.gate.fence fenced' j.half ps (j.back ++ b ∷ []) j.held j.coming (line m w j rel q ps wire x at-x) new-fenced k)
+
+    same-told : told w.gate.facts (j.back ++ b ∷ []) ≡ told w.gate.facts j.back
+    same-told = told-last w.gate.facts j.back b (no-fact-told c.kind q.0 c.ep 0)
+
+    new-session : Session m new later
+    new-session = record {
+      table = ap (λ (f : Facts). f.table) same-told ∙ session.table;
+      faces = ap (λ (f : Facts). f.interfaces) same-told ∙ session.faces;
+      clean = clean-append w.gate.fence (down_in w.gate.streams) (any_change (j.held ++ j.coming) || j.fenced) (any_change (j.held ++ j.coming) || fenced') j.back (b ∷ [])
+          (stays-clean (any_change (j.held ++ j.coming)) j.fenced (is_fence w.gate.fence q.0)) session.clean (covered, tt);
+      quits = λ e down. subst (λ (r : Bool). Quits w.gate.fence e r ps) (sym (c.runs-are e)) (subst (Quits w.gate.fence e (runs w.host e)) wire (session.quits e down)).1;
+      trails = trails.1;
+      starts = (starts-tail m w j rel q ps wire x at-x) (any_change j.held || j.half) session.starts;
+      kinds = c.kinds;
+      start_kinds = (subst (Each (λ (p : ℕ × RedirPacket). StartOfKind w.gate.streams (started_kind p.1))) wire session.start_kinds).1;
+    }
+
+    related : Related m new later
+    related = record {
+      held = rel.held;
+      half = rel.half;
+      coming = line m w j rel q ps wire x at-x;
+      answers = ap (λ (l : List (ℕ × RedirPacket)). l ++ on_wire b ∷ []) rel.answers ∙ sym (map-append on_wire j.back (b ∷ []));
+      loads = rel.loads;
+      tagged = each-append (TaggedOfKind w.gate.streams) j.back (b ∷ []) rel.tagged ((c.is_in.low, c.is_in.high, refl), tt);
+      ids = subst (Ids j.debts w.submits (j.held ++ j.coming)) (sym (runs-last j.back b refl)) rel.ids;
+      real = rel.real;
+      calls_in = (in-tail m w j rel q ps wire x at-x).1;
+      runs_at_in = c.ins;
+      meets = record {
+        host = rel.meets.host;
+        gate = λ h. rel.meets.gate (sym (any-last is_greeting j.back b refl) ∙ h);
+        before = λ h. absurd (clash w.host.guest.first h (not-first m w j rel q ps wire x at-x));
+        announced = λ h k. ap (λ (z : Bool). is_some w.gate.facts.connect || z) (any-last is_plug j.back b refl) ∙ (known m w j rel q ps wire x at-x) plugged;
+        asked = λ h. (asked-tail m w j rel q ps wire x at-x);
+        behind = λ h. let k = rel.meets.behind h in (any-last is_greeting j.back b refl ∙ k.0, any-last is_plug j.back b refl ∙ k.1, k.2);
+        once = plug-last j.back b refl refl rel.meets.once;
+        plugged = λ h. rel.meets.plugged (sym (any-last is_plug j.back b refl) ∙ h);
+        no_session = rel.meets.no_session;
+      };
+      debts = rel.debts;
+      controls = λ h. record {
+        once = λ id. let o = controls.once id in let a = times-append id (call_id q) (calls_on ps) ∙ ap (λ (l : List ℕ). times id l + times id (calls_on ps)) (is_call m w j rel q ps wire x at-x).id in let z = ap (times id) statuses ∙ times-append id (statuses_on j.back) (q.0 ∷ []) in omega (arith, o, a, z);
+        calls_kept = controls.calls_kept.1;
+        statuses_kept = each-append (StatusIsKept w.gate.calls) j.back (b ∷ []) controls.statuses_kept (subst (CallIsKept w.gate.calls q.0) c.at controls.calls_kept.0, tt);
+      };
+      fenced = λ h. new-fenced;
+      cancels = cancels m w j rel q ps wire x at-x;
+      behind = rel.behind;
+      alone = rel.alone;
+      session = λ h k. new-session;
+      ups = rel.ups;
+      lost = λ h. absurd (clash w.gate.lost h there);
+      gone = rel.gone;
+      reads = rel.reads;
+      refused = rel.refused;
+      down = rel.down;
+      seen = rel.seen;
+      still = λ h. absurd (clash w.host.unplugged h plugged);
+      bye = λ h. any-last is_bye j.back b refl ∙ rel.bye h;
+      bye_last = bye-last j.back b (rel.bye plugged) refl;
+    }
+
+    keep-heard : Keeps m w j (move m w HostReads)
+    keep-heard = keeps-quiet m w j later (move m w HostReads) new (called-moved m w q ps c wire plugged) related
+        (λ i. record (view w j) { ran = cond w.gate.imported (map ran_of (sym (runs-last j.back b refl) i)) []; way = λ e. sym (way-stated (stream_of w.gate.streams e) e j.back c.kind q.0 c.ep 0) i })
+
+  -- ---- a host that is unplugged reads on
+
+  unheard : w.host.unplugged ≡ true → Related m (record w { to_host = ps }) j
+  unheard gone = record {
+    held = rel.held;
+    half = rel.half;
+    coming = line m w j rel q ps wire x at-x;
+    answers = rel.answers;
+    loads = rel.loads;
+    tagged = rel.tagged;
+    ids = rel.ids;
+    real = rel.real;
+    calls_in = (in-tail m w j rel q ps wire x at-x).1;
+    runs_at_in = rel.runs_at_in;
+    meets = record {
+      host = rel.meets.host;
+      gate = rel.meets.gate;
+      before = λ h. absurd (clash w.host.guest.first h (not-first m w j rel q ps wire x at-x));
+      announced = λ h k. absurd (clash w.host.unplugged gone k);
+      asked = λ h. (asked-tail m w j rel q ps wire x at-x);
+      behind = rel.meets.behind;
+      once = rel.meets.once;
+      plugged = rel.meets.plugged;
+      no_session = rel.meets.no_session;
+    };
+    debts = rel.debts;
+    controls = λ h. let c = (controls-at m w j rel q ps wire x at-x) h in record {
+      once = λ id. let o = c.once id in let a = times-append id (call_id q) (calls_on ps) in omega (arith, o, a);
+      calls_kept = c.calls_kept.1;
+      statuses_kept = c.statuses_kept;
+    };
+    fenced = λ h. fewer w.gate.fence j.fenced (subst (λ (l : List (ℕ × RedirPacket)). Fenced w.gate.fence j.fenced l j.back) wire (rel.fenced h));
+    cancels = cancels m w j rel q ps wire x at-x;
+    behind = rel.behind;
+    alone = rel.alone;
+    session = λ h k. let s = rel.session h k in record {
+      table = s.table;
+      faces = s.faces;
+      clean = s.clean;
+      quits = λ e down. quits-still e (subst (Quits w.gate.fence e (runs w.host e)) wire (s.quits e down)).1;
+      trails = (subst (Trails w.gate.fence (down_in w.gate.streams)) wire s.trails).1;
+      starts = (starts-tail m w j rel q ps wire x at-x) (any_change j.held || j.half) s.starts;
+      kinds = s.kinds;
+      start_kinds = (subst (Each (λ (p : ℕ × RedirPacket). StartOfKind w.gate.streams (started_kind p.1))) wire s.start_kinds).1;
+    };
+    ups = rel.ups;
+    lost = rel.lost;
+    gone = rel.gone;
+    reads = rel.reads;
+    refused = rel.refused;
+    down = rel.down;
+    seen = rel.seen;
+    still = rel.still;
+    bye = rel.bye;
+    bye_last = rel.bye_last;
+  }
+    where
+      fewer : (fence : Option ℕ) (fenced : Bool) → Fenced fence fenced (q ∷ ps) j.back → Fenced fence fenced ps j.back
+      fewer None fenced h = h
+      fewer (Some f) fenced h = ((λ k. let a = times-append f (call_id q) (calls_on ps) in h.0 (omega (arith, k, a))), h.1)
+
+      quits-still : (e : ℕ) → Quits w.gate.fence e (runs_after e q.1 (runs w.host e)) ps → Quits w.gate.fence e (runs w.host e) ps
+      quits-still e h = subst (λ (rs : List Running). Quits w.gate.fence e (list_any (runs_at e) rs) ps) (sym (rel.still gone)) (quits-off w.gate.fence e (runs_after e q.1 (runs w.host e)) ps h)
+
+  keep-unheard : advanced w.host.guest q.1 ≡ w.host.guest → w.host.unplugged ≡ true → Keeps m w j (move m w HostReads)
+  keep-unheard same gone = keeps-quiet m w j j (move m w HostReads) (record w { to_host = ps }) (unheard-moved m w q ps same wire gone) (unheard gone) refl
+
+  pub keep-calls : Keeps m w j (move m w HostReads)
+  keep-calls = by w.host.unplugged refl
+    where
+      by : (b : Bool) → w.host.unplugged ≡ b → Keeps m w j (move m w HostReads)
+      by true gone = keep-unheard (call-stays w.host.guest q x at-x) gone
+      by false plugged = let s = rel.session ((here m w j rel q ps wire x at-x) plugged) ((known m w j rel q ps wire x at-x) plugged) in keep-heard plugged ((here m w j rel q ps wire x at-x) plugged) s ((call-of m w j rel q ps wire x at-x) s)

@@ -1,0 +1,138 @@
+-- The host reads a start or a stop: its streams run as the packet says, and it tells of a success.
+use Rattle.std.proofs.Common.{◌≡◌, ℕ, ◌==◌, ◌||◌, not, Bool, true, false, cond, List, [], ◌∷◌, ◌++◌, Option, Some, None, refl, sym, ap, ◌∙◌, arith}
+use Rattle.std.specs.List.{list_any}
+use Rattle.redir_wire.specs.declared.packet.RedirControl.TheVariants as plain
+use Rattle.redir_data.specs.declared.packet.RedirPacket.{RedirPacket}
+use Rattle.redir_data.specs.declared.packet.RedirPacket.TheVariants.{Plain, Carrying}
+use Rattle.redir_data.specs.Streams.{advanced}
+use Rattle.model_device.specs.Meaning.{Meaning}
+use Rattle.redir_host.specs.declared.host.Host.{Host}
+use Rattle.redir_host.specs.declared.running.Running.{Running}
+use Rattle.redir_host.specs.declared.running.StreamKind.{StreamKind}
+use Rattle.redir_host.specs.declared.running.StreamKind.TheVariants.{Iso, Interrupt}
+use Rattle.redir_host.specs.Moves.{replies}
+use Rattle.redir_host.specs.Packets.{packet_move_by, runs_at, started, stopped, start_move}
+use Rattle.redir_host.specs.Sound.{Each}
+use Rattle.gate_core.specs.Ups.{Up, stream_of}
+use Rattle.direct_proof.specs.Tagged.{Stated, on_wire}
+use Rattle.direct_proof.specs.Kinds.{IsIn, OfKind, StartOfKind, CallIsIn}
+use Rattle.direct_proof.specs.Running.{CanStart, called_endpoint, started_kind, runs_after}
+use Rattle.direct_proof.proofs.shared.Owed.{each-append, each-filter}
+
+-- ---- those that run
+
+pub stopped-runs : (ep e : ℕ) (rs : List Running) → list_any (runs_at e) (stopped ep rs) ≡ cond (ep == e) false (list_any (runs_at e) rs)
+stopped-runs ep e [] = none (ep == e)
+  where
+    none : (b : Bool) → false ≡ cond b false false
+    none true = refl
+    none false = refl
+stopped-runs ep e (s ∷ rs) = go (s.ep == ep) refl (ep == e) refl (s.ep == e) refl (stopped-runs ep e rs)
+  where
+    go : (a : Bool) → (s.ep == ep) ≡ a → (b : Bool) → (ep == e) ≡ b → (c : Bool) → (s.ep == e) ≡ c → list_any (runs_at e) (stopped ep rs) ≡ cond (ep == e) false (list_any (runs_at e) rs) →
+        list_any (runs_at e) (cond (not a) (s ∷ stopped ep rs) (stopped ep rs)) ≡ cond (ep == e) false ((s.ep == e) || list_any (runs_at e) rs)
+    go true x true y c z rest = rest ∙ (λ i. cond (y i) false (list_any (runs_at e) rs)) ∙ (λ i. cond (sym y i) false ((s.ep == e) || list_any (runs_at e) rs))
+    go true x false y true z rest = absurd (differ s.ep ep e x y z)
+      where
+        differ : (k l n : ℕ) → (k == l) ≡ true → (l == n) ≡ false → (k == n) ≡ true → ⊥
+        differ k l n f g h = grind (arith, f, g, h)
+    go true x false y false z rest = rest ∙ (λ i. cond (ep == e) false (sym z i || list_any (runs_at e) rs))
+    go false x true y true z rest = absurd (differ s.ep ep e x y z)
+      where
+        differ : (k l n : ℕ) → (k == l) ≡ false → (l == n) ≡ true → (k == n) ≡ true → ⊥
+        differ k l n f g h = grind (arith, f, g, h)
+    go false x true y false z rest = (λ i. z i || (rest ∙ (λ t. cond (y t) false (list_any (runs_at e) rs))) i) ∙ (λ i. cond (sym y i) false ((s.ep == e) || list_any (runs_at e) rs))
+    go false x false y c z rest = (λ i. (s.ep == e) || (rest ∙ (λ t. cond (y t) false (list_any (runs_at e) rs))) i) ∙ (λ i. cond (sym y i) false ((s.ep == e) || list_any (runs_at e) rs))
+
+pub started-runs : (k : StreamKind) (ep e : ℕ) (rs : List Running) → list_any (runs_at e) (started k ep rs) ≡ cond (ep == e) true (list_any (runs_at e) rs)
+started-runs k ep e rs = last (stopped ep rs) ∙ (λ i. stopped-runs ep e rs i || (ep == e)) ∙ by (ep == e) (list_any (runs_at e) rs)
+  where
+    last : (xs : List Running) → list_any (runs_at e) (xs ++ record { ep = ep; kind = k } ∷ []) ≡ (list_any (runs_at e) xs || (ep == e))
+    last [] = or-false (ep == e)
+      where
+        or-false : (b : Bool) → (b || false) ≡ b
+        or-false true = refl
+        or-false false = refl
+    last (x ∷ xs) = ap (λ (b : Bool). (x.ep == e) || b) (last xs) ∙ or-assoc (x.ep == e) (list_any (runs_at e) xs) (ep == e)
+      where
+        or-assoc : (a b c : Bool) → (a || (b || c)) ≡ ((a || b) || c)
+        or-assoc true b c = refl
+        or-assoc false b c = refl
+
+    by : (b r : Bool) → (cond b false r || b) ≡ cond b true r
+    by true r = refl
+    by false true = refl
+    by false false = refl
+
+-- ---- a call
+
+pub record HostCalls {S : Type 0} (m : Meaning S) (h : Host S) (ups : List (Option Up)) (q : ℕ × RedirPacket) : Type 0 where
+  pub kind : StreamKind
+  pub ep : ℕ
+  pub running : List Running
+  pub at : called_endpoint q.1 ≡ Some ep
+  pub is_in : IsIn ep
+  pub moved : packet_move_by m h q.0 q.1 ≡ replies (record h { running = running }) (on_wire (Stated kind q.0 ep 0))
+  pub same : advanced h.guest q.1 ≡ h.guest
+  pub runs-are : (e : ℕ) → list_any (runs_at e) running ≡ runs_after e q.1 (list_any (runs_at e) h.running)
+  pub kinds : Each (λ (s : Running). OfKind (stream_of ups s.ep) s.kind) running
+  pub ins : Each (λ (s : Running). IsIn s.ep) running
+
+none-some : (e : ℕ) → None ≡ Some e → ⊥
+none-some e h = cc
+
+module _ {S : Type 0} (m : Meaning S) (h : Host S) (ups : List (Option Up)) (kinds : Each (λ (s : Running). OfKind (stream_of ups s.ep) s.kind) h.running) (ins : Each (λ (s : Running). IsIn s.ep) h.running) where
+  starting : (id ep : ℕ) (k : StreamKind) (p : RedirPacket) → called_endpoint p ≡ Some ep → IsIn ep → OfKind (stream_of ups ep) k →
+      packet_move_by m h id p ≡ replies (record h { running = started k ep h.running }) (on_wire (Stated k id ep 0)) → advanced h.guest p ≡ h.guest →
+      ((e : ℕ) (r : Bool) → cond (ep == e) true r ≡ runs_after e p r) → HostCalls m h ups (id, p)
+  starting id ep k p at is_in kind moved same runs = record {
+    kind = k;
+    ep = ep;
+    running = started k ep h.running;
+    at = at;
+    is_in = is_in;
+    moved = moved;
+    same = same;
+    runs-are = λ e. started-runs k ep e h.running ∙ runs e (list_any (runs_at e) h.running);
+    kinds = each-append (λ (s : Running). OfKind (stream_of ups s.ep) s.kind) (stopped ep h.running) (record { ep = ep; kind = k } ∷ []) (each-filter (λ (s : Running). OfKind (stream_of ups s.ep) s.kind) (λ s. not (runs_at ep s)) h.running kinds) (kind, tt);
+    ins = each-append (λ (s : Running). IsIn s.ep) (stopped ep h.running) (record { ep = ep; kind = k } ∷ []) (each-filter (λ (s : Running). IsIn s.ep) (λ s. not (runs_at ep s)) h.running ins) (is_in, tt);
+  }
+
+  stopping : (id ep : ℕ) (k : StreamKind) (p : RedirPacket) → called_endpoint p ≡ Some ep → IsIn ep →
+      packet_move_by m h id p ≡ replies (record h { running = stopped ep h.running }) (on_wire (Stated k id ep 0)) → advanced h.guest p ≡ h.guest →
+      ((e : ℕ) (r : Bool) → cond (ep == e) false r ≡ runs_after e p r) → HostCalls m h ups (id, p)
+  stopping id ep k p at is_in moved same runs = record {
+    kind = k;
+    ep = ep;
+    running = stopped ep h.running;
+    at = at;
+    is_in = is_in;
+    moved = moved;
+    same = same;
+    runs-are = λ e. stopped-runs ep e h.running ∙ runs e (list_any (runs_at e) h.running);
+    kinds = each-filter (λ (s : Running). OfKind (stream_of ups s.ep) s.kind) (λ s. not (runs_at ep s)) h.running kinds;
+    ins = each-filter (λ (s : Running). IsIn s.ep) (λ s. not (runs_at ep s)) h.running ins;
+  }
+
+  pub host-calls : (q : ℕ × RedirPacket) (x : ℕ) → called_endpoint q.1 ≡ Some x → CallIsIn (called_endpoint q.1) → (changing : Bool) → CanStart (m.table h.gadget) changing (started_kind q.1) → StartOfKind ups (started_kind q.1) → HostCalls m h ups q
+  host-calls (id, Plain (plain.Hello x)) y called at changing can kind = absurd (none-some y called)
+  host-calls (id, Plain (plain.Connect c)) y called at changing can kind = absurd (none-some y called)
+  host-calls (id, Plain plain.Disconnect) y called at changing can kind = absurd (none-some y called)
+  host-calls (id, Plain plain.Reset) y called at changing can kind = absurd (none-some y called)
+  host-calls (id, Plain (plain.InterfaceInfo x)) y called at changing can kind = absurd (none-some y called)
+  host-calls (id, Plain (plain.EpInfo x)) y called at changing can kind = absurd (none-some y called)
+  host-calls (id, Plain (plain.SetConfiguration c)) y called at changing can kind = absurd (none-some y called)
+  host-calls (id, Plain plain.GetConfiguration) y called at changing can kind = absurd (none-some y called)
+  host-calls (id, Plain (plain.ConfigurationStatus s c)) y called at changing can kind = absurd (none-some y called)
+  host-calls (id, Plain (plain.SetAlt i a)) y called at changing can kind = absurd (none-some y called)
+  host-calls (id, Plain (plain.GetAlt i)) y called at changing can kind = absurd (none-some y called)
+  host-calls (id, Plain (plain.AltStatus s i a)) y called at changing can kind = absurd (none-some y called)
+  host-calls (id, Plain (plain.StartIso e n k)) x called at changing can kind = starting id e Iso (Plain (plain.StartIso e n k)) refl at kind (ap (λ (b : Bool). start_move b h id Iso e) can.1) refl (λ y r. refl)
+  host-calls (id, Plain (plain.StopIso e)) x called at changing can kind = stopping id e Iso (Plain (plain.StopIso e)) refl at refl refl (λ y r. refl)
+  host-calls (id, Plain (plain.IsoStatus s e)) y called at changing can kind = absurd (none-some y called)
+  host-calls (id, Plain (plain.StartInterrupt e)) x called at changing can kind = starting id e Interrupt (Plain (plain.StartInterrupt e)) refl at kind (ap (λ (b : Bool). start_move b h id Interrupt e) can.1) refl (λ y r. refl)
+  host-calls (id, Plain (plain.StopInterrupt e)) x called at changing can kind = stopping id e Interrupt (Plain (plain.StopInterrupt e)) refl at refl refl (λ y r. refl)
+  host-calls (id, Plain (plain.InterruptStatus s e)) y called at changing can kind = absurd (none-some y called)
+  host-calls (id, Plain plain.Cancel) y called at changing can kind = absurd (none-some y called)
+  host-calls (id, Plain plain.DisconnectAck) y called at changing can kind = absurd (none-some y called)
+  host-calls (id, Carrying d) y called at changing can kind = absurd (none-some y called)

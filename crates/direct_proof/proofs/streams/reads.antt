@@ -1,0 +1,6 @@
+pub mod Reading
+pub mod Quiet
+pub mod Stating
+pub mod Arriving
+pub mod Ways
+pub mod Arrived

@@ -1,0 +1,12 @@
+pub mod Streamed
+pub mod Still
+pub mod Waits
+pub mod Starting
+pub mod Waited
+pub mod RaisedLists
+pub mod Drawn
+pub mod RaisedKinds
+pub mod Raised
+pub mod Accepted
+pub mod WaitsKept
+pub mod StreamIn

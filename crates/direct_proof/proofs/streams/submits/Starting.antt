@@ -1,0 +1,134 @@
+-- A start: what its packet is, and the ids of starts and stops with it.
+use Rattle.std.proofs.Common.{◌≡◌, ℕ, zero, suc, ◌+◌, ◌≤◌, ◌<◌, ◌%◌, ◌==◌, ◌&&◌, ◌||◌, ◌⊎◌, inl, inr, nat_lt, not, Bool, true, false, cond, List, [], ◌∷◌, Option, Some, None, is_some, refl, sym, ap, ◌∙◌, subst, arith}
+use Rattle.std.specs.Prelude.{get_or, slice_set}
+use Rattle.std.specs.List.{list_any, flat_map}
+use Rattle.std.specs.Option.{option_to_list}
+use Rattle.std.proofs.lemmas.List.{get_or-set_same, get_or-set_other}
+use Rattle.usb_base.specs.Endpoint.{endpoint_index, is_in_endpoint, row_of}
+use Rattle.usb_base.specs.declared.endpoint.EpKind.{EpKind}
+use Rattle.usb_base.specs.declared.endpoint.EpKind.TheVariants as kind
+use Rattle.usb_base.specs.declared.endpoint.EpRow.{EpRow}
+use Rattle.usb_base.specs.declared.endpoint.EpTable.{EpTable}
+use Rattle.redir_wire.specs.declared.packet.RedirControl.TheVariants as plain
+use Rattle.redir_data.specs.declared.packet.RedirPacket.{RedirPacket}
+use Rattle.redir_data.specs.declared.packet.RedirPacket.TheVariants.{Plain}
+use Rattle.redir_host.specs.declared.running.StreamKind.{StreamKind}
+use Rattle.redir_host.specs.declared.running.StreamKind.TheVariants.{Iso, Interrupt}
+use Rattle.redir_host.specs.Packets.{can_start, is_of}
+use Rattle.redir_host.specs.Sound.{Each}
+use Rattle.gate_core.specs.Calls.{Calls, call_ids, started}
+use Rattle.gate_core.specs.Ids.{times, holds}
+use Rattle.gate_core.specs.Packets.{start_packet}
+use Rattle.gate_core.specs.Verdict.{is_iso}
+use Rattle.gate_core.proofs.Called.{AreLong, times-append}
+use Rattle.direct_proof.specs.Tagged.{Tagged, Greeted, Plugged, ToldTable, ToldFaces, Answered, Packed, Stated, Bye, is_kind}
+use Rattle.direct_proof.specs.Kinds.{IsIn}
+use Rattle.direct_proof.specs.Calls.{IsKept, CallIsKept, StatusIsKept, is_id, call_id, calls_on, status_id, statuses_on}
+use Rattle.direct_proof.specs.Running.{called_endpoint, started_kind}
+use Rattle.direct_proof.proofs.streams.fills.FillLists.{weight}
+use Rattle.direct_proof.proofs.shared.Folds.{clash, not-both, or-left, or-right, any-append}
+use Rattle.direct_proof.proofs.streams.wires.Folds.{or-either}
+use Rattle.direct_proof.proofs.shared.UpsFound.{in-place, places-differ}
+
+-- ---- its packet
+
+pub record IsStart (ep : ℕ) (row : EpRow) (p : RedirPacket) : Type 0 where
+  pub kind : StreamKind
+  pub called : called_endpoint p ≡ Some ep
+  pub started-is : started_kind p ≡ Some (kind, ep)
+  pub right : is_kind kind (is_iso row.kind) ≡ true
+  pub fits : is_of kind row.kind ≡ true
+
+start-iso : (ep : ℕ) (row : EpRow) → row.kind ≡ kind.Iso → IsStart ep row (start_packet ep row)
+start-iso ep row h = record {
+  kind = Iso;
+  called = ap (λ (k : EpKind). called_endpoint (Plain (cond (is_iso k) (plain.StartIso ep 8 4) (plain.StartInterrupt ep)))) h;
+  started-is = ap (λ (k : EpKind). started_kind (Plain (cond (is_iso k) (plain.StartIso ep 8 4) (plain.StartInterrupt ep)))) h;
+  right = ap is_iso h;
+  fits = ap (is_of Iso) h;
+}
+
+start-interrupt : (ep : ℕ) (row : EpRow) → row.kind ≡ kind.Interrupt → IsStart ep row (start_packet ep row)
+start-interrupt ep row h = record {
+  kind = Interrupt;
+  called = ap (λ (k : EpKind). called_endpoint (Plain (cond (is_iso k) (plain.StartIso ep 8 4) (plain.StartInterrupt ep)))) h;
+  started-is = ap (λ (k : EpKind). started_kind (Plain (cond (is_iso k) (plain.StartIso ep 8 4) (plain.StartInterrupt ep)))) h;
+  right = ap (λ (k : EpKind). not (is_iso k)) h;
+  fits = ap (is_of Interrupt) h;
+}
+
+pub is-start : (ep : ℕ) (row : EpRow) → (row.kind ≡ kind.Iso) ⊎ (row.kind ≡ kind.Interrupt) → IsStart ep row (start_packet ep row)
+is-start ep row (inl h) = start-iso ep row h
+is-start ep row (inr h) = start-interrupt ep row h
+
+pub can-start : (table : EpTable) (k : StreamKind) (ep : ℕ) (row : EpRow) → IsIn ep → row ≡ row_of table ep → is_of k row.kind ≡ true → can_start table k ep ≡ true
+can-start table k ep row h same fits = λ i. small ep h i && (in-byte ep h i && (ap (λ (r : EpRow). is_of k r.kind) (sym same) ∙ fits) i)
+  where
+    small : (n : ℕ) → IsIn n → nat_lt (n % 128) 16 ≡ true
+    small n k = grind (arith, k.low, k.high)
+
+    in-byte : (n : ℕ) → IsIn n → is_in_endpoint n ≡ true
+    in-byte n k = ap not (high n k.low)
+      where
+        high : (x : ℕ) → 128 ≤ x → nat_lt x 128 ≡ false
+        high x g = grind (arith, g)
+
+-- ---- ids that are kept
+
+held-id : (id i : ℕ) (xs : List (Option ℕ)) → is_id id (get_or xs i None) ≡ true → list_any (λ x. id == x) (flat_map option_to_list xs) ≡ true
+held-id id i [] h = absurd (not-both (sym h))
+held-id id zero (None ∷ xs) h = absurd (not-both (sym h))
+held-id id zero (Some x ∷ xs) h = or-left (id == x) (list_any (λ y. id == y) (flat_map option_to_list xs)) (flip x id h)
+  where
+    flip : (a b : ℕ) → (a == b) ≡ true → (b == a) ≡ true
+    flip a b e = grind (arith, e)
+held-id id (suc i) (None ∷ xs) h = held-id id i xs h
+held-id id (suc i) (Some x ∷ xs) h = or-right (id == x) (list_any (λ y. id == y) (flat_map option_to_list xs)) (held-id id i xs h)
+
+pub kept-held : (c : Calls) (id ep : ℕ) → IsKept c id ep → holds (call_ids c) id ≡ true
+kept-held c id ep h = any-append (λ x. id == x) (flat_map option_to_list c.started) (flat_map option_to_list c.stopped) ∙ go (or-either (is_id id (get_or c.started (endpoint_index ep) None)) (is_id id (get_or c.stopped (endpoint_index ep) None)) h)
+  where
+    go : (is_id id (get_or c.started (endpoint_index ep) None) ≡ true) ⊎ (is_id id (get_or c.stopped (endpoint_index ep) None) ≡ true) → (list_any (λ x. id == x) (flat_map option_to_list c.started) || list_any (λ x. id == x) (flat_map option_to_list c.stopped)) ≡ true
+    go (inl k) = or-left (list_any (λ x. id == x) (flat_map option_to_list c.started)) (list_any (λ x. id == x) (flat_map option_to_list c.stopped)) (held-id id (endpoint_index ep) c.started k)
+    go (inr k) = or-right (list_any (λ x. id == x) (flat_map option_to_list c.started)) (list_any (λ x. id == x) (flat_map option_to_list c.stopped)) (held-id id (endpoint_index ep) c.stopped k)
+
+-- an id that is held nowhere is on no wire
+none-here : (c : Calls) (id other ep : ℕ) → holds (call_ids c) id ≡ false → IsKept c other ep → (id == other) ≡ false
+none-here c id other ep free kept = go (id == other) refl
+  where
+    go : (b : Bool) → (id == other) ≡ b → b ≡ false
+    go true e = let same : id ≡ other = grind (arith, e) in absurd (clash (holds (call_ids c) other) (kept-held c other ep kept) (ap (holds (call_ids c)) (sym same) ∙ free))
+    go false e = refl
+
+pub no-calls : (c : Calls) (id : ℕ) → holds (call_ids c) id ≡ false → (ps : List (ℕ × RedirPacket)) → Each (λ (p : ℕ × RedirPacket). CallIsKept c p.0 (called_endpoint p.1)) ps → times id (calls_on ps) ≡ 0
+no-calls c id free [] h = refl
+no-calls c id free (p ∷ ps) h = let rest = no-calls c id free ps h.1 in let a = times-append id (call_id p) (calls_on ps) in let b = go (called_endpoint p.1) h.0 in omega (arith, rest, a, b)
+  where
+    go : (o : Option ℕ) → CallIsKept c p.0 o → times id (cond (is_some o) (p.0 ∷ []) []) ≡ 0
+    go None k = refl
+    go (Some e) k = ap (λ (b : Bool). weight b + 0) (none-here c id p.0 e free k)
+
+pub no-statuses : (c : Calls) (id : ℕ) → holds (call_ids c) id ≡ false → (bs : List Tagged) → Each (StatusIsKept c) bs → times id (statuses_on bs) ≡ 0
+no-statuses c id free [] h = refl
+no-statuses c id free (b ∷ bs) h = let rest = no-statuses c id free bs h.1 in let a = times-append id (status_id b) (statuses_on bs) in let z = go b h.0 in omega (arith, rest, a, z)
+  where
+    go : (b : Tagged) → StatusIsKept c b → times id (status_id b) ≡ 0
+    go Greeted k = refl
+    go (Plugged x) k = refl
+    go (ToldTable t) k = refl
+    go (ToldFaces i) k = refl
+    go (Answered x) k = refl
+    go (Packed x e p) k = refl
+    go (Stated x n e status) k = ap (λ (b : Bool). weight b + 0) (none-here c id n e free k)
+    go Bye k = refl
+
+-- ---- with one start more
+
+pub kept-new : (c : Calls) (id ep : ℕ) → AreLong c → IsIn ep → IsKept (started ep id c) id ep
+kept-new c id ep long h = or-left (is_id id (get_or (slice_set c.started (endpoint_index ep) (Some id)) (endpoint_index ep) None)) _ (ap (is_id id) (get_or-set_same c.started (endpoint_index ep) (Some id) None (subst (λ (n : ℕ). endpoint_index ep < n) (sym long.started) (in-place ep h))) ∙ itself id)
+  where
+    itself : (n : ℕ) → (n == n) ≡ true
+    itself n = grind arith
+
+pub kept-other : (c : Calls) (id ep other e : ℕ) → IsIn ep → IsIn e → (e == ep) ≡ false → IsKept c other e → IsKept (started ep id c) other e
+kept-other c id ep other e h k apart kept = (λ i. is_id other (get_or-set_other c.started (endpoint_index ep) (endpoint_index e) (Some id) None (places-differ e ep k h apart) i) || is_id other (get_or-set_other c.stopped (endpoint_index ep) (endpoint_index e) None None (places-differ e ep k h apart) i)) ∙ kept

@@ -1,0 +1,107 @@
+-- One packet more on the wire to the gateway: what stays as it was.
+use Rattle.std.proofs.Common.{◌≡◌, ℕ, ◌==◌, ◌&&◌, ◌||◌, Bool, true, false, cond, List, [], ◌∷◌, ◌++◌, Option, Some, None, refl, sym, ap, ◌∙◌, subst, arith, append-nil}
+use Rattle.std.specs.List.{list_any, find}
+use Rattle.usb_base.specs.declared.transfer.StreamPacket.{StreamPacket}
+use Rattle.redir_data.specs.declared.packet.RedirPacket.{RedirPacket}
+use Rattle.redir_host.specs.declared.running.StreamKind.{StreamKind}
+use Rattle.redir_host.specs.declared.running.StreamKind.TheVariants.{Iso, Interrupt}
+use Rattle.redir_host.specs.Offering.{stream_packet}
+use Rattle.redir_host.specs.Sound.{Each}
+use Rattle.gate_core.specs.Ids.{times}
+use Rattle.gate_core.specs.Facts.{tell}
+use Rattle.gate_core.specs.Meaning.{fact_of}
+use Rattle.gate_core.specs.Ups.{Up, stream_of}
+use Rattle.gate_core.specs.declared.facts.Facts.{Facts}
+use Rattle.gate_core.specs.Verdict.{is_iso}
+use Rattle.direct_device.specs.Direct.{way_if}
+use Rattle.direct_proof.specs.Requests.{Coming}
+use Rattle.direct_proof.specs.Tagged.{Tagged, Packed, Stated, on_wire, runs_in, ran_in, told, packets_in, is_kind}
+use Rattle.direct_proof.specs.Shared.{way_of}
+use Rattle.direct_proof.specs.Calls.{Fenced, statuses_on, status_id}
+use Rattle.direct_proof.specs.Meets.{ByeLast, PlugOnce, is_bye, is_greeting, is_plug}
+use Rattle.direct_proof.specs.Kinds.{OfKind}
+use Rattle.direct_proof.proofs.shared.Folds.{not-both, or-false, any-append}
+use Rattle.direct_proof.proofs.shared.Backs.{told-append}
+use Rattle.direct_proof.proofs.shared.Streaming.{statuses-append}
+use Rattle.direct_proof.proofs.shared.WireBack.{runs_in-append, packets_in-append}
+
+pub any-last : {X : Type 0} (p : X → Bool) (xs : List X) (x : X) → p x ≡ false → list_any p (xs ++ x ∷ []) ≡ list_any p xs
+any-last p xs x h = any-append p xs (x ∷ []) ∙ ap (λ (b : Bool). list_any p xs || (b || false)) h ∙ or-false (list_any p xs)
+
+-- what a search finds
+pub found-each : {X : Type 0} (P : X → Type 0) (p : X → Bool) (xs : List X) (x : X) → Each P xs → find p xs ≡ Some x → P x × (p x ≡ true)
+found-each P p [] x h e = absurd (cc)
+found-each {X = X} P p (y ∷ ys) x h e = go (p y) refl e (found-each P p ys x h.1)
+  where
+    go : (b : Bool) → p y ≡ b → cond b (Some y) (find p ys) ≡ Some x → (find p ys ≡ Some x → P x × (p x ≡ true)) → P x × (p x ≡ true)
+    go true i z rest = let same : y ≡ x = cc in (subst P same h.0, ap p (sym same) ∙ i)
+    go false i z rest = rest z
+
+pub found-any : {X : Type 0} (p : X → Bool) (xs : List X) (x : X) → find p xs ≡ Some x → list_any p xs ≡ true
+found-any p [] x e = absurd (cc)
+found-any {X = X} p (y ∷ ys) x e = go (p y) e (found-any p ys x)
+  where
+    go : (b : Bool) → cond b (Some y) (find p ys) ≡ Some x → (find p ys ≡ Some x → list_any p ys ≡ true) → (b || list_any p ys) ≡ true
+    go true z rest = refl
+    go false z rest = rest z
+
+pub statuses-last : (bs : List Tagged) (b : Tagged) → status_id b ≡ [] → statuses_on (bs ++ b ∷ []) ≡ statuses_on bs
+statuses-last bs b h = statuses-append bs (b ∷ []) ∙ ap (λ (l : List ℕ). statuses_on bs ++ (l ++ [])) h ∙ append-nil (statuses_on bs)
+
+pub runs-last : (bs : List Tagged) (b : Tagged) → ran_in b ≡ [] → runs_in (bs ++ b ∷ []) ≡ runs_in bs
+runs-last bs b h = runs_in-append bs (b ∷ []) ∙ ap (λ (l : List Coming). runs_in bs ++ (l ++ [])) h ∙ append-nil (runs_in bs)
+
+pub told-last : (f : Facts) (bs : List Tagged) (b : Tagged) → fact_of (on_wire b).1 ≡ None → told f (bs ++ b ∷ []) ≡ told f bs
+told-last f bs b h = told-append f bs (b ∷ []) ∙ ap (tell (told f bs)) h
+
+pub no-fact : (k : StreamKind) (ep : ℕ) (p : StreamPacket) → fact_of (stream_packet k ep p).1 ≡ None
+no-fact Iso ep p = refl
+no-fact Interrupt ep p = refl
+
+pub no-fact-told : (k : StreamKind) (id ep status : ℕ) → fact_of (on_wire (Stated k id ep status)).1 ≡ None
+no-fact-told Iso id ep status = refl
+no-fact-told Interrupt id ep status = refl
+
+pub fenced-same : (fence : Option ℕ) (fenced : Bool) (ps : List (ℕ × RedirPacket)) (bs cs : List Tagged) → statuses_on cs ≡ statuses_on bs → Fenced fence fenced ps bs → Fenced fence fenced ps cs
+fenced-same None fenced ps bs cs e h = h
+fenced-same (Some f) fenced ps bs cs e h = (h.0, λ k. ap (times f) e ∙ h.1 k)
+
+pub bye-last : (bs : List Tagged) (b : Tagged) → list_any is_bye bs ≡ false → is_bye b ≡ false → ByeLast (bs ++ b ∷ [])
+bye-last [] b h n = ((λ e. refl), tt)
+bye-last (x ∷ bs) b h n = go (is_bye x) refl h (bye-last bs b)
+  where
+    go : (c : Bool) → is_bye x ≡ c → (c || list_any is_bye bs) ≡ false → (list_any is_bye bs ≡ false → is_bye b ≡ false → ByeLast (bs ++ b ∷ [])) → ByeLast (x ∷ (bs ++ b ∷ []))
+    go true e k rest = absurd (not-both k)
+    go false e k rest = ((λ z. absurd (not-both (sym z ∙ e))), rest k n)
+
+pub plug-last : (bs : List Tagged) (b : Tagged) → is_greeting b ≡ false → is_plug b ≡ false → PlugOnce bs → PlugOnce (bs ++ b ∷ [])
+plug-last [] b g n h = ((λ e. absurd (not-both (sym e ∙ n))), tt)
+plug-last (x ∷ bs) b g n h = ((λ e. let k = h.0 e in (any-last is_greeting bs b g ∙ k.0, any-last is_plug bs b n ∙ k.1)), plug-last bs b g n h.1)
+
+-- ---- the way of a stream
+
+pub way-stated : (up : Option Up) (e : ℕ) (bs : List Tagged) (k : StreamKind) (id ep status : ℕ) → way_of up e (bs ++ Stated k id ep status ∷ []) ≡ way_of up e bs
+way-stated None e bs k id ep status = refl
+way-stated (Some up) e bs k id ep status = packets_in-append (is_iso up.row.kind) e bs (Stated k id ep status ∷ []) ∙ append-nil (packets_in (is_iso up.row.kind) e bs)
+
+flip : (a b : ℕ) (c : Bool) → (a == b) ≡ c → (b == a) ≡ c
+flip a b c e = swap a b ∙ e
+  where
+    swap : (x y : ℕ) → (y == x) ≡ (x == y)
+    swap x y = grind arith
+
+-- a packet that is offered is on the way where the stream is up, and of its type
+pub way-offered : (ups : List (Option Up)) (bs : List Tagged) (k : StreamKind) (ep : ℕ) (p : StreamPacket) → OfKind (stream_of ups ep) k → (e : ℕ) →
+    way_if (stream_of ups e) (cond (e == ep) (way_of (stream_of ups ep) ep bs ++ p ∷ []) (way_of (stream_of ups e) e bs)) ≡ way_of (stream_of ups e) e (bs ++ Packed k ep p ∷ [])
+way-offered ups bs k ep p kind e = go (stream_of ups e) refl (e == ep) refl
+  where
+    go : (o : Option Up) → stream_of ups e ≡ o → (b : Bool) → (e == ep) ≡ b → way_if o (cond b (way_of (stream_of ups ep) ep bs ++ p ∷ []) (way_of o e bs)) ≡ way_of o e (bs ++ Packed k ep p ∷ [])
+    go None h b i = refl
+    go (Some up) h false i = sym (packets_in-append (is_iso up.row.kind) e bs (Packed k ep p ∷ []) ∙ (λ t. packets_in (is_iso up.row.kind) e bs ++ (cond (flip e ep false i t && is_kind k (is_iso up.row.kind)) (p ∷ []) [] ++ [])) ∙ append-nil (packets_in (is_iso up.row.kind) e bs))
+    go (Some up) h true i =
+        let same : e ≡ ep = grind (arith, i) in
+        let here : stream_of ups ep ≡ Some up = ap (stream_of ups) (sym same) ∙ h in
+        let right : is_kind k (is_iso up.row.kind) ≡ true = subst (λ (o : Option Up). OfKind o k) here kind in
+        (λ t. way_of (here t) ep bs ++ p ∷ [])
+        ∙ (λ t. packets_in (is_iso up.row.kind) (sym same t) bs ++ p ∷ [])
+        ∙ sym (packets_in-append (is_iso up.row.kind) e bs (Packed k ep p ∷ []) ∙ (λ t. packets_in (is_iso up.row.kind) e bs ++ (cond (flip e ep true i t && right t) (p ∷ []) [] ++ [])))

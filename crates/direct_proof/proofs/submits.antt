@@ -1,0 +1,12 @@
+pub mod Submitting
+pub mod Simple
+pub mod Fresh
+pub mod Opening
+pub mod Tables
+pub mod Verdicts
+pub mod Accepting
+pub mod AtOnce
+pub mod Ranged
+pub mod NoIso
+pub mod Addressed
+pub mod Accepted

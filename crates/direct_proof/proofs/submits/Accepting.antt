@@ -1,0 +1,200 @@
+-- A submit that goes to the host and ends no stream: what is shared once it is accepted.
+use Rattle.std.proofs.Common.{◌≡◌, ℕ, ◌<◌, ◌==◌, ◌||◌, Bool, true, false, cond, List, [], ◌∷◌, ◌++◌, map, filter, None, refl, sym, ap, ◌∙◌, subst, append-nil, append_assoc, inl, inr, ◌⊎◌}
+use Rattle.std.specs.List.{AllByRecursion}
+use Rattle.usbip_urb.specs.declared.packet.Submit.{Submit as UrbSubmit}
+use Rattle.redir_data.specs.declared.packet.RedirPacket.{RedirPacket}
+use Rattle.model_device.specs.Meaning.{Meaning}
+use Rattle.model_device.specs.Transfer.{is_control}
+use Rattle.redir_host.specs.Line.{Waiting as InLine}
+use Rattle.redir_host.specs.Sound.{Each}
+use Rattle.gate_core.specs.Requests.{Request, request_of}
+use Rattle.gate_core.specs.Verdict.{Verdict, goes_by_id}
+use Rattle.gate_core.specs.Marks.{Submission, Effect, Opens, Mark}
+use Rattle.gate_core.specs.Submits.{Pending}
+use Rattle.gate_core.specs.Calls.{called}
+use Rattle.gate_core.specs.State.{State, submits, is_number as is_numbered, change_waits}
+use Rattle.gate_core.specs.Sound.{IsSound}
+use Rattle.gate_core.specs.Machine.{after}
+use Rattle.gate_core.specs.Meaning.{mark_as}
+use Rattle.gate_core.specs.Output.{fresh}
+use Rattle.gate_core.proofs.Lists.{filter-all}
+use Rattle.direct_run.specs.Moves.{World}
+use Rattle.direct_device.specs.Direct.{Load, number, normal_of}
+use Rattle.direct_proof.specs.Moves.{gate_made}
+use Rattle.direct_proof.specs.Requests.{Entry, Debt, at_host, debts_of}
+use Rattle.direct_proof.specs.Shared.{Shared, lines, half_line, at_hosts}
+use Rattle.direct_proof.specs.Tagged.{runs_in}
+use Rattle.direct_proof.specs.Related.{Related}
+use Rattle.direct_proof.specs.Cancels.{moved as moved_on, left, begins, IsAsking, CancelsFit, Behind, is_change, any_change, is_cancel}
+use Rattle.direct_proof.specs.Loads.{IsLoad}
+use Rattle.direct_proof.specs.Ids.{Ids}
+use Rattle.direct_proof.specs.Session.{down_in, runs}
+use Rattle.direct_proof.specs.Kinds.{StartOfKind, CallIsIn}
+use Rattle.direct_proof.specs.Running.{started_kind, called_endpoint}
+use Rattle.direct_proof.proofs.lists.Counts.{any-none}
+use Rattle.direct_proof.proofs.shared.Owed.{each-append, each-filter, ids-submit, IsNewNumber}
+use Rattle.direct_proof.proofs.shared.Folds.{clash, any-append, lines-append, at_hosts-append}
+use Rattle.direct_proof.proofs.shared.Fits.{fits-append}
+use Rattle.direct_proof.proofs.shared.Streaming.{IsQuiet, quits-more, trails-more, starts-more, controls-more, fenced-more, calls-quiet-in}
+use Rattle.direct_proof.proofs.shared.Backs.{clean-more}
+use Rattle.direct_proof.proofs.shared.Traces.{map-append}
+use Rattle.direct_proof.proofs.shared.Found.{before, unmap-each}
+use Rattle.direct_proof.proofs.submits.Submitting.{AreBefore}
+use Rattle.direct_proof.proofs.shared.Debts.{debts-append}
+use Rattle.direct_proof.proofs.shared.Asked.{debt_from}
+use Rattle.direct_proof.proofs.submits.Opening.{opened_as, simple-live, simple-named, simple-asks, simple-sent}
+use Rattle.direct_proof.proofs.submits.Verdicts.{live-debts, calm-entries}
+use Rattle.direct_proof.proofs.submits.Fresh.{is-new, IsSimpleSubmit, behind-none, behind-zero}
+
+module _ {S : Type 0} (m : Meaning S) (w : World S) (j : Shared) (rel : Related m w j) (sound : IsSound w.gate) (inside : w.gate.imported ≡ true) (there : w.gate.lost ≡ false) (place : ℕ) (s : UrbSubmit) (v : Verdict) (is : IsSimpleSubmit w.gate s v) where
+  abbrev st : State
+  st = w.gate
+
+  abbrev r : Request
+  r = request_of s
+
+  abbrev load : Load
+  load = record { request = r; verdict = v }
+
+  abbrev entry : Entry
+  entry = record { id = is.simple.id; load = load; asked = false }
+
+  abbrev debt : Debt
+  debt = record { id = is.simple.id; load = load }
+
+  abbrev qs : List (ℕ × RedirPacket)
+  qs = is.simple.qs
+
+  abbrev later : Shared
+  later = record j { coming = j.coming ++ entry ∷ []; debts = j.debts ++ debt ∷ [] }
+
+  abbrev what : Effect
+  what = Opens (record { place = st.items; request = r; verdict = v; id = is.simple.id })
+
+  abbrev mark : Mark
+  mark = mark_as st what None
+
+  pub first : AreBefore st.items st.live
+  first = before st.items st.live (unmap-each (λ (x : Submission). x.place < st.items) (λ (p : Pending). p.submit) st.live (each-of (submits st) sound.places))
+    where
+      each-of : (ss : List Submission) → AllByRecursion (λ (x : Submission). x.place < st.items) ss → Each (λ (x : Submission). x.place < st.items) ss
+      each-of [] h = tt
+      each-of (x ∷ xs) h = (h.0, each-of xs h.1)
+
+  pub joined : (j.held ++ j.coming) ++ entry ∷ [] ≡ j.held ++ (j.coming ++ entry ∷ [])
+  joined = append_assoc j.held j.coming (entry ∷ [])
+
+  owed : debts_of (submits st) ≡ j.debts
+  owed = live-debts m w j rel inside there
+
+  abbrev opened_world : World S
+  opened_world = record w {
+    gate = record (after st mark) { live = st.live ++ fresh (record { place = st.items; request = r; verdict = v; id = is.simple.id }) ∷ []; abandoned = st.abandoned; streams = st.streams; calls = st.calls };
+    to_host = w.to_host ++ qs;
+    submits = w.submits ++ record { seqnum = r.number; id = is.simple.id } ∷ [];
+  }
+
+  pub world : (gate_made w mark).world ≡ opened_world
+  world = λ i. record w {
+    gate = record (after st mark) {
+      live = simple-live st r v is.simple first i;
+      abandoned = filter-all st.abandoned i;
+      streams = is.simple.streams i;
+      calls = (ap (λ l. called l st.calls) (simple-asks st r v is.simple first) ∙ is.simple.uncalled st.calls) i;
+    };
+    to_host = w.to_host ++ simple-sent st r v is.simple first i;
+    submits = w.submits ++ simple-named st r v is.simple first i;
+  }
+
+  coming : half_line j.half ++ lines (w.to_host ++ qs) ≡ at_hosts (j.coming ++ entry ∷ [])
+  coming = ap (λ (l : List InLine). half_line j.half ++ l) (lines-append w.to_host qs) ∙ sym (append_assoc (half_line j.half) (lines w.to_host) (lines qs))
+      ∙ (λ i. rel.coming i ++ is.simple.line i) ∙ ap (λ (l : List InLine). at_hosts j.coming ++ l) (sym (append-nil (at_host entry))) ∙ sym (at_hosts-append j.coming (entry ∷ []))
+
+  quiet-qs : Each IsQuiet qs
+  quiet-qs = is.simple.quiet
+
+  met : w.host.guest.first ≡ false
+  met = (rel.meets.behind (rel.meets.no_session inside there)).2
+
+  more-changes : (any_change (j.held ++ j.coming) || j.fenced) ≡ true → (any_change (j.held ++ (j.coming ++ entry ∷ [])) || j.fenced) ≡ true
+  more-changes h = ap (λ (b : Bool). b || j.fenced) (ap any_change (sym joined) ∙ any-append is_change (j.held ++ j.coming) (entry ∷ [])) ∙ wider (any_change (j.held ++ j.coming)) (is_change entry || false) j.fenced h
+    where
+      wider : (a x f : Bool) → (a || f) ≡ true → ((a || x) || f) ≡ true
+      wider true x f k = refl
+      wider false true f k = refl
+      wider false false f k = k
+
+  unstarted : (ps : List (ℕ × RedirPacket)) → Each IsQuiet ps → Each (λ (p : ℕ × RedirPacket). StartOfKind st.streams (started_kind p.1)) ps
+  unstarted [] h = tt
+  unstarted (p ∷ ps) h = (subst (StartOfKind st.streams) (sym h.0.1) tt, unstarted ps h.1)
+
+  uncancelled : (ahead : List Entry) (ps : List (ℕ × RedirPacket)) (es : List Entry) → Each (λ (p : ℕ × RedirPacket). is_cancel p.1 ≡ false) ps → CancelsFit ahead ps es
+  uncancelled ahead [] es h = tt
+  uncancelled ahead (p ∷ ps) es h = ((λ c. absurd (clash (is_cancel p.1) c h.0)), uncancelled (moved_on (begins p.1) ahead es) ps (left (begins p.1) es) h.1)
+
+  new-number : IsNewNumber (number load) j.debts
+  new-number = subst (IsNewNumber r.number) owed (mapped (filter (λ (x : Submission). goes_by_id x.verdict) (submits st)) (each-filter (λ (x : Submission). is_numbered r.number x ≡ false) (λ (x : Submission). goes_by_id x.verdict) (submits st) (any-none (is_numbered r.number) (submits st) is.new)))
+    where
+      mapped : (ss : List Submission) → Each (λ (x : Submission). is_numbered r.number x ≡ false) ss → Each (λ (d : Debt). (number d.load == r.number) ≡ false) (map debt_from ss)
+      mapped [] h = tt
+      mapped (x ∷ xs) h = (h.0, mapped xs h.1)
+
+  behind : Behind ((j.held ++ j.coming) ++ entry ∷ [])
+  behind = go is.behind
+    where
+      go : (change_waits st ≡ false) ⊎ (is_control (normal_of load).ep ≡ true) → Behind ((j.held ++ j.coming) ++ entry ∷ [])
+      go (inl none) = behind-none (j.held ++ j.coming) entry rel.behind (calm-entries m w j rel inside there none)
+      go (inr zero) = behind-zero (j.held ++ j.coming) entry rel.behind zero
+
+  pub related : Related m opened_world later
+  related = record {
+    held = rel.held;
+    half = rel.half;
+    coming = coming;
+    answers = rel.answers;
+    loads = subst (Each (λ (e : Entry). IsLoad e.load)) joined (each-append (λ (e : Entry). IsLoad e.load) (j.held ++ j.coming) (entry ∷ []) rel.loads (is.load, tt));
+    tagged = rel.tagged;
+    ids = subst (λ (es : List Entry). Ids later.debts (w.submits ++ record { seqnum = r.number; id = is.simple.id } ∷ []) es (runs_in j.back)) joined
+        (ids-submit j.debts w.submits (j.held ++ j.coming) (runs_in j.back) (is.simple.id) load false rel.ids (is-new st (is.simple.id) j.debts is.fresh.1 (rel.debts there)) new-number);
+    real = each-append (λ (d : Debt). (d.id == 0) ≡ false) j.debts (debt ∷ []) rel.real (is.fresh.0, tt);
+    calls_in = each-append (λ (p : ℕ × RedirPacket). CallIsIn (called_endpoint p.1)) w.to_host qs rel.calls_in (calls-quiet-in qs quiet-qs);
+    runs_at_in = rel.runs_at_in;
+    meets = record {
+      host = rel.meets.host;
+      gate = rel.meets.gate;
+      before = λ h. absurd (clash w.host.guest.first h met);
+      announced = rel.meets.announced;
+      asked = λ h. each-append (λ (p : ℕ × RedirPacket). IsAsking p.1) w.to_host qs (rel.meets.asked h) is.simple.asking;
+      behind = rel.meets.behind;
+      no_session = rel.meets.no_session;
+      once = rel.meets.once;
+      plugged = rel.meets.plugged;
+    };
+    debts = λ h. (λ i. (ap debts_of (map-append (λ (p : Pending). p.submit) st.live (fresh (opened_as st r v is.simple first) ∷ [])) ∙ debts-append (submits st) (opened_as st r v is.simple first ∷ []) ∙ (λ k. owed k ++ map debt_from (cond (is.simple.goes k) (opened_as st r v is.simple first ∷ []) []))) i ++ debts_of ((rel.alone inside).0 i))
+        ∙ append-nil (j.debts ++ debt ∷ []);
+    controls = λ h. controls-more st.calls w.to_host qs j.back quiet-qs (rel.controls h);
+    fenced = λ h. fenced-more st.fence j.fenced w.to_host qs j.back quiet-qs (rel.fenced h);
+    cancels = fits-append j.half j.held w.to_host qs j.coming (entry ∷ []) rel.coming rel.cancels (uncancelled (j.held ++ j.coming) qs (entry ∷ []) is.simple.no_cancel);
+    behind = subst Behind joined behind;
+    alone = rel.alone;
+    session = λ h a. let k = rel.session h a in record {
+      table = k.table;
+      faces = k.faces;
+      clean = clean-more st.fence (down_in st.streams) (any_change (j.held ++ j.coming) || j.fenced) (any_change (j.held ++ (j.coming ++ entry ∷ [])) || j.fenced) more-changes j.back k.clean;
+      quits = λ ep z. quits-more st.fence ep (runs w.host ep) w.to_host qs quiet-qs (k.quits ep z);
+      trails = trails-more st.fence (down_in st.streams) w.to_host qs quiet-qs k.trails;
+      starts = starts-more (m.table w.host.gadget) (any_change j.held || j.half) w.to_host qs quiet-qs k.starts;
+      kinds = k.kinds;
+      start_kinds = each-append (λ (p : ℕ × RedirPacket). StartOfKind st.streams (started_kind p.1)) w.to_host qs k.start_kinds (unstarted qs is.simple.quiet);
+    };
+    ups = rel.ups;
+    lost = λ h. absurd (clash st.lost h there);
+    reads = rel.reads;
+    refused = rel.refused;
+    down = rel.down;
+    gone = rel.gone;
+    seen = rel.seen;
+    still = rel.still;
+    bye = rel.bye;
+    bye_last = rel.bye_last;
+  }

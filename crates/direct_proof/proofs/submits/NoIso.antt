@@ -1,0 +1,128 @@
+-- No submit goes to the device as isochronous packets: no device has such an endpoint.
+use Rattle.std.proofs.Common.{◌≡◌, ℕ, ◌<◌, ◌&&◌, nat_lt, nat_le, not, Bool, true, false, cond, length, Option, Some, None, refl, sym, ap, ◌∙◌, subst, arith, ◌-◌, ◌==◌}
+use Rattle.std.specs.Prelude.{get_or}
+use Rattle.std.proofs.lemmas.Bool.{ltb-true}
+use Rattle.usb_base.specs.declared.setup.Setup.{Setup}
+use Rattle.usb_base.specs.declared.endpoint.EpKind.{EpKind}
+use Rattle.usb_base.specs.declared.endpoint.EpKind.TheVariants as kind
+use Rattle.usb_base.specs.declared.endpoint.EpRow.{EpRow}
+use Rattle.usb_base.specs.declared.endpoint.EpTable.{EpTable}
+use Rattle.usb_base.specs.Endpoint.{is_in_endpoint, no_endpoint, row_of}
+use Rattle.usbip_urb.specs.declared.packet.Submit.{Submit as UrbSubmit}
+use Rattle.usbip_urb.specs.Buffers.{laid}
+use Rattle.usbip_urb.specs.Ranges.{IsSubmit}
+use Rattle.control_route.specs.declared.route.Route.{Route}
+use Rattle.control_route.specs.declared.route.Route.TheVariants as route
+use Rattle.control_route.specs.Routes.{route_of}
+use Rattle.model_device.specs.Gadget.{IsGadget}
+use Rattle.model_device.specs.Meaning.{Meaning}
+use Rattle.gate_core.specs.Errno.{enoent, ebusy, einval, emsgsize, eshutdown}
+use Rattle.gate_core.specs.Flight.{wide_bulk}
+use Rattle.gate_core.specs.Meaning.{verdict_of}
+use Rattle.gate_core.specs.Requests.{Request, request_of, is_in_setup}
+use Rattle.gate_core.specs.State.{State, change_waits}
+use Rattle.gate_core.specs.Verdict.{Verdict, Now, Wire, Routed, IsoOut, Stream, max_live, max_narrow, none_of, bool_eq, by_route, by_setup, by_kind, is_control, is_iso, is_invalid, is_narrow, by_transfer, verdict, InterruptOut}
+use Rattle.gate_core.specs.inner.Carried.{IsDirected}
+use Rattle.gate_core.proofs.Carried.{is_request}
+use Rattle.direct_run.specs.Moves.{World}
+use Rattle.direct_proof.specs.Related.{Related}
+use Rattle.direct_proof.specs.Shared.{Shared}
+use Rattle.direct_proof.proofs.submits.Addressed.{IsAddressed, addressed}
+use Rattle.direct_proof.proofs.submits.Tables.{row-told}
+use Rattle.direct_proof.proofs.submits.Verdicts.{table-known}
+
+-- what is known where it would
+abbrev ShowsIso : EpTable → Bool → Request → Verdict → Type 0
+ShowsIso table changing r (IsoOut row) = (changing ≡ false) × (r.is_in ≡ false) × ((row_of table r.transfer.ep).kind ≡ kind.Iso) × (r.transfer.setup ≡ None)
+ShowsIso table changing r (Now status) = Unit {0}
+ShowsIso table changing r (Wire pipe) = Unit {0}
+ShowsIso table changing r (Routed x) = Unit {0}
+ShowsIso table changing r (Stream row) = Unit {0}
+
+module _ (table : EpTable) (changing : Bool) (r : Request) where
+  unless : (b : Bool) (status : _) (v : Verdict) → (b ≡ false → ShowsIso table changing r v) → ShowsIso table changing r (cond b (Now status) v)
+  unless true status v h = tt
+  unless false status v h = h refl
+
+  route-shows : (x : Route) → ShowsIso table changing r (by_route x)
+  route-shows route.Local = tt
+  route-shows (route.SetConfig c) = tt
+  route-shows route.GetConfig = tt
+  route-shows (route.SetAlt i a) = tt
+  route-shows (route.GetAlt i) = tt
+  route-shows route.Reset = tt
+  route-shows route.Plain = tt
+  route-shows route.Bad = tt
+
+  setup-shows : (s : Setup) → ShowsIso table changing r (by_setup r s)
+  setup-shows s =
+      unless (not (none_of r.descs)) einval _ (λ none.
+      unless (not (s.length == 0) && not (bool_eq (is_in_setup s) r.is_in)) einval _ (λ one.
+      unless (not (s.length == r.transfer.wanted)) einval _ (λ same.
+      route-shows (route_of s))))
+
+  kind-shows : changing ≡ false → r.transfer.setup ≡ None → (k : EpKind) → (row_of table r.transfer.ep).kind ≡ k → ShowsIso table changing r (by_kind r (row_of table r.transfer.ep) k)
+  kind-shows still none kind.Control e = tt
+  kind-shows still none kind.Iso e = go r.is_in refl
+    where
+      go : (b : Bool) → r.is_in ≡ b → ShowsIso table changing r (cond b (Stream (row_of table r.transfer.ep)) (IsoOut (row_of table r.transfer.ep)))
+      go true h = tt
+      go false h = (still, h, e, none)
+  kind-shows still none kind.Bulk e = tt
+  kind-shows still none kind.Interrupt e = elim r.is_in as (λ (b : Bool). ShowsIso table changing r (cond b (Stream (row_of table r.transfer.ep)) (Wire InterruptOut))) [ true ↦ tt | false ↦ tt ]
+  kind-shows still none kind.Invalid e = tt
+
+  shows : (lost : Bool) (live : ℕ) (wide : Bool) → ShowsIso table changing r (verdict lost live changing table wide r)
+  shows lost live wide = unless lost eshutdown _ (λ there. unless (nat_le max_live live) ebusy _ (λ room. by r.transfer.setup refl))
+    where
+      row : EpRow
+      row = row_of table r.transfer.ep
+
+      by : (o : Option Setup) → r.transfer.setup ≡ o → ShowsIso table changing r (by_transfer changing table wide r o)
+      by (Some s) has = setup-shows s
+      by None has =
+          unless changing enoent _ (λ still.
+          unless (is_invalid row.kind) enoent _ (λ valid.
+          unless (is_control row.kind) einval _ (λ moves.
+          unless (bool_eq (is_iso row.kind) (none_of r.descs)) einval _ (λ iso.
+          unless (not (laid r.descs r.transfer.wanted)) einval _ (λ lies.
+          unless (is_narrow wide r.is_in row.kind && nat_lt max_narrow r.transfer.wanted) emsgsize _ (λ narrow.
+          kind-shows still has row.kind refl))))))
+
+pub no-iso : {S : Type 0} (m : Meaning S) → IsGadget m → (w : World S) (j : Shared) → Related m w j → w.gate.imported ≡ true → w.gate.lost ≡ false → (s : UrbSubmit) → IsSubmit s → (row : EpRow) → verdict_of w.gate (request_of s) ≡ IsoOut row → ⊥
+no-iso {S = S} m laws w j rel inside there s is row e = laws.no_iso_out w.host.gadget ep low same
+  where
+    st : State
+    st = w.gate
+
+    r : Request
+    r = request_of s
+
+    ep : ℕ
+    ep = r.transfer.ep
+
+    at : IsAddressed r.transfer
+    at = addressed s is
+
+    known : ShowsIso st.facts.table (change_waits st) r (IsoOut row)
+    known = subst (ShowsIso st.facts.table (change_waits st) r) e (shows st.facts.table (change_waits st) r st.lost (length st.live) (wide_bulk st.agreed))
+
+    out : is_in_endpoint ep ≡ false
+    out = subst (λ (o : Option Setup). IsDirected r.is_in o ep) known.3 (is_request s is).directed ∙ known.1
+
+    narrow : nat_lt ep 128 ≡ true
+    narrow = go (nat_lt ep 128) out
+      where
+        go : (b : Bool) → not b ≡ false → b ≡ true
+        go true h = refl
+        go false h = absurd (cc)
+
+    low : ep < 16
+    low = let a = at.low in let b = ltb-true ep 128 narrow in omega (arith, a, b)
+
+    same : (get_or (m.table w.host.gadget).rows ep no_endpoint).kind ≡ kind.Iso
+    same =
+        ap (λ (b : Bool). (get_or (m.table w.host.gadget).rows (cond b ep (ep - 112)) no_endpoint).kind) (sym narrow)
+        ∙ ap (λ (x : EpRow). x.kind) (sym (row-told (m.table w.host.gadget) ep at.index))
+        ∙ ap (λ (t : EpTable). (row_of t ep).kind) (sym (table-known m w j rel inside there known.0))
+        ∙ known.2

@@ -1,0 +1,33 @@
+-- What a verdict reads of the table, and a packet of its own of a stream.
+use Rattle.std.proofs.Common.{◌≡◌, ℕ, ◌==◌, nat_le, Bool, false, cond, List, Option, Some, None, refl, ap}
+use Rattle.usb_base.specs.declared.setup.Setup.{Setup}
+use Rattle.usb_base.specs.declared.endpoint.EpTable.{EpTable}
+use Rattle.usb_base.specs.declared.endpoint.EpRow.{EpRow}
+use Rattle.usb_base.specs.Endpoint.{row_of}
+use Rattle.gate_core.specs.Requests.{Request}
+use Rattle.gate_core.specs.Verdict.{Verdict, Pipe, Wire, verdict, by_transfer, by_endpoint, max_live, Now}
+use Rattle.gate_core.specs.Errno.{enoent, eshutdown, ebusy}
+use Rattle.gate_core.specs.Submits.{Pending}
+use Rattle.gate_core.specs.Ups.{Up}
+use Rattle.gate_core.specs.Meaning.{by_stream}
+use Rattle.gate_core.proofs.Lists.{Each}
+
+pub by-wire : (up : Option Up) (pipe : Pipe) → by_stream up (Wire pipe) ≡ Wire pipe
+by-wire None pipe = refl
+by-wire (Some up) pipe = refl
+
+-- ---- what the gateway makes of it
+
+-- each of those before it stands at an earlier place
+abbrev pub AreBefore : ℕ → List Pending → Type 0
+AreBefore place ps = Each (λ (p : Pending). (place == p.submit.place) ≡ false) ps
+
+-- ---- and the device
+
+-- a verdict reads one row of the table
+pub same-verdict : (lost : Bool) (live : ℕ) (changing : Bool) (t u : EpTable) (wide : Bool) (r : Request) → row_of t r.transfer.ep ≡ row_of u r.transfer.ep → verdict lost live changing t wide r ≡ verdict lost live changing u wide r
+same-verdict lost live changing t u wide r h = ap (λ (v : Verdict). cond lost (Now eshutdown) (cond (nat_le max_live live) (Now ebusy) v)) (go r.transfer.setup)
+  where
+    go : (setup : Option Setup) → by_transfer changing t wide r setup ≡ by_transfer changing u wide r setup
+    go (Some s) = refl
+    go None = ap (λ (row : EpRow). cond changing (Now enoent) (by_endpoint wide r row)) h

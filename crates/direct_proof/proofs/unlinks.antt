@@ -1,0 +1,3 @@
+pub mod Unlinks
+pub mod Unlinking
+pub mod AskedBack

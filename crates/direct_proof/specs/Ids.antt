@@ -1,0 +1,24 @@
+-- What is owed: the requests and answers under way, by their ids and numbers.
+use Rattle.std.specs.Prelude.{◌≡◌, ℕ, ◌+◌, ◌≤◌, ◌==◌, Bool, true, if◌then◌else◌, List, [], ◌∷◌}
+use Rattle.redir_host.specs.Sound.{Each}
+use Rattle.direct_run.specs.Noted.{number_in}
+use Rattle.direct_run.specs.declared.submitted.Submitted.{Submitted}
+use Rattle.direct_device.specs.Direct.{Load, number}
+use Rattle.direct_proof.specs.Requests.{Coming, Debt, Entry}
+
+abbrev pub count : {X : Type 0} → (X → Bool) → List X → ℕ
+count test [] = 0
+count test (x ∷ xs) = (if test x then 1 else 0) + count test xs
+
+-- they are the same submit where they have the same id
+abbrev pub Agrees : Debt → ℕ → Load → Type 0
+Agrees d id l = (d.id == id) ≡ true → d.load ≡ l
+
+-- the requests and answers under way are those that are owed, in another order; no id and no number is there twice
+pub record Ids (debts : List Debt) (names : List Submitted) (entries : List Entry) (ran : List Coming) : Type 0 where
+  pub balance : (test : ℕ → ℕ → Bool) → count (λ (e : Entry). test e.id (number e.load)) entries + count (λ (c : Coming). test c.id (number c.load)) ran ≡ count (λ (d : Debt). test d.id (number d.load)) debts
+  pub one_id : (id : ℕ) → count (λ (d : Debt). d.id == id) debts ≤ 1
+  pub one_number : (n : ℕ) → count (λ (d : Debt). number d.load == n) debts ≤ 1
+  pub named : Each (λ (e : Entry). number_in e.id names ≡ number e.load) entries
+  pub entries_agree : Each (λ (e : Entry). Each (λ (d : Debt). Agrees d e.id e.load) debts) entries
+  pub ran_agrees : Each (λ (c : Coming). Each (λ (d : Debt). Agrees d c.id c.load) debts) ran

@@ -1,0 +1,17 @@
+pub mod Moves
+pub mod Requests
+pub mod Tagged
+pub mod Shared
+pub mod Loads
+pub mod Ids
+pub mod Cancels
+pub mod Stale
+pub mod Running
+pub mod Kinds
+pub mod Calls
+pub mod Session
+pub mod Meets
+pub mod Related
+pub mod Runs
+pub mod Steps
+pub mod Simulates

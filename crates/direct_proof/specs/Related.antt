@@ -1,0 +1,58 @@
+-- When a gateway and a modelled host, with what is on the wires, stand for a device attached directly.
+use Rattle.std.specs.Prelude.{◌≡◌, ℕ, ◌==◌, true, false, if◌then◌else◌, [], ◌++◌, map, None}
+use Rattle.std.specs.List.{list_any}
+use Rattle.redir_data.specs.declared.packet.RedirPacket.{RedirPacket}
+use Rattle.model_device.specs.Meaning.{Meaning}
+use Rattle.redir_host.specs.Sound.{Each}
+use Rattle.redir_host.specs.declared.running.Running.{Running}
+use Rattle.gate_core.specs.State.{submits}
+use Rattle.gate_core.specs.Ups.{no_streams, stream_of}
+use Rattle.direct_run.specs.Moves.{World}
+use Rattle.direct_proof.specs.Calls.{Controls, Fenced}
+use Rattle.direct_proof.specs.Cancels.{Behind, CancelsFit}
+use Rattle.direct_proof.specs.Ids.{Ids}
+use Rattle.direct_proof.specs.Kinds.{CallIsIn, IsIn, TaggedOfKind, UpsFit}
+use Rattle.direct_proof.specs.Loads.{IsLoad}
+use Rattle.direct_proof.specs.Meets.{ByeLast, Meets, is_announced, is_bye}
+use Rattle.direct_proof.specs.Requests.{Debt, Entry, at_queue, debts_of}
+use Rattle.direct_proof.specs.Running.{called_endpoint}
+use Rattle.direct_proof.specs.Session.{Session}
+use Rattle.direct_proof.specs.Shared.{Shared, at_hosts, half_line, lines}
+use Rattle.direct_proof.specs.Tagged.{on_wire, runs_in}
+
+pub record Related {S : Type 0} (m : Meaning S) (w : World S) (j : Shared) : Type 0 where
+  pub held : w.host.queue ≡ (if w.host.unplugged then [] else map at_queue j.held)
+  pub half : w.host.unplugged ≡ false → w.host.resets_next ≡ j.half
+  pub coming : half_line j.half ++ lines w.to_host ≡ at_hosts j.coming
+  pub answers : w.to_gate ≡ map on_wire j.back
+  pub loads : Each (λ (e : Entry). IsLoad e.load) (j.held ++ j.coming)
+  pub tagged : Each (TaggedOfKind w.gate.streams) j.back
+  pub ids : Ids j.debts w.submits (j.held ++ j.coming) (runs_in j.back)
+  -- an id that is owed is none of those that go by no id
+  pub real : Each (λ (d : Debt). (d.id == 0) ≡ false) j.debts
+  -- starts, stops and the streams that run are of IN endpoints
+  pub calls_in : Each (λ (p : ℕ × RedirPacket). CallIsIn (called_endpoint p.1)) w.to_host
+  pub runs_at_in : Each (λ (s : Running). IsIn s.ep) w.host.running
+  pub meets : Meets w j
+  -- what the host owes is what waits for it, until the device is lost
+  pub debts : w.gate.lost ≡ false → debts_of (submits w.gate) ++ debts_of w.gate.abandoned ≡ j.debts
+  pub controls : w.gate.lost ≡ false → Controls w.gate.calls w.to_host j.back
+  pub fenced : w.gate.lost ≡ false → Fenced w.gate.fence j.fenced w.to_host j.back
+  pub cancels : CancelsFit j.held w.to_host j.coming
+  pub behind : Behind (j.held ++ j.coming)
+  pub alone : w.gate.imported ≡ true → (w.gate.abandoned ≡ []) × (w.gate.fence ≡ None)
+  pub session : w.gate.lost ≡ false → is_announced w j ≡ true → Session m w j
+  pub ups : UpsFit w.gate.streams
+  -- the loss: nothing comes any more
+  pub lost : w.gate.lost ≡ true → (j.back ≡ []) × (w.host.unplugged ≡ true) × (w.gate.facts.connect ≡ None) × (w.gate.live ≡ []) × ((ep : ℕ) → stream_of w.gate.streams ep ≡ None)
+  -- the host is never refused, and its wire has no end
+  pub reads : w.gate.host_over ≡ false
+  -- a client that was refused has left
+  pub refused : w.gate.client_over ≡ true → w.gate.imported ≡ false
+  -- without a client no stream is up
+  pub down : w.gate.imported ≡ false → w.gate.streams ≡ no_streams
+  pub gone : j.gone ≡ true → w.gate.lost ≡ true
+  pub seen : w.gate.imported ≡ true → w.gate.lost ≡ j.gone
+  pub still : w.host.unplugged ≡ true → w.host.running ≡ []
+  pub bye : w.host.unplugged ≡ false → list_any is_bye j.back ≡ false
+  pub bye_last : ByeLast j.back

@@ -1,0 +1,83 @@
+-- The wire to the gateway, with more than the gateway sees of an answer.
+use Rattle.std.specs.Prelude.{ℕ, ◌==◌, ◌&&◌, not, Bool, if◌then◌else◌, List, [], ◌∷◌, ◌++◌}
+use Rattle.usb_base.specs.declared.endpoint.EpTable.{EpTable}
+use Rattle.usb_base.specs.declared.transfer.StreamPacket.{StreamPacket}
+use Rattle.redir_wire.specs.declared.packet.Connect.{Connect}
+use Rattle.redir_wire.specs.declared.packet.InterfaceInfo.{InterfaceInfo}
+use Rattle.redir_wire.specs.declared.packet.RedirControl.{RedirControl}
+use Rattle.redir_wire.specs.declared.packet.RedirControl.TheVariants as plain
+use Rattle.redir_data.specs.declared.packet.RedirPacket.{RedirPacket}
+use Rattle.redir_data.specs.declared.packet.RedirPacket.TheVariants.{Plain}
+use Rattle.redir_host.specs.Answers.{answer_by}
+use Rattle.redir_host.specs.Facts.{connect_of, ep_info_of}
+use Rattle.redir_host.specs.Offering.{stream_packet}
+use Rattle.redir_host.specs.Output.{host_hello}
+use Rattle.redir_host.specs.declared.running.StreamKind.{StreamKind}
+use Rattle.redir_host.specs.declared.running.StreamKind.TheVariants.{Interrupt, Iso}
+use Rattle.gate_core.specs.Facts.{tell}
+use Rattle.gate_core.specs.Meaning.{fact_of}
+use Rattle.gate_core.specs.declared.facts.Facts.{Facts}
+use Rattle.direct_run.specs.Packets.{both_caps}
+use Rattle.direct_proof.specs.Requests.{Coming, form_of, queued_transfer}
+
+pub data Tagged : Type 0 where
+  Greeted : Tagged
+  Plugged : Connect → Tagged
+  ToldTable : EpTable → Tagged
+  ToldFaces : InterfaceInfo → Tagged
+  Answered : Coming → Tagged
+  Packed : StreamKind → (ep : ℕ) → StreamPacket → Tagged
+  Stated : StreamKind → (id ep status : ℕ) → Tagged
+  Bye : Tagged
+
+abbrev pub status_packet : StreamKind → ℕ → ℕ → RedirControl
+status_packet Iso status ep = plain.IsoStatus status ep
+status_packet Interrupt status ep = plain.InterruptStatus status ep
+
+abbrev pub on_wire : Tagged → ℕ × RedirPacket
+on_wire Greeted = (0, Plain host_hello)
+on_wire (Plugged c) = (0, Plain (plain.Connect (connect_of both_caps c)))
+on_wire (ToldTable t) = (0, Plain (plain.EpInfo (ep_info_of both_caps t)))
+on_wire (ToldFaces i) = (0, Plain (plain.InterfaceInfo i))
+on_wire (Answered c) = (c.id, answer_by c.configuration (form_of c.load) (queued_transfer c.load).ep c.outcome)
+on_wire (Packed k ep p) = stream_packet k ep p
+on_wire (Stated k id ep status) = (id, Plain (status_packet k status ep))
+on_wire Bye = (0, Plain plain.Disconnect)
+
+abbrev pub ran_in : Tagged → List Coming
+ran_in (Answered c) = c ∷ []
+ran_in Greeted = []
+ran_in (Plugged c) = []
+ran_in (ToldTable t) = []
+ran_in (ToldFaces i) = []
+ran_in (Packed k ep p) = []
+ran_in (Stated k id ep status) = []
+ran_in Bye = []
+
+abbrev pub is_kind : StreamKind → Bool → Bool
+is_kind Iso iso = iso
+is_kind Interrupt iso = not iso
+
+-- the packets of an endpoint's stream of this type
+abbrev pub packet_in : Bool → ℕ → Tagged → List StreamPacket
+packet_in iso e (Packed k ep p) = if (ep == e) && is_kind k iso then p ∷ [] else []
+packet_in iso e Greeted = []
+packet_in iso e (Plugged c) = []
+packet_in iso e (ToldTable t) = []
+packet_in iso e (ToldFaces i) = []
+packet_in iso e (Answered c) = []
+packet_in iso e (Stated k id ep status) = []
+packet_in iso e Bye = []
+
+abbrev pub runs_in : List Tagged → List Coming
+runs_in [] = []
+runs_in (b ∷ bs) = ran_in b ++ runs_in bs
+
+abbrev pub packets_in : Bool → ℕ → List Tagged → List StreamPacket
+packets_in iso e [] = []
+packets_in iso e (b ∷ bs) = packet_in iso e b ++ packets_in iso e bs
+
+-- the facts that the gateway will have once the wire is read
+abbrev pub told : Facts → List Tagged → Facts
+told f [] = f
+told f (b ∷ bs) = told (tell f (fact_of (on_wire b).1)) bs

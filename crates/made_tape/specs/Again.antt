@@ -1,0 +1,21 @@
+-- A made tape read again: it says what was written.
+use Rattle.std.specs.Prelude.{◌≡◌, ◌==◌, ◌≤◌, ℕ, false, List, [], ◌∷◌, length, Some}
+use Rattle.std.specs.List.{list_any}
+use Rattle.packet_show.specs.declared.tape.TapeKind.TheVariants.{Model}
+use Rattle.packet_show.specs.declared.tape.TapeLine.{TapeLine}
+use Rattle.packet_show.specs.Tape.{tape_line}
+use Rattle.made_tape.specs.Lines.{LF, words_of, tape_text}
+
+-- what is written of a line is one line, which says just that
+pub record IsReadAgain (said : TapeLine) : Type 0 where
+  pub one_line : list_any (λ b. b == LF) (words_of said) ≡ false
+  pub says : tape_line Model (words_of said) ≡ Some said
+
+abbrev pub AreReadAgain : List TapeLine → Type 0
+AreReadAgain [] = Unit {0}
+AreReadAgain (said ∷ lines) = IsReadAgain said × AreReadAgain lines
+
+-- of the whole tape, which has at most 64 MiB
+pub record TapeAgain (lines : List TapeLine) : Type 0 where
+  pub each : AreReadAgain lines
+  pub short : length (tape_text lines) ≤ 67108864

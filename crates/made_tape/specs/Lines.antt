@@ -1,0 +1,52 @@
+-- The lines of a model's tape, as they are written.
+use Rattle.std.specs.Prelude.{ℕ, List, [], ◌∷◌, ◌++◌, codes}
+use Rattle.std.specs.List.{flat_map}
+use Rattle.std.specs.Fmt.{decimal}
+use Rattle.hex.specs.Hex.{encode_lower}
+use Rattle.packet_show.specs.declared.tape.TapeLine.{TapeLine}
+use Rattle.packet_show.specs.declared.tape.TapeLine.TheVariants as line
+
+abbrev pub LF : ℕ
+LF = 10
+
+abbrev pub SPACE : ℕ
+SPACE = 32
+
+-- `c`, `g`, `h`, `p` and `o`
+abbrev pub LETTER_C : ℕ
+LETTER_C = 99
+
+abbrev pub LETTER_G : ℕ
+LETTER_G = 103
+
+abbrev pub LETTER_H : ℕ
+LETTER_H = 104
+
+abbrev pub LETTER_P : ℕ
+LETTER_P = 112
+
+abbrev pub LETTER_O : ℕ
+LETTER_O = 111
+
+-- a letter and, behind a space, what is said
+abbrev pub lettered : ℕ → List ℕ → List ℕ
+lettered letter text = letter ∷ SPACE ∷ text
+
+-- a line without its LF: bytes are in lower-case hexadecimal, numbers in decimal
+abbrev pub words_of : TapeLine → List ℕ
+words_of line.Skip = []
+words_of (line.Client bytes) = lettered LETTER_C (encode_lower bytes)
+words_of line.ClientEnd = codes "c."
+words_of (line.Host bytes) = lettered LETTER_H (encode_lower bytes)
+words_of line.HostEnd = codes "h."
+words_of (line.ToHost n) = lettered LETTER_G (decimal n)
+words_of (line.ToGate n) = lettered LETTER_H (decimal n)
+words_of (line.Perform ep) = lettered LETTER_P (encode_lower (ep ∷ []))
+words_of (line.Offer ep) = lettered LETTER_O (encode_lower (ep ∷ []))
+words_of line.Unplug = codes "x"
+
+abbrev pub line_of : TapeLine → List ℕ
+line_of said = words_of said ++ LF ∷ []
+
+abbrev pub tape_text : List TapeLine → List ℕ
+tape_text lines = flat_map line_of lines

@@ -1,0 +1,59 @@
+//! The lines of a made tape, one after another.
+
+ghost use Rattle.std.specs.Prelude.{◌≡◌, ◌∷◌, [], IfOk, OnErr, MatchOption};
+ghost use Rattle.made_tape.specs.Lines.{tape_text};
+ghost use Rattle.made_tape.specs.Rounds.{made_lines};
+
+use crate::line::push_line;
+use crate::progress::Progress;
+use packet_show::TapeLine;
+use std::alloc::Global;
+use std::marker::Model;
+use usb_base::{Bytes, Memory};
+
+/// A made tape, seen as the lines that are still to come.
+#[derive(Drop)]
+pub struct MadeTape {
+    progress: Progress,
+}
+
+impl Model for MadeTape {
+    ghost use Rattle.std.specs.Prelude.{List};
+    ghost use Rattle.packet_show.specs.declared.tape.TapeLine.{TapeLine as ALine};
+    ghost use Rattle.made_tape.specs.inner.Left.{lines_left};
+
+    ghost Value = { List ALine };
+
+    ghost view = { λ tape. lines_left tape.progress };
+}
+
+impl MadeTape {
+    /// The tape of a number, with so many rounds.
+    pub fn new(count: u16) -> MadeTape
+        ensures { result ≡ made_lines count }
+    {
+        MadeTape {
+            progress: Progress::start(count),
+        }
+    }
+
+    /// The next line, or none behind the last one. For want of memory no line is passed over.
+    pub fn next_line(&mut self, alloc: Global) -> Result<Option<TapeLine>, Memory>
+        ensures line { IfOk result (λ line. MatchOption line (self.old ≡ []) (λ said. self.old ≡ said ∷ self.new)) }
+        ensures same { OnErr result (self.new ≡ self.old) }
+    {
+        self.progress.next_line(alloc)
+    }
+}
+
+/// The text of the tape of a number.
+pub fn made_text(alloc: Global, count: u16) -> Result<Bytes, Memory>
+    ensures { IfOk result (λ text. text ≡ tape_text (made_lines count)) }
+{
+    let mut tape = MadeTape::new(count);
+    let mut text = Bytes::new(alloc);
+    'lines: while let Some(line) = tape.next_line(alloc)? {
+        push_line(alloc, &line, &mut text)?;
+    }
+    Ok(text)
+}

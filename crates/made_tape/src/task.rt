@@ -1,0 +1,143 @@
+//! What a round does, line by line.
+
+ghost use Rattle.std.specs.Prelude.{◌≡◌, IfOk};
+ghost use Rattle.usb_base.specs.Endpoint.{IsEndpoint};
+ghost use Rattle.made_tape.specs.Rounds.{said, opening, tasks_of, next_number, size_of};
+
+use crate::packet::{ask, configure, import, send, take_back};
+use packet_show::TapeLine;
+use std::alloc::Global;
+use usb_base::{EpAddr, Memory};
+
+/// What a line does, apart from its round's number and size.
+#[derive(Clone, Copy, PartialEq, Eq)]
+pub enum Task {
+    /// The client imports the device.
+    Import,
+    /// It sets the configuration.
+    Configure,
+    /// It sends bytes to endpoint 1.
+    Send,
+    /// It asks for bytes of endpoint 1.
+    Ask,
+    /// It takes back what it asked for.
+    TakeBack,
+    /// One byte, or all there are, goes to the host.
+    OneToHost,
+    AllToHost,
+    /// The same to the gateway.
+    OneToGate,
+    AllToGate,
+    /// The device performs a transfer of endpoint 0, of endpoint 1 to it, or of endpoint 1 from it.
+    PerformControl,
+    PerformOut,
+    PerformIn,
+}
+
+/// All bytes that there are.
+const ALL: u32 = u32::MAX;
+
+/// What is done before the first round.
+pub fn opening() -> &'static [Task]
+    ensures { result.now ≡ opening }
+{
+    &[
+        Task::AllToHost,
+        Task::AllToGate,
+        Task::Import,
+        Task::Configure,
+        Task::AllToHost,
+        Task::PerformControl,
+        Task::AllToGate,
+    ]
+}
+
+/// What a round with this number does.
+#[tactic(auto, unfolding(crate::specs::Rounds::tasks_of))]
+pub fn tasks(number: u32) -> &'static [Task]
+    ensures { result.now ≡ tasks_of number }
+{
+    match number / 512 % 4 {
+        0 => &[
+            Task::Send,
+            Task::Ask,
+            Task::AllToHost,
+            Task::PerformOut,
+            Task::PerformIn,
+            Task::AllToGate,
+        ],
+        1 => &[
+            Task::Send,
+            Task::Ask,
+            Task::AllToHost,
+            Task::PerformOut,
+            Task::TakeBack,
+            Task::PerformIn,
+            Task::AllToHost,
+            Task::AllToGate,
+        ],
+        2 => &[
+            Task::Send,
+            Task::Ask,
+            Task::AllToHost,
+            Task::PerformOut,
+            Task::TakeBack,
+            Task::AllToHost,
+            Task::PerformIn,
+            Task::AllToGate,
+        ],
+        _ => &[
+            Task::Send,
+            Task::Ask,
+            Task::OneToHost,
+            Task::AllToHost,
+            Task::PerformOut,
+            Task::PerformIn,
+            Task::OneToGate,
+            Task::AllToGate,
+        ],
+    }
+}
+
+/// The number of the round behind one with this number.
+#[tactic(auto, unfolding(crate::specs::Rounds::next_number))]
+pub fn next_number(number: u32) -> u32
+    ensures { result ≡ next_number number }
+{
+    ((1_103_515_245 * u64::from(number) + 12_345) % 0x8000_0000) as u32
+}
+
+/// How many bytes a round with this number moves, from 1 to 512.
+fn size_of(number: u32) -> u16
+    ensures { result ≡ size_of number }
+{
+    (1 + number % 512) as u16
+}
+
+/// The endpoint with this address.
+fn endpoint(byte: u8) -> EpAddr
+    requires { IsEndpoint byte }
+    ensures { result ≡ byte }
+{
+    EpAddr::new(byte).unwrap()
+}
+
+/// The line of a task in a round.
+pub fn said(alloc: Global, round: u16, number: u32, task: Task) -> Result<TapeLine, Memory>
+    ensures { IfOk result (λ line. line ≡ said round number task) }
+{
+    Ok(match task {
+        Task::Import => TapeLine::Client(import(alloc)?),
+        Task::Configure => TapeLine::Client(configure(alloc)?),
+        Task::Send => TapeLine::Client(send(alloc, round, size_of(number))?),
+        Task::Ask => TapeLine::Client(ask(alloc, round, size_of(number))?),
+        Task::TakeBack => TapeLine::Client(take_back(alloc, round)?),
+        Task::OneToHost => TapeLine::ToHost(1),
+        Task::AllToHost => TapeLine::ToHost(ALL),
+        Task::OneToGate => TapeLine::ToGate(1),
+        Task::AllToGate => TapeLine::ToGate(ALL),
+        Task::PerformControl => TapeLine::Perform(endpoint(0x00)),
+        Task::PerformOut => TapeLine::Perform(endpoint(0x01)),
+        Task::PerformIn => TapeLine::Perform(endpoint(0x81)),
+    })
+}

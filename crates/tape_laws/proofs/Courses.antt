@@ -1,0 +1,338 @@
+-- What holds of every course that serving comes to: what it recorded and wrote follows from its events.
+use Rattle.std.proofs.Common.{◌≡◌, ℕ, zero, suc, ◌-◌, ◌<◌, ◌==◌, Bool, true, false, cond, not, ◌&&◌, ◌||◌, List, [], ◌∷◌, ◌++◌, take, drop, refl, sym, ap, ◌∙◌, subst, append_assoc, append-nil, lit<, arith}
+use Rattle.std.proofs.lemmas.Bool.{cond_both, and_parts}
+use Rattle.std.proofs.Math.Bool.{and-false}
+use Rattle.usb_base.specs.Number.{AreBytes}
+use Rattle.usb_base.proofs.Numbers.{AreBytes-take, AreBytes-drop}
+use Rattle.usb_base.specs.declared.side.Side.TheVariants.{Client, Host}
+use Rattle.gate_outside.specs.declared.turn.Turn.{Turn}
+use Rattle.gate_outside.specs.declared.turn.Turn.TheVariants.{Piece, Wait, Fail}
+use Rattle.gate_outside.specs.Turns.{pending, answer, given, after}
+use Rattle.bridge_run.specs.declared.serve_end.ServeEnd.{ServeEnd}
+use Rattle.bridge_run.specs.declared.serve_end.ServeEnd.TheVariants as end
+use Rattle.bridge_run.specs.Events.{Event, ClientComes, ClientPiece, ClientQuiet, ClientEnd, HostPiece, HostEnd}
+use Rattle.bridge_run.specs.Prescribed.{Prescribed, gained, refuses, drops, first_of}
+use Rattle.bridge_run.specs.Recorded.{lines_of}
+use Rattle.bridge_run.specs.Course.{Setting, Course, Next, Making, AtDoor, AtClient, AtHost, AtEnd, Takes}
+use Rattle.bridge_run.specs.Calls.{Outcome, Goes, Stops, room, put, settle, ends_next, take_event, come, heard, poll, rest, make, call, and_then, calls}
+use Rattle.bridge_run.specs.Gate.{gate_events}
+use Rattle.usbgate.specs.Tape.{host_ended}
+use Rattle.tape_laws.specs.Ups.{client_at, host_at, client_behind, host_behind}
+use Rattle.tape_laws.specs.Recordings.{recorded, to_clients, to_host}
+use Rattle.tape_laws.specs.Begun.{SendBytes, AllSendBytes}
+use Rattle.tape_laws.proofs.Events.{IsPiece, Fits, AllFit}
+
+-- ---- what holds
+
+-- a course without what rounds count
+pub record Seen : Type 0 where
+  pub events : List Event
+  pub client_up : Bool
+  pub host_up : Bool
+  pub client : List Turn
+  pub clients : List (List Turn)
+  pub host : List Turn
+  pub to_client : List ℕ
+  pub to_host : List ℕ
+  pub recorded : List ℕ
+
+abbrev pub seen : Course → Seen
+seen c = record { events = c.events; client_up = c.client_up; host_up = c.host_up; client = c.client; clients = c.clients; host = c.host; to_client = c.to_client; to_host = c.to_host; recorded = c.recorded }
+
+-- what it recorded behind the first line and what it wrote are those of its events; these links are up
+pub record Holds (p : Prescribed) (first : List ℕ) (client_up host_up : Bool) (c : Seen) : Type 0 where
+  pub client_up-is : c.client_up ≡ client_up
+  pub host_up-is : c.host_up ≡ host_up
+  pub recorded-is : c.recorded ≡ first ++ recorded p c.events
+  pub to_client-is : c.to_client ≡ to_clients p c.events
+  pub to_host-is : c.to_host ≡ to_host p c.events
+  pub fit : AllFit c.events
+  pub client : SendBytes c.client
+  pub clients : AllSendBytes c.clients
+  pub host : SendBytes c.host
+
+-- between events
+abbrev pub Stands : Prescribed → List ℕ → Course → Type 0
+Stands p first c = Holds p first (client_behind p c.events) (host_behind p c.events) (seen c)
+
+-- before the host is dialled
+pub record IsMaking (p : Prescribed) (first : List ℕ) (c : Course) : Type 0 where
+  pub events-are : c.events ≡ []
+  pub client_up-is : c.client_up ≡ false
+  pub recorded-is : c.recorded ≡ first
+  pub to_client-is : c.to_client ≡ []
+  pub to_host-is : c.to_host ≡ []
+  pub client : SendBytes c.client
+  pub clients : AllSendBytes c.clients
+  pub host : SendBytes c.host
+
+-- what is done behind an event
+abbrev pub IsBehind : Next → Type 0
+IsBehind Making = ⊥
+IsBehind AtDoor = Unit {0}
+IsBehind AtClient = Unit {0}
+IsBehind AtHost = Unit {0}
+IsBehind AtEnd = Unit {0}
+IsBehind (Takes e next) = ⊥
+
+-- as an event is taken
+pub record IsTaking (p : Prescribed) (first : List ℕ) (e : Event) (next : Next) (c : Course) : Type 0 where
+  pub holds : Holds p first (client_at e (client_behind p c.events)) (host_at e (host_behind p c.events)) (seen c)
+  pub fits : Fits e c.events
+  pub behind : IsBehind next
+
+abbrev pub At : Prescribed → List ℕ → Next → Course → Type 0
+At p first Making c = IsMaking p first c
+At p first AtDoor c = Stands p first c
+At p first AtClient c = Stands p first c
+At p first AtHost c = Stands p first c
+At p first AtEnd c = Stands p first c
+At p first (Takes e next) c = IsTaking p first e next c
+
+abbrev pub Comes : Prescribed → List ℕ → Outcome → Type 0
+Comes p first (Goes next c) = At p first next c
+Comes p first (Stops e c) = Stands p first c
+
+at-behind : (p : Prescribed) (first : List ℕ) (next : Next) (c : Course) → IsBehind next → Stands p first c → At p first next c
+at-behind p first Making c behind s = absurd behind
+at-behind p first AtDoor c behind s = s
+at-behind p first AtClient c behind s = s
+at-behind p first AtHost c behind s = s
+at-behind p first AtEnd c behind s = s
+at-behind p first (Takes e next) c behind s = absurd behind
+
+if-comes : (p : Prescribed) (first : List ℕ) (t : Bool) (x y : Outcome) → (t ≡ true → Comes p first x) → (t ≡ false → Comes p first y) → Comes p first (cond t x y)
+if-comes p first t x y f g = cond_both t x y (Comes p first) f g
+
+-- ---- an event is taken
+
+written-if : (up there : Bool) (old more all : List ℕ) → up ≡ there → old ≡ all → cond up (old ++ more) old ≡ all ++ cond there more []
+written-if true there old more all is same = ap (λ (l : List ℕ). l ++ more) same ∙ ap (λ (t : Bool). all ++ cond t more []) is
+written-if false there old more all is same = same ∙ sym (append-nil all) ∙ ap (λ (t : Bool). all ++ cond t more []) is
+
+bytes-if : (t : Bool) (turns : List Turn) → SendBytes turns → SendBytes (cond t [] turns)
+bytes-if true turns h = tt
+bytes-if false turns h = h
+
+put-stands : (p : Prescribed) (first : List ℕ) (e : Event) (c : Course) → Holds p first (client_at e (client_behind p c.events)) (host_at e (host_behind p c.events)) (seen c) → Fits e c.events → Stands p first (put p e c)
+put-stands p first e c h fits =
+    let refusals = gained p.refusals c.events e in
+    let up = client_at e (client_behind p c.events) in
+    let host_up = host_at e (host_behind p c.events) in
+    record {
+      client_up-is = ap (λ (t : Bool). t && not (drops p c.events e)) h.client_up-is;
+      host_up-is = ap (λ (t : Bool). t && not (refuses Host refusals)) h.host_up-is;
+      recorded-is = ap (λ (l : List ℕ). l ++ lines_of e refusals) h.recorded-is ∙ append_assoc first (recorded p c.events) (lines_of e refusals);
+      to_client-is = written-if c.client_up up c.to_client (gained p.to_client c.events e) (to_clients p c.events) h.client_up-is h.to_client-is;
+      to_host-is = written-if c.host_up host_up c.to_host (gained p.to_host c.events e) (to_host p c.events) h.host_up-is h.to_host-is;
+      fit = (fits, h.fit);
+      client = bytes-if (drops p c.events e) c.client h.client;
+      clients = h.clients;
+      host = h.host;
+    }
+
+dropped-is : (e : Event) (dropped : Bool) → ends_next e dropped ≡ true → dropped ≡ true
+dropped-is ClientComes dropped is = is
+dropped-is (ClientPiece b) dropped is = is
+dropped-is ClientQuiet dropped is = is
+dropped-is ClientEnd dropped is = cc
+dropped-is (HostPiece b) dropped is = is
+dropped-is HostEnd dropped is = is
+
+-- a client that is dropped has its end next
+ends : (p : Prescribed) (first : List ℕ) (e : Event) (next : Next) (c : Course) → drops p c.events e ≡ true → IsBehind next → Stands p first (put p e c) → IsTaking p first ClientEnd next (put p e c)
+ends p first e next c dropped behind s = record {
+  holds = subst (λ (t : Bool). Holds p first t (host_behind p (e ∷ c.events)) (seen (put p e c)))
+      (ap (λ (t : Bool). client_at e (client_behind p c.events) && not t) dropped ∙ and-false (client_at e (client_behind p c.events))) s;
+  fits = tt;
+  behind = behind;
+}
+
+settle-comes : (s : Setting) (first : List ℕ) (next : Next) (c : Course) → IsBehind next → Stands s.served first c → Comes s.served first (settle s next c)
+settle-comes s first next c behind h =
+    if-comes s.served first (not c.client_up && not c.host_up) (Stops (end.Ended (first_of (s.served.refusals c.events))) c) (cond (c.left == 0) (Stops end.Spent c) (Goes next c)) (λ down. h)
+    (λ up. if-comes s.served first (c.left == 0) (Stops end.Spent c) (Goes next c) (λ none. h) (λ some. at-behind s.served first next c behind h))
+
+take-comes : (s : Setting) (first : List ℕ) (e : Event) (next : Next) (c : Course) → IsTaking s.served first e next c → Comes s.served first (take_event s e next c)
+take-comes s first e next c h =
+    let behind = put-stands s.served first e c h.holds h.fits in
+    if-comes s.served first (ends_next e (drops s.served c.events e)) (Goes (Takes ClientEnd next) (put s.served e c)) (settle s next (put s.served e c))
+    (λ dropped. ends s.served first e next c (dropped-is e (drops s.served c.events e) dropped) h.behind behind)
+    (λ stays. settle-comes s first next (put s.served e c) h.behind behind)
+
+-- ---- a round
+
+come-comes : (p : Prescribed) (first : List ℕ) (clients : List (List Turn)) (c : Course) → AllSendBytes clients → Stands p first c → Comes p first (come clients c)
+come-comes p first [] c bytes h = h
+come-comes p first (turns ∷ clients) c bytes h = record {
+  holds = record {
+    client_up-is = refl;
+    host_up-is = h.host_up-is;
+    recorded-is = h.recorded-is;
+    to_client-is = h.to_client-is;
+    to_host-is = h.to_host-is;
+    fit = h.fit;
+    client = bytes.0;
+    clients = bytes.1;
+    host = h.host;
+  };
+  fits = tt;
+  behind = tt;
+}
+
+-- no empty piece stands at the front
+abbrev BeginsFull : List Turn → Type 0
+BeginsFull [] = Unit {0}
+BeginsFull (Piece [] ∷ turns) = ⊥
+BeginsFull (Piece (b ∷ bs) ∷ turns) = Unit {0}
+BeginsFull (Wait ∷ turns) = Unit {0}
+BeginsFull (Fail ∷ turns) = Unit {0}
+
+pending-full : (turns : List Turn) → BeginsFull (pending turns)
+pending-full [] = tt
+pending-full (Piece [] ∷ turns) = pending-full turns
+pending-full (Piece (b ∷ bs) ∷ turns) = tt
+pending-full (Wait ∷ turns) = tt
+pending-full (Fail ∷ turns) = tt
+
+pending-bytes : (turns : List Turn) → SendBytes turns → SendBytes (pending turns)
+pending-bytes [] h = tt
+pending-bytes (Piece [] ∷ turns) h = pending-bytes turns h.1
+pending-bytes (Piece (b ∷ bs) ∷ turns) h = h
+pending-bytes (Wait ∷ turns) h = h
+pending-bytes (Fail ∷ turns) h = h
+
+take-some : (n b : ℕ) (bs : List ℕ) → 0 < n → take n (b ∷ bs) ≡ [] → ⊥
+take-some zero b bs some none = absurd (omega arith)
+take-some (suc n) b bs some none = cc
+
+piece-is : (b : ℕ) (bs : List ℕ) → AreBytes (b ∷ bs) → IsPiece (take room (b ∷ bs))
+piece-is b bs h = record { some = take-some room b bs (lit< tt); bytes-are = AreBytes-take room (b ∷ bs) h }
+
+with-client : (p : Prescribed) (first : List ℕ) (up host_up : Bool) (c : Course) (turns : List Turn) → SendBytes turns → Holds p first up host_up (seen c) → Holds p first up host_up (seen (record c { client = turns }))
+with-client p first up host_up c turns bytes h = record {
+  client_up-is = h.client_up-is;
+  host_up-is = h.host_up-is;
+  recorded-is = h.recorded-is;
+  to_client-is = h.to_client-is;
+  to_host-is = h.to_host-is;
+  fit = h.fit;
+  client = bytes;
+  clients = h.clients;
+  host = h.host;
+}
+
+with-host : (p : Prescribed) (first : List ℕ) (up host_up : Bool) (c : Course) (turns : List Turn) → SendBytes turns → Holds p first up host_up (seen c) → Holds p first up host_up (seen (record c { host = turns }))
+with-host p first up host_up c turns bytes h = record {
+  client_up-is = h.client_up-is;
+  host_up-is = h.host_up-is;
+  recorded-is = h.recorded-is;
+  to_client-is = h.to_client-is;
+  to_host-is = h.to_host-is;
+  fit = h.fit;
+  client = h.client;
+  clients = h.clients;
+  host = bytes;
+}
+
+without-client : (p : Prescribed) (first : List ℕ) (up host_up : Bool) (c : Course) → Holds p first up host_up (seen c) → Holds p first false host_up (seen (record c { client_up = false }))
+without-client p first up host_up c h = record {
+  client_up-is = refl;
+  host_up-is = h.host_up-is;
+  recorded-is = h.recorded-is;
+  to_client-is = h.to_client-is;
+  to_host-is = h.to_host-is;
+  fit = h.fit;
+  client = h.client;
+  clients = h.clients;
+  host = h.host;
+}
+
+without-host : (p : Prescribed) (first : List ℕ) (up host_up : Bool) (c : Course) → Holds p first up host_up (seen c) → Holds p first up false (seen (record c { host_up = false }))
+without-host p first up host_up c h = record {
+  client_up-is = h.client_up-is;
+  host_up-is = refl;
+  recorded-is = h.recorded-is;
+  to_client-is = h.to_client-is;
+  to_host-is = h.to_host-is;
+  fit = h.fit;
+  client = h.client;
+  clients = h.clients;
+  host = h.host;
+}
+
+client-heard : (p : Prescribed) (first : List ℕ) (turns : List Turn) (c : Course) → BeginsFull turns → SendBytes turns → Stands p first c
+    → Comes p first (heard Client AtHost (answer room turns) (given room turns) (record c { client = after room turns }))
+client-heard p first [] c full bytes h =
+    record { holds = without-client p first (client_behind p c.events) (host_behind p c.events) (record c { client = [] }) (with-client p first (client_behind p c.events) (host_behind p c.events) c [] tt h); fits = tt; behind = tt }
+client-heard p first (Piece [] ∷ turns) c full bytes h = absurd full
+client-heard p first (Piece (b ∷ bs) ∷ turns) c full bytes h = record {
+  holds = with-client p first (client_behind p c.events) (host_behind p c.events) c (Piece (drop room (b ∷ bs)) ∷ turns) (AreBytes-drop room (b ∷ bs) bytes.0, bytes.1) h;
+  fits = piece-is b bs bytes.0;
+  behind = tt;
+}
+client-heard p first (Wait ∷ turns) c full bytes h = record { holds = with-client p first (client_behind p c.events) (host_behind p c.events) c turns bytes h; fits = tt; behind = tt }
+client-heard p first (Fail ∷ turns) c full bytes h = with-client p first (client_behind p c.events) (host_behind p c.events) c turns bytes h
+
+-- a host whose link is up has not ended
+not-ended : (p : Prescribed) (events : List Event) → host_behind p events ≡ true → host_ended (gate_events events) ≡ false
+not-ended p [] up = refl
+not-ended p (ClientComes ∷ events) up = not-ended p events (and_parts (host_behind p events) (not (refuses Host (gained p.refusals events ClientComes))) up).0
+not-ended p (ClientPiece b ∷ events) up = not-ended p events (and_parts (host_behind p events) (not (refuses Host (gained p.refusals events (ClientPiece b)))) up).0
+not-ended p (ClientQuiet ∷ events) up = not-ended p events (and_parts (host_behind p events) (not (refuses Host (gained p.refusals events ClientQuiet))) up).0
+not-ended p (ClientEnd ∷ events) up = not-ended p events (and_parts (host_behind p events) (not (refuses Host (gained p.refusals events ClientEnd))) up).0
+not-ended p (HostPiece b ∷ events) up = not-ended p events (and_parts (host_behind p events) (not (refuses Host (gained p.refusals events (HostPiece b)))) up).0
+not-ended p (HostEnd ∷ events) up = absurd (no up)
+  where
+    no : false ≡ true → ⊥
+    no e = cc
+
+host-heard : (p : Prescribed) (first : List ℕ) (turns : List Turn) (c : Course) → BeginsFull turns → SendBytes turns → host_ended (gate_events c.events) ≡ false → Stands p first c
+    → Comes p first (heard Host AtEnd (answer room turns) (given room turns) (record c { host = after room turns }))
+host-heard p first [] c full bytes going h =
+    record { holds = without-host p first (client_behind p c.events) (host_behind p c.events) (record c { host = [] }) (with-host p first (client_behind p c.events) (host_behind p c.events) c [] tt h); fits = going; behind = tt }
+host-heard p first (Piece [] ∷ turns) c full bytes going h = absurd full
+host-heard p first (Piece (b ∷ bs) ∷ turns) c full bytes going h = record {
+  holds = with-host p first (client_behind p c.events) (host_behind p c.events) c (Piece (drop room (b ∷ bs)) ∷ turns) (AreBytes-drop room (b ∷ bs) bytes.0, bytes.1) h;
+  fits = (piece-is b bs bytes.0, going);
+  behind = tt;
+}
+host-heard p first (Wait ∷ turns) c full bytes going h = with-host p first (client_behind p c.events) (host_behind p c.events) c turns bytes h
+host-heard p first (Fail ∷ turns) c full bytes going h = with-host p first (client_behind p c.events) (host_behind p c.events) c turns bytes h
+
+-- ---- one call
+
+make-stands : (p : Prescribed) (first : List ℕ) (c : Course) → IsMaking p first c → Stands p first (make p c)
+make-stands p first c h = record {
+  client_up-is = h.client_up-is ∙ sym (ap (client_behind p) h.events-are);
+  host_up-is = sym (ap (host_behind p) h.events-are);
+  recorded-is = h.recorded-is ∙ sym (append-nil first) ∙ sym (ap (λ (l : List Event). first ++ recorded p l) h.events-are);
+  to_client-is = h.to_client-is ∙ sym (ap (to_clients p) h.events-are);
+  to_host-is = ap (λ (l : List ℕ). l ++ p.to_host []) h.to_host-is ∙ sym (ap (to_host p) h.events-are);
+  fit = subst AllFit (sym h.events-are) tt;
+  client = h.client;
+  clients = h.clients;
+  host = h.host;
+}
+
+pub call-comes : (s : Setting) (first : List ℕ) (next : Next) (c : Course) → At s.served first next c → Comes s.served first (call s next c)
+call-comes s first Making c h = make-stands s.served first c h
+call-comes s first AtDoor c h = if-comes s.served first c.client_up (Goes AtClient c) (come c.clients c) (λ up. h) (λ down. come-comes s.served first c.clients c h.clients h)
+call-comes s first AtClient c h =
+    if-comes s.served first c.client_up (poll Client c.client AtHost c) (Goes AtHost c)
+    (λ up. client-heard s.served first (pending c.client) c (pending-full c.client) (pending-bytes c.client h.client) h) (λ down. h)
+call-comes s first AtHost c h =
+    if-comes s.served first c.host_up (poll Host c.host AtEnd c) (Goes AtEnd c)
+    (λ up. host-heard s.served first (pending c.host) c (pending-full c.host) (pending-bytes c.host h.host) (not-ended s.served c.events (sym h.host_up-is ∙ up)) h) (λ down. h)
+call-comes s first AtEnd c h =
+    if-comes s.served first c.busy (Goes AtDoor (record c { busy = false; waits = s.idle })) (cond (c.waits - 1 == 0) (Stops end.Idle (record c { waits = c.waits - 1 })) (Goes AtDoor (record c { waits = c.waits - 1 }))) (λ busy. h)
+    (λ none. if-comes s.served first (c.waits - 1 == 0) (Stops end.Idle (record c { waits = c.waits - 1 })) (Goes AtDoor (record c { waits = c.waits - 1 })) (λ idle. h) (λ waits. h))
+call-comes s first (Takes e next) c h = take-comes s first e next c h
+
+and-then-comes : (s : Setting) (first : List ℕ) (o : Outcome) → Comes s.served first o → Comes s.served first (and_then o (call s))
+and-then-comes s first (Goes next c) h = call-comes s first next c h
+and-then-comes s first (Stops e c) h = h
+
+pub calls-come : (s : Setting) (first : List ℕ) (count : ℕ) (o : Outcome) → Comes s.served first o → Comes s.served first (calls s count o)
+calls-come s first zero o h = h
+calls-come s first (suc count) o h = and-then-comes s first (calls s count o) (calls-come s first count o h)

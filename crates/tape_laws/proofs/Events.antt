@@ -1,0 +1,177 @@
+-- The lines that are recorded of events are read as these events.
+use Rattle.std.proofs.Common.{◌≡◌, ℕ, ◌+◌, ◌≤◌, Bool, true, false, cond, not, List, [], ◌∷◌, ◌++◌, length, drop, Option, Some, None, Result, Ok, refl, sym, ap, ◌∙◌, subst, append_assoc, append-nil, arith}
+use Rattle.std.proofs.lemmas.List.{length-append, drop_all}
+use Rattle.std.specs.List.{flat_map}
+use Rattle.std.specs.Prelude.{option_map}
+use Rattle.hex.specs.Hex.{encode_lower}
+use Rattle.hex.specs.declared.error.FromHexError.{FromHexError}
+use Rattle.hex.proofs.HexLemmas.{decode_of-encode_lower}
+use Rattle.usb_base.specs.Number.{AreBytes}
+use Rattle.usb_base.specs.declared.side.Side.TheVariants.{Client, Host}
+use Rattle.usb_base.specs.declared.refusal.Refusal.{Refusal}
+use Rattle.gate_core.specs.declared.note.Note.{Note}
+use Rattle.gate_core.specs.Events.{Event as GateEvent}
+use Rattle.gate_core.specs.Events as gate
+use Rattle.session_tape.specs.Lines.{refusal_comment}
+use Rattle.packet_show.specs.declared.tape.TapeLine.{TapeLine}
+use Rattle.packet_show.specs.declared.tape.TapeLine.TheVariants as tape
+use Rattle.packet_show.specs.declared.tape.TapeKind.TheVariants.{Replay}
+use Rattle.packet_show.specs.Tape.{tape_line, bytes_of, some_bytes}
+use Rattle.bridge_run.specs.Events.{Event, ClientComes, ClientPiece, ClientQuiet, ClientEnd, HostPiece, HostEnd}
+use Rattle.bridge_run.specs.Recorded.{event_line, lines_of}
+use Rattle.bridge_run.specs.Prescribed.{Prescribed, gained}
+use Rattle.bridge_run.specs.Gate.{gate_events, gate_notes}
+use Rattle.usbgate.specs.Tape.{host_ended}
+use Rattle.usbgate.specs.Text.{sent_text, event_text}
+use Rattle.usbgate.specs.TapeCommand.{TapeCommand, tape_limit, Progress, one_further}
+use Rattle.usbgate.specs.EventCommand.{EventCommand, on_event, on_said, over_events}
+use Rattle.usbgate.specs.Replay.{replay}
+use Rattle.usbgate.specs.Run.{HasNoLF}
+use Rattle.usbgate.specs.Serving.{Asked}
+use Rattle.tape_laws.specs.Recordings.{recorded, served, replayed, all_replayed}
+use Rattle.usbgate.proofs.Lines.{HasNoLF-append}
+use Rattle.tape_laws.proofs.Spelled.{no-lf-tested, no-lf-hex, no-lf-refusal, refusal_words}
+use Rattle.tape_laws.proofs.Reading.{Reads, reads-none, reads-both, reads-line}
+
+-- a piece of a stream
+pub record IsPiece (bytes : List ℕ) : Type 0 where
+  pub some : bytes ≡ [] → ⊥
+  pub bytes-are : AreBytes bytes
+
+-- an event can be told in a tape behind these: nothing of the host comes after its end
+abbrev pub Fits : Event → List Event → Type 0
+Fits ClientComes events = Unit {0}
+Fits (ClientPiece b) events = IsPiece b
+Fits ClientQuiet events = Unit {0}
+Fits ClientEnd events = Unit {0}
+Fits (HostPiece b) events = IsPiece b × (host_ended (gate_events events) ≡ false)
+Fits HostEnd events = host_ended (gate_events events) ≡ false
+
+abbrev pub AllFit : List Event → Type 0
+AllFit [] = Unit {0}
+AllFit (e ∷ events) = Fits e events × AllFit events
+
+-- ---- one line
+
+abbrev the_command : Asked → TapeCommand (List GateEvent)
+the_command asked = over_events (replay asked.first_id)
+
+some-bytes : (bytes : List ℕ) → (bytes ≡ [] → ⊥) → some_bytes (Ok bytes) ≡ Some bytes
+some-bytes [] some = absurd (some refl)
+some-bytes (b ∷ bs) some = refl
+
+-- hexadecimal digits are read back
+digits-back : (bytes : List ℕ) → IsPiece bytes → bytes_of (encode_lower bytes) ≡ Some bytes
+digits-back bytes piece = ap (λ (r : Result (List ℕ) FromHexError). some_bytes r) (decode_of-encode_lower bytes piece.bytes-are) ∙ some-bytes bytes piece.some
+
+client-line : (bytes : List ℕ) → IsPiece bytes → tape_line Replay (99 ∷ 32 ∷ encode_lower bytes) ≡ Some (tape.Client bytes)
+client-line bytes piece = ap (λ (o : Option (List ℕ)). option_map tape.Client o) (digits-back bytes piece)
+
+host-line : (bytes : List ℕ) → IsPiece bytes → tape_line Replay (104 ∷ 32 ∷ encode_lower bytes) ≡ Some (tape.Host bytes)
+host-line bytes piece = ap (λ (o : Option (List ℕ)). option_map tape.Host o) (digits-back bytes piece)
+
+-- a line tells an event that may happen
+tells : (command : EventCommand) (events : List GateEvent) (text : List ℕ) (said : TapeLine) → tape_line Replay text ≡ Some said → (x : Option (List ℕ × List GateEvent)) → on_said command events (Some said) ≡ x
+    → (over_events command).line events text ≡ x
+tells command events text said is x gives = ap (λ (o : Option TapeLine). on_said command events o) is ∙ gives
+
+abbrev told : EventCommand → List GateEvent → GateEvent → Option (List ℕ × List GateEvent)
+told command events e = Some (command.text events e, e ∷ events)
+
+may : (command : EventCommand) (events : List GateEvent) (e : GateEvent) (ended : Bool) → ended ≡ false → cond (not ended) (told command events e) None ≡ told command events e
+may command events e ended is = ap (λ (t : Bool). cond (not t) (told command events e) None) is
+
+-- ---- several lines
+
+-- these lines are read with this text, and then this is kept
+pub record Comes (asked : Asked) (from : Progress (List GateEvent)) (lines text : List ℕ) (kept : List GateEvent) : Type 0 where
+  pub to : Progress (List GateEvent)
+  pub reads : Reads (over_events (replay asked.first_id)) from lines text to
+  pub kept-is : to.kept ≡ kept
+
+-- a line, and then others
+then-comes : (asked : Asked) (from : Progress (List GateEvent)) (line later text more : List ℕ) (events kept : List GateEvent) → HasNoLF line → (the_command asked).line from.kept line ≡ Some (text, events)
+    → from.bytes + length ((line ++ 10 ∷ []) ++ later) ≤ tape_limit
+    → ((mid : Progress (List GateEvent)) → mid.kept ≡ events → mid.bytes + length later ≤ tape_limit → Comes asked mid later more kept) → Comes asked from ((line ++ 10 ∷ []) ++ later) (text ++ more) kept
+then-comes asked from line later text more events kept whole says room next =
+    let x : List ℕ × List GateEvent = (text, events) in
+    let mid = (one_further from (line ++ 10 ∷ []) x).1 in
+    let long = length-append (line ++ 10 ∷ []) later in
+    let first = reads-line (the_command asked) from line x whole says (omega (arith, room, long)) in
+    let others = next mid refl (omega (arith, room, long)) in
+    record {
+      to = others.to;
+      reads = reads-both (the_command asked) from mid others.to (line ++ 10 ∷ []) later text more first others.reads;
+      kept-is = others.kept-is;
+    }
+
+-- comments say nothing
+comments : (asked : Asked) (refusals : List Refusal) (from : Progress (List GateEvent)) → from.bytes + length (flat_map refusal_comment refusals) ≤ tape_limit → Comes asked from (flat_map refusal_comment refusals) [] from.kept
+comments asked [] from room = record { to = from; reads = reads-none (the_command asked) from; kept-is = refl }
+comments asked (r ∷ refusals) from room =
+    then-comes asked from (35 ∷ 32 ∷ refusal_words r) (flat_map refusal_comment refusals) [] [] from.kept from.kept (HasNoLF-append (35 ∷ 32 ∷ []) (refusal_words r) (no-lf-tested (35 ∷ 32 ∷ []) refl) (no-lf-refusal r)) refl room
+    (λ mid kept-is fits. let later = comments asked refusals mid fits in record { to = later.to; reads = later.reads; kept-is = later.kept-is ∙ kept-is })
+
+-- a line of an event, and then the comments of its refusals
+with-comments : (asked : Asked) (from : Progress (List GateEvent)) (line text : List ℕ) (events : List GateEvent) (refusals : List Refusal) → HasNoLF line → (the_command asked).line from.kept line ≡ Some (text, events)
+    → from.bytes + length ((line ++ 10 ∷ []) ++ flat_map refusal_comment refusals) ≤ tape_limit → Comes asked from ((line ++ 10 ∷ []) ++ flat_map refusal_comment refusals) text events
+with-comments asked from line text events refusals whole says room =
+    let all = then-comes asked from line (flat_map refusal_comment refusals) text [] events events whole says room
+    (λ mid kept-is fits. let later = comments asked refusals mid fits in record { to = later.to; reads = later.reads; kept-is = later.kept-is ∙ kept-is }) in
+    record { to = all.to; reads = subst (λ (l : List ℕ). Reads (the_command asked) from ((line ++ 10 ∷ []) ++ flat_map refusal_comment refusals) l all.to) (append-nil text) all.reads; kept-is = all.kept-is }
+
+-- ---- an event
+
+-- what nothing is gained of
+none-gained : {X : Type 0} (xs : List X) → drop (length xs) xs ≡ []
+none-gained xs = drop_all (length xs) xs (omega arith)
+
+says-nothing : (client host : List ℕ) (notes : List Note) → sent_text (drop (length client) client) (drop (length host) host) (drop (length notes) notes) ≡ []
+says-nothing client host notes =
+    ap (λ (l : List ℕ). sent_text l (drop (length host) host) (drop (length notes) notes)) (none-gained client) ∙ ap (λ (l : List ℕ). sent_text [] l (drop (length notes) notes)) (none-gained host)
+    ∙ ap (λ (l : List Note). sent_text [] [] l) (none-gained notes)
+
+-- what isn't an event of the gate's has no line of its own, and sends nothing
+unsaid : (asked : Asked) (refusals : List Refusal) (from : Progress (List GateEvent)) (text : List ℕ) (events : List GateEvent) → text ≡ [] → from.kept ≡ events → from.bytes + length (flat_map refusal_comment refusals) ≤ tape_limit
+    → Comes asked from (flat_map refusal_comment refusals) text events
+unsaid asked refusals from text events none kept-is room =
+    let all = comments asked refusals from room in
+    record { to = all.to; reads = subst (λ (l : List ℕ). Reads (the_command asked) from (flat_map refusal_comment refusals) l all.to) (sym none) all.reads; kept-is = all.kept-is ∙ kept-is }
+
+pub event-comes : (asked : Asked) (events : List Event) (e : Event) (refusals : List Refusal) (from : Progress (List GateEvent)) → Fits e events → from.kept ≡ gate_events events → from.bytes + length (lines_of e refusals) ≤ tape_limit
+    → Comes asked from (lines_of e refusals) (replayed asked events e) (gate_events (e ∷ events))
+event-comes asked events ClientComes refusals from fits kept-is room = unsaid asked refusals from (replayed asked events ClientComes) (gate_events events) (says-nothing ((served asked).to_client events) ((served asked).to_host events) (gate_notes asked.first_id events)) kept-is room
+event-comes asked events ClientQuiet refusals from fits kept-is room = unsaid asked refusals from (replayed asked events ClientQuiet) (gate_events events) (says-nothing ((served asked).to_client events) ((served asked).to_host events) (gate_notes asked.first_id events)) kept-is room
+event-comes asked events (ClientPiece b) refusals from fits kept-is room =
+    with-comments asked from (99 ∷ 32 ∷ encode_lower b) (replayed asked events (ClientPiece b)) (gate.ClientPiece b ∷ gate_events events) refusals (HasNoLF-append (99 ∷ 32 ∷ []) (encode_lower b) (no-lf-tested (99 ∷ 32 ∷ []) refl) (no-lf-hex b))
+    (ap (λ (l : List GateEvent). (the_command asked).line l (99 ∷ 32 ∷ encode_lower b)) kept-is
+    ∙ tells (replay asked.first_id) (gate_events events) (99 ∷ 32 ∷ encode_lower b) (tape.Client b) (client-line b fits) (Some (replayed asked events (ClientPiece b), gate.ClientPiece b ∷ gate_events events)) refl) room
+event-comes asked events ClientEnd refusals from fits kept-is room =
+    with-comments asked from (99 ∷ 46 ∷ []) (replayed asked events ClientEnd) (gate.ClientEnd ∷ gate_events events) refusals (no-lf-tested (99 ∷ 46 ∷ []) refl)
+    (ap (λ (l : List GateEvent). (the_command asked).line l (99 ∷ 46 ∷ [])) kept-is) room
+event-comes asked events (HostPiece b) refusals from fits kept-is room =
+    with-comments asked from (104 ∷ 32 ∷ encode_lower b) (replayed asked events (HostPiece b)) (gate.HostPiece b ∷ gate_events events) refusals (HasNoLF-append (104 ∷ 32 ∷ []) (encode_lower b) (no-lf-tested (104 ∷ 32 ∷ []) refl) (no-lf-hex b))
+    (ap (λ (l : List GateEvent). (the_command asked).line l (104 ∷ 32 ∷ encode_lower b)) kept-is
+    ∙ tells (replay asked.first_id) (gate_events events) (104 ∷ 32 ∷ encode_lower b) (tape.Host b) (host-line b fits.0) (Some (replayed asked events (HostPiece b), gate.HostPiece b ∷ gate_events events))
+    (may (replay asked.first_id) (gate_events events) (gate.HostPiece b) (host_ended (gate_events events)) fits.1)) room
+event-comes asked events HostEnd refusals from fits kept-is room =
+    with-comments asked from (104 ∷ 46 ∷ []) (replayed asked events HostEnd) (gate.HostEnd ∷ gate_events events) refusals (no-lf-tested (104 ∷ 46 ∷ []) refl)
+    (ap (λ (l : List GateEvent). (the_command asked).line l (104 ∷ 46 ∷ [])) kept-is
+    ∙ may (replay asked.first_id) (gate_events events) gate.HostEnd (host_ended (gate_events events)) fits) room
+
+-- ---- all events
+
+pub events-come : (asked : Asked) (events : List Event) (from : Progress (List GateEvent)) → AllFit events → from.kept ≡ [] → from.bytes + length (recorded (served asked) events) ≤ tape_limit
+    → Comes asked from (recorded (served asked) events) (all_replayed asked events) (gate_events events)
+events-come asked [] from fit none room = record { to = from; reads = reads-none (the_command asked) from; kept-is = none }
+events-come asked (e ∷ events) from fit none room =
+    let refusals = gained (served asked).refusals events e in
+    let long = length-append (recorded (served asked) events) (lines_of e refusals) in
+    let before = events-come asked events from fit.1 none (omega (arith, room, long)) in
+    let reached = before.reads.bytes-are in
+    let last = event-comes asked events e refusals before.to fit.0 before.kept-is (omega (arith, room, long, reached)) in
+    record {
+      to = last.to;
+      reads = reads-both (the_command asked) from before.to last.to (recorded (served asked) events) (lines_of e refusals) (all_replayed asked events) (replayed asked events e) before.reads last.reads;
+      kept-is = last.kept-is;
+    }

@@ -1,0 +1,5 @@
+mod Spelled
+mod Reading
+mod Events
+mod Courses
+mod Ends

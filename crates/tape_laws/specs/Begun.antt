@@ -1,0 +1,31 @@
+-- The course of a session that is recorded, before anything has happened.
+use Rattle.std.specs.Prelude.{◌≡◌, List, [], ◌∷◌}
+use Rattle.usb_base.specs.Number.{AreBytes}
+use Rattle.gate_outside.specs.declared.turn.Turn.{Turn}
+use Rattle.gate_outside.specs.declared.turn.Turn.TheVariants.{Piece, Wait, Fail}
+use Rattle.session_tape.specs.Lines.{first_comment}
+use Rattle.bridge_run.specs.Course.{Course}
+use Rattle.bridge_run.specs.Serves.{Begins}
+use Rattle.usbgate.specs.Serving.{Asked}
+use Rattle.usbgate.specs.Serves.{budget}
+
+-- what a peer sends are bytes
+abbrev pub SendBytes : List Turn → Type 0
+SendBytes [] = Unit {0}
+SendBytes (Piece piece ∷ turns) = AreBytes piece × SendBytes turns
+SendBytes (Wait ∷ turns) = SendBytes turns
+SendBytes (Fail ∷ turns) = SendBytes turns
+
+abbrev pub AllSendBytes : List (List Turn) → Type 0
+AllSendBytes [] = Unit {0}
+AllSendBytes (turns ∷ peers) = SendBytes turns × AllSendBytes peers
+
+-- the tape has its first line, and the links have nothing
+pub record IsFresh (asked : Asked) (c : Course) : Type 0 where
+  pub begins : Begins asked.idle budget c
+  pub recorded-is : c.recorded ≡ first_comment asked.first_id
+  pub no_client : c.to_client ≡ []
+  pub no_host : c.to_host ≡ []
+  pub client : SendBytes c.client
+  pub clients : AllSendBytes c.clients
+  pub host : SendBytes c.host

@@ -1,0 +1,4 @@
+pub mod Ups
+pub mod Recordings
+pub mod Begun
+pub mod Plays

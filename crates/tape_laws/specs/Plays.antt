@@ -1,0 +1,74 @@
+-- What a recording is read as, and what its replay prints, beside what was written to the links.
+use Rattle.std.specs.Prelude.{◌≡◌, ◌⊎◌, ℕ, false, List, ◌++◌, Option, Some}
+use Rattle.session_tape.specs.Lines.{first_comment}
+use Rattle.gate_core.specs.Events.{Event as GateEvent}
+use Rattle.gate_core.specs.History.{history}
+use Rattle.gate_core.specs.All.{counts_of}
+use Rattle.bridge_run.specs.declared.serve_end.ServeEnd.{ServeEnd}
+use Rattle.bridge_run.specs.Events.{Event}
+use Rattle.bridge_run.specs.Course.{Course, Next, Making}
+use Rattle.bridge_run.specs.Calls.{Goes, Stops, call, course_of}
+use Rattle.bridge_run.specs.Outside.{Outside}
+use Rattle.bridge_run.specs.Gate.{gate_events}
+use Rattle.bridge_run.specs.Serves.{Reaches}
+use Rattle.usbgate.specs.declared.status.Status.{Status}
+use Rattle.usbgate.specs.declared.status.Status.TheVariants.{Done, Usage, Refused, ReadFault, WriteFault, LinkFault, OutOfMemory, BadTape, Idle, Spent}
+use Rattle.usbgate.specs.Text.{made_text, counts_line}
+use Rattle.usbgate.specs.TapeCommand.{Reading, read_tape, tape_text}
+use Rattle.usbgate.specs.EventCommand.{over_events}
+use Rattle.usbgate.specs.Replay.{replay}
+use Rattle.usbgate.specs.Serving.{Asked}
+use Rattle.usbgate.specs.Serves.{setting_of}
+use Rattle.tape_laws.specs.Recordings.{recorded, to_clients, to_host, served, all_replayed}
+
+-- what `replay` reads of a tape, and what it prints for it
+abbrev pub read_of : Asked → List ℕ → Reading (List GateEvent)
+read_of asked tape = read_tape (over_events (replay asked.first_id)) tape
+
+abbrev pub text_of : Asked → List ℕ → List ℕ
+text_of asked tape = tape_text (over_events (replay asked.first_id)) tape
+
+-- The run has ended by itself. The tape has the lines of all events that it took, and is read as these. Its replay prints
+-- what each of them sends, and the links were written just that, where they were up.
+pub record Plays (asked : Asked) (c : Course) (new : Outside) (held : List ℕ) : Type 0 where
+  pub end : ServeEnd
+  pub course : Course
+  pub reaches : Reaches (setting_of asked) (Goes Making c) (Stops end course)
+  pub held-is : held ≡ first_comment asked.first_id ++ recorded (served asked) course.events
+  pub good : (read_of asked held).bad ≡ false
+  pub events-are : (read_of asked held).after.kept ≡ gate_events course.events
+  pub prints : text_of asked held ≡ made_text asked.first_id ++ all_replayed asked course.events ++ counts_line (counts_of asked.first_id (history asked.first_id (gate_events course.events)))
+  pub client : new.client.written ≡ Some (to_clients (served asked) course.events)
+  pub host : new.host.written ≡ Some (to_host (served asked) course.events)
+
+-- a front of these bytes was written
+pub record WroteFront (known : Option (List ℕ)) (all : List ℕ) : Type 0 where
+  pub front : List ℕ
+  pub lost : List ℕ
+  pub known-is : known ≡ Some front
+  pub all-is : all ≡ front ++ lost
+
+-- The run was cut short, by a fault or for want of memory, within a call. The replay of the tape prints what the events
+-- before that call send, or also the one that the call takes; and of no other event was anything written to the links.
+pub record PlaysInPart (asked : Asked) (c : Course) (new : Outside) (held : List ℕ) : Type 0 where
+  pub next : Next
+  pub course : Course
+  pub reaches : Reaches (setting_of asked) (Goes Making c) (Goes next course)
+  pub events : List Event
+  pub events-are : (events ≡ course.events) ⊎ (events ≡ (course_of (call (setting_of asked) next course)).events)
+  pub rest : List ℕ
+  pub prints : text_of asked held ≡ made_text asked.first_id ++ all_replayed asked events ++ rest
+  pub client : WroteFront new.client.written (to_clients (served asked) events)
+  pub host : WroteFront new.host.written (to_host (served asked) events)
+
+abbrev pub Replays : Status → Asked → Course → Outside → List ℕ → Type 0
+Replays Done asked c new held = Plays asked c new held
+Replays Refused asked c new held = Plays asked c new held
+Replays Idle asked c new held = Plays asked c new held
+Replays Spent asked c new held = Plays asked c new held
+Replays Usage asked c new held = PlaysInPart asked c new held
+Replays WriteFault asked c new held = PlaysInPart asked c new held
+Replays (LinkFault side) asked c new held = PlaysInPart asked c new held
+Replays OutOfMemory asked c new held = PlaysInPart asked c new held
+Replays ReadFault asked c new held = ⊥
+Replays (BadTape number) asked c new held = ⊥

@@ -1,0 +1,6 @@
+//! What a recording replays to: a law of the commands `serve` and `replay`.
+#![tactic(auto)]
+
+mod laws;
+
+pub use laws::recordings_replay;

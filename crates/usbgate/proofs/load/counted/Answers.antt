@@ -1,0 +1,7 @@
+use Rattle.usbgate.proofs.Doing.{counts-loaded}
+use Rattle.usbgate.proofs.load.counted.Goals as goal
+
+pub returns : goal.returns
+returns c =
+    counts-loaded c.args.count c.in_ok-make.field-0 c.in_ok-system.system c.counts.result c.new-text.result c.push_counts.new.text c.in_ok-make.ensures c.read_again.ensures c.in_ok-system.ensures c.counts.ensures c.new-text.ensures
+    c.in_ok-push_counts.ensures
