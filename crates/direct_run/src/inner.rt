@@ -153,10 +153,8 @@ impl<G: Gadget> Inner<G> {
     {
         self.works()?;
         let mut told = Told::new(self.alloc);
-        match self.take_event(event, &mut told) {
-            Ok(()) => Ok(told),
-            Err(memory) => Err(memory),
-        }
+        self.take_event(event, &mut told)?;
+        Ok(told)
     }
 
     /// The same, where nothing is told yet and memory has not run out.
@@ -191,10 +189,8 @@ impl<G: Gadget> Inner<G> {
     {
         self.works()?;
         let mut told = Told::new(self.alloc);
-        match self.take_piece(bytes, &mut told) {
-            Ok(()) => Ok(told),
-            Err(memory) => Err(memory),
-        }
+        self.take_piece(bytes, &mut told)?;
+        Ok(told)
     }
 
     /// The same, where nothing is told yet and memory has not run out.
@@ -217,10 +213,8 @@ impl<G: Gadget> Inner<G> {
     {
         self.works()?;
         let mut told = Told::new(self.alloc);
-        match self.do_perform(ep, &mut told) {
-            Ok(()) => Ok(told),
-            Err(memory) => Err(memory),
-        }
+        self.do_perform(ep, &mut told)?;
+        Ok(told)
     }
 
     /// The same, where nothing is told yet and memory has not run out.
@@ -243,10 +237,8 @@ impl<G: Gadget> Inner<G> {
     {
         self.works()?;
         let mut told = Told::new(self.alloc);
-        match self.do_offer(ep, &mut told) {
-            Ok(()) => Ok(told),
-            Err(memory) => Err(memory),
-        }
+        self.do_offer(ep, &mut told)?;
+        Ok(told)
     }
 
     /// The same, where nothing is told yet and memory has not run out.
@@ -269,10 +261,8 @@ impl<G: Gadget> Inner<G> {
     {
         self.works()?;
         let mut told = Told::new(self.alloc);
-        match self.do_unplug(&mut told) {
-            Ok(()) => Ok(told),
-            Err(memory) => Err(memory),
-        }
+        self.do_unplug(&mut told)?;
+        Ok(told)
     }
 
     /// The same, where nothing is told yet and memory has not run out.
