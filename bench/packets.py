@@ -76,3 +76,19 @@ def ret_data(number, data):
 def ret_submit(number, direction, length, byte=0xA5, status=0):
     head = struct.pack(">5IiI", 3, number, 0, 0, 0, status, length) + bytes(20)
     return head + (bytes([byte]) * length if direction == IN else b"")
+
+
+# ---- the lines of a tape that bring packets
+
+def line(side, packet):
+    return b"%s %s\n" % (side, packet.hex().encode())
+
+
+def imported():
+    """A host and its device, and a client's import."""
+    return line(b"h", device()) + line(b"c", IMPORT)
+
+
+def transfer(number, direction, length):
+    # Nothing but the submits takes ids, so a submit's id is its number.
+    return line(b"c", submit(number, direction, length)) + line(b"h", answer(number, direction, length))

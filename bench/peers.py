@@ -135,6 +135,11 @@ def gateway_at(host, listen, after_loss="keep", record=None):
     return [PROGRAM, "serve", *ends, "--idle", "4294967295", "--after-loss", after_loss, *recorded]
 
 
+def relay_at(host, listen):
+    """A plain relay at the same ports."""
+    return ["socat", "-b", "65536", "TCP-LISTEN:%d,nodelay,reuseaddr" % listen, "TCP:127.0.0.1:%d,nodelay" % host]
+
+
 def limited(most):
     """From now on no file of this process can have more bytes, and a write that would need that fails."""
     signal.signal(signal.SIGXFSZ, signal.SIG_IGN)
