@@ -19,6 +19,7 @@ pub struct Row {
 }
 
 impl Row {
+    /// A row without a name, words, tape or text.
     pub fn new(alloc: Global) -> Row {
         Row {
             name: String::new(alloc),
@@ -38,6 +39,7 @@ impl Row {
         Ok(())
     }
 
+    /// The words of this row, and of those behind it, with spaces between them.
     pub fn set_words(&mut self, alloc: Global, words: &str) -> Result<(), Memory> {
         self.words.clear();
         for word in words.split_whitespace() {
@@ -60,10 +62,12 @@ impl Row {
         push_lines(packets, &mut self.text, text, turn)
     }
 
+    /// Appends characters to the tape, whatever they are.
     pub fn push_to_tape(&mut self, words: &str) -> Result<(), Memory> {
         push_characters(&mut self.tape, words)
     }
 
+    /// Appends characters to the text, likewise.
     pub fn push_to_text(&mut self, words: &str) -> Result<(), Memory> {
         push_characters(&mut self.text, words)
     }

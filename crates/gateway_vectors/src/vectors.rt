@@ -13,6 +13,7 @@ pub struct Vectors {
 }
 
 impl Vectors {
+    /// No packet has a name, and no row has begun.
     pub fn new(alloc: Global) -> Vectors {
         Vectors {
             packets: Packets::new(alloc),

@@ -12,6 +12,7 @@ pub struct Packets {
 }
 
 impl Packets {
+    /// None has a name.
     pub fn new(alloc: Global) -> Packets {
         Packets {
             named: Vec::new(alloc),

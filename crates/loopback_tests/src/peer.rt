@@ -26,6 +26,7 @@ pub struct Peer {
 }
 
 impl Peer {
+    /// A peer that hasn't come.
     pub fn new() -> Peer {
         Peer {
             link: None,

@@ -18,6 +18,7 @@ pub struct Row {
 }
 
 impl Row {
+    /// A row without a name or acts.
     pub fn new(alloc: Global) -> Row {
         Row {
             name: String::new(alloc),

@@ -16,6 +16,7 @@ pub struct Rows {
 }
 
 impl Rows {
+    /// Nothing has a name, and no row has begun.
     pub fn new(alloc: Global) -> Rows {
         Rows {
             packets: Packets::new(alloc),

@@ -1,6 +1,6 @@
 //! A tape in a file.
 
-ghost use Rattle.std.specs.Prelude.{◌≡◌, true, false, None, is_some, OnOk, OnErr};
+ghost use Rattle.std.specs.Prelude.{◌≡◌, ◌<◌, ◌↔◌, ◌⊎◌, true, false, IsTrue, None, is_some, OnOk, OnErr};
 ghost use Rattle.std.specs.Fs.{asks_create_new, asks_write};
 ghost use Rattle.std.specs.Io.KnownBytes.{append_known};
 ghost use Rattle.session_tape.specs.Tapes.{counts, HasReason, CountsFault, GrowsInPart, GoesTo, told_by};
@@ -24,7 +24,10 @@ pub struct FileTape<'a, R: Files + Eprint> {
 
 impl<'a, R: Files + Eprint> FileTape<'a, R> {
     /// None is made.
-    pub fn new(system: &'a R) -> FileTape<'a, R> {
+    pub fn new(system: &'a R) -> FileTape<'a, R>
+        ensures made { result.file ≡ None }
+        ensures counts { counts result.faults result.there ≡ counts 0 0 }
+    {
         FileTape {
             system,
             file: None,
@@ -34,7 +37,9 @@ impl<'a, R: Files + Eprint> FileTape<'a, R> {
     }
 
     /// Whether a call has failed, or the file was there before.
-    pub fn has_failed(&self) -> bool {
+    pub fn has_failed(&self) -> bool
+        ensures { IsTrue result ↔ ((0 < self.now.faults) ⊎ (0 < self.now.there)) }
+    {
         self.faults > 0 || self.there > 0
     }
 }

@@ -1,0 +1,12 @@
+use Rattle.std.proofs.Common.{◌≡◌, ◌++◌, length}
+use Rattle.std.specs.Slice.Iter.{chunks_rest, chunks_size}
+use Rattle.hex.specs.Hex.{encode_lower}
+use Rattle.session_tape.proofs.lines.push_digits.Given as goal
+
+abbrev pub invariant-loop-front : goal.invariant-loop-front
+invariant-loop-front l =
+    goal.iterator-loop-front.can_next l.front-iterator
+    × goal.iterator-loop-front.is_finite l.front-iterator
+    × (chunks_size l.front-iterator ≡ 256)
+    × (length l.digits ≡ 512)
+    × (l.text ++ encode_lower (chunks_rest l.front-iterator) ≡ l.fn.text ++ encode_lower l.fn.bytes)
