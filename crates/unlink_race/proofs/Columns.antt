@@ -1,6 +1,6 @@
 -- A column of a list: what a function gives of each element, in order.
-use Rattle.std.proofs.Common.{◌≡◌, ℕ, zero, suc, ◌+◌, Bool, cond, not, ◌||◌, List, [], ◌∷◌, map, get_or, set, Some, refl, ap, ◌∙◌}
-use Rattle.std.specs.List.{position, position_or_len, remove, slice_get, list_any}
+use Rattle.std.proofs.Common.{◌≡◌, ℕ, zero, suc, ◌+◌, Bool, cond, not, List, [], ◌∷◌, map, get_or, set, Some, refl, ap, ◌∙◌}
+use Rattle.std.specs.List.{position, position_or_len, remove, slice_get}
 use Rattle.std.proofs.lemmas.List.{length-map}
 
 module _ {X Y : Type 0} (f : X → Y) where
@@ -17,10 +17,6 @@ module _ {X Y : Type 0} (f : X → Y) where
       places : (ys : List X) → position_or_len p (map f ys) ≡ position_or_len (λ x. p (f x)) ys
       places [] = refl
       places (y ∷ ys) = ap (λ n. cond (not (p (f y))) (1 + n) 0) (places ys)
-
-  pub list_any-map : (p : Y → Bool) (xs : List X) → list_any p (map f xs) ≡ list_any (λ x. p (f x)) xs
-  list_any-map p [] = refl
-  list_any-map p (x ∷ xs) = ap (λ b. p (f x) || b) (list_any-map p xs)
 
   -- an element is replaced by one of which the function gives the same
   pub map_unchanged : (xs : List X) (i : ℕ) (x y : X) → slice_get xs i ≡ Some x → f y ≡ f x → map f (set xs i y) ≡ map f xs

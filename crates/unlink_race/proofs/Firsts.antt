@@ -104,10 +104,10 @@ at_most : (a b : ℕ) → a ≡ b → b ≤ 1 → a ≤ 1
 at_most a b same once = rw same once
 
 module _ {X : Type 0} where
-  counted : (p : X → Bool) (x : X) (xs : List X) → p x ≡ true → 1 + count_by p xs ≡ count_by p (x ∷ xs)
+  pub counted : (p : X → Bool) (x : X) (xs : List X) → p x ≡ true → 1 + count_by p xs ≡ count_by p (x ∷ xs)
   counted p x xs here = sym (sum_by-cons (λ y. cond (p y) 1 0) x xs ∙ ap (λ b. cond b 1 0 + count_by p xs) here)
 
-  uncounted : (p : X → Bool) (x : X) (xs : List X) → p x ≡ false → count_by p xs ≡ count_by p (x ∷ xs)
+  pub uncounted : (p : X → Bool) (x : X) (xs : List X) → p x ≡ false → count_by p xs ≡ count_by p (x ∷ xs)
   uncounted p x xs other =
       sym (sum_by-cons (λ y. cond (p y) 1 0) x xs ∙ ap (λ b. cond b 1 0 + count_by p xs) other ∙ zero-add (count_by p xs))
 

@@ -1,6 +1,8 @@
 pub mod Firsts
 pub mod Columns
+pub mod Counts
 pub mod Ids
+pub mod Indexes
 pub mod Passing
 pub mod Rows
 pub mod Tables

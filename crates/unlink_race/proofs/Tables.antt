@@ -1,6 +1,6 @@
 -- A sound table, and what a change makes of its list.
 use Rattle.std.proofs.Common.{◌≡◌, ℕ, ◌+◌, ◌<◌, Bool, false, cond, List, [], ◌∷◌, ◌++◌, length, map, get_or, set, Some, None, refl, ap, sym, subst, ◌∙◌, arith, is_some}
-use Rattle.std.specs.List.{position, remove, slice_get, list_any}
+use Rattle.std.specs.List.{position, remove, slice_get}
 use Rattle.std.proofs.lemmas.List.{length-append, length-map, map-append}
 use Rattle.std.proofs.lemmas.List.Edits.{length-remove}
 use Rattle.std.proofs.lemmas.Option.{slice_get-get_or}
@@ -12,9 +12,11 @@ use Rattle.unlink_race.specs.declared.live.LiveKind.{LiveKind}
 use Rattle.usb_base.specs.declared.endpoint.EpKind.TheVariants.{Bulk}
 use Rattle.unlink_race.specs.declared.live.LiveKind.TheVariants.{Wire}
 use Rattle.unlink_race.specs.declared.table.Row.{Row}
+use Rattle.unlink_race.specs.declared.index.Index.{Index}
+use Rattle.unlink_race.specs.Inner.Indexed.{IsIndexed}
 use Rattle.unlink_race.specs.Inner.Sound.{in_order, IsSound, AreColumns, HasRoom}
 use Rattle.unlink_race.proofs.Rows.{length-listed, took_at, put_last, changed_at}
-use Rattle.unlink_race.proofs.Columns.{map-remove, position-map, list_any-map, map_unchanged}
+use Rattle.unlink_race.proofs.Columns.{map-remove, position-map, map_unchanged}
 
 abbrev key_of : Row → ℕ
 key_of r = r.key
@@ -27,6 +29,10 @@ same_room room slab rows seqnums ids =
       seqnum_room = rw seqnums room.seqnum_room;
       id_room = rw ids room.id_room;
     }
+
+-- the index is that of the list by each name
+pub indexed : {xs ys : List Live} {index : Index} → xs ≡ ys → IsIndexed xs index → IsIndexed ys index
+indexed {index = index} same is = let P : List Live → Type 0 = λ zs. IsIndexed zs index in subst P same is
 
 -- the columns are those of a list without the element at a place
 columns_removed : (xs : List Live) (rows : List Row) (seqnums ids : List ℕ) (i : ℕ) → AreColumns xs rows seqnums ids → AreColumns (remove xs i) (remove rows i) (remove seqnums i) (remove ids i)
@@ -64,9 +70,6 @@ module _ {slab : Slab Live} {rows : List Row} {seqnums ids : List ℕ} (s : IsSo
 
   pub placed_kind : (p : LiveKind → Bool) → position (λ r. p r.kind) rows ≡ position (λ live. p live.kind) xs
   placed_kind p = sym (position-map (λ r. r.kind) p rows) ∙ ap (position p) columns.are_kinds ∙ position-map (λ live. live.kind) p xs
-
-  pub any_kind : (p : LiveKind → Bool) → list_any (λ r. p r.kind) rows ≡ list_any (λ live. p live.kind) xs
-  any_kind p = sym (list_any-map (λ r. r.kind) p rows) ∙ ap (list_any p) columns.are_kinds ∙ list_any-map (λ live. live.kind) p xs
 
   pub found_at : (i : ℕ) (r : Row) → i < length xs → r ≡ get_or rows i r → get slab r.key ≡ slice_get xs i
   found_at i r within read =

@@ -1,3 +1,4 @@
 -- What only private functions cite: how the table holds its list.
+pub mod Indexed
 pub mod Listed
 pub mod Sound

@@ -2,7 +2,9 @@
 //! answer ends.
 #![tactic(auto)]
 
+mod bag;
 mod ending;
+mod index;
 mod live;
 mod lives;
 mod table;

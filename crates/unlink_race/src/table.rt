@@ -1,13 +1,15 @@
 //! The table behind `Lives`: the requests in a slab, and beside it, in order of acceptance, their keys and kinds
-//! and a column each of their numbers and ids, for the searches.
+//! and a column each of their numbers and ids, for the searches that want a place; whether there is one at all an
+//! index says.
 
 ghost use Rattle.std.specs.Prelude.{◌≡◌, ◌==◌, ◌<◌, ◌≤◌, not, List, [], ◌∷◌, ◌++◌, length, filter, map, remove, slice_get, slice_set, option_copied, IfOk, Some};
 ghost use Rattle.std.specs.List.{find, position, list_any};
 ghost use Rattle.unlink_race.specs.declared.live.Live.{Live};
 ghost use Rattle.unlink_race.specs.Firsts.{without_first};
 ghost use Rattle.unlink_race.specs.Unlinking.{unlinked_by};
-ghost use Rattle.unlink_race.specs.Searches.{has_number, has_id, waits_for, touched_by, ended_by, changes, waits_at, is_touched_by, ends_with, is_change};
+ghost use Rattle.unlink_race.specs.Searches.{has_number, has_id, waits_for, touched_by, ended_by, changes, waits_at, is_touched_by, ends_with};
 
+use crate::index::Index;
 use crate::live::{Live, LiveKind, StreamEnd};
 use control_route::Route;
 use slab::Slab;
@@ -33,18 +35,20 @@ pub struct Table {
     rows: Vec<Row>,
     seqnums: Vec<u32>,
     ids: Vec<u64>,
+    index: Index,
 }
 
 impl Model for Table {
     ghost use Rattle.std.specs.Prelude.{List, vec_capacity};
     ghost use Rattle.unlink_race.specs.declared.live.Live.{Live};
     ghost use Rattle.unlink_race.specs.Inner.Sound.{in_order, IsSound, HasRoom};
+    ghost use Rattle.unlink_race.specs.Inner.Indexed.{IsIndexed};
 
     ghost Value = { List Live };
 
     ghost view = { λ t. in_order t.slab t.rows.items };
 
-    ghost invariant = { λ t. IsSound t.slab t.rows.items t.seqnums.items t.ids.items × HasRoom t.slab.capacity (vec_capacity t.rows) (vec_capacity t.seqnums) (vec_capacity t.ids) };
+    ghost invariant = { λ t. IsSound t.slab t.rows.items t.seqnums.items t.ids.items × HasRoom t.slab.capacity (vec_capacity t.rows) (vec_capacity t.seqnums) (vec_capacity t.ids) × IsIndexed (in_order t.slab t.rows.items) t.index };
 }
 
 fn first_number(seqnums: &[u32], seqnum: u32) -> Option<usize>
@@ -79,12 +83,6 @@ fn first_touched(rows: &[Row], route: &Route) -> Option<usize>
     rows.iter().position(|row| row.kind.is_touched_by(route))
 }
 
-fn any_change(rows: &[Row]) -> bool
-    ensures { result ≡ list_any (λ r. is_change r.kind) rows.now }
-{
-    rows.iter().any(|row| row.kind.is_change())
-}
-
 impl Table {
     ghost use Rattle.std.specs.Prelude.{Bool};
 
@@ -96,11 +94,13 @@ impl Table {
         let rows = Vec::with_capacity(alloc, ROOM)?;
         let seqnums = Vec::with_capacity(alloc, ROOM)?;
         let ids = Vec::with_capacity(alloc, ROOM)?;
+        let index = Index::make(alloc)?;
         Ok(Table {
             slab,
             rows,
             seqnums,
             ids,
+            index,
         })
     }
 
@@ -130,14 +130,14 @@ impl Table {
     pub fn has_number(&self, seqnum: u32) -> bool
         ensures { result ≡ list_any (has_number seqnum) self.now }
     {
-        self.place_of_number(seqnum).is_some()
+        self.index.has_number(seqnum)
     }
 
     /// Whether a request flies with this id.
     pub fn has_id(&self, id: u64) -> bool
         ensures { result ≡ list_any (has_id id) self.now }
     {
-        self.place_of_id(id).is_some()
+        self.index.has_id(id)
     }
 
     /// Where the first request stands that waits for packets of this endpoint's stream.
@@ -158,7 +158,7 @@ impl Table {
     pub fn has_change(&self) -> bool
         ensures { result ≡ list_any changes self.now }
     {
-        any_change(&self.rows)
+        self.index.has_change()
     }
 
     /// The request at this place.
@@ -178,7 +178,9 @@ impl Table {
         self.seqnums.remove(place);
         self.ids.remove(place);
         let row = self.rows.remove(place);
-        self.slab.remove(row.key)
+        let live = self.slab.remove(row.key);
+        self.index.forget(&live);
+        live
     }
 
     /// Puts a request behind the others.
@@ -186,6 +188,7 @@ impl Table {
         requires { length self.old < 4096 }
         ensures { self.new ≡ self.old ++ live ∷ [] }
     {
+        self.index.note(&live);
         self.seqnums.push_reserved(live.seqnum);
         self.ids.push_reserved(live.id);
         let kind = live.kind;
@@ -251,5 +254,6 @@ impl Table {
         self.rows.clear();
         self.seqnums.clear();
         self.ids.clear();
+        self.index.clear();
     }
 }

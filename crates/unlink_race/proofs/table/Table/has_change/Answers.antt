@@ -1,8 +1,5 @@
-use Rattle.std.proofs.Common.{◌∙◌}
-use Rattle.unlink_race.proofs.Tables.{any_kind}
-use Rattle.unlink_race.specs.Searches.{is_change}
+use Rattle.unlink_race.proofs.Tables.{indexed}
 use Rattle.unlink_race.proofs.table.Table.has_change.Goals as goal
 
 pub returns : goal.returns
-returns c =
-    c.any_change.ensures ∙ rw c.deref.ensures.value (any_kind c.self.invariant.0 c.self.view_is is_change)
+returns c = c.has_change.ensures c.args.self.now (indexed c.self.view_is c.self.invariant.2)

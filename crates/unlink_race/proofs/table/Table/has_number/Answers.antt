@@ -1,8 +1,5 @@
-use Rattle.std.proofs.Common.{◌∙◌, ap, is_some}
-use Rattle.unlink_race.proofs.Firsts.{is_some-position}
-use Rattle.unlink_race.specs.Searches.{has_number}
+use Rattle.unlink_race.proofs.Tables.{indexed}
 use Rattle.unlink_race.proofs.table.Table.has_number.Goals as goal
 
 pub returns : goal.returns
-returns c =
-    c.is_some.ensures ∙ ap is_some c.place_of_number.ensures ∙ is_some-position (has_number c.args.seqnum) c.args.self.now
+returns c = c.has_number.ensures c.args.self.now (indexed c.self.view_is c.self.invariant.2)

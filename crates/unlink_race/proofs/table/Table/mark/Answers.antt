@@ -1,5 +1,6 @@
 use Rattle.std.proofs.Common.{◌≡◌, ◌∙◌, sym, refl, Some}
-use Rattle.unlink_race.proofs.Tables.{found_at, has_key, changed}
+use Rattle.unlink_race.proofs.Tables.{found_at, has_key, changed, indexed}
+use Rattle.unlink_race.proofs.Indexes.{index_changed}
 use Rattle.unlink_race.proofs.table.Table.mark.Goals as goal
 
 pub index_mut-requires : goal.index_mut-requires
@@ -7,7 +8,12 @@ index_mut-requires c = has_key c.self.invariant.0 c.self.view_is c.args.place c.
 
 pub invariant_of-self : goal.invariant_of-self
 invariant_of-self c =
-    ((changed c.self.invariant.0 c.self.view_is c.args.place c.index.result.now c.index_mut.result.now _ c.requires c.index.ensures c.index_mut.ensures.value refl refl refl).0, c.self.invariant.1)
+    let there = found_at c.self.invariant.0 c.self.view_is c.args.place c.index.result.now c.requires c.index.ensures in
+    let made = changed c.self.invariant.0 c.self.view_is c.args.place c.index.result.now c.index_mut.result.now _ c.requires c.index.ensures c.index_mut.ensures.value refl refl refl in (
+      made.0,
+      c.self.invariant.1,
+      indexed (sym made.1) (index_changed (indexed c.self.view_is c.self.invariant.2) c.args.place c.index_mut.result.now _ (sym there ∙ c.index_mut.ensures.value) refl refl refl),
+    )
 
 pub returns : goal.returns
 returns c =

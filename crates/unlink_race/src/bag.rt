@@ -1,0 +1,85 @@
+//! Numbers in rising order, each as often as it was put in: a search for one doesn't walk.
+
+ghost use Rattle.std.specs.Prelude.{◌≡◌, ◌==◌, ◌<◌, ◌≤◌, ◌+◌, ℕ, true, [], length, get_or, if◌then◌else◌, IfOk};
+ghost use Rattle.std.specs.List.{list_any};
+ghost use Rattle.unlink_race.specs.Inner.Indexed.{times};
+
+use std::alloc::Global;
+use std::collections::VecDeque;
+use std::marker::Model;
+use usb_base::Memory;
+
+/// At most 4,096 numbers; contracts see them in their order. Only `make` takes memory.
+#[derive(Drop)]
+pub struct Bag {
+    numbers: VecDeque<u64>,
+}
+
+impl Model for Bag {
+    ghost use Rattle.std.specs.Prelude.{ℕ, List, ◌≤◌};
+    ghost use Rattle.std.specs.VecDeque.{deque_capacity};
+    ghost use Rattle.std.specs.List.Sorted.{IsNonDecreasing};
+
+    ghost Value = { List ℕ };
+
+    ghost view = { λ b. b.numbers.items };
+
+    ghost invariant = { λ b. IsNonDecreasing b.numbers.items × (4096 ≤ deque_capacity b.numbers) };
+}
+
+impl Bag {
+    /// No number, and the room for 4,096.
+    pub fn make(alloc: Global) -> Result<Self, Memory>
+        ensures { IfOk result (λ bag. bag ≡ []) }
+    {
+        let numbers = VecDeque::with_capacity(alloc, 4096)?;
+        Ok(Bag { numbers })
+    }
+
+    /// Whether the number is there.
+    pub fn has(&self, number: u64) -> bool
+        ensures { result ≡ list_any (λ n. n == number) self.now }
+    {
+        self.numbers.binary_search(&number).is_ok()
+    }
+
+    // Where the number stands, or would. Those before this place are not greater, and those from it on not less.
+    fn place_for(&self, number: u64) -> usize
+        ensures there { list_any (λ n. n == number) self.now ≡ true → (result < length self.now) × (get_or self.now result 0 ≡ number) }
+        ensures bound { result ≤ length self.now }
+        ensures before { (k : ℕ) (d : ℕ) → k < result → get_or self.now k d ≤ number }
+        ensures behind { (k : ℕ) (d : ℕ) → result ≤ k → k < length self.now → number ≤ get_or self.now k d }
+    {
+        match self.numbers.binary_search(&number) {
+            Ok(place) => place,
+            Err(place) => place,
+        }
+    }
+
+    /// Puts the number in, once more where it is there.
+    pub fn put(&mut self, number: u64)
+        requires { length self.old < 4096 }
+        ensures times { (n : ℕ) → times n self.new ≡ times n self.old + (if number == n then 1 else 0) }
+        ensures len { length self.new ≡ length self.old + 1 }
+    {
+        let place = self.place_for(number);
+        self.numbers.insert(place, number).unwrap();
+    }
+
+    /// Takes the number out, once.
+    pub fn take(&mut self, number: u64)
+        requires { list_any (λ n. n == number) self.old ≡ true }
+        ensures times { (n : ℕ) → times n self.new + (if number == n then 1 else 0) ≡ times n self.old }
+        ensures len { length self.new + 1 ≡ length self.old }
+    {
+        let place = self.place_for(number);
+        self.numbers.remove(place);
+    }
+
+    /// Takes all out, and keeps the room.
+    pub fn clear(&mut self)
+        ensures { self.new ≡ [] }
+    {
+        self.numbers.clear();
+    }
+}
