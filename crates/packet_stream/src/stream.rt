@@ -97,6 +97,7 @@ impl<F: PacketFormat> Stream<F> {
         ensures ok { OnOk result (self.new ≡ after_piece self.old piece.now) }
         ensures follows { OnOk result (Puts (reads F.format F.after) piece.now self.old self.new) }
         ensures err { OnErr result (self.new ≡ passed self.old) }
+        ensures wants { OnErr result ((0 < length piece.now) × (self.old.over ≡ false)) }
     {
         if self.over {
             return Ok(());

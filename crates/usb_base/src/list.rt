@@ -1,6 +1,6 @@
 //! Lists that contracts see as lists.
 
-ghost use Rattle.std.specs.Prelude.{◌≡◌, ◌++◌, ◌∷◌, [], ◌≤◌, length, take, drop, IsTrue, ◌↔◌, OnOk, OnErr};
+ghost use Rattle.std.specs.Prelude.{◌≡◌, ◌++◌, ◌∷◌, [], ◌≤◌, ◌<◌, length, take, drop, IsTrue, ◌↔◌, OnOk, OnErr};
 
 use crate::memory::Memory;
 use std::alloc::Global;
@@ -86,6 +86,7 @@ impl List<u8> {
     pub fn append(&mut self, piece: &[u8]) -> Result<(), Memory>
         ensures ok { OnOk result (self.new ≡ self.old ++ piece.now) }
         ensures err { OnErr result (self.new ≡ self.old) }
+        ensures wants { OnErr result (0 < length piece.now) }
     {
         self.items.extend_from_slice(piece)?;
         Ok(())
