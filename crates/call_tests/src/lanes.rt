@@ -4,35 +4,6 @@ use std::rc::Rc;
 use std::test::Fail;
 use urb_arena::Arena;
 
-#[test]
-fn lane_walked_and_filled_again(rt: HostRuntime) -> Result<(), Fail> {
-    let mut arena = Arena::new(rt.alloc(), 2, 2)?;
-    let seven = arena.push_back(0, 7).ok().ok_or("full")?;
-    let eight = arena.push_back(0, 8).ok().ok_or("full")?;
-    assert_eq!(rt; arena.push_back(1, 9).err(), Some(9));
-    assert_eq!(rt;
-        arena.front(0).and_then(|key| arena.get(key).copied()),
-        Some(7)
-    );
-    assert_eq!(rt;
-        arena.next(seven).and_then(|key| arena.get(key).copied()),
-        Some(8)
-    );
-    assert_eq!(rt; arena.remove(seven), Some(7));
-    assert!(rt; arena.push_back(1, 9).is_ok());
-    assert_eq!(rt;
-        arena.front(0).and_then(|key| arena.get(key).copied()),
-        Some(8)
-    );
-    if let Some(value) = arena.get_mut(eight) {
-        *value = 10;
-    }
-    assert_eq!(rt; arena.remove(eight), Some(10));
-    assert!(rt; arena.front(0).is_none());
-    assert_eq!(rt; arena.len(), 1);
-    Ok(())
-}
-
 /// `bench/memory` runs it with its first request for memory refused, and with its second, which there is not.
 #[test]
 fn one_block_filled_twice(rt: HostRuntime) -> Result<(), Fail> {

@@ -1,14 +1,11 @@
-//! Sources and sinks on their happy paths, and at planned faults.
+//! Readers and writers of std as source and sink: each call is one call, of which the first fails.
 
 ghost use Rattle.std.specs.Prelude.{◌<◌, length};
 
-use gate_outside::{
-    Doors, Failed, NoDoors, Sink, Source, StdSink, StdSource, TextSink, TextSource, write_all,
-};
+use gate_outside::{Failed, Sink, Source, StdSink, StdSource, write_all};
 use std::io;
 use std::io::{Read, Write};
 use std::process::Abort;
-use std::test::Fail;
 
 // One read gives this, or fails.
 fn reads<S: Source>(rt: &impl Abort, source: &mut S, wanted: Option<&[u8]>) {
@@ -24,28 +21,6 @@ fn writes<K: Sink>(rt: &impl Abort, sink: &mut K, piece: &[u8], taken: Option<us
     requires { 0 < length piece.now }
 {
     assert!(rt; sink.write(piece).ok() == taken);
-}
-
-#[test]
-fn a_text_is_read_in_pieces(rt: HostRuntime) -> Result<(), Fail> {
-    let mut source = TextSource::make(rt.alloc(), b"abcde", 2, &[1])?;
-    reads(&rt, &mut source, Some(b"ab"));
-    reads(&rt, &mut source, None);
-    reads(&rt, &mut source, Some(b"cd"));
-    reads(&rt, &mut source, Some(b"e"));
-    reads(&rt, &mut source, Some(b""));
-    Ok(())
-}
-
-#[test]
-fn a_sink_holds_what_it_took(rt: HostRuntime) -> Result<(), Fail> {
-    let mut sink = TextSink::make(rt.alloc(), 6, 2, &[3])?;
-    assert!(rt; write_all(&mut sink, b"abcde").is_ok());
-    writes(&rt, &mut sink, b"fg", None);
-    writes(&rt, &mut sink, b"fg", Some(1));
-    writes(&rt, &mut sink, b"g", None);
-    assert!(rt; sink.held() == b"abcdef".as_slice());
-    Ok(())
 }
 
 /// Reads and writes, but fails at the first call.
@@ -110,11 +85,4 @@ fn a_writer_of_std_is_called_once_a_write(rt: HostRuntime) {
     writes(&rt, &mut sink, b"d", None);
     drop(sink);
     assert!(rt; room == [b'a', b'b', b'c']);
-}
-
-#[test]
-fn no_doors_open(rt: HostRuntime) {
-    let mut doors = NoDoors::new();
-    assert!(rt; doors.dial("127.0.0.1:5000").is_err());
-    assert!(rt; doors.listen("127.0.0.1:3240").is_err());
 }

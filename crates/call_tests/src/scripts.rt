@@ -1,6 +1,6 @@
 //! Doors that play scripts.
 
-use gate_outside::{Doors, Failed, Polled, Script, ScriptDoors, Scripts, Side, Turn};
+use gate_outside::{Doors, Polled, Script, ScriptDoors, Side, Turn};
 use std::alloc::Global;
 use std::process::Abort;
 use std::test::Fail;
@@ -61,34 +61,5 @@ fn a_script_is_given_poll_by_poll(rt: HostRuntime) -> Result<(), Fail> {
     polls(&rt, &mut doors, Side::Host, &answers);
     writes(&rt, &mut doors);
     assert!(rt; doors.written(Side::Host) == b"ghi".as_slice());
-    Ok(())
-}
-
-fn two_clients(alloc: Global) -> Result<Scripts, Memory> {
-    let mut clients = Scripts::new(alloc);
-    clients.push(script(alloc, &["abcde", "f"])?)?;
-    clients.push(script(alloc, &["gh"])?)?;
-    Ok(clients)
-}
-
-fn doors_of_two_clients(alloc: Global) -> Result<ScriptDoors, Memory> {
-    let clients = two_clients(alloc)?;
-    ScriptDoors::make_many(alloc, 9, Script::new(alloc), clients, &[0], &[1])
-}
-
-#[test]
-fn clients_come_one_after_the_other(rt: HostRuntime) -> Result<(), Fail> {
-    let mut doors = doors_of_two_clients(rt.alloc())?;
-    assert!(rt; doors.dial("a:1") == Err(Failed));
-    doors.listen("b:2")?;
-    assert!(rt; doors.accept() == Err(Failed));
-    for rest in ["abc", "gh"] {
-        assert!(rt; doors.accept() == Ok(true));
-        polls(&rt, &mut doors, Side::Client, &[rest]);
-        assert!(rt; doors.write(Side::Client, rest.as_bytes()) == Ok(rest.len()));
-        doors.close(Side::Client);
-    }
-    assert!(rt; doors.accept() == Ok(false));
-    assert!(rt; doors.written(Side::Client) == b"abcgh".as_slice());
     Ok(())
 }

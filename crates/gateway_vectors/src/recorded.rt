@@ -3,15 +3,11 @@
 use crate::cut::joined;
 use crate::how::{How, PLAIN};
 use crate::links::ran_recorded;
-use crate::runs::Came;
-use gate_outside::{NoDoors, TextSink, TextSource};
+use crate::runs::{Came, over_tape};
 use session_tape::{TextTape, Unmade};
 use std::alloc::Global;
 use usb_base::Memory;
-use usbgate::{Status, run};
-
-/// How many bytes a recording, and its replay's text, may have.
-const ROOM: usize = 1_000_000;
+use usbgate::Status;
 
 /// The file to record in, which isn't made yet.
 pub fn recording_of(alloc: Global, how: &How) -> Result<TextTape, Memory> {
@@ -105,33 +101,10 @@ fn with_option<'a>(alloc: Global, words: &[&'a str]) -> Result<Vec<&'a str>, Mem
 
 /// What the replay of a tape prints, with the bytes of each side joined, and how it ends.
 fn replay(alloc: Global, words: &[&str], tape: &[u8]) -> Result<Came, Memory> {
-    let mut source = TextSource::make(alloc, tape, ROOM, &[])?;
-    let mut out = TextSink::make(alloc, ROOM, ROOM, &[])?;
     let words = replaying(alloc, words)?;
-    let status = replay_over(alloc, &words, &mut source, &mut out)?;
-    let text = String::from_utf8_lossy(alloc, out.held())?;
-    Ok(Came {
-        text: joined(alloc, text.as_str())?,
-        status,
-        is_joined: true,
-    })
-}
-
-fn replay_over(
-    alloc: Global,
-    words: &[&str],
-    source: &mut TextSource,
-    out: &mut TextSink,
-) -> Result<Status, Memory> {
-    let mut recording = recording_of(alloc, &PLAIN)?;
-    Ok(run(
-        alloc,
-        words,
-        source,
-        out,
-        &mut NoDoors::new(),
-        &mut recording,
-    ))
+    let mut came = over_tape(alloc, &words, tape, &PLAIN)?;
+    came.text = joined(alloc, came.text.as_str())?;
+    Ok(came)
 }
 
 /// The words of a replay with the first id of these.

@@ -47,7 +47,8 @@ fn ran_over(alloc: Global, words: &[&str], lines: &str, how: &How) -> Result<Cam
     }
 }
 
-fn over_tape(alloc: Global, words: &[&str], tape: &[u8], how: &How) -> Result<Came, Memory> {
+/// Runs the words over the bytes of a tape.
+pub fn over_tape(alloc: Global, words: &[&str], tape: &[u8], how: &How) -> Result<Came, Memory> {
     let fails = how.read_fails;
     let mut source = TextSource::make(alloc, tape, how.read_by.max(1), fails.as_slice())?;
     over_source(alloc, words, &mut source, how)
