@@ -52,6 +52,8 @@ use Rattle.gate_core.proofs.Effects.{answer-left, answer-sent, answer-noted, ans
 use Rattle.gate_core.proofs.Firsts.{without-first, find-first}
 use Rattle.gate_core.proofs.Lost.{capped-same}
 use Rattle.gate_core.proofs.Left.{by_id-row}
+use Rattle.gate_core.specs.Wants.{GivesSome}
+use Rattle.gate_core.proofs.Giving.{by-answer}
 use Rattle.gate_core.proofs.Steady.{host-same, rows-same, stays-uncancelled, does-idle, does-steady, agrees-steady}
 use Rattle.gate_core.proofs.Responding.{row-mismatch, mismatch-capped, is-answer}
 
@@ -278,6 +280,17 @@ module _ (st : State) (id : ℕ) (response : Response) (sound : IsSound st) wher
       })
       (client s its ∙ ap (λ (bs : List ℕ). client_old ++ bs) (sym (flat_map-map client_spelling Urb (answers_by s o l.unlinker)) ∙ sym (ap (flat_map client_spelling) one)))
       (notes ∙ ap (λ (n : ℕ). notes_old ++ note.Answered n ∷ []) (ap (λ (k : Live). k.seqnum) (sym p.is))))
+
+  -- which is told
+  pub live-gives : (old : Kept) (l : Live) → Holds old st → find (has_row_id id) old.lives.live ≡ Some l →
+      GivesSome st (mark_as st (completes id response (find (has_id id) (submits st ++ st.abandoned))) None)
+  live-gives old l h found =
+      let p = map-some row (find (pending_has_id id) st.live) l (sym (find-rows id st.live) ∙ ap (find (has_row_id id)) (sym h.live) ∙ found) in
+      let o = seen p.from.submit.request p.from.submit.verdict response in
+      let effect : Answers id o ≡ completes id response (find (has_id id) (submits st ++ st.abandoned)) =
+      sym (ap (completes id response) (waits ∙ ap (λ (q : Option Pending). option_or (option_map (λ (r : Pending). r.submit) q) (find (has_id id) st.abandoned)) p.found)) in
+      let one : length (answer_notes st (Answers id o)) ≡ 1 = ap length (answer-noted st id o ∙ ap (told_of st id o) (found-alone st id sound ∙ ap option_to_list p.found)) in
+      subst (λ (e : Effect). GivesSome st (mark_as st e None)) effect (by-answer st (Answers id o) None (omega (arith, one)))
 
   -- of one whose client is gone, or of none
   pub does-late : (old : Kept) (lives : Requests) (client host : List ℕ) (notes : List Note) → Holds old st → old.answered ≤ 2 ^ 64 - 1 → old.unlinked ≤ 2 ^ 64 - 1 → old.dropped ≤ 2 ^ 64 - 1 →

@@ -70,7 +70,7 @@ rest-short format next sound start bytes are bound few =
 
 -- ---- the client's
 
-counted : (packets : ℕ) → IsTrue (is_packet_count packets) → count_of packets ≤ 1024
+pub counted : (packets : ℕ) → IsTrue (is_packet_count packets) → count_of packets ≤ 1024
 counted packets h = go (packets == NO_PACKETS) refl h
   where
     go : (t : Bool) → (packets == NO_PACKETS) ≡ t → IsTrue (nat_le packets MAX_PACKETS || t) → cond t 0 packets ≤ 1024

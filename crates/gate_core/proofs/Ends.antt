@@ -1,5 +1,5 @@
 -- The ends of both sides, and the gate to which nothing has happened.
-use Rattle.std.proofs.Common.{◌≡◌, ℕ, ◌<◌, Bool, true, false, cond, List, [], ◌∷◌, None, refl, sym, ap, subst, ◌∙◌, arith}
+use Rattle.std.proofs.Common.{◌≡◌, ℕ, ◌<◌, Bool, true, false, cond, List, [], ◌∷◌, None, inr, refl, sym, ap, subst, ◌∙◌, arith}
 use Rattle.std.specs.Prelude.{nat_lt}
 use Rattle.std.proofs.lemmas.Bool.{true≢false, lt-ltb}
 use Rattle.usb_base.specs.declared.reason.Reason.{Reason}
@@ -22,8 +22,9 @@ use Rattle.gate_core.specs.Sides.{client_over, host_over}
 use Rattle.gate_core.specs.Streams.{client_format, client_next, client_reader, client_start, host_format, host_reader, host_start}
 use Rattle.gate_core.specs.State.{state_of}
 use Rattle.gate_core.specs.Past.{is_left_out, past}
-use Rattle.gate_core.specs.History.{arrivals}
+use Rattle.gate_core.specs.History.{brought, arrivals}
 use Rattle.gate_core.specs.Stands.{asked, told, HasAll, Stands, Stops}
+use Rattle.gate_core.specs.Wants.{FirstWants}
 use Rattle.gate_core.specs.inner.Holds.{IsFirst, DoesNothing}
 use Rattle.gate_core.specs.inner.Steps.{kept_of, TakesOn}
 use Rattle.gate_core.proofs.States.{state-sound}
@@ -153,9 +154,9 @@ ends-host first old t kept events client_old client_new host_old host_new notes_
 -- ---- memory ran out for an end
 
 pub stops-end : (first : ℕ) (old : Inner) (t : Translator) (events : List Event) (e : Event) (client_old client_new host_old host_new : List ℕ) (notes_old notes_new : List Note) → Stands first (kept_of old) events →
-    DoesNothing old.translator t client_old client_new host_old host_new notes_old notes_new → Stops first (kept_of (record old { translator = t })) events e client_old client_new host_old host_new
-stops-end first old t events e client_old client_new host_old host_new notes_old notes_new stands nothing =
+    DoesNothing old.translator t client_old client_new host_old host_new notes_old notes_new → FirstWants first (arrivals events) (brought events e) → Stops first (kept_of (record old { translator = t })) events e client_old client_new host_old host_new
+stops-end first old t events e client_old client_new host_old host_new notes_old notes_new stands nothing wants =
     subst (λ (x : Translator). Stops first (kept_of (record old { translator = x })) events e client_old client_new host_old host_new) (sym nothing.same)
     (subst (λ (x : List ℕ). Stops first (kept_of old) events e client_old x host_old host_new) (sym nothing.client)
     (subst (λ (x : List ℕ). Stops first (kept_of old) events e client_old client_old host_old x) (sym nothing.host)
-    (stops-before first old events e client_old host_old (stands-for first old events stands))))
+    (stops-before first old events e client_old host_old (stands-for first old events stands) (inr wants))))

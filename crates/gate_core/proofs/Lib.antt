@@ -35,6 +35,7 @@ pub mod Changed
 pub mod Steady
 pub mod Effects
 pub mod Left
+pub mod Giving
 pub mod Reading
 pub mod Sorting
 pub mod Accepting
@@ -56,6 +57,8 @@ pub mod Ends
 pub mod Comings
 pub mod Held
 pub mod Bounds
+pub mod Drawing
+pub mod Refused
 pub mod Responding
 pub mod Answering
 mod Places

@@ -1,5 +1,5 @@
 -- A piece of either side, item by item: the translator takes each, until the side is over.
-use Rattle.std.proofs.Common.{◌≡◌, ℕ, zero, suc, Bool, true, false, List, [], ◌∷◌, ◌++◌, length, Option, Some, None, Result, Ok, Err, refl, sym, ap, subst, ◌∙◌, append_assoc}
+use Rattle.std.proofs.Common.{◌≡◌, ℕ, zero, suc, Bool, true, false, inl, inr, List, [], ◌∷◌, ◌++◌, length, Option, Some, None, Result, Ok, Err, refl, sym, ap, subst, ◌∙◌, append_assoc}
 use Rattle.std.specs.Prelude.{drop}
 use Rattle.std.proofs.lemmas.Bool.{true≢false}
 use Rattle.std.proofs.lemmas.List.{append-nil}
@@ -22,12 +22,13 @@ use Rattle.gate_core.specs.Sound.{IsSound}
 use Rattle.gate_core.specs.Meaning.{mark_of}
 use Rattle.gate_core.specs.Past.{is_left_out, past}
 use Rattle.gate_core.specs.History.{onto}
+use Rattle.gate_core.specs.Wants.{takes_memory, GivesSome, Wants}
 use Rattle.gate_core.specs.Stands.{Translates, StreamStands, HasAll, IsLeftBy}
 use Rattle.gate_core.specs.inner.Holds.{items_of, Holds, IsItem, Does, DoesNothing}
 use Rattle.gate_core.specs.inner.Steps.{Sends, item_next, ended_if}
 use Rattle.gate_core.proofs.Lists.{Each, Each-append}
 use Rattle.gate_core.proofs.States.{state-sound}
-use Rattle.gate_core.proofs.Taking.{Taken, over-put, taken-put, taken-packet, taken-wrong, taken-ended, taken-all, cut-passed, IsMore, taken-stuck}
+use Rattle.gate_core.proofs.Taking.{Taken, over-put, taken-put, taken-packet, taken-wrong, taken-ended, taken-all, cut-passed, IsMore, IsNextBy, taken-stuck}
 use Rattle.gate_core.proofs.Translating.{sends-none, translates-past, sends-past, past-skipped, translates-item, sends-item}
 use Rattle.gate_core.proofs.Sides.{Side}
 
@@ -250,8 +251,10 @@ taking-all {P = P} first d takes old new t bytes piece before client_old client_
 -- some of the items that the piece brought were taken
 pub record Halted {S P Q : Type 0} (first : ℕ) (d : Side S P Q first) (kept : Kept S) (t : Translator) (bytes piece : List ℕ) (before : List Item) (client_old client_new host_old host_new : List ℕ) (notes_old notes_new : List Note) : Type 0 where
   pub taken : List Item
-  pub later : List Item
-  pub parts : added d.stream bytes piece ≡ taken ++ later
+  pub next : Item
+  pub behind : List Item
+  pub parts : added d.stream bytes piece ≡ taken ++ next ∷ behind
+  pub wants : Wants first (onto taken before) next
   pub stands : StreamStands d.stream.reader d.stream.start kept (bytes ++ piece) (d.came (onto taken before)) (d.stream.over (onto taken before))
   pub translates : Translates first (items_of t) (onto taken before)
   pub sends : Sends first client_old client_new host_old host_new notes_old notes_new before (onto taken before)
@@ -264,10 +267,44 @@ more-runs old new (Ok (Some i)) more changes = changes.1
 more-runs old new (Err (Refused place why)) more changes = changes.0
 more-runs old new (Err OutOfMemory) more changes = changes.0
 
-pub taking-halted : {S P Q : Type 0} (first : ℕ) (d : Side S P Q first) (takes : P → Bool) (old new : Kept S) (t : Translator) (bytes piece : List ℕ) (before : List Item) (client_old client_new host_old host_new : List ℕ) (notes_old notes_new : List Note) (answer : Result (Option (ℕ × P)) ReadError) →
-    IsMore answer → Changes answer old new → Nexts d.stream.reader takes answer old new →
+-- what the stream has answered was an item that the translator wanted memory for, or that memory ran out
+abbrev pub WantsItem : Translator → Result (Option RawItem) Memory → Type 0
+WantsItem t (Ok None) = ⊥
+WantsItem t (Ok (Some item)) = (st : State) (x : Item) → IsItem item x → Holds t st → IsSound st → GivesSome st (mark_of st x)
+WantsItem t (Err memory) = Unit {0}
+
+wants-more : {P : Type 0} (packet : ℕ → P → RawItem) (wrong : ℕ → Reason → RawItem) (t : Translator) (answer : Result (Option (ℕ × P)) ReadError) → WantsItem t (item_next packet wrong answer) → IsMore answer
+wants-more packet wrong t (Ok None) w = w
+wants-more packet wrong t (Ok (Some i)) w = tt
+wants-more packet wrong t (Err e) w = tt
+
+wants-by : {S P Q : Type 0} (first : ℕ) (d : Side S P Q first) (takes : P → Bool) → ((n : ℕ) (p : P) → takes p ≡ takes_memory (d.stream.packet n p)) → (t : Translator) (xs : List Item) (answer : Result (Option (ℕ × P)) ReadError) (x : Item) →
+    IsNextBy d.stream takes answer x → WantsItem t (item_next d.raw_packet d.raw_wrong answer) → Translates first (items_of t) xs → d.stream.over xs ≡ false → Wants first xs x
+wants-by first d takes same t xs (Ok None) x is w translates over = absurd is
+wants-by {P = P} first d takes same t xs (Ok (Some i)) x is w translates over =
+    let st = state_of first (past first xs) in
+    subst (Wants first xs) (sym is.2) (record {
+      comes = d.out_packet xs is.0 i.1 ∙ over;
+      some = inr (w st (d.stream.packet is.0 i.1) (d.is_packet i.0 is.0 i.1 is.1) translates.state (state-sound first xs));
+    })
+wants-by first d takes same t xs (Err (Refused place why)) x is w translates over =
+    let st = state_of first (past first xs) in
+    subst (Wants first xs) (sym is.2) (record {
+      comes = d.out_wrong xs is.0 why ∙ over;
+      some = inr (w st (d.stream.wrong is.0 why) (d.is_wrong place is.0 why is.1) translates.state (state-sound first xs));
+    })
+wants-by first d takes same t xs (Err OutOfMemory) x is w translates over =
+    subst (Wants first xs) (sym is.1) (record {
+      comes = d.out_packet xs is.0.0 is.0.1 ∙ over;
+      some = inl (sym (same is.0.0 is.0.1) ∙ is.2);
+    })
+
+pub taking-halted : {S P Q : Type 0} (first : ℕ) (d : Side S P Q first) (takes : P → Bool) → ((n : ℕ) (p : P) → takes p ≡ takes_memory (d.stream.packet n p)) →
+    (old new : Kept S) (t : Translator) (bytes piece : List ℕ) (before : List Item) (client_old client_new host_old host_new : List ℕ) (notes_old notes_new : List Note) (answer : Result (Option (ℕ × P)) ReadError) →
+    WantsItem t (item_next d.raw_packet d.raw_wrong answer) → Changes answer old new → Nexts d.stream.reader takes answer old new →
     Taking first d old t bytes piece before client_old client_new host_old host_new notes_old notes_new → Halted first d new t bytes piece before client_old client_new host_old host_new notes_old notes_new
-taking-halted {S = S} {P = P} first d takes old new t bytes piece before client_old client_new host_old host_new notes_old notes_new answer more changes nexts k =
+taking-halted {S = S} {P = P} first d takes same old new t bytes piece before client_old client_new host_old host_new notes_old notes_new answer wants changes nexts k =
+    let more = wants-more d.raw_packet d.raw_wrong t answer wants in
     let runs = more-runs old new answer more changes in
     let stuck = taken-stuck d.stream takes old new bytes piece (d.came before) k.taken answer more k.stream changes nexts in
     let xs = onto k.taken before in
@@ -275,8 +312,10 @@ taking-halted {S = S} {P = P} first d takes old new t bytes piece before client_
     let over : d.stream.over xs ≡ false = sym k.over_is ∙ runs in
     record {
       taken = k.taken;
-      later = stuck.later;
+      next = stuck.next;
+      behind = stuck.behind;
       parts = stuck.parts;
+      wants = wants-by first d takes same t xs answer stuck.next stuck.next-is wants k.translates over;
       stands = record {
         going = λ _. subst (λ (l : List (ℕ × P)). IsLeftBy d.stream.reader new (split d.stream.reader d.stream.start (bytes ++ piece)) l new.over) (sym came) stuck.left;
         ended = λ ends. absurd (true≢false (sym ends ∙ over));
@@ -287,17 +326,6 @@ taking-halted {S = S} {P = P} first d takes old new t bytes piece before client_
       others_are = k.others_are;
       other_over = k.other_over;
     }
-
--- it answered an item, or that memory ran out
-abbrev pub IsAny : Result (Option RawItem) Memory → Type 0
-IsAny (Ok None) = ⊥
-IsAny (Ok (Some item)) = Unit {0}
-IsAny (Err memory) = Unit {0}
-
-pub any-more : {P : Type 0} (packet : ℕ → P → RawItem) (wrong : ℕ → Reason → RawItem) (answer : Result (Option (ℕ × P)) ReadError) → IsAny (item_next packet wrong answer) → IsMore answer
-any-more packet wrong (Ok None) any = any
-any-more packet wrong (Ok (Some i)) any = tt
-any-more packet wrong (Err e) any = tt
 
 pub nothing-done : (t : Translator) (client host : List ℕ) (notes : List Note) → DoesNothing t t client client host host notes notes
 nothing-done t client host notes = record { same = refl; client = refl; host = refl; notes = refl }

@@ -1,5 +1,5 @@
 -- One event more: what each way of taking it makes of the gate.
-use Rattle.std.proofs.Common.{◌≡◌, ℕ, Bool, List, [], ◌∷◌, Option, None, Result, Ok, Err, inl, inr, refl, sym, ap, subst, ◌∙◌}
+use Rattle.std.proofs.Common.{◌≡◌, ◌⊎◌, ◌<◌, ℕ, Bool, false, List, [], ◌∷◌, length, Option, None, Result, Ok, Err, inl, inr, refl, sym, ap, subst, ◌∙◌}
 use Rattle.usb_base.specs.Number.{AreBytes}
 use Rattle.std.specs.Prelude.{IsErr}
 use Rattle.std.proofs.lemmas.Bool.{true≢false}
@@ -23,12 +23,13 @@ use Rattle.gate_core.specs.Streams.{client_reader, client_start, host_reader, ho
 use Rattle.gate_core.specs.Past.{past}
 use Rattle.gate_core.specs.History.{brought, onto, arrivals, history}
 use Rattle.gate_core.specs.Stands.{asked, told, IsLeftBy, StreamStands, StandsFor, HasAll, Stands, Stops}
+use Rattle.gate_core.specs.Wants.{IsHeld, FirstWants}
 use Rattle.gate_core.specs.inner.Holds.{DoesNothing}
 use Rattle.gate_core.specs.inner.Steps.{kept_of, NextItem, raw_told, TakesOn, TakesEvent}
 use Rattle.gate_core.proofs.Taking.{follows-all, all-passed}
 use Rattle.gate_core.proofs.Translating.{gains-none}
 use Rattle.gate_core.proofs.Sides.{client_side, host_side}
-use Rattle.gate_core.proofs.Pieces.{Taking, taking-all, taking-halted, halted-still, IsAny, any-more, Finished, Halted}
+use Rattle.gate_core.proofs.Pieces.{Taking, taking-all, taking-halted, halted-still, WantsItem, Finished, Halted}
 
 -- ---- either side
 
@@ -56,13 +57,18 @@ err-event (Ok v) old new e client_old client_new host_old host_new notes_old not
 err-event (Err memory) old new e client_old client_new host_old host_new notes_old notes_new is stops = stops
 
 -- before anything of an event has come
-pub stops-before : (first : ℕ) (new : Inner) (events : List Event) (e : Event) (client host : List ℕ) → StandsFor first (kept_of new) events (arrivals events) → Stops first (kept_of new) events e client client host host
-stops-before first new events e client host for = record {
+pub stops-before : (first : ℕ) (new : Inner) (events : List Event) (e : Event) (client host : List ℕ) → StandsFor first (kept_of new) events (arrivals events) →
+    IsHeld first events e ⊎ FirstWants first (arrivals events) (brought events e) → Stops first (kept_of new) events e client client host host
+stops-before first new events e client host for wanted = record {
   taken = [];
   later = brought events e;
   parts = refl;
   seen = events;
   seen-is = inr (refl, refl);
+  wanted = elim wanted [
+    | inl held ↦ inl (refl, held)
+    | inr wants ↦ inr wants
+  ];
   stands = for;
   client = gains-none client _;
   host = gains-none host _;
@@ -104,10 +110,11 @@ pub halts-asked : (first : ℕ) (old new : Inner) (events : List Event) (piece c
     Stops first (kept_of new) events (ClientPiece piece) client_old client_new host_old host_new
 halts-asked first old new events piece client_old client_new host_old host_new notes_old notes_new stands rest h = record {
   taken = h.taken;
-  later = h.later;
+  later = h.next ∷ h.behind;
   parts = h.parts;
   seen = ClientPiece piece ∷ events;
   seen-is = inl refl;
+  wanted = inr h.wants;
   stands = record {
     translates = h.translates;
     client = h.stands;
@@ -119,15 +126,15 @@ halts-asked first old new events piece client_old client_new host_old host_new n
   host = h.sends.host;
 }
 
-pub unput-asked : (first : ℕ) (old : Inner) (kept : Kept (Unit {0})) (events : List Event) (piece client host : List ℕ) → Stands first (kept_of old) events → kept ≡ passed old.client →
+pub unput-asked : (first : ℕ) (old : Inner) (kept : Kept (Unit {0})) (events : List Event) (piece client host : List ℕ) → Stands first (kept_of old) events → kept ≡ passed old.client → (0 < length piece) × (old.client.over ≡ false) →
     Stops first (kept_of (record old { client = kept })) events (ClientPiece piece) client client host host
-unput-asked first old kept events piece client host stands is =
+unput-asked first old kept events piece client host stands is held =
     stops-before first (record old { client = kept }) events (ClientPiece piece) client host (record {
       translates = stands.translates;
       client = stands-all client_reader (client_side first).steady client_start kept (client_bytes events) (asked (arrivals events)) (client_over (history first events))
           (all-passed client_reader (client_side first).steady client_start old.client kept (client_bytes events) (asked (arrivals events)) (client_over (history first events)) stands.client is);
       host = (stands-for first old events stands).host;
-    })
+    }) (inl (held.0, sym stands.client.over_is ∙ held.1))
 
 -- ---- the loop over the items of that piece
 
@@ -140,13 +147,13 @@ loops-asked first old mid new events piece client_old client_new host_old host_n
 
 -- memory ran out for the next item, which the translator may have been given
 pub stops-asked : (first : ℕ) (old mid : Inner) (new : Kept (Unit {0})) (t : Translator) (events : List Event) (piece client_old client client_new host_old host host_new : List ℕ) (notes_old notes notes_new : List Note) (result : Result (Option RawItem) Memory) → Stands first (kept_of old) events →
-    mid ≡ record old { client = mid.client; translator = mid.translator } → NextItem client_reader asked_takes_memory raw.Asked raw.ClientWrong result mid.client new → IsAny result → DoesNothing mid.translator t client client_new host host_new notes notes_new →
+    mid ≡ record old { client = mid.client; translator = mid.translator } → NextItem client_reader asked_takes_memory raw.Asked raw.ClientWrong result mid.client new → WantsItem mid.translator result → DoesNothing mid.translator t client client_new host host_new notes notes_new →
     Taking first (client_side first) mid.client mid.translator (client_bytes events) piece (arrivals events) client_old client host_old host notes_old notes → Stops first (kept_of (record mid { client = new; translator = t })) events (ClientPiece piece) client_old client_new host_old host_new
-stops-asked first old mid new t events piece client_old client client_new host_old host host_new notes_old notes notes_new result stands rest n any nothing took =
+stops-asked first old mid new t events piece client_old client client_new host_old host host_new notes_old notes notes_new result stands rest n wants nothing took =
     halts-asked first old (record mid { client = new; translator = t }) events piece client_old client_new host_old host_new notes_old notes_new stands (client-kept old mid (record mid { client = new; translator = t }) new t rest refl)
     (halted-still first (client_side first) new mid.translator t (client_bytes events) piece (arrivals events) client_old client client_new host_old host host_new notes_old notes notes_new nothing
-    (taking-halted first (client_side first) asked_takes_memory mid.client new mid.translator (client_bytes events) piece (arrivals events) client_old client host_old host notes_old notes n.answer
-    (any-more raw.Asked raw.ClientWrong n.answer (subst IsAny n.result-is any)) n.changes n.nexts took))
+    (taking-halted first (client_side first) asked_takes_memory (λ n p. refl) mid.client new mid.translator (client_bytes events) piece (arrivals events) client_old client host_old host notes_old notes n.answer
+    (subst (WantsItem mid.translator) n.result-is wants) n.changes n.nexts took))
 
 -- ---- a piece of the host
 
@@ -176,10 +183,11 @@ pub halts-told : (first : ℕ) (old new : Inner) (events : List Event) (piece cl
     Stops first (kept_of new) events (HostPiece piece) client_old client_new host_old host_new
 halts-told first old new events piece client_old client_new host_old host_new notes_old notes_new stands rest h = record {
   taken = h.taken;
-  later = h.later;
+  later = h.next ∷ h.behind;
   parts = h.parts;
   seen = HostPiece piece ∷ events;
   seen-is = inl refl;
+  wanted = inr h.wants;
   stands = record {
     translates = h.translates;
     host = h.stands;
@@ -191,15 +199,15 @@ halts-told first old new events piece client_old client_new host_old host_new no
   host = h.sends.host;
 }
 
-pub unput-told : (first : ℕ) (old : Inner) (kept : Kept RedirState) (events : List Event) (piece client host : List ℕ) → Stands first (kept_of old) events → kept ≡ passed old.host →
+pub unput-told : (first : ℕ) (old : Inner) (kept : Kept RedirState) (events : List Event) (piece client host : List ℕ) → Stands first (kept_of old) events → kept ≡ passed old.host → (0 < length piece) × (old.host.over ≡ false) →
     Stops first (kept_of (record old { host = kept })) events (HostPiece piece) client client host host
-unput-told first old kept events piece client host stands is =
+unput-told first old kept events piece client host stands is held =
     stops-before first (record old { host = kept }) events (HostPiece piece) client host (record {
       translates = stands.translates;
       client = (stands-for first old events stands).client;
       host = stands-all host_reader (host_side first).steady host_start kept (host_bytes events) (told (arrivals events)) (host_over (history first events))
           (all-passed host_reader (host_side first).steady host_start old.host kept (host_bytes events) (told (arrivals events)) (host_over (history first events)) stands.host is);
-    })
+    }) (inl (held.0, sym stands.host.over_is ∙ held.1))
 
 -- ---- the loop over the items of that piece
 
@@ -212,10 +220,10 @@ loops-told first old mid new events piece client_old client_new host_old host_ne
 
 -- memory ran out for the next item, which the translator may have been given
 pub stops-told : (first : ℕ) (old mid : Inner) (new : Kept RedirState) (t : Translator) (events : List Event) (piece client_old client client_new host_old host host_new : List ℕ) (notes_old notes notes_new : List Note) (result : Result (Option RawItem) Memory) → Stands first (kept_of old) events →
-    mid ≡ record old { host = mid.host; translator = mid.translator } → NextItem host_reader told_takes_memory raw_told raw.HostWrong result mid.host new → IsAny result → DoesNothing mid.translator t client client_new host host_new notes notes_new →
+    mid ≡ record old { host = mid.host; translator = mid.translator } → NextItem host_reader told_takes_memory raw_told raw.HostWrong result mid.host new → WantsItem mid.translator result → DoesNothing mid.translator t client client_new host host_new notes notes_new →
     Taking first (host_side first) mid.host mid.translator (host_bytes events) piece (arrivals events) client_old client host_old host notes_old notes → Stops first (kept_of (record mid { host = new; translator = t })) events (HostPiece piece) client_old client_new host_old host_new
-stops-told first old mid new t events piece client_old client client_new host_old host host_new notes_old notes notes_new result stands rest n any nothing took =
+stops-told first old mid new t events piece client_old client client_new host_old host host_new notes_old notes notes_new result stands rest n wants nothing took =
     halts-told first old (record mid { host = new; translator = t }) events piece client_old client_new host_old host_new notes_old notes_new stands (host-kept old mid (record mid { host = new; translator = t }) new t rest refl)
     (halted-still first (host_side first) new mid.translator t (host_bytes events) piece (arrivals events) client_old client client_new host_old host host_new notes_old notes notes_new nothing
-    (taking-halted first (host_side first) told_takes_memory mid.host new mid.translator (host_bytes events) piece (arrivals events) client_old client host_old host notes_old notes n.answer
-    (any-more raw_told raw.HostWrong n.answer (subst IsAny n.result-is any)) n.changes n.nexts took))
+    (taking-halted first (host_side first) told_takes_memory (λ n p. refl) mid.host new mid.translator (host_bytes events) piece (arrivals events) client_old client host_old host notes_old notes n.answer
+    (subst (WantsItem mid.translator) n.result-is wants) n.changes n.nexts took))

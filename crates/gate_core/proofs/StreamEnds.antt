@@ -1,11 +1,12 @@
 -- What the host's word of an endpoint's stream makes of what is kept, and what it sends for the requests that waited for it.
-use Rattle.std.proofs.Common.{◌≡◌, ℕ, ◌+◌, ◌^◌, ◌-◌, ◌≤◌, ◌&&◌, Bool, cond, not, List, ◌++◌, length, map, None, refl, sym, ap, ◌∙◌}
+use Rattle.std.proofs.Common.{◌≡◌, ℕ, ◌+◌, ◌^◌, ◌-◌, ◌≤◌, ◌<◌, ◌&&◌, Bool, true, cond, not, List, ◌++◌, length, map, None, refl, sym, ap, ◌∙◌, arith}
 use Rattle.std.specs.Prelude.{is_none, filter}
 use Rattle.std.specs.List.{flat_map}
 use Rattle.std.proofs.lemmas.List.{append-nil}
 use Rattle.usb_base.specs.declared.status.UsbStatus.{UsbStatus}
 use Rattle.usb_base.specs.Status.{errno_of}
 use Rattle.usbip_urb.specs.declared.packet.UrbPacket.{UrbPacket}
+use Rattle.usbip_urb.specs.declared.client.ClientPacket.TheVariants.{Urb}
 use Rattle.stream_buffers.specs.Interrupt.{is_success}
 use Rattle.unlink_race.specs.declared.live.Live.{Live}
 use Rattle.gate_core.specs.declared.note.Note.{Note}
@@ -19,15 +20,18 @@ use Rattle.gate_core.specs.State.{State}
 use Rattle.gate_core.specs.Meaning.{mark_as}
 use Rattle.gate_core.specs.Sound.{IsSound}
 use Rattle.gate_core.specs.Answers.{without_packets}
+use Rattle.gate_core.specs.Output.{to_client}
 use Rattle.gate_core.specs.All.{is_ret_submit, is_won_unlink}
+use Rattle.gate_core.specs.Wants.{GivesSome}
 use Rattle.gate_core.specs.inner.Rows.{row, row_request}
 use Rattle.gate_core.specs.inner.Ending.{is_told, status_bytes, HasStreamEnd}
 use Rattle.gate_core.specs.inner.Holds.{Holds, Does}
-use Rattle.gate_core.proofs.Lists.{Each, Each-weaker}
+use Rattle.gate_core.proofs.Lists.{Each, Each-weaker, filter-all}
 use Rattle.gate_core.proofs.Lost.{capped-same}
 use Rattle.gate_core.proofs.Steady.{asks-none, host-same, stays-uncancelled}
 use Rattle.gate_core.proofs.Waiting.{IsGoing, all-going, waits-row}
-use Rattle.gate_core.proofs.Enders.{EndsSo, ends-so, stay-rows, counted-all, counted-none, IsEnding, does-ending}
+use Rattle.gate_core.proofs.Enders.{EndsSo, ends-so, ended_packets, stay-rows, counted-all, counted-none, IsEnding, does-ending}
+use Rattle.gate_core.proofs.Giving.{by-client}
 
 stream_told-ending : (st : State) (id ep : ℕ) (status : UsbStatus) → IsEnding st (StreamTold id ep status)
 stream_told-ending st id ep status = record {
@@ -84,3 +88,11 @@ module _ (st : State) (sound : IsSound st) (id ep : ℕ) (status : UsbStatus) wh
         unlinked = capped-same old.unlinked unlinked_fits i;
       }))
       client (host-same st.agreed told host st.live stays-uncancelled) (sym (append-nil notes))
+
+  -- each of them is answered
+  pub tell-gives : 0 < length (filter (is_told ep status) (map row st.live)) → GivesSome st (mark_as st told None)
+  tell-gives some =
+      let ended = map Urb (ended_packets told (is_told ep status) packet st.live) in
+      let all : length (filter (λ c. true) ended) ≡ length (filter (is_told ep status) (map row st.live)) = counted-all told (is_told ep status) packet (λ c. true) (λ l. refl) st.live all-so in
+      let sent : length (to_client st (mark_as st told None)) ≡ length ended = ap (λ (ps : List Pending). length (map Urb (ended_packets told (is_told ep status) packet ps))) (append-nil st.live) in
+      by-client st told None (omega (arith, some, all, sent, ap length (filter-all ended)))

@@ -221,11 +221,28 @@ cut-passed {S = S} s old new bytes piece taken is cut = record {
 
 -- ---- memory ran out at the next item
 
-pub record Stuck {S P I : Type 0} (s : SideStream S P Reason I) (new : Kept S) (bytes piece : List ℕ) (given : List (ℕ × P)) (taken : List I) : Type 0 where
+-- the item that the stream's answer is of
+abbrev pub IsNextBy : {S P I : Type 0} → SideStream S P Reason I → (P → Bool) → Result (Option (ℕ × P)) ReadError → I → Type 0
+IsNextBy s takes (Ok None) x = ⊥
+IsNextBy s takes (Ok (Some i)) x = (at : ℕ) × (i.0 ≡ capped at) × (x ≡ s.packet at i.1)
+IsNextBy s takes (Err (Refused place why)) x = (at : ℕ) × (place ≡ capped at) × (x ≡ s.wrong at why)
+IsNextBy {P = P} s takes (Err Memory) x = (i : ℕ × P) × (x ≡ s.packet i.0 i.1) × (takes i.1 ≡ true)
+
+-- the packet that comes behind those that were given
+record Ahead {S P I : Type 0} (s : SideStream S P Reason I) (takes : P → Bool) (answer : Result (Option (ℕ × P)) ReadError) (stream : List ℕ) (given : List (ℕ × P)) : Type 0 where
+  pub next : ℕ × P
+  pub left : List (ℕ × P)
+  pub packets : (split s.reader s.start stream).packets ≡ given ++ next ∷ left
+  pub is : IsNextBy s takes answer (s.packet next.0 next.1)
+
+pub record Stuck {S P I : Type 0} (s : SideStream S P Reason I) (takes : P → Bool) (answer : Result (Option (ℕ × P)) ReadError) (new : Kept S) (bytes piece : List ℕ) (given : List (ℕ × P)) (taken : List I) : Type 0 where
   pub more : List (ℕ × P)
   pub are : taken ≡ packets s more
-  pub later : List I
-  pub parts : added s bytes piece ≡ taken ++ later
+  -- the first of those that are left
+  pub next : I
+  pub behind : List I
+  pub parts : added s bytes piece ≡ taken ++ next ∷ behind
+  pub next-is : IsNextBy s takes answer next
   pub left : IsLeftBy s.reader new (split s.reader s.start (bytes ++ piece)) (given ++ more) new.over
   pub none : new.over ≡ true → new.held ≡ []
 
@@ -235,39 +252,61 @@ IsMore (Ok None) = ⊥
 IsMore (Ok (Some i)) = Unit {0}
 IsMore (Err e) = Unit {0}
 
-held-stuck : {S P I : Type 0} (s : SideStream S P Reason I) (old new : Kept S) (bytes piece : List ℕ) (given : List (ℕ × P)) (taken : List I) →
-    Taken s old bytes piece given taken → old.over ≡ false → new.over ≡ false → new.held ≡ old.rest → new.at ≡ old.place → Stuck s new bytes piece given taken
-held-stuck {S = S} {P = P} {I = I} s old new bytes piece given taken t was over held at =
+held-stuck : {S P I : Type 0} (s : SideStream S P Reason I) (takes : P → Bool) (answer : Result (Option (ℕ × P)) ReadError) (old new : Kept S) (bytes piece : List ℕ) (given : List (ℕ × P)) (taken : List I) →
+    Taken s old bytes piece given taken → old.over ≡ false → new.over ≡ false → new.held ≡ old.rest → new.at ≡ old.place →
+    ((all : List (ℕ × P)) → Follows s.reader s.start old (bytes ++ piece) all → Ahead s takes answer (bytes ++ piece) all) → Stuck s takes answer new bytes piece given taken
+held-stuck {S = S} {P = P} {I = I} s takes answer old new bytes piece given taken t was over held at ahead =
     let g = t.going was in
-    let cut = cut-going s old bytes piece given taken g in
+    let a = ahead (given ++ g.more) g.follows in
+    let left : List (ℕ × P) = a.next ∷ a.left in
+    let x = split s.reader s.start (bytes ++ piece) in
+    let behind : List I = packets s a.left ++ wrongs s x.wrong in
+    let item : I = s.packet a.next.0 a.next.1 in
     let holds = follows-holds s.reader s.start old new (bytes ++ piece) (given ++ g.more) g.follows was held at in
     record {
       more = g.more;
       are = g.are;
-      later = cut.later;
-      parts = cut.parts;
+      next = item;
+      behind = behind;
+      parts = added-front s bytes piece g.more left g.before.right (a.packets ∙ ap (λ (l : List (ℕ × P)). (l ++ g.more) ++ left) (sym g.before.packets))
+          ∙ ap (λ (l : List I). l ++ item ∷ behind) (sym g.are);
+      next-is = a.is;
       left = subst (IsLeftBy s.reader new (split s.reader s.start (bytes ++ piece)) (given ++ g.more)) (sym over) holds;
       none = λ ends. absurd (true≢false (sym ends ∙ over));
     }
 
 pub taken-stuck : {S P I : Type 0} (s : SideStream S P Reason I) (takes : P → Bool) (old new : Kept S) (bytes piece : List ℕ) (given : List (ℕ × P)) (taken : List I) (answer : Result (Option (ℕ × P)) ReadError) → IsMore answer →
-    Taken s old bytes piece given taken → Changes answer old new → Nexts s.reader takes answer old new → Stuck s new bytes piece given taken
+    Taken s old bytes piece given taken → Changes answer old new → Nexts s.reader takes answer old new → Stuck s takes answer new bytes piece given taken
 taken-stuck s takes old new bytes piece given taken (Ok None) more t changes nexts = absurd more
-taken-stuck s takes old new bytes piece given taken (Ok (Some i)) more t changes nexts = held-stuck s old new bytes piece given taken t changes.1 changes.2 changes.3 changes.4
+taken-stuck {P = P} s takes old new bytes piece given taken (Ok (Some i)) more t changes nexts =
+    held-stuck s takes (Ok (Some i)) old new bytes piece given taken t changes.1 changes.2 changes.3 changes.4
+    (λ all follows.
+    let n = nexts s.start (bytes ++ piece) all follows in
+    let one : List (ℕ × P) = (n.at, i.1) ∷ [] in
+    let front = follows-front s.reader s.start new (bytes ++ piece) (all ++ one) n.follows in
+    record { next = (n.at, i.1); left = front.0; packets = front.1 ∙ append_assoc all one front.0; is = (n.at, n.place-is, refl) })
 taken-stuck {S = S} s takes old new bytes piece given taken (Err Memory) more t changes nexts =
-    held-stuck s old new bytes piece given taken t changes.0 (ap (λ (k : Kept S). k.over) changes.1 ∙ changes.0) (ap (λ (k : Kept S). k.held) changes.1) (ap (λ (k : Kept S). k.at) changes.1)
-taken-stuck {S = S} {P = P} s takes old new bytes piece given taken (Err (Refused place why)) more t changes nexts =
+    held-stuck s takes (Err Memory) old new bytes piece given taken t changes.0 (ap (λ (k : Kept S). k.over) changes.1 ∙ changes.0) (ap (λ (k : Kept S). k.held) changes.1) (ap (λ (k : Kept S). k.at) changes.1)
+    (λ all follows.
+    let w = nexts s.start (bytes ++ piece) all follows in
+    record { next = w.next; left = w.left; packets = w.packets; is = (w.next, refl, w.takes-some) })
+taken-stuck {S = S} {P = P} {I = I} s takes old new bytes piece given taken (Err (Refused place why)) more t changes nexts =
     let g = t.going changes.0 in
-    let cut = cut-going s old bytes piece given taken g in
     let w = nexts s.start (bytes ++ piece) (given ++ g.more) g.follows in
     let x = split s.reader s.start (bytes ++ piece) in
     let closed : Closed x (given ++ g.more) = record { packets = w.packets; at = (w.at, why); wrong = w.wrong } in
     let over : new.over ≡ true = ap (λ (k : Kept S). k.over) changes.1 in
+    let item : I = s.wrong w.at why in
+    let all : x.packets ≡ (split s.reader s.start bytes).packets ++ g.more = w.packets ∙ ap (λ (l : List (ℕ × P)). l ++ g.more) (sym g.before.packets) in
     record {
       more = g.more;
       are = g.are;
-      later = cut.later;
-      parts = cut.parts;
+      next = item;
+      behind = [];
+      parts = added-more s bytes piece g.more g.before.right all
+          ∙ ap (λ (o : Option (ℕ × Reason)). packets s g.more ++ wrongs s o) w.wrong
+          ∙ ap (λ (l : List I). l ++ item ∷ []) (sym g.are);
+      next-is = (w.at, w.place-is, refl);
       left = subst (IsLeftBy s.reader new x (given ++ g.more)) (sym over) closed;
       none = λ _. ap (λ (k : Kept S). k.held) changes.1;
     }

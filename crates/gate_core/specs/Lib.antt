@@ -25,11 +25,13 @@ pub mod Output
 pub mod Notes
 pub mod All
 pub mod Bytes
+pub mod Wants
 pub mod Readable
 pub mod Machine
 pub mod Turns
 pub mod Losses
 pub mod Sound
+pub mod Refusals
 pub mod Rows
 pub mod Kept
 pub mod Stands

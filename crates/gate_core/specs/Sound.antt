@@ -1,11 +1,15 @@
 -- What is true of the state after every past.
-use Rattle.std.specs.Prelude.{◌≡◌, ℕ, ◌≤◌, ◌<◌, true, false, [], ◌++◌, length, filter, None}
+use Rattle.std.specs.Prelude.{◌≡◌, ℕ, ◌≤◌, ◌<◌, true, false, List, [], ◌∷◌, ◌++◌, length, filter, None}
 use Rattle.std.specs.List.{AllByRecursion}
 use Rattle.usbip_urb.specs.declared.packet.UrbPacket.TheVariants as urb
 use Rattle.usbip_urb.specs.declared.client.ClientPacket.TheVariants.{Urb}
 use Rattle.gate_core.specs.Items.{Item, Asked}
 use Rattle.gate_core.specs.Submits.{has_id, at_once}
-use Rattle.gate_core.specs.State.{State, submits, is_number}
+use Rattle.gate_core.specs.Ids.{AreFresh, greatest}
+use Rattle.gate_core.specs.Flight.{wide_ids, in_flight}
+use Rattle.gate_core.specs.State.{State, state_of, submits, is_number}
+use Rattle.gate_core.specs.Meaning.{mark_of}
+use Rattle.gate_core.specs.Past.{past}
 
 pub record IsSound (st : State) : Type 0 where
   pub few : length st.live ≤ 4096
@@ -25,3 +29,10 @@ pub record IsSound (st : State) : Type 0 where
 abbrev pub HasFewPackets : Item → Type 0
 HasFewPackets (Asked place (Urb (urb.Submit s))) = length s.descs ≤ 1024
 HasFewPackets _ = Unit {0}
+
+-- of these items each draws ids that are in range and in flight nowhere, no two of them one
+abbrev pub DrawFresh : ℕ → List Item → Type 0
+DrawFresh first [] = Unit {0}
+DrawFresh first (x ∷ xs) =
+    AreFresh (greatest (wide_ids (state_of first (past first xs)).agreed)) (in_flight (past first xs)) (mark_of (state_of first (past first xs)) x).drawn
+    × DrawFresh first xs

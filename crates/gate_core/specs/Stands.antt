@@ -21,6 +21,7 @@ use Rattle.gate_core.specs.All.{all_of, is_ret_submit, is_won_unlink}
 use Rattle.gate_core.specs.Bytes.{out_client, out_host}
 use Rattle.gate_core.specs.Kept.{ItemsKept, GateKept}
 use Rattle.gate_core.specs.Rows.{row, left_row, unmarked}
+use Rattle.gate_core.specs.Wants.{IsHeld, FirstWants}
 
 -- it met want of memory: from then on it does nothing
 abbrev pub HasFailed : GateKept → Type 0
@@ -137,6 +138,8 @@ pub record Stops (first : ℕ) (new : GateKept) (events : List Event) (e : Event
   pub parts : brought events e ≡ taken ++ later
   pub seen : List Event
   pub seen-is : (seen ≡ e ∷ events) ⊎ ((seen ≡ events) × (taken ≡ []))
+  -- to hold the bytes, or for the first of the items that are left
+  pub wanted : ((seen ≡ events) × IsHeld first events e) ⊎ FirstWants first (onto taken (arrivals events)) later
   pub stands : StandsFor first new seen (onto taken (arrivals events))
   pub client : Gains client_old client_new (out_client first (history first events)) (out_client first (past first (onto taken (arrivals events))))
   pub host : Gains host_old host_new (out_host first (history first events)) (out_host first (past first (onto taken (arrivals events))))

@@ -6,6 +6,7 @@ ghost use Rattle.gate_core.specs.Ups.{stream_of};
 ghost use Rattle.gate_core.specs.Meaning.{mark_as, arrives};
 ghost use Rattle.gate_core.specs.State.{State};
 ghost use Rattle.gate_core.specs.Sound.{IsSound};
+ghost use Rattle.gate_core.specs.Wants.{GivesSome};
 ghost use Rattle.gate_core.specs.inner.Filling.{up_fill, up_bytes, filled_notes, HasEnded, HasReceived, received_bytes, received_notes};
 ghost use Rattle.gate_core.specs.inner.Holds.{IsKept, Holds, Does, Leaves, Extends};
 
@@ -30,6 +31,7 @@ impl Kept {
         ensures ok { (st : State) (host : List ℕ) → Holds self.old st → IsSound st
             → OnOk result (Does st (mark_as st (arrives st endpoint iso packet (stream_of st.streams endpoint)) None) self.old self.new to_client.old to_client.new host host notes.old notes.new) }
         ensures err { (host : List ℕ) → OnErr result (Leaves self.old self.new to_client.old to_client.new host host notes.old notes.new) }
+        ensures wants { (st : State) → Holds self.old st → OnErr result (GivesSome st (mark_as st (arrives st endpoint iso packet (stream_of st.streams endpoint)) None)) }
     {
         let Some(ep) = EpAddr::new(endpoint) else {
             return Ok(());

@@ -1,6 +1,6 @@
 //! How submits end together: with the loss of the device, and with their client.
 
-ghost use Rattle.std.specs.Prelude.{◌≡◌, ◌++◌, ◌&&◌, not, ℕ, List, [], None, false, OnOk, OnErr, IfOk, length, filter};
+ghost use Rattle.std.specs.Prelude.{◌≡◌, ◌<◌, ◌++◌, ◌&&◌, not, ℕ, List, [], None, true, false, OnOk, OnErr, IfOk, length, filter};
 ghost use Rattle.std.specs.List.{flat_map};
 ghost use Rattle.usb_base.specs.declared.side.Side.TheVariants.{Client, Host};
 ghost use Rattle.redir_wire.specs.Header.{IdFits};
@@ -16,8 +16,9 @@ ghost use Rattle.gate_core.specs.Bytes.{host_packet_bytes};
 ghost use Rattle.gate_core.specs.State.{State};
 ghost use Rattle.gate_core.specs.Meaning.{mark_as};
 ghost use Rattle.gate_core.specs.Notes.{when};
+ghost use Rattle.gate_core.specs.Wants.{GivesSome};
 ghost use Rattle.gate_core.specs.inner.Holds.{IsKept, Holds, Does, Leaves, Extends, HasLost, HasLeft};
-ghost use Rattle.gate_core.specs.inner.Rows.{lost_bytes, cancel_bytes, is_asked_back};
+ghost use Rattle.gate_core.specs.inner.Rows.{lost_bytes, cancel_bytes, is_asked_back, is_cancelled_row};
 
 use crate::ask::{write_cancel, write_disconnect_ack};
 use crate::calls::Called;
@@ -37,6 +38,7 @@ impl Kept {
         ensures ok { OnOk result (to_client.new ≡ to_client.old ++ flat_map lost_bytes self.now.lives.live) }
         ensures count { IfOk result (λ unlinked. unlinked ≡ length (filter is_asked_back self.now.lives.live)) }
         ensures err { OnErr result (Extends to_client.old to_client.new) }
+        ensures wants { OnErr result (0 < length self.now.lives.live) }
     {
         let mut unlinked = 0;
         for place in 0..self.lives.len() {
@@ -52,6 +54,7 @@ impl Kept {
         requires { IsKept self.now }
         ensures ok { OnOk result (to_host.new ≡ to_host.old ++ flat_map (cancel_bytes self.now.caps) self.now.lives.live) }
         ensures err { OnErr result (Extends to_host.old to_host.new) }
+        ensures wants { OnErr result (0 < length (filter is_cancelled_row self.now.lives.live)) }
     {
         for place in 0..self.lives.len() {
             let live = self.lives.at(place).unwrap();
@@ -86,6 +89,7 @@ impl Kept {
         ensures kept { IsKept self.new }
         ensures ok { (st : State) (host : List ℕ) → Holds self.old st → OnOk result (Does st (mark_as st (Ends Host) None) self.old self.new to_client.old to_client.new host host notes.old notes.new) }
         ensures err { (host : List ℕ) → OnErr result (Leaves self.old self.new to_client.old to_client.new host host notes.old notes.new) }
+        ensures wants { (st : State) → Holds self.old st → OnErr result (GivesSome st (mark_as st (Ends Host) None)) }
     {
         let unlinked = self.write_losses(to_client)?;
         self.tell_loss(notes)?;
@@ -128,6 +132,7 @@ impl Kept {
         ensures kept { IsKept self.new }
         ensures ok { (st : State) → Holds self.old st → OnOk result (Does st (mark_as st (Disconnects id) None) self.old self.new to_client.old to_client.new to_host.old to_host.new notes.old notes.new) }
         ensures err { OnErr result (Leaves self.old self.new to_client.old to_client.new to_host.old to_host.new notes.old notes.new) }
+        ensures wants { (st : State) → Holds self.old st → OnErr result (GivesSome st (mark_as st (Disconnects id) None)) }
     {
         let unlinked = self.write_losses(to_client)?;
         self.tell_loss(notes)?;
@@ -142,6 +147,7 @@ impl Kept {
         ensures kept { IsKept self.new }
         ensures ok { (st : State) (client : List ℕ) → Holds self.old st → OnOk result (Does st (mark_as st (Ends Client) None) self.old self.new client client to_host.old to_host.new notes.old notes.new) }
         ensures err { (client : List ℕ) → OnErr result (Leaves self.old self.new client client to_host.old to_host.new notes.old notes.new) }
+        ensures wants { (st : State) → Holds self.old st → OnErr result (GivesSome st (mark_as st (Ends Client) None)) }
     {
         self.write_cancels(to_host)?;
         let called = self.write_stops(None, to_host)?;
@@ -177,6 +183,7 @@ impl Kept {
     fn tell_loss(&self, notes: &mut Notes) -> Result<(), Memory>
         ensures ok { OnOk result (notes.new ≡ notes.old ++ when (self.now.imported && not self.now.lost) DeviceGone) }
         ensures err { OnErr result (notes.new ≡ notes.old) }
+        ensures wants { OnErr result ((self.now.imported && not self.now.lost) ≡ true) }
     {
         if self.imported && !self.lost {
             notes.push(Note::DeviceGone)?;
@@ -188,6 +195,7 @@ impl Kept {
     fn tell_gone(&self, notes: &mut Notes) -> Result<(), Memory>
         ensures ok { OnOk result (notes.new ≡ notes.old ++ when (not self.now.client_over) ClientGone) }
         ensures err { OnErr result (notes.new ≡ notes.old) }
+        ensures wants { OnErr result (not self.now.client_over ≡ true) }
     {
         if !self.client_over {
             notes.push(Note::ClientGone)?;
@@ -237,6 +245,7 @@ fn write_cancel_of(live: &Live, caps: Caps, to_host: &mut Bytes) -> Result<(), M
     requires { IdFits (wide_ids caps) live.now.id }
     ensures ok { OnOk result (to_host.new ≡ to_host.old ++ cancel_bytes caps live.now) }
     ensures err { OnErr result (to_host.new ≡ to_host.old) }
+    ensures wants { OnErr result (is_cancelled_row live.now ≡ true) }
 {
     match (live.kind, live.unlinker) {
         (LiveKind::Wire { .. }, None) => write_cancel(live.id, caps, to_host),
@@ -249,6 +258,7 @@ fn acknowledge(id: u64, caps: Caps, to_host: &mut Bytes) -> Result<(), Memory>
     requires { IdFits (wide_ids caps) id }
     ensures ok { OnOk result (to_host.new ≡ to_host.old ++ flat_map (host_packet_bytes caps) (acknowledgements caps (Disconnects id))) }
     ensures err { OnErr result (to_host.new ≡ to_host.old) }
+    ensures wants { OnErr result (0 < length (acknowledgements caps (Disconnects id))) }
 {
     if caps.has(DISCONNECT_ACK) {
         write_disconnect_ack(id, caps, to_host)?;

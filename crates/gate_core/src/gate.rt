@@ -1,6 +1,6 @@
 //! The gate: it translates between USB/IP clients, one after another, and a usbredir host.
 
-ghost use Rattle.std.specs.Prelude.{◌≡◌, ◌+◌, ◌++◌, ◌≤◌, [], List, ℕ, OnOk, OnErr, IfOk, IsErr};
+ghost use Rattle.std.specs.Prelude.{◌≡◌, ◌+◌, ◌++◌, ◌≤◌, [], List, length, ℕ, OnOk, OnErr, IfOk, IsErr};
 ghost use Rattle.gate_core.specs.Events.{Event as PastEvent, event_of};
 ghost use Rattle.gate_core.specs.Items.{Item as PastItem};
 ghost use Rattle.gate_core.specs.Past.{past};
@@ -96,6 +96,8 @@ impl Gate {
 
     /// The number of bytes that are held of packets that weren't taken.
     pub fn held(&self) -> u64
+        // Whatever happened: for want of memory `Stops` says of which packets they are.
+        ensures held { result ≡ length self.now.client.held + length self.now.host.held }
         ensures all { (first : ℕ) (events : List PastEvent) → Stands first self.now events → result ≡ rest_length first events }
         // Less than the longest packet of each side.
         ensures few { (first : ℕ) (events : List PastEvent) → Stands first self.now events → result ≤ 16793647 + 16777295 }

@@ -1,7 +1,8 @@
 //! Laws of the core's definitions, as contracts of functions that do nothing.
 
-ghost use Rattle.std.specs.Prelude.{◌≡◌, ◌<◌, ◌≤◌, ◌↔◌, ℕ, List, ◌∷◌, length, map};
+ghost use Rattle.std.specs.Prelude.{◌≡◌, ◌<◌, ◌≤◌, ◌↔◌, ℕ, List, ◌∷◌, length, map, filter};
 ghost use Rattle.std.specs.List.{list_any, flat_map, AllByRecursion};
+ghost use Rattle.std.specs.Option.{option_to_list};
 ghost use Rattle.usb_base.specs.Number.{AreBytes};
 ghost use Rattle.gate_core.specs.Events.{Event as PastEvent};
 ghost use Rattle.gate_core.specs.Items.{Item};
@@ -12,7 +13,7 @@ ghost use Rattle.gate_core.specs.Ups.{held_of, streams};
 ghost use Rattle.gate_core.specs.State.{state_of, is_number};
 ghost use Rattle.gate_core.specs.Meaning.{mark_of};
 ghost use Rattle.gate_core.specs.Past.{past};
-ghost use Rattle.gate_core.specs.History.{client_split, host_split, brought, history};
+ghost use Rattle.gate_core.specs.History.{client_split, host_split, client_items, host_items, brought, arrivals, history};
 ghost use Rattle.gate_core.specs.Output.{to_client, to_host};
 ghost use Rattle.gate_core.specs.Notes.{notes_of, dropped};
 ghost use Rattle.gate_core.specs.All.{all_of, counts_of};
@@ -20,8 +21,9 @@ ghost use Rattle.gate_core.specs.Bytes.{client_bytes_of, host_bytes_of};
 ghost use Rattle.gate_core.specs.Machine.{run, run_counts, steps, GivesPast, AddsItems};
 ghost use Rattle.gate_core.specs.Turns.{turns, Alternate, answers_in, answered_ends, answer_of};
 ghost use Rattle.gate_core.specs.Losses.{Loses, EndsAll};
-ghost use Rattle.gate_core.specs.Sound.{IsSound, HasFewPackets};
-ghost use Rattle.gate_core.specs.Readable.{SentCanBeRead};
+ghost use Rattle.gate_core.specs.Sound.{IsSound, HasFewPackets, DrawFresh};
+ghost use Rattle.gate_core.specs.Readable.{SentCanBeRead, piece_bytes};
+ghost use Rattle.gate_core.specs.Refusals.{causes, is_refusal, client_wrongs, host_wrongs};
 
 /// A law: the machine's state is what the searches of the past find, and it sends, tells and counts the same.
 pub fn machine_is_past()
@@ -70,15 +72,25 @@ pub fn states_are_sound()
 {}
 
 /// A law: no id is in flight twice. The ids that an item draws, but for a submit with more descriptors than any that
-/// is read, are in range and in flight nowhere, and no two are one. A drawn id is the first after the last one that
-/// isn't in flight.
+/// is read, are in range and in flight nowhere, and no two are one. So are those of every item that events bring. A drawn
+/// id is the first after the last one that isn't in flight.
 pub fn ids_fly_once()
     ensures once { (first : ℕ) (items : List Item) → Once (in_flight (past first items)) }
     ensures fresh { (first : ℕ) (items : List Item) (item : Item) → HasFewPackets item
         → AreFresh (greatest (wide_ids (state_of first (past first items)).agreed)) (in_flight (past first items))
         (mark_of (state_of first (past first items)) item).drawn }
+    ensures drawn { (first : ℕ) (events : List PastEvent) → AreBytes (flat_map piece_bytes events) → DrawFresh first (arrivals events) }
     ensures next { (m : ℕ) (flying : List ℕ) (last id : ℕ)
         → length flying < m → (id ≡ draw m flying last ↔ IsNext m flying last id) }
+{}
+
+/// A law: the refusals that are told are, in order, one for each wrong place of a side's stream and one for each packet
+/// that breaks a rule of the core, and there is no other. The items of a side's bytes have the wrong place of their
+/// splitting, where that has one.
+pub fn refusals_have_causes()
+    ensures told { (first : ℕ) (items : List Item) → filter is_refusal (all_of notes_of first (past first items)) ≡ causes first items }
+    ensures client { (bytes : List ℕ) → client_wrongs (client_items bytes) ≡ option_to_list (client_split bytes).wrong }
+    ensures host { (bytes : List ℕ) → host_wrongs (host_items bytes) ≡ option_to_list (host_split bytes).wrong }
 {}
 
 /// A law: what is left of a side's stream of packets that aren't whole is shorter than its longest packet.

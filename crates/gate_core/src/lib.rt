@@ -42,8 +42,8 @@ pub use facts::Facts;
 pub use gate::Gate;
 pub use item::Item;
 pub use laws::{
-    events_add_items, ids_fly_once, losses_end_all, machine_is_past, rests_are_short,
-    sent_can_be_read, states_are_sound, streams_hold_few, submits_end_once,
+    events_add_items, ids_fly_once, losses_end_all, machine_is_past, refusals_have_causes,
+    rests_are_short, sent_can_be_read, states_are_sound, streams_hold_few, submits_end_once,
 };
 pub use note::{Counts, Note, Notes};
 pub use request::Request;

@@ -1,6 +1,6 @@
 //! The stops of streams, where their client leaves and before a change of the device's interfaces.
 
-ghost use Rattle.std.specs.Prelude.{◌≡◌, ◌++◌, OnOk, OnErr, IfOk};
+ghost use Rattle.std.specs.Prelude.{◌≡◌, ◌<◌, ◌++◌, length, OnOk, OnErr, IfOk};
 ghost use Rattle.gate_core.specs.Ups.{is_ended};
 ghost use Rattle.gate_core.specs.Packets.{stop_of};
 ghost use Rattle.gate_core.specs.inner.Calling.{stops_of, called_of, after_stops, bytes_of};
@@ -32,6 +32,7 @@ impl Kept {
         ensures sent { OnOk result (to_host.new ≡ to_host.old ++ bytes_of self.now self.now.last (stops_of self.now by)) }
         ensures called { IfOk result (λ called. called ≡ after_stops self.now (called_of self.now) (stops_of self.now by)) }
         ensures err { OnErr result (Extends to_host.old to_host.new) }
+        ensures wants { OnErr result (0 < length (stops_of self.now by)) }
     {
         let mut called = self.called();
         for stream in self.streams.as_slice() {
@@ -52,6 +53,7 @@ impl Kept {
         ensures sent { OnOk result (to_host.new ≡ to_host.old ++ bytes_of self.now called.old.last (stop_of (is_ended by) stream.now)) }
         ensures called { OnOk result (called.new ≡ after_stops self.now called.old (stop_of (is_ended by) stream.now)) }
         ensures err { OnErr result (to_host.new ≡ to_host.old) }
+        ensures wants { OnErr result (0 < length (stop_of (is_ended by) stream.now)) }
     {
         match stream {
             Some(up) if up.is_ended(by) => {

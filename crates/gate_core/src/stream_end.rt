@@ -1,10 +1,11 @@
 //! The requests that end with their stream: their answers first, and then they go.
 
-ghost use Rattle.std.specs.Prelude.{◌≡◌, ◌++◌, OnOk, OnErr};
+ghost use Rattle.std.specs.Prelude.{◌≡◌, ◌<◌, ◌++◌, true, length, filter, OnOk, OnErr};
 ghost use Rattle.std.specs.List.{flat_map};
 ghost use Rattle.stream_buffers.specs.Interrupt.{is_success};
+ghost use Rattle.unlink_race.specs.Searches.{ended_by};
 ghost use Rattle.gate_core.specs.inner.Asked.{HasItsPackets};
-ghost use Rattle.gate_core.specs.inner.Ending.{ended_bytes, HasDropped, status_bytes, HasStreamEnd};
+ghost use Rattle.gate_core.specs.inner.Ending.{ended_bytes, HasDropped, is_told, status_bytes, HasStreamEnd};
 ghost use Rattle.gate_core.specs.inner.Holds.{IsKept, Extends};
 
 use crate::finish::write_ended;
@@ -24,6 +25,7 @@ impl Kept {
         requires { IsKept self.now }
         ensures ok { OnOk result (to_client.new ≡ to_client.old ++ flat_map (ended_bytes end.now status) self.now.lives.live) }
         ensures err { OnErr result (Extends to_client.old to_client.new) }
+        ensures wants { OnErr result (0 < length (filter (ended_by end.now) self.now.lives.live)) }
     {
         for place in 0..self.lives.len() {
             let live = self.lives.at(place).unwrap();
@@ -58,6 +60,7 @@ impl Kept {
         ensures sent { OnOk result (to_client.new ≡ to_client.old ++ flat_map (status_bytes endpoint status) self.old.lives.live) }
         ensures same { OnErr result (self.new ≡ self.old) }
         ensures err { OnErr result (Extends to_client.old to_client.new) }
+        ensures wants { OnErr result (0 < length (filter (is_told endpoint status) self.old.lives.live)) }
     {
         if is_success(status) {
             return Ok(());
@@ -81,6 +84,7 @@ fn write_end_of(
     requires { HasItsPackets live.now.packets live.now.descs }
     ensures ok { OnOk result (to_client.new ≡ to_client.old ++ ended_bytes end.now status live.now) }
     ensures err { OnErr result (to_client.new ≡ to_client.old) }
+    ensures wants { OnErr result (ended_by end.now live.now ≡ true) }
 {
     if live.kind.ends_with(end) {
         write_ended(alloc, live, status, to_client)

@@ -10,6 +10,7 @@ ghost use Rattle.gate_core.specs.State.{State};
 ghost use Rattle.gate_core.specs.Meaning.{mark_as, asked_meaning, mark_of};
 ghost use Rattle.gate_core.specs.Past.{is_left_out};
 ghost use Rattle.gate_core.specs.Sound.{IsSound};
+ghost use Rattle.gate_core.specs.Wants.{GivesSome};
 ghost use Rattle.gate_core.specs.inner.Holds.{IsKept, Holds, IsItem, ItemFits, Does, Leaves};
 
 use crate::end::client_refusal;
@@ -34,6 +35,7 @@ impl Kept {
         ensures ok { (st : State) (x : PastItem) → IsItem item x → Holds self.old st → IsSound st → is_left_out st x ≡ false
             → OnOk result (Does st (mark_of st x) self.old self.new to_client.old to_client.new to_host.old to_host.new notes.old notes.new) }
         ensures err { OnErr result (Leaves self.old self.new to_client.old to_client.new to_host.old to_host.new notes.old notes.new) }
+        ensures wants { (st : State) (x : PastItem) → IsItem item x → Holds self.old st → IsSound st → OnErr result (GivesSome st (mark_of st x)) }
     {
         match item {
             Item::Asked { place, packet } => self.take_client(

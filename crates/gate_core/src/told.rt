@@ -23,6 +23,7 @@ ghost use Rattle.gate_core.specs.Responses.{response_of, seen};
 ghost use Rattle.gate_core.specs.Meaning.{mark_as, fact_of, by_response, data_meaning, told_meaning};
 ghost use Rattle.gate_core.specs.Sound.{IsSound};
 ghost use Rattle.gate_core.specs.Answers.{answers_by};
+ghost use Rattle.gate_core.specs.Wants.{GivesSome};
 ghost use Rattle.gate_core.specs.inner.Asked.{HasItsPackets};
 ghost use Rattle.gate_core.specs.inner.Responses.{response_view, stream_in, packet_in, row_mismatch, IsAnswer, IsCounted, has_won, completes};
 ghost use Rattle.gate_core.specs.inner.Rows.{row_of, IsRead};
@@ -55,6 +56,7 @@ impl Kept {
         ensures ok { (st : State) (at : ℕ) → place ≡ capped at → Holds self.old st → IsSound st → st.host_over ≡ false
             → OnOk result (Does st (mark_as st (told_meaning st at header packet) (fact_of packet)) self.old self.new to_client.old to_client.new to_host.old to_host.new notes.old notes.new) }
         ensures err { OnErr result (Leaves self.old self.new to_client.old to_client.new to_host.old to_host.new notes.old notes.new) }
+        ensures wants { (st : State) (at : ℕ) → place ≡ capped at → Holds self.old st → IsSound st → OnErr result (GivesSome st (mark_as st (told_meaning st at header packet) (fact_of packet))) }
     {
         match packet {
             RedirPacket::Plain(packet) => {
@@ -81,6 +83,7 @@ impl Kept {
         ensures ok { (st : State) (at : ℕ) (host : List ℕ) → place ≡ capped at → Holds self.old st → IsSound st
             → OnOk result (Does st (mark_as st (data_meaning st at header.now packet) None) self.old self.new to_client.old to_client.new host host notes.old notes.new) }
         ensures err { (host : List ℕ) → OnErr result (Leaves self.old self.new to_client.old to_client.new host host notes.old notes.new) }
+        ensures wants { (st : State) (at : ℕ) → place ≡ capped at → Holds self.old st → IsSound st → OnErr result (GivesSome st (mark_as st (data_meaning st at header.now packet) None)) }
     {
         let Some((endpoint, iso)) = stream_in(&packet) else {
             return self.respond(place, header, data_of(packet), to_client, notes);
@@ -104,6 +107,7 @@ impl Kept {
         ensures ok { (st : State) (at : ℕ) → place ≡ capped at → Holds self.old st → IsSound st → st.host_over ≡ false
             → OnOk result (Does st (mark_as st (told_meaning st at header.now (Plain packet.now)) (fact_of (Plain packet.now))) self.old self.new to_client.old to_client.new to_host.old to_host.new notes.old notes.new) }
         ensures err { OnErr result (Leaves self.old self.new to_client.old to_client.new to_host.old to_host.new notes.old notes.new) }
+        ensures wants { (st : State) (at : ℕ) → place ≡ capped at → Holds self.old st → IsSound st → OnErr result (GivesSome st (mark_as st (told_meaning st at header.now (Plain packet.now)) (fact_of (Plain packet.now)))) }
     {
         match packet {
             RedirControl::Hello(hello) => {
@@ -144,6 +148,7 @@ impl Kept {
         ensures ok { (st : State) (host : List ℕ) (notes : List Note) → Holds self.old st → IsSound st
             → OnOk result (Does st (mark_as st (StreamTold id endpoint (status_of status)) None) self.old self.new to_client.old to_client.new host host notes notes) }
         ensures err { (host : List ℕ) (notes : List Note) → OnErr result (Leaves self.old self.new to_client.old to_client.new host host notes notes) }
+        ensures wants { (st : State) → Holds self.old st → IsSound st → OnErr result (GivesSome st (mark_as st (StreamTold id endpoint (status_of status)) None)) }
     {
         self.end_stream(endpoint, UsbStatus::from_byte(status), to_client)?;
         self.fence = lifted(id, self.fence);
@@ -165,6 +170,7 @@ impl Kept {
         ensures ok { (st : State) (at : ℕ) (host : List ℕ) → place ≡ capped at → Holds self.old st → IsSound st → st.host_over ≡ false
             → OnOk result (Does st (mark_as st (by_response st at header.now (response_of (Plain packet.now))) (fact_of (Plain packet.now))) self.old self.new to_client.old to_client.new host host notes.old notes.new) }
         ensures err { (host : List ℕ) → OnErr result (Leaves self.old self.new to_client.old to_client.new host host notes.old notes.new) }
+        ensures wants { (st : State) (at : ℕ) → place ≡ capped at → Holds self.old st → IsSound st → OnErr result (GivesSome st (mark_as st (by_response st at header.now (response_of (Plain packet.now))) (fact_of (Plain packet.now)))) }
     {
         self.respond(place, header, status_of(packet), to_client, notes)?;
         self.learn(packet);
@@ -197,6 +203,7 @@ impl Kept {
         ensures ok { (st : State) (at : ℕ) (host : List ℕ) → place ≡ capped at → Holds self.old st → IsSound st
             → OnOk result (Does st (mark_as st (by_response st at header.now (option_map response_view response)) None) self.old self.new to_client.old to_client.new host host notes.old notes.new) }
         ensures err { (host : List ℕ) → OnErr result (Leaves self.old self.new to_client.old to_client.new host host notes.old notes.new) }
+        ensures wants { (st : State) (at : ℕ) → place ≡ capped at → Holds self.old st → IsSound st → OnErr result (GivesSome st (mark_as st (by_response st at header.now (option_map response_view response)) None)) }
     {
         match response {
             Some(response) => self.answer(place, header, response, to_client, notes),
@@ -220,6 +227,7 @@ impl Kept {
         ensures ok { (st : State) (at : ℕ) (host : List ℕ) → place ≡ capped at → Holds self.old st → IsSound st
             → OnOk result (Does st (mark_as st (by_response st at header.now (Some (response_view response))) None) self.old self.new to_client.old to_client.new host host notes.old notes.new) }
         ensures err { (host : List ℕ) → OnErr result (Leaves self.old self.new to_client.old to_client.new host host notes.old notes.new) }
+        ensures wants { (st : State) (at : ℕ) → place ≡ capped at → Holds self.old st → IsSound st → OnErr result (GivesSome st (mark_as st (by_response st at header.now (Some (response_view response))) None)) }
     {
         if let Some(refusal) = self.mismatch_of(place, header, &response) {
             return self.refuse_host(refusal, to_client, notes);
@@ -260,6 +268,7 @@ impl Kept {
         ensures ok { (st : State) (host : List ℕ) → Holds self.old st → IsSound st
             → OnOk result (Does st (mark_as st (completes id (response_view response) (find (submit_has_id id) (submits st ++ st.abandoned))) None) self.old self.new to_client.old to_client.new host host notes.old notes.new) }
         ensures err { (host : List ℕ) → OnErr result (Leaves self.old self.new to_client.old to_client.new host host notes.old notes.new) }
+        ensures wants { (st : State) → Holds self.old st → IsSound st → OnErr result (GivesSome st (mark_as st (completes id (response_view response) (find (submit_has_id id) (submits st ++ st.abandoned))) None)) }
     {
         let Some(live) = self.lives.find(id) else {
             self.lives.finish_abandoned(id);

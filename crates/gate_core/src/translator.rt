@@ -6,6 +6,7 @@ ghost use Rattle.gate_core.specs.State.{State};
 ghost use Rattle.gate_core.specs.Meaning.{mark_of};
 ghost use Rattle.gate_core.specs.Past.{is_left_out};
 ghost use Rattle.gate_core.specs.Sound.{IsSound};
+ghost use Rattle.gate_core.specs.Wants.{GivesSome};
 ghost use Rattle.gate_core.specs.inner.Holds.{Holds, IsFirst, IsKept, IsItem, ItemFits, Does, DoesNothing};
 
 use crate::item::Item;
@@ -63,6 +64,7 @@ impl Translator {
         ensures ok { OnOk result ((st : State) (x : PastItem) → IsItem item x → Holds self.old st → IsSound st → is_left_out st x ≡ false
             → Does st (mark_of st x) self.old self.new to_client.old to_client.new to_host.old to_host.new notes.old notes.new) }
         ensures err { OnErr result (DoesNothing self.old self.new to_client.old to_client.new to_host.old to_host.new notes.old notes.new) }
+        ensures wants { OnErr result ((st : State) (x : PastItem) → IsItem item x → Holds self.old st → IsSound st → GivesSome st (mark_of st x)) }
     {
         let before = (to_client.len(), to_host.len(), notes.len());
         match self.kept.take(item, to_client, to_host, notes) {

@@ -1,6 +1,9 @@
 use Rattle.std.proofs.Common.{subst, sym}
 use Rattle.gate_core.specs.Ids.{draw, IsNext}
 use Rattle.gate_core.proofs.Search.{draw-next, next-one}
+use Rattle.gate_core.specs.History.{arrivals}
+use Rattle.gate_core.proofs.Comings.{comes}
+use Rattle.gate_core.proofs.Drawing.{all-drawn}
 use Rattle.gate_core.proofs.Flights.{flights-once, item-fresh}
 use Rattle.gate_core.proofs.laws.ids_fly_once.Goals as goal
 
@@ -15,3 +18,6 @@ returns-clause-next c = λ m flying last id room. (
   λ e. subst (IsNext m flying last) (sym e) (draw-next m flying last room),
   λ n. next-one m flying last id (draw m flying last) n (draw-next m flying last room),
 )
+
+pub returns-clause-drawn : goal.returns-clause-drawn
+returns-clause-drawn c = λ first events are. all-drawn first (arrivals events) (comes events are).0

@@ -18,3 +18,9 @@ returns-clause-few c first events stands =
     let both = ap (λ (n : ℕ). n + c.held-2.result) c.held.ensures.held ∙ ap (λ (n : ℕ). length g.client.held + n) c.held-2.ensures.held in
     let is = both ∙ held-all first (kept_of g) events (subst (λ (x : GateKept). Stands first x events) (sym c.self.view_is) stands) in
     omega (arith, is, rests-few first events stands.client.fits stands.host.fits)
+
+pub returns-clause-held : goal.returns-clause-held
+returns-clause-held c =
+    let g = c.self.inside.inner in
+    let both = ap (λ (n : ℕ). n + c.held-2.result) c.held.ensures.held ∙ ap (λ (n : ℕ). length g.client.held + n) c.held-2.ensures.held in
+    both ∙ ap (λ (x : GateKept). length x.client.held + length x.host.held) c.self.view_is

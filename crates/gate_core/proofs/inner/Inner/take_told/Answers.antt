@@ -5,7 +5,7 @@ use Rattle.gate_core.specs.Events.{HostPiece, host_bytes}
 use Rattle.gate_core.specs.History.{arrivals}
 use Rattle.gate_core.specs.inner.Steps.{ended_if}
 use Rattle.gate_core.proofs.Sides.{host_side}
-use Rattle.gate_core.proofs.Pieces.{Taking, taking-first, taking-item, IsAny, nothing-done}
+use Rattle.gate_core.proofs.Pieces.{Taking, taking-first, taking-item, WantsItem, nothing-done}
 use Rattle.gate_core.proofs.Coming.{told-item}
 use Rattle.gate_core.proofs.Standing.{err-event, host-kept, unput-told, loops-told, stops-told}
 use Rattle.gate_core.proofs.inner.Inner.take_told.Goals as goal
@@ -24,7 +24,7 @@ returns-in_err-put c =
     let client = c.args.to_client.now in
     let host = c.args.to_host.now in
     err-event c.from_residual.result old (record old { host = c.put.new.self }) (HostPiece c.args.piece.now) client client host host c.args.notes.now c.args.notes.now c.from_residual.ensures.0
-    (λ first events stands. unput-told first old c.put.new.self events c.args.piece.now client host stands c.in_err-put.ensures.err)
+    (λ first events stands. unput-told first old c.put.new.self events c.args.piece.now client host stands c.in_err-put.ensures.err c.in_err-put.ensures.wants)
 
 pub take-requires : goal.take-requires
 take-requires c =
@@ -50,7 +50,7 @@ returns-in_err-item c =
     err-event c.from_residual-in_err-item.result c.args.self.now (record mid { host = c.next_told.new.host }) (HostPiece c.args.piece.now) c.args.to_client.now c.items.to_client c.args.to_host.now c.items.to_host c.args.notes.now c.items.notes c.from_residual-in_err-item.ensures.0
     (λ first events stands.
     stops-told first c.args.self.now mid c.next_told.new.host mid.translator events c.args.piece.now c.args.to_client.now c.items.to_client c.items.to_client c.args.to_host.now c.items.to_host c.items.to_host c.args.notes.now c.items.notes c.items.notes c.next_told.result
-    stands c.items.invariant.rest c.next_told.ensures (subst IsAny (sym c.in_err-item.was) tt) (nothing-done mid.translator c.items.to_client c.items.to_host c.items.notes) (c.items.invariant.took first events stands))
+    stands c.items.invariant.rest c.next_told.ensures (subst (WantsItem mid.translator) (sym c.in_err-item.was) tt) (nothing-done mid.translator c.items.to_client c.items.to_host c.items.notes) (c.items.invariant.took first events stands))
 
 pub returns-in_err-take : goal.returns-in_err-take
 returns-in_err-take c =
@@ -58,7 +58,7 @@ returns-in_err-take c =
     err-event c.from_residual-in_err-take.result c.args.self.now (record mid { host = c.next_told.new.host; translator = c.take.new.self }) (HostPiece c.args.piece.now) c.args.to_client.now c.take.new.to_client c.args.to_host.now c.take.new.to_host c.args.notes.now c.take.new.notes c.from_residual-in_err-take.ensures.0
     (λ first events stands.
     stops-told first c.args.self.now mid c.next_told.new.host c.take.new.self events c.args.piece.now c.args.to_client.now c.items.to_client c.take.new.to_client c.args.to_host.now c.items.to_host c.take.new.to_host c.args.notes.now c.items.notes c.take.new.notes c.next_told.result
-    stands c.items.invariant.rest c.next_told.ensures (subst IsAny (sym (c.in_ok-item.was ∙ ap (λ o. Ok o) c.in-Some.is)) tt) c.in_err-take.ensures.err (c.items.invariant.took first events stands))
+    stands c.items.invariant.rest c.next_told.ensures (subst (WantsItem mid.translator) (sym (c.in_ok-item.was ∙ ap (λ o. Ok o) c.in-Some.is)) c.in_err-take.ensures.wants) c.in_err-take.ensures.err (c.items.invariant.took first events stands))
 
 pub returns : goal.returns
 returns c first events stands =

@@ -1,4 +1,4 @@
-use Rattle.std.proofs.Common.{◌≡◌, ◌∙◌, ◌++◌, ◌∷◌, [], ℕ, List, Option, Some, None, ap, sym, subst, refl}
+use Rattle.std.proofs.Common.{◌≡◌, ◌∙◌, ◌++◌, ◌∷◌, [], ℕ, List, Option, Some, None, ap, sym, subst, refl, arith}
 use Rattle.std.specs.Prelude.{slice_set}
 use Rattle.std.proofs.lemmas.Bool.{false≢true}
 use Rattle.std.proofs.lemmas.List.{append-nil}
@@ -13,6 +13,9 @@ use Rattle.gate_core.specs.inner.Holds.{Does}
 use Rattle.gate_core.proofs.Steady.{does-idle}
 use Rattle.gate_core.proofs.Places.{set-back, set-twice}
 use Rattle.gate_core.proofs.Arrived.{of-address, of-none, on-ok, on-err, does-receive}
+use Rattle.gate_core.specs.Wants.{GivesSome}
+use Rattle.gate_core.proofs.Giving.{by-arrival}
+use Rattle.gate_core.proofs.Stopping as stopping
 use Rattle.gate_core.proofs.kept.Kept.arrive.Goals as goal
 
 pub returns-in_default-clause-ok : goal.returns-in_default-clause-ok
@@ -70,3 +73,13 @@ returns-clause-err c host =
       notes = notes;
     })
     c.receive-received.ensures.same c.receive-received.ensures.same_up c.receive-received.ensures.err c.receive-received.ensures.err_notes
+
+pub returns-clause-wants : goal.returns-clause-wants
+returns-clause-wants c st h =
+    let old = c.args.self.now in
+    let e = c.args.endpoint in
+    let up = c.in-Some-take.up in
+    let at : stream_at old.streams e ≡ Some up = ap (stream_at old.streams) (sym c.in-Some.ensures.byte) ∙ sym c.in-Some-take.ensures.up in
+    let there : stream_of st.streams e ≡ Some up = of-address st.streams e (c.in-Some.ensures.is_some.0 refl) ∙ ap (λ (ups : List (Option Up)). stream_at ups e) (sym h.streams) ∙ at in
+    stopping.on-err c.receive-received.result _
+    (subst (λ (o : Option Up). GivesSome st (mark_as st (arrives st e c.args.iso c.args.packet o) None)) (sym there) (by-arrival st (arrives st e c.args.iso c.args.packet (Some up)) None (omega arith)))

@@ -1,4 +1,4 @@
-use Rattle.std.proofs.Common.{not, false, List, [], ◌++◌, refl, sym, ap, ◌∙◌}
+use Rattle.std.proofs.Common.{◌<◌, not, false, None, List, [], ◌++◌, length, refl, sym, ap, subst, ◌∙◌, arith}
 use Rattle.std.proofs.lemmas.List.{append-nil}
 use Rattle.gate_core.specs.declared.kept.Kept.{Kept}
 use Rattle.gate_core.specs.declared.note.Note.{Note}
@@ -9,6 +9,13 @@ use Rattle.gate_core.specs.Notes.{when}
 use Rattle.gate_core.proofs.Left.{end-leaves, left-none, does-leave}
 use Rattle.gate_core.proofs.Flown.{parts-are, leaving-sent}
 use Rattle.gate_core.proofs.Stopping.{extends-after, on-err}
+use Rattle.std.specs.Prelude.{filter}
+use Rattle.unlink_race.specs.declared.live.Live.{Live}
+use Rattle.redir_data.specs.declared.packet.RedirPacket.{RedirPacket}
+use Rattle.gate_core.specs.Output.{cancels}
+use Rattle.gate_core.specs.inner.Rows.{is_cancelled_row}
+use Rattle.gate_core.proofs.Flown.{stops-are}
+use Rattle.gate_core.proofs.Giving.{by-cancels, by-asked, by-leaving, cancelled-some}
 use Rattle.gate_core.proofs.kept.Kept.client_left.Goals as goal
 
 pub returns-clause-ok : goal.returns-clause-ok
@@ -27,3 +34,22 @@ returns-in_err-called-clause-err c client = on-err c.from_residual-in_err-called
   host = extends-after c.args.to_host.now c.write_cancels.new.to_host c.write_stops.new.to_host _ c.in_ok-write_cancels.ensures.ok c.in_err-called.ensures.err;
   notes = record { more = []; is = sym (append-nil c.args.notes.now) };
 })
+
+pub returns-in_err-write_cancels-clause-wants : goal.returns-in_err-write_cancels-clause-wants
+returns-in_err-write_cancels-clause-wants c st h =
+    on-err c.from_residual.result _
+    (by-cancels st (Ends Client) None (omega (
+      arith,
+      c.in_err-write_cancels.ensures.wants,
+      ap (λ (ls : List Live). length (filter is_cancelled_row ls)) h.live,
+      cancelled-some (cancels (Ends Client)) (end-leaves st).cancel_is st.live,
+    )))
+
+pub returns-in_err-called-clause-wants : goal.returns-in_err-called-clause-wants
+returns-in_err-called-clause-wants c st h =
+    on-err c.from_residual-in_err-called.result _
+    (by-asked st (Ends Client) None (subst (λ (ps : List RedirPacket). 0 < length ps) (stops-are c.args.self.now st h None) c.in_err-called.ensures.wants))
+
+pub returns-in_err-tell_gone-clause-wants : goal.returns-in_err-tell_gone-clause-wants
+returns-in_err-tell_gone-clause-wants c st h =
+    on-err c.from_residual-in_err-tell_gone.result _ (by-leaving st (Ends Client) None refl (ap not (sym h.client_over) ∙ c.in_err-tell_gone.ensures.wants))

@@ -9,7 +9,8 @@ use Rattle.gate_core.specs.inner.Rows.{IsFine}
 use Rattle.gate_core.specs.inner.Responses.{response_view}
 use Rattle.gate_core.specs.Items.{capped}
 use Rattle.gate_core.proofs.Lists.{Each}
-use Rattle.gate_core.proofs.Answering.{does-live, does-late, Each-find, Each-without, length-without}
+use Rattle.gate_core.proofs.Answering.{does-live, live-gives, does-late, Each-find, Each-without, length-without}
+use Rattle.gate_core.proofs.Stopping.{on-err}
 use Rattle.gate_core.proofs.kept.Kept.complete.Goals as goal
 
 pub returns-in_default-clause-ok : goal.returns-in_default-clause-ok
@@ -78,3 +79,7 @@ returns-in_default-clause-kept c =
       unlinked_fits = kept.unlinked_fits;
       dropped_fits = kept.dropped_fits;
     })
+
+pub returns-in_err-won-clause-wants : goal.returns-in_err-won-clause-wants
+returns-in_err-won-clause-wants c st h sound =
+    on-err c.from_residual.result _ (live-gives st c.args.id (response_view c.args.response) sound c.args.self.now c.in-Some.live.now h (sym c.find.ensures ∙ ap option_copied c.in-Some.is))

@@ -1,4 +1,4 @@
-use Rattle.std.proofs.Common.{w32, to_z, of_z, ◌≡◌, ◌+◌, ◌&&◌, ◌++◌, ℕ, ℤ, Bool, true, false, cond, not, List, [], length, refl, sym, ap, ◌∙◌}
+use Rattle.std.proofs.Common.{w32, to_z, of_z, ◌≡◌, ◌<◌, ◌+◌, ◌&&◌, ◌++◌, ℕ, ℤ, Bool, true, false, cond, not, List, [], length, refl, sym, ap, subst, ◌∙◌}
 use Rattle.std.specs.Prelude.{filter}
 use Rattle.std.specs.List.{flat_map}
 use Rattle.std.proofs.lemmas.List.{append-nil}
@@ -18,6 +18,7 @@ use Rattle.gate_core.specs.inner.Rows.{row_request}
 use Rattle.gate_core.specs.inner.Ending.{is_told, ended_bytes, status_bytes}
 use Rattle.gate_core.proofs.Lists.{every, filter-same, filter-none, filter-all, flat_map-same, flat_map-none}
 use Rattle.gate_core.proofs.Lost.{capped-same, and-false}
+use Rattle.gate_core.proofs.Stopping.{on-err}
 use Rattle.gate_core.proofs.kept.Kept.end_stream.Goals as goal
 
 and-true : (b : Bool) → (b && true) ≡ b
@@ -102,3 +103,8 @@ returns-clause-sent c =
     c.in_ok-write_ends.ensures.ok
     ∙ (λ i. c.args.to_client.now ++ flat_map (ended_bytes (Told c.args.endpoint) ((ap (λ (z : ℤ). to_z w32 (of_z w32 z)) c.errno.ensures ∙ errno-again c.args.status) i)) c.args.self.now.lives.live)
     ∙ ap (λ (bs : List ℕ). c.args.to_client.now ++ bs) (sym (same-sent c.args.endpoint c.args.status no c.args.self.now.lives.live))
+
+pub returns-in_err-write_ends-clause-wants : goal.returns-in_err-write_ends-clause-wants
+returns-in_err-write_ends-clause-wants c =
+    let no : is_success c.args.status ≡ false = sym c.is_success.ensures ∙ c.if-is_success.false in
+    on-err c.from_residual.result _ (subst (λ (ls : List Live). 0 < length ls) (sym (same-end c.args.endpoint c.args.status no c.args.self.now.lives.live)) c.in_err-write_ends.ensures.wants)

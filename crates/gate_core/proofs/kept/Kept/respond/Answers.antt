@@ -7,3 +7,6 @@ returns-in-None-clause-ok c st at host place h sound =
 
 pub returns-in-Some-clause-ok : goal.returns-in-Some-clause-ok
 returns-in-Some-clause-ok c st at host place h sound = rw c.in-Some.is (c.answer.ensures.ok st at host place h sound)
+
+pub returns-in-Some-clause-wants : goal.returns-in-Some-clause-wants
+returns-in-Some-clause-wants c st at place h sound = rw c.in-Some.is (c.answer.ensures.wants st at place h sound)

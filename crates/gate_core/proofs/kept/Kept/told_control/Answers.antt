@@ -1,9 +1,10 @@
-use Rattle.std.proofs.Common.{None, OnOk, sym, subst}
+use Rattle.std.proofs.Common.{None, OnOk, OnErr, sym, subst}
 use Rattle.redir_wire.specs.Capability.{announced, caps_of, agreed}
 use Rattle.redir_data.specs.declared.packet.RedirPacket.TheVariants.{Plain}
 use Rattle.gate_core.specs.declared.kept.Kept.{Kept}
 use Rattle.gate_core.specs.Marks.{Effect, Agrees}
 use Rattle.gate_core.specs.Meaning.{mark_as, fact_of}
+use Rattle.gate_core.specs.Wants.{GivesSome}
 use Rattle.gate_core.specs.inner.Holds.{Does}
 use Rattle.gate_core.proofs.Answering.{does-agree, told-other}
 use Rattle.gate_core.proofs.kept.Kept.told_control.Goals as goal
@@ -25,6 +26,10 @@ returns-in_default c =
           (sym (told-other st at c.args.header.now c.args.packet.now c.in_default.not-Hello c.in_default.not-Disconnect c.in_default.not-IsoStatus c.in_default.not-InterruptStatus))
           (c.told_fact.ensures.ok st at c.args.to_host.now place h sound going);
       err = c.told_fact.ensures.err c.args.to_host.now;
+      wants = λ st at place h sound.
+          subst (λ (e : Effect). OnErr c.told_fact.result (GivesSome st (mark_as st e (fact_of (Plain c.args.packet.now)))))
+          (sym (told-other st at c.args.header.now c.args.packet.now c.in_default.not-Hello c.in_default.not-Disconnect c.in_default.not-IsoStatus c.in_default.not-InterruptStatus))
+          (c.told_fact.ensures.wants st at place h sound);
     }
 
 pub returns-in-IsoStatus-clause-ok : goal.returns-in-IsoStatus-clause-ok
@@ -40,3 +45,9 @@ returns-in-InterruptStatus-clause-ok c st at place h sound going =
 
 pub returns-in-InterruptStatus-clause-err : goal.returns-in-InterruptStatus-clause-err
 returns-in-InterruptStatus-clause-err c = c.told_stream-in-InterruptStatus.ensures.err c.args.to_host.now c.args.notes.now
+
+pub returns-in-IsoStatus-clause-wants : goal.returns-in-IsoStatus-clause-wants
+returns-in-IsoStatus-clause-wants c st at place h sound = rw c.in-IsoStatus.is (c.told_stream.ensures.wants st h sound)
+
+pub returns-in-InterruptStatus-clause-wants : goal.returns-in-InterruptStatus-clause-wants
+returns-in-InterruptStatus-clause-wants c st at place h sound = rw c.in-InterruptStatus.is (c.told_stream-in-InterruptStatus.ensures.wants st h sound)

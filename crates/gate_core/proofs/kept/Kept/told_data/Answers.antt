@@ -1,10 +1,11 @@
-use Rattle.std.proofs.Common.{None, OnOk, sym, ap, subst, ◌∙◌}
+use Rattle.std.proofs.Common.{None, OnOk, OnErr, sym, ap, subst, ◌∙◌}
 use Rattle.usb_base.specs.declared.transfer.StreamPacket.{StreamPacket}
 use Rattle.gate_core.specs.Ups.{stream_of}
 use Rattle.gate_core.specs.Marks.{Effect}
 use Rattle.gate_core.specs.Meaning.{mark_as, arrives, by_response}
 use Rattle.gate_core.specs.inner.Holds.{Does}
 use Rattle.gate_core.proofs.Sorting.{arrives-so, responds-so}
+use Rattle.gate_core.specs.Wants.{GivesSome}
 use Rattle.gate_core.proofs.kept.Kept.told_data.Goals as goal
 
 pub returns-in_default-clause-ok : goal.returns-in_default-clause-ok
@@ -21,3 +22,18 @@ returns-clause-ok c st at host place h sound =
     (ap (λ (p : StreamPacket). arrives st ep iso p (stream_of st.streams ep)) c.stream_packet.ensures
     ∙ arrives-so st at c.args.header.now c.args.packet (ep, iso) (sym c.in-Some.is ∙ c.stream_in.ensures))
     (c.arrive.ensures.ok st host h sound)
+
+pub returns-in_default-clause-wants : goal.returns-in_default-clause-wants
+returns-in_default-clause-wants c st at place h sound =
+    subst (λ (e : Effect). OnErr c.respond.result (GivesSome st (mark_as st e None)))
+    (ap (by_response st at c.args.header.now) c.data_of.ensures ∙ responds-so st at c.args.header.now c.args.packet (sym c.in_default.is ∙ c.stream_in.ensures))
+    (c.respond.ensures.wants st at place h sound)
+
+pub returns-clause-wants : goal.returns-clause-wants
+returns-clause-wants c st at place h sound =
+    let ep = c.in-Some.endpoint in
+    let iso = c.in-Some.iso in
+    subst (λ (e : Effect). OnErr c.arrive.result (GivesSome st (mark_as st e None)))
+    (ap (λ (p : StreamPacket). arrives st ep iso p (stream_of st.streams ep)) c.stream_packet.ensures
+    ∙ arrives-so st at c.args.header.now c.args.packet (ep, iso) (sym c.in-Some.is ∙ c.stream_in.ensures))
+    (c.arrive.ensures.wants st h)

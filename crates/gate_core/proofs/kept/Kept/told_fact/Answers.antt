@@ -5,6 +5,8 @@ use Rattle.gate_core.specs.Responses.{Response, response_of}
 use Rattle.gate_core.specs.Meaning.{mark_as, fact_of, by_response}
 use Rattle.gate_core.specs.inner.Holds.{Does}
 use Rattle.gate_core.proofs.Answering.{does-tell}
+use Rattle.gate_core.specs.Wants.{GivesSome}
+use Rattle.gate_core.proofs.Stopping.{on-err}
 use Rattle.gate_core.proofs.kept.Kept.told_fact.Goals as goal
 
 pub returns-clause-ok : goal.returns-clause-ok
@@ -19,3 +21,9 @@ returns-clause-ok c st at host place h sound going =
     (does-tell st at header (response_of packet) (fact_of packet) old c.respond.new.self client c.respond.new.to_client host host notes c.respond.new.notes going
     (subst (λ (r : Option Response). Does st (mark_as st (by_response st at header r) None) old c.respond.new.self client c.respond.new.to_client host host notes c.respond.new.notes) c.status_of.ensures
     (c.in_ok-respond.ensures.ok st at host place h sound)))
+
+pub returns-in_err-respond-clause-wants : goal.returns-in_err-respond-clause-wants
+returns-in_err-respond-clause-wants c st at place h sound =
+    on-err c.from_residual.result _
+    (subst (λ (r : Option Response). GivesSome st (mark_as st (by_response st at c.args.header.now r) (fact_of (Plain c.args.packet.now)))) c.status_of.ensures
+    (c.in_err-respond.ensures.wants st at place h sound))

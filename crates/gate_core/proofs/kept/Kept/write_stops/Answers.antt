@@ -5,6 +5,8 @@ use Rattle.gate_core.specs.Ups.{Up, is_ended}
 use Rattle.gate_core.specs.Packets.{stop_of, stops}
 use Rattle.gate_core.specs.inner.Calling.{called_of, after_stops, bytes_of}
 use Rattle.gate_core.proofs.Stopping.{bytes-more, stops-more, next-stops}
+use Rattle.gate_core.proofs.Giving.{some-joined}
+use Rattle.gate_core.proofs.Stopping.{on-err}
 use Rattle.gate_core.proofs.kept.Kept.write_stops.Goals as goal
 
 pub loop-stream-init : goal.loop-stream-init
@@ -28,3 +30,10 @@ loop-stream-preserved c =
           ∙ append_assoc c.args.to_host.now (bytes_of t t.last before) (bytes_of t (after_stops t (called_of t) before).last one)
           ∙ ap (λ bs. c.args.to_host.now ++ bs) (sym (bytes-more t t.last before one) ∙ ap (bytes_of t t.last) (sym next));
     }
+
+pub returns-in_err-write_stop_of-clause-wants : goal.returns-in_err-write_stop_of-clause-wants
+returns-in_err-write_stop_of-clause-wants c =
+    let t = c.args.self.now in
+    let item = c.stream-item.result in
+    let here : item ≡ get_or t.streams c.loop-stream.stream-index item = subst (λ (ups : List (Option Up)). item ≡ get_or ups c.loop-stream.stream-index item) c.as_slice-stream-items.ensures.value c.stream-item.is in
+    on-err c.from_residual.result _ (some-joined (stop_of (is_ended c.args.by)) t.streams c.loop-stream.stream-index item (omega (arith, ap length c.as_slice-stream-items.ensures.value)) here c.in_err-write_stop_of.ensures.wants)
