@@ -3,10 +3,7 @@ use Rattle.std.proofs.Common.{◌≡◌, ℕ, ◌+◌, ◌≤◌, ◌||◌, Bool
 use Rattle.std.specs.Prelude.{filter}
 use Rattle.std.specs.List.{list_any}
 use Rattle.gate_core.proofs.Lists.{Each}
-
-abbrev pub count : {X : Type 0} → (X → Bool) → List X → ℕ
-count test [] = 0
-count test (x ∷ xs) = cond (test x) 1 0 + count test xs
+pub use Rattle.direct_device.specs.Counts.{count}
 
 pub count-append : {X : Type 0} (p : X → Bool) (xs ys : List X) → count p (xs ++ ys) ≡ count p xs + count p ys
 count-append p [] ys = omega arith

@@ -1,4 +1,4 @@
-mod Counts
+pub mod Counts
 mod Taken
 mod Once
 mod OnceSubmit

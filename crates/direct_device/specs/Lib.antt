@@ -1,3 +1,4 @@
+pub mod Counts
 pub mod Direct
 pub mod Acting
 pub mod Legal

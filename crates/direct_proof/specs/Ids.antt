@@ -1,14 +1,11 @@
 -- What is owed: the requests and answers under way, by their ids and numbers.
-use Rattle.std.specs.Prelude.{◌≡◌, ℕ, ◌+◌, ◌≤◌, ◌==◌, Bool, true, if◌then◌else◌, List, [], ◌∷◌}
+use Rattle.std.specs.Prelude.{◌≡◌, ℕ, ◌+◌, ◌≤◌, ◌==◌, Bool, true, List}
 use Rattle.redir_host.specs.Sound.{Each}
 use Rattle.direct_run.specs.Noted.{number_in}
 use Rattle.direct_run.specs.declared.submitted.Submitted.{Submitted}
+pub use Rattle.direct_device.specs.Counts.{count}
 use Rattle.direct_device.specs.Direct.{Load, number}
 use Rattle.direct_proof.specs.Requests.{Coming, Debt, Entry}
-
-abbrev pub count : {X : Type 0} → (X → Bool) → List X → ℕ
-count test [] = 0
-count test (x ∷ xs) = (if test x then 1 else 0) + count test xs
 
 -- they are the same submit where they have the same id
 abbrev pub Agrees : Debt → ℕ → Load → Type 0

@@ -11,11 +11,11 @@ use Rattle.usbgate.specs.declared.status.Status.{Status}
 use Rattle.usbgate.specs.declared.status.Status.TheVariants.{Done, Usage, Refused, ReadFault, WriteFault, LinkFault, OutOfMemory, BadTape, Idle, Spent}
 use Rattle.usbgate.specs.Tape.{lines_of}
 use Rattle.usbgate.specs.Text.{usage_line}
-use Rattle.usbgate.specs.TapeCommand.{TapeCommand, tape_limit, begin, Reading, read_lines, tape_text, tape_status}
+use Rattle.usbgate.specs.TapeCommand.{TapeCommand, tape_limit, begin, Reading, read_lines, read_tape, tape_text, tape_status}
 use Rattle.usbgate.specs.Prescribed.{Prescribed, over_tape, usage}
 use Rattle.usbgate.specs.inner.Causes.{HasCauses}
-use Rattle.usbgate.specs.Run.{WrittenInPart, WrittenWhole, LeavesTold, Leaves, OpensNoLink}
-use Rattle.usbgate.specs.inner.TapeReader.{Stage, Closes}
+use Rattle.usbgate.specs.Run.{WrittenInPart, WrittenWhole, LeavesTold, Leaves, OpensNoLink, ComesToEnd}
+use Rattle.usbgate.specs.inner.TapeReader.{IsKept, Stage, Closes, ReadsTo}
 use Rattle.usbgate.proofs.Stages.{text_begins}
 
 -- ---- what is told
@@ -92,6 +92,30 @@ ends_by (LinkFault side) p tape text remaining contents e written either = false
 ends_by OutOfMemory p tape text remaining contents e written either = record { front = p.text tape; back = []; parts = sym (append-nil (p.text tape)); contents-is = written.contents-is }
 ends_by Idle p tape text remaining contents e written either = false-true e
 ends_by Spent p tape text remaining contents e written either = false-true e
+
+pub comes-to : {A : Type 0} (status : Status) → A → ComesToEnd status A
+comes-to Done a = a
+comes-to Usage a = tt
+comes-to Refused a = a
+comes-to ReadFault a = tt
+comes-to WriteFault a = tt
+comes-to (LinkFault side) a = tt
+comes-to OutOfMemory a = tt
+comes-to (BadTape number) a = a
+comes-to Idle a = tt
+comes-to Spent a = tt
+
+pub comes-too : {A B : Type 0} (status : Status) → (A → B) → ComesToEnd status A → ComesToEnd status B
+comes-too Done f a = f a
+comes-too Usage f a = tt
+comes-too Refused f a = f a
+comes-too ReadFault f a = tt
+comes-too WriteFault f a = tt
+comes-too (LinkFault side) f a = tt
+comes-too OutOfMemory f a = tt
+comes-too (BadTape number) f a = f a
+comes-too Idle f a = tt
+comes-too Spent f a = tt
 
 closed : (piece rest : List ℕ) (status : Status) (remaining : Option (List ℕ)) → ((piece ≡ [] → ⊥) → (number : ℕ) × (status ≡ BadTape number)) → (piece ≡ [] → rest ≡ []) → remaining ≡ Some rest
     → ((number : ℕ) × (status ≡ BadTape number)) ⊎ (remaining ≡ Some [])
@@ -190,14 +214,14 @@ module _ {C S : Type 0} (command : TapeCommand S) (Keeps : C → S → Type 0) w
 
   -- ---- the end
 
-  pub closes-is_quiet : {status : Status} {p : TapeReader C} {piece written : List ℕ} (read : List ℕ) → Closes command status p piece read written → is_quiet status ≡ true
+  pub closes-is_quiet : {status : Status} {p : TapeReader C} {piece written : List ℕ} (read : List ℕ) → Closes command Keeps status p piece read written → is_quiet status ≡ true
   closes-is_quiet {piece = piece} read c =
       let x = read_lines command (begin command) (lines_of ((read ++ piece) ++ [])) in
       ap is_quiet (sym (c.outcome [] (λ _. refl))) ∙ end_by x.bad (command.refused x.after.kept) (x.after.lines + 1)
 
   -- all text is written, and the run ends
   pub ran-end : (remaining_old remaining new contents_old contents last : Option (List ℕ)) (p q : TapeReader C) (status : Status) (piece bytes : List ℕ) (g : Goes command Keeps remaining_old remaining contents_old contents p) → Consumes remaining new piece
-      → (piece ≡ [] → IsAtEnd new) → Closes command status q piece g.read g.written → bytes ≡ q.text → Appends contents last bytes
+      → (piece ≡ [] → IsAtEnd new) → Closes command Keeps status q piece g.read g.written → bytes ≡ q.text → Appends contents last bytes
       → Leaves status (over_tape command) remaining_old new contents_old last
   ran-end remaining_old remaining new contents_old contents last p q status piece bytes g read at_end c bytes-is a = λ tape text tape_told text_told.
       let t = remaining_told remaining_old new (g.read ++ piece) tape (Consumes-trans remaining_old remaining new g.read piece g.consumed read) tape_told in
@@ -208,9 +232,16 @@ module _ {C S : Type 0} (command : TapeCommand S) (Keeps : C → S → Type 0) w
         status-is = sym (c.outcome t.0 none) ∙ ap (tape_status command) (sym t.2);
       }) (closed piece t.0 status new c.bad none t.1)
 
+  -- what is then kept
+  pub ran-kept : (remaining_old remaining new contents_old contents : Option (List ℕ)) (p q : TapeReader C) (status : Status) (piece : List ℕ) (g : Goes command Keeps remaining_old remaining contents_old contents p) → Consumes remaining new piece
+      → (piece ≡ [] → IsAtEnd new) → Closes command Keeps status q piece g.read g.written → ReadsTo status Keeps command remaining_old
+  ran-kept remaining_old remaining new contents_old contents p q status piece g read at_end c = comes-to status (λ tape tape_told.
+      let t = remaining_told remaining_old new (g.read ++ piece) tape (Consumes-trans remaining_old remaining new g.read piece g.consumed read) tape_told in
+      subst (λ (l : List ℕ). IsKept Keeps (read_tape command l).after.kept) (sym t.2) (c.kept t.0 (λ e. at_end_told new t.0 (at_end e) t.1)))
+
   -- the last write fails
   pub ran-last : (remaining_old remaining new contents_old contents last : Option (List ℕ)) (p q : TapeReader C) (status : Status) (piece bytes : List ℕ) (g : Goes command Keeps remaining_old remaining contents_old contents p) → Consumes remaining new piece
-      → (piece ≡ [] → IsAtEnd new) → Closes command status q piece g.read g.written → bytes ≡ q.text → AppendsFront contents last bytes
+      → (piece ≡ [] → IsAtEnd new) → Closes command Keeps status q piece g.read g.written → bytes ≡ q.text → AppendsFront contents last bytes
       → Leaves WriteFault (over_tape command) remaining_old new contents_old last
   ran-last remaining_old remaining new contents_old contents last p q status piece bytes g read at_end c bytes-is f = λ tape text tape_told text_told.
       let t = remaining_told remaining_old new (g.read ++ piece) tape (Consumes-trans remaining_old remaining new g.read piece g.consumed read) tape_told in

@@ -5,6 +5,7 @@ pub mod Events
 pub mod Modelled
 pub mod Loaded
 pub mod Doing
+pub mod Simulated
 pub mod Showing
 pub mod Served
 pub mod Intervals

@@ -91,11 +91,17 @@ module _ {S : Type 0} (m : Meaning S) (s : S) where
         kept = ap (λ (x : Reading (List Step)). x.after.kept) is ∙ others.kept ∙ ap (steps_after lines) (kept-step p.kept (step_said said));
       }
 
-  -- so the last text is that of these steps
+  -- so these steps are kept of such a tape
+  tape-read : (lines : List TapeLine) → TapeAgain lines → IsRead (read_tape (model m s) (tape_text lines)) (steps_after lines [])
+  tape-read lines again = lines-read lines (begin (model m s)) again.each (omega (arith, again.short))
+
+  pub kept-made : (lines : List TapeLine) → TapeAgain lines → (read_tape (model m s) (tape_text lines)).after.kept ≡ steps_after lines []
+  kept-made lines again = (tape-read lines again).kept
+
+  -- and the last text is that of these steps
   pub last-made : (lines : List TapeLine) → TapeAgain lines → last_text (model m s) (read_tape (model m s) (tape_text lines)) ≡ (model m s).closing (steps_after lines [])
   last-made lines again =
-      let x = lines-read lines (begin (model m s)) again.each (omega (arith, again.short)) in
-      last-good (read_tape (model m s) (tape_text lines)) _ x
+      last-good (read_tape (model m s) (tape_text lines)) _ (tape-read lines again)
     where
       last-good : (x : Reading (List Step)) (steps : List Step) → IsRead x steps → last_text (model m s) x ≡ (model m s).closing steps
       last-good x steps is =

@@ -21,11 +21,10 @@ use Rattle.direct_run.specs.Steps.{Step, Client, ClientEnd, ToHost, ToGate, Perf
 use Rattle.direct_run.specs.Trace.{given_of, told_by}
 use Rattle.direct_run.specs.World.{Course, first_id, course, after_step, wire_to_gate}
 use Rattle.usbgate.specs.declared.model.ModelRun.{ModelRun}
-use Rattle.usbgate.specs.Model.{on_line, on_step, step_said}
+use Rattle.usbgate.specs.Model.{on_line, on_step, step_said, model}
 use Rattle.usbgate.specs.Replay.{has_refusal}
 use Rattle.usbgate.specs.Text.{told_text}
-use Rattle.usbgate.specs.TapeCommand.{TapeCommand}
-use Rattle.usbgate.specs.inner.Model.{Models, TakesSaid, has_some}
+use Rattle.usbgate.specs.inner.Model.{HasDone, TakesSaid, has_some}
 use Rattle.usbgate.specs.inner.TapeReader.{TakesLine}
 use Rattle.usbgate.specs.inner.Replay.{is_refusal}
 use Rattle.usbgate.proofs.Events.{refused-more}
@@ -65,34 +64,23 @@ step-refuses m s c Unplug = or-false (has_refusal (history first_id c.events))
 
 -- ---- a line
 
--- what the line adds is put behind the text
-takes-line : {S : Type 0} (m : Meaning S) (command : TapeCommand (List Step)) (old new : ModelRun S) (steps : List Step) (content : List ℕ) (said : TapeLine) (text_old text_new : List ℕ) → tape_line Model content ≡ Some said →
-    (h : Models m command old steps) → TakesLine (Models m command) (Some (on_step m h.first steps (step_said said))) new text_old text_new → TakesLine (Models m command) (command.line steps content) new text_old text_new
-takes-line {S = S} m command old new steps content said text_old text_new is h t =
-    subst (λ (x : TapeCommand (List Step)). TakesLine (Models m command) (x.line steps content) new text_old text_new) (sym h.command-is)
-    (subst (λ (x : Option TapeLine). TakesLine (Models m command) (on_line m h.first steps x) new text_old text_new) (sym is) t)
-
--- a line whose step was done
-pub line-told : {S : Type 0} (m : Meaning S) (command : TapeCommand (List Step)) (old new : ModelRun S) (steps : List Step) (content : List ℕ) (said : TapeLine) (done : SystemKept S) (outcome : Option Told) (told : Told) (text_old text_new : List ℕ) →
-    tape_line Model content ≡ Some said → ((s : S) → Stands m s old.system steps → TakesSaid m s done steps (step_said said) outcome) → outcome ≡ Some told → new.system ≡ done → text_new ≡ text_old ++ told_text told → new.refused ≡ (old.refused || has_some told.refusals) →
-    Models m command old steps → TakesLine (Models m command) (command.line steps content) new text_old text_new
-line-told {S = S} m command old new steps content said done outcome told text_old text_new is takes outcome-is system-is text-is refused h =
-    takes-line m command old new steps content said text_old text_new is h (go (step_said said) taken)
+-- a line whose step was done puts what that adds behind the text
+pub line-told : {S : Type 0} (m : Meaning S) (s : S) (old new : ModelRun S) (steps : List Step) (content : List ℕ) (said : TapeLine) (done : SystemKept S) (outcome : Option Told) (told : Told) (text_old text_new : List ℕ) →
+    tape_line Model content ≡ Some said → (Stands m s old.system steps → TakesSaid m s done steps (step_said said) outcome) → outcome ≡ Some told → new.system ≡ done → text_new ≡ text_old ++ told_text told → new.refused ≡ (old.refused || has_some told.refusals) →
+    HasDone m s old steps → TakesLine (HasDone m s) ((model m s).line steps content) new text_old text_new
+line-told {S = S} m s old new steps content said done outcome told text_old text_new is takes outcome-is system-is text-is refused h =
+    subst (λ (x : Option TapeLine). TakesLine (HasDone m s) (on_line m s steps x) new text_old text_new) (sym is) (go (step_said said) taken)
   where
-    taken : TakesSaid m h.first new.system steps (step_said said) (Some told)
-    taken = subst (λ (k : SystemKept S). TakesSaid m h.first k steps (step_said said) (Some told)) (sym system-is)
-        (subst (TakesSaid m h.first done steps (step_said said)) outcome-is (takes h.first h.done.system))
+    taken : TakesSaid m s new.system steps (step_said said) (Some told)
+    taken = subst (λ (k : SystemKept S). TakesSaid m s k steps (step_said said) (Some told)) (sym system-is)
+        (subst (TakesSaid m s done steps (step_said said)) outcome-is (takes h.system))
 
-    go : (o : Option Step) → TakesSaid m h.first new.system steps o (Some told) → TakesLine (Models m command) (Some (on_step m h.first steps o)) new text_old text_new
+    go : (o : Option Step) → TakesSaid m s new.system steps o (Some told) → TakesLine (HasDone m s) (Some (on_step m s steps o)) new text_old text_new
     go None never = absurd never
     go (Some x) t = (
       text-is ∙ ap (λ (y : Told). text_old ++ told_text y) t.told-is,
       record {
-        first = h.first;
-        command-is = h.command-is;
-        done = record {
-          system = t.stands;
-          refused = refused ∙ (λ i. h.done.refused i || ap (λ (y : Told). has_some y.refusals) t.told-is i) ∙ step-refuses m h.first (course m h.first steps) x;
-        };
+        system = t.stands;
+        refused = refused ∙ (λ i. h.refused i || ap (λ (y : Told). has_some y.refusals) t.told-is i) ∙ step-refuses m s (course m s steps) x;
       },
     )

@@ -6,11 +6,12 @@ use Rattle.std.proofs.lemmas.Option.{none-some, same_Some}
 use Rattle.std.proofs.Math.Seq.{take-add}
 use Rattle.usbgate.specs.declared.tape_reader.TapeReader.{TapeReader}
 use Rattle.usbgate.specs.declared.status.Status.{Status}
+use Rattle.usbgate.specs.declared.status.Status.TheVariants.{Done, Refused}
 use Rattle.usbgate.specs.Tape.{lines_of, content}
 use Rattle.usbgate.specs.Text.{bad_line}
-use Rattle.usbgate.specs.TapeCommand.{TapeCommand, tape_limit, Progress, begin, one_further, next_line, Reading, on_line, read_lines, last_text, tape_text, status_of, tape_status}
+use Rattle.usbgate.specs.TapeCommand.{TapeCommand, tape_limit, Progress, begin, one_further, next_line, Reading, on_line, read_lines, read_tape, last_text, tape_text, status_of, tape_status}
 use Rattle.usbgate.specs.Run.{EndsALine, HasNoLF}
-use Rattle.usbgate.specs.inner.TapeReader.{GoesOn, with_text, Stage, Spoilt, Took, Finished, Closes, Stepped, AllRead, TookLast, Spoils, TookLine, Kept}
+use Rattle.usbgate.specs.inner.TapeReader.{IsKept, GoesOn, with_text, Stage, Spoilt, Took, Finished, Closes, Stepped, AllRead, TookLast, Spoils, TookLine, Kept}
 use Rattle.usbgate.proofs.Lines.{HasNoLF-append, EndsALine-append, EndsALine-line, lines_of-line, lines_of-last, first-part, line_end-some, line_end-none}
 
 -- the tape, cut behind its whole lines
@@ -66,7 +67,7 @@ module _ {C S : Type 0} (command : TapeCommand S) (Keeps : C → S → Type 0) w
 
   spoilt-by : {old : TapeReader C} {read written : List ℕ} (new : TapeReader C) (status : Status) (piece : List ℕ) (s : Stage command Keeps old read written) (line : List ℕ → List ℕ) (others : List ℕ → List (List ℕ))
       → ((later : List ℕ) → lines_of ((old.pending ++ piece) ++ later) ≡ line later ∷ others later) → ((later : List ℕ) → next_line command s.at (line later) ≡ None)
-      → Spoils status s.at old.text new.text → Spoilt command status new (read ++ piece) written
+      → Spoils status s.at old.text new.text → Spoilt command Keeps status new (read ++ piece) written
   spoilt-by {old = old} {read = read} {written = written} new status piece s line others begins bad h =
       let plays : (later : List ℕ) → read_lines command (begin command) (lines_of ((read ++ piece) ++ later)) ≡ with_text s.text (bad_play s.at) = λ later. plays-next s piece later (line later) (others later) None (begins later) (bad later) in
       record {
@@ -74,6 +75,7 @@ module _ {C S : Type 0} (command : TapeCommand S) (Keeps : C → S → Type 0) w
         status-is = h.status-is;
         text = λ later. ap (λ (x : Reading S). command.opening ++ x.text ++ last_text command x) (plays later) ∙ ends_text written old.text new.text command.opening s.text (bad_line (s.at.lines + 1)) s.text-is h.text-is;
         outcome = λ later. ap (status_of command) (plays later) ∙ sym h.status-is;
+        kept = λ later. subst (λ (x : Reading S). IsKept Keeps x.after.kept) (sym (plays later)) (old.lines.command, s.has_read.keeps);
       }
 
   line-bytes : (past : Bool) (s : Progress S) (line : List ℕ) (x : List ℕ × Progress S) → cond past None (option_map (one_further s line) (command.line s.kept (content line))) ≡ Some x
@@ -123,7 +125,7 @@ module _ {C S : Type 0} (command : TapeCommand S) (Keeps : C → S → Type 0) w
       ap (λ (t : Bool). cond t None (option_map (one_further s (line ++ more)) (command.line s.kept (content (line ++ more))))) over
 
   kept-spoilt : {old : TapeReader C} {read written : List ℕ} (new : TapeReader C) (status : Status) (piece : List ℕ) (s : Stage command Keeps old read written) (part : List ℕ) → old.pending ++ piece ≡ part → HasNoLF part
-      → tape_limit < s.at.bytes + length part → Spoils status s.at old.text new.text → Spoilt command status new (read ++ piece) written
+      → tape_limit < s.at.bytes + length part → Spoils status s.at old.text new.text → Spoilt command Keeps status new (read ++ piece) written
   kept-spoilt {old = old} new status piece s [] is none past h = let room_of : s.at.bytes + old.lines.room ≡ tape_limit = s.has_read.bytes in absurd (omega arith)
   kept-spoilt new status piece s (b ∷ bs) is none past h =
       spoilt-by new status piece s (λ later. (b ∷ bs) ++ (first-part b bs later none).more) (λ later. (first-part b bs later none).others)
@@ -147,7 +149,7 @@ module _ {C S : Type 0} (command : TapeCommand S) (Keeps : C → S → Type 0) w
   took-kept {old = old} new (Some status) piece s part h = kept-spoilt new status piece s (old.pending ++ piece) refl (HasNoLF-append old.pending piece s.part_of_line part) h.0 h.1
 
   -- what is spoilt stays so
-  pub took-more : (p : TapeReader C) (status : Status) (read written piece : List ℕ) (n : ℕ) → Spoilt command status p (read ++ take n piece) written → Spoilt command status p (read ++ piece) written
+  pub took-more : (p : TapeReader C) (status : Status) (read written piece : List ℕ) (n : ℕ) → Spoilt command Keeps status p (read ++ take n piece) written → Spoilt command Keeps status p (read ++ piece) written
   took-more p status read written piece n s =
       let more : (later : List ℕ) → (read ++ piece) ++ later ≡ (read ++ take n piece) ++ (drop n piece ++ later) =
       λ later. ap (λ (l : List ℕ). (read ++ l) ++ later) (sym (take-append-drop n piece)) ∙ ap (λ (l : List ℕ). l ++ later) (sym (append_assoc read (take n piece) (drop n piece)))
@@ -157,6 +159,7 @@ module _ {C S : Type 0} (command : TapeCommand S) (Keeps : C → S → Type 0) w
         status-is = s.status-is;
         text = λ later. ap (tape_text command) (more later) ∙ s.text (drop n piece ++ later);
         outcome = λ later. ap (tape_status command) (more later) ∙ s.outcome (drop n piece ++ later);
+        kept = λ later. subst (λ (l : List ℕ). IsKept Keeps (read_tape command l).after.kept) (sym (more later)) (s.kept (drop n piece ++ later));
       }
 
   -- ---- the end
@@ -200,7 +203,18 @@ module _ {C S : Type 0} (command : TapeCommand S) (Keeps : C → S → Type 0) w
       record {
         text = ap (λ (x : Reading S). command.opening ++ x.text ++ last_text command x) plays ∙ ends_text written old.text new.text command.opening s.text (bad_line (s.at.lines + 1)) s.text-is now.1.text-is;
         outcome = ap (status_of command) plays ∙ sym now.1.status-is;
+        kept = subst (λ (x : Reading S). IsKept Keeps x.after.kept) (sym plays) (old.lines.command, s.has_read.keeps);
       }
+
+  -- the last text is put behind
+  pub finished-by : {old : TapeReader C} {tape written : List ℕ} (new : TapeReader C) (refused : Bool) (all : AllRead command Keeps old tape written) → new.text ≡ old.text ++ command.closing all.at.kept
+      → command.refused all.at.kept ≡ refused → Finished command Keeps (cond refused Refused Done) new tape written
+  finished-by {old = old} {written = written} new refused all more is = record {
+    text = ap (λ (x : Reading S). command.opening ++ x.text ++ last_text command x) all.reads ∙ ap (λ (l : List ℕ). l ++ command.closing all.at.kept) (sym all.text-is)
+        ∙ append_assoc written old.text (command.closing all.at.kept) ∙ ap (λ (l : List ℕ). written ++ l) (sym more);
+    outcome = ap (status_of command) all.reads ∙ ap (λ (b : Bool). cond b Refused Done) is;
+    kept = subst (λ (x : Reading S). IsKept Keeps x.after.kept) (sym all.reads) (old.lines.command, all.has_read.keeps);
+  }
 
   -- ---- a front of the text
 
@@ -252,13 +266,14 @@ module _ {C S : Type 0} (command : TapeCommand S) (Keeps : C → S → Type 0) w
 
   -- ---- a step
 
-  pub closes-end : (status : Status) (p : TapeReader C) (piece read written : List ℕ) → piece ≡ [] → Finished command status p read written → Closes command status p piece read written
+  pub closes-end : (status : Status) (p : TapeReader C) (piece read written : List ℕ) → piece ≡ [] → Finished command Keeps status p read written → Closes command Keeps status p piece read written
   closes-end status p piece read written e f =
       let whole : (later : List ℕ) → later ≡ [] → (read ++ piece) ++ later ≡ read =
       λ later none. ap (λ (l : List ℕ). (read ++ l) ++ later) e ∙ ap (λ (l : List ℕ). (read ++ []) ++ l) none ∙ append-nil (read ++ []) ∙ append-nil read in
       record {
         text = λ later none. ap (tape_text command) (whole later (none e)) ∙ f.text;
         outcome = λ later none. ap (tape_status command) (whole later (none e)) ∙ f.outcome;
+        kept = λ later none. subst (λ (l : List ℕ). IsKept Keeps (read_tape command l).after.kept) (sym (whole later (none e))) f.kept;
         bad = λ some. absurd (some e);
       }
 
@@ -267,5 +282,6 @@ module _ {C S : Type 0} (command : TapeCommand S) (Keeps : C → S → Type 0) w
   stepped-take (Some status) p piece read written some s = record {
     text = λ later none. s.text later;
     outcome = λ later none. s.outcome later;
+    kept = λ later none. s.kept later;
     bad = λ some. (s.number, s.status-is);
   }

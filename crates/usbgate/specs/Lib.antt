@@ -12,6 +12,7 @@ pub mod Show
 pub mod Made
 pub mod Prescribed
 pub mod Run
+pub mod Simulated
 pub mod Recording
 pub mod Serves
 pub mod Code

@@ -82,3 +82,16 @@ IsOfNoCommand status = (status ≡ Usage) ⊎ (status ≡ WriteFault) ⊎ (statu
 -- how a run of `make` or `load` can end
 abbrev pub IsOfNoTape : Status → Type 0
 IsOfNoTape status = (status ≡ Done) ⊎ (status ≡ WriteFault) ⊎ (status ≡ OutOfMemory)
+
+-- this holds where a run over a tape comes to the tape's end, or to a bad line
+abbrev pub ComesToEnd : Status → Type 0 → Type 0
+ComesToEnd Done A = A
+ComesToEnd Refused A = A
+ComesToEnd (BadTape number) A = A
+ComesToEnd Usage A = Unit {0}
+ComesToEnd ReadFault A = Unit {0}
+ComesToEnd WriteFault A = Unit {0}
+ComesToEnd (LinkFault side) A = Unit {0}
+ComesToEnd OutOfMemory A = Unit {0}
+ComesToEnd Idle A = Unit {0}
+ComesToEnd Spent A = Unit {0}

@@ -61,7 +61,7 @@ pub struct EventTape<E> {
 impl<E: EventCommand> EventTape<E> {
     /// Nothing has happened yet.
     pub fn start(command: E) -> EventTape<E>
-        ensures { (told : Told) → E.HasSeen told command [] → HasEvents E.HasSeen (over_events told) result [] }
+        ensures { (told : Told) → E.HasSeen told command [] → HasEvents E.HasSeen told result [] }
     {
         EventTape {
             command,
@@ -92,6 +92,10 @@ impl<E: EventCommand> EventTape<E> {
 
 impl<E: EventCommand> TapeCommand for EventTape<E> {
     ghost Kept = { List PastEvent };
+
+    ghost Task = { Told };
+
+    ghost means = { over_events };
 
     ghost Keeps = { HasEvents E.HasSeen };
 

@@ -1,11 +1,12 @@
 //! The command `load`: what a modelled loop makes of the tape that a number stands for.
 
-ghost use Rattle.std.specs.Prelude.{◌≡◌, ◌≤◌, [], ℕ, List, Option, IfOk};
+ghost use Rattle.std.specs.Prelude.{◌≡◌, ◌≤◌, [], ℕ, List, Option, IfOk, OnOk};
 ghost use Rattle.direct_run.specs.Stands.{Stands};
 ghost use Rattle.made_tape.specs.Rounds.{made_lines};
 ghost use Rattle.usbgate.specs.Made.{loaded};
 ghost use Rattle.usbgate.specs.Prescribed.{printed};
 ghost use Rattle.usbgate.specs.Run.{Leaves, IsOfNoTape};
+ghost use Rattle.usbgate.specs.Simulated.{MadeSimulates};
 ghost use Rattle.usbgate.specs.inner.Causes.{HasCauses};
 ghost use Rattle.usbgate.specs.inner.Loaded.{steps_after};
 
@@ -13,6 +14,7 @@ use crate::model::do_line;
 use crate::printed::print;
 use crate::status::Status;
 use crate::text::push_counts;
+use direct_proof::systems_are_direct;
 use direct_run::System;
 use gate_outside::Sink;
 use made_tape::{MadeTape, read_again};
@@ -26,6 +28,7 @@ pub fn load<K: Sink>(alloc: Global, count: u16, out: &mut K) -> Status
     ensures leaves { (remaining : Option (List ℕ)) → Leaves result (printed (loaded count)) remaining remaining (K.contents out.old) (K.contents out.new) }
     ensures causes { (faults : ℕ) → HasCauses result faults faults (K.faults out.old) (K.faults out.new) }
     ensures ends { IsOfNoTape result }
+    ensures simulates { result ≡ Status.Done → MadeSimulates count }
 {
     match counted(alloc, count) {
         Ok(text) => print(text.as_slice(), out),
@@ -36,8 +39,10 @@ pub fn load<K: Sink>(alloc: Global, count: u16, out: &mut K) -> Status
 /// The line of the counts.
 fn counted(alloc: Global, count: u16) -> Result<Bytes, Memory>
     requires { count ≤ 1000 }
-    ensures { IfOk result (λ text. text ≡ loaded count) }
+    ensures text { IfOk result (λ text. text ≡ loaded count) }
+    ensures simulates { OnOk result (MadeSimulates count) }
 {
+    systems_are_direct::<Loopback>();
     let system = done(alloc, Loopback::make(alloc)?, count)?;
     read_again(count);
     let mut text = Bytes::new(alloc);

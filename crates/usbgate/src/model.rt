@@ -8,7 +8,7 @@ ghost use Rattle.direct_run.specs.Steps.{Step as PastStep};
 ghost use Rattle.direct_run.specs.Trace.{told_first};
 ghost use Rattle.usbgate.specs.Model.{IsSaid, model, step_said};
 ghost use Rattle.usbgate.specs.Text.{told_text};
-ghost use Rattle.usbgate.specs.inner.Model.{Models, TakesSaid, has_some};
+ghost use Rattle.usbgate.specs.inner.Model.{HasDone, TakesSaid, has_some};
 
 use crate::tape_command::TapeCommand;
 use crate::text::{push_counts, push_told};
@@ -29,7 +29,7 @@ pub struct ModelRun<G: Gadget> {
 impl<G: Gadget> ModelRun<G> {
     /// The run with which nothing has been done. It appends the lines of the hellos.
     pub fn start(alloc: Global, gadget: G, text: &mut Bytes) -> Result<ModelRun<G>, Memory>
-        ensures start { IfOk result (λ made. Models G.meaning (model G.meaning gadget) made []) }
+        ensures start { IfOk result (λ made. HasDone G.meaning gadget made []) }
         ensures text { OnOk result (text.new ≡ text.old ++ told_text (told_first G.meaning gadget)) }
     {
         let (system, told) = System::make(alloc, gadget)?;
@@ -82,7 +82,11 @@ pub fn do_line<G: Gadget>(system: &mut System<G>, line: &TapeLine) -> Result<Opt
 impl<G: Gadget> TapeCommand for ModelRun<G> {
     ghost Kept = { List PastStep };
 
-    ghost Keeps = { Models G.meaning };
+    ghost Task = { G };
+
+    ghost means = { model G.meaning };
+
+    ghost Keeps = { HasDone G.meaning };
 
     ghost Wants = { λ line. IsSaid (tape_line kind.Model line) };
 

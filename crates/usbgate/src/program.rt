@@ -6,12 +6,13 @@ ghost use Rattle.usb_base.specs.declared.side.Side.{Side as ASide};
 ghost use Rattle.usb_base.specs.declared.side.Side.TheVariants.{Client, Host};
 ghost use Rattle.session_tape.specs.Tapes.{WasThere};
 ghost use Rattle.bridge_run.specs.Outside.{outside, written, faults, OneRose};
+ghost use Rattle.usbgate.specs.declared.lending.Device.{Device as ADevice};
 ghost use Rattle.usbgate.specs.Run.{Leaves, OpensNoLink, IsOfNoCommand, IsOfNoTape};
 ghost use Rattle.usbgate.specs.Prescribed.{Prescribed, prescribed, usage as usage_prescribed, over_tape as tape_prescribed};
-ghost use Rattle.usbgate.specs.TapeCommand.{TapeCommand as Told};
 ghost use Rattle.usbgate.specs.EventCommand.{over_events};
 ghost use Rattle.usbgate.specs.Replay.{replay as replaying};
 ghost use Rattle.usbgate.specs.Model.{model as modelling, model_of};
+ghost use Rattle.usbgate.specs.Simulated.{AreSimulated, SimulatesTape, MadeSimulates};
 ghost use Rattle.usbgate.specs.Show.{show as showing, show_side};
 ghost use Rattle.usbgate.specs.Serving.{Asked};
 ghost use Rattle.usbgate.specs.Lending.{AskedLent};
@@ -20,7 +21,7 @@ ghost use Rattle.usbgate.specs.Recording.{records};
 ghost use Rattle.usbgate.specs.inner.Show.{shown_by};
 ghost use Rattle.usbgate.specs.Words.{texts, command_of};
 ghost use Rattle.usbgate.specs.inner.Causes.{HasCauses};
-ghost use Rattle.usbgate.specs.inner.TapeReader.{Stage};
+ghost use Rattle.usbgate.specs.inner.TapeReader.{Stage, ReadsTo};
 
 use crate::event_tape::EventTape;
 use crate::host::host;
@@ -37,6 +38,7 @@ use crate::tape_command::TapeCommand;
 use crate::tape_reader::TapeReader;
 use crate::text::USAGE;
 use crate::words::Command;
+use direct_proof::systems_are_direct;
 use disk_gadget::Disk;
 use gate_outside::{Doors, Sink, Source, write_all};
 use model_device::{Gadget, Keyboard, Loopback, Tone};
@@ -67,6 +69,8 @@ pub fn run<S: Source, K: Sink, D: Doors, T: MakeTape>(
     requires host_down { (D.link doors.old Host).up ≡ false }
     ensures leaves { (p : Prescribed) → prescribed (command_of (texts words.now)) ≡ Some p
         → Leaves result p (S.remaining tape.old) (S.remaining tape.new) (K.contents out.old) (K.contents out.new) }
+    ensures simulates { (device : ADevice) → command_of (texts words.now) ≡ Command.Model device → SimulatesTape result device (S.remaining tape.old) }
+    ensures load_simulates { (count : ℕ) → command_of (texts words.now) ≡ Command.Load count → result ≡ Status.Done → MadeSimulates count }
     ensures serves { (asked : Asked) → command_of (texts words.now) ≡ Command.Serve asked
         → Serves result asked (outside (D.link doors.old) (D.door doors.old)) (outside (D.link doors.new) (D.door doors.new))
         (faults (K.faults out.old) (T.counts recording.old)) (faults (K.faults out.new) (T.counts recording.new)) (written (K.contents out.old) (T.contents recording.old)) (written (K.contents out.new) (T.contents recording.new)) }
@@ -134,6 +138,7 @@ fn replay<S: Source, K: Sink>(alloc: Global, first_id: u32, tape: &mut S, out: &
 
 fn model<S: Source, K: Sink>(alloc: Global, device: Device, tape: &mut S, out: &mut K) -> Status
     ensures leaves { Leaves result (tape_prescribed (model_of device)) (S.remaining tape.old) (S.remaining tape.new) (K.contents out.old) (K.contents out.new) }
+    ensures simulates { SimulatesTape result device (S.remaining tape.old) }
     ensures causes { HasCauses result (S.faults tape.old) (S.faults tape.new) (K.faults out.old) (K.faults out.new) }
     ensures command { result ≢ Status.Usage }
 {
@@ -164,9 +169,11 @@ fn model_with<G: Gadget, S: Source, K: Sink>(
     out: &mut K,
 ) -> Status
     ensures leaves { Leaves result (tape_prescribed (modelling G.meaning gadget)) (S.remaining tape.old) (S.remaining tape.new) (K.contents out.old) (K.contents out.new) }
+    ensures simulates { AreSimulated result G.meaning gadget (S.remaining tape.old) }
     ensures causes { HasCauses result (S.faults tape.old) (S.faults tape.new) (K.faults out.old) (K.faults out.new) }
     ensures command { result ≢ Status.Usage }
 {
+    systems_are_direct::<G>();
     let mut text = Bytes::new(alloc);
     match ModelRun::start(alloc, gadget, &mut text) {
         Ok(run) => over_tape(alloc, run, text, tape, out),
@@ -206,9 +213,10 @@ fn over_tape<C: TapeCommand + Drop, S: Source, K: Sink>(
     tape: &mut S,
     out: &mut K,
 ) -> Status
-    requires { (told : Told C.Kept) × C.Keeps told command told.start × (text ≡ told.opening) }
-    ensures leaves { (told : Told C.Kept) → C.Keeps told command told.start → text ≡ told.opening
-        → Leaves result (tape_prescribed told) (S.remaining tape.old) (S.remaining tape.new) (K.contents out.old) (K.contents out.new) }
+    requires { (task : C.Task) × C.Keeps task command (C.means task).start × (text ≡ (C.means task).opening) }
+    ensures leaves { (task : C.Task) → C.Keeps task command (C.means task).start → text ≡ (C.means task).opening
+        → Leaves result (tape_prescribed (C.means task)) (S.remaining tape.old) (S.remaining tape.new) (K.contents out.old) (K.contents out.new) }
+    ensures kept { (task : C.Task) → C.Keeps task command (C.means task).start → text ≡ (C.means task).opening → ReadsTo result (C.Keeps task) (C.means task) (S.remaining tape.old) }
     ensures causes { HasCauses result (S.faults tape.old) (S.faults tape.new) (K.faults out.old) (K.faults out.new) }
     ensures command { result ≢ Status.Usage }
 {
@@ -233,9 +241,10 @@ fn read_pieces<C: TapeCommand + Drop, S: Source, K: Sink>(
     tape: &mut S,
     out: &mut K,
 ) -> Status
-    requires start { (told : Told C.Kept) × Stage told (C.Keeps told) reader [] [] }
+    requires start { (task : C.Task) × Stage (C.means task) (C.Keeps task) reader [] [] }
     requires room { 0 < length buf.old }
-    ensures leaves { (told : Told C.Kept) → Stage told (C.Keeps told) reader [] [] → Leaves result (tape_prescribed told) (S.remaining tape.old) (S.remaining tape.new) (K.contents out.old) (K.contents out.new) }
+    ensures leaves { (task : C.Task) → Stage (C.means task) (C.Keeps task) reader [] [] → Leaves result (tape_prescribed (C.means task)) (S.remaining tape.old) (S.remaining tape.new) (K.contents out.old) (K.contents out.new) }
+    ensures kept { (task : C.Task) → Stage (C.means task) (C.Keeps task) reader [] [] → ReadsTo result (C.Keeps task) (C.means task) (S.remaining tape.old) }
     ensures causes { HasCauses result (S.faults tape.old) (S.faults tape.new) (K.faults out.old) (K.faults out.new) }
     ensures command { result ≢ Status.Usage }
 {

@@ -2,7 +2,7 @@
 
 ghost use Rattle.std.specs.Prelude.{◌≡◌, ◌++◌, ◌+◌, ◌<◌, ◌≤◌, ◌↔◌, ℕ, List, length, IfOk, OnOk, IsTrue, None};
 ghost use Rattle.usbgate.specs.Tape.{content as content_of};
-ghost use Rattle.usbgate.specs.TapeCommand.{TapeCommand as Told, Progress, begin, next_line, tape_limit};
+ghost use Rattle.usbgate.specs.TapeCommand.{Progress, begin, next_line, tape_limit};
 ghost use Rattle.usbgate.specs.inner.TapeReader.{HasRead, GoesOn};
 
 use crate::tape_command::TapeCommand;
@@ -26,7 +26,7 @@ pub struct TapeLines<C> {
 impl<C: TapeCommand> TapeLines<C> {
     /// No line has been read.
     pub fn start(command: C) -> TapeLines<C>
-        ensures { (told : Told C.Kept) → C.Keeps told command told.start → HasRead (C.Keeps told) result (begin told) }
+        ensures { (task : C.Task) → C.Keeps task command (C.means task).start → HasRead (C.Keeps task) result (begin (C.means task)) }
     {
         TapeLines {
             command,
@@ -43,8 +43,8 @@ impl<C: TapeCommand> TapeLines<C> {
         text: &mut Bytes,
     ) -> Result<(), LineError>
         requires { 0 < length line.now }
-        ensures goes { OnOk result ((command : Told C.Kept) (s : Progress C.Kept) → HasRead (C.Keeps command) self.old s → GoesOn (C.Keeps command) (next_line command s line.now) self.new text.old text.new) }
-        ensures bad { result ≡ Err LineError.Bad → (command : Told C.Kept) (s : Progress C.Kept) → HasRead (C.Keeps command) self.old s → next_line command s line.now ≡ None }
+        ensures goes { OnOk result ((task : C.Task) (s : Progress C.Kept) → HasRead (C.Keeps task) self.old s → GoesOn (C.Keeps task) (next_line (C.means task) s line.now) self.new text.old text.new) }
+        ensures bad { result ≡ Err LineError.Bad → (task : C.Task) (s : Progress C.Kept) → HasRead (C.Keeps task) self.old s → next_line (C.means task) s line.now ≡ None }
         ensures same { result ≡ Err LineError.Bad → (self.new ≡ self.old) × (text.new ≡ text.old) }
         ensures memory { result ≡ Err LineError.Memory → C.Wants (content_of line.now) }
     {
@@ -60,28 +60,28 @@ impl<C: TapeCommand> TapeLines<C> {
 
     /// How many lines have been read.
     pub fn lines(&self) -> u64
-        ensures { (command : Told C.Kept) (s : Progress C.Kept) → HasRead (C.Keeps command) self.now s → result ≡ s.lines }
+        ensures { (task : C.Task) (s : Progress C.Kept) → HasRead (C.Keeps task) self.now s → result ≡ s.lines }
     {
         self.lines
     }
 
     /// Whether the tape may still have so many bytes.
     pub fn has_room(&self, len: usize) -> bool
-        ensures { (command : Told C.Kept) (s : Progress C.Kept) → HasRead (C.Keeps command) self.now s → IsTrue result ↔ (s.bytes + len ≤ tape_limit) }
+        ensures { (task : C.Task) (s : Progress C.Kept) → HasRead (C.Keeps task) self.now s → IsTrue result ↔ (s.bytes + len ≤ tape_limit) }
     {
         len as u64 <= self.room
     }
 
     /// Whether the run ends in a refusal.
     pub fn has_refused(&self) -> bool
-        ensures { (command : Told C.Kept) (s : Progress C.Kept) → HasRead (C.Keeps command) self.now s → result ≡ command.refused s.kept }
+        ensures { (task : C.Task) (s : Progress C.Kept) → HasRead (C.Keeps task) self.now s → result ≡ (C.means task).refused s.kept }
     {
         self.command.has_refused()
     }
 
     /// Appends the text behind the last line.
     pub fn close(&self, alloc: Global, text: &mut Bytes) -> Result<(), Memory>
-        ensures { OnOk result ((command : Told C.Kept) (s : Progress C.Kept) → HasRead (C.Keeps command) self.now s → text.new ≡ text.old ++ command.closing s.kept) }
+        ensures { OnOk result ((task : C.Task) (s : Progress C.Kept) → HasRead (C.Keeps task) self.now s → text.new ≡ text.old ++ (C.means task).closing s.kept) }
     {
         self.command.close(alloc, text)
     }

@@ -1,7 +1,7 @@
 //! A tape that comes in pieces, read line by line.
 
 ghost use Rattle.std.specs.Prelude.{◌≡◌, ◌++◌, ◌<◌, ◌==◌, [], List, ℕ, length, IfOk, OnOk, None, position};
-ghost use Rattle.usbgate.specs.TapeCommand.{TapeCommand as Told, Progress, next_line};
+ghost use Rattle.usbgate.specs.TapeCommand.{Progress, next_line};
 ghost use Rattle.usbgate.specs.inner.TapeReader.{HasRead, GoesOn, Stage, Took, Stepped, Finished, AllRead, TookLast, Spoils, TookLine, Kept};
 
 use crate::status::Status;
@@ -25,7 +25,7 @@ pub struct TapeReader<C> {
 impl<C: TapeCommand> TapeReader<C> {
     /// The reader to which nothing of its tape has come. The text is the command's first.
     pub fn start(alloc: Global, command: C, text: Bytes) -> TapeReader<C>
-        ensures { (told : Told C.Kept) → C.Keeps told command told.start → text ≡ told.opening → Stage told (C.Keeps told) result [] [] }
+        ensures { (task : C.Task) → C.Keeps task command (C.means task).start → text ≡ (C.means task).opening → Stage (C.means task) (C.Keeps task) result [] [] }
     {
         TapeReader {
             lines: TapeLines::start(command),
@@ -37,7 +37,7 @@ impl<C: TapeCommand> TapeReader<C> {
     /// Reads the next piece of the tape, or, where that is empty, comes to the tape's end. It answers how the
     /// run ends: at the tape's end, or at a bad line.
     pub fn step(&mut self, alloc: Global, piece: &[u8]) -> Result<Option<Status>, Memory>
-        ensures { IfOk result (λ status. (command : Told C.Kept) (read written : List ℕ) → Stage command (C.Keeps command) self.old read written → Stepped command (C.Keeps command) status self.new piece.now read written) }
+        ensures { IfOk result (λ status. (task : C.Task) (read written : List ℕ) → Stage (C.means task) (C.Keeps task) self.old read written → Stepped (C.means task) (C.Keeps task) status self.new piece.now read written) }
     {
         if piece.is_empty() {
             return Ok(Some(self.end(alloc)?));
@@ -48,7 +48,7 @@ impl<C: TapeCommand> TapeReader<C> {
     /// Reads the next piece of the tape. It answers how the run ends, if a line is bad. Lines that lie whole
     /// in the piece are read where they are.
     fn take(&mut self, alloc: Global, piece: &[u8]) -> Result<Option<Status>, Memory>
-        ensures { IfOk result (λ status. (command : Told C.Kept) (read written : List ℕ) → Stage command (C.Keeps command) self.old read written → Took command (C.Keeps command) status self.new (read ++ piece.now) written) }
+        ensures { IfOk result (λ status. (task : C.Task) (read written : List ℕ) → Stage (C.means task) (C.Keeps task) self.old read written → Took (C.means task) (C.Keeps task) status self.new (read ++ piece.now) written) }
     {
         let mut from = 0;
         while let Some(len) = line_end(&piece[from..]) {
@@ -63,7 +63,7 @@ impl<C: TapeCommand> TapeReader<C> {
 
     /// Ends the tape, and answers how the run ends.
     fn end(&mut self, alloc: Global) -> Result<Status, Memory>
-        ensures { IfOk result (λ status. (command : Told C.Kept) (read written : List ℕ) → Stage command (C.Keeps command) self.old read written → Finished command status self.new read written) }
+        ensures { IfOk result (λ status. (task : C.Task) (read written : List ℕ) → Stage (C.means task) (C.Keeps task) self.old read written → Finished (C.means task) (C.Keeps task) status self.new read written) }
     {
         if let Some(status) = self.last_line(alloc)? {
             return Ok(status);
@@ -73,7 +73,7 @@ impl<C: TapeCommand> TapeReader<C> {
 
     /// Reads the last line, if it has no LF.
     fn last_line(&mut self, alloc: Global) -> Result<Option<Status>, Memory>
-        ensures { IfOk result (λ status. (command : Told C.Kept) (read written : List ℕ) → Stage command (C.Keeps command) self.old read written → TookLast command (C.Keeps command) status self.new read written) }
+        ensures { IfOk result (λ status. (task : C.Task) (read written : List ℕ) → Stage (C.means task) (C.Keeps task) self.old read written → TookLast (C.means task) (C.Keeps task) status self.new read written) }
     {
         if self.pending.is_empty() {
             return Ok(None);
@@ -83,7 +83,7 @@ impl<C: TapeCommand> TapeReader<C> {
 
     /// Appends the last text.
     fn close(&mut self, alloc: Global) -> Result<Status, Memory>
-        ensures { IfOk result (λ status. (command : Told C.Kept) (read written : List ℕ) → AllRead command (C.Keeps command) self.old read written → Finished command status self.new read written) }
+        ensures { IfOk result (λ status. (task : C.Task) (read written : List ℕ) → AllRead (C.means task) (C.Keeps task) self.old read written → Finished (C.means task) (C.Keeps task) status self.new read written) }
     {
         self.lines.close(alloc, &mut self.text)?;
         if self.lines.has_refused() {
@@ -95,7 +95,7 @@ impl<C: TapeCommand> TapeReader<C> {
     /// Reads the line that ends with these bytes.
     fn end_line(&mut self, alloc: Global, last: &[u8]) -> Result<Option<Status>, Memory>
         requires { 0 < length (self.old.pending ++ last.now) }
-        ensures { IfOk result (λ status. (command : Told C.Kept) (p : Progress C.Kept) → HasRead (C.Keeps command) self.old.lines p → TookLine command (C.Keeps command) status p (self.old.pending ++ last.now) self.old self.new) }
+        ensures { IfOk result (λ status. (task : C.Task) (p : Progress C.Kept) → HasRead (C.Keeps task) self.old.lines p → TookLine (C.means task) (C.Keeps task) status p (self.old.pending ++ last.now) self.old self.new) }
     {
         match self.put_line(alloc, last) {
             Ok(()) => {
@@ -110,9 +110,9 @@ impl<C: TapeCommand> TapeReader<C> {
     /// Puts the line that ends with these bytes to the command.
     fn put_line(&mut self, alloc: Global, last: &[u8]) -> Result<(), LineError>
         requires { 0 < length (self.old.pending ++ last.now) }
-        ensures goes { OnOk result ((command : Told C.Kept) (s : Progress C.Kept) → HasRead (C.Keeps command) self.old.lines s
-            → GoesOn (C.Keeps command) (next_line command s (self.old.pending ++ last.now)) self.new.lines self.old.text self.new.text) }
-        ensures bad { result ≡ Err LineError.Bad → (command : Told C.Kept) (s : Progress C.Kept) → HasRead (C.Keeps command) self.old.lines s → next_line command s (self.old.pending ++ last.now) ≡ None }
+        ensures goes { OnOk result ((task : C.Task) (s : Progress C.Kept) → HasRead (C.Keeps task) self.old.lines s
+            → GoesOn (C.Keeps task) (next_line (C.means task) s (self.old.pending ++ last.now)) self.new.lines self.old.text self.new.text) }
+        ensures bad { result ≡ Err LineError.Bad → (task : C.Task) (s : Progress C.Kept) → HasRead (C.Keeps task) self.old.lines s → next_line (C.means task) s (self.old.pending ++ last.now) ≡ None }
         ensures same { result ≡ Err LineError.Bad → (self.new.lines ≡ self.old.lines) × (self.new.text ≡ self.old.text) }
     {
         if self.pending.is_empty() {
@@ -125,7 +125,7 @@ impl<C: TapeCommand> TapeReader<C> {
 
     /// Keeps a part of a line, unless the line passes the limit.
     fn keep(&mut self, alloc: Global, part: &[u8]) -> Result<Option<Status>, Memory>
-        ensures { IfOk result (λ status. (command : Told C.Kept) (s : Progress C.Kept) → HasRead (C.Keeps command) self.old.lines s → Kept status s (self.old.pending ++ part.now) self.old self.new) }
+        ensures { IfOk result (λ status. (task : C.Task) (s : Progress C.Kept) → HasRead (C.Keeps task) self.old.lines s → Kept status s (self.old.pending ++ part.now) self.old self.new) }
     {
         self.pending.append(part)?;
         if self.lines.has_room(self.pending.len()) {
@@ -136,7 +136,7 @@ impl<C: TapeCommand> TapeReader<C> {
 
     /// Appends that the next line is bad.
     fn spoil(&mut self, alloc: Global) -> Result<Status, Memory>
-        ensures { IfOk result (λ status. (command : Told C.Kept) (s : Progress C.Kept) → HasRead (C.Keeps command) self.old.lines s → Spoils status s self.old.text self.new.text) }
+        ensures { IfOk result (λ status. (task : C.Task) (s : Progress C.Kept) → HasRead (C.Keeps task) self.old.lines s → Spoils status s self.old.text self.new.text) }
     {
         let number = self.lines.lines().saturating_add(1);
         push_bad(alloc, number, &mut self.text)?;

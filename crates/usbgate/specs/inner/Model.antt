@@ -9,10 +9,9 @@ use Rattle.direct_run.specs.Stands.{Stands, Takes}
 use Rattle.direct_run.specs.Steps.{Step}
 use Rattle.direct_run.specs.World.{first_id, course}
 use Rattle.usbgate.specs.declared.model.ModelRun.{ModelRun}
-use Rattle.usbgate.specs.Model.{model}
 use Rattle.usbgate.specs.Replay.{has_refusal}
-use Rattle.usbgate.specs.TapeCommand.{TapeCommand}
 
+-- it is the modelled run of a device that began in state s, with which these steps were done
 pub record HasDone {S : Type 0} (m : Meaning S) (s : S) (r : ModelRun S) (steps : List Step) : Type 0 where
   pub system : Stands m s r.system steps
   pub refused : r.refused ≡ has_refusal (history first_id (course m s steps).events)
@@ -27,9 +26,3 @@ TakesSaid m s new steps (Some x) (Some told) = Takes m s new steps x told
 abbrev pub has_some : List Refusal → Bool
 has_some [] = false
 has_some (r ∷ rs) = true
-
--- it is the modelled run of a device that began in some state
-pub record Models {S : Type 0} (m : Meaning S) (command : TapeCommand (List Step)) (r : ModelRun S) (steps : List Step) : Type 0 where
-  pub first : S
-  pub command-is : command ≡ model m first
-  pub done : HasDone m first r steps

@@ -7,8 +7,12 @@ use Rattle.usbgate.specs.declared.status.Status.{Status}
 use Rattle.usbgate.specs.declared.status.Status.TheVariants.{BadTape}
 use Rattle.usbgate.specs.Tape.{lines_of}
 use Rattle.usbgate.specs.Text.{bad_line}
-use Rattle.usbgate.specs.TapeCommand.{TapeCommand, tape_limit, Progress, begin, next_line, Reading, read_lines, tape_text, tape_status}
-use Rattle.usbgate.specs.Run.{EndsALine, HasNoLF}
+use Rattle.usbgate.specs.TapeCommand.{TapeCommand, tape_limit, Progress, begin, next_line, Reading, read_lines, read_tape, tape_text, tape_status}
+use Rattle.usbgate.specs.Run.{EndsALine, HasNoLF, ComesToEnd}
+
+-- some command keeps this
+abbrev pub IsKept : {C S : Type 0} → (C → S → Type 0) → S → Type 0
+IsKept {C = C} Keeps kept = (c : C) × Keeps c kept
 
 -- ---- lines
 
@@ -50,30 +54,33 @@ pub record Stage {C S : Type 0} (command : TapeCommand S) (Keeps : C → S → T
   pub has_read : HasRead Keeps p.lines at
 
 -- a line is bad, however the tape goes on: its text ends here
-pub record Spoilt {C S : Type 0} (command : TapeCommand S) (status : Status) (p : TapeReader C) (read written : List ℕ) : Type 0 where
+pub record Spoilt {C S : Type 0} (command : TapeCommand S) (Keeps : C → S → Type 0) (status : Status) (p : TapeReader C) (read written : List ℕ) : Type 0 where
   pub number : ℕ
   pub status-is : status ≡ BadTape number
   pub text : (later : List ℕ) → tape_text command (read ++ later) ≡ written ++ p.text
   pub outcome : (later : List ℕ) → tape_status command (read ++ later) ≡ status
+  pub kept : (later : List ℕ) → IsKept Keeps (read_tape command (read ++ later)).after.kept
 
 abbrev pub Took : {C S : Type 0} → TapeCommand S → (C → S → Type 0) → Option Status → TapeReader C → List ℕ → List ℕ → Type 0
 Took command Keeps None p read written = Stage command Keeps p read written
-Took command Keeps (Some status) p read written = Spoilt command status p read written
+Took command Keeps (Some status) p read written = Spoilt command Keeps status p read written
 
 -- the tape has come to its end, and so has its text
-pub record Finished {C S : Type 0} (command : TapeCommand S) (status : Status) (p : TapeReader C) (tape written : List ℕ) : Type 0 where
+pub record Finished {C S : Type 0} (command : TapeCommand S) (Keeps : C → S → Type 0) (status : Status) (p : TapeReader C) (tape written : List ℕ) : Type 0 where
   pub text : tape_text command tape ≡ written ++ p.text
   pub outcome : tape_status command tape ≡ status
+  pub kept : IsKept Keeps (read_tape command tape).after.kept
 
 -- the run ends: at the tape's end, where an empty piece comes, or at a bad line, however the tape goes on
-pub record Closes {C S : Type 0} (command : TapeCommand S) (status : Status) (p : TapeReader C) (piece read written : List ℕ) : Type 0 where
+pub record Closes {C S : Type 0} (command : TapeCommand S) (Keeps : C → S → Type 0) (status : Status) (p : TapeReader C) (piece read written : List ℕ) : Type 0 where
   pub text : (later : List ℕ) → (piece ≡ [] → later ≡ []) → tape_text command ((read ++ piece) ++ later) ≡ written ++ p.text
   pub outcome : (later : List ℕ) → (piece ≡ [] → later ≡ []) → tape_status command ((read ++ piece) ++ later) ≡ status
+  pub kept : (later : List ℕ) → (piece ≡ [] → later ≡ []) → IsKept Keeps (read_tape command ((read ++ piece) ++ later)).after.kept
   pub bad : (piece ≡ [] → ⊥) → (number : ℕ) × (status ≡ BadTape number)
 
 abbrev pub Stepped : {C S : Type 0} → TapeCommand S → (C → S → Type 0) → Option Status → TapeReader C → List ℕ → List ℕ → List ℕ → Type 0
 Stepped command Keeps None p piece read written = (piece ≢ []) × Stage command Keeps p (read ++ piece) written
-Stepped command Keeps (Some status) p piece read written = Closes command status p piece read written
+Stepped command Keeps (Some status) p piece read written = Closes command Keeps status p piece read written
 
 -- every line of the tape was read, and is good
 pub record AllRead {C S : Type 0} (command : TapeCommand S) (Keeps : C → S → Type 0) (p : TapeReader C) (tape written : List ℕ) : Type 0 where
@@ -85,7 +92,7 @@ pub record AllRead {C S : Type 0} (command : TapeCommand S) (Keeps : C → S →
 
 abbrev pub TookLast : {C S : Type 0} → TapeCommand S → (C → S → Type 0) → Option Status → TapeReader C → List ℕ → List ℕ → Type 0
 TookLast command Keeps None p tape written = AllRead command Keeps p tape written
-TookLast command Keeps (Some status) p tape written = Finished command status p tape written
+TookLast command Keeps (Some status) p tape written = Finished command Keeps status p tape written
 
 -- ---- one line
 
@@ -102,3 +109,9 @@ TookLine command Keeps (Some status) s line old new = (next_line command s line 
 abbrev pub Kept : {C S : Type 0} → Option Status → Progress S → List ℕ → TapeReader C → TapeReader C → Type 0
 Kept None s part old new = (new ≡ record old { pending = part }) × (s.bytes + length part ≤ tape_limit)
 Kept (Some status) s part old new = (tape_limit < s.bytes + length part) × Spoils status s old.text new.text
+
+-- ---- a whole run
+
+-- where it comes to the end of a tape that tells its bytes, or to a bad line, some command keeps what the lines before say
+abbrev pub ReadsTo : {C S : Type 0} → Status → (C → S → Type 0) → TapeCommand S → Option (List ℕ) → Type 0
+ReadsTo status Keeps command remaining = ComesToEnd status ((tape : List ℕ) → remaining ≡ Some tape → IsKept Keeps (read_tape command tape).after.kept)

@@ -5,6 +5,7 @@ use Rattle.usbgate.specs.declared.lending.Device.{Device}
 use Rattle.usbgate.specs.Model.{model, model_of}
 use Rattle.usbgate.specs.Prescribed.{Prescribed, over_tape}
 use Rattle.usbgate.specs.Run.{LeavesTold}
+use Rattle.usbgate.specs.Simulated.{AreSimulated, SimulatesTape}
 use Rattle.usbgate.proofs.program.model.Goals as goal
 
 pub returns-in-Ok-make-clause-leaves : goal.returns-in-Ok-make-clause-leaves
@@ -12,3 +13,9 @@ returns-in-Ok-make-clause-leaves g c = λ tape text remaining contents.
     subst (λ (p : Prescribed). LeavesTold c.model_with-in-Ok-make.result p tape text (g.S.Source.remaining c.model_with-in-Ok-make.new.tape) (g.K.Sink.contents c.model_with-in-Ok-make.new.out))
     (ap (λ (s : State (List ℕ)). over_tape (model (meaning_of loopback) s)) c.in-Ok-make.ensures ∙ ap (λ (d : Device). over_tape (model_of d)) (sym c.in-Loopback.is))
     (c.model_with-in-Ok-make.ensures.leaves tape text remaining contents)
+
+pub returns-in-Ok-make-clause-simulates : goal.returns-in-Ok-make-clause-simulates
+returns-in-Ok-make-clause-simulates g c =
+    let remaining = g.S.Source.remaining c.args.tape.now in
+    subst (λ (d : Device). SimulatesTape c.model_with-in-Ok-make.result d remaining) (sym c.in-Loopback.is)
+    (subst (λ (s : State (List ℕ)). AreSimulated c.model_with-in-Ok-make.result (meaning_of loopback) s remaining) c.in-Ok-make.ensures c.model_with-in-Ok-make.ensures.simulates)

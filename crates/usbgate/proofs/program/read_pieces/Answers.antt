@@ -4,11 +4,11 @@ use Rattle.gate_outside.specs.Faults.{Rose}
 use Rattle.usbgate.specs.declared.status.Status.{Status}
 use Rattle.usbgate.specs.inner.TapeReader.{Stepped}
 use Rattle.usbgate.proofs.Stages.{room-falls}
-use Rattle.usbgate.proofs.Going.{goes-none, goes-written, goes-read, ran-write, ran-read, ran-memory, ran-last, ran-end, read-end, closes-is_quiet, quiet-not_usage, causes-none, causes-read, causes-write}
+use Rattle.usbgate.proofs.Going.{goes-none, goes-written, goes-read, ran-write, ran-read, ran-memory, ran-last, ran-end, ran-kept, read-end, closes-is_quiet, quiet-not_usage, causes-none, causes-read, causes-write}
 use Rattle.usbgate.proofs.program.read_pieces.Goals as goal
 
 pub loop-reader-init : goal.loop-reader-init
-loop-reader-init g c = record { room = c.requires.room; goes = λ told start. goes-none told (g.C.TapeCommand.Keeps told) _ _ c.args.reader start; tape = refl; out = refl }
+loop-reader-init g c = record { room = c.requires.room; goes = λ task start. goes-none (g.C.TapeCommand.means task) (g.C.TapeCommand.Keeps task) _ _ c.args.reader start; tape = refl; out = refl }
 
 pub read-requires : goal.read-requires
 read-requires g c = c.loop-reader.invariant.room
@@ -22,9 +22,9 @@ slice_bounds-step-end-in-loop-reader g c = let bound : c.in-Ok.n ≤ length c.re
 -- ---- the first write
 
 pub returns-in-Err-clause-leaves : goal.returns-in-Err-clause-leaves
-returns-in-Err-clause-leaves g c = λ told start.
-    ran-write told (g.C.TapeCommand.Keeps told) (g.S.Source.remaining c.args.tape.now) (g.S.Source.remaining c.loop-reader.tape) (g.K.Sink.contents c.args.out.now) (g.K.Sink.contents c.loop-reader.out) (g.K.Sink.contents c.write_all.new.sink)
-    c.loop-reader.reader c.as_slice.result.now (c.loop-reader.invariant.goes told start) c.as_slice.ensures c.in-Err.ensures.err
+returns-in-Err-clause-leaves g c = λ task start.
+    ran-write (g.C.TapeCommand.means task) (g.C.TapeCommand.Keeps task) (g.S.Source.remaining c.args.tape.now) (g.S.Source.remaining c.loop-reader.tape) (g.K.Sink.contents c.args.out.now) (g.K.Sink.contents c.loop-reader.out) (g.K.Sink.contents c.write_all.new.sink)
+    c.loop-reader.reader c.as_slice.result.now (c.loop-reader.invariant.goes task start) c.as_slice.ensures c.in-Err.ensures.err
 
 pub returns-in-Err-clause-causes : goal.returns-in-Err-clause-causes
 returns-in-Err-clause-causes g c = causes-write _ _ _ _ c.loop-reader.invariant.tape (subst (λ (x : ℕ). Rose x (g.K.Sink.faults c.write_all.new.sink)) c.loop-reader.invariant.out c.in-Err.ensures.cause.failed)
@@ -32,13 +32,13 @@ returns-in-Err-clause-causes g c = causes-write _ _ _ _ c.loop-reader.invariant.
 -- ---- the read
 
 pub returns-in-Err-read-clause-leaves : goal.returns-in-Err-read-clause-leaves
-returns-in-Err-read-clause-leaves g c = λ told start.
+returns-in-Err-read-clause-leaves g c = λ task start.
     let remaining_old = g.S.Source.remaining c.args.tape.now in
     let remaining = g.S.Source.remaining c.loop-reader.tape in
     let contents_old = g.K.Sink.contents c.args.out.now in
     let contents = g.K.Sink.contents c.write_all.new.sink in
-    ran-read told (g.C.TapeCommand.Keeps told) remaining_old remaining (g.S.Source.remaining c.read.new.self) contents_old contents (record c.loop-reader.reader { text = c.clear.new.self })
-    (goes-written told (g.C.TapeCommand.Keeps told) remaining_old remaining contents_old (g.K.Sink.contents c.loop-reader.out) contents c.loop-reader.reader c.as_slice.result.now c.clear.new.self (c.loop-reader.invariant.goes told start) c.as_slice.ensures c.in_default.ensures.ok c.clear.ensures)
+    ran-read (g.C.TapeCommand.means task) (g.C.TapeCommand.Keeps task) remaining_old remaining (g.S.Source.remaining c.read.new.self) contents_old contents (record c.loop-reader.reader { text = c.clear.new.self })
+    (goes-written (g.C.TapeCommand.means task) (g.C.TapeCommand.Keeps task) remaining_old remaining contents_old (g.K.Sink.contents c.loop-reader.out) contents c.loop-reader.reader c.as_slice.result.now c.clear.new.self (c.loop-reader.invariant.goes task start) c.as_slice.ensures c.in_default.ensures.ok c.clear.ensures)
     c.clear.ensures c.in-Err-read.ensures.bytes
 
 pub returns-in-Err-read-clause-causes : goal.returns-in-Err-read-clause-causes
@@ -49,13 +49,13 @@ returns-in-Err-read-clause-causes g c =
 -- ---- the step
 
 pub returns-in-Err-step-clause-leaves : goal.returns-in-Err-step-clause-leaves
-returns-in-Err-step-clause-leaves g c = λ told start.
+returns-in-Err-step-clause-leaves g c = λ task start.
     let remaining_old = g.S.Source.remaining c.args.tape.now in
     let remaining = g.S.Source.remaining c.loop-reader.tape in
     let contents_old = g.K.Sink.contents c.args.out.now in
     let contents = g.K.Sink.contents c.write_all.new.sink in
-    ran-memory told (g.C.TapeCommand.Keeps told) remaining_old remaining (g.S.Source.remaining c.read.new.self) contents_old contents (record c.loop-reader.reader { text = c.clear.new.self })
-    (goes-written told (g.C.TapeCommand.Keeps told) remaining_old remaining contents_old (g.K.Sink.contents c.loop-reader.out) contents c.loop-reader.reader c.as_slice.result.now c.clear.new.self (c.loop-reader.invariant.goes told start) c.as_slice.ensures c.in_default.ensures.ok c.clear.ensures)
+    ran-memory (g.C.TapeCommand.means task) (g.C.TapeCommand.Keeps task) remaining_old remaining (g.S.Source.remaining c.read.new.self) contents_old contents (record c.loop-reader.reader { text = c.clear.new.self })
+    (goes-written (g.C.TapeCommand.means task) (g.C.TapeCommand.Keeps task) remaining_old remaining contents_old (g.K.Sink.contents c.loop-reader.out) contents c.loop-reader.reader c.as_slice.result.now c.clear.new.self (c.loop-reader.invariant.goes task start) c.as_slice.ensures c.in_default.ensures.ok c.clear.ensures)
 
 pub returns-in-Err-step-clause-causes : goal.returns-in-Err-step-clause-causes
 returns-in-Err-step-clause-causes g c =
@@ -71,31 +71,31 @@ loop-reader-preserved g c =
     let p = record c.loop-reader.reader { text = c.clear.new.self } in
     record {
       room = omega (arith, c.read.auto.buf);
-      goes = λ told start.
-          let now = goes-written told (g.C.TapeCommand.Keeps told) remaining_old remaining contents_old (g.K.Sink.contents c.loop-reader.out) contents c.loop-reader.reader c.as_slice.result.now c.clear.new.self (c.loop-reader.invariant.goes told start) c.as_slice.ensures c.in_default.ensures.ok c.clear.ensures in
-          goes-read told (g.C.TapeCommand.Keeps told) remaining_old remaining (g.S.Source.remaining c.read.new.self) contents_old contents p c.step.new.self piece now c.in-Ok.ensures.bytes.0
-          (subst (λ (o : Option Status). Stepped told (g.C.TapeCommand.Keeps told) o c.step.new.self piece now.read now.written) c.in_default-ended.is (c.in-Ok-step.ensures told now.read now.written now.stage)).1;
+      goes = λ task start.
+          let now = goes-written (g.C.TapeCommand.means task) (g.C.TapeCommand.Keeps task) remaining_old remaining contents_old (g.K.Sink.contents c.loop-reader.out) contents c.loop-reader.reader c.as_slice.result.now c.clear.new.self (c.loop-reader.invariant.goes task start) c.as_slice.ensures c.in_default.ensures.ok c.clear.ensures in
+          goes-read (g.C.TapeCommand.means task) (g.C.TapeCommand.Keeps task) remaining_old remaining (g.S.Source.remaining c.read.new.self) contents_old contents p c.step.new.self piece now c.in-Ok.ensures.bytes.0
+          (subst (λ (o : Option Status). Stepped (g.C.TapeCommand.means task) (g.C.TapeCommand.Keeps task) o c.step.new.self piece now.read now.written) c.in_default-ended.is (c.in-Ok-step.ensures task now.read now.written now.stage)).1;
       tape = c.in-Ok.ensures.cause.stands ∙ c.loop-reader.invariant.tape;
       out = c.in_default.ensures.cause.stands ∙ c.loop-reader.invariant.out;
     }
 
 pub loop-reader-smaller : goal.loop-reader-smaller
 loop-reader-smaller g c =
-    let told = c.requires.start.0 in
+    let task = c.requires.start.0 in
     let start = c.requires.start.1 in
     let remaining_old = g.S.Source.remaining c.args.tape.now in
     let remaining = g.S.Source.remaining c.loop-reader.tape in
     let contents_old = g.K.Sink.contents c.args.out.now in
     let contents = g.K.Sink.contents c.write_all.new.sink in
     let piece = take c.in-Ok.n c.read.new.buf in
-    let now = goes-written told (g.C.TapeCommand.Keeps told) remaining_old remaining contents_old (g.K.Sink.contents c.loop-reader.out) contents c.loop-reader.reader c.as_slice.result.now c.clear.new.self (c.loop-reader.invariant.goes told start) c.as_slice.ensures c.in_default.ensures.ok c.clear.ensures in
-    let stepped = subst (λ (o : Option Status). Stepped told (g.C.TapeCommand.Keeps told) o c.step.new.self piece now.read now.written) c.in_default-ended.is (c.in-Ok-step.ensures told now.read now.written now.stage) in
-    room-falls told (g.C.TapeCommand.Keeps told) piece now.stage stepped.1 stepped.0
+    let now = goes-written (g.C.TapeCommand.means task) (g.C.TapeCommand.Keeps task) remaining_old remaining contents_old (g.K.Sink.contents c.loop-reader.out) contents c.loop-reader.reader c.as_slice.result.now c.clear.new.self (c.loop-reader.invariant.goes task start) c.as_slice.ensures c.in_default.ensures.ok c.clear.ensures in
+    let stepped = subst (λ (o : Option Status). Stepped (g.C.TapeCommand.means task) (g.C.TapeCommand.Keeps task) o c.step.new.self piece now.read now.written) c.in_default-ended.is (c.in-Ok-step.ensures task now.read now.written now.stage) in
+    room-falls (g.C.TapeCommand.means task) (g.C.TapeCommand.Keeps task) piece now.stage stepped.1 stepped.0
 
 -- ---- the end
 
 pub returns-in-Some-clause-leaves : goal.returns-in-Some-clause-leaves
-returns-in-Some-clause-leaves g c = λ told start.
+returns-in-Some-clause-leaves g c = λ task start.
     let remaining_old = g.S.Source.remaining c.args.tape.now in
     let remaining = g.S.Source.remaining c.loop-reader.tape in
     let new = g.S.Source.remaining c.read.new.self in
@@ -104,26 +104,41 @@ returns-in-Some-clause-leaves g c = λ told start.
     let n = c.in-Ok.n in
     let buf = c.read.new.buf in
     let p = record c.loop-reader.reader { text = c.clear.new.self } in
-    let now = goes-written told (g.C.TapeCommand.Keeps told) remaining_old remaining contents_old (g.K.Sink.contents c.loop-reader.out) contents c.loop-reader.reader c.as_slice.result.now c.clear.new.self (c.loop-reader.invariant.goes told start) c.as_slice.ensures c.in_default.ensures.ok c.clear.ensures in
-    let closes = subst (λ (o : Option Status). Stepped told (g.C.TapeCommand.Keeps told) o c.step.new.self (take n buf) now.read now.written) c.in-Some.is (c.in-Ok-step.ensures told now.read now.written now.stage) in
-    ran-end told (g.C.TapeCommand.Keeps told) remaining_old remaining new contents_old contents (g.K.Sink.contents c.write_all-in-Some.new.sink) p c.step.new.self c.in-Some.status (take n buf) c.as_slice-in-Some.result.now now c.in-Ok.ensures.bytes.0
+    let now = goes-written (g.C.TapeCommand.means task) (g.C.TapeCommand.Keeps task) remaining_old remaining contents_old (g.K.Sink.contents c.loop-reader.out) contents c.loop-reader.reader c.as_slice.result.now c.clear.new.self (c.loop-reader.invariant.goes task start) c.as_slice.ensures c.in_default.ensures.ok c.clear.ensures in
+    let closes = subst (λ (o : Option Status). Stepped (g.C.TapeCommand.means task) (g.C.TapeCommand.Keeps task) o c.step.new.self (take n buf) now.read now.written) c.in-Some.is (c.in-Ok-step.ensures task now.read now.written now.stage) in
+    ran-end (g.C.TapeCommand.means task) (g.C.TapeCommand.Keeps task) remaining_old remaining new contents_old contents (g.K.Sink.contents c.write_all-in-Some.new.sink) p c.step.new.self c.in-Some.status (take n buf) c.as_slice-in-Some.result.now now c.in-Ok.ensures.bytes.0
     (read-end n buf new (omega (arith, c.in-Ok.ensures.bound)) (omega (arith, c.read.auto.buf)) c.in-Ok.ensures.bytes.1) closes c.as_slice-in-Some.ensures c.in_default-write_all.ensures.ok
+
+pub returns-in-Some-clause-kept : goal.returns-in-Some-clause-kept
+returns-in-Some-clause-kept g c = λ task start.
+    let remaining_old = g.S.Source.remaining c.args.tape.now in
+    let remaining = g.S.Source.remaining c.loop-reader.tape in
+    let new = g.S.Source.remaining c.read.new.self in
+    let contents_old = g.K.Sink.contents c.args.out.now in
+    let contents = g.K.Sink.contents c.write_all.new.sink in
+    let n = c.in-Ok.n in
+    let buf = c.read.new.buf in
+    let p = record c.loop-reader.reader { text = c.clear.new.self } in
+    let now = goes-written (g.C.TapeCommand.means task) (g.C.TapeCommand.Keeps task) remaining_old remaining contents_old (g.K.Sink.contents c.loop-reader.out) contents c.loop-reader.reader c.as_slice.result.now c.clear.new.self (c.loop-reader.invariant.goes task start) c.as_slice.ensures c.in_default.ensures.ok c.clear.ensures in
+    let closes = subst (λ (o : Option Status). Stepped (g.C.TapeCommand.means task) (g.C.TapeCommand.Keeps task) o c.step.new.self (take n buf) now.read now.written) c.in-Some.is (c.in-Ok-step.ensures task now.read now.written now.stage) in
+    ran-kept (g.C.TapeCommand.means task) (g.C.TapeCommand.Keeps task) remaining_old remaining new contents_old contents p c.step.new.self c.in-Some.status (take n buf) now c.in-Ok.ensures.bytes.0
+    (read-end n buf new (omega (arith, c.in-Ok.ensures.bound)) (omega (arith, c.read.auto.buf)) c.in-Ok.ensures.bytes.1) closes
 
 pub returns-in-Some-clause-causes : goal.returns-in-Some-clause-causes
 returns-in-Some-clause-causes g c =
-    let told = c.requires.start.0 in
+    let task = c.requires.start.0 in
     let start = c.requires.start.1 in
     let remaining_old = g.S.Source.remaining c.args.tape.now in
     let remaining = g.S.Source.remaining c.loop-reader.tape in
     let contents_old = g.K.Sink.contents c.args.out.now in
     let contents = g.K.Sink.contents c.write_all.new.sink in
-    let now = goes-written told (g.C.TapeCommand.Keeps told) remaining_old remaining contents_old (g.K.Sink.contents c.loop-reader.out) contents c.loop-reader.reader c.as_slice.result.now c.clear.new.self (c.loop-reader.invariant.goes told start) c.as_slice.ensures c.in_default.ensures.ok c.clear.ensures in
-    let closes = subst (λ (o : Option Status). Stepped told (g.C.TapeCommand.Keeps told) o c.step.new.self (take c.in-Ok.n c.read.new.buf) now.read now.written) c.in-Some.is (c.in-Ok-step.ensures told now.read now.written now.stage) in
-    causes-none _ _ _ _ _ (closes-is_quiet told (g.C.TapeCommand.Keeps told) now.read closes) (c.in-Ok.ensures.cause.stands ∙ c.loop-reader.invariant.tape)
+    let now = goes-written (g.C.TapeCommand.means task) (g.C.TapeCommand.Keeps task) remaining_old remaining contents_old (g.K.Sink.contents c.loop-reader.out) contents c.loop-reader.reader c.as_slice.result.now c.clear.new.self (c.loop-reader.invariant.goes task start) c.as_slice.ensures c.in_default.ensures.ok c.clear.ensures in
+    let closes = subst (λ (o : Option Status). Stepped (g.C.TapeCommand.means task) (g.C.TapeCommand.Keeps task) o c.step.new.self (take c.in-Ok.n c.read.new.buf) now.read now.written) c.in-Some.is (c.in-Ok-step.ensures task now.read now.written now.stage) in
+    causes-none _ _ _ _ _ (closes-is_quiet (g.C.TapeCommand.means task) (g.C.TapeCommand.Keeps task) now.read closes) (c.in-Ok.ensures.cause.stands ∙ c.loop-reader.invariant.tape)
     (c.in_default-write_all.ensures.cause.stands ∙ c.in_default.ensures.cause.stands ∙ c.loop-reader.invariant.out)
 
 pub returns-in-Err-write_all-clause-leaves : goal.returns-in-Err-write_all-clause-leaves
-returns-in-Err-write_all-clause-leaves g c = λ told start.
+returns-in-Err-write_all-clause-leaves g c = λ task start.
     let remaining_old = g.S.Source.remaining c.args.tape.now in
     let remaining = g.S.Source.remaining c.loop-reader.tape in
     let new = g.S.Source.remaining c.read.new.self in
@@ -132,9 +147,9 @@ returns-in-Err-write_all-clause-leaves g c = λ told start.
     let n = c.in-Ok.n in
     let buf = c.read.new.buf in
     let p = record c.loop-reader.reader { text = c.clear.new.self } in
-    let now = goes-written told (g.C.TapeCommand.Keeps told) remaining_old remaining contents_old (g.K.Sink.contents c.loop-reader.out) contents c.loop-reader.reader c.as_slice.result.now c.clear.new.self (c.loop-reader.invariant.goes told start) c.as_slice.ensures c.in_default.ensures.ok c.clear.ensures in
-    let closes = subst (λ (o : Option Status). Stepped told (g.C.TapeCommand.Keeps told) o c.step.new.self (take n buf) now.read now.written) c.in-Some.is (c.in-Ok-step.ensures told now.read now.written now.stage) in
-    ran-last told (g.C.TapeCommand.Keeps told) remaining_old remaining new contents_old contents (g.K.Sink.contents c.write_all-in-Some.new.sink) p c.step.new.self c.in-Some.status (take n buf) c.as_slice-in-Some.result.now now c.in-Ok.ensures.bytes.0
+    let now = goes-written (g.C.TapeCommand.means task) (g.C.TapeCommand.Keeps task) remaining_old remaining contents_old (g.K.Sink.contents c.loop-reader.out) contents c.loop-reader.reader c.as_slice.result.now c.clear.new.self (c.loop-reader.invariant.goes task start) c.as_slice.ensures c.in_default.ensures.ok c.clear.ensures in
+    let closes = subst (λ (o : Option Status). Stepped (g.C.TapeCommand.means task) (g.C.TapeCommand.Keeps task) o c.step.new.self (take n buf) now.read now.written) c.in-Some.is (c.in-Ok-step.ensures task now.read now.written now.stage) in
+    ran-last (g.C.TapeCommand.means task) (g.C.TapeCommand.Keeps task) remaining_old remaining new contents_old contents (g.K.Sink.contents c.write_all-in-Some.new.sink) p c.step.new.self c.in-Some.status (take n buf) c.as_slice-in-Some.result.now now c.in-Ok.ensures.bytes.0
     (read-end n buf new (omega (arith, c.in-Ok.ensures.bound)) (omega (arith, c.read.auto.buf)) c.in-Ok.ensures.bytes.1) closes c.as_slice-in-Some.ensures c.in-Err-write_all.ensures.err
 
 pub returns-in-Err-write_all-clause-causes : goal.returns-in-Err-write_all-clause-causes
@@ -144,12 +159,12 @@ returns-in-Err-write_all-clause-causes g c =
 
 pub returns-in-Some-clause-command : goal.returns-in-Some-clause-command
 returns-in-Some-clause-command g c =
-    let told = c.requires.start.0 in
+    let task = c.requires.start.0 in
     let start = c.requires.start.1 in
     let remaining_old = g.S.Source.remaining c.args.tape.now in
     let remaining = g.S.Source.remaining c.loop-reader.tape in
     let contents_old = g.K.Sink.contents c.args.out.now in
     let contents = g.K.Sink.contents c.write_all.new.sink in
-    let now = goes-written told (g.C.TapeCommand.Keeps told) remaining_old remaining contents_old (g.K.Sink.contents c.loop-reader.out) contents c.loop-reader.reader c.as_slice.result.now c.clear.new.self (c.loop-reader.invariant.goes told start) c.as_slice.ensures c.in_default.ensures.ok c.clear.ensures in
-    let closes = subst (λ (o : Option Status). Stepped told (g.C.TapeCommand.Keeps told) o c.step.new.self (take c.in-Ok.n c.read.new.buf) now.read now.written) c.in-Some.is (c.in-Ok-step.ensures told now.read now.written now.stage) in
-    quiet-not_usage c.in-Some.status (closes-is_quiet told (g.C.TapeCommand.Keeps told) now.read closes)
+    let now = goes-written (g.C.TapeCommand.means task) (g.C.TapeCommand.Keeps task) remaining_old remaining contents_old (g.K.Sink.contents c.loop-reader.out) contents c.loop-reader.reader c.as_slice.result.now c.clear.new.self (c.loop-reader.invariant.goes task start) c.as_slice.ensures c.in_default.ensures.ok c.clear.ensures in
+    let closes = subst (λ (o : Option Status). Stepped (g.C.TapeCommand.means task) (g.C.TapeCommand.Keeps task) o c.step.new.self (take c.in-Ok.n c.read.new.buf) now.read now.written) c.in-Some.is (c.in-Ok-step.ensures task now.read now.written now.stage) in
+    quiet-not_usage c.in-Some.status (closes-is_quiet (g.C.TapeCommand.means task) (g.C.TapeCommand.Keeps task) now.read closes)

@@ -1,5 +1,4 @@
 use Rattle.std.proofs.Common.{◌≡◌, ◌<◌, [], length}
-use Rattle.usbgate.specs.TapeCommand.{TapeCommand}
 use Rattle.usbgate.specs.inner.TapeReader.{Stage}
 use Rattle.usbgate.proofs.Stages.{room_of}
 use Rattle.usbgate.proofs.Going.{Goes}
@@ -8,7 +7,7 @@ use Rattle.usbgate.proofs.program.read_pieces.Given as goal
 abbrev pub invariant-loop-reader : goal.invariant-loop-reader
 invariant-loop-reader g l = record {
   room : 0 < length l.buf;
-  goes : (told : TapeCommand g.C.TapeCommand.Kept) → Stage told (g.C.TapeCommand.Keeps told) l.initial.reader [] [] → Goes told (g.C.TapeCommand.Keeps told) (g.S.Source.remaining l.initial.tape) (g.S.Source.remaining l.tape) (g.K.Sink.contents l.initial.out) (g.K.Sink.contents l.out) l.reader;
+  goes : (task : g.C.TapeCommand.Task) → Stage (g.C.TapeCommand.means task) (g.C.TapeCommand.Keeps task) l.initial.reader [] [] → Goes (g.C.TapeCommand.means task) (g.C.TapeCommand.Keeps task) (g.S.Source.remaining l.initial.tape) (g.S.Source.remaining l.tape) (g.K.Sink.contents l.initial.out) (g.K.Sink.contents l.out) l.reader;
   tape : g.S.Source.faults l.tape ≡ g.S.Source.faults l.initial.tape;
   out : g.K.Sink.faults l.out ≡ g.K.Sink.faults l.initial.out;
 }

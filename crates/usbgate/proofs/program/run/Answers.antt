@@ -9,6 +9,7 @@ use Rattle.usbgate.specs.Prescribed.{Prescribed, over_tape, printed, prescribed}
 use Rattle.usbgate.specs.Recording.{records}
 use Rattle.usbgate.specs.Run.{Leaves}
 use Rattle.usbgate.proofs.Served.{unserved, unlent, links-stand, link-fault-of, link-stands}
+use Rattle.usbgate.proofs.Simulated.{simulates-device, unsimulated}
 use Rattle.usbgate.proofs.program.run.Goals as goal
 
 pub returns-in_default-clause-serves : goal.returns-in_default-clause-serves
@@ -18,6 +19,9 @@ returns-in_default-clause-serves g c = λ asked is.
 pub returns-in_default-clause-lends : goal.returns-in_default-clause-lends
 returns-in_default-clause-lends g c = λ asked is.
     unlent asked (outside (g.D.Doors.link c.args.doors.now) (g.D.Doors.door c.args.doors.now)) (g.K.Sink.faults c.args.out.now) (g.K.Sink.contents c.args.out.now)
+
+pub returns-in_default-clause-simulates : goal.returns-in_default-clause-simulates
+returns-in_default-clause-simulates g c = λ device is. unsimulated device (g.S.Source.remaining c.args.tape.now)
 
 pub returns-in-Replay-clause-leaves : goal.returns-in-Replay-clause-leaves
 returns-in-Replay-clause-leaves g c = λ p is.
@@ -30,6 +34,9 @@ returns-in-Model-clause-leaves g c = λ p is.
     let command = over_tape (model_of c.in-Model.device) in
     subst (λ (q : Prescribed). Leaves c.model.result q (g.S.Source.remaining c.args.tape.now) (g.S.Source.remaining c.model.new.tape) (g.K.Sink.contents c.args.out.now) (g.K.Sink.contents c.model.new.out))
     (same_Some command p (ap prescribed (sym c.in-Model.is ∙ c.in-Ok.ensures.value) ∙ is)) c.model.ensures.leaves
+
+pub returns-in-Model-clause-simulates : goal.returns-in-Model-clause-simulates
+returns-in-Model-clause-simulates g c = λ device is. simulates-device c.in-Model.device device c.model.result (g.S.Source.remaining c.args.tape.now) (sym c.in-Model.is ∙ c.in-Ok.ensures.value ∙ is) c.model.ensures.simulates
 
 pub returns-in-Serve-clause-usage : goal.returns-in-Serve-clause-usage
 returns-in-Serve-clause-usage g c = λ is. inr (ap records (sym c.in-Ok.ensures.value ∙ c.in-Serve.is) ∙ c.serve.ensures.asked is, (c.serve.ensures.causes.usage is).1)

@@ -1,5 +1,4 @@
 use Rattle.std.proofs.Common.{refl}
-use Rattle.usbgate.specs.EventCommand.{over_events}
 use Rattle.usbgate.specs.Show.{show_side}
 use Rattle.usbgate.specs.inner.Show.{shown_by}
 use Rattle.usbgate.proofs.program.show_stream.Goals as goal
@@ -9,11 +8,11 @@ over_tape-requires g c =
     let side = g.F.ShownFormat in
     let format = g.F.PacketFormat in
     let command = show_side (shown_by side.the_side format.format format.after side.first_state side.bytes side.line) in
-    (over_events command, c.start.ensures command (record { command-is = refl; has_shown = c.start-show.ensures }), c.new.ensures)
+    (command, c.start.ensures command (record { command-is = refl; has_shown = c.start-show.ensures }), c.new.ensures)
 
 pub returns-clause-leaves : goal.returns-clause-leaves
 returns-clause-leaves g c =
     let side = g.F.ShownFormat in
     let format = g.F.PacketFormat in
     let command = show_side (shown_by side.the_side format.format format.after side.first_state side.bytes side.line) in
-    c.over_tape.ensures.leaves (over_events command) (c.start.ensures command (record { command-is = refl; has_shown = c.start-show.ensures })) c.new.ensures
+    c.over_tape.ensures.leaves command (c.start.ensures command (record { command-is = refl; has_shown = c.start-show.ensures })) c.new.ensures

@@ -5,16 +5,16 @@ use Rattle.usbgate.specs.TapeCommand.{begin}
 use Rattle.usbgate.proofs.tape_reader.TapeReader.start.Goals as goal
 
 pub returns : goal.returns
-returns g c = λ told kept opening. record {
+returns g c = λ task kept opening. record {
   whole = [];
   text = [];
-  at = begin told;
+  at = begin (g.C.TapeCommand.means task);
   read-is = sym c.new.ensures;
   whole_lines = tt;
   part_of_line = subst HasNoLF (sym c.new.ensures) tt;
   bytes-is = refl;
   within = omega (arith, ap (λ (l : List ℕ). length l) c.new.ensures);
-  text-is = opening ∙ sym (append-nil told.opening);
+  text-is = opening ∙ sym (append-nil (g.C.TapeCommand.means task).opening);
   reads = λ later. refl;
-  has_read = c.start.ensures told kept;
+  has_read = c.start.ensures task kept;
 }

@@ -1,0 +1,8 @@
+use Rattle.std.proofs.Common.{ℕ, List, ◌++◌, ap, ◌∙◌}
+use Rattle.usbgate.specs.Replay.{replay}
+use Rattle.usbgate.proofs.program.replay.Goals as goal
+
+pub over_tape-requires : goal.over_tape-requires
+over_tape-requires g c =
+    let command = replay c.args.first_id in
+    (command, c.start-in-Ok.ensures command c.in-Ok.ensures.start, c.in-Ok.ensures.text ∙ ap (λ (l : List ℕ). l ++ command.opening) c.new-text.ensures)
