@@ -43,7 +43,7 @@ const SOUND_CARD: [u8; 143] = [
 /// packet, the interval and the interface.
 type Row = (&'static [u8], usize, u8, u8, EpKind, u16, u8, u8);
 
-const ENDPOINTS: [Row; 10] = [
+const ENDPOINTS: [Row; 11] = [
     (&BOOT_KEYBOARD, 4, 0, 0x81, EpKind::Interrupt, 8, 10, 0),
     (&MASS_STORAGE, 4, 0, 0x81, EpKind::Bulk, 512, 0, 0),
     (&MASS_STORAGE, 4, 0, 0x02, EpKind::Bulk, 512, 0, 0),
@@ -54,6 +54,7 @@ const ENDPOINTS: [Row; 10] = [
     (&SOUND_CARD, 16, 3, 0x01, EpKind::Invalid, 0, 0, 0),
     (&SOUND_CARD, 16, 2, 0x00, EpKind::Control, 64, 0, 0),
     (&SOUND_CARD, 16, 2, 0x80, EpKind::Control, 64, 0, 0),
+    (&LOOP, 4, 0, 0x81, EpKind::Bulk, 512, 0, 0),
 ];
 
 // How many parts a configuration has, and the row of an endpoint in a setting.
@@ -146,5 +147,11 @@ fn one_wrong_byte_is_found_at_its_descriptor(rt: HostRuntime) -> Result<(), Fail
         }
         assert!(rt; wrong_place(rt.alloc(), &blob)? == wanted);
     }
+    Ok(())
+}
+
+#[test]
+fn a_configuration_that_is_cut_is_wrong_at_its_start(rt: HostRuntime) -> Result<(), Fail> {
+    assert!(rt; wrong_place(rt.alloc(), &LOOP[..31])? == Some(0));
     Ok(())
 }

@@ -83,6 +83,17 @@ fn requests_take_packets(rt: HostRuntime) -> Result<(), Fail> {
     Ok(())
 }
 
+#[test]
+fn no_more_than_1024_packets_are_held(rt: HostRuntime) -> Result<(), Fail> {
+    let mut inbox = Inbox::make(rt.alloc(), 8);
+    for _ in 0..1024 {
+        assert!(rt; inbox.offer(packet(rt.alloc(), OK, 7, 8)?)?);
+    }
+    assert!(rt; !inbox.offer(packet(rt.alloc(), OK, 7, 8)?)?);
+    assert!(rt; inbox.len() == 1024);
+    Ok(())
+}
+
 fn bodies_behind_one(rt: &impl Abort, inbox: &mut Inbox, out: &mut Bytes) -> Result<(), Fail> {
     assert!(rt; 1 <= inbox.len());
     let filling = inbox.filling(1, 9).ok_or("it is filled")?;
