@@ -35,7 +35,7 @@ pub fn record_event<T: Tape>(
         return Ok(());
     }
     text.clear();
-    push_event(alloc, event, text)?;
+    push_event(event, text)?;
     push_refusals(alloc, &sent.refusals, text)?;
     match record(tape, text.as_slice()) {
         Ok(()) => Ok(()),
@@ -43,14 +43,14 @@ pub fn record_event<T: Tape>(
     }
 }
 
-fn push_event(alloc: Global, event: Event, text: &mut Bytes) -> Result<(), Memory>
+fn push_event(event: Event, text: &mut Bytes) -> Result<(), Memory>
     ensures { OnOk result (text.new ≡ text.old ++ event_line (event_of event.entry)) }
 {
     match event {
         Event::ClientComes | Event::ClientQuiet => Ok(()),
-        Event::ClientPiece(bytes) => push_piece(alloc, Side::Client, bytes, text),
+        Event::ClientPiece(bytes) => push_piece(Side::Client, bytes, text),
         Event::ClientEnd => push_end(Side::Client, text),
-        Event::HostPiece(bytes) => push_piece(alloc, Side::Host, bytes, text),
+        Event::HostPiece(bytes) => push_piece(Side::Host, bytes, text),
         Event::HostEnd => push_end(Side::Host, text),
     }
 }

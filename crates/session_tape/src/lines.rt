@@ -11,7 +11,7 @@ use usb_base::{Bytes, Memory, Refusal, Side};
 const AT_ONCE: usize = 256;
 
 /// Appends the line of a piece of a side's stream. For want of memory a front of the line may be there.
-pub fn push_piece(_alloc: Global, side: Side, bytes: &[u8], text: &mut Bytes) -> Result<(), Memory>
+pub fn push_piece(side: Side, bytes: &[u8], text: &mut Bytes) -> Result<(), Memory>
     ensures { OnOk result (text.new ≡ text.old ++ piece_line side bytes.now) }
 {
     text.push(letter_of(side))?;
