@@ -14,7 +14,7 @@ use Rattle.usbgate.specs.declared.lending.Device.TheVariants.{Keyboard, Loopback
 use Rattle.usbgate.specs.declared.status.Status.{Status}
 use Rattle.usbgate.specs.declared.status.Status.TheVariants.{OutOfMemory}
 use Rattle.usbgate.specs.declared.words.Command.{Command}
-use Rattle.usbgate.specs.declared.words.Command.TheVariants.{Model}
+use Rattle.usbgate.specs.declared.words.Command.TheVariants.{Model, Load}
 use Rattle.usbgate.specs.Model.{model}
 use Rattle.usbgate.specs.Simulated.{steps_of, AreSimulated, SimulatesTape, MadeSimulates}
 use Rattle.usbgate.specs.inner.Loaded.{steps_after}
@@ -49,3 +49,9 @@ pub made-simulates : (count : ℕ) (gadget : State (List ℕ)) (k : SystemKept (
 made-simulates count gadget k plugged again law stands =
     subst (Simulates (meaning_of loopback) (first_state loopback)) (sym (kept-made (meaning_of loopback) (first_state loopback) (made_lines count) again))
     (subst (λ (g : State (List ℕ)). Simulates (meaning_of loopback) g (steps_after (made_lines count) [])) plugged (law gadget k (steps_after (made_lines count) []) stands))
+
+same-count : (m n : ℕ) → Load m ≡ Load n → m ≡ n
+same-count m n same = cc
+
+pub simulates-count : (m n : ℕ) → Load m ≡ Load n → MadeSimulates m → MadeSimulates n
+simulates-count m n same simulates = subst MadeSimulates (same-count m n same) simulates

@@ -1,6 +1,7 @@
 use Rattle.std.proofs.Common.{ℕ, List, ap, subst, sym, ◌∙◌}
 use Rattle.model_device.specs.Device.{State, meaning_of}
 use Rattle.model_device.specs.Loopback.{loopback}
+use Rattle.disk_gadget.specs.DiskStep.{DiskState, disk}
 use Rattle.usbgate.specs.declared.lending.Device.{Device}
 use Rattle.usbgate.specs.Model.{model, model_of}
 use Rattle.usbgate.specs.Prescribed.{Prescribed, over_tape}
@@ -19,3 +20,9 @@ returns-in-Ok-make-clause-simulates g c =
     let remaining = g.S.Source.remaining c.args.tape.now in
     subst (λ (d : Device). SimulatesTape c.model_with-in-Ok-make.result d remaining) (sym c.in-Loopback.is)
     (subst (λ (s : State (List ℕ)). AreSimulated c.model_with-in-Ok-make.result (meaning_of loopback) s remaining) c.in-Ok-make.ensures c.model_with-in-Ok-make.ensures.simulates)
+
+pub returns-in-Ok-make-3-clause-simulates : goal.returns-in-Ok-make-3-clause-simulates
+returns-in-Ok-make-3-clause-simulates g c =
+    let remaining = g.S.Source.remaining c.args.tape.now in
+    subst (λ (d : Device). SimulatesTape c.model_with-in-Ok-make-3.result d remaining) (sym c.in-Disk.is)
+    (subst (λ (s : DiskState). AreSimulated c.model_with-in-Ok-make-3.result disk s remaining) c.in-Ok-make-3.ensures c.model_with-in-Ok-make-3.ensures.simulates)

@@ -9,7 +9,7 @@ use Rattle.usbgate.specs.Prescribed.{Prescribed, over_tape, printed, prescribed}
 use Rattle.usbgate.specs.Recording.{records}
 use Rattle.usbgate.specs.Run.{Leaves}
 use Rattle.usbgate.proofs.Served.{unserved, unlent, links-stand, link-fault-of, link-stands}
-use Rattle.usbgate.proofs.Simulated.{simulates-device, unsimulated}
+use Rattle.usbgate.proofs.Simulated.{simulates-device, simulates-count, unsimulated}
 use Rattle.usbgate.proofs.program.run.Goals as goal
 
 pub returns-in_default-clause-serves : goal.returns-in_default-clause-serves
@@ -76,3 +76,6 @@ returns-in-Make-clause-writes_stand g c = (c.make.ensures.causes 0).writes_stand
 
 pub returns-in-Load-clause-writes_stand : goal.returns-in-Load-clause-writes_stand
 returns-in-Load-clause-writes_stand g c = (c.load.ensures.causes 0).writes_stand
+
+pub returns-in-Load-clause-load_simulates : goal.returns-in-Load-clause-load_simulates
+returns-in-Load-clause-load_simulates g c = λ count is done. simulates-count c.in-Load.count count (sym c.in-Load.is ∙ c.in-Ok.ensures.value ∙ is) (c.load.ensures.simulates done)
