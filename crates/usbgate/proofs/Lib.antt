@@ -8,3 +8,4 @@ pub mod Doing
 pub mod Showing
 pub mod Served
 pub mod Intervals
+mod Logs

@@ -14,6 +14,7 @@ pub mod Prescribed
 pub mod Run
 pub mod Recording
 pub mod Serves
+pub mod Logs
 pub mod Code
 pub mod Interval
 pub mod inner
