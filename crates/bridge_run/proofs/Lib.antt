@@ -8,3 +8,4 @@ mod Opening
 mod Idling
 mod Acting
 mod Toys
+mod Logging

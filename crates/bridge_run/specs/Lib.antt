@@ -8,3 +8,5 @@ pub mod Gate
 pub mod Lent
 pub mod Serves
 pub mod inner
+pub mod Ups
+pub mod Log

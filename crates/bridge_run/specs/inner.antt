@@ -6,3 +6,4 @@ pub mod Keeping
 pub mod Follows
 pub mod Idling
 pub mod Lending
+pub mod Logging

@@ -1,9 +1,11 @@
 //! Writing to a side's link, and closing it.
 
-ghost use Rattle.std.specs.Prelude.{◌≡◌, IsTrue, IfErr};
+ghost use Rattle.std.specs.Prelude.{◌≡◌, List, IsTrue, IfErr};
 ghost use Rattle.bridge_run.specs.declared.serve_end.ServeEnd.TheVariants.{LinkFault};
 ghost use Rattle.gate_outside.specs.Link.{other};
+ghost use Rattle.gate_outside.specs.Calls.{Call, Called};
 ghost use Rattle.bridge_run.specs.inner.Links.{WritesAll, closed_if};
+ghost use Rattle.bridge_run.specs.inner.Logging.{LogsAll, closing};
 
 use crate::serve_end::ServeEnd;
 use gate_outside::{Doors, Side};
@@ -21,6 +23,7 @@ pub fn write_link<D: Doors>(
     ensures link { WritesAll result up bytes.now (D.link doors.old side) (D.link doors.new side) }
     ensures other { D.link doors.new (other side) ≡ D.link doors.old (other side) }
     ensures door { D.door doors.new ≡ D.door doors.old }
+    ensures log { (begun : D) (calls : List Call) → Called D.call_gives calls begun doors.old → LogsAll result D.call_gives side up bytes.now calls begun doors.new }
 {
     if !up {
         return Ok(());
@@ -40,6 +43,7 @@ pub fn close_link<D: Doors>(doors: &mut D, side: Side, refused: bool)
     ensures link { D.link doors.new side ≡ closed_if refused side (D.link doors.old side) }
     ensures other { D.link doors.new (other side) ≡ D.link doors.old (other side) }
     ensures door { D.door doors.new ≡ D.door doors.old }
+    ensures log { (begun : D) (calls : List Call) → Called D.call_gives calls begun doors.old → Called D.call_gives (closing refused side calls) begun doors.new }
 {
     if refused {
         doors.close(side);

@@ -1,7 +1,7 @@
 //! Serving, once both sides can come.
 
 ghost use Rattle.std.specs.Prelude.{◌≡◌, ◌<◌, List, [], ◌∷◌, not, true, false, OnOk, IfOk, IfErr, length};
-ghost use Rattle.bridge_run.specs.Events.{Event as PastEvent, event_of, is_quiet};
+ghost use Rattle.bridge_run.specs.Events.{Event as PastEvent, ClientComes, event_of, is_quiet};
 ghost use Rattle.bridge_run.specs.Course.{Course, Next};
 ghost use Rattle.bridge_run.specs.Course.{AtDoor, AtClient, Takes};
 ghost use Rattle.bridge_run.specs.Calls.{Goes, ends_next as has_end_next, piece as piece_of, end_of as past_end_of, quiet};
@@ -10,6 +10,8 @@ ghost use Rattle.bridge_run.specs.Serves.{Leaves};
 ghost use Rattle.bridge_run.specs.inner.Keeping.{Agrees, Wears, IsLive, rounds_of, up_of};
 ghost use Rattle.bridge_run.specs.inner.Follows.{Prepared, Follows, HasFaults, IsCutEnd, Puts, setting, Runs, polls, behind};
 ghost use Rattle.bridge_run.specs.Outside.{HasCause, HasReason};
+ghost use Rattle.bridge_run.specs.Log.{Opening, Logged};
+ghost use Rattle.bridge_run.specs.inner.Logging.{IsAt, IsTaking, IsResting, PutLogs, Logs};
 ghost use Rattle.bridge_run.specs.inner.Idling.{NotIdle, Asked, EndsWithin, RoundIdles};
 ghost use Rattle.usb_base.specs.declared.side.Side.TheVariants.{Client, Host};
 ghost use Rattle.gate_outside.specs.Link.{other};
@@ -82,6 +84,8 @@ impl<C: Served + Drop> Session<C> {
         requires { Agrees self.old.kept (outside (D.link doors.old) (D.door doors.old)) }
         ensures course { (first : C.First) (c : Course) → Follows (C.stands first self.old.core) (C.sends first) self.old.kept (outside (D.link doors.old) (D.door doors.old)) (written (K.contents out.old) (T.contents tape.old)) c
             → Puts result (C.stands first self.new.core) (C.sends first) (event_of event.entry) self.new.kept (outside (D.link doors.new) (D.door doors.new)) (written (K.contents out.new) (T.contents tape.new)) c }
+        ensures log { (first : C.First) (opening : Opening) (begun : D) → IsTaking D.call_gives (C.stands first self.old.core) opening (C.sends first) (event_of event.entry) self.old.kept begun doors.old
+            → PutLogs result D.call_gives (C.stands first self.new.core) opening (C.sends first) (event_of event.entry) self.new.kept begun doors.new }
         ensures faults { HasFaults result (outside (D.link doors.old) (D.door doors.old)) (outside (D.link doors.new) (D.door doors.new)) (faults (K.faults out.old) (T.counts tape.old)) (faults (K.faults out.new) (T.counts tape.new)) }
         ensures cut { IfErr result IsCutEnd }
         ensures agrees { OnOk result (Agrees self.new.kept (outside (D.link doors.new) (D.door doors.new))) }
@@ -125,6 +129,8 @@ impl<C: Served + Drop> Session<C> {
         requires { Agrees self.old.kept (outside (D.link doors.old) (D.door doors.old)) }
         ensures course { (first : C.First) (next : Next) (c : Course) → Follows (C.stands first self.old.core) (C.sends first) self.old.kept (outside (D.link doors.old) (D.door doors.old)) (written (K.contents out.old) (T.contents tape.old)) c
             → Runs result (C.stands first self.new.core) (setting (C.sends first) self.old.kept) self.new.kept (outside (D.link doors.new) (D.door doors.new)) (written (K.contents out.new) (T.contents tape.new)) (Goes (Takes (event_of event.entry) next) c) next }
+        ensures log { (first : C.First) (opening : Opening) (begun : D) → IsTaking D.call_gives (C.stands first self.old.core) opening (C.sends first) (event_of event.entry) self.old.kept begun doors.old
+            → Logs result D.call_gives (C.stands first self.new.core) opening (C.sends first) self.new.kept begun doors.new }
         ensures faults { HasFaults result (outside (D.link doors.old) (D.door doors.old)) (outside (D.link doors.new) (D.door doors.new)) (faults (K.faults out.old) (T.counts tape.old)) (faults (K.faults out.new) (T.counts tape.new)) }
         ensures agrees { OnOk result (Agrees self.new.kept (outside (D.link doors.new) (D.door doors.new))) }
         ensures wears { Wears self.old.kept self.new.kept }
@@ -152,6 +158,8 @@ impl<C: Served + Drop> Session<C> {
         requires left { 0 < self.old.kept.left }
         ensures course { (first : C.First) (c : Course) → Follows (C.stands first self.old.core) (C.sends first) self.old.kept (outside (D.link doors.old) (D.door doors.old)) (written (K.contents out.old) (T.contents tape.old)) c
             → Runs result (C.stands first self.new.core) (setting (C.sends first) self.old.kept) self.new.kept (outside (D.link doors.new) (D.door doors.new)) (written (K.contents out.new) (T.contents tape.new)) (Goes AtDoor c) AtClient }
+        ensures log { (first : C.First) (opening : Opening) (begun : D) → IsAt D.call_gives (C.stands first self.old.core) opening (C.sends first) self.old.kept begun doors.old
+            → Logs result D.call_gives (C.stands first self.new.core) opening (C.sends first) self.new.kept begun doors.new }
         ensures faults { HasFaults result (outside (D.link doors.old) (D.door doors.old)) (outside (D.link doors.new) (D.door doors.new)) (faults (K.faults out.old) (T.counts tape.old)) (faults (K.faults out.new) (T.counts tape.new)) }
         ensures agrees { OnOk result (Agrees self.new.kept (outside (D.link doors.new) (D.door doors.new))) }
         ensures wears { Wears self.old.kept self.new.kept }
@@ -185,6 +193,8 @@ impl<C: Served + Drop> Session<C> {
         requires left { 0 < self.old.kept.left }
         ensures course { (first : C.First) (next : Next) (c : Course) → Follows (C.stands first self.old.core) (C.sends first) self.old.kept (outside (D.link doors.old) (D.door doors.old)) (written (K.contents out.old) (T.contents tape.old)) c
             → Runs result (C.stands first self.new.core) (setting (C.sends first) self.old.kept) self.new.kept (outside (D.link doors.new) (D.door doors.new)) (written (K.contents out.new) (T.contents tape.new)) (Goes (quiet side next) c) next }
+        ensures log { (first : C.First) (opening : Opening) (begun : D) → IsResting side D.call_gives (C.stands first self.old.core) opening (C.sends first) self.old.kept begun doors.old
+            → Logs result D.call_gives (C.stands first self.new.core) opening (C.sends first) self.new.kept begun doors.new }
         ensures faults { HasFaults result (outside (D.link doors.old) (D.door doors.old)) (outside (D.link doors.new) (D.door doors.new)) (faults (K.faults out.old) (T.counts tape.old)) (faults (K.faults out.new) (T.counts tape.new)) }
         ensures agrees { OnOk result (Agrees self.new.kept (outside (D.link doors.new) (D.door doors.new))) }
         ensures wears { Wears self.old.kept self.new.kept }
@@ -212,6 +222,8 @@ impl<C: Served + Drop> Session<C> {
         requires room { length buf.old ≡ 65536 }
         ensures course { (first : C.First) (c : Course) → Follows (C.stands first self.old.core) (C.sends first) self.old.kept (outside (D.link doors.old) (D.door doors.old)) (written (K.contents out.old) (T.contents tape.old)) c
             → Runs result (C.stands first self.new.core) (setting (C.sends first) self.old.kept) self.new.kept (outside (D.link doors.new) (D.door doors.new)) (written (K.contents out.new) (T.contents tape.new)) (Goes (polls side) c) (behind side) }
+        ensures log { (first : C.First) (opening : Opening) (begun : D) → IsAt D.call_gives (C.stands first self.old.core) opening (C.sends first) self.old.kept begun doors.old
+            → Logs result D.call_gives (C.stands first self.new.core) opening (C.sends first) self.new.kept begun doors.new }
         ensures faults { HasFaults result (outside (D.link doors.old) (D.door doors.old)) (outside (D.link doors.new) (D.door doors.new)) (faults (K.faults out.old) (T.counts tape.old)) (faults (K.faults out.new) (T.counts tape.new)) }
         ensures agrees { OnOk result (Agrees self.new.kept (outside (D.link doors.new) (D.door doors.new))) }
         ensures wears { Wears self.old.kept self.new.kept }
@@ -250,6 +262,8 @@ impl<C: Served + Drop> Session<C> {
         requires room { length buf.old ≡ 65536 }
         ensures course { (first : C.First) (c : Course) → Follows (C.stands first self.old.core) (C.sends first) self.old.kept (outside (D.link doors.old) (D.door doors.old)) (written (K.contents out.old) (T.contents tape.old)) c
             → Runs result (C.stands first self.new.core) (setting (C.sends first) self.old.kept) self.new.kept (outside (D.link doors.new) (D.door doors.new)) (written (K.contents out.new) (T.contents tape.new)) (Goes AtDoor c) AtDoor }
+        ensures log { (first : C.First) (opening : Opening) (begun : D) → IsAt D.call_gives (C.stands first self.old.core) opening (C.sends first) self.old.kept begun doors.old
+            → Logs result D.call_gives (C.stands first self.new.core) opening (C.sends first) self.new.kept begun doors.new }
         ensures faults { HasFaults result (outside (D.link doors.old) (D.door doors.old)) (outside (D.link doors.new) (D.door doors.new)) (faults (K.faults out.old) (T.counts tape.old)) (faults (K.faults out.new) (T.counts tape.new)) }
         ensures agrees { OnOk result (Agrees self.new.kept (outside (D.link doors.new) (D.door doors.new))) }
         ensures live { OnOk result (IsLive self.new.kept) }
@@ -277,6 +291,8 @@ impl<C: Served + Drop> Session<C> {
         requires fresh { self.old.kept.waits ≡ self.old.kept.idle }
         ensures course { (first : C.First) (c : Course) → Follows (C.stands first self.old.core) (C.sends first) self.old.kept (outside (D.link doors.old) (D.door doors.old)) (written (K.contents out.old) (T.contents tape.old)) c
             → Leaves result (setting (C.sends first) self.old.kept) (Goes AtDoor c) (outside (D.link doors.new) (D.door doors.new)) (written (K.contents out.new) (T.contents tape.new)) }
+        ensures log { (first : C.First) (opening : Opening) (begun : D) → IsAt D.call_gives (C.stands first self.old.core) opening (C.sends first) self.old.kept begun doors.old
+            → Logged result D.call_gives opening (C.sends first) begun doors.new }
         ensures cause { HasCause result (outside (D.link doors.old) (D.door doors.old)) (outside (D.link doors.new) (D.door doors.new)) (faults (K.faults out.old) (T.counts tape.old)) (faults (K.faults out.new) (T.counts tape.new)) }
         ensures reason { HasReason result self.old.kept.idle (outside (D.link doors.old) (D.door doors.old)) (outside (D.link doors.new) (D.door doors.new)) }
     {

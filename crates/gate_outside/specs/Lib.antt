@@ -2,6 +2,7 @@ pub mod Faults
 pub mod Front
 pub mod Link
 pub mod Turns
+pub mod Calls
 pub mod Doors
 pub mod NoDoors
 pub mod Plan

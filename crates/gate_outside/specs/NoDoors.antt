@@ -1,7 +1,9 @@
 -- Doors that open nothing: each call that would open one counts as a fault of its side.
-use Rattle.std.specs.Prelude.{ℕ, false, None}
+use Rattle.std.specs.Prelude.{◌≡◌, ℕ, false, None, IsErr}
 use Rattle.usb_base.specs.declared.side.Side.{Side}
 use Rattle.usb_base.specs.declared.side.Side.TheVariants.{Client, Host}
+use Rattle.gate_outside.specs.declared.turn.Polled.TheVariants.{Failed}
+use Rattle.gate_outside.specs.Calls.{Call, Dial, Listen, Accept, Poll, Write, Close}
 use Rattle.gate_outside.specs.Faults.{one_more}
 use Rattle.gate_outside.specs.Link.{Link, Door}
 
@@ -24,3 +26,12 @@ failed_at Host faults = record faults { host = one_more faults.host }
 
 abbrev pub no_door : Door
 no_door = record { made = false; to_come = None }
+
+-- what a call does
+abbrev pub NoneGives : SideFaults → Call → SideFaults → Type 0
+NoneGives old (Dial addr answer) new = IsErr answer × (new ≡ failed_at Host old)
+NoneGives old (Listen addr answer) new = IsErr answer × (new ≡ failed_at Client old)
+NoneGives old (Accept answer) new = IsErr answer × (new ≡ failed_at Client old)
+NoneGives old (Poll side polled buf) new = (polled ≡ Failed) × (new ≡ failed_at side old)
+NoneGives old (Write side piece answer) new = IsErr answer × (new ≡ failed_at side old)
+NoneGives old (Close side) new = new ≡ old

@@ -5,8 +5,9 @@ use Rattle.usb_base.specs.declared.side.Side.TheVariants.{Client, Host}
 use Rattle.gate_outside.specs.declared.turn.Turn.{Turn}
 use Rattle.gate_outside.specs.declared.turn.Polled.{Polled}
 use Rattle.gate_outside.specs.declared.turn.Polled.TheVariants.{Took, NotYet, Ended, Failed}
+use Rattle.gate_outside.specs.Calls.{Call, Dial, Listen, Accept, Poll, Write, Close}
 use Rattle.gate_outside.specs.Faults.{one_more}
-use Rattle.gate_outside.specs.Link.{Link, Door}
+use Rattle.gate_outside.specs.Link.{Link, Door, other}
 use Rattle.gate_outside.specs.Turns.{pending, after}
 use Rattle.gate_outside.specs.Doors.{Gives, first}
 use Rattle.gate_outside.specs.Plan.{Plan, fails_now, passed, failed, fresh}
@@ -100,3 +101,18 @@ WroteScript (Err _) piece old new = ((fails_now old.plan ≡ true) ⊎ (old.free
 abbrev pub closed_side : Side → Scripted → Scripted
 closed_side Client side = record side { up = false; turns = [] }
 closed_side Host side = record side { up = false }
+
+-- a side's script does so, and the other side's and the door stand
+pub record OneMoves (side : Side) (does : Scripted → Scripted → Type 0) (old new : ScriptSides) : Type 0 where
+  pub does-so : does (side_of old side) (side_of new side)
+  pub other-is : side_of new (other side) ≡ side_of old (other side)
+  pub door-is : new.made ≡ old.made
+
+-- what a call does
+abbrev pub ScriptGives : ScriptSides → Call → ScriptSides → Type 0
+ScriptGives old (Dial addr answer) new = OneMoves Host (Opened answer) old new
+ScriptGives old (Listen addr answer) new = Counted answer old.client new.client × (new.host ≡ old.host)
+ScriptGives old (Accept answer) new = OneMoves Client (Began answer) old new
+ScriptGives old (Poll side polled buf) new = OneMoves side (PolledScript polled buf) old new
+ScriptGives old (Write side piece answer) new = OneMoves side (WroteScript answer piece) old new
+ScriptGives old (Close side) new = OneMoves side (λ before behind. behind ≡ closed_side side before) old new

@@ -11,6 +11,7 @@ use usb_base::Side;
 /// idle answers, which rises where there is nothing yet.
 pub trait Doors {
     ghost use Rattle.usb_base.specs.declared.side.Side.{Side as SideOf};
+    ghost use Rattle.gate_outside.specs.Calls.{Call, Dial, Listen, Accept, Poll, Write, Close};
     ghost use Rattle.gate_outside.specs.Link.{Link, Door, other};
     ghost use Rattle.gate_outside.specs.Doors.{Dials, Listens, Accepts, Writes, Polls, TookWithin, closes};
 
@@ -20,17 +21,23 @@ pub trait Doors {
     /// The door that clients come to, one after the other.
     ghost door: { Self → Door };
 
+    /// What a call does: the doors before it, the call with its answer, and the doors after it. It is a relation that
+    /// whoever is generic in the doors knows nothing of, so that only a call can show it.
+    ghost call_gives: { Self → Call → Self → Type 0 };
+
     /// Dials the host at `addr`, a host's name or IP address and a port.
     fn dial(&mut self, addr: &str) -> Result<(), Failed>
         ensures link { Dials result (link self.old Side.Host) (link self.new Side.Host) }
         ensures other { link self.new Side.Client ≡ link self.old Side.Client }
-        ensures door { door self.new ≡ door self.old };
+        ensures door { door self.new ≡ door self.old }
+        ensures gives { call_gives self.old (Dial addr.now result) self.new };
 
     /// Makes the clients' door at `addr`, a host's name or IP address and a port.
     fn listen(&mut self, addr: &str) -> Result<(), Failed>
         ensures listens { Listens result (door self.old) (door self.new)
             (link self.old Side.Client) (link self.new Side.Client) }
-        ensures other { link self.new Side.Host ≡ link self.old Side.Host };
+        ensures other { link self.new Side.Host ≡ link self.old Side.Host }
+        ensures gives { call_gives self.old (Listen addr.now result) self.new };
 
     /// Whether the next client has come, whose link is then up. It waits for a moment at most.
     fn accept(&mut self) -> Result<bool, Failed>
@@ -38,7 +45,8 @@ pub trait Doors {
         requires down { (link self.old Side.Client).up ≡ false }
         ensures accepts { Accepts result (door self.old) (door self.new)
             (link self.old Side.Client) (link self.new Side.Client) }
-        ensures other { link self.new Side.Host ≡ link self.old Side.Host };
+        ensures other { link self.new Side.Host ≡ link self.old Side.Host }
+        ensures gives { call_gives self.old (Accept result) self.new };
 
     /// What the side's link has to give now. It may wait for a moment, and no longer.
     fn poll(&mut self, side: Side, buf: &mut [u8]) -> Polled
@@ -47,7 +55,8 @@ pub trait Doors {
         ensures bound { TookWithin result buf.new }
         ensures link { Polls result buf.new (link self.old side) (link self.new side) }
         ensures other { link self.new (other side) ≡ link self.old (other side) }
-        ensures door { door self.new ≡ door self.old };
+        ensures door { door self.new ≡ door self.old }
+        ensures gives { call_gives self.old (Poll side result buf.new) self.new };
 
     /// Writes a front of `piece` to the side's link, at least one byte of it, and returns how many. A call
     /// that fails writes none.
@@ -56,11 +65,13 @@ pub trait Doors {
         requires some { 0 < length piece.now }
         ensures link { Writes result piece.now (link self.old side) (link self.new side) }
         ensures other { link self.new (other side) ≡ link self.old (other side) }
-        ensures door { door self.new ≡ door self.old };
+        ensures door { door self.new ≡ door self.old }
+        ensures gives { call_gives self.old (Write side piece.now result) self.new };
 
     /// Takes the side's link down, if it is up. What a client had still to send is lost.
     fn close(&mut self, side: Side)
         ensures link { link self.new side ≡ closes side (link self.old side) }
         ensures other { link self.new (other side) ≡ link self.old (other side) }
-        ensures door { door self.new ≡ door self.old };
+        ensures door { door self.new ≡ door self.old }
+        ensures gives { call_gives self.old (Close side) self.new };
 }

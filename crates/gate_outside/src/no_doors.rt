@@ -50,11 +50,13 @@ impl NoDoors {
 /// Each call but `close` fails, and counts as a fault of its side. So a call that needs a link or a door
 /// elsewhere needs none here.
 impl Doors for NoDoors {
-    ghost use Rattle.gate_outside.specs.NoDoors.{no_link, no_door};
+    ghost use Rattle.gate_outside.specs.NoDoors.{no_link, no_door, NoneGives};
 
     ghost link = { λ doors side. no_link doors side };
 
     ghost door = { λ doors. no_door };
+
+    ghost call_gives = { λ old call new. NoneGives old call new };
 
     fn dial(&mut self, _addr: &str) -> Result<(), Failed>
         ensures fails { IsErr result }

@@ -93,11 +93,13 @@ impl Doors for ScriptDoors {
     ghost use Rattle.usb_base.specs.declared.side.Side.TheVariants.{Client, Host};
     ghost use Rattle.gate_outside.specs.Link.{other};
     ghost use Rattle.gate_outside.specs.Doors.{TookWithin};
-    ghost use Rattle.gate_outside.specs.Script.{shown, shown_door, closed_side, Counted, Opened, Began, PolledScript, WroteScript};
+    ghost use Rattle.gate_outside.specs.Script.{shown, shown_door, closed_side, Counted, Opened, Began, PolledScript, WroteScript, ScriptGives};
 
     ghost link = { λ doors side. shown (side_of doors side) };
 
     ghost door = { λ doors. shown_door doors };
+
+    ghost call_gives = { λ old call new. ScriptGives old call new };
 
     fn dial(&mut self, _addr: &str) -> Result<(), Failed>
         ensures host { Opened result self.old.host self.new.host }

@@ -37,6 +37,8 @@ impl<W: Writer> Sink for StdSink<W> {
 
     ghost faults = { λ sink. output_faults sink };
 
+    ghost write_gives = { λ old piece answer new. Passes (λ given. W.write_gives (output_writer old) piece given (output_writer new)) answer };
+
     fn write(&mut self, piece: &[u8]) -> Result<usize, Failed>
         requires { 0 < length piece.now }
         ensures bound { WritesAtMost result piece.now }

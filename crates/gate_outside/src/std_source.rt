@@ -37,6 +37,8 @@ impl<R: Reader> Source for StdSource<R> {
 
     ghost faults = { λ source. input_faults source };
 
+    ghost read_gives = { λ old buf answer new. R.read_gives (input_reader old) buf answer (input_reader new) };
+
     fn read(&mut self, buf: &mut [u8]) -> Result<usize, Failed>
         requires { 0 < length buf.old }
         ensures bound { ReadsAtMost result buf.new }

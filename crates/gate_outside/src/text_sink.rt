@@ -71,6 +71,8 @@ impl Sink for TextSink {
 
     ghost faults = { λ sink. sink.plan.faults };
 
+    ghost write_gives = { λ old piece answer new. RoomWrites answer piece old new };
+
     fn write(&mut self, piece: &[u8]) -> Result<usize, Failed>
         requires { 0 < length piece.now }
         ensures bound { WritesAtMost result piece.now }

@@ -68,12 +68,14 @@ impl Source for TextSource {
 
     ghost faults = { λ source. source.plan.faults };
 
+    ghost read_gives = { λ old buf answer new. TextReads answer (length buf) old new };
+
     fn read(&mut self, buf: &mut [u8]) -> Result<usize, Failed>
         requires { 0 < length buf.old }
         ensures bound { ReadsAtMost result buf.new }
         ensures bytes { ReadConsumes (Some self.old.left) (Some self.new.left) result buf.new }
         ensures cause { HasCause self.old.plan.faults self.new.plan.faults result }
-        ensures exact { TextReads result (length buf.old) self.old self.new }
+        ensures exact { TextReads result (length buf.new) self.old self.new }
     {
         if let Err(failed) = self.plan.call() {
             return Err(failed);

@@ -1,6 +1,7 @@
 pub mod Ahead
 pub mod Calls
 pub mod Door
+pub mod Gives
 pub mod Pace
 pub mod Polling
 pub mod State

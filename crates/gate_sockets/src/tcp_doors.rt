@@ -215,10 +215,14 @@ impl<'rt, N: Network + Eprint> Doors for TcpDoors<'rt, N> {
     ghost use Rattle.gate_sockets.specs.Door.{Dials as DialsBy, Makes, IsAccepted};
     ghost use Rattle.gate_sockets.specs.Polling.{PollSteps};
     ghost use Rattle.gate_sockets.specs.Writing.{WriteSteps};
+    ghost use Rattle.gate_sockets.specs.Gives.{CallGives};
+    ghost use Rattle.gate_outside.specs.Calls.{Poll, Write};
 
     ghost link = { λ doors side. link_of doors side };
 
     ghost door = { λ doors. door_of doors };
+
+    ghost call_gives = { λ old call new. CallGives (record { dials = N.dial_gives; listens = N.listen_gives; accepts = N.accept_gives; sets_up = N.Stream.set_up_gives; reads = N.Stream.read_gives; writes = N.Stream.write_gives }) old call new };
 
     fn dial(&mut self, addr: &str) -> Result<(), Failed>
         ensures dials { DialsBy N.dial_gives N.Stream.set_up_gives addr.now (is_ok result) self.old self.new }
@@ -273,6 +277,7 @@ impl<'rt, N: Network + Eprint> Doors for TcpDoors<'rt, N> {
         ensures bound { TookWithin result buf.new }
         ensures side { PollSteps N.Stream.read_gives result buf.new (state_of self.old side) (state_of self.new side) }
         ensures link { Polls result buf.new (link_of self.old side) (link_of self.new side) }
+        ensures gives { CallGives (record { dials = N.dial_gives; listens = N.listen_gives; accepts = N.accept_gives; sets_up = N.Stream.set_up_gives; reads = N.Stream.read_gives; writes = N.Stream.write_gives }) self.old (Poll side result buf.new) self.new }
         ensures stands { state_of self.new (other side) ≡ state_of self.old (other side) }
         ensures other { link_of self.new (other side) ≡ link_of self.old (other side) }
         ensures door { self.new.door ≡ self.old.door }
@@ -295,6 +300,7 @@ impl<'rt, N: Network + Eprint> Doors for TcpDoors<'rt, N> {
         ensures read_on { ReadOn N.Stream.read_gives N.Stream.write_gives (state_of self.old (other side)) (state_of self.new (other side)) }
         ensures other { link_of self.new (other side) ≡ link_of self.old (other side) }
         ensures door { self.new.door ≡ self.old.door }
+        ensures gives { CallGives (record { dials = N.dial_gives; listens = N.listen_gives; accepts = N.accept_gives; sets_up = N.Stream.set_up_gives; reads = N.Stream.read_gives; writes = N.Stream.write_gives }) self.old (Write side piece.now result) self.new }
     {
         for _tried in 0..TRIES {
             if let Some(count) = self.write_once(side, piece) {

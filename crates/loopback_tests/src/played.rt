@@ -16,6 +16,8 @@ impl<'a, D: Doors, R: Net<Stream = TcpStream, Listener = TcpListener>> Doors for
 
     ghost door = { λ played. D.door played.doors };
 
+    ghost call_gives = { λ old call new. D.call_gives old.doors call new.doors };
+
     fn dial(&mut self, addr: &str) -> Result<(), Failed> {
         self.doors.dial(addr)
     }

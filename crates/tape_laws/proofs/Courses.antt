@@ -17,8 +17,9 @@ use Rattle.bridge_run.specs.Course.{Setting, Course, Next, Making, AtDoor, AtCli
 use Rattle.bridge_run.specs.Calls.{Outcome, Goes, Stops, room, put, settle, ends_next, take_event, come, heard, poll, rest, make, call, and_then, calls}
 use Rattle.bridge_run.specs.Gate.{gate_events}
 use Rattle.usbgate.specs.Tape.{host_ended}
-use Rattle.tape_laws.specs.Ups.{client_at, host_at, client_behind, host_behind}
-use Rattle.tape_laws.specs.Recordings.{recorded, to_clients, to_host}
+use Rattle.bridge_run.specs.Ups.{client_at, host_at, client_behind, to_clients}
+use Rattle.tape_laws.specs.Ups.{host_behind, to_host}
+use Rattle.tape_laws.specs.Recordings.{recorded}
 use Rattle.tape_laws.specs.Begun.{SendBytes, AllSendBytes}
 use Rattle.tape_laws.proofs.Events.{IsPiece, Fits, AllFit}
 

@@ -31,8 +31,9 @@ use Rattle.usbgate.specs.Run.{HasNoLF}
 use Rattle.usbgate.proofs.Lines.{HasNoLF-append}
 use Rattle.std.specs.Prelude.{codes}
 use Rattle.std.specs.Fmt.{decimal}
-use Rattle.tape_laws.specs.Recordings.{recorded, to_clients, to_host, served, all_replayed}
-use Rattle.tape_laws.specs.Ups.{client_at, host_at, client_behind, host_behind}
+use Rattle.tape_laws.specs.Recordings.{recorded, served, all_replayed}
+use Rattle.bridge_run.specs.Ups.{client_at, host_at, client_behind, to_clients}
+use Rattle.tape_laws.specs.Ups.{host_behind, to_host}
 use Rattle.tape_laws.specs.Begun.{IsFresh}
 use Rattle.tape_laws.specs.Plays.{read_of, text_of, Plays, WroteFront, PlaysInPart, Replays}
 use Rattle.tape_laws.proofs.Spelled.{no-lf-tested, no-lf-decimal}

@@ -19,7 +19,9 @@ use Rattle.usbgate.specs.EventCommand.{over_events}
 use Rattle.usbgate.specs.Replay.{replay}
 use Rattle.usbgate.specs.Serving.{Asked}
 use Rattle.usbgate.specs.Serves.{setting_of}
-use Rattle.tape_laws.specs.Recordings.{recorded, to_clients, to_host, served, all_replayed}
+use Rattle.bridge_run.specs.Ups.{to_clients}
+use Rattle.tape_laws.specs.Ups.{to_host}
+use Rattle.tape_laws.specs.Recordings.{recorded, served, all_replayed}
 
 -- what `replay` reads of a tape, and what it prints for it
 abbrev pub read_of : Asked → List ℕ → Reading (List GateEvent)

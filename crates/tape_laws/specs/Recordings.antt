@@ -1,27 +1,16 @@
--- What events, the latest first, record, write to links, and have a replay print.
-use Rattle.std.specs.Prelude.{ℕ, if◌then◌else◌, List, [], ◌∷◌, ◌++◌}
+-- What events, the latest first, record, and have a replay print.
+use Rattle.std.specs.Prelude.{ℕ, List, [], ◌∷◌, ◌++◌}
 use Rattle.bridge_run.specs.Events.{Event}
 use Rattle.bridge_run.specs.Prescribed.{Prescribed, gained}
 use Rattle.bridge_run.specs.Recorded.{lines_of}
 use Rattle.bridge_run.specs.Gate.{gate_sends, gate_notes}
 use Rattle.usbgate.specs.Text.{sent_text}
 use Rattle.usbgate.specs.Serving.{Asked}
-use Rattle.tape_laws.specs.Ups.{client_at, client_behind, host_at, host_behind}
 
 -- the lines of each event, behind the first line of a recording
 abbrev pub recorded : Prescribed → List Event → List ℕ
 recorded p [] = []
 recorded p (e ∷ events) = recorded p events ++ lines_of e (gained p.refusals events e)
-
--- what each event sends to clients, where a client's link is up
-abbrev pub to_clients : Prescribed → List Event → List ℕ
-to_clients p [] = []
-to_clients p (e ∷ events) = to_clients p events ++ (if client_at e (client_behind p events) then gained p.to_client events e else [])
-
--- what the making sends to the host, and then each event, where the host's link is up
-abbrev pub to_host : Prescribed → List Event → List ℕ
-to_host p [] = p.to_host []
-to_host p (e ∷ events) = to_host p events ++ (if host_at e (host_behind p events) then gained p.to_host events e else [])
 
 -- what is served
 abbrev pub served : Asked → Prescribed

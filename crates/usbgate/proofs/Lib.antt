@@ -9,3 +9,4 @@ pub mod Simulated
 pub mod Showing
 pub mod Served
 pub mod Intervals
+mod Logs

@@ -59,6 +59,7 @@ unserved-so s w f out = record {
   end = end.Memory;
   status-is = refl;
   cause = record { client = refl; host = refl; sink = refl };
+  reason = tt;
   leaves = λ c begins tells. unmade s c w out tells;
 }
 
@@ -104,6 +105,7 @@ unlent asked w count out = record {
   end = end.Memory;
   status-is = refl;
   cause = record { client = refl; host = refl; sink = refl };
+  reason = tt;
   leaves = λ c begins tells. unasked (setting_lent asked) c w out begins.client_down tells;
 }
 

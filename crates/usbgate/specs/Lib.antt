@@ -15,6 +15,7 @@ pub mod Run
 pub mod Simulated
 pub mod Recording
 pub mod Serves
+pub mod Logs
 pub mod Code
 pub mod Interval
 pub mod inner

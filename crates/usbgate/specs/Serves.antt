@@ -8,7 +8,7 @@ use Rattle.bridge_run.specs.Gate.{gate_sends}
 use Rattle.bridge_run.specs.Lent.{lent_sends}
 use Rattle.session_tape.specs.Tapes.{counts}
 use Rattle.session_tape.specs.Lines.{first_comment}
-use Rattle.bridge_run.specs.Outside.{Outside, Written, Faults, written, faults, Tells, HasCause}
+use Rattle.bridge_run.specs.Outside.{Outside, Written, Faults, written, faults, Tells, HasCause, HasReason}
 use Rattle.bridge_run.specs.Prescribed.{Prescribed as Sends}
 use Rattle.bridge_run.specs.Serves.{Begins, Leaves}
 use Rattle.model_device.specs.Device.{first_state, meaning_of}
@@ -51,12 +51,13 @@ ended_as end.Idle = Idle
 ended_as end.Spent = Spent
 ended_as end.Memory = OutOfMemory
 
--- it ends with the status of its end, which has its cause; and over doors and a sink that tell, and a tape that may,
+-- it ends with the status of its end, which has its cause and its reason; and over doors and a sink that tell, and a tape that may,
 -- these are left as that end leaves them
 pub record EndsOf (setting : Setting) (first : Next) (status : Status) (old new : Outside) (faults_old faults_new : Faults) (written_old written_new : Written) : Type 0 where
   pub end : ServeEnd
   pub status-is : status ≡ ended_as end
   pub cause : HasCause end old new faults_old faults_new
+  pub reason : HasReason end setting.idle old new
   pub leaves : (c : Course) → Begins setting.idle budget c → Tells old written_old c → Leaves end setting (Goes first c) new written_new
 
 -- ---- serving, where the host is dialled first

@@ -6,6 +6,7 @@ ghost use Rattle.bridge_run.specs.Course.{AtDoor};
 ghost use Rattle.bridge_run.specs.Lent.{lent_sends};
 ghost use Rattle.session_tape.specs.Tapes.{counts};
 ghost use Rattle.bridge_run.specs.Outside.{outside, written, faults};
+ghost use Rattle.usbgate.specs.Logs.{HasLog, LendsByLog};
 ghost use Rattle.usbgate.specs.Serves.{EndsOf, Lends};
 
 use crate::lending::{BLOCKS, Device, Lending};
@@ -27,7 +28,8 @@ pub fn host<D: Doors, K: Sink>(
     requires client_down { (D.link doors.old Client).up ≡ false }
     requires host_down { (D.link doors.old Host).up ≡ false }
     requires idle { 1 ≤ lending.now.idle }
-    ensures { Lends result lending.now (outside (D.link doors.old) (D.door doors.old)) (outside (D.link doors.new) (D.door doors.new))
+    ensures log { LendsByLog D.call_gives result lending.now doors.old doors.new }
+    ensures lends { Lends result lending.now (outside (D.link doors.old) (D.door doors.old)) (outside (D.link doors.new) (D.door doors.new))
         (K.faults out.old) (K.faults out.new) (K.contents out.old) (K.contents out.new) }
 {
     match lending.device {
@@ -61,7 +63,8 @@ fn lend<G: Gadget, D: Doors, K: Sink>(
     requires client_down { (D.link doors.old Client).up ≡ false }
     requires host_down { (D.link doors.old Host).up ≡ false }
     requires idle { 1 ≤ lending.now.idle }
-    ensures { EndsOf (record { served = lent_sends G.meaning gadget; idle = lending.now.idle }) AtDoor result (outside (D.link doors.old) (D.door doors.old)) (outside (D.link doors.new) (D.door doors.new))
+    ensures log { HasLog D.call_gives (record { host = None; door = lending.now.listen }) (lent_sends G.meaning gadget) result doors.old doors.new }
+    ensures ends { EndsOf (record { served = lent_sends G.meaning gadget; idle = lending.now.idle }) AtDoor result (outside (D.link doors.old) (D.door doors.old)) (outside (D.link doors.new) (D.door doors.new))
         (faults (K.faults out.old) (counts 0 0)) (faults (K.faults out.new) (counts 0 0)) (written (K.contents out.old) None) (written (K.contents out.new) None) }
 {
     let end = serve_host(

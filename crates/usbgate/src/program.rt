@@ -16,6 +16,7 @@ ghost use Rattle.usbgate.specs.Simulated.{AreSimulated, SimulatesTape, MadeSimul
 ghost use Rattle.usbgate.specs.Show.{show as showing, show_side};
 ghost use Rattle.usbgate.specs.Serving.{Asked};
 ghost use Rattle.usbgate.specs.Lending.{AskedLent};
+ghost use Rattle.usbgate.specs.Logs.{ServesByLog, LendsByLog};
 ghost use Rattle.usbgate.specs.Serves.{Serves, Lends};
 ghost use Rattle.usbgate.specs.Recording.{records};
 ghost use Rattle.usbgate.specs.inner.Show.{shown_by};
@@ -77,6 +78,8 @@ pub fn run<S: Source, K: Sink, D: Doors, T: MakeTape>(
     ensures lends { (asked : AskedLent) → command_of (texts words.now) ≡ Command.Host asked
         → Lends result asked (outside (D.link doors.old) (D.door doors.old)) (outside (D.link doors.new) (D.door doors.new))
         (K.faults out.old) (K.faults out.new) (K.contents out.old) (K.contents out.new) }
+    ensures serves_log { (asked : Asked) → command_of (texts words.now) ≡ Command.Serve asked → ServesByLog D.call_gives result asked doors.old doors.new }
+    ensures lends_log { (asked : AskedLent) → command_of (texts words.now) ≡ Command.Host asked → LendsByLog D.call_gives result asked doors.old doors.new }
     ensures usage { result ≡ Status.Usage → (command_of (texts words.now) ≡ Command.Unknown) ⊎ ((records (command_of (texts words.now)) ≡ true) × WasThere (T.counts recording.old) (T.counts recording.new)) }
     ensures no_command { command_of (texts words.now) ≡ Command.Unknown → IsOfNoCommand result }
     ensures made { (count : ℕ) → command_of (texts words.now) ≡ Command.Make count → IsOfNoTape result × (tape.new ≡ tape.old) }

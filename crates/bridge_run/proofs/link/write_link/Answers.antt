@@ -1,10 +1,12 @@
-use Rattle.std.proofs.Common.{ℕ, ◌-◌, List, take, drop, length, sym, ◌∙◌, ap, arith}
+use Rattle.std.proofs.Common.{ℕ, ◌-◌, List, ◌++◌, take, drop, length, sym, ◌∙◌, ap, subst, arith}
 use Rattle.std.proofs.lemmas.List.{take_rest, length-take, length-drop, take-append-drop}
 use Rattle.std.proofs.Math.Seq.{take-add}
 use Rattle.gate_outside.specs.Link.{Link}
 use Rattle.gate_outside.specs.Doors.{faulted}
 use Rattle.bridge_run.specs.inner.Links.{wrote}
+use Rattle.bridge_run.specs.inner.Logging.{WroteMore}
 use Rattle.bridge_run.proofs.Links.{wrote-twice}
+use Rattle.bridge_run.proofs.Logging.{wrote-call, wrote-fault}
 use Rattle.bridge_run.proofs.link.write_link.Goals as goal
 
 pub loop-done-preserved : goal.loop-done-preserved
@@ -22,6 +24,10 @@ loop-done-preserved g c =
           ∙ ap (λ (l : List ℕ). wrote l before) (sym (take-add done n bytes));
       other = c.in-Ok.ensures.other ∙ c.loop-done.invariant.other;
       door = c.in-Ok.ensures.door ∙ c.loop-done.invariant.door;
+      log = λ begun calls called.
+          subst (λ (b : List ℕ). WroteMore g.D.Doors.call_gives c.args.side b calls begun c.write.new.self)
+          (ap (λ (l : List ℕ). take done bytes ++ take n l) (take_rest bytes done) ∙ sym (take-add done n bytes))
+          (wrote-call g.D.Doors.call_gives c.args.side (take done bytes) _ _ calls begun c.loop-done.doors c.write.new.self (c.loop-done.invariant.log begun calls called) c.in-Ok.ensures.gives);
     }
 
 pub returns-in-Err-clause-link : goal.returns-in-Err-clause-link
@@ -32,3 +38,10 @@ returns-in-Err-clause-link g c = record {
   link = c.in-Err.ensures.link ∙ ap (λ (l : Link). faulted l) c.loop-done.invariant.wrote;
   is_up = c.if-not-up.false;
 }
+
+pub returns-in-Err-clause-log : goal.returns-in-Err-clause-log
+returns-in-Err-clause-log g c = λ begun calls called.
+    let front = take c.loop-done.done c.args.bytes.now in
+    let back = drop c.loop-done.done c.args.bytes.now in
+    let wrote = wrote-fault g.D.Doors.call_gives c.args.side front _ _ calls begun c.loop-done.doors c.write.new.self (c.loop-done.invariant.log begun calls called) c.in-Err.ensures.gives in
+    (front, (back, (c.if-not-up.false, sym (take-append-drop c.loop-done.done c.args.bytes.now), wrote)))

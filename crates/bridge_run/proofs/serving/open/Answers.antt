@@ -4,6 +4,8 @@ use Rattle.gate_outside.specs.Link.{Door}
 use Rattle.gate_outside.specs.Doors.{faulted}
 use Rattle.bridge_run.specs.Outside.{outside}
 use Rattle.bridge_run.proofs.Opening.{cut-opens, not_dialled, not_listened, not_greeted}
+use Rattle.std.proofs.Common.{Ok}
+use Rattle.bridge_run.proofs.Logging.{dial-part, listen-part, was-asked, asked, hello-part, hello-sent, open-err}
 use Rattle.bridge_run.proofs.serving.open.Goals as goal
 
 pub returns-in-Err-clause-course : goal.returns-in-Err-clause-course
@@ -23,3 +25,26 @@ returns-in_err-write_link-clause-course g c = λ p k out hello up t. let a = c.i
     (c.in_default-listen.ensures.other ∙ c.in_default.ensures.link) c.in_err-write_link.ensures.link
     (c.in_err-write_link.ensures.other ∙ c.in_default-listen.ensures.listens.1 ∙ c.in_default.ensures.other)
     (c.in_err-write_link.ensures.door ∙ c.in_default-listen.ensures.listens.0 ∙ ap (λ (d : Door). record d { made = true }) c.in_default.ensures.door))
+
+pub returns-in-Err-clause-log : goal.returns-in-Err-clause-log
+returns-in-Err-clause-log g c = λ p hello. dial-part g.D.Doors.call_gives p c.args.host.now c.args.listen.now _ c.args.doors.now c.dial.new.self c.in-Err.ensures.gives
+
+pub returns-in-Err-listen-clause-log : goal.returns-in-Err-listen-clause-log
+returns-in-Err-listen-clause-log g c = λ p hello. listen-part g.D.Doors.call_gives p c.args.host.now c.args.listen.now _ c.args.doors.now c.dial.new.self c.listen.new.self c.in_default.ensures.gives c.in-Err-listen.ensures.gives
+
+pub returns-in_err-write_link-clause-log : goal.returns-in_err-write_link-clause-log
+returns-in_err-write_link-clause-log g c = λ p hello.
+    let gives = g.D.Doors.call_gives in
+    let host = c.args.host.now in
+    let door = c.args.listen.now in
+    let cut = c.in_err-write_link.ensures.log c.args.doors.now (asked host door (Ok tt)) (was-asked gives host door (Ok tt) c.args.doors.now c.dial.new.self c.listen.new.self c.in_default.ensures.gives c.in_default-listen.ensures.gives) in
+    open-err _ c.from_residual.result gives host door p c.args.doors.now c.write_link.new.doors c.from_residual.ensures.1
+    (hello-part gives p host door c.args.hello.now cut.0 cut.1.0 c.args.doors.now c.write_link.new.doors hello cut.1.1.1 cut.1.1.2)
+
+pub returns-clause-log : goal.returns-clause-log
+returns-clause-log g c = λ p hello.
+    let gives = g.D.Doors.call_gives in
+    let host = c.args.host.now in
+    let door = c.args.listen.now in
+    hello-sent gives p host door c.args.hello.now c.args.doors.now c.write_link.new.doors hello
+    (c.in_ok-write_link.ensures.log c.args.doors.now (asked host door (Ok tt)) (was-asked gives host door (Ok tt) c.args.doors.now c.dial.new.self c.listen.new.self c.in_default.ensures.gives c.in_default-listen.ensures.gives))

@@ -14,6 +14,9 @@ use Rattle.bridge_run.proofs.Reaching.{reaches-none, reaches-call, leaves-then, 
 use Rattle.bridge_run.proofs.Resting.{faults-then}
 use Rattle.bridge_run.proofs.Idling.{cut-reason, reason-from}
 use Rattle.bridge_run.proofs.Opening.{making-short, begun-follows}
+use Rattle.bridge_run.specs.Log.{Logged}
+use Rattle.bridge_run.specs.inner.Logging.{IsAt}
+use Rattle.bridge_run.proofs.Logging.{with_host, nothing-part, cut-logs, opened-at}
 use Rattle.bridge_run.proofs.serving.serve.Goals as goal
 
 pub returns-in-Err-clause-leaves : goal.returns-in-Err-clause-leaves
@@ -61,3 +64,27 @@ returns-clause-reason g c =
     let ends = outside (g.D.Doors.link c.run.new.doors) (g.D.Doors.door c.run.new.doors) in
     reason-from c.run.result c.args.idle before w ends c.in_default.ensures.idles
     (subst (λ (q : Kept). HasReason c.run.result q.idle w ends) (c.new-session.ensures.kept ∙ c.new.ensures) c.run.ensures.reason)
+
+pub returns-in-Err-clause-log : goal.returns-in-Err-clause-log
+returns-in-Err-clause-log g c = nothing-part g.D.Doors.call_gives (with_host c.args.host.now c.args.listen.now) (gate_sends c.args.after_loss c.args.first_id) c.args.doors.now
+
+pub returns-in-Err-vec-clause-log : goal.returns-in-Err-vec-clause-log
+returns-in-Err-vec-clause-log g c = nothing-part g.D.Doors.call_gives (with_host c.args.host.now c.args.listen.now) (gate_sends c.args.after_loss c.args.first_id) c.args.doors.now
+
+pub returns-in-Err-open-clause-log : goal.returns-in-Err-open-clause-log
+returns-in-Err-open-clause-log g c =
+    let p = gate_sends c.args.after_loss c.args.first_id in
+    cut-logs c.in-Err-open.end g.D.Doors.call_gives (with_host c.args.host.now c.args.listen.now) p c.args.doors.now c.open.new.doors c.in-Err-open.ensures.cut
+    (c.in-Err-open.ensures.log p (c.as_slice.ensures ∙ c.in-Ok.ensures.sent ∙ ap (λ (l : List ℕ). l ++ out_host c.args.first_id []) c.new-hello.ensures))
+
+pub returns-clause-log : goal.returns-clause-log
+returns-clause-log g c =
+    let first = c.args.first_id in
+    let p = gate_sends c.args.after_loss first in
+    let core = c.new-session.result.core in
+    let stands : List Event → Type 0 = λ events. (core.after_loss ≡ c.args.after_loss) × Stands first core.gate (gate_events events) in
+    c.run.ensures.log (c.args.after_loss, first) (with_host c.args.host.now c.args.listen.now) c.args.doors.now
+    (opened-at g.D.Doors.call_gives stands c.args.host.now c.args.listen.now p c.new-session.result.kept c.args.idle c.args.budget c.args.doors.now c.open.new.doors
+    (c.in_default.ensures.log p (c.as_slice.ensures ∙ c.in-Ok.ensures.sent ∙ ap (λ (l : List ℕ). l ++ out_host first []) c.new-hello.ensures))
+    (subst (λ (x : Gateway). (x.after_loss ≡ c.args.after_loss) × Stands first x.gate (gate_events [])) (sym c.new-session.ensures.core) (refl, c.in-Ok.ensures.made))
+    (c.new-session.ensures.kept ∙ c.new.ensures))

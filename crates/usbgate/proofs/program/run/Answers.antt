@@ -1,4 +1,4 @@
-use Rattle.std.proofs.Common.{inr, sym, ap, subst, ◌∙◌}
+use Rattle.std.proofs.Common.{inr, Some, None, sym, ap, subst, ◌∙◌}
 use Rattle.std.proofs.lemmas.Option.{same_Some}
 use Rattle.bridge_run.specs.Outside.{outside, written, faults}
 use Rattle.usbgate.specs.EventCommand.{over_events}
@@ -10,6 +10,9 @@ use Rattle.usbgate.specs.Recording.{records}
 use Rattle.usbgate.specs.Run.{Leaves}
 use Rattle.usbgate.proofs.Served.{unserved, unlent, links-stand, link-fault-of, link-stands}
 use Rattle.usbgate.proofs.Simulated.{simulates-device, simulates-count, unsimulated}
+use Rattle.bridge_run.specs.Gate.{gate_sends}
+use Rattle.usbgate.specs.Serves.{device_sends}
+use Rattle.usbgate.proofs.Logs.{unlogged}
 use Rattle.usbgate.proofs.program.run.Goals as goal
 
 pub returns-in_default-clause-serves : goal.returns-in_default-clause-serves
@@ -55,7 +58,7 @@ returns-in-Serve-clause-links_stand g c = λ side other. link-stands c.serve.res
 
 pub returns-in-Host-clause-links_stand : goal.returns-in-Host-clause-links_stand
 returns-in-Host-clause-links_stand g c = λ side other.
-    let lent = c.host.ensures in
+    let lent = c.host.ensures.lends in
     links-stand lent.end (g.D.Doors.link c.args.doors.now) (g.D.Doors.link c.host.new.doors) (g.D.Doors.door c.args.doors.now) (g.D.Doors.door c.host.new.doors) (g.K.Sink.faults c.args.out.now) (g.K.Sink.faults c.host.new.out) side lent.cause (λ e. other (lent.status-is ∙ e))
 
 pub returns-in-Unknown-clause-writes_stand : goal.returns-in-Unknown-clause-writes_stand
@@ -79,3 +82,9 @@ returns-in-Load-clause-writes_stand g c = (c.load.ensures.causes 0).writes_stand
 
 pub returns-in-Load-clause-load_simulates : goal.returns-in-Load-clause-load_simulates
 returns-in-Load-clause-load_simulates g c = λ count is done. simulates-count c.in-Load.count count (sym c.in-Load.is ∙ c.in-Ok.ensures.value ∙ is) (c.load.ensures.simulates done)
+
+pub returns-in_default-clause-serves_log : goal.returns-in_default-clause-serves_log
+returns-in_default-clause-serves_log g c = λ asked is. inr (unlogged g.D.Doors.call_gives (record { host = Some asked.host; door = asked.listen }) (gate_sends asked.after_loss asked.first_id) c.args.doors.now)
+
+pub returns-in_default-clause-lends_log : goal.returns-in_default-clause-lends_log
+returns-in_default-clause-lends_log g c = λ asked is. unlogged g.D.Doors.call_gives (record { host = None; door = asked.listen }) (device_sends asked.device) c.args.doors.now

@@ -10,6 +10,9 @@ use Rattle.bridge_run.specs.inner.Follows.{Runs, setting, polls, behind}
 use Rattle.bridge_run.proofs.Reaching.{reaches-none, reaches-call, runs-then}
 use Rattle.bridge_run.proofs.Asking.{OneMoved, poll-call, passed-follows, took-follows, ended-follows, failed-cut, up-is, setting-down, moved-no_fault}
 use Rattle.bridge_run.proofs.Resting.{faults-then, wears-then, end-wears}
+use Rattle.bridge_run.specs.declared.kept.Kept.{Kept}
+use Rattle.bridge_run.specs.inner.Logging.{IsTaking}
+use Rattle.bridge_run.proofs.Logging.{took-taking, rest-resting, end-taking, poll-failed}
 use Rattle.bridge_run.proofs.session.Session.ask.Goals as goal
 
 pub returns-in-Took-clause-course : goal.returns-in-Took-clause-course
@@ -131,3 +134,28 @@ returns-in-Ended-clause-faults g c =
 pub returns-in-Ended-clause-wears : goal.returns-in-Ended-clause-wears
 returns-in-Ended-clause-wears g c =
     wears-then c.args.self.now.kept c.end.new.self c.happen-in-Ended.new.self.kept (end-wears c.args.side c.args.self.now.kept c.end.new.self (sym c.is_up.ensures ∙ c.if-not-is_up.false) c.end.ensures) c.happen-in-Ended.ensures.wears
+
+pub returns-in-Took-clause-log : goal.returns-in-Took-clause-log
+returns-in-Took-clause-log g c = λ first opening begun a.
+    let gives = g.D.Doors.call_gives in
+    let p = g.C.Served.sends first in
+    let stands = g.C.Served.stands first c.args.self.now.core in
+    c.happen.ensures.log first opening begun (subst (λ (e : Event). IsTaking gives stands opening p e c.take.new.self begun c.poll.new.self) (sym c.piece.ensures)
+    (took-taking gives stands opening p c.args.side c.in-Took.n c.poll.new.buf c.args.self.now.kept c.take.new.self begun c.args.doors.now c.poll.new.self a c.in-Took.ensures.gives
+    (ap (λ (k : Kept). k.client_up) c.take.ensures) (ap (λ (k : Kept). k.host_up) c.take.ensures)))
+
+pub returns-in-NotYet-clause-log : goal.returns-in-NotYet-clause-log
+returns-in-NotYet-clause-log g c = λ first opening begun a.
+    c.be_quiet.ensures.log first opening begun (rest-resting g.D.Doors.call_gives (g.C.Served.stands first c.args.self.now.core) opening (g.C.Served.sends first) c.args.side c.poll.new.buf c.args.self.now.kept begun c.args.doors.now c.poll.new.self a c.in-NotYet.ensures.gives)
+
+pub returns-in-Ended-clause-log : goal.returns-in-Ended-clause-log
+returns-in-Ended-clause-log g c = λ first opening begun a.
+    let gives = g.D.Doors.call_gives in
+    let p = g.C.Served.sends first in
+    let stands = g.C.Served.stands first c.args.self.now.core in
+    c.happen-in-Ended.ensures.log first opening begun (subst (λ (e : Event). IsTaking gives stands opening p e c.end.new.self begun c.poll.new.self) (sym c.end_of.ensures)
+    (end-taking gives stands opening p c.args.side c.poll.new.buf c.args.self.now.kept c.end.new.self begun c.args.doors.now c.poll.new.self a c.in-Ended.ensures.gives c.end.ensures))
+
+pub returns-in-Failed-clause-log : goal.returns-in-Failed-clause-log
+returns-in-Failed-clause-log g c = λ first opening begun a.
+    poll-failed g.D.Doors.call_gives (g.C.Served.stands first c.args.self.now.core) opening (g.C.Served.sends first) c.args.side c.poll.new.buf c.args.self.now.kept begun c.args.doors.now c.poll.new.self a c.in-Failed.ensures.gives

@@ -2,12 +2,15 @@ use Rattle.std.proofs.Common.{Bool, Ok, sym, ◌∙◌, ap, subst}
 use Rattle.gate_outside.specs.declared.fault.Failed.{Failed as Fault}
 use Rattle.gate_outside.specs.Doors.{Accepts}
 use Rattle.bridge_run.specs.Events.{ClientComes}
+use Rattle.bridge_run.specs.declared.kept.Kept.{Kept}
 use Rattle.bridge_run.specs.Course.{Setting, AtDoor, AtClient, Takes}
 use Rattle.bridge_run.specs.Calls.{Goes, come, course_of}
 use Rattle.bridge_run.specs.Outside.{outside, written}
 use Rattle.bridge_run.specs.inner.Follows.{Runs, setting}
 use Rattle.bridge_run.proofs.Reaching.{reaches-none, reaches-call, runs-then, cut-next}
 use Rattle.bridge_run.proofs.Asking.{accepted, waited, not_accepted, call-door}
+use Rattle.gate_outside.specs.Calls.{Accept}
+use Rattle.bridge_run.proofs.Logging.{came-taking, nobody-at, accept-failed}
 use Rattle.bridge_run.proofs.session.Session.ask_door.Goals as goal
 
 pub returns-in-Ok-true-clause-course : goal.returns-in-Ok-true-clause-course
@@ -58,3 +61,21 @@ returns-in-Err-clause-course g c = λ first k f.
     let down = sym f.client_up ∙ c.if-self.false in
     cut-next s from AtDoor k (course_of (come k.clients k)) w' out (reaches-none s from) (ap course_of (call-door s k down))
     (not_accepted w w' out k f.tells c.in-Err.ensures.accepts.0 c.in-Err.ensures.other c.in-Err.ensures.accepts.1)
+
+pub returns-in-Ok-true-clause-log : goal.returns-in-Ok-true-clause-log
+returns-in-Ok-true-clause-log g c = λ first opening begun a.
+    let gives = g.D.Doors.call_gives in
+    let answered = subst (λ (b : Bool). gives c.args.doors.now (Accept (Ok b)) c.accept.new.self) c.in-Ok-true.field-0-test c.in-Ok-true.ensures.gives in
+    c.happen.ensures.log first opening begun
+    (came-taking gives (g.C.Served.stands first c.args.self.now.core) opening (g.C.Served.sends first) c.args.self.now.kept c.come.new.self begun c.args.doors.now c.accept.new.self a answered
+    (ap (λ (k : Kept). k.client_up) c.come.ensures) (ap (λ (k : Kept). k.host_up) c.come.ensures))
+
+pub returns-in-Ok-false-clause-log : goal.returns-in-Ok-false-clause-log
+returns-in-Ok-false-clause-log g c = λ first opening begun a.
+    let gives = g.D.Doors.call_gives in
+    nobody-at gives (g.C.Served.stands first c.args.self.now.core) opening (g.C.Served.sends first) c.args.self.now.kept begun c.args.doors.now c.accept.new.self a
+    (subst (λ (b : Bool). gives c.args.doors.now (Accept (Ok b)) c.accept.new.self) c.in-Ok-false.field-0-test c.in-Ok-false.ensures.gives)
+
+pub returns-in-Err-clause-log : goal.returns-in-Err-clause-log
+returns-in-Err-clause-log g c = λ first opening begun a.
+    accept-failed g.D.Doors.call_gives (g.C.Served.stands first c.args.self.now.core) opening (g.C.Served.sends first) _ c.args.self.now.kept begun c.args.doors.now c.accept.new.self a c.in-Err.ensures.gives

@@ -1,4 +1,4 @@
-use Rattle.std.proofs.Common.{Result, refl, sym, ◌∙◌, subst}
+use Rattle.std.proofs.Common.{Bool, Result, refl, sym, ◌∙◌, subst}
 use Rattle.std.proofs.lemmas.Bool.{false≢true}
 use Rattle.bridge_run.specs.Events.{ClientEnd, event_of}
 use Rattle.bridge_run.specs.declared.serve_end.ServeEnd.{ServeEnd}
@@ -8,6 +8,9 @@ use Rattle.bridge_run.specs.Outside.{outside, written}
 use Rattle.bridge_run.specs.inner.Follows.{Runs, setting}
 use Rattle.bridge_run.proofs.Reaching.{reaches-none, reaches-call, cut-leaves, cut-next, is-err}
 use Rattle.bridge_run.proofs.Settling.{settled, take-course, take-settles, take-ends, quiet-on, on-all}
+use Rattle.bridge_run.specs.Calls.{ends_next}
+use Rattle.bridge_run.specs.inner.Logging.{IsBehind, Logs}
+use Rattle.bridge_run.proofs.Logging.{cut-logs, settled-logs}
 use Rattle.bridge_run.proofs.session.Session.happen.Goals as goal
 
 pub returns-in_err-dropped-clause-course : goal.returns-in_err-dropped-clause-course
@@ -69,3 +72,37 @@ returns-then-not-ends_next-clause-quiet g c = on-all c.settle.result _ (λ quiet
 pub returns-clause-quiet : goal.returns-clause-quiet
 returns-clause-quiet g c = on-all c.settle-2.result _
     (λ quiet. absurd (false≢true (sym (quiet-on (event_of c.args.event) c.in_ok-dropped.dropped (c.in_ok-dropped.ensures.quiet quiet).0) ∙ sym c.ends_next.ensures ∙ c.if-not-ends_next.false)))
+
+pub returns-in_err-dropped-clause-log : goal.returns-in_err-dropped-clause-log
+returns-in_err-dropped-clause-log g c = λ first opening begun t.
+    let gives = g.D.Doors.call_gives in
+    let p = g.C.Served.sends first in
+    let e = c.in_err-dropped.field-0.0 in
+    subst (λ (r : Result (Unit {0}) ServeEnd). Logs r gives (g.C.Served.stands first c.put.new.self.core) opening p c.put.new.self.kept begun c.put.new.doors) (sym (is-err c.from_residual.result e c.from_residual.ensures.1))
+    (cut-logs e gives opening p begun c.put.new.doors c.in_err-dropped.ensures.cut (c.in_err-dropped.ensures.log first opening begun t))
+
+pub returns-in_err-put-clause-log : goal.returns-in_err-put-clause-log
+returns-in_err-put-clause-log g c = λ first opening begun t.
+    let gives = g.D.Doors.call_gives in
+    let p = g.C.Served.sends first in
+    let e = c.in_err-put.field-0.0 in
+    let taking = subst (λ (b : Bool). IsBehind b gives (g.C.Served.stands first c.put.new.self.core) opening p c.put.new.self.kept begun c.put.new.doors) (sym c.ends_next.ensures ∙ c.if-not-ends_next.false)
+    (c.in_ok-dropped.ensures.log first opening begun t) in
+    subst (λ (r : Result (Unit {0}) ServeEnd). Logs r gives (g.C.Served.stands first c.put-2.new.self.core) opening p c.put-2.new.self.kept begun c.put-2.new.doors) (sym (is-err c.from_residual-in_err-put.result e c.from_residual-in_err-put.ensures.1))
+    (cut-logs e gives opening p begun c.put-2.new.doors c.in_err-put.ensures.cut (c.in_err-put.ensures.log first opening begun taking))
+
+pub returns-then-not-ends_next-clause-log : goal.returns-then-not-ends_next-clause-log
+returns-then-not-ends_next-clause-log g c = λ first opening begun t.
+    let gives = g.D.Doors.call_gives in
+    let p = g.C.Served.sends first in
+    let at = subst (λ (b : Bool). IsBehind b gives (g.C.Served.stands first c.put.new.self.core) opening p c.put.new.self.kept begun c.put.new.doors) (sym c.ends_next.ensures ∙ c.if-not-ends_next.true)
+    (c.in_ok-dropped.ensures.log first opening begun t) in
+    settled-logs c.settle.result gives (g.C.Served.stands first c.put.new.self.core) opening p c.put.new.self.kept begun c.put.new.doors c.settle.ensures at
+
+pub returns-clause-log : goal.returns-clause-log
+returns-clause-log g c = λ first opening begun t.
+    let gives = g.D.Doors.call_gives in
+    let p = g.C.Served.sends first in
+    let taking = subst (λ (b : Bool). IsBehind b gives (g.C.Served.stands first c.put.new.self.core) opening p c.put.new.self.kept begun c.put.new.doors) (sym c.ends_next.ensures ∙ c.if-not-ends_next.false)
+    (c.in_ok-dropped.ensures.log first opening begun t) in
+    settled-logs c.settle-2.result gives (g.C.Served.stands first c.put-2.new.self.core) opening p c.put-2.new.self.kept begun c.put-2.new.doors c.settle-2.ensures (c.in_ok-put.ensures.log first opening begun taking)

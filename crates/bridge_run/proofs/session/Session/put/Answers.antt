@@ -14,6 +14,9 @@ use Rattle.bridge_run.proofs.Reaching.{is-err}
 use Rattle.bridge_run.specs.inner.Links.{wrote_if, WritesFront, closed_if}
 use Rattle.bridge_run.specs.inner.Keeping.{refusing}
 use Rattle.bridge_run.proofs.Putting.{tape-faults, cut-puts, dropped-is, put-client, put-host, put-follows, put-before, put-in_entry, put-in_client, put-in_host, put-in_lines, refusing-none}
+use Rattle.bridge_run.specs.Calls.{ends_next}
+use Rattle.bridge_run.specs.inner.Logging.{WroteMore, all_if, closing}
+use Rattle.bridge_run.proofs.Logging.{has-sent, put-behind, client-kept, host-kept, dropped-down, none-part, client-part, host-part, behind-part, put-err}
 use Rattle.bridge_run.proofs.session.Session.put.Goals as goal
 
 pub returns-in_err-prepare-clause-course : goal.returns-in_err-prepare-clause-course
@@ -130,3 +133,102 @@ returns-in-Ok-clause-quiet g c = λ quiet.
       c.drops_client-dropped.ensures ∙ ap (λ (rs : List Refusal). refuses Client rs || sent.lets_go) none ∙ stays,
       refusing-none sent.refusals sent.lets_go c.args.self.now.kept c.refuse.new.self none stays (c.refuse.ensures ∙ ap (refusing sent.refusals sent.lets_go) c.in_ok-prepare.ensures.kept),
     )
+
+pub returns-in_err-prepare-clause-log : goal.returns-in_err-prepare-clause-log
+returns-in_err-prepare-clause-log g c = λ first opening begun t.
+    let gives = g.D.Doors.call_gives in
+    let p = g.C.Served.sends first in
+    let e = event_of c.args.event in
+    put-err _ c.from_residual.result gives (g.C.Served.stands first c.prepare.new.self.core) opening p e c.prepare.new.self.kept begun c.args.doors.now c.from_residual.ensures.1
+    (none-part gives (g.C.Served.stands first c.args.self.now.core) opening p e c.args.self.now.kept begun c.args.doors.now t)
+
+pub returns-in_err-record_event-clause-log : goal.returns-in_err-record_event-clause-log
+returns-in_err-record_event-clause-log g c = λ first opening begun t.
+    let gives = g.D.Doors.call_gives in
+    let p = g.C.Served.sends first in
+    let e = event_of c.args.event in
+    put-err _ c.from_residual-in_err-record_event.result gives (g.C.Served.stands first c.prepare.new.self.core) opening p e c.prepare.new.self.kept begun c.args.doors.now c.from_residual-in_err-record_event.ensures.1
+    (none-part gives (g.C.Served.stands first c.args.self.now.core) opening p e c.args.self.now.kept begun c.args.doors.now t)
+
+pub returns-in_err-write_link-clause-log : goal.returns-in_err-write_link-clause-log
+returns-in_err-write_link-clause-log g c = λ first opening begun t.
+    let gives = g.D.Doors.call_gives in
+    let p = g.C.Served.sends first in
+    let e = event_of c.args.event in
+    let old = c.args.self.now.kept in
+    let k1 = c.prepare.new.self.kept in
+    let sent = c.prepare.new.self.sent in
+    let lines = c.prepare.new.self.lines in
+    let stands = g.C.Served.stands first c.args.self.now.core in
+    let prepared = c.in_ok-prepare.ensures.prepared first t.events t.stands_for in
+    let same = c.in_ok-prepare.ensures.kept in
+    let cut = c.in_err-write_link.ensures.log begun t.calls t.called in
+    put-err _ c.from_residual-in_err-write_link.result gives (g.C.Served.stands first c.prepare.new.self.core) opening p e k1 begun c.write_link.new.doors c.from_residual-in_err-write_link.ensures.1
+    (client-part gives stands opening p e old k1 sent lines cut.0 cut.1.0 begun c.args.doors.now c.write_link.new.doors t prepared same cut.1.1.0 (sym c.as_slice.ensures ∙ cut.1.1.1) cut.1.1.2)
+
+pub returns-in_err-write_link-2-clause-log : goal.returns-in_err-write_link-2-clause-log
+returns-in_err-write_link-2-clause-log g c = λ first opening begun t.
+    let gives = g.D.Doors.call_gives in
+    let p = g.C.Served.sends first in
+    let e = event_of c.args.event in
+    let old = c.args.self.now.kept in
+    let k1 = c.prepare.new.self.kept in
+    let sent = c.prepare.new.self.sent in
+    let lines = c.prepare.new.self.lines in
+    let stands = g.C.Served.stands first c.args.self.now.core in
+    let prepared = c.in_ok-prepare.ensures.prepared first t.events t.stands_for in
+    let same = c.in_ok-prepare.ensures.kept in
+    let w1 = subst (λ (b : List ℕ). WroteMore gives Client (all_if k1.client_up b) t.calls begun c.write_link.new.doors) c.as_slice.ensures (c.in_ok-write_link.ensures.log begun t.calls t.called) in
+    let cut = c.in_err-write_link-2.ensures.log begun w1.behind w1.called in
+    put-err _ c.from_residual-in_err-write_link-2.result gives (g.C.Served.stands first c.prepare.new.self.core) opening p e k1 begun c.write_link-2.new.doors c.from_residual-in_err-write_link-2.ensures.1
+    (host-part gives stands opening p e old k1 sent lines cut.0 cut.1.0 begun c.args.doors.now c.write_link.new.doors c.write_link-2.new.doors t prepared same cut.1.1.0 (sym c.as_slice-2.ensures ∙ cut.1.1.1) w1 cut.1.1.2)
+
+pub returns-in-Err-clause-log : goal.returns-in-Err-clause-log
+returns-in-Err-clause-log g c = λ first opening begun t.
+    let gives = g.D.Doors.call_gives in
+    let p = g.C.Served.sends first in
+    let e = event_of c.args.event in
+    let old = c.args.self.now.kept in
+    let k1 = c.prepare.new.self.kept in
+    let sent = c.prepare.new.self.sent in
+    let lines = c.prepare.new.self.lines in
+    let stands = g.C.Served.stands first c.args.self.now.core in
+    let prepared = c.in_ok-prepare.ensures.prepared first t.events t.stands_for in
+    let same = c.in_ok-prepare.ensures.kept in
+    let w1 = subst (λ (b : List ℕ). WroteMore gives Client (all_if k1.client_up b) t.calls begun c.write_link.new.doors) c.as_slice.ensures (c.in_ok-write_link.ensures.log begun t.calls t.called) in
+    let w2 = subst (λ (b : List ℕ). WroteMore gives Host (all_if k1.host_up b) w1.behind begun c.write_link-2.new.doors) c.as_slice-2.ensures (c.in_ok-write_link-2.ensures.log begun w1.behind w1.called) in
+    let dropped = c.drops_client-dropped.result in
+    let refused = c.refuses.result in
+    let called = c.close_link-2.ensures.log begun (closing dropped Client w2.behind) (c.close_link.ensures.log begun w2.behind w2.called) in
+    let kept = c.refuse.ensures ∙ ap (refusing sent.refusals sent.lets_go) same in
+    let behind = put-behind gives (g.C.Served.stands first c.prepare.new.self.core) opening p e t.events c.refuse.new.self begun c.close_link-2.new.doors w2.behind refused dropped
+    (has-sent gives stands opening p e old k1 sent lines begun c.args.doors.now c.write_link.new.doors c.write_link-2.new.doors t prepared same w1 w2)
+    (c.in_ok-prepare.ensures.stands first t.events t.stands_for) called
+    (client-kept p e t.events old c.refuse.new.self sent lines prepared kept t.client_up) (host-kept opening p e t.events old c.refuse.new.self sent lines prepared kept t.host_up)
+    (dropped-down old c.refuse.new.self sent dropped kept c.drops_client-dropped.ensures) in
+    behind-part gives (g.C.Served.stands first c.prepare.new.self.core) opening p c.refuse.new.self (ends_next e dropped) begun c.close_link-2.new.doors behind
+
+pub returns-in-Ok-clause-log : goal.returns-in-Ok-clause-log
+returns-in-Ok-clause-log g c = λ first opening begun t.
+    let gives = g.D.Doors.call_gives in
+    let p = g.C.Served.sends first in
+    let e = event_of c.args.event in
+    let old = c.args.self.now.kept in
+    let k1 = c.prepare.new.self.kept in
+    let sent = c.prepare.new.self.sent in
+    let lines = c.prepare.new.self.lines in
+    let stands = g.C.Served.stands first c.args.self.now.core in
+    let prepared = c.in_ok-prepare.ensures.prepared first t.events t.stands_for in
+    let same = c.in_ok-prepare.ensures.kept in
+    let w1 = subst (λ (b : List ℕ). WroteMore gives Client (all_if k1.client_up b) t.calls begun c.write_link.new.doors) c.as_slice.ensures (c.in_ok-write_link.ensures.log begun t.calls t.called) in
+    let w2 = subst (λ (b : List ℕ). WroteMore gives Host (all_if k1.host_up b) w1.behind begun c.write_link-2.new.doors) c.as_slice-2.ensures (c.in_ok-write_link-2.ensures.log begun w1.behind w1.called) in
+    let dropped = c.drops_client-dropped.result in
+    let refused = c.refuses.result in
+    let called = c.close_link-2.ensures.log begun (closing dropped Client w2.behind) (c.close_link.ensures.log begun w2.behind w2.called) in
+    let kept = c.refuse.ensures ∙ ap (refusing sent.refusals sent.lets_go) same in
+    let behind = put-behind gives (g.C.Served.stands first c.prepare.new.self.core) opening p e t.events c.refuse.new.self begun c.close_link-2.new.doors w2.behind refused dropped
+    (has-sent gives stands opening p e old k1 sent lines begun c.args.doors.now c.write_link.new.doors c.write_link-2.new.doors t prepared same w1 w2)
+    (c.in_ok-prepare.ensures.stands first t.events t.stands_for) called
+    (client-kept p e t.events old c.refuse.new.self sent lines prepared kept t.client_up) (host-kept opening p e t.events old c.refuse.new.self sent lines prepared kept t.host_up)
+    (dropped-down old c.refuse.new.self sent dropped kept c.drops_client-dropped.ensures) in
+    behind

@@ -8,6 +8,8 @@ use Rattle.bridge_run.proofs.Reaching.{is-err}
 use Rattle.bridge_run.specs.inner.Idling.{RoundIdles}
 use Rattle.bridge_run.proofs.Idling.{ends-idles, round-idles}
 use Rattle.bridge_run.proofs.Resting.{faults-then, rests, rests-faults, wears-then, fewer-if_ok, goes-on}
+use Rattle.bridge_run.specs.inner.Logging.{Logs}
+use Rattle.bridge_run.proofs.Logging.{rested-logs}
 use Rattle.bridge_run.proofs.session.Session.round.Goals as goal
 
 pub returns-in_err-ask-clause-course : goal.returns-in_err-ask-clause-course
@@ -128,3 +130,29 @@ returns-clause-idles g c = round-idles c.rest.result c.args.self.now.kept c.ask_
       before = c.requires.agrees;
       behind = c.in_ok-ask-2.ensures.agrees;
     }) c.rest.ensures
+
+pub returns-in_err-ask_door-clause-log : goal.returns-in_err-ask_door-clause-log
+returns-in_err-ask_door-clause-log g c = λ first opening begun a.
+    let gives = g.D.Doors.call_gives in
+    let p = g.C.Served.sends first in
+    subst (λ (r : Result (Unit {0}) ServeEnd). Logs r gives (g.C.Served.stands first c.ask_door.new.self.core) opening p c.ask_door.new.self.kept begun c.ask_door.new.doors) (sym (is-err c.from_residual.result c.in_err-ask_door.field-0.0 c.from_residual.ensures.1))
+    (c.in_err-ask_door.ensures.log first opening begun a)
+
+pub returns-in_err-ask-clause-log : goal.returns-in_err-ask-clause-log
+returns-in_err-ask-clause-log g c = λ first opening begun a.
+    let gives = g.D.Doors.call_gives in
+    let p = g.C.Served.sends first in
+    subst (λ (r : Result (Unit {0}) ServeEnd). Logs r gives (g.C.Served.stands first c.ask.new.self.core) opening p c.ask.new.self.kept begun c.ask.new.doors) (sym (is-err c.from_residual-in_err-ask.result c.in_err-ask.field-0.0 c.from_residual-in_err-ask.ensures.1))
+    (c.in_err-ask.ensures.log first opening begun (c.in_ok-ask_door.ensures.log first opening begun a))
+
+pub returns-in_err-ask-2-clause-log : goal.returns-in_err-ask-2-clause-log
+returns-in_err-ask-2-clause-log g c = λ first opening begun a.
+    let gives = g.D.Doors.call_gives in
+    let p = g.C.Served.sends first in
+    subst (λ (r : Result (Unit {0}) ServeEnd). Logs r gives (g.C.Served.stands first c.ask-2.new.self.core) opening p c.ask-2.new.self.kept begun c.ask-2.new.doors) (sym (is-err c.from_residual-in_err-ask-2.result c.in_err-ask-2.field-0.0 c.from_residual-in_err-ask-2.ensures.1))
+    (c.in_err-ask-2.ensures.log first opening begun (c.in_ok-ask.ensures.log first opening begun (c.in_ok-ask_door.ensures.log first opening begun a)))
+
+pub returns-clause-log : goal.returns-clause-log
+returns-clause-log g c = λ first opening begun a.
+    rested-logs c.rest.result g.D.Doors.call_gives (g.C.Served.stands first c.ask-2.new.self.core) opening (g.C.Served.sends first) c.ask-2.new.self.kept c.rest.new.self begun c.ask-2.new.doors c.rest.ensures
+    (c.in_ok-ask-2.ensures.log first opening begun (c.in_ok-ask.ensures.log first opening begun (c.in_ok-ask_door.ensures.log first opening begun a)))

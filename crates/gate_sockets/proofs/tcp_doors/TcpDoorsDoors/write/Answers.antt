@@ -118,3 +118,44 @@ returns-in-None-clause-other g c =
     let o = other c.args.side in
     ap (λ (s : State _). untold s) c.fail.ensures.other ∙ ap (λ (s : State _). untold s) c.in-None.ensures.other
     ∙ waited-untold g.N.Stream.Connection.read_gives g.N.Stream.Connection.write_gives 0 (state_of c.args.self.now o) (state_of c.loop-tried.self o) c.loop-tried.invariant.1
+
+pub returns-in-Some-clause-gives : goal.returns-in-Some-clause-gives
+returns-in-Some-clause-gives g c =
+    let r = g.N.Stream.Connection.read_gives in
+    let w = g.N.Stream.Connection.write_gives in
+    let side = c.args.side in
+    let a = c.args.self.now in
+    let sends = sends-join r w c.loop-tried._tried c.in-Some.count c.args.piece.now (state_of a side) (state_of c.loop-tried.self side) (state_of c.write_once.new.self side) c.loop-tried.invariant.0 c.in-Some.ensures.side in
+    let on = subst (λ (s : State _). Waited r w 0 (state_of a (other side)) s) (sym c.in-Some.ensures.other) c.loop-tried.invariant.1 in
+    subst (λ (x : States _ _). Sends r w c.in-Some.count c.args.piece.now (state_of a side) (state_of x side) × Waited r w 0 (state_of a (other side)) (state_of x (other side)) × (x.door ≡ a.door))
+    (sym c.self.view_is) (sends, on, c.in-Some.ensures.door ∙ c.loop-tried.invariant.2)
+
+pub returns-in-Some-write_once-clause-gives : goal.returns-in-Some-write_once-clause-gives
+returns-in-Some-write_once-clause-gives g c =
+    let r = g.N.Stream.Connection.read_gives in
+    let w = g.N.Stream.Connection.write_gives in
+    let side = c.args.side in
+    let a = c.args.self.now in (
+      sends-join r w c.loop-tried._tried c.in-Some-write_once.count c.args.piece.now (state_of a side) (state_of c.loop-tried.self side) (state_of c.write_once-2.new.self side) c.loop-tried.invariant.0 c.in-Some-write_once.ensures.side,
+      subst (λ (s : State _). Waited r w 0 (state_of a (other side)) s) (sym c.in-Some-write_once.ensures.other) c.loop-tried.invariant.1,
+      c.in-Some-write_once.ensures.door ∙ c.loop-tried.invariant.2,
+    )
+
+pub returns-in-None-clause-gives : goal.returns-in-None-clause-gives
+returns-in-None-clause-gives g c =
+    let r = g.N.Stream.Connection.read_gives in
+    let w = g.N.Stream.Connection.write_gives in
+    let side = c.args.side in
+    let a = c.args.self.now in
+    let over = state_of c.write_once-2.new.self side in
+    let all : 1 + c.loop-tried._tried ≡ 1000001 = omega (arith, c.loop-tried-test.false, c.loop-tried.auto._tried-end) in
+    let waited = waited-join r w c.loop-tried._tried 1 (state_of a side) (state_of c.loop-tried.self side) over c.loop-tried.invariant.0 c.in-None.ensures.side.0 in (
+      record {
+        over = over;
+        waited = subst (λ k. Waited r w k (state_of a side) over) all waited;
+        whole = c.in-None.ensures.side.1;
+        rest = c.fail.ensures.side;
+      },
+      subst (λ (s : State _). Waited r w 0 (state_of a (other side)) s) (sym (c.fail.ensures.other ∙ c.in-None.ensures.other)) c.loop-tried.invariant.1,
+      c.fail.ensures.door ∙ c.in-None.ensures.door ∙ c.loop-tried.invariant.2,
+    )
