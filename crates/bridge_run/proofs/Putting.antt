@@ -12,7 +12,7 @@ use Rattle.gate_outside.specs.Link.{Link, Door}
 use Rattle.gate_outside.specs.Doors.{closes}
 use Rattle.gate_outside.specs.Front.{AppendsFront}
 use Rattle.bridge_run.specs.Events.{Event}
-use Rattle.gate_core.specs.Sides.{or_else}
+use Rattle.gate_history.specs.Sides.{or_else}
 use Rattle.bridge_run.specs.declared.kept.Kept.{Kept}
 use Rattle.bridge_run.specs.declared.sent.Sent.{Sent}
 use Rattle.bridge_run.specs.declared.serve_end.ServeEnd.{ServeEnd}

@@ -2,7 +2,7 @@
 
 ghost use Rattle.std.specs.Prelude.{◌≡◌, ◌++◌, ◌||◌, OnOk, option_map};
 ghost use Rattle.std.specs.List.{flat_map, list_any};
-ghost use Rattle.gate_core.specs.Events.{event_of as told_of};
+ghost use Rattle.gate_history.specs.Events.{event_of as told_of};
 ghost use Rattle.bridge_run.specs.Events.{event_of};
 ghost use Rattle.bridge_run.specs.Gate.{gate_event, refusal_in, is_loss, lets_go};
 
@@ -10,7 +10,8 @@ use crate::after_loss::AfterLoss;
 use crate::event::Event;
 use crate::sent::Sent;
 use crate::served::Served;
-use gate_core::{Event as GateEvent, Gate, Note, Notes};
+use gate_core::Gate;
+use gate_history::{Event as GateEvent, Note, Notes};
 use usb_base::{List, Memory, Refusal};
 
 /// A gate, and what becomes of a client whose device is lost.

@@ -11,11 +11,11 @@ use Rattle.model_device.specs.Submit.{seen}
 use Rattle.redir_host.specs.Asking.{routed}
 pub use Rattle.redir_host.specs.Queues.{without_first}
 use Rattle.redir_host.specs.Queues.{queue_of}
-use Rattle.gate_core.specs.Requests.{Request}
-use Rattle.gate_core.specs.Verdict.{Verdict, Now, Wire, Routed, IsoOut, Stream, changes}
-use Rattle.gate_core.specs.Marks.{Submission}
-use Rattle.gate_core.specs.Packets.{no_setup}
-use Rattle.gate_core.specs.Ups.{Up, no_streams, stream_of}
+use Rattle.gate_history.specs.Requests.{Request}
+use Rattle.gate_history.specs.Verdict.{Verdict, Now, Wire, Routed, IsoOut, Stream, changes}
+use Rattle.gate_history.specs.Marks.{Submission}
+use Rattle.gate_history.specs.Packets.{no_setup}
+use Rattle.gate_history.specs.Ups.{Up, no_streams, stream_of}
 
 -- what a submit asks, and what is made of it
 pub record Load : Type 0 where

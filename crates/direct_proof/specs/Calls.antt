@@ -3,8 +3,8 @@ use Rattle.std.specs.Prelude.{◌≡◌, ℕ, ◌+◌, ◌≤◌, ◌==◌, ◌|
 use Rattle.usb_base.specs.Endpoint.{endpoint_index}
 use Rattle.redir_data.specs.declared.packet.RedirPacket.{RedirPacket}
 use Rattle.redir_host.specs.Sound.{Each}
-use Rattle.gate_core.specs.Calls.{Calls}
-use Rattle.gate_core.specs.Ids.{times}
+use Rattle.gate_history.specs.Calls.{Calls}
+use Rattle.gate_history.specs.Ids.{times}
 use Rattle.direct_proof.specs.Running.{called_endpoint}
 use Rattle.direct_proof.specs.Tagged.{Stated, Tagged}
 

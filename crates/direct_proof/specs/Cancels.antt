@@ -10,7 +10,7 @@ use Rattle.redir_host.specs.Asking.{asking_of}
 use Rattle.redir_host.specs.Sound.{Each}
 use Rattle.redir_host.specs.declared.request.Asking.{Asking}
 use Rattle.redir_host.specs.declared.request.Asking.TheVariants.{Asks, Nothing, Refuses}
-use Rattle.gate_core.specs.Verdict.{changes}
+use Rattle.gate_history.specs.Verdict.{changes}
 use Rattle.direct_device.specs.Direct.{normal_of}
 use Rattle.direct_proof.specs.Requests.{Entry}
 

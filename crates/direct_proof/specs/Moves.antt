@@ -14,16 +14,16 @@ use Rattle.redir_host.specs.declared.note.HostNote.{HostNote}
 use Rattle.redir_host.specs.declared.note.HostNote.TheVariants as host_note
 use Rattle.redir_host.specs.declared.note.Offered.{Offered}
 use Rattle.redir_host.specs.declared.note.Offered.TheVariants as offered
-use Rattle.gate_core.specs.Items.{Item as GateItem, Told}
-use Rattle.gate_core.specs.Machine.{after}
-use Rattle.gate_core.specs.Marks.{Arrives, Effect, Imports, Mark, Unlinks}
-use Rattle.gate_core.specs.Meaning.{mark_of}
-use Rattle.gate_core.specs.Notes.{is_by_answer, notes_of}
-use Rattle.gate_core.specs.Output.{present, to_client, to_host}
-use Rattle.gate_core.specs.Past.{is_left_out}
-use Rattle.gate_core.specs.Sides.{is_loss, leaves}
-use Rattle.gate_core.specs.State.{State}
-use Rattle.gate_core.specs.Submits.{ends, opened}
+use Rattle.gate_history.specs.Items.{Item as GateItem, Told}
+use Rattle.gate_history.specs.Machine.{after}
+use Rattle.gate_history.specs.Marks.{Arrives, Effect, Imports, Mark, Unlinks}
+use Rattle.gate_history.specs.Meaning.{mark_of}
+use Rattle.gate_history.specs.Notes.{is_by_answer, notes_of}
+use Rattle.gate_history.specs.Output.{present, to_client, to_host}
+use Rattle.gate_history.specs.Past.{is_left_out}
+use Rattle.gate_history.specs.Sides.{is_loss, leaves}
+use Rattle.gate_history.specs.State.{State}
+use Rattle.gate_history.specs.Submits.{ends, opened}
 use Rattle.direct_run.specs.Moves.{ByClient, GateReads, HostReads, Move, Offers, Performs, Unplugs, World, first_world}
 use Rattle.direct_run.specs.Noted.{named, number_in, queue_byte}
 use Rattle.direct_run.specs.declared.submitted.Submitted.{Submitted}

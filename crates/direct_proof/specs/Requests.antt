@@ -9,11 +9,11 @@ use Rattle.redir_host.specs.Line.{Waiting as InLine, Reset, Waits}
 use Rattle.redir_host.specs.declared.request.Form.{Form}
 use Rattle.redir_host.specs.declared.request.Form.TheVariants as form
 use Rattle.redir_host.specs.declared.request.Request.{Request as HostRequest}
-use Rattle.gate_core.specs.Marks.{Submission}
-use Rattle.gate_core.specs.Packets.{no_setup}
-use Rattle.gate_core.specs.Requests.{Request}
-use Rattle.gate_core.specs.Submits.{Pending}
-use Rattle.gate_core.specs.Verdict.{Bulk, Control, InterruptOut, IsoOut, Now, Pipe, Routed, Stream, Verdict, Wire, goes_by_id}
+use Rattle.gate_history.specs.Marks.{Submission}
+use Rattle.gate_history.specs.Packets.{no_setup}
+use Rattle.gate_history.specs.Requests.{Request}
+use Rattle.gate_history.specs.Submits.{Pending}
+use Rattle.gate_history.specs.Verdict.{Bulk, Control, InterruptOut, IsoOut, Now, Pipe, Routed, Stream, Verdict, Wire, goes_by_id}
 use Rattle.direct_device.specs.Direct.{Live, Load, Ran, Waiting, normal_of, seen_of}
 
 -- ---- how a submit stands at the host

@@ -9,7 +9,7 @@ use Rattle.redir_host.specs.Packets.{runs_at}
 use Rattle.redir_host.specs.Sound.{Each}
 use Rattle.redir_host.specs.declared.host.Host.{Host}
 use Rattle.redir_host.specs.declared.running.Running.{Running}
-use Rattle.gate_core.specs.Ups.{Up, stream_of}
+use Rattle.gate_history.specs.Ups.{Up, stream_of}
 use Rattle.direct_run.specs.Moves.{World}
 use Rattle.direct_run.specs.Packets.{both_caps}
 use Rattle.direct_proof.specs.Cancels.{any_change}

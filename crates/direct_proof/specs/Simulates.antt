@@ -10,10 +10,10 @@ use Rattle.usbip_urb.specs.declared.packet.UrbPacket.{UrbPacket}
 use Rattle.model_device.specs.Meaning.{Meaning}
 use Rattle.redir_host.specs.History.{history as host_history}
 use Rattle.redir_host.specs.Machine.{all_given, notes_of as host_notes_of}
-use Rattle.gate_core.specs.All.{all_of}
-use Rattle.gate_core.specs.History.{history}
-use Rattle.gate_core.specs.Notes.{notes_of}
-use Rattle.gate_core.specs.Sides.{is_client}
+use Rattle.gate_history.specs.All.{all_of}
+use Rattle.gate_history.specs.History.{history}
+use Rattle.gate_history.specs.Notes.{notes_of}
+use Rattle.gate_history.specs.Sides.{is_client}
 use Rattle.direct_run.specs.declared.item.Item.{Item}
 use Rattle.direct_run.specs.declared.item.Item.TheVariants as item
 use Rattle.direct_run.specs.Clients.{present}

@@ -14,9 +14,9 @@ use Rattle.redir_host.specs.Offering.{stream_packet}
 use Rattle.redir_host.specs.Output.{host_hello}
 use Rattle.redir_host.specs.declared.running.StreamKind.{StreamKind}
 use Rattle.redir_host.specs.declared.running.StreamKind.TheVariants.{Interrupt, Iso}
-use Rattle.gate_core.specs.Facts.{tell}
-use Rattle.gate_core.specs.Meaning.{fact_of}
-use Rattle.gate_core.specs.declared.facts.Facts.{Facts}
+use Rattle.gate_history.specs.Facts.{tell}
+use Rattle.gate_history.specs.Meaning.{fact_of}
+use Rattle.gate_history.specs.declared.facts.Facts.{Facts}
 use Rattle.direct_run.specs.Packets.{both_caps}
 use Rattle.direct_proof.specs.Requests.{Coming, form_of, queued_transfer}
 

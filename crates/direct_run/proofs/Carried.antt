@@ -1,8 +1,8 @@
 -- What has got to a side, and then what is on the wire to it, is what was sent.
 use Rattle.std.proofs.Common.{◌≡◌, ℕ, ◌≤◌, List, [], ◌∷◌, ◌++◌, length, take, drop, refl, sym, ap, ◌∙◌, subst, append_assoc, arith}
 use Rattle.std.proofs.lemmas.List.{drop-append-le, length-append, take-append-drop}
-use Rattle.gate_core.specs.Bytes.{host_bytes_of}
-use Rattle.gate_core.specs.Events.{ClientPiece, ClientEnd as ClientEnds, HostPiece, host_bytes}
+use Rattle.gate_history.specs.Bytes.{host_bytes_of}
+use Rattle.gate_history.specs.Events.{ClientPiece, ClientEnd as ClientEnds, HostPiece, host_bytes}
 use Rattle.model_device.specs.Meaning.{Meaning}
 use Rattle.redir_host.proofs.Runs.{act-out}
 use Rattle.redir_host.specs.Acts.{Piece, Perform as Performs, Offer as Offers, Unplug as Unplugs, guest_bytes}

@@ -16,12 +16,12 @@ use Rattle.redir_host.specs.Guest.{asked}
 use Rattle.redir_host.specs.History.{onto as acts_onto}
 use Rattle.redir_host.specs.Items.{Item as HostItem, Asked}
 use Rattle.redir_host.specs.Output.{host_hello}
-use Rattle.gate_core.proofs.Lists.{Each}
-use Rattle.gate_core.specs.Bytes.{gateway_hello}
-use Rattle.gate_core.specs.History.{onto}
-use Rattle.gate_core.specs.Items.{Item, Told}
-use Rattle.gate_core.specs.State.{State}
-use Rattle.gate_core.specs.Machine.{step, run}
+use Rattle.gate_history.proofs.Lists.{Each}
+use Rattle.gate_history.specs.Bytes.{gateway_hello}
+use Rattle.gate_history.specs.History.{onto}
+use Rattle.gate_history.specs.Items.{Item, Told}
+use Rattle.gate_history.specs.State.{State}
+use Rattle.gate_history.specs.Machine.{step, run}
 use Rattle.redir_data.specs.Sent.{sent_header, CanBeRead}
 use Rattle.direct_run.specs.Packets.{both_caps, Found, bare}
 use Rattle.packet_stream.proofs.Spelled.{placed}

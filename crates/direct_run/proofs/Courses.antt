@@ -6,8 +6,8 @@ use Rattle.redir_host.specs.Acts.{Perform as PerformAct, Offer as OfferAct, Unpl
 use Rattle.redir_host.specs.Offering.{offer_move, told_offered, unplug_move}
 use Rattle.redir_host.specs.Output.{host_of}
 use Rattle.redir_host.specs.Performing.{perform_move, told_performed}
-use Rattle.gate_core.specs.Events.{ClientPiece, ClientEnd as ClientEnds}
-use Rattle.gate_core.specs.History.{brought}
+use Rattle.gate_history.specs.Events.{ClientPiece, ClientEnd as ClientEnds}
+use Rattle.gate_history.specs.History.{brought}
 use Rattle.direct_run.specs.declared.item.Item.{Item}
 use Rattle.direct_run.specs.Clients.{present_outs}
 use Rattle.direct_run.specs.Follows.{AreMoves}

@@ -20,14 +20,14 @@ use Rattle.redir_host.specs.Guest.{guest_start, guest_split, asked}
 use Rattle.redir_host.specs.History.{brought as act_brought, onto as acts_onto, history as host_history}
 use Rattle.redir_host.specs.Items.{Item as HostItem}
 use Rattle.redir_host.specs.Output.{host_hello, act_bytes}
-use Rattle.gate_core.proofs.Lists.{Each}
+use Rattle.gate_history.proofs.Lists.{Each}
 use Rattle.redir_host.proofs.Runs.{act-out}
-use Rattle.gate_core.specs.Bytes.{gateway_hello, host_bytes_of}
-use Rattle.gate_core.specs.Events.{Event, ClientPiece, ClientEnd, HostPiece, client_bytes, host_bytes}
-use Rattle.gate_core.specs.History.{client_split, host_split, client_wrong, client_items, brought, onto, arrivals}
-use Rattle.gate_core.specs.Items.{Item, Asked}
-use Rattle.gate_core.specs.Streams.{host_start}
-use Rattle.gate_core.proofs.Brought.{host-added}
+use Rattle.gate_history.specs.Bytes.{gateway_hello, host_bytes_of}
+use Rattle.gate_history.specs.Events.{Event, ClientPiece, ClientEnd, HostPiece, client_bytes, host_bytes}
+use Rattle.gate_history.specs.History.{client_split, host_split, client_wrong, client_items, brought, onto, arrivals}
+use Rattle.gate_history.specs.Items.{Item, Asked}
+use Rattle.gate_history.specs.Streams.{host_start}
+use Rattle.gate_history.proofs.Brought.{host-added}
 use Rattle.direct_run.specs.World.{Course, first_id, nothing_yet, happened, acted, sent_to_host, sent_to_gate, wire_to_host, wire_to_gate}
 use Rattle.direct_run.specs.Trace.{given_of}
 use Rattle.direct_run.specs.Packets.{both_caps, Found, bare, bares, sent_by_gate, sent_by_host, read_by_host, read_by_gate}

@@ -7,16 +7,16 @@ use Rattle.redir_data.specs.Sent.{CanBeRead}
 use Rattle.model_device.specs.Meaning.{Meaning}
 use Rattle.redir_host.specs.Acts.{Piece, Perform as PerformAct, Offer as OfferAct, Unplug as UnplugAct, guest_bytes}
 use Rattle.redir_host.specs.Items.{Performs as PerformsItem, Offers as OffersItem, Unplugs as UnplugsItem}
-use Rattle.gate_core.specs.Events.{ClientPiece, ClientEnd as ClientEnds, HostPiece}
-use Rattle.gate_core.specs.History.{arrivals, history}
-use Rattle.gate_core.specs.Machine.{all_given}
-use Rattle.gate_core.specs.Output.{to_host}
-use Rattle.gate_core.specs.Readable.{piece_bytes, SentCanBeRead}
-use Rattle.gate_core.specs.State.{State, state_of}
-use Rattle.gate_core.proofs.Comings.{comes}
-use Rattle.gate_core.proofs.Lists.{Each}
-use Rattle.gate_core.proofs.Runs.{state-run, all-run}
-use Rattle.gate_core.proofs.SentRead.{goes}
+use Rattle.gate_history.specs.Events.{ClientPiece, ClientEnd as ClientEnds, HostPiece}
+use Rattle.gate_history.specs.History.{arrivals, history}
+use Rattle.gate_history.specs.Machine.{all_given}
+use Rattle.gate_history.specs.Output.{to_host}
+use Rattle.gate_history.specs.Readable.{piece_bytes, SentCanBeRead}
+use Rattle.gate_history.specs.State.{State, state_of}
+use Rattle.gate_history.proofs.Comings.{comes}
+use Rattle.gate_history.proofs.Lists.{Each}
+use Rattle.gate_history.proofs.Runs.{state-run, all-run}
+use Rattle.gate_history.proofs.SentRead.{goes}
 use Rattle.direct_run.specs.Known.{IsKnown}
 use Rattle.direct_run.specs.Packets.{read_by_gate}
 use Rattle.direct_run.specs.Steps.{Step, Client, ClientEnd, ToHost, ToGate, Perform, Offer, Unplug}

@@ -11,17 +11,17 @@ use Rattle.redir_host.specs.History.{brought as act_brought}
 use Rattle.redir_host.specs.Machine.{given_by as host_given}
 use Rattle.redir_host.specs.Output.{first_packet, host_of}
 use Rattle.redir_host.proofs.Runs.{act-gives}
-use Rattle.gate_core.specs.Bytes.{gateway_hello}
-use Rattle.gate_core.specs.Events.{Event}
-use Rattle.gate_core.specs.History.{brought, history}
-use Rattle.gate_core.specs.Marks.{Submission, Mark}
-use Rattle.gate_core.specs.Submits.{opened, accepted}
-use Rattle.gate_core.specs.State.{State, state_of}
-use Rattle.gate_core.specs.Output.{to_client, to_host}
-use Rattle.gate_core.specs.Notes.{notes_of}
-use Rattle.gate_core.specs.All.{all_of}
-use Rattle.gate_core.specs.Machine.{steps, given_by}
-use Rattle.gate_core.proofs.Events.{event-state, event-gives}
+use Rattle.gate_history.specs.Bytes.{gateway_hello}
+use Rattle.gate_history.specs.Events.{Event}
+use Rattle.gate_history.specs.History.{brought, history}
+use Rattle.gate_history.specs.Marks.{Submission, Mark}
+use Rattle.gate_history.specs.Submits.{opened, accepted}
+use Rattle.gate_history.specs.State.{State, state_of}
+use Rattle.gate_history.specs.Output.{to_client, to_host}
+use Rattle.gate_history.specs.Notes.{notes_of}
+use Rattle.gate_history.specs.All.{all_of}
+use Rattle.gate_history.specs.Machine.{steps, given_by}
+use Rattle.gate_history.proofs.Events.{event-state, event-gives}
 use Rattle.direct_run.specs.declared.item.Item.{Item}
 use Rattle.direct_run.specs.World.{Course, first_id, nothing_yet, happened, acted}
 use Rattle.direct_run.specs.Noted.{item_of, named}

@@ -23,8 +23,8 @@ use Rattle.redir_data.specs.Streams.{start, advanced, after, stream_format}
 use Rattle.redir_data.specs.sound.Joined.{redir_sound}
 use Rattle.redir_host.specs.Machine.{told_bytes}
 use Rattle.redir_host.specs.Output.{host_hello, hello_bytes}
-use Rattle.gate_core.proofs.Lists.{Each}
-use Rattle.gate_core.specs.Bytes.{host_packet_bytes, gateway_hello}
+use Rattle.gate_history.proofs.Lists.{Each}
+use Rattle.gate_history.specs.Bytes.{host_packet_bytes, gateway_hello}
 use Rattle.redir_data.specs.Sent.{sent_header, CanBeRead}
 use Rattle.direct_run.specs.Packets.{both_caps, bare}
 use Rattle.packet_stream.proofs.Spelled.{all_bytes, AllFit}

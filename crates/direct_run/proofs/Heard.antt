@@ -27,11 +27,11 @@ use Rattle.redir_host.specs.Packets.{runs_at, data_move, start_move, can_start, 
 use Rattle.redir_host.specs.Performing.{first_performed, perform_move, perform_move_by}
 use Rattle.redir_host.specs.Queues.{is_at, is_cancelled_by}
 use Rattle.redir_host.specs.Sound.{Each as HostEach, IsRequest, IsRunning, IsSound}
-use Rattle.gate_core.proofs.Lists.{Each}
+use Rattle.gate_history.proofs.Lists.{Each}
 use Rattle.redir_host.proofs.Keeps.{Keeps, keeps-perform, keeps-offer, keeps-unplug, unplugged-by}
 use Rattle.redir_host.proofs.Coming.{keeps-packet}
 use Rattle.redir_host.proofs.Silent.{perform-silent, offer-silent, unplug-silent}
-use Rattle.gate_core.specs.Bytes.{gateway_hello}
+use Rattle.gate_history.specs.Bytes.{gateway_hello}
 use Rattle.redir_data.specs.Sent.{sent_header, CanBeRead}
 use Rattle.direct_run.specs.Packets.{both_caps}
 use Rattle.direct_run.specs.Follows.{is_refusal}

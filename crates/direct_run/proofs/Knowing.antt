@@ -17,11 +17,11 @@ use Rattle.redir_host.specs.Machine.{run, all_given}
 use Rattle.redir_host.specs.Readable.{AreRead}
 use Rattle.redir_host.specs.Sound.{Each as HostEach}
 use Rattle.redir_host.specs.Stands.{Stands as HostStands}
-use Rattle.gate_core.specs.Events.{Event, ClientPiece, ClientEnd, HostPiece, HostEnd, client_bytes, host_bytes}
+use Rattle.gate_history.specs.Events.{Event, ClientPiece, ClientEnd, HostPiece, HostEnd, client_bytes, host_bytes}
 use Rattle.gate_core.specs.Kept.{GateKept}
-use Rattle.gate_core.specs.Readable.{piece_bytes}
+use Rattle.gate_history.specs.Readable.{piece_bytes}
 use Rattle.gate_core.specs.Stands.{Stands as GateStands}
-use Rattle.gate_core.proofs.Lists.{Each}
+use Rattle.gate_history.proofs.Lists.{Each}
 use Rattle.direct_run.specs.Known.{IsKnown}
 use Rattle.direct_run.specs.Packets.{both_caps, Found, read_by_host}
 use Rattle.direct_run.specs.World.{Course, first_id, nothing_yet, happened, acted}

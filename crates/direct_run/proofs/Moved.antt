@@ -12,16 +12,16 @@ use Rattle.redir_host.specs.Guest.{asked}
 use Rattle.redir_host.specs.History.{brought as act_brought, history as host_history}
 use Rattle.redir_host.specs.Machine.{notes_of as host_notes_of, steps as host_steps, given_by as host_given, all_given as host_all_given}
 use Rattle.redir_host.specs.Output.{host_of}
-use Rattle.gate_core.proofs.Lists.{Each}
+use Rattle.gate_history.proofs.Lists.{Each}
 use Rattle.redir_host.proofs.Runs.{act-host, act-gives}
-use Rattle.gate_core.specs.Events.{Event, ClientPiece, HostPiece}
-use Rattle.gate_core.specs.History.{brought, arrivals}
-use Rattle.gate_core.specs.Items.{Item as GateItem}
-use Rattle.gate_core.specs.Notes.{notes_of}
-use Rattle.gate_core.specs.Output.{to_client}
-use Rattle.gate_core.specs.Machine.{given_by}
-use Rattle.gate_core.specs.State.{State}
-use Rattle.gate_core.proofs.Runs.{state-run}
+use Rattle.gate_history.specs.Events.{Event, ClientPiece, HostPiece}
+use Rattle.gate_history.specs.History.{brought, arrivals}
+use Rattle.gate_history.specs.Items.{Item as GateItem}
+use Rattle.gate_history.specs.Notes.{notes_of}
+use Rattle.gate_history.specs.Output.{to_client}
+use Rattle.gate_history.specs.Machine.{given_by}
+use Rattle.gate_history.specs.State.{State}
+use Rattle.gate_history.proofs.Runs.{state-run}
 use Rattle.direct_run.specs.declared.item.Item.{Item}
 use Rattle.direct_run.specs.Clients.{IsMove, present, present_outs}
 use Rattle.direct_run.specs.Follows.{Follows, AreMoves, is_refusal}

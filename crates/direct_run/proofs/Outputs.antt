@@ -1,9 +1,9 @@
 -- What the steps of a run put on each wire, one after another.
 use Rattle.std.proofs.Common.{◌≡◌, ℕ, List, [], ◌∷◌, ◌++◌, take, refl, sym, ap, ◌∙◌, append-nil, append_assoc}
-use Rattle.gate_core.specs.Events.{ClientPiece, ClientEnd as ClientEnds, HostPiece}
-use Rattle.gate_core.specs.History.{history}
-use Rattle.gate_core.specs.Bytes.{client_bytes_of, out_client}
-use Rattle.gate_core.proofs.Events.{event-gives}
+use Rattle.gate_history.specs.Events.{ClientPiece, ClientEnd as ClientEnds, HostPiece}
+use Rattle.gate_history.specs.History.{history}
+use Rattle.gate_history.specs.Bytes.{client_bytes_of, out_client}
+use Rattle.gate_history.proofs.Events.{event-gives}
 use Rattle.model_device.specs.Meaning.{Meaning}
 use Rattle.redir_host.specs.Acts.{Piece, Perform as Performs, Offer as Offers, Unplug as Unplugs}
 use Rattle.redir_host.proofs.Runs.{act-out}

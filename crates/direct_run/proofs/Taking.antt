@@ -2,8 +2,8 @@
 use Rattle.std.proofs.Common.{◌≡◌, ℕ, ◌≤◌, List, ◌∷◌, ◌++◌, length, drop, sym, ap, ◌∙◌, subst}
 use Rattle.std.specs.List.{flat_map}
 use Rattle.usb_base.specs.Number.{AreBytes}
-use Rattle.gate_core.specs.Events.{Event, host_bytes}
-use Rattle.gate_core.specs.Readable.{piece_bytes}
+use Rattle.gate_history.specs.Events.{Event, host_bytes}
+use Rattle.gate_history.specs.Readable.{piece_bytes}
 use Rattle.model_device.specs.Meaning.{Meaning}
 use Rattle.redir_host.specs.Acts.{Act, guest_bytes}
 use Rattle.direct_run.specs.declared.submitted.Submitted.{Submitted}

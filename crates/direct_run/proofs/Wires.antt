@@ -5,16 +5,17 @@ use Rattle.std.specs.List.{flat_map}
 use Rattle.std.proofs.lemmas.List.{append_cancel_left, drop-append-le, length-append, length-drop, drop-drop, take-append-drop}
 use Rattle.std.proofs.lemmas.Grind.{flat_map-append}
 use Rattle.usb_base.specs.declared.refusal.Refusal.{Refusal}
-use Rattle.gate_core.specs.declared.note.Note.{Note}
-use Rattle.gate_core.specs.Events.{Event, host_bytes}
-use Rattle.gate_core.specs.History.{history}
+use Rattle.gate_history.specs.declared.note.Note.{Note}
+use Rattle.gate_history.specs.Events.{Event, host_bytes}
+use Rattle.gate_history.specs.History.{history}
 use Rattle.gate_core.specs.Kept.{GateKept}
-use Rattle.gate_core.specs.Notes.{notes_of}
-use Rattle.gate_core.specs.All.{all_of}
-use Rattle.gate_core.specs.Bytes.{client_bytes_of, host_bytes_of, host_packet_bytes, gateway_hello, out_client, out_host}
+use Rattle.gate_history.specs.Notes.{notes_of}
+use Rattle.gate_history.specs.All.{all_of}
+use Rattle.gate_history.specs.Bytes.{client_bytes_of, host_bytes_of, host_packet_bytes, gateway_hello, out_client, out_host}
 use Rattle.redir_wire.specs.Capability.{no_caps}
-use Rattle.gate_core.specs.Stands.{Gains, Takes as GateTakes, Stands as GateStands}
-use Rattle.gate_core.proofs.Events.{event-gives}
+use Rattle.gate_history.specs.Headline.{Gains}
+use Rattle.gate_core.specs.Stands.{Takes as GateTakes, Stands as GateStands}
+use Rattle.gate_history.proofs.Events.{event-gives}
 use Rattle.model_device.specs.Meaning.{Meaning}
 use Rattle.redir_host.specs.Acts.{Act, guest_bytes}
 use Rattle.redir_host.specs.Output.{act_bytes}

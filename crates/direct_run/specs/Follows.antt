@@ -1,12 +1,12 @@
 -- That a list of moves on packets follows a course of bytes.
 use Rattle.std.specs.Prelude.{◌≡◌, Bool, true, false, List, ◌∷◌, ◌++◌}
 use Rattle.std.specs.List.{list_any, AllByRecursion}
-use Rattle.gate_core.specs.All.{all_of}
-use Rattle.gate_core.specs.Bytes.{gateway_hello}
-use Rattle.gate_core.specs.History.{history}
-use Rattle.gate_core.specs.Output.{to_client}
-use Rattle.gate_core.specs.State.{state_of}
-use Rattle.gate_core.specs.Submits.{accepted}
+use Rattle.gate_history.specs.All.{all_of}
+use Rattle.gate_history.specs.Bytes.{gateway_hello}
+use Rattle.gate_history.specs.History.{history}
+use Rattle.gate_history.specs.Output.{to_client}
+use Rattle.gate_history.specs.State.{state_of}
+use Rattle.gate_history.specs.Submits.{accepted}
 use Rattle.model_device.specs.Meaning.{Meaning}
 use Rattle.redir_host.specs.declared.note.HostNote.{HostNote}
 use Rattle.redir_host.specs.declared.note.HostNote.TheVariants as host_note

@@ -4,16 +4,16 @@ use Rattle.std.specs.List.{flat_map}
 use Rattle.redir_data.specs.declared.packet.RedirPacket.{RedirPacket}
 use Rattle.redir_data.specs.Sent.{sent_header}
 use Rattle.usbip_urb.specs.declared.client.ClientPacket.{ClientPacket}
-use Rattle.gate_core.specs.Items.{Item as GateItem, Told}
-use Rattle.gate_core.specs.Marks.{Submission, Mark}
-use Rattle.gate_core.specs.Submits.{opened}
-use Rattle.gate_core.specs.State.{State}
-use Rattle.gate_core.specs.Meaning.{mark_of}
-use Rattle.gate_core.specs.Past.{is_left_out}
-use Rattle.gate_core.specs.Output.{to_client, to_host}
-use Rattle.gate_core.specs.Notes.{notes_of}
-use Rattle.gate_core.specs.Bytes.{gateway_hello}
-use Rattle.gate_core.specs.Machine.{after, start as first_state}
+use Rattle.gate_history.specs.Items.{Item as GateItem, Told}
+use Rattle.gate_history.specs.Marks.{Submission, Mark}
+use Rattle.gate_history.specs.Submits.{opened}
+use Rattle.gate_history.specs.State.{State}
+use Rattle.gate_history.specs.Meaning.{mark_of}
+use Rattle.gate_history.specs.Past.{is_left_out}
+use Rattle.gate_history.specs.Output.{to_client, to_host}
+use Rattle.gate_history.specs.Notes.{notes_of}
+use Rattle.gate_history.specs.Bytes.{gateway_hello}
+use Rattle.gate_history.specs.Machine.{after, start as first_state}
 use Rattle.model_device.specs.Meaning.{Meaning}
 use Rattle.redir_host.specs.declared.host.Host.{Host}
 use Rattle.redir_host.specs.Machine.{first_host}

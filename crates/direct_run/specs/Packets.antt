@@ -4,10 +4,10 @@ use Rattle.redir_wire.specs.declared.packet.Caps.{Caps}
 use Rattle.redir_wire.specs.declared.packet.Header.{Header}
 use Rattle.redir_wire.specs.Capability.{agreed, announced}
 use Rattle.redir_data.specs.declared.packet.RedirPacket.{RedirPacket}
-use Rattle.gate_core.specs.All.{all_of}
-use Rattle.gate_core.specs.Events.{host_bytes}
-use Rattle.gate_core.specs.History.{history, host_split}
-use Rattle.gate_core.specs.Output.{to_host}
+use Rattle.gate_history.specs.All.{all_of}
+use Rattle.gate_history.specs.Events.{host_bytes}
+use Rattle.gate_history.specs.History.{history, host_split}
+use Rattle.gate_history.specs.Output.{to_host}
 use Rattle.model_device.specs.Meaning.{Meaning}
 use Rattle.redir_host.specs.Acts.{guest_bytes}
 use Rattle.redir_host.specs.Guest.{guest_split}

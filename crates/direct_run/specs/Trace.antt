@@ -1,14 +1,14 @@
 -- What a step sends on each wire and tells, and all that steps tell.
 use Rattle.std.specs.Prelude.{ℕ, List, [], ◌∷◌, ◌++◌, take}
 use Rattle.std.specs.List.{flat_map}
-use Rattle.gate_core.specs.All.{all_of}
-use Rattle.gate_core.specs.Bytes.{client_bytes_of, host_bytes_of}
-use Rattle.gate_core.specs.Events.{Event, ClientPiece, ClientEnd as ClientEnds, HostPiece}
-use Rattle.gate_core.specs.History.{brought, history}
-use Rattle.gate_core.specs.Machine.{given_by}
-use Rattle.gate_core.specs.Marks.{Mark}
-use Rattle.gate_core.specs.Notes.{notes_of}
-use Rattle.gate_core.specs.State.{State, state_of}
+use Rattle.gate_history.specs.All.{all_of}
+use Rattle.gate_history.specs.Bytes.{client_bytes_of, host_bytes_of}
+use Rattle.gate_history.specs.Events.{Event, ClientPiece, ClientEnd as ClientEnds, HostPiece}
+use Rattle.gate_history.specs.History.{brought, history}
+use Rattle.gate_history.specs.Machine.{given_by}
+use Rattle.gate_history.specs.Marks.{Mark}
+use Rattle.gate_history.specs.Notes.{notes_of}
+use Rattle.gate_history.specs.State.{State, state_of}
 use Rattle.model_device.specs.Meaning.{Meaning}
 use Rattle.redir_host.specs.Acts.{Act, Piece, Perform as Performs, Offer as Offers, Unplug as Unplugs}
 use Rattle.redir_host.specs.Offering.{told_offered}

@@ -2,7 +2,7 @@
 
 ghost use Rattle.std.specs.Prelude.{◌≡◌, ◌++◌, [], List as ListOf, IfOk, OnOk, OnErr, IsErr, take, drop, true, false};
 ghost use Rattle.std.specs.List.{flat_map};
-ghost use Rattle.gate_core.specs.Events.{Event as PastEvent, HostPiece, event_of};
+ghost use Rattle.gate_history.specs.Events.{Event as PastEvent, HostPiece, event_of};
 ghost use Rattle.gate_core.specs.Stands.{Stands as GateStands};
 ghost use Rattle.redir_host.specs.Acts.{Act, Piece, Perform, Offer, Unplug};
 ghost use Rattle.redir_host.specs.Stands.{Stands as HostStands};
@@ -21,7 +21,8 @@ use crate::notes::{
 use crate::step::Step;
 use crate::submitted::Submits;
 use crate::told::Told;
-use gate_core::{Event, Gate, Notes};
+use gate_core::Gate;
+use gate_history::{Event, Notes};
 use model_device::Gadget;
 use redir_host::HostCore;
 use std::alloc::Global;

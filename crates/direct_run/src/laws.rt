@@ -1,9 +1,9 @@
 //! Laws of a system's definitions, as contracts of functions that do nothing.
 
 ghost use Rattle.std.specs.Prelude.{◌≡◌, ◌++◌, List};
-ghost use Rattle.gate_core.specs.Bytes.{out_client};
-ghost use Rattle.gate_core.specs.Events.{host_bytes};
-ghost use Rattle.gate_core.specs.History.{history};
+ghost use Rattle.gate_history.specs.Bytes.{out_client};
+ghost use Rattle.gate_history.specs.Events.{host_bytes};
+ghost use Rattle.gate_history.specs.History.{history};
 ghost use Rattle.redir_host.specs.Acts.{guest_bytes};
 ghost use Rattle.direct_run.specs.Steps.{Step as PastStep};
 ghost use Rattle.direct_run.specs.Trace.{all_told, trace as trace_of};

@@ -7,7 +7,7 @@ ghost use Rattle.direct_run.specs.Noted.{item_of, item_of_host, refusal_in, name
 use crate::item::{Item, Items};
 use crate::submitted::{Submits, Submitted, number_in};
 use crate::told::Refusals;
-use gate_core::{Note, Notes};
+use gate_history::{Note, Notes};
 use redir_host::{HostNote, HostNotes, Offered, Performed};
 use usb_base::{EpAddr, Memory};
 

@@ -1,12 +1,12 @@
 -- What doesn't wait for a stream's packets is accepted as it is.
 use Rattle.std.proofs.Common.{◌≡◌, Option, Some, None, refl, ap}
 use Rattle.usb_base.specs.declared.endpoint.EpRow.{EpRow}
-use Rattle.gate_core.specs.Ups.{Up, stream_at}
-use Rattle.gate_core.specs.Verdict.{Verdict, Now, Wire, Routed, IsoOut}
-use Rattle.gate_core.specs.Marks.{Opens}
-use Rattle.gate_core.specs.Requests.{Request}
-use Rattle.gate_core.specs.State.{State}
-use Rattle.gate_core.specs.Meaning.{drawn_for, submission, by_stream, accepted_as, accepts}
+use Rattle.gate_history.specs.Ups.{Up, stream_at}
+use Rattle.gate_history.specs.Verdict.{Verdict, Now, Wire, Routed, IsoOut}
+use Rattle.gate_history.specs.Marks.{Opens}
+use Rattle.gate_history.specs.Requests.{Request}
+use Rattle.gate_history.specs.State.{State}
+use Rattle.gate_history.specs.Meaning.{drawn_for, submission, by_stream, accepted_as, accepts}
 
 -- a stream that is up is nothing to it
 abbrev IsOwn : Verdict → Type 0

@@ -25,37 +25,39 @@ use Rattle.unlink_race.specs.declared.live.Live.{Live}
 use Rattle.unlink_race.specs.Searches.{has_id as has_row_id}
 use Rattle.unlink_race.specs.Firsts.{without_first}
 use Rattle.unlink_race.specs.Requests.{Requests}
-use Rattle.gate_core.specs.declared.note.Note.{Note}
-use Rattle.gate_core.specs.declared.note.Note.TheVariants as note
+use Rattle.gate_history.specs.declared.note.Note.{Note}
+use Rattle.gate_history.specs.declared.note.Note.TheVariants as note
 use Rattle.gate_core.specs.declared.kept.Kept.{Kept}
-use Rattle.gate_core.specs.Items.{capped}
-use Rattle.gate_core.specs.declared.facts.Facts.{Facts}
-use Rattle.gate_core.specs.Marks.{Submission, Fact, Effect, Idle, Agrees, Answers, Refuses}
-use Rattle.gate_core.specs.Facts.{no_facts, tell}
-use Rattle.gate_core.specs.Sides.{is_of, is_loss, closes_host, never, turned}
-use Rattle.gate_core.specs.Flight.{wide_ids}
-use Rattle.gate_core.specs.Submits.{Pending, has_id}
-use Rattle.gate_core.specs.State.{State, submits}
-use Rattle.gate_core.specs.Responses.{Response, response_of, mismatch, seen}
-use Rattle.gate_core.specs.Meaning.{mark_as, answered_as, answer_to, by_response, told_meaning}
-use Rattle.gate_core.specs.Sound.{IsSound}
-use Rattle.gate_core.specs.Answers.{answers_by}
-use Rattle.gate_core.specs.Output.{cancels, cancel, to_client}
-use Rattle.gate_core.specs.Notes.{answer_notes, dropped}
-use Rattle.gate_core.specs.All.{is_ret_submit, is_won_unlink}
-use Rattle.gate_core.specs.Bytes.{host_packet_bytes}
-use Rattle.gate_core.specs.inner.Rows.{row_of, row, unmarked, left_row, IsFine}
-use Rattle.gate_core.specs.inner.Responses.{row_mismatch, completes, IsAnswer, IsCounted}
-use Rattle.gate_core.specs.inner.Holds.{Holds, Does, ResponseFits}
-use Rattle.gate_core.proofs.Lists.{Each, every, filter-same, filter-map, flat_map-map}
-use Rattle.gate_core.proofs.Effects.{answer-left, answer-sent, answer-noted, answer-dropped}
+use Rattle.gate_history.specs.Items.{capped}
+use Rattle.gate_history.specs.declared.facts.Facts.{Facts}
+use Rattle.gate_history.specs.Marks.{Submission, Fact, Effect, Idle, Agrees, Answers, Refuses}
+use Rattle.gate_history.specs.Facts.{no_facts, tell}
+use Rattle.gate_history.specs.Sides.{is_of, is_loss, closes_host, never, turned}
+use Rattle.gate_history.specs.Flight.{wide_ids}
+use Rattle.gate_history.specs.Submits.{Pending, has_id}
+use Rattle.gate_history.specs.State.{State, submits}
+use Rattle.gate_history.specs.Responses.{Response, response_of, mismatch, seen}
+use Rattle.gate_history.specs.Meaning.{mark_as, answered_as, answer_to, by_response, told_meaning}
+use Rattle.gate_history.specs.Sound.{IsSound}
+use Rattle.gate_history.specs.Answers.{answers_by}
+use Rattle.gate_history.specs.Output.{cancels, cancel, to_client}
+use Rattle.gate_history.specs.Notes.{answer_notes, dropped}
+use Rattle.gate_history.specs.All.{is_ret_submit, is_won_unlink}
+use Rattle.gate_history.specs.Bytes.{host_packet_bytes}
+use Rattle.gate_parts.specs.Rows.{row_of, row, unmarked, left_row, IsFine}
+use Rattle.gate_parts.specs.Responses.{row_mismatch, completes, IsAnswer, IsCounted}
+use Rattle.gate_core.specs.inner.Holds.{Holds, Does}
+use Rattle.gate_history.specs.Fits.{ResponseFits}
+use Rattle.gate_history.proofs.Lists.{Each, every, filter-same, filter-map, flat_map-map}
+use Rattle.gate_history.proofs.Effects.{answer-left, answer-sent, answer-noted, answer-dropped}
 use Rattle.gate_core.proofs.Firsts.{without-first, find-first}
 use Rattle.gate_core.proofs.Lost.{capped-same}
-use Rattle.gate_core.proofs.Left.{by_id-row}
-use Rattle.gate_core.specs.Wants.{GivesSome}
+use Rattle.gate_parts.proofs.Rows.{by_id-row}
+use Rattle.gate_history.specs.Wants.{GivesSome}
 use Rattle.gate_core.proofs.Giving.{by-answer}
-use Rattle.gate_core.proofs.Steady.{host-same, rows-same, stays-uncancelled, does-idle, does-steady, agrees-steady}
-use Rattle.gate_core.proofs.Responding.{row-mismatch, mismatch-capped, is-answer}
+use Rattle.gate_core.proofs.Steady.{host-same, rows-same, does-idle, does-steady, agrees-steady}
+use Rattle.gate_history.proofs.Uncancelled.{stays-uncancelled}
+use Rattle.gate_parts.proofs.Responding.{row-mismatch, mismatch-capped, is-answer}
 
 -- ---- what is found by a map
 

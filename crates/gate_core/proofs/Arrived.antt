@@ -6,27 +6,29 @@ use Rattle.std.proofs.lemmas.Bool.{lt-ltb, ltb-true, cases_Bool}
 use Rattle.std.proofs.lemmas.List.{append-nil}
 use Rattle.usb_base.specs.Endpoint.{IsEndpoint, endpoint_index}
 use Rattle.usb_base.specs.declared.transfer.StreamPacket.{StreamPacket}
-use Rattle.gate_core.specs.declared.note.Note.{Note}
-use Rattle.gate_core.specs.declared.note.Note.TheVariants as note
+use Rattle.gate_history.specs.declared.note.Note.{Note}
+use Rattle.gate_history.specs.declared.note.Note.TheVariants as note
 use Rattle.gate_core.specs.declared.kept.Kept.{Kept}
-use Rattle.gate_core.specs.Requests.{Request}
-use Rattle.gate_core.specs.Fillings.{Fill, none_filled, fill}
-use Rattle.gate_core.specs.Marks.{Submission, Effect, Arrives}
-use Rattle.gate_core.specs.Submits.{Pending, ByPackets, waits_at, packets_end, own_end}
-use Rattle.gate_core.specs.Ups.{Up, stream_at, stream_of, hold}
-use Rattle.gate_core.specs.State.{State, is_number}
-use Rattle.gate_core.specs.Sound.{IsSound}
-use Rattle.gate_core.specs.Meaning.{mark_as, arrives, waiting, is_held}
-use Rattle.gate_core.specs.Output.{present}
-use Rattle.gate_core.specs.inner.Rows.{row}
-use Rattle.gate_core.specs.inner.Filling.{up_fill, up_bytes, filled_notes, with_packet, received_bytes, received_notes, HasEnded, HasReceivedIf, HasReceived}
+use Rattle.gate_history.specs.Requests.{Request}
+use Rattle.gate_history.specs.Fillings.{Fill, none_filled, fill}
+use Rattle.gate_history.specs.Marks.{Submission, Effect, Arrives}
+use Rattle.gate_history.specs.Submits.{Pending, ByPackets, waits_at, packets_end, own_end}
+use Rattle.gate_history.specs.Ups.{Up, stream_at, stream_of, hold}
+use Rattle.gate_history.specs.State.{State, is_number}
+use Rattle.gate_history.specs.Sound.{IsSound}
+use Rattle.gate_history.specs.Meaning.{mark_as, arrives, waiting, is_held}
+use Rattle.gate_history.specs.Output.{present}
+use Rattle.gate_parts.specs.Rows.{row}
+use Rattle.gate_parts.specs.Filling.{up_fill, up_bytes, filled_notes}
+use Rattle.gate_core.specs.inner.Filling.{with_packet, received_bytes, received_notes, HasEnded, HasReceivedIf, HasReceived}
 use Rattle.gate_core.specs.inner.Holds.{IsKept, Holds, Does}
-use Rattle.gate_core.proofs.Lists.{Each, every, filter-map, map-map}
+use Rattle.gate_history.proofs.Lists.{Each, every, filter-map, map-map}
 use Rattle.gate_core.proofs.Waiting.{IsGoing, all-going}
-use Rattle.gate_core.proofs.Steady.{IsSteady, does-steady, rows-same, host-same, stays-uncancelled}
+use Rattle.gate_core.proofs.Steady.{IsSteady, does-steady, rows-same, host-same}
+use Rattle.gate_history.proofs.Uncancelled.{stays-uncancelled}
 use Rattle.gate_core.proofs.Filled.{Differ, number, requests, waiters, fillings, FillsAll, fills-all}
 use Rattle.gate_core.proofs.Fillers.{IsFiller, does-fill-up}
-use Rattle.gate_core.proofs.Places.{set-twice, set-back}
+use Rattle.gate_parts.proofs.Places.{set-twice, set-back}
 
 -- ---- the stream of an address
 

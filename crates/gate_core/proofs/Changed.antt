@@ -13,35 +13,34 @@ use Rattle.control_route.specs.declared.route.Route.{Route}
 use Rattle.unlink_race.specs.declared.live.Live.{Live}
 use Rattle.unlink_race.specs.declared.live.StreamEnd.TheVariants.{Change}
 use Rattle.unlink_race.specs.Searches.{touched_by}
-use Rattle.gate_core.specs.declared.note.Note.{Note}
-use Rattle.gate_core.specs.declared.note.Note.TheVariants as note
+use Rattle.gate_history.specs.declared.note.Note.{Note}
+use Rattle.gate_history.specs.declared.note.Note.TheVariants as note
 use Rattle.gate_core.specs.declared.kept.Kept.{Kept}
-use Rattle.gate_core.specs.Items.{capped}
-use Rattle.gate_core.specs.Errno.{eshutdown}
-use Rattle.gate_core.specs.Requests.{Request}
-use Rattle.gate_core.specs.Verdict.{Routed}
-use Rattle.gate_core.specs.Marks.{Submission, Effect, Opens}
-use Rattle.gate_core.specs.Submits.{Pending, ByChange, at_once, touches_stream, ends}
-use Rattle.gate_core.specs.Ids.{last_of}
-use Rattle.gate_core.specs.Ups.{lower, is_ended}
-use Rattle.gate_core.specs.Calls.{called}
-use Rattle.gate_core.specs.State.{State}
-use Rattle.gate_core.specs.Packets.{packets_of}
-use Rattle.gate_core.specs.Meaning.{mark_as, drawn_for, submission}
-use Rattle.gate_core.specs.Sound.{IsSound}
-use Rattle.gate_core.specs.Answers.{without_packets, answers_at}
-use Rattle.gate_core.specs.Output.{fresh}
-use Rattle.gate_core.specs.Notes.{answer_notes}
-use Rattle.gate_core.specs.All.{is_ret_submit, is_won_unlink}
-use Rattle.gate_core.specs.Bytes.{host_packet_bytes}
-use Rattle.gate_core.specs.Machine.{live_after}
-use Rattle.gate_core.specs.inner.Rows.{row, unmarked, left_row, row_request}
-use Rattle.gate_core.specs.inner.Ending.{ended_bytes}
+use Rattle.gate_history.specs.Items.{capped}
+use Rattle.gate_history.specs.Errno.{eshutdown}
+use Rattle.gate_history.specs.Requests.{Request}
+use Rattle.gate_history.specs.Verdict.{Routed}
+use Rattle.gate_history.specs.Marks.{Submission, Effect, Opens}
+use Rattle.gate_history.specs.Submits.{Pending, ByChange, at_once, touches_stream, ends}
+use Rattle.gate_history.specs.Ids.{last_of}
+use Rattle.gate_history.specs.Ups.{lower, is_ended}
+use Rattle.gate_history.specs.Calls.{called}
+use Rattle.gate_history.specs.State.{State}
+use Rattle.gate_history.specs.Packets.{packets_of}
+use Rattle.gate_history.specs.Meaning.{mark_as, drawn_for, submission}
+use Rattle.gate_history.specs.Sound.{IsSound}
+use Rattle.gate_history.specs.Answers.{without_packets, answers_at}
+use Rattle.gate_history.specs.Output.{fresh}
+use Rattle.gate_history.specs.Notes.{answer_notes}
+use Rattle.gate_history.specs.All.{is_ret_submit, is_won_unlink}
+use Rattle.gate_history.specs.Bytes.{host_packet_bytes}
+use Rattle.gate_history.specs.Machine.{live_after}
+use Rattle.gate_parts.specs.Rows.{row, unmarked, left_row, row_request, ended_bytes}
 use Rattle.gate_core.specs.inner.Holds.{Holds, Does}
-use Rattle.gate_core.proofs.Lists.{Each, Each-weaker, filter-all, filter-map, filter-same}
+use Rattle.gate_history.proofs.Lists.{Each, Each-weaker, filter-all, filter-map, filter-same}
 use Rattle.gate_core.proofs.Lost.{capped-same}
-use Rattle.gate_core.proofs.Steady.{none-cancelled, stays-uncancelled}
-use Rattle.gate_core.proofs.Effects.{change-left, change-noted, change-dropped}
+use Rattle.gate_history.proofs.Uncancelled.{none-cancelled, stays-uncancelled}
+use Rattle.gate_history.proofs.Effects.{change-left, change-noted, change-dropped}
 use Rattle.gate_core.proofs.Waiting.{IsGoing, each-mapped, all-going, touched-row}
 use Rattle.gate_core.proofs.Enders.{EndsSo, ends-so, ended_packets, ended-bytes, counted-all, counted-none}
 

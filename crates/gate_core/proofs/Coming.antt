@@ -13,21 +13,22 @@ use Rattle.redir_wire.specs.declared.packet.Caps.{Caps}
 use Rattle.redir_wire.specs.declared.packet.Header.{Header}
 use Rattle.redir_data.specs.declared.packet.RedirPacket.{RedirPacket}
 use Rattle.redir_data.specs.declared.state.RedirState.{RedirState}
-use Rattle.gate_core.specs.declared.item.Item.{Item as RawItem}
-use Rattle.gate_core.specs.declared.item.Item.TheVariants as raw
-use Rattle.gate_core.specs.declared.note.Note.{Note}
+use Rattle.gate_history.specs.declared.item.Item.{Item as RawItem}
+use Rattle.gate_history.specs.declared.item.Item.TheVariants as raw
+use Rattle.gate_history.specs.declared.note.Note.{Note}
 use Rattle.gate_core.specs.declared.inner.Inner.{Inner}
 use Rattle.gate_core.specs.declared.kept.Kept.{Kept as Translator}
-use Rattle.gate_core.specs.Items.{Item}
-use Rattle.gate_core.specs.Events.{Event, client_bytes, host_bytes}
-use Rattle.gate_core.specs.Sides.{host_over, agreed}
-use Rattle.gate_core.specs.Streams.{host_reader, host_start}
-use Rattle.gate_core.specs.Past.{past}
-use Rattle.gate_core.specs.History.{onto, arrivals}
-use Rattle.gate_core.specs.Stands.{told, Stands, HasPast}
-use Rattle.gate_core.specs.inner.Holds.{ToldFits, ItemFits}
+use Rattle.gate_history.specs.Items.{Item}
+use Rattle.gate_history.specs.Events.{Event, client_bytes, host_bytes}
+use Rattle.gate_history.specs.Sides.{host_over, agreed}
+use Rattle.gate_history.specs.Streams.{host_reader, host_start}
+use Rattle.gate_history.specs.Past.{past}
+use Rattle.gate_history.specs.History.{onto, arrivals}
+use Rattle.gate_history.specs.Came.{told}
+use Rattle.gate_core.specs.Stands.{Stands, HasPast}
+use Rattle.gate_history.specs.Fits.{ToldFits, ItemFits}
 use Rattle.gate_core.specs.inner.Steps.{kept_of, IsReadable, IfNext, item_next, raw_told}
-use Rattle.gate_core.proofs.InStep.{told-fits, told_fits-prop}
+use Rattle.gate_history.proofs.InStep.{told-fits, told_fits-prop}
 use Rattle.gate_core.proofs.Sides.{Side, client_side, host_side}
 use Rattle.gate_core.proofs.Pieces.{Taking, same-item, came-onto}
 

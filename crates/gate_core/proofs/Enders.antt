@@ -13,30 +13,30 @@ use Rattle.usbip_urb.specs.Spelling.{spelling}
 use Rattle.redir_wire.specs.declared.packet.Caps.{Caps}
 use Rattle.redir_data.specs.declared.packet.RedirPacket.{RedirPacket}
 use Rattle.unlink_race.specs.declared.live.Live.{Live}
-use Rattle.gate_core.specs.declared.note.Note.{Note}
-use Rattle.gate_core.specs.declared.note.Note.TheVariants as note
+use Rattle.gate_history.specs.declared.note.Note.{Note}
+use Rattle.gate_history.specs.declared.note.Note.TheVariants as note
 use Rattle.gate_core.specs.declared.kept.Kept.{Kept}
-use Rattle.gate_core.specs.Items.{capped}
-use Rattle.gate_core.specs.Marks.{Submission, Effect}
-use Rattle.gate_core.specs.Facts.{no_facts, tell}
-use Rattle.gate_core.specs.Sides.{refused_at, leaves, is_loss, closes_host, imports, refuses_client, ends_client, agrees}
-use Rattle.gate_core.specs.Submits.{Pending, End, opened, ends, is_answered}
-use Rattle.gate_core.specs.Ids.{last_of}
-use Rattle.gate_core.specs.Ups.{no_streams, moved_streams}
-use Rattle.gate_core.specs.Packets.{asked_packets}
-use Rattle.gate_core.specs.Calls.{called, last_or, moved_fence}
-use Rattle.gate_core.specs.State.{State, submits}
-use Rattle.gate_core.specs.Verdict.{goes_by_id}
-use Rattle.gate_core.specs.Meaning.{mark_as, drawn_by}
-use Rattle.gate_core.specs.Answers.{answers, answers_at}
-use Rattle.gate_core.specs.Output.{fresh, present, answered, replies, cancels, cancel, acknowledgements, to_client}
-use Rattle.gate_core.specs.Notes.{when, import_notes, submit_notes, unlink_notes, arrival_notes, answer_notes, is_by_answer, refusal_notes, is_by_client, dropped}
-use Rattle.gate_core.specs.All.{is_ret_submit, is_won_unlink}
-use Rattle.gate_core.specs.Bytes.{host_packet_bytes}
-use Rattle.gate_core.specs.Machine.{ask}
-use Rattle.gate_core.specs.inner.Rows.{row, unmarked, left_row}
+use Rattle.gate_history.specs.Items.{capped}
+use Rattle.gate_history.specs.Marks.{Submission, Effect}
+use Rattle.gate_history.specs.Facts.{no_facts, tell}
+use Rattle.gate_history.specs.Sides.{refused_at, leaves, is_loss, closes_host, imports, refuses_client, ends_client, agrees}
+use Rattle.gate_history.specs.Submits.{Pending, End, opened, ends, is_answered}
+use Rattle.gate_history.specs.Ids.{last_of}
+use Rattle.gate_history.specs.Ups.{no_streams, moved_streams}
+use Rattle.gate_history.specs.Packets.{asked_packets}
+use Rattle.gate_history.specs.Calls.{called, last_or, moved_fence}
+use Rattle.gate_history.specs.State.{State, submits}
+use Rattle.gate_history.specs.Verdict.{goes_by_id}
+use Rattle.gate_history.specs.Meaning.{mark_as, drawn_by}
+use Rattle.gate_history.specs.Answers.{answers, answers_at}
+use Rattle.gate_history.specs.Output.{fresh, present, answered, replies, cancels, cancel, acknowledgements, to_client}
+use Rattle.gate_history.specs.Notes.{when, import_notes, submit_notes, unlink_notes, arrival_notes, answer_notes, is_by_answer, refusal_notes, is_by_client, dropped}
+use Rattle.gate_history.specs.All.{is_ret_submit, is_won_unlink}
+use Rattle.gate_history.specs.Bytes.{host_packet_bytes}
+use Rattle.gate_history.specs.Machine.{ask}
+use Rattle.gate_parts.specs.Rows.{row, unmarked, left_row}
 use Rattle.gate_core.specs.inner.Holds.{Holds, Does}
-use Rattle.gate_core.proofs.Lists.{Each, Each-weaker, every, filter-same, filter-none, filter-all, filter-map}
+use Rattle.gate_history.proofs.Lists.{Each, Each-weaker, every, filter-same, filter-none, filter-all, filter-map}
 use Rattle.gate_core.proofs.Lost.{capped-same}
 
 -- ---- the live requests that an item ends

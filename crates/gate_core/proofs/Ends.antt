@@ -1,50 +1,40 @@
 -- The ends of both sides, and the gate to which nothing has happened.
-use Rattle.std.proofs.Common.{◌≡◌, ℕ, ◌<◌, Bool, true, false, cond, List, [], ◌∷◌, None, inr, refl, sym, ap, subst, ◌∙◌, arith}
-use Rattle.std.specs.Prelude.{nat_lt}
-use Rattle.std.proofs.lemmas.Bool.{true≢false, lt-ltb}
+use Rattle.std.proofs.Common.{◌≡◌, ℕ, true, false, List, [], ◌∷◌, None, inr, refl, sym, ap, subst, ◌∙◌, arith}
+use Rattle.std.proofs.lemmas.Bool.{true≢false}
 use Rattle.usb_base.specs.declared.reason.Reason.{Reason}
-use Rattle.packet_stream.specs.Format.{Format, IsSound, wrong_at, Found, Whole, Short, reading, reading_by}
-use Rattle.packet_stream.specs.Split.{Position, Splitting, reads, split}
+use Rattle.packet_stream.specs.Format.{Format, IsSound, wrong_at}
+use Rattle.packet_stream.specs.Split.{Position, Splitting, reads}
 use Rattle.packet_stream.specs.Streams.{Kept, ended, capped}
-use Rattle.packet_stream.proofs.Laws.{reads_steady, split-is}
 use Rattle.redir_wire.specs.declared.packet.Way.TheVariants.{ToGuest}
 use Rattle.redir_data.specs.declared.state.RedirState.{RedirState}
 use Rattle.redir_data.specs.Streams.{start, after}
 use Rattle.redir_data.specs.sound.Joined.{stream_sound}
 use Rattle.usbip_urb.specs.Sound.ClientPackets.{client_packets_sound}
-use Rattle.gate_core.specs.declared.note.Note.{Note}
-use Rattle.gate_core.specs.declared.item.Item.TheVariants as raw
+use Rattle.gate_history.specs.declared.note.Note.{Note}
+use Rattle.gate_history.specs.declared.item.Item.TheVariants as raw
 use Rattle.gate_core.specs.declared.inner.Inner.{Inner}
 use Rattle.gate_core.specs.declared.kept.Kept.{Kept as Translator}
-use Rattle.gate_core.specs.Items.{ClientLeft, HostLeft}
-use Rattle.gate_core.specs.Events.{Event, ClientEnd, HostEnd, client_bytes, host_bytes}
-use Rattle.gate_core.specs.Sides.{client_over, host_over}
-use Rattle.gate_core.specs.Streams.{client_format, client_next, client_reader, client_start, host_format, host_reader, host_start}
-use Rattle.gate_core.specs.State.{state_of}
-use Rattle.gate_core.specs.Past.{is_left_out, past}
-use Rattle.gate_core.specs.History.{brought, arrivals}
-use Rattle.gate_core.specs.Stands.{asked, told, HasAll, Stands, Stops}
-use Rattle.gate_core.specs.Wants.{FirstWants}
+use Rattle.gate_history.specs.Items.{ClientLeft, HostLeft}
+use Rattle.gate_history.specs.Events.{Event, ClientEnd, HostEnd, client_bytes, host_bytes}
+use Rattle.gate_history.specs.Sides.{client_over, host_over}
+use Rattle.gate_history.specs.Streams.{client_format, client_next, client_reader, client_start, host_format, host_reader, host_start}
+use Rattle.gate_history.specs.State.{state_of}
+use Rattle.gate_history.specs.Past.{is_left_out, past}
+use Rattle.gate_history.specs.History.{brought, arrivals}
+use Rattle.gate_history.specs.Came.{asked, told}
+use Rattle.gate_core.specs.Stands.{HasAll, Stands, Stops}
+use Rattle.gate_history.specs.Wants.{FirstWants}
 use Rattle.gate_core.specs.inner.Holds.{IsFirst, DoesNothing}
 use Rattle.gate_core.specs.inner.Steps.{kept_of, TakesOn}
-use Rattle.gate_core.proofs.States.{state-sound}
-use Rattle.gate_core.proofs.Apart.{left-host, left-client}
-use Rattle.gate_core.proofs.InStep.{left-over}
+use Rattle.gate_history.proofs.States.{state-sound}
+use Rattle.gate_history.proofs.Apart.{left-host, left-client}
+use Rattle.gate_history.proofs.InStep.{left-over}
 use Rattle.gate_core.proofs.Translating.{sends-none, translates-past, sends-past, past-skipped, translates-item, sends-item}
 use Rattle.gate_core.proofs.Pieces.{TakesItem}
 use Rattle.gate_core.proofs.Standing.{all-same, stops-before, stands-for}
+use Rattle.gate_history.proofs.Empty.{split-empty}
 
 -- ---- a stream of which nothing has come
-
-short-by : {P : Type 0} (p : P) (n : ℕ) → 0 < n → ◌≡◌ {A = Found P Reason} (cond (nat_lt 0 n) Short (Whole p n)) Short
-short-by {P = P} p n some = ap (λ (b : Bool). cond {A = Found P Reason} b Short (Whole p n)) (lt-ltb 0 n some)
-
-short-empty : {P : Type 0} (f : Format P Reason) → IsSound f → wrong_at f.checks [] ≡ None → reading f [] ≡ Short
-short-empty f sound none = ap (reading_by f []) none ∙ short-by (f.packet []) (f.size []) (sound.some [])
-
-pub split-empty : {S P : Type 0} (format : S → Format P Reason) (next : S → P → S) → ((s : S) → IsSound (format s)) → (a : Position S) → wrong_at (format a.state).checks [] ≡ None →
-    split (reads format next) a [] ≡ record { packets = []; wrong = None; position = a; rest = [] }
-split-empty format next sound a none = split-is (reads format next) (reads_steady format next sound) a [] Short (short-empty (format a.state) (sound a.state) none)
 
 abbrev first-kept : {S : Type 0} → S → Kept S
 first-kept s = record { state = s; rest = []; place = 0; held = []; at = 0; over = false }

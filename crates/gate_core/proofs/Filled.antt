@@ -11,20 +11,19 @@ use Rattle.stream_buffers.specs.Cuts.{Cut}
 use Rattle.unlink_race.specs.declared.live.Live.{Live}
 use Rattle.unlink_race.specs.Firsts.{without_first}
 use Rattle.unlink_race.specs.Searches.{waits_for}
-use Rattle.gate_core.specs.declared.note.Note.{Note}
-use Rattle.gate_core.specs.declared.note.Note.TheVariants as note
-use Rattle.gate_core.specs.Requests.{Request}
-use Rattle.gate_core.specs.Fillings.{Given, Transferred, Isochronous, Filling, Fill, cut_of, filled_by, fill, given_to}
-use Rattle.gate_core.specs.Submits.{Pending, End, ByPackets, waits_at, packets_end}
-use Rattle.gate_core.specs.Answers.{answers_at, with_given}
-use Rattle.gate_core.specs.Notes.{is_by_answer, is_by_client}
-use Rattle.gate_core.specs.All.{is_ret_submit, is_won_unlink}
-use Rattle.gate_core.specs.inner.Rows.{row, row_request}
-use Rattle.gate_core.specs.inner.Filling.{rows_fill, filled_bytes, filled_notes, bytes_by, waiting_rows, without_firsts}
-use Rattle.gate_core.proofs.Lists.{Each, Each-weaker, Each-filter, every, both, filter-same, filter-none, filter-twice, flat_map-same, flat_map-filter, flat_map-none}
+use Rattle.gate_history.specs.declared.note.Note.{Note}
+use Rattle.gate_history.specs.declared.note.Note.TheVariants as note
+use Rattle.gate_history.specs.Requests.{Request}
+use Rattle.gate_history.specs.Fillings.{Given, Transferred, Isochronous, Filling, Fill, cut_of, filled_by, fill, given_to}
+use Rattle.gate_history.specs.Submits.{Pending, End, ByPackets, waits_at, packets_end}
+use Rattle.gate_history.specs.Answers.{answers_at, with_given}
+use Rattle.gate_history.specs.Notes.{is_by_answer, is_by_client}
+use Rattle.gate_history.specs.All.{is_ret_submit, is_won_unlink}
+use Rattle.gate_parts.specs.Rows.{row, row_request, IsFine}
+use Rattle.gate_parts.specs.Filling.{rows_fill, filled_bytes, filled_notes, bytes_by, waiting_rows, without_firsts}
+use Rattle.gate_history.proofs.Lists.{Each, Each-weaker, Each-filter, every, both, filter-same, filter-none, filter-twice, flat_map-same, flat_map-filter, flat_map-none}
 use Rattle.unlink_race.specs.Requests.{Requests}
 use Rattle.gate_core.specs.declared.kept.Kept.{Kept}
-use Rattle.gate_core.specs.inner.Rows.{IsFine}
 use Rattle.gate_core.specs.inner.Holds.{IsKept}
 use Rattle.gate_core.proofs.Answering.{Each-without, length-without}
 use Rattle.gate_core.proofs.Waiting.{IsGoing, waits-row, waits-rows}

@@ -14,37 +14,38 @@ use Rattle.redir_wire.specs.declared.packet.Caps.{Caps}
 use Rattle.redir_data.specs.declared.packet.RedirPacket.{RedirPacket}
 use Rattle.unlink_race.specs.declared.live.Live.{Live}
 use Rattle.unlink_race.specs.Searches.{waits_for}
-use Rattle.gate_core.specs.declared.note.Note.{Note}
-use Rattle.gate_core.specs.declared.note.Note.TheVariants as note
+use Rattle.gate_history.specs.declared.note.Note.{Note}
+use Rattle.gate_history.specs.declared.note.Note.TheVariants as note
 use Rattle.gate_core.specs.declared.kept.Kept.{Kept}
-use Rattle.gate_core.specs.Items.{capped}
-use Rattle.gate_core.specs.Fillings.{Filling, Fill, fill}
-use Rattle.gate_core.specs.Marks.{Submission, Effect}
-use Rattle.gate_core.specs.Facts.{no_facts, tell}
-use Rattle.gate_core.specs.Sides.{refused_at, leaves, is_loss, closes_host, imports, refuses_client, ends_client, agrees}
-use Rattle.gate_core.specs.Submits.{Pending, ByClient, ByLoss, own_end, ends, asks, packets_end, is_answered}
-use Rattle.gate_core.specs.Ids.{last_of}
-use Rattle.gate_core.specs.Ups.{Up, no_streams, stream_at, hold, moved_streams}
-use Rattle.gate_core.specs.Packets.{asked_packets}
-use Rattle.gate_core.specs.Calls.{asking, called, last_or, moved_fence}
-use Rattle.gate_core.specs.State.{State, submits}
-use Rattle.gate_core.specs.Verdict.{goes_by_id}
-use Rattle.gate_core.specs.Meaning.{mark_as, drawn_by}
-use Rattle.gate_core.specs.Answers.{answers_at}
-use Rattle.gate_core.specs.Output.{present, answered, replies, cancels, acknowledgements, to_client}
-use Rattle.gate_core.specs.Notes.{when, import_notes, submit_notes, unlink_notes, arrival_notes, answer_notes, is_by_answer, refusal_notes, is_by_client, dropped}
-use Rattle.gate_core.specs.All.{is_ret_submit, is_won_unlink}
-use Rattle.gate_core.specs.Bytes.{host_packet_bytes}
-use Rattle.gate_core.specs.Machine.{live_after}
-use Rattle.gate_core.specs.inner.Rows.{row, unmarked, left_row}
-use Rattle.gate_core.specs.inner.Filling.{rows_fill, filled_bytes, filled_notes, waiting_rows, without_firsts, up_fill, up_bytes, HasEnded}
+use Rattle.gate_history.specs.Items.{capped}
+use Rattle.gate_history.specs.Fillings.{Filling, Fill, fill}
+use Rattle.gate_history.specs.Marks.{Submission, Effect}
+use Rattle.gate_history.specs.Facts.{no_facts, tell}
+use Rattle.gate_history.specs.Sides.{refused_at, leaves, is_loss, closes_host, imports, refuses_client, ends_client, agrees}
+use Rattle.gate_history.specs.Submits.{Pending, ByClient, ByLoss, own_end, ends, asks, packets_end, is_answered}
+use Rattle.gate_history.specs.Ids.{last_of}
+use Rattle.gate_history.specs.Ups.{Up, no_streams, stream_at, hold, moved_streams}
+use Rattle.gate_history.specs.Packets.{asked_packets}
+use Rattle.gate_history.specs.Calls.{asking, called, last_or, moved_fence}
+use Rattle.gate_history.specs.State.{State, submits}
+use Rattle.gate_history.specs.Verdict.{goes_by_id}
+use Rattle.gate_history.specs.Meaning.{mark_as, drawn_by}
+use Rattle.gate_history.specs.Answers.{answers_at}
+use Rattle.gate_history.specs.Output.{present, answered, replies, cancels, acknowledgements, to_client}
+use Rattle.gate_history.specs.Notes.{when, import_notes, submit_notes, unlink_notes, arrival_notes, answer_notes, is_by_answer, refusal_notes, is_by_client, dropped}
+use Rattle.gate_history.specs.All.{is_ret_submit, is_won_unlink}
+use Rattle.gate_history.specs.Bytes.{host_packet_bytes}
+use Rattle.gate_history.specs.Machine.{live_after}
+use Rattle.gate_parts.specs.Rows.{row, unmarked, left_row}
+use Rattle.gate_parts.specs.Filling.{rows_fill, filled_bytes, filled_notes, waiting_rows, without_firsts, up_fill, up_bytes}
+use Rattle.gate_core.specs.inner.Filling.{HasEnded}
 use Rattle.gate_core.specs.inner.Holds.{Holds, Does}
-use Rattle.gate_core.proofs.Lists.{every, filter-same, filter-all}
+use Rattle.gate_history.proofs.Lists.{every, filter-same, filter-all}
 use Rattle.gate_core.proofs.Lost.{capped-same}
-use Rattle.gate_core.proofs.Steady.{none-cancelled}
-use Rattle.gate_core.proofs.Effects.{filled-left, filled-answered, filled-noted, filled-dropped}
+use Rattle.gate_history.proofs.Uncancelled.{none-cancelled}
+use Rattle.gate_history.proofs.Effects.{filled-left, filled-answered, filled-noted, filled-dropped}
 use Rattle.gate_core.proofs.Filled.{requests, waiters, fillings, FillsAll}
-use Rattle.gate_core.proofs.Places.{set-twice}
+use Rattle.gate_parts.proofs.Places.{set-twice}
 
 -- it ends those that these packets fill, and none but them
 pub record IsFiller (st : State) (e : Effect) (ep : ℕ) (fs : List Filling) : Type 0 where

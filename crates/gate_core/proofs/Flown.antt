@@ -6,26 +6,25 @@ use Rattle.std.specs.List.{list_any, flat_map}
 use Rattle.unlink_race.specs.Searches.{goes_by_id as is_answered_by_id, is_change, changes as changes_row, has_number as has_number_row}
 use Rattle.control_route.specs.declared.route.Route.{Route}
 use Rattle.control_route.specs.declared.route.Route.TheVariants as route
-use Rattle.gate_core.specs.Ids.{draw, draws, greatest, last_of}
-use Rattle.gate_core.specs.Packets.{stops, route_packets, asked_packets}
+use Rattle.gate_history.specs.Ids.{draw, draws, greatest, last_of}
+use Rattle.gate_history.specs.Packets.{stops, route_packets, asked_packets}
 use Rattle.gate_core.specs.declared.kept.Kept.{Kept}
-use Rattle.gate_core.specs.Verdict.{Verdict, Now, Wire, Routed, IsoOut, Stream, goes_by_id, changes}
-use Rattle.gate_core.specs.Marks.{Submission}
-use Rattle.gate_core.specs.Submits.{Pending}
-use Rattle.gate_core.specs.Flight.{wide_ids, ids_of}
+use Rattle.gate_history.specs.Verdict.{Verdict, Now, Wire, Routed, IsoOut, Stream, goes_by_id, changes}
+use Rattle.gate_history.specs.Marks.{Submission, Effect}
+use Rattle.gate_history.specs.Submits.{Pending}
+use Rattle.gate_history.specs.Flight.{wide_ids, ids_of}
 use Rattle.redir_data.specs.declared.packet.RedirPacket.{RedirPacket}
-use Rattle.gate_core.specs.declared.calls.Called.{Called}
-use Rattle.gate_core.specs.Marks.{Effect}
-use Rattle.gate_core.specs.Ups.{is_ended}
-use Rattle.gate_core.specs.Calls.{called, call_ids, last_or}
-use Rattle.gate_core.specs.Meaning.{drawn_by}
-use Rattle.gate_core.specs.State.{State, flying, next_ids, is_number}
-use Rattle.gate_core.specs.inner.Flying.{row_ids}
+use Rattle.gate_parts.specs.declared.calls.Called.{Called}
+use Rattle.gate_history.specs.Ups.{is_ended}
+use Rattle.gate_history.specs.Calls.{called, call_ids, last_or}
+use Rattle.gate_history.specs.Meaning.{drawn_by}
+use Rattle.gate_history.specs.State.{State, flying, next_ids, is_number}
+use Rattle.gate_parts.specs.Flying.{row_ids}
 use Rattle.gate_core.specs.inner.Calling.{flying_in, ids_after, with_ids, stops_of, called_of, after_stops, bytes_of, HasParted}
-use Rattle.gate_core.specs.Bytes.{host_packet_bytes}
-use Rattle.gate_core.specs.inner.Rows.{kind_of, row, unmarked, left_row, cancel_bytes}
+use Rattle.gate_history.specs.Bytes.{host_packet_bytes}
+use Rattle.gate_parts.specs.Rows.{kind_of, row, unmarked, left_row, cancel_bytes}
 use Rattle.gate_core.specs.inner.Holds.{Holds}
-use Rattle.gate_core.proofs.Left.{by_id-row}
+use Rattle.gate_parts.proofs.Rows.{by_id-row}
 
 one : (b : Bool) (l : Live) (s : Submission) (ls : List Live) (ss : List Submission) → l.id ≡ s.id → map (λ (r : Live). r.id) ls ≡ map (λ (t : Submission). t.id) ss →
     map (λ (r : Live). r.id) (cond b (l ∷ ls) ls) ≡ map (λ (t : Submission). t.id) (cond b (s ∷ ss) ss)

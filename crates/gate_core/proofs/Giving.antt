@@ -17,27 +17,27 @@ use Rattle.usb_base.specs.declared.reason.Reason.TheVariants.{AlreadyImported, N
 use Rattle.usb_base.specs.declared.refusal.Refusal.{Refusal}
 use Rattle.usb_base.specs.declared.side.Side.TheVariants.{Client}
 use Rattle.unlink_race.specs.declared.live.Live.{Live}
-use Rattle.gate_core.specs.declared.note.Note.TheVariants as note
-use Rattle.gate_core.specs.Verdict.{Verdict, Now, Wire, Routed, IsoOut, Stream, is_wire}
-use Rattle.gate_core.specs.Marks.{Submission, Fact, Effect, Replies, Imports, Opens, Waits, Unlinks, Arrives, Ends, Refuses, Mark}
-use Rattle.gate_core.specs.Replies.{list_reply}
-use Rattle.gate_core.specs.Sides.{refusal, refused_at, leaves, is_loss}
-use Rattle.gate_core.specs.Submits.{Pending, ends}
-use Rattle.gate_core.specs.Ups.{is_ended}
-use Rattle.gate_core.specs.Ids.{greatest}
-use Rattle.gate_core.specs.Flight.{wide_ids}
-use Rattle.gate_core.specs.Packets.{asked_packets, stops}
-use Rattle.gate_core.specs.Calls.{asking}
-use Rattle.gate_core.specs.State.{State, flying, has_number}
-use Rattle.gate_core.specs.Meaning.{mark_as, drawn_by, refused, importable, imported_as, asked_meaning, accepted_as}
-use Rattle.gate_core.specs.Answers.{lost_answer}
-use Rattle.gate_core.specs.Output.{cancels, cancel, acknowledgements, to_client, to_host}
-use Rattle.gate_core.specs.Notes.{when, import_notes, submit_notes, unlink_notes, arrival_notes, answer_notes, refusal_notes, notes_of}
-use Rattle.gate_core.specs.Wants.{GivesSome}
-use Rattle.gate_core.specs.inner.Rows.{row, is_cancelled_row}
-use Rattle.gate_core.proofs.Draws.{length-draws}
-use Rattle.gate_core.proofs.Losses.{all-lost}
-use Rattle.gate_core.proofs.Left.{wire-row}
+use Rattle.gate_history.specs.declared.note.Note.TheVariants as note
+use Rattle.gate_history.specs.Verdict.{Verdict, Now, Wire, Routed, IsoOut, Stream, is_wire}
+use Rattle.gate_history.specs.Marks.{Submission, Fact, Effect, Replies, Imports, Opens, Waits, Unlinks, Arrives, Ends, Refuses, Mark}
+use Rattle.gate_history.specs.Replies.{list_reply}
+use Rattle.gate_history.specs.Sides.{refusal, refused_at, leaves, is_loss}
+use Rattle.gate_history.specs.Submits.{Pending, ends}
+use Rattle.gate_history.specs.Ups.{is_ended}
+use Rattle.gate_history.specs.Ids.{greatest}
+use Rattle.gate_history.specs.Flight.{wide_ids}
+use Rattle.gate_history.specs.Packets.{asked_packets, stops}
+use Rattle.gate_history.specs.Calls.{asking}
+use Rattle.gate_history.specs.State.{State, flying, has_number}
+use Rattle.gate_history.specs.Meaning.{mark_as, drawn_by, refused, importable, imported_as, asked_meaning, accepted_as}
+use Rattle.gate_history.specs.Answers.{lost_answer}
+use Rattle.gate_history.specs.Output.{cancels, cancel, acknowledgements, to_client, to_host}
+use Rattle.gate_history.specs.Notes.{when, import_notes, submit_notes, unlink_notes, arrival_notes, answer_notes, refusal_notes, notes_of}
+use Rattle.gate_history.specs.Wants.{GivesSome}
+use Rattle.gate_parts.specs.Rows.{row, is_cancelled_row}
+use Rattle.gate_history.proofs.Draws.{length-draws}
+use Rattle.gate_history.proofs.Losses.{all-lost}
+use Rattle.gate_parts.proofs.Rows.{wire-row}
 
 -- ---- lists
 

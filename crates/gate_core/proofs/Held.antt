@@ -3,12 +3,13 @@ use Rattle.std.proofs.Common.{◌≡◌, ℕ, ◌+◌, Bool, true, false, cond, 
 use Rattle.usb_base.specs.declared.reason.Reason.{Reason}
 use Rattle.packet_stream.specs.Split.{Reader, Position, split}
 use Rattle.packet_stream.specs.Streams.{Kept}
-use Rattle.gate_core.specs.Events.{Event, client_bytes, host_bytes}
-use Rattle.gate_core.specs.Streams.{client_reader, client_start, host_reader, host_start}
-use Rattle.gate_core.specs.Sides.{client_over, host_over}
-use Rattle.gate_core.specs.History.{history, arrivals, rest_length}
+use Rattle.gate_history.specs.Events.{Event, client_bytes, host_bytes}
+use Rattle.gate_history.specs.Streams.{client_reader, client_start, host_reader, host_start}
+use Rattle.gate_history.specs.Sides.{client_over, host_over}
+use Rattle.gate_history.specs.History.{history, arrivals, rest_length}
 use Rattle.gate_core.specs.Kept.{GateKept}
-use Rattle.gate_core.specs.Stands.{asked, told, HasAll, Stands}
+use Rattle.gate_history.specs.Came.{asked, told}
+use Rattle.gate_core.specs.Stands.{HasAll, Stands}
 
 held-by : {S P : Type 0} (r : Reader S P Reason) (start : Position S) (kept : Kept S) (bytes : List ℕ) (given : List (ℕ × P)) (over : Bool) → HasAll r start kept bytes given over →
     length kept.held ≡ cond over 0 (length (split r start bytes).rest)

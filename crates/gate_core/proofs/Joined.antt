@@ -12,36 +12,37 @@ use Rattle.usb_base.specs.declared.transfer.StreamPacket.{StreamPacket}
 use Rattle.unlink_race.specs.declared.live.Live.{Live}
 use Rattle.unlink_race.specs.declared.live.LiveKind.TheVariants as live_kind
 use Rattle.unlink_race.specs.Searches.{waits_for, has_number}
-use Rattle.gate_core.specs.declared.note.Note.{Note}
-use Rattle.gate_core.specs.declared.note.Note.TheVariants as note
+use Rattle.gate_history.specs.declared.note.Note.{Note}
+use Rattle.gate_history.specs.declared.note.Note.TheVariants as note
 use Rattle.gate_core.specs.declared.kept.Kept.{Kept}
-use Rattle.gate_core.specs.Items.{capped}
-use Rattle.gate_core.specs.Requests.{Request}
-use Rattle.gate_core.specs.Verdict.{Verdict, Stream}
-use Rattle.gate_core.specs.Fillings.{Fill, none_filled, filled_by, fill}
-use Rattle.gate_core.specs.Marks.{Submission, Effect, Waits}
-use Rattle.gate_core.specs.Submits.{Pending, waits_at, packets_end}
-use Rattle.gate_core.specs.Ups.{Up, stream_at, held_of, hold, raise, raised}
-use Rattle.gate_core.specs.Packets.{starts}
-use Rattle.gate_core.specs.Calls.{Calls, called}
-use Rattle.gate_core.specs.Ids.{last_of}
-use Rattle.gate_core.specs.State.{State, next_ids}
-use Rattle.gate_core.specs.Sound.{IsSound}
-use Rattle.gate_core.specs.Meaning.{mark_as, drawn_for, waiting, submission, by_stream, accepted_as, accepts}
-use Rattle.gate_core.specs.Output.{fresh, present}
-use Rattle.gate_core.specs.Bytes.{host_packet_bytes}
-use Rattle.gate_core.specs.inner.Rows.{row}
-use Rattle.gate_core.specs.inner.Filling.{filled_notes, waiting_rows, without_firsts, up_fill, up_bytes, joining_row, with_row, HasJoined}
-use Rattle.gate_core.specs.inner.Holds.{IsKept, Holds, Does, row_for}
-use Rattle.gate_core.proofs.Lists.{Each, Each-append}
+use Rattle.gate_history.specs.Items.{capped}
+use Rattle.gate_history.specs.Requests.{Request}
+use Rattle.gate_history.specs.Verdict.{Verdict, Stream}
+use Rattle.gate_history.specs.Fillings.{Fill, none_filled, filled_by, fill}
+use Rattle.gate_history.specs.Marks.{Submission, Effect, Waits}
+use Rattle.gate_history.specs.Submits.{Pending, waits_at, packets_end}
+use Rattle.gate_history.specs.Ups.{Up, stream_at, held_of, hold, raise, raised}
+use Rattle.gate_history.specs.Packets.{starts}
+use Rattle.gate_history.specs.Calls.{Calls, called}
+use Rattle.gate_history.specs.Ids.{last_of}
+use Rattle.gate_history.specs.State.{State, next_ids}
+use Rattle.gate_history.specs.Sound.{IsSound}
+use Rattle.gate_history.specs.Meaning.{mark_as, drawn_for, waiting, submission, by_stream, accepted_as, accepts}
+use Rattle.gate_history.specs.Output.{fresh, present}
+use Rattle.gate_history.specs.Bytes.{host_packet_bytes}
+use Rattle.gate_parts.specs.Rows.{row, row_for}
+use Rattle.gate_parts.specs.Filling.{filled_notes, waiting_rows, without_firsts, up_fill, up_bytes}
+use Rattle.gate_core.specs.inner.Filling.{joining_row, with_row, HasJoined}
+use Rattle.gate_core.specs.inner.Holds.{IsKept, Holds, Does}
+use Rattle.gate_history.proofs.Lists.{Each, Each-append}
 use Rattle.gate_core.proofs.Waiting.{IsGoing, all-going}
 use Rattle.gate_core.proofs.Lost.{capped-same}
-use Rattle.gate_core.proofs.Steady.{stays-uncancelled}
+use Rattle.gate_history.proofs.Uncancelled.{stays-uncancelled}
 use Rattle.gate_core.proofs.Filled.{Differ, number, requests, waiters, fillings, FillsAll, fills-all}
 use Rattle.gate_core.proofs.Fillers.{IsFiller, does-fill, does-fill-up}
 use Rattle.gate_core.proofs.Arrived.{all-differ, waiting-are}
-use Rattle.gate_core.proofs.SoFar.{nothing-cut, nothing-sent}
-use Rattle.gate_core.proofs.Places.{set-back}
+use Rattle.gate_parts.proofs.SoFar.{nothing-cut, nothing-sent}
+use Rattle.gate_parts.proofs.Places.{set-back}
 
 own : (n : ℕ) → (n == n) ≡ true
 own n = grind arith

@@ -1,5 +1,5 @@
 -- What a client's leaving makes of what is kept, and what it sends and tells.
-use Rattle.std.proofs.Common.{◌≡◌, ℕ, ◌+◌, ◌^◌, ◌-◌, ◌≤◌, ◌&&◌, ◌||◌, Bool, true, false, cond, not, List, [], ◌∷◌, ◌++◌, length, map, Option, None, refl, sym, ap, subst, ◌∙◌, arith}
+use Rattle.std.proofs.Common.{◌≡◌, ℕ, ◌+◌, ◌^◌, ◌-◌, ◌≤◌, ◌&&◌, ◌||◌, Bool, true, false, cond, not, List, [], ◌++◌, length, map, Option, None, refl, sym, ap, subst, ◌∙◌, arith}
 use Rattle.std.specs.Prelude.{min, is_none, unwrap_or, filter, zip}
 use Rattle.std.specs.List.{flat_map}
 use Rattle.std.proofs.lemmas.List.{append-nil, map-append, length-append, length-map}
@@ -8,79 +8,38 @@ use Rattle.usb_base.specs.declared.side.Side.TheVariants.{Client}
 use Rattle.usbip_urb.specs.declared.client.ClientPacket.{ClientPacket}
 use Rattle.usbip_urb.specs.ClientPackets.{client_spelling}
 use Rattle.redir_wire.specs.declared.packet.Caps.{Caps}
-use Rattle.redir_wire.specs.declared.packet.RedirControl.TheVariants as plain
-use Rattle.redir_data.specs.declared.packet.RedirPacket.TheVariants.{Plain}
 use Rattle.unlink_race.specs.declared.live.Live.{Live}
 use Rattle.unlink_race.specs.Searches.{goes_by_id as is_answered_by_id}
-use Rattle.gate_core.specs.declared.note.Note.{Note}
-use Rattle.gate_core.specs.declared.note.Note.TheVariants as note
+use Rattle.gate_history.specs.declared.note.Note.{Note}
+use Rattle.gate_history.specs.declared.note.Note.TheVariants as note
 use Rattle.gate_core.specs.declared.kept.Kept.{Kept}
-use Rattle.gate_core.specs.Items.{capped}
-use Rattle.gate_core.specs.Marks.{Submission, Effect, Ends, Refuses}
-use Rattle.gate_core.specs.Facts.{no_facts, tell}
-use Rattle.gate_core.specs.Sides.{refused_at, leaves, is_loss, closes_host, imports, refuses_client, ends_client, agrees, turned}
-use Rattle.gate_core.specs.Submits.{Pending, opened, is_answered}
+use Rattle.gate_history.specs.Items.{capped}
+use Rattle.gate_history.specs.Marks.{Effect, Ends, Refuses}
+use Rattle.gate_history.specs.Facts.{no_facts, tell}
+use Rattle.gate_history.specs.Sides.{refused_at, leaves, is_loss, closes_host, imports, refuses_client, ends_client, agrees, turned}
+use Rattle.gate_history.specs.Submits.{Pending, opened, is_answered}
 use Rattle.std.proofs.lemmas.Grind.{flat_map-append}
 use Rattle.redir_data.specs.declared.packet.RedirPacket.{RedirPacket}
-use Rattle.gate_core.specs.declared.calls.Called.{Called}
-use Rattle.gate_core.specs.Ups.{no_streams, is_ended, moved_streams}
-use Rattle.gate_core.specs.Packets.{stops, asked_packets}
-use Rattle.gate_core.specs.Calls.{last_or, moved_fence}
+use Rattle.gate_parts.specs.declared.calls.Called.{Called}
+use Rattle.gate_history.specs.Ups.{no_streams, is_ended, moved_streams}
+use Rattle.gate_history.specs.Packets.{stops, asked_packets}
+use Rattle.gate_history.specs.Calls.{last_or, moved_fence}
 use Rattle.gate_core.specs.inner.Calling.{HasParted}
-use Rattle.gate_core.specs.State.{State, submits}
-use Rattle.gate_core.specs.Verdict.{Verdict, Now, Wire, Routed, IsoOut, Stream, is_wire, goes_by_id}
-use Rattle.gate_core.specs.Meaning.{mark_as, drawn_by}
-use Rattle.gate_core.specs.Output.{fresh, present, answered, replies, cancels, cancel, acknowledgements, to_client}
-use Rattle.gate_core.specs.Notes.{when, import_notes, submit_notes, unlink_notes, arrival_notes, answer_notes, refusal_notes, dropped}
-use Rattle.gate_core.specs.All.{is_ret_submit, is_won_unlink}
-use Rattle.gate_core.specs.Bytes.{host_packet_bytes}
-use Rattle.gate_core.specs.Machine.{live_after}
-use Rattle.gate_core.specs.inner.Rows.{is_wire_row, kind_of, row_of, row, unmarked, left_row, cancel_bytes}
+use Rattle.gate_history.specs.State.{State, submits}
+use Rattle.gate_history.specs.Verdict.{is_wire, goes_by_id}
+use Rattle.gate_history.specs.Meaning.{mark_as, drawn_by}
+use Rattle.gate_history.specs.Output.{fresh, present, answered, replies, cancels, cancel, acknowledgements, to_client}
+use Rattle.gate_history.specs.Notes.{when, import_notes, submit_notes, unlink_notes, arrival_notes, answer_notes, refusal_notes, dropped}
+use Rattle.gate_history.specs.All.{is_ret_submit, is_won_unlink}
+use Rattle.gate_history.specs.Bytes.{host_packet_bytes}
+use Rattle.gate_history.specs.Machine.{live_after}
+use Rattle.gate_parts.specs.Rows.{row, unmarked, left_row, cancel_bytes}
 use Rattle.gate_core.specs.inner.Holds.{Holds, Does, HasLeft}
-use Rattle.gate_core.proofs.Effects.{leaving-left, leaving-answered, leaving-noted, leaving-dropped}
+use Rattle.gate_history.proofs.Effects.{leaving-left, leaving-answered, leaving-noted, leaving-dropped}
 use Rattle.gate_core.proofs.Lost.{capped-same}
+use Rattle.gate_parts.proofs.Rows.{left-rows, cancel-rows}
 
 -- ---- rows
-
-pub wire-row : (v : Verdict) (ep : ℕ) → is_wire_row (kind_of v ep) ≡ is_wire v
-wire-row (Now status) ep = refl
-wire-row (Wire pipe) ep = refl
-wire-row (Routed r) ep = refl
-wire-row (IsoOut r) ep = refl
-wire-row (Stream r) ep = refl
-
-pub by_id-row : (s : Submission) (by : Option ℕ) → is_answered_by_id (row_of s by) ≡ goes_by_id s.verdict
-by_id-row s by = of s.verdict
-  where
-    of : (v : Verdict) → is_answered_by_id (row_of (record s { verdict = v }) by) ≡ goes_by_id v
-    of (Now status) = refl
-    of (Wire pipe) = refl
-    of (Routed r) = refl
-    of (IsoOut r) = refl
-    of (Stream r) = refl
-
--- what is left at the host
-left-rows : (ps : List Pending) → map unmarked (filter is_answered_by_id (map row ps)) ≡ map left_row (filter (λ s. goes_by_id s.verdict) (map (λ (p : Pending). p.submit) ps))
-left-rows [] = refl
-left-rows (p ∷ ps) =
-    ap (λ (b : Bool). map unmarked (cond b (row p ∷ filter is_answered_by_id (map row ps)) (filter is_answered_by_id (map row ps)))) (by_id-row p.submit p.unlinker)
-    ∙ elim (goes_by_id p.submit.verdict) as (λ b. map unmarked (cond b (row p ∷ filter is_answered_by_id (map row ps)) (filter is_answered_by_id (map row ps)))
-    ≡ map left_row (cond b (p.submit ∷ filter (λ s. goes_by_id s.verdict) (map (λ (q : Pending). q.submit) ps)) (filter (λ s. goes_by_id s.verdict) (map (λ (q : Pending). q.submit) ps)))) [
-      | true ↦ ap (λ (ls : List Live). left_row p.submit ∷ ls) (left-rows ps)
-      | false ↦ left-rows ps
-    ]
-
--- the cancels
-cancel-rows : (caps : Caps) (test : Pending → Bool) → ((p : Pending) → test p ≡ (is_wire p.submit.verdict && is_none p.unlinker)) → (ps : List Pending) →
-    flat_map (cancel_bytes caps) (map row ps) ≡ flat_map (host_packet_bytes caps) (map cancel (filter test ps))
-cancel-rows caps test h [] = refl
-cancel-rows caps test h (p ∷ ps) =
-    (λ i. cond (wire-row p.submit.verdict p.submit.request.transfer.ep i && is_none p.unlinker) (host_packet_bytes caps (p.submit.id, Plain plain.Cancel)) [] ++ cancel-rows caps test h ps i)
-    ∙ ap (λ (b : Bool). cond b (host_packet_bytes caps (p.submit.id, Plain plain.Cancel)) [] ++ flat_map (host_packet_bytes caps) (map cancel (filter test ps))) (sym (h p))
-    ∙ elim (test p) as (λ b. cond b (host_packet_bytes caps (p.submit.id, Plain plain.Cancel)) [] ++ flat_map (host_packet_bytes caps) (map cancel (filter test ps)) ≡ flat_map (host_packet_bytes caps) (map cancel (cond b (p ∷ filter test ps) (filter test ps)))) [
-      | true ↦ refl
-      | false ↦ refl
-    ]
 
 -- what is kept once the client is gone, but whether it is over; so many submits are dropped that were never live
 abbrev pub left_of : Kept → Called → ℕ → Kept

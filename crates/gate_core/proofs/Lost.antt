@@ -11,31 +11,32 @@ use Rattle.usbip_urb.specs.Spelling.{spelling}
 use Rattle.redir_wire.specs.declared.packet.Caps.{Caps}
 use Rattle.unlink_race.specs.declared.live.Live.{Live}
 use Rattle.unlink_race.specs.Requests.{no_requests}
-use Rattle.gate_core.specs.declared.note.Note.{Note}
-use Rattle.gate_core.specs.declared.note.Note.TheVariants as note
+use Rattle.gate_history.specs.declared.note.Note.{Note}
+use Rattle.gate_history.specs.declared.note.Note.TheVariants as note
 use Rattle.gate_core.specs.declared.kept.Kept.{Kept}
-use Rattle.gate_core.specs.Items.{capped}
-use Rattle.gate_core.specs.Marks.{Submission, Fact, Effect, Disconnects, Ends, Refuses}
-use Rattle.gate_core.specs.Facts.{no_facts, tell}
-use Rattle.gate_core.specs.Sides.{refused_at, leaves, is_loss, closes_host, imports, refuses_client, ends_client, agrees, never, turned}
-use Rattle.gate_core.specs.Submits.{Pending, ByLoss, opened, ends, is_answered}
-use Rattle.gate_core.specs.Ids.{last_of}
-use Rattle.gate_core.specs.Ups.{no_streams, moved_streams}
-use Rattle.gate_core.specs.Packets.{asked_packets}
-use Rattle.gate_core.specs.Calls.{called, last_or, moved_fence}
-use Rattle.gate_core.specs.State.{State, submits}
-use Rattle.gate_core.specs.Verdict.{is_wire, goes_by_id}
-use Rattle.gate_core.specs.Meaning.{mark_as, drawn_by}
-use Rattle.gate_core.specs.Answers.{lost_answer}
-use Rattle.gate_core.specs.Output.{present, cancels, cancel, acknowledgements, to_client}
-use Rattle.gate_core.specs.Notes.{when, import_notes, submit_notes, unlink_notes, arrival_notes, answer_notes, is_by_answer, refusal_notes, is_by_client, dropped}
-use Rattle.gate_core.specs.All.{is_ret_submit, is_won_unlink}
-use Rattle.gate_core.specs.Bytes.{host_packet_bytes}
-use Rattle.gate_core.specs.Machine.{ask}
-use Rattle.gate_core.specs.inner.Rows.{row_of, row, unmarked, left_row, lost_packet, lost_bytes, is_asked_back}
+use Rattle.gate_history.specs.Items.{capped}
+use Rattle.gate_history.specs.Marks.{Submission, Fact, Effect, Disconnects, Ends, Refuses}
+use Rattle.gate_history.specs.Facts.{no_facts, tell}
+use Rattle.gate_history.specs.Sides.{refused_at, leaves, is_loss, closes_host, imports, refuses_client, ends_client, agrees, never, turned}
+use Rattle.gate_history.specs.Submits.{Pending, ByLoss, opened, ends, is_answered}
+use Rattle.gate_history.specs.Ids.{last_of}
+use Rattle.gate_history.specs.Ups.{no_streams, moved_streams}
+use Rattle.gate_history.specs.Packets.{asked_packets}
+use Rattle.gate_history.specs.Calls.{called, last_or, moved_fence}
+use Rattle.gate_history.specs.State.{State, submits}
+use Rattle.gate_history.specs.Verdict.{is_wire, goes_by_id}
+use Rattle.gate_history.specs.Meaning.{mark_as, drawn_by}
+use Rattle.gate_history.specs.Answers.{lost_answer}
+use Rattle.gate_history.specs.Output.{present, cancels, cancel, acknowledgements, to_client}
+use Rattle.gate_history.specs.Notes.{when, import_notes, submit_notes, unlink_notes, arrival_notes, answer_notes, is_by_answer, refusal_notes, is_by_client, dropped}
+use Rattle.gate_history.specs.All.{is_ret_submit, is_won_unlink}
+use Rattle.gate_history.specs.Bytes.{host_packet_bytes}
+use Rattle.gate_history.specs.Machine.{ask}
+use Rattle.gate_parts.specs.Rows.{row_of, row, unmarked, left_row, lost_packet, lost_bytes, is_asked_back}
 use Rattle.gate_core.specs.inner.Holds.{Holds, Does, HasLost}
-use Rattle.gate_core.proofs.Lists.{every, filter-same, filter-none}
-use Rattle.gate_core.proofs.Losses.{ends-lost, all-lost}
+use Rattle.gate_history.proofs.Lists.{every, filter-same, filter-none}
+use Rattle.gate_history.proofs.Losses.{ends-lost, all-lost}
+use Rattle.gate_history.proofs.Uncancelled.{and-false}
 
 -- ---- the answers, by the rows
 
@@ -95,10 +96,6 @@ pub record IsLoss (st : State) (e : Effect) : Type 0 where
   pub no_packets : asked_packets st.streams e ≡ []
   pub no_ids : drawn_by st e ≡ []
   pub no_notes : import_notes e ++ submit_notes e ++ unlink_notes e ++ arrival_notes e ≡ []
-
-pub and-false : (b : Bool) → (b && false) ≡ false
-and-false true = refl
-and-false false = refl
 
 pub disconnect-loses : (st : State) (id : ℕ) → IsLoss st (Disconnects id)
 disconnect-loses st id = record {

@@ -8,31 +8,31 @@ use Rattle.usbip_urb.specs.declared.client.ClientPacket.TheVariants.{Urb}
 use Rattle.usbip_urb.specs.ClientPackets.{client_spelling}
 use Rattle.redir_data.specs.declared.packet.RedirPacket.{RedirPacket}
 use Rattle.unlink_race.specs.declared.live.Live.{Live}
-use Rattle.gate_core.specs.declared.note.Note.{Note}
-use Rattle.gate_core.specs.declared.note.Note.TheVariants as note
+use Rattle.gate_history.specs.declared.note.Note.{Note}
+use Rattle.gate_history.specs.declared.note.Note.TheVariants as note
 use Rattle.gate_core.specs.declared.kept.Kept.{Kept}
-use Rattle.gate_core.specs.Items.{capped}
-use Rattle.gate_core.specs.Verdict.{Verdict}
-use Rattle.gate_core.specs.Marks.{Submission, Opens}
-use Rattle.gate_core.specs.Submits.{Pending, ByChange, at_once, is_touched, ends}
-use Rattle.gate_core.specs.Ids.{last_of}
-use Rattle.gate_core.specs.Ups.{opened_streams}
-use Rattle.gate_core.specs.Calls.{called}
-use Rattle.gate_core.specs.State.{State}
-use Rattle.gate_core.specs.Packets.{packets_of}
-use Rattle.gate_core.specs.Meaning.{mark_as, drawn_for}
-use Rattle.gate_core.specs.Sound.{IsSound}
-use Rattle.gate_core.specs.Answers.{answers_at}
-use Rattle.gate_core.specs.Output.{fresh, answered}
-use Rattle.gate_core.specs.Notes.{answer_notes, is_by_answer, is_by_client}
-use Rattle.gate_core.specs.All.{is_ret_submit, is_won_unlink}
-use Rattle.gate_core.specs.Bytes.{host_packet_bytes}
-use Rattle.gate_core.specs.inner.Rows.{row, unmarked, left_row}
+use Rattle.gate_history.specs.Items.{capped}
+use Rattle.gate_history.specs.Verdict.{Verdict}
+use Rattle.gate_history.specs.Marks.{Submission, Opens}
+use Rattle.gate_history.specs.Submits.{Pending, ByChange, at_once, is_touched, ends}
+use Rattle.gate_history.specs.Ids.{last_of}
+use Rattle.gate_history.specs.Ups.{opened_streams}
+use Rattle.gate_history.specs.Calls.{called}
+use Rattle.gate_history.specs.State.{State}
+use Rattle.gate_history.specs.Packets.{packets_of}
+use Rattle.gate_history.specs.Meaning.{mark_as, drawn_for}
+use Rattle.gate_history.specs.Sound.{IsSound}
+use Rattle.gate_history.specs.Answers.{answers_at}
+use Rattle.gate_history.specs.Output.{fresh, answered}
+use Rattle.gate_history.specs.Notes.{answer_notes, is_by_answer, is_by_client}
+use Rattle.gate_history.specs.All.{is_ret_submit, is_won_unlink}
+use Rattle.gate_history.specs.Bytes.{host_packet_bytes}
+use Rattle.gate_parts.specs.Rows.{row, unmarked, left_row}
 use Rattle.gate_core.specs.inner.Holds.{Holds, Does}
-use Rattle.gate_core.proofs.Lists.{Each, Each-weaker, filter-all}
+use Rattle.gate_history.proofs.Lists.{Each, Each-weaker, filter-all}
 use Rattle.gate_core.proofs.Lost.{capped-same}
-use Rattle.gate_core.proofs.Effects.{opening-left, opening-answered, opening-noted, opening-dropped}
-use Rattle.gate_core.proofs.Steady.{none-cancelled, stays-uncancelled}
+use Rattle.gate_history.proofs.Effects.{opening-left, opening-answered, opening-noted, opening-dropped}
+use Rattle.gate_history.proofs.Uncancelled.{none-cancelled, stays-uncancelled}
 
 other-place : (n m : ℕ) → m < n → eqb n m ≡ false
 other-place n m h = grind arith

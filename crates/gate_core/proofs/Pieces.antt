@@ -13,30 +13,28 @@ use Rattle.packet_stream.specs.Split.{Splitting, split}
 use Rattle.packet_stream.specs.Streams.{Kept, passed, after_piece, Nexts, Puts, Changes}
 use Rattle.packet_stream.specs.Items.{packets, wrongs, items, added}
 use Rattle.packet_stream.proofs.Loops.{changed_to}
-use Rattle.gate_core.specs.declared.item.Item.{Item as RawItem}
-use Rattle.gate_core.specs.declared.note.Note.{Note}
+use Rattle.gate_history.specs.declared.item.Item.{Item as RawItem}
+use Rattle.gate_history.specs.declared.note.Note.{Note}
 use Rattle.gate_core.specs.declared.kept.Kept.{Kept as Translator}
-use Rattle.gate_core.specs.Items.{Item}
-use Rattle.gate_core.specs.State.{State, state_of}
-use Rattle.gate_core.specs.Sound.{IsSound}
-use Rattle.gate_core.specs.Meaning.{mark_of}
-use Rattle.gate_core.specs.Past.{is_left_out, past}
-use Rattle.gate_core.specs.History.{onto}
-use Rattle.gate_core.specs.Wants.{takes_memory, GivesSome, Wants}
+use Rattle.gate_history.specs.Items.{Item}
+use Rattle.gate_history.specs.State.{State, state_of}
+use Rattle.gate_history.specs.Sound.{IsSound}
+use Rattle.gate_history.specs.Meaning.{mark_of}
+use Rattle.gate_history.specs.Past.{is_left_out, past}
+use Rattle.gate_history.specs.History.{onto}
+use Rattle.gate_history.specs.Wants.{takes_memory, GivesSome, Wants}
 use Rattle.gate_core.specs.Stands.{Translates, StreamStands, HasAll, IsLeftBy}
-use Rattle.gate_core.specs.inner.Holds.{items_of, Holds, IsItem, Does, DoesNothing}
+use Rattle.gate_core.specs.inner.Holds.{items_of, Holds, Does, DoesNothing}
+use Rattle.gate_history.specs.Fits.{IsItem}
 use Rattle.gate_core.specs.inner.Steps.{Sends, item_next, ended_if}
-use Rattle.gate_core.proofs.Lists.{Each, Each-append}
-use Rattle.gate_core.proofs.States.{state-sound}
+use Rattle.gate_history.proofs.Lists.{Each, Each-append}
+use Rattle.gate_history.proofs.States.{state-sound}
 use Rattle.gate_core.proofs.Taking.{Taken, over-put, taken-put, taken-packet, taken-wrong, taken-ended, taken-all, cut-passed, IsMore, IsNextBy, taken-stuck}
 use Rattle.gate_core.proofs.Translating.{sends-none, translates-past, sends-past, past-skipped, translates-item, sends-item}
 use Rattle.gate_core.proofs.Sides.{Side}
+use Rattle.gate_history.proofs.Brought.{onto-append}
 
 -- ---- lists of items
-
-pub onto-append : (xs ys zs : List Item) → onto (xs ++ ys) zs ≡ onto ys (onto xs zs)
-onto-append [] ys zs = refl
-onto-append (x ∷ xs) ys zs = onto-append xs ys (x ∷ zs)
 
 pub came-onto : {S P Q : Type 0} (first : ℕ) (d : Side S P Q first) (more : List (ℕ × P)) (xs : List Item) → d.came (onto (packets d.stream more) xs) ≡ d.came xs ++ more
 came-onto first d [] xs = sym (append-nil (d.came xs))

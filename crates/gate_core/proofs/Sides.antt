@@ -12,21 +12,23 @@ use Rattle.redir_data.specs.Streams.{after}
 use Rattle.redir_data.specs.sound.Joined.{stream_sound}
 use Rattle.usbip_urb.specs.declared.client.ClientPacket.{ClientPacket}
 use Rattle.usbip_urb.specs.Sound.ClientPackets.{client_packets_sound}
-use Rattle.gate_core.specs.declared.item.Item.{Item as RawItem}
-use Rattle.gate_core.specs.declared.item.Item.TheVariants as raw
+use Rattle.gate_history.specs.declared.item.Item.{Item as RawItem}
+use Rattle.gate_history.specs.declared.item.Item.TheVariants as raw
 use Rattle.gate_core.specs.declared.kept.Kept.{Kept as Translator}
-use Rattle.gate_core.specs.Items.{Item, ClientWrong}
-use Rattle.gate_core.specs.Marks.{Mark}
-use Rattle.gate_core.specs.Sides.{client_over, host_over}
-use Rattle.gate_core.specs.State.{state_of}
-use Rattle.gate_core.specs.Meaning.{mark_of}
-use Rattle.gate_core.specs.Past.{is_left_out, past}
-use Rattle.gate_core.specs.Streams.{client_format, client_next, host_format}
-use Rattle.gate_core.specs.Stands.{asked, told, Translates}
-use Rattle.gate_core.specs.inner.Holds.{items_of, IsItem}
+use Rattle.gate_history.specs.Items.{Item, ClientWrong}
+use Rattle.gate_history.specs.Marks.{Mark}
+use Rattle.gate_history.specs.Sides.{client_over, host_over}
+use Rattle.gate_history.specs.State.{state_of}
+use Rattle.gate_history.specs.Meaning.{mark_of}
+use Rattle.gate_history.specs.Past.{is_left_out, past}
+use Rattle.gate_history.specs.Streams.{client_format, client_next, host_format}
+use Rattle.gate_history.specs.Came.{asked, told}
+use Rattle.gate_core.specs.Stands.{Translates}
+use Rattle.gate_core.specs.inner.Holds.{items_of}
+use Rattle.gate_history.specs.Fits.{IsItem}
 use Rattle.gate_core.specs.inner.Steps.{client_stream, host_stream, raw_told}
-use Rattle.gate_core.proofs.Apart.{asked-host, wrong-host, told-client, wrong-client}
-use Rattle.gate_core.proofs.InStep.{wrong-over}
+use Rattle.gate_history.proofs.Apart.{asked-host, wrong-host, told-client, wrong-client}
+use Rattle.gate_history.proofs.InStep.{wrong-over}
 
 pub record Side (S P Q : Type 0) (first : ℕ) : Type 0 where
   pub stream : SideStream S P Reason Item

@@ -5,12 +5,12 @@ use Rattle.redir_wire.specs.declared.packet.Header.{Header}
 use Rattle.redir_data.specs.declared.packet.RedirData.{RedirData}
 use Rattle.redir_data.specs.declared.packet.RedirData.TheVariants as data_packet
 use Rattle.redir_data.specs.declared.packet.RedirPacket.TheVariants.{Carrying}
-use Rattle.gate_core.specs.Ups.{stream_of}
-use Rattle.gate_core.specs.Marks.{Effect, Idle}
-use Rattle.gate_core.specs.State.{State}
-use Rattle.gate_core.specs.Responses.{response_of}
-use Rattle.gate_core.specs.Meaning.{arrives, by_arrival, by_response, data_meaning}
-use Rattle.gate_core.specs.inner.Responses.{stream_in, packet_in}
+use Rattle.gate_history.specs.Ups.{stream_of}
+use Rattle.gate_history.specs.Marks.{Effect, Idle}
+use Rattle.gate_history.specs.State.{State}
+use Rattle.gate_history.specs.Responses.{response_of}
+use Rattle.gate_history.specs.Meaning.{arrives, by_arrival, by_response, data_meaning}
+use Rattle.gate_parts.specs.Responses.{stream_in, packet_in}
 
 -- what it means, by the stream that it comes on
 abbrev sorted : State → ℕ → Header → RedirData → Option (ℕ × Bool) → Effect

@@ -12,18 +12,19 @@ use Rattle.packet_stream.proofs.Following.{follows-holds}
 use Rattle.redir_data.specs.declared.state.RedirState.{RedirState}
 use Rattle.usbip_urb.specs.ClientPackets.{takes_memory as asked_takes_memory}
 use Rattle.redir_data.specs.Packets.{takes_memory as told_takes_memory}
-use Rattle.gate_core.specs.declared.item.Item.{Item as RawItem}
-use Rattle.gate_core.specs.declared.item.Item.TheVariants as raw
-use Rattle.gate_core.specs.declared.note.Note.{Note}
+use Rattle.gate_history.specs.declared.item.Item.{Item as RawItem}
+use Rattle.gate_history.specs.declared.item.Item.TheVariants as raw
+use Rattle.gate_history.specs.declared.note.Note.{Note}
 use Rattle.gate_core.specs.declared.inner.Inner.{Inner}
 use Rattle.gate_core.specs.declared.kept.Kept.{Kept as Translator}
-use Rattle.gate_core.specs.Events.{Event, ClientPiece, HostPiece, client_bytes, host_bytes}
-use Rattle.gate_core.specs.Sides.{client_over, host_over}
-use Rattle.gate_core.specs.Streams.{client_reader, client_start, host_reader, host_start}
-use Rattle.gate_core.specs.Past.{past}
-use Rattle.gate_core.specs.History.{brought, onto, arrivals, history}
-use Rattle.gate_core.specs.Stands.{asked, told, IsLeftBy, StreamStands, StandsFor, HasAll, Stands, Stops}
-use Rattle.gate_core.specs.Wants.{IsHeld, FirstWants}
+use Rattle.gate_history.specs.Events.{Event, ClientPiece, HostPiece, client_bytes, host_bytes}
+use Rattle.gate_history.specs.Sides.{client_over, host_over}
+use Rattle.gate_history.specs.Streams.{client_reader, client_start, host_reader, host_start}
+use Rattle.gate_history.specs.Past.{past}
+use Rattle.gate_history.specs.History.{brought, onto, arrivals, history}
+use Rattle.gate_history.specs.Came.{asked, told}
+use Rattle.gate_core.specs.Stands.{IsLeftBy, StreamStands, StandsFor, HasAll, Stands, Stops}
+use Rattle.gate_history.specs.Wants.{IsHeld, FirstWants}
 use Rattle.gate_core.specs.inner.Holds.{DoesNothing}
 use Rattle.gate_core.specs.inner.Steps.{kept_of, NextItem, raw_told, TakesOn, TakesEvent}
 use Rattle.gate_core.proofs.Taking.{follows-all, all-passed}

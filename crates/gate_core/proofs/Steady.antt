@@ -11,32 +11,32 @@ use Rattle.usbip_urb.specs.ClientPackets.{client_spelling}
 use Rattle.redir_wire.specs.declared.packet.Caps.{Caps}
 use Rattle.redir_data.specs.declared.packet.RedirPacket.{RedirPacket}
 use Rattle.unlink_race.specs.declared.live.Live.{Live}
-use Rattle.gate_core.specs.declared.note.Note.{Note}
-use Rattle.gate_core.specs.declared.note.Note.TheVariants as note
+use Rattle.gate_history.specs.declared.note.Note.{Note}
+use Rattle.gate_history.specs.declared.note.Note.TheVariants as note
 use Rattle.gate_core.specs.declared.kept.Kept.{Kept}
-use Rattle.gate_core.specs.Items.{capped}
-use Rattle.gate_core.specs.Marks.{Submission, Effect, Idle, Replies, Imports, Agrees}
-use Rattle.gate_core.specs.Facts.{no_facts, tell}
-use Rattle.gate_core.specs.Sides.{refused_at, leaves, is_loss, closes_host, imports, refuses_client, ends_client, agreed_after, turned}
-use Rattle.gate_core.specs.Submits.{Pending, End, ByClient, ByLoss, opened, own_end, ends, is_answered, asks}
-use Rattle.gate_core.specs.Sides.{or_else}
-use Rattle.gate_core.specs.Ids.{last_of}
-use Rattle.gate_core.specs.Ups.{no_streams, moved_streams}
-use Rattle.gate_core.specs.Packets.{asked_packets}
-use Rattle.gate_core.specs.Calls.{called, last_or, moved_fence}
-use Rattle.gate_core.specs.State.{State, submits}
-use Rattle.gate_core.specs.Verdict.{goes_by_id, is_wire}
-use Rattle.gate_core.specs.Meaning.{mark_as, drawn_by}
-use Rattle.gate_core.specs.Answers.{answers_at}
-use Rattle.gate_core.specs.Output.{fresh, present, replies, cancels, cancel, acknowledgements, to_client}
-use Rattle.gate_core.specs.Notes.{when, import_notes, submit_notes, unlink_notes, arrival_notes, answer_notes, is_by_answer, refusal_notes, is_by_client, dropped}
-use Rattle.gate_core.specs.All.{is_ret_submit, is_won_unlink}
-use Rattle.gate_core.specs.Bytes.{host_packet_bytes}
-use Rattle.gate_core.specs.Machine.{ask}
-use Rattle.gate_core.specs.inner.Rows.{row, unmarked, left_row}
+use Rattle.gate_history.specs.Items.{capped}
+use Rattle.gate_history.specs.Marks.{Submission, Effect, Idle, Replies, Imports, Agrees}
+use Rattle.gate_history.specs.Facts.{no_facts, tell}
+use Rattle.gate_history.specs.Sides.{refused_at, leaves, is_loss, closes_host, imports, refuses_client, ends_client, agreed_after, turned}
+use Rattle.gate_history.specs.Submits.{Pending, End, ByClient, ByLoss, opened, own_end, ends, is_answered, asks}
+use Rattle.gate_history.specs.Ids.{last_of}
+use Rattle.gate_history.specs.Ups.{no_streams, moved_streams}
+use Rattle.gate_history.specs.Packets.{asked_packets}
+use Rattle.gate_history.specs.Calls.{called, last_or, moved_fence}
+use Rattle.gate_history.specs.State.{State, submits}
+use Rattle.gate_history.specs.Verdict.{goes_by_id}
+use Rattle.gate_history.specs.Meaning.{mark_as, drawn_by}
+use Rattle.gate_history.specs.Answers.{answers_at}
+use Rattle.gate_history.specs.Output.{fresh, present, replies, cancels, cancel, acknowledgements, to_client}
+use Rattle.gate_history.specs.Notes.{when, import_notes, submit_notes, unlink_notes, arrival_notes, answer_notes, is_by_answer, refusal_notes, is_by_client, dropped}
+use Rattle.gate_history.specs.All.{is_ret_submit, is_won_unlink}
+use Rattle.gate_history.specs.Bytes.{host_packet_bytes}
+use Rattle.gate_history.specs.Machine.{ask}
+use Rattle.gate_parts.specs.Rows.{row, unmarked, left_row}
 use Rattle.gate_core.specs.inner.Holds.{Holds, Does}
-use Rattle.gate_core.proofs.Lists.{Each, every, Each-weaker, filter-same, filter-none, filter-all, flat_map-same, flat_map-none}
-use Rattle.gate_core.proofs.Lost.{capped-same, and-false}
+use Rattle.gate_history.proofs.Lists.{Each, every, Each-weaker, filter-same, filter-none, filter-all, flat_map-same, flat_map-none}
+use Rattle.gate_core.proofs.Lost.{capped-same}
+use Rattle.gate_history.proofs.Uncancelled.{asks-none, none-cancelled, stays-uncancelled}
 
 pub record IsSteady (st : State) (e : Effect) : Type 0 where
   pub stays : leaves e ≡ false
@@ -134,16 +134,6 @@ module _ (st : State) (e : Effect) (l : IsSteady st e) where
       told : List Note
       told = import_notes e ++ submit_notes e ++ unlink_notes e ++ arrival_notes e
 
--- ---- where none is asked back
-
-pub or_else-none : (by : Option ℕ) → or_else by None ≡ by
-or_else-none None = refl
-or_else-none (Some n) = refl
-
-pub asks-none : (e : Effect) → ((s : Submission) → asks e s ≡ None) → (ps : List Pending) → map (ask e) ps ≡ ps
-asks-none e h [] = refl
-asks-none e h (p ∷ ps) = λ i. record { submit = p.submit; unlinker = (ap (or_else p.unlinker) (h p.submit) ∙ or_else-none p.unlinker) i } ∷ asks-none e h ps i
-
 -- ---- such effects, with which nobody is cancelled
 
 pub idle-steady : (st : State) → IsSteady st Idle
@@ -217,13 +207,6 @@ agrees-steady st caps = record {
   no_answer = refl;
   none_won = refl;
 }
-
--- nobody is cancelled where the client stays
-pub none-cancelled : (e : Effect) → ((p : Pending) → cancels e p ≡ false) → (ps : List Pending) → map cancel (filter (cancels e) ps) ≡ []
-none-cancelled e h ps = ap (map cancel) (filter-same (cancels e) (λ p. false) ps (every (λ p. cancels e p ≡ false) h ps) ∙ filter-none ps)
-
-pub stays-uncancelled : (p : Pending) → ((is_wire p.submit.verdict && is_none p.unlinker) && false) ≡ false
-stays-uncancelled p = and-false (is_wire p.submit.verdict && is_none p.unlinker)
 
 pub rows-same : (e : Effect) (rows : List Live) (ps : List Pending) → ((s : Submission) → asks e s ≡ None) → rows ≡ map row ps → rows ≡ map row (map (ask e) ps)
 rows-same e rows ps h is = is ∙ ap (map row) (sym (asks-none e h ps))

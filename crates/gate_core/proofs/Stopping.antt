@@ -6,17 +6,17 @@ use Rattle.std.proofs.lemmas.List.{append-nil, take_more}
 use Rattle.std.proofs.lemmas.Grind.{flat_map-append}
 use Rattle.redir_data.specs.declared.packet.RedirPacket.{RedirPacket}
 use Rattle.gate_core.specs.declared.kept.Kept.{Kept}
-use Rattle.gate_core.specs.Ups.{Up}
-use Rattle.gate_core.specs.declared.calls.Called.{Called}
-use Rattle.gate_core.specs.Ids.{greatest, last_of}
-use Rattle.gate_core.specs.Flight.{wide_ids}
-use Rattle.gate_core.specs.Calls.{called, last_or}
-use Rattle.gate_core.specs.Packets.{stop_of, stops}
-use Rattle.gate_core.specs.Bytes.{host_packet_bytes}
-use Rattle.gate_core.specs.inner.Holds.{Extends}
+use Rattle.gate_history.specs.Ups.{Up}
+use Rattle.gate_parts.specs.declared.calls.Called.{Called}
+use Rattle.gate_history.specs.Ids.{greatest, last_of}
+use Rattle.gate_history.specs.Flight.{wide_ids}
+use Rattle.gate_history.specs.Calls.{called, last_or}
+use Rattle.gate_history.specs.Packets.{stop_of, stops}
+use Rattle.gate_history.specs.Bytes.{host_packet_bytes}
+use Rattle.gate_parts.specs.Extends.{Extends}
 use Rattle.gate_core.specs.inner.Calling.{flying_in, ids_after, with_ids, after_stops, bytes_of}
-use Rattle.gate_core.proofs.Lists.{Each}
-use Rattle.gate_core.proofs.Called.{IsSilent, draws-append, zip-append, last-append, last_or-append, called-append, called-silent}
+use Rattle.gate_history.proofs.Lists.{Each}
+use Rattle.gate_history.proofs.Called.{IsSilent, draws-append, zip-append, last-append, last_or-append, called-append, called-silent}
 
 module _ (t : Kept) where
   pub last-more : (last : ℕ) (ps qs : List RedirPacket) →

@@ -9,26 +9,27 @@ use Rattle.usbip_urb.specs.declared.packet.UrbPacket.{UrbPacket}
 use Rattle.usbip_urb.specs.declared.client.ClientPacket.TheVariants.{Urb}
 use Rattle.stream_buffers.specs.Interrupt.{is_success}
 use Rattle.unlink_race.specs.declared.live.Live.{Live}
-use Rattle.gate_core.specs.declared.note.Note.{Note}
+use Rattle.gate_history.specs.declared.note.Note.{Note}
 use Rattle.gate_core.specs.declared.kept.Kept.{Kept}
-use Rattle.gate_core.specs.Items.{capped}
-use Rattle.gate_core.specs.Marks.{Effect, StreamTold}
-use Rattle.gate_core.specs.Submits.{Pending, ByStatus, ends, waits_at}
-use Rattle.gate_core.specs.Ups.{lower_at}
-use Rattle.gate_core.specs.Calls.{lifted}
-use Rattle.gate_core.specs.State.{State}
-use Rattle.gate_core.specs.Meaning.{mark_as}
-use Rattle.gate_core.specs.Sound.{IsSound}
-use Rattle.gate_core.specs.Answers.{without_packets}
-use Rattle.gate_core.specs.Output.{to_client}
-use Rattle.gate_core.specs.All.{is_ret_submit, is_won_unlink}
-use Rattle.gate_core.specs.Wants.{GivesSome}
-use Rattle.gate_core.specs.inner.Rows.{row, row_request}
+use Rattle.gate_history.specs.Items.{capped}
+use Rattle.gate_history.specs.Marks.{Effect, StreamTold}
+use Rattle.gate_history.specs.Submits.{Pending, ByStatus, ends, waits_at}
+use Rattle.gate_history.specs.Ups.{lower_at}
+use Rattle.gate_history.specs.Calls.{lifted}
+use Rattle.gate_history.specs.State.{State}
+use Rattle.gate_history.specs.Meaning.{mark_as}
+use Rattle.gate_history.specs.Sound.{IsSound}
+use Rattle.gate_history.specs.Answers.{without_packets}
+use Rattle.gate_history.specs.Output.{to_client}
+use Rattle.gate_history.specs.All.{is_ret_submit, is_won_unlink}
+use Rattle.gate_history.specs.Wants.{GivesSome}
+use Rattle.gate_parts.specs.Rows.{row, row_request}
 use Rattle.gate_core.specs.inner.Ending.{is_told, status_bytes, HasStreamEnd}
 use Rattle.gate_core.specs.inner.Holds.{Holds, Does}
-use Rattle.gate_core.proofs.Lists.{Each, Each-weaker, filter-all}
+use Rattle.gate_history.proofs.Lists.{Each, Each-weaker, filter-all}
 use Rattle.gate_core.proofs.Lost.{capped-same}
-use Rattle.gate_core.proofs.Steady.{asks-none, host-same, stays-uncancelled}
+use Rattle.gate_history.proofs.Uncancelled.{asks-none, stays-uncancelled}
+use Rattle.gate_core.proofs.Steady.{host-same}
 use Rattle.gate_core.proofs.Waiting.{IsGoing, all-going, waits-row}
 use Rattle.gate_core.proofs.Enders.{EndsSo, ends-so, ended_packets, stay-rows, counted-all, counted-none, IsEnding, does-ending}
 use Rattle.gate_core.proofs.Giving.{by-client}

@@ -5,22 +5,23 @@ use Rattle.std.proofs.lemmas.List.{append-nil, length-append}
 use Rattle.std.proofs.lemmas.List.Elements.{filter-append}
 use Rattle.packet_stream.proofs.Following.{capped-past}
 use Rattle.redir_wire.specs.Capability.{no_caps}
-use Rattle.gate_core.specs.declared.note.Note.{Note}
+use Rattle.gate_history.specs.declared.note.Note.{Note}
 use Rattle.gate_core.specs.declared.kept.Kept.{Kept as Translator}
-use Rattle.gate_core.specs.Items.{Item, capped}
-use Rattle.gate_core.specs.Marks.{Mark}
-use Rattle.gate_core.specs.State.{State, state_of}
-use Rattle.gate_core.specs.Meaning.{mark_of}
-use Rattle.gate_core.specs.Past.{is_left_out, past}
-use Rattle.gate_core.specs.Output.{to_client}
-use Rattle.gate_core.specs.Notes.{notes_of, dropped}
-use Rattle.gate_core.specs.All.{all_of, is_ret_submit, is_won_unlink}
-use Rattle.gate_core.specs.Bytes.{host_packet_bytes, gateway_hello, client_bytes_of, host_bytes_of, out_client, out_host}
-use Rattle.gate_core.specs.Machine.{after, step}
-use Rattle.gate_core.specs.Stands.{Translates, Gains}
+use Rattle.gate_history.specs.Items.{Item, capped}
+use Rattle.gate_history.specs.Marks.{Mark}
+use Rattle.gate_history.specs.State.{State, state_of}
+use Rattle.gate_history.specs.Meaning.{mark_of}
+use Rattle.gate_history.specs.Past.{is_left_out, past}
+use Rattle.gate_history.specs.Output.{to_client}
+use Rattle.gate_history.specs.Notes.{notes_of, dropped}
+use Rattle.gate_history.specs.All.{all_of, is_ret_submit, is_won_unlink}
+use Rattle.gate_history.specs.Bytes.{host_packet_bytes, gateway_hello, client_bytes_of, host_bytes_of, out_client, out_host}
+use Rattle.gate_history.specs.Machine.{after, step}
+use Rattle.gate_core.specs.Stands.{Translates}
+use Rattle.gate_history.specs.Headline.{Gains}
 use Rattle.gate_core.specs.inner.Holds.{items_of, Holds, Does}
 use Rattle.gate_core.specs.inner.Steps.{Sends}
-use Rattle.gate_core.proofs.Runs.{state-run}
+use Rattle.gate_history.proofs.Runs.{state-run}
 
 -- ---- gains
 

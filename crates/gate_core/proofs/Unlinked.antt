@@ -16,14 +16,14 @@ use Rattle.unlink_race.specs.Firsts.{without_first, change_first}
 use Rattle.unlink_race.specs.Unlinking.{unlinked_by, left_by, left_live}
 use Rattle.gate_core.specs.declared.unlink.Asked.{Asked}
 use Rattle.gate_core.specs.declared.unlink.Asked.TheVariants.{Late, Cancel, Waits, Taken}
-use Rattle.gate_core.specs.Sides.{or_else}
-use Rattle.gate_core.specs.Bytes.{host_packet_bytes}
-use Rattle.gate_core.specs.inner.Rows.{is_wire_row}
-use Rattle.gate_core.proofs.Lists.{Each}
-use Rattle.gate_core.proofs.Steady.{or_else-none}
+use Rattle.gate_history.specs.Sides.{or_else}
+use Rattle.gate_history.specs.Bytes.{host_packet_bytes}
+use Rattle.gate_parts.specs.Rows.{is_wire_row}
+use Rattle.gate_history.proofs.Lists.{Each}
+use Rattle.gate_history.proofs.Uncancelled.{or_else-none}
 use Rattle.usbip_urb.specs.Spelling.{spelling}
-use Rattle.gate_core.specs.Errno.{econnreset}
-use Rattle.gate_core.specs.Answers.{ret_unlink}
+use Rattle.gate_history.specs.Errno.{econnreset}
+use Rattle.gate_history.specs.Answers.{ret_unlink}
 use Rattle.gate_core.specs.inner.Unlinked.{asked_kind, asked_of, asked_row, is_target_row, is_taken_row, cancel_row, asked_rows, left_told, is_late, is_kept, taken_count, taken_bytes, told_bytes}
 
 module _ (caps : Caps) (target by : ℕ) where

@@ -12,29 +12,29 @@ use Rattle.redir_wire.specs.declared.packet.RedirControl.TheVariants as plain
 use Rattle.redir_data.specs.declared.packet.RedirPacket.TheVariants.{Plain}
 use Rattle.unlink_race.specs.declared.live.Live.{Live}
 use Rattle.unlink_race.specs.Searches.{has_number}
-use Rattle.gate_core.specs.declared.note.Note.{Note}
-use Rattle.gate_core.specs.declared.note.Note.TheVariants as note
+use Rattle.gate_history.specs.declared.note.Note.{Note}
+use Rattle.gate_history.specs.declared.note.Note.TheVariants as note
 use Rattle.gate_core.specs.declared.kept.Kept.{Kept}
 use Rattle.gate_core.specs.declared.unlink.Asked.{Asked}
-use Rattle.gate_core.specs.Sides.{or_else}
-use Rattle.gate_core.specs.Items.{capped}
-use Rattle.gate_core.specs.Errno.{econnreset}
-use Rattle.gate_core.specs.Marks.{Effect, Unlinks}
-use Rattle.gate_core.specs.Submits.{Pending, ByUnlink, is_waiting, ends}
+use Rattle.gate_history.specs.Sides.{or_else}
+use Rattle.gate_history.specs.Items.{capped}
+use Rattle.gate_history.specs.Errno.{econnreset}
+use Rattle.gate_history.specs.Marks.{Effect, Unlinks}
+use Rattle.gate_history.specs.Submits.{Pending, ByUnlink, is_waiting, ends}
 use Rattle.usbip_urb.specs.declared.packet.UrbPacket.{UrbPacket}
-use Rattle.gate_core.specs.State.{State, is_number, submits}
-use Rattle.gate_core.specs.Meaning.{mark_as}
-use Rattle.gate_core.specs.Sound.{IsSound}
-use Rattle.gate_core.specs.Answers.{ret_unlink}
-use Rattle.gate_core.specs.Output.{is_target, is_taken, cancels, cancel}
-use Rattle.gate_core.specs.All.{is_ret_submit, is_won_unlink}
-use Rattle.gate_core.specs.Bytes.{host_packet_bytes}
-use Rattle.gate_core.specs.Machine.{ask}
-use Rattle.gate_core.specs.inner.Rows.{row, row_of}
+use Rattle.gate_history.specs.State.{State, is_number, submits}
+use Rattle.gate_history.specs.Meaning.{mark_as}
+use Rattle.gate_history.specs.Sound.{IsSound}
+use Rattle.gate_history.specs.Answers.{ret_unlink}
+use Rattle.gate_history.specs.Output.{is_target, is_taken, cancels, cancel}
+use Rattle.gate_history.specs.All.{is_ret_submit, is_won_unlink}
+use Rattle.gate_history.specs.Bytes.{host_packet_bytes}
+use Rattle.gate_history.specs.Machine.{ask}
+use Rattle.gate_parts.specs.Rows.{row, row_of}
 use Rattle.gate_core.specs.inner.Unlinked.{asked_row, is_taken_row, cancel_row, asked_rows, left_told, is_late, taken_count, taken_bytes, told_bytes}
 use Rattle.gate_core.specs.inner.Holds.{Holds, Does}
-use Rattle.gate_core.proofs.Lists.{Each, Each-weaker, filter-map}
-use Rattle.gate_core.proofs.Left.{wire-row, by_id-row}
+use Rattle.gate_history.proofs.Lists.{Each, Each-weaker, filter-map}
+use Rattle.gate_parts.proofs.Rows.{wire-row, by_id-row}
 use Rattle.gate_core.proofs.Lost.{capped-same}
 use Rattle.gate_core.proofs.Waiting.{IsGoing, all-going, stream-row}
 use Rattle.gate_core.proofs.Enders.{EndsSo, ends-so, stay-rows, counted-all, counted-none, IsEnding, does-ending}

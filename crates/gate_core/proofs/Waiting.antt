@@ -3,13 +3,13 @@ use Rattle.std.proofs.Common.{◌≡◌, ℕ, ◌==◌, ◌&&◌, List, [], ◌�
 use Rattle.std.specs.Prelude.{filter}
 use Rattle.control_route.specs.declared.route.Route.{Route}
 use Rattle.unlink_race.specs.Searches.{is_stream, waits_at as kind_waits_at, is_touched_by, waits_for, touched_by}
-use Rattle.gate_core.specs.Verdict.{Verdict, Now, Wire, Routed, IsoOut, Stream}
-use Rattle.gate_core.specs.Marks.{Submission}
-use Rattle.gate_core.specs.Submits.{Pending, at_once, is_waiting, waits_at, touches_stream}
-use Rattle.gate_core.specs.State.{State}
-use Rattle.gate_core.specs.Sound.{IsSound}
-use Rattle.gate_core.specs.inner.Rows.{kind_of, row}
-use Rattle.gate_core.proofs.Lists.{Each, Each-weaker, filter-same, filter-map}
+use Rattle.gate_history.specs.Verdict.{Verdict, Now, Wire, Routed, IsoOut, Stream}
+use Rattle.gate_history.specs.Marks.{Submission}
+use Rattle.gate_history.specs.Submits.{Pending, at_once, is_waiting, waits_at, touches_stream}
+use Rattle.gate_history.specs.State.{State}
+use Rattle.gate_history.specs.Sound.{IsSound}
+use Rattle.gate_parts.specs.Rows.{kind_of, row}
+use Rattle.gate_history.proofs.Lists.{Each, Each-weaker, filter-same, filter-map}
 
 -- it wasn't answered where it was accepted
 abbrev pub IsGoing : Pending → Type 0

@@ -4,9 +4,9 @@ use Rattle.packet_stream.specs.Streams.{Kept}
 use Rattle.redir_wire.specs.declared.packet.Caps.{Caps}
 use Rattle.redir_data.specs.declared.state.RedirState.{RedirState}
 use Rattle.unlink_race.specs.declared.live.Live.{Live}
-use Rattle.gate_core.specs.declared.facts.Facts.{Facts}
-use Rattle.gate_core.specs.Ups.{Up}
-use Rattle.gate_core.specs.Calls.{Calls}
+use Rattle.gate_history.specs.declared.facts.Facts.{Facts}
+use Rattle.gate_history.specs.Ups.{Up}
+use Rattle.gate_history.specs.Calls.{Calls}
 
 -- of the items that have come
 pub record ItemsKept : Type 0 where

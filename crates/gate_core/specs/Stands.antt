@@ -2,51 +2,29 @@
 use Rattle.std.specs.Prelude.{◌≡◌, ◌⊎◌, ◌++◌, ◌∷◌, [], ℕ, Bool, true, false, List, length, map, filter}
 use Rattle.usb_base.specs.Number.{AreBytes}
 use Rattle.usb_base.specs.declared.reason.Reason.{Reason}
-use Rattle.usbip_urb.specs.declared.client.ClientPacket.{ClientPacket}
-use Rattle.redir_wire.specs.declared.packet.Header.{Header}
-use Rattle.redir_data.specs.declared.packet.RedirPacket.{RedirPacket}
 use Rattle.packet_stream.specs.Split.{Reader, Position, Splitting, split}
 use Rattle.packet_stream.specs.Streams.{Kept, Drained, Closed, Holds as IsLeft}
-use Rattle.gate_core.specs.declared.note.Note.{Note}
-use Rattle.gate_core.specs.Events.{Event, client_bytes, host_bytes}
-use Rattle.gate_core.specs.Streams.{client_reader, client_start, host_reader, host_start}
-use Rattle.gate_core.specs.Items.{Item, Asked, ClientWrong, ClientLeft, Told, HostWrong, HostLeft, capped}
-use Rattle.gate_core.specs.Sides.{client_over, host_over}
-use Rattle.gate_core.specs.State.{State, state_of}
-use Rattle.gate_core.specs.Past.{past}
-use Rattle.gate_core.specs.History.{brought, onto, arrivals, history}
-use Rattle.gate_core.specs.Output.{to_client}
-use Rattle.gate_core.specs.Notes.{notes_of, dropped}
-use Rattle.gate_core.specs.All.{all_of, is_ret_submit, is_won_unlink}
-use Rattle.gate_core.specs.Bytes.{out_client, out_host}
+use Rattle.gate_history.specs.declared.note.Note.{Note}
+use Rattle.gate_history.specs.Events.{Event, client_bytes, host_bytes}
+use Rattle.gate_history.specs.Streams.{client_reader, client_start, host_reader, host_start}
+use Rattle.gate_history.specs.Items.{Item, capped}
+use Rattle.gate_history.specs.Sides.{client_over, host_over}
+use Rattle.gate_history.specs.State.{State, state_of}
+use Rattle.gate_history.specs.Past.{past}
+use Rattle.gate_history.specs.History.{brought, onto, arrivals, history}
+use Rattle.gate_history.specs.Output.{to_client}
+use Rattle.gate_history.specs.Notes.{dropped}
+use Rattle.gate_history.specs.All.{all_of, is_ret_submit, is_won_unlink}
+use Rattle.gate_history.specs.Bytes.{out_client, out_host}
 use Rattle.gate_core.specs.Kept.{ItemsKept, GateKept}
-use Rattle.gate_core.specs.Rows.{row, left_row, unmarked}
-use Rattle.gate_core.specs.Wants.{IsHeld, FirstWants}
+use Rattle.gate_parts.specs.Rows.{row, left_row, unmarked}
+use Rattle.gate_history.specs.Wants.{IsHeld, FirstWants}
+use Rattle.gate_history.specs.Came.{asked, told}
+use Rattle.gate_history.specs.Headline.{client_output, host_output, notes as told_notes, Gains}
 
 -- it met want of memory: from then on it does nothing
 abbrev pub HasFailed : GateKept → Type 0
 HasFailed g = g.failed ≡ true
-
--- ---- the packets that came, with their places
-
--- of the present client
-abbrev pub asked : List Item → List (ℕ × ClientPacket)
-asked [] = []
-asked (Asked place packet ∷ xs) = asked xs ++ (place, packet) ∷ []
-asked (ClientWrong place reason ∷ xs) = asked xs
-asked (ClientLeft ∷ xs) = []
-asked (Told place header packet ∷ xs) = asked xs
-asked (HostWrong place reason ∷ xs) = asked xs
-asked (HostLeft ∷ xs) = asked xs
-
-abbrev pub told : List Item → List (ℕ × (Header × RedirPacket))
-told [] = []
-told (Asked place packet ∷ xs) = told xs
-told (ClientWrong place reason ∷ xs) = told xs
-told (ClientLeft ∷ xs) = told xs
-told (Told place header packet ∷ xs) = told xs ++ (place, (header, packet)) ∷ []
-told (HostWrong place reason ∷ xs) = told xs
-told (HostLeft ∷ xs) = told xs
 
 -- ---- items
 
@@ -118,17 +96,11 @@ IsReady g = g.failed ≡ false → HasPast g
 
 -- ---- one event more
 
--- the one list has gained what the other has
-pub record Gains {A : Type 0} (old new before after : List A) : Type 0 where
-  pub more : List A
-  pub new-is : new ≡ old ++ more
-  pub after-is : after ≡ before ++ more
-
 pub record Takes (first : ℕ) (new : GateKept) (events : List Event) (e : Event) (client_old client_new host_old host_new : List ℕ) (notes : List Note) : Type 0 where
   pub stands : Stands first new (e ∷ events)
-  pub client : Gains client_old client_new (out_client first (history first events)) (out_client first (history first (e ∷ events)))
-  pub host : Gains host_old host_new (out_host first (history first events)) (out_host first (history first (e ∷ events)))
-  pub told : all_of notes_of first (history first (e ∷ events)) ≡ all_of notes_of first (history first events) ++ notes
+  pub client : Gains client_old client_new (client_output first events) (client_output first (e ∷ events))
+  pub host : Gains host_old host_new (host_output first events) (host_output first (e ∷ events))
+  pub told : told_notes first (e ∷ events) ≡ told_notes first events ++ notes
 
 -- memory ran out within an event: the first of its items were taken, what they send was sent, and the gate stands for
 -- them; or not even its bytes have come

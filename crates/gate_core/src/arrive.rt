@@ -1,19 +1,20 @@
 //! The packets of receiving streams: they are held, and fill the requests that wait for them.
 
 ghost use Rattle.std.specs.Prelude.{◌≡◌, ◌++◌, ◌∷◌, [], ℕ, List, OnOk, OnErr, if◌then◌else◌, not, ◌&&◌};
-ghost use Rattle.gate_core.specs.declared.note.Note.TheVariants.{Arrived};
-ghost use Rattle.gate_core.specs.Ups.{stream_of};
-ghost use Rattle.gate_core.specs.Meaning.{mark_as, arrives};
-ghost use Rattle.gate_core.specs.State.{State};
-ghost use Rattle.gate_core.specs.Sound.{IsSound};
-ghost use Rattle.gate_core.specs.Wants.{GivesSome};
-ghost use Rattle.gate_core.specs.inner.Filling.{up_fill, up_bytes, filled_notes, HasEnded, HasReceived, received_bytes, received_notes};
-ghost use Rattle.gate_core.specs.inner.Holds.{IsKept, Holds, Does, Leaves, Extends};
+ghost use Rattle.gate_history.specs.declared.note.Note.TheVariants.{Arrived};
+ghost use Rattle.gate_history.specs.Ups.{stream_of};
+ghost use Rattle.gate_history.specs.Meaning.{mark_as, arrives};
+ghost use Rattle.gate_history.specs.State.{State};
+ghost use Rattle.gate_history.specs.Sound.{IsSound};
+ghost use Rattle.gate_history.specs.Wants.{GivesSome};
+ghost use Rattle.gate_parts.specs.Filling.{up_fill, up_bytes, filled_notes};
+ghost use Rattle.gate_core.specs.inner.Filling.{HasEnded, HasReceived, received_bytes, received_notes};
+ghost use Rattle.gate_core.specs.inner.Holds.{IsKept, Holds, Does, Leaves};
+ghost use Rattle.gate_parts.specs.Extends.{Extends};
 
-use crate::fill::{finish_fronts, write_fillings};
 use crate::kept::Kept;
-use crate::note::{Note, Notes};
-use crate::streams::Up;
+use gate_history::{Note, Notes};
+use gate_parts::{Up, finish_fronts, write_fillings};
 use usb_base::{Bytes, EpAddr, Memory, StreamPacket};
 
 impl Kept {

@@ -3,18 +3,17 @@
 ghost use Rattle.std.specs.Prelude.{◌≡◌, ℕ, List, IfSome, [], None, false, OnOk, OnErr};
 ghost use Rattle.usbip_op.specs.declared.packet.OpPacket.TheVariants.{ReqDevlist, ReqImport};
 ghost use Rattle.usbip_op.specs.Ranges.{IsWritable};
-ghost use Rattle.gate_core.specs.declared.note.Note.{Note as Told};
-ghost use Rattle.gate_core.specs.Items.{capped};
-ghost use Rattle.gate_core.specs.Marks.{Replies, Imports};
-ghost use Rattle.gate_core.specs.State.{State};
-ghost use Rattle.gate_core.specs.Replies.{list_reply as list_of, import_reply as import_of};
-ghost use Rattle.gate_core.specs.Meaning.{mark_as, op_meaning, importable as importable_in, import_meaning};
+ghost use Rattle.gate_history.specs.declared.note.Note.{Note as Told};
+ghost use Rattle.gate_history.specs.Items.{capped};
+ghost use Rattle.gate_history.specs.Marks.{Replies, Imports};
+ghost use Rattle.gate_history.specs.State.{State};
+ghost use Rattle.gate_history.specs.Replies.{list_reply as list_of, import_reply as import_of};
+ghost use Rattle.gate_history.specs.Meaning.{mark_as, op_meaning, importable as importable_in, import_meaning};
 ghost use Rattle.gate_core.specs.inner.Holds.{IsKept, Holds, Does, Leaves};
 
-use crate::end::client_refusal;
 use crate::kept::Kept;
-use crate::note::{Note, Notes};
-use crate::reply::{failed_import, import_reply, is_exported, list_reply};
+use gate_history::{Note, Notes};
+use gate_parts::{client_refusal, failed_import, import_reply, is_exported, list_reply};
 use redir_wire::Connect;
 use usb_base::{Bytes, Memory, Reason};
 use usbip_op::{OpPacket, write_op};

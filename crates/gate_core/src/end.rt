@@ -5,30 +5,23 @@ ghost use Rattle.std.specs.List.{flat_map};
 ghost use Rattle.usb_base.specs.declared.side.Side.TheVariants.{Client, Host};
 ghost use Rattle.redir_wire.specs.Header.{IdFits};
 ghost use Rattle.unlink_race.specs.Searches.{goes_by_id};
-ghost use Rattle.gate_core.specs.Flight.{wide_ids};
-ghost use Rattle.gate_core.specs.declared.note.Note.TheVariants.{DeviceGone, ClientGone};
-ghost use Rattle.gate_core.specs.Items.{capped};
-ghost use Rattle.gate_core.specs.Marks.{Disconnects, Ends, Refuses};
-ghost use Rattle.gate_core.specs.Sides.{refusal};
-ghost use Rattle.gate_core.specs.Ups.{no_streams};
-ghost use Rattle.gate_core.specs.Output.{acknowledgements};
-ghost use Rattle.gate_core.specs.Bytes.{host_packet_bytes};
-ghost use Rattle.gate_core.specs.State.{State};
-ghost use Rattle.gate_core.specs.Meaning.{mark_as};
-ghost use Rattle.gate_core.specs.Notes.{when};
-ghost use Rattle.gate_core.specs.Wants.{GivesSome};
-ghost use Rattle.gate_core.specs.inner.Holds.{IsKept, Holds, Does, Leaves, Extends, HasLost, HasLeft};
-ghost use Rattle.gate_core.specs.inner.Rows.{lost_bytes, cancel_bytes, is_asked_back, is_cancelled_row};
+ghost use Rattle.gate_history.specs.Flight.{wide_ids};
+ghost use Rattle.gate_history.specs.declared.note.Note.TheVariants.{DeviceGone, ClientGone};
+ghost use Rattle.gate_history.specs.Marks.{Disconnects, Ends, Refuses};
+ghost use Rattle.gate_history.specs.Sides.{refusal};
+ghost use Rattle.gate_history.specs.Ups.{no_streams};
+ghost use Rattle.gate_history.specs.State.{State};
+ghost use Rattle.gate_history.specs.Meaning.{mark_as};
+ghost use Rattle.gate_history.specs.Notes.{when};
+ghost use Rattle.gate_history.specs.Wants.{GivesSome};
+ghost use Rattle.gate_core.specs.inner.Holds.{IsKept, Holds, Does, Leaves, HasLost, HasLeft};
+ghost use Rattle.gate_parts.specs.Extends.{Extends};
+ghost use Rattle.gate_parts.specs.Rows.{lost_bytes, cancel_bytes, is_asked_back, is_cancelled_row};
 
-use crate::ask::{write_cancel, write_disconnect_ack};
-use crate::calls::Called;
-use crate::facts::Facts;
-use crate::finish::write_lost;
 use crate::kept::Kept;
-use crate::note::{Note, Notes};
-use redir_wire::{Caps, DISCONNECT_ACK};
-use unlink_race::{Live, LiveKind};
-use usb_base::{Bytes, Memory, Reason, Refusal, Side};
+use gate_history::{Facts, Note, Notes};
+use gate_parts::{Called, acknowledge, write_cancel_of, write_lost};
+use usb_base::{Bytes, Memory, Refusal};
 
 impl Kept {
     /// Appends the answers of all requests in flight, whose device is lost. It gives the number of those that were asked
@@ -237,44 +230,5 @@ impl Kept {
         self.calls = called.calls;
         self.fence = called.fence;
         self.last = called.last;
-    }
-}
-
-// Appends the cancel of a transfer on the wire, and nothing for any other request.
-fn write_cancel_of(live: &Live, caps: Caps, to_host: &mut Bytes) -> Result<(), Memory>
-    requires { IdFits (wide_ids caps) live.now.id }
-    ensures ok { OnOk result (to_host.new ≡ to_host.old ++ cancel_bytes caps live.now) }
-    ensures err { OnErr result (to_host.new ≡ to_host.old) }
-    ensures wants { OnErr result (is_cancelled_row live.now ≡ true) }
-{
-    match (live.kind, live.unlinker) {
-        (LiveKind::Wire { .. }, None) => write_cancel(live.id, caps, to_host),
-        _ => Ok(()),
-    }
-}
-
-// A disconnect is acknowledged where that is agreed.
-fn acknowledge(id: u64, caps: Caps, to_host: &mut Bytes) -> Result<(), Memory>
-    requires { IdFits (wide_ids caps) id }
-    ensures ok { OnOk result (to_host.new ≡ to_host.old ++ flat_map (host_packet_bytes caps) (acknowledgements caps (Disconnects id))) }
-    ensures err { OnErr result (to_host.new ≡ to_host.old) }
-    ensures wants { OnErr result (0 < length (acknowledgements caps (Disconnects id))) }
-{
-    if caps.has(DISCONNECT_ACK) {
-        write_disconnect_ack(id, caps, to_host)?;
-    }
-    Ok(())
-}
-
-/// A client is refused at this place of its stream.
-pub fn client_refusal(place: u64, reason: Reason) -> Refusal
-    ensures value { (at : ℕ) → place ≡ capped at → result ≡ refusal Client at reason }
-    ensures side { result.side ≡ Client }
-{
-    Refusal {
-        side: Side::Client,
-        place,
-        reason,
-        kept: None,
     }
 }

@@ -1,18 +1,17 @@
 //! The gate: it translates between USB/IP clients, one after another, and a usbredir host.
 
 ghost use Rattle.std.specs.Prelude.{◌≡◌, ◌+◌, ◌++◌, ◌≤◌, [], List, length, ℕ, OnOk, OnErr, IfOk, IsErr};
-ghost use Rattle.gate_core.specs.Events.{Event as PastEvent, event_of};
-ghost use Rattle.gate_core.specs.Items.{Item as PastItem};
-ghost use Rattle.gate_core.specs.Past.{past};
-ghost use Rattle.gate_core.specs.History.{history, rest_length};
-ghost use Rattle.gate_core.specs.All.{counts_of};
-ghost use Rattle.gate_core.specs.Bytes.{out_host};
+ghost use Rattle.gate_history.specs.Events.{Event as PastEvent, event_of};
+ghost use Rattle.gate_history.specs.Items.{Item as PastItem};
+ghost use Rattle.gate_history.specs.Past.{past};
+ghost use Rattle.gate_history.specs.History.{history, rest_length};
+ghost use Rattle.gate_history.specs.All.{counts_of};
+ghost use Rattle.gate_history.specs.Bytes.{out_host};
 ghost use Rattle.gate_core.specs.Stands.{Stands, StandsFor, Takes, Stops, HasFailed};
 
-use crate::ask::write_hello;
-use crate::event::Event;
 use crate::inner::Inner;
-use crate::note::{Counts, Notes};
+use gate_history::{Counts, Event, Notes};
+use gate_parts::write_hello;
 use std::alloc::Global;
 use std::marker::Model;
 use usb_base::{Bytes, Memory};

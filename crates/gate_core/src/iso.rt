@@ -2,25 +2,23 @@
 
 ghost use Rattle.std.specs.Prelude.{◌≡◌, ◌≤◌, ◌++◌, ℕ, None, false, [], length, OnOk, OnErr, IfOk};
 ghost use Rattle.usbip_urb.specs.declared.code.TheConstants.{MAX_LENGTH};
-ghost use Rattle.gate_core.specs.Ids.{last_of};
-ghost use Rattle.gate_core.specs.Verdict.{IsoOut};
-ghost use Rattle.gate_core.specs.Marks.{Opens};
-ghost use Rattle.gate_core.specs.State.{State};
-ghost use Rattle.gate_core.specs.Packets.{iso_packets};
-ghost use Rattle.gate_core.specs.Meaning.{mark_as, submission};
-ghost use Rattle.gate_core.specs.Sound.{IsSound};
-ghost use Rattle.gate_core.specs.inner.Asked.{HasItsPackets};
-ghost use Rattle.gate_core.specs.inner.Views.{request_view};
-ghost use Rattle.gate_core.specs.inner.Carried.{IsLaid};
+ghost use Rattle.gate_history.specs.Ids.{last_of};
+ghost use Rattle.gate_history.specs.Verdict.{IsoOut};
+ghost use Rattle.gate_history.specs.Marks.{Opens};
+ghost use Rattle.gate_history.specs.State.{State};
+ghost use Rattle.gate_history.specs.Packets.{iso_packets};
+ghost use Rattle.gate_history.specs.Meaning.{mark_as, submission};
+ghost use Rattle.gate_history.specs.Sound.{IsSound};
+ghost use Rattle.gate_history.specs.Asked.{HasItsPackets};
+ghost use Rattle.gate_history.specs.Views.{request_view};
+ghost use Rattle.gate_history.specs.Carried.{IsLaid};
 ghost use Rattle.gate_core.specs.inner.Calling.{ids_after, starts_of, called_of, after_starts, bytes_of};
-ghost use Rattle.gate_core.specs.inner.Holds.{IsKept, Holds, Does, Leaves, Extends};
+ghost use Rattle.gate_core.specs.inner.Holds.{IsKept, Holds, Does, Leaves};
+ghost use Rattle.gate_parts.specs.Extends.{Extends};
 
-use crate::answer::write_all_sent;
-use crate::ask::{write_iso, write_start};
-use crate::calls::Called;
 use crate::kept::Kept;
-use crate::note::{Note, Notes};
-use crate::request::Request;
+use gate_history::{Note, Notes, Request};
+use gate_parts::{Called, write_all_sent, write_iso, write_start};
 use usb_base::{Bytes, EpAddr, EpRow, Memory};
 use usbip_urb::part;
 

@@ -3,9 +3,8 @@
 ghost use Rattle.std.specs.Prelude.{◌≡◌, ◌≤◌, IfOk};
 ghost use Rattle.gate_core.specs.inner.Holds.{IsFirst, IsKept};
 
-use crate::calls::Calls;
-use crate::facts::Facts;
-use crate::streams::Streams;
+use gate_history::Facts;
+use gate_parts::{Calls, Streams};
 use redir_wire::Caps;
 use std::alloc::Global;
 use unlink_race::Lives;

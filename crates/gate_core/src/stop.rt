@@ -1,16 +1,15 @@
 //! The stops of streams, where their client leaves and before a change of the device's interfaces.
 
 ghost use Rattle.std.specs.Prelude.{◌≡◌, ◌<◌, ◌++◌, length, OnOk, OnErr, IfOk};
-ghost use Rattle.gate_core.specs.Ups.{is_ended};
-ghost use Rattle.gate_core.specs.Packets.{stop_of};
+ghost use Rattle.gate_history.specs.Ups.{is_ended};
+ghost use Rattle.gate_history.specs.Packets.{stop_of};
 ghost use Rattle.gate_core.specs.inner.Calling.{stops_of, called_of, after_stops, bytes_of};
-ghost use Rattle.gate_core.specs.inner.Holds.{IsKept, Extends};
+ghost use Rattle.gate_core.specs.inner.Holds.{IsKept};
+ghost use Rattle.gate_parts.specs.Extends.{Extends};
 
-use crate::ask::write_stop;
-use crate::calls::Called;
 use crate::kept::Kept;
-use crate::streams::Up;
 use control_route::Route;
+use gate_parts::{Called, Up, write_stop};
 use usb_base::{Bytes, Memory};
 
 impl Kept {

@@ -1,17 +1,17 @@
 //! The requests that end with their stream: their answers first, and then they go.
 
-ghost use Rattle.std.specs.Prelude.{◌≡◌, ◌<◌, ◌++◌, true, length, filter, OnOk, OnErr};
+ghost use Rattle.std.specs.Prelude.{◌≡◌, ◌<◌, ◌++◌, length, filter, OnOk, OnErr};
 ghost use Rattle.std.specs.List.{flat_map};
 ghost use Rattle.stream_buffers.specs.Interrupt.{is_success};
 ghost use Rattle.unlink_race.specs.Searches.{ended_by};
-ghost use Rattle.gate_core.specs.inner.Asked.{HasItsPackets};
-ghost use Rattle.gate_core.specs.inner.Ending.{ended_bytes, HasDropped, is_told, status_bytes, HasStreamEnd};
-ghost use Rattle.gate_core.specs.inner.Holds.{IsKept, Extends};
+ghost use Rattle.gate_parts.specs.Rows.{ended_bytes};
+ghost use Rattle.gate_core.specs.inner.Ending.{HasDropped, is_told, status_bytes, HasStreamEnd};
+ghost use Rattle.gate_core.specs.inner.Holds.{IsKept};
+ghost use Rattle.gate_parts.specs.Extends.{Extends};
 
-use crate::finish::write_ended;
 use crate::kept::Kept;
-use std::alloc::Global;
-use unlink_race::{Live, StreamEnd};
+use gate_parts::{is_success, write_end_of};
+use unlink_race::StreamEnd;
 use usb_base::{Bytes, Memory, UsbStatus};
 
 impl Kept {
@@ -71,30 +71,4 @@ impl Kept {
         self.streams.lower_at(endpoint);
         Ok(())
     }
-}
-
-// Appends the answer of a request whose stream ends so, and nothing for any other.
-fn write_end_of(
-    alloc: Global,
-    live: &Live,
-    end: &StreamEnd,
-    status: i32,
-    to_client: &mut Bytes,
-) -> Result<(), Memory>
-    requires { HasItsPackets live.now.packets live.now.descs }
-    ensures ok { OnOk result (to_client.new ≡ to_client.old ++ ended_bytes end.now status live.now) }
-    ensures err { OnErr result (to_client.new ≡ to_client.old) }
-    ensures wants { OnErr result (ended_by end.now live.now ≡ true) }
-{
-    if live.kind.ends_with(end) {
-        write_ended(alloc, live, status, to_client)
-    } else {
-        Ok(())
-    }
-}
-
-fn is_success(status: UsbStatus) -> bool
-    ensures { result ≡ is_success status }
-{
-    matches!(status, UsbStatus::Success)
 }

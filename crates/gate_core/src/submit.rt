@@ -1,41 +1,37 @@
 //! What becomes of a client's submits.
 
 ghost use Rattle.std.specs.Prelude.{◌≡◌, ◌≤◌, ◌++◌, length, ℕ, List, [], None, Some, true, false, OnOk, OnErr, IfOk};
-ghost use Rattle.gate_core.specs.Marks.{Opens};
-ghost use Rattle.gate_core.specs.Verdict.{Now, Wire};
-ghost use Rattle.gate_core.specs.Verdict as verdict;
-ghost use Rattle.gate_core.specs.Ups.{lower, is_ended};
-ghost use Rattle.gate_core.specs.Ids.{draw, greatest, last_of};
-ghost use Rattle.gate_core.specs.Flight.{wide_ids, wide_bulk};
-ghost use Rattle.gate_core.specs.Packets.{route_packets};
+ghost use Rattle.gate_history.specs.Marks.{Opens};
+ghost use Rattle.gate_history.specs.Verdict.{Now, Wire};
+ghost use Rattle.gate_history.specs.Verdict as verdict;
+ghost use Rattle.gate_history.specs.Ups.{lower, is_ended};
+ghost use Rattle.gate_history.specs.Ids.{draw, greatest, last_of};
+ghost use Rattle.gate_history.specs.Flight.{wide_ids, wide_bulk};
+ghost use Rattle.gate_history.specs.Packets.{route_packets};
 ghost use Rattle.redir_wire.specs.Header.{IdFits};
 ghost use Rattle.std.specs.List.{list_any};
 ghost use Rattle.usbip_urb.specs.declared.packet.UrbPacket.TheVariants.{Submit as SubmitPacket};
 ghost use Rattle.usbip_urb.specs.Ranges.{IsSubmit};
 ghost use Rattle.unlink_race.specs.Searches.{has_number};
-ghost use Rattle.gate_core.specs.Items.{capped};
+ghost use Rattle.gate_history.specs.Items.{capped};
 ghost use Rattle.unlink_race.specs.declared.live.LiveKind.TheVariants.{Routed};
-ghost use Rattle.gate_core.specs.State.{State, next_ids};
-ghost use Rattle.gate_core.specs.Meaning.{mark_as, submission, drawn_for, accepts, verdict_of, urb_meaning};
-ghost use Rattle.gate_core.specs.Sound.{IsSound};
-ghost use Rattle.gate_core.specs.inner.Asked.{HasItsPackets};
+ghost use Rattle.gate_history.specs.State.{State, next_ids};
+ghost use Rattle.gate_history.specs.Meaning.{mark_as, submission, drawn_for, accepts, verdict_of, urb_meaning};
+ghost use Rattle.gate_history.specs.Sound.{IsSound};
+ghost use Rattle.gate_history.specs.Asked.{HasItsPackets};
 ghost use Rattle.gate_core.specs.inner.Calling.{flying_in, ids_after, bytes_of};
-ghost use Rattle.gate_core.specs.inner.Views.{request_view, pipe_view, verdict_view};
-ghost use Rattle.gate_core.specs.inner.Carried.{IsRequest, IsSent, IsCarried};
-ghost use Rattle.gate_core.specs.inner.Rows.{kind_of, IsFine};
-ghost use Rattle.gate_core.specs.inner.Holds.{IsKept, Holds, Does, Leaves, IsFree, CanAnswer, CanGo, HasOpened, row_for};
+ghost use Rattle.gate_history.specs.Views.{request_view, pipe_view, verdict_view};
+ghost use Rattle.gate_history.specs.Carried.{IsRequest, IsSent, IsCarried};
+ghost use Rattle.gate_parts.specs.Rows.{kind_of, IsFine};
+ghost use Rattle.gate_core.specs.inner.Holds.{IsKept, Holds, Does, Leaves, IsFree, CanAnswer, CanGo, HasOpened};
 
-use crate::answer::write_without_packets;
-use crate::ask::{packet_count, write_route, write_wire};
-use crate::calls::Calls;
-use crate::end::client_refusal;
-use crate::errno::ESHUTDOWN;
-use crate::id::draw;
 use crate::kept::Kept;
-use crate::note::{Note, Notes};
-use crate::request::Request;
-use crate::verdict::{Pipe, Verdict, decide};
 use control_route::Route;
+use gate_history::{Note, Notes, Pipe, Request, Verdict};
+use gate_parts::{
+    Calls, ESHUTDOWN, client_refusal, decide, draw, packet_count, row_of, write_route, write_wire,
+    write_without_packets,
+};
 use redir_wire::{WIDE_BULK_LENGTH, WIDE_IDS};
 use unlink_race::{Live, LiveKind, StreamEnd};
 use usb_base::{Bytes, Memory, Reason};
@@ -268,22 +264,5 @@ impl Kept {
     {
         self.lives.accept(live).unwrap();
         self.last = last;
-    }
-}
-
-/// The row of a request that goes as one of this kind, under this id.
-pub fn row_of(request: Request, kind: LiveKind, id: u64) -> Live
-    ensures { result ≡ row_for (request_view request) kind id }
-{
-    Live {
-        seqnum: request.number,
-        id,
-        kind,
-        is_in: request.is_in,
-        wanted: request.transfer.wanted,
-        flags: request.flags,
-        packets: request.packets,
-        descs: request.descs,
-        unlinker: None,
     }
 }

@@ -1,23 +1,21 @@
 //! What becomes of an item: each kind of packet is taken by the function that knows it.
 
 ghost use Rattle.std.specs.Prelude.{◌≡◌, ℕ, None, false, OnOk, OnErr};
-ghost use Rattle.usb_base.specs.declared.side.Side.TheVariants.{Client, Host};
 ghost use Rattle.usbip_urb.specs.ClientPackets.{IsClientPacket};
 ghost use Rattle.usbip_urb.specs.declared.client.ClientPacket.TheVariants.{Urb};
-ghost use Rattle.gate_core.specs.Items.{Item as PastItem, capped};
-ghost use Rattle.gate_core.specs.Sides.{refusal};
-ghost use Rattle.gate_core.specs.State.{State};
-ghost use Rattle.gate_core.specs.Meaning.{mark_as, asked_meaning, mark_of};
-ghost use Rattle.gate_core.specs.Past.{is_left_out};
-ghost use Rattle.gate_core.specs.Sound.{IsSound};
-ghost use Rattle.gate_core.specs.Wants.{GivesSome};
-ghost use Rattle.gate_core.specs.inner.Holds.{IsKept, Holds, IsItem, ItemFits, Does, Leaves};
+ghost use Rattle.gate_history.specs.Items.{Item as PastItem, capped};
+ghost use Rattle.gate_history.specs.State.{State};
+ghost use Rattle.gate_history.specs.Meaning.{mark_as, asked_meaning, mark_of};
+ghost use Rattle.gate_history.specs.Past.{is_left_out};
+ghost use Rattle.gate_history.specs.Sound.{IsSound};
+ghost use Rattle.gate_history.specs.Wants.{GivesSome};
+ghost use Rattle.gate_core.specs.inner.Holds.{IsKept, Holds, Does, Leaves};
+ghost use Rattle.gate_history.specs.Fits.{IsItem, ItemFits};
 
-use crate::end::client_refusal;
-use crate::item::Item;
 use crate::kept::Kept;
-use crate::note::Notes;
-use usb_base::{Bytes, Memory, Reason, Refusal, Side};
+use gate_history::{Item, Notes};
+use gate_parts::{client_refusal, host_refusal};
+use usb_base::{Bytes, Memory};
 use usbip_urb::{ClientPacket, UrbPacket};
 
 impl Kept {
@@ -102,18 +100,5 @@ impl Kept {
             UrbPacket::RetSubmit(_) => Ok(()),
             UrbPacket::RetUnlink(_) => Ok(()),
         }
-    }
-}
-
-/// The host is refused at this place of its stream.
-fn host_refusal(place: u64, reason: Reason) -> Refusal
-    ensures value { (at : ℕ) → place ≡ capped at → result ≡ refusal Host at reason }
-    ensures side { result.side ≡ Host }
-{
-    Refusal {
-        side: Side::Host,
-        place,
-        reason,
-        kept: None,
     }
 }

@@ -1,43 +1,39 @@
 //! What becomes of the host's packets.
 
-ghost use Rattle.std.specs.Prelude.{◌≡◌, ◌⊎◌, ◌++◌, ℕ, List, Some, None, [], ◌∷◌, false, map, if◌then◌else◌, option_map, option_copied, IfSome, OnOk, OnErr, IfOk};
-ghost use Rattle.std.specs.List.{find, flat_map};
+ghost use Rattle.std.specs.Prelude.{◌≡◌, ◌⊎◌, ◌++◌, ℕ, List, Some, None, ◌∷◌, false, if◌then◌else◌, option_map, option_copied, IfSome, OnOk, OnErr};
+ghost use Rattle.std.specs.List.{find};
 ghost use Rattle.std.specs.Option.{option_and_then, option_or};
 ghost use Rattle.usb_base.specs.declared.side.Side.TheVariants.{Host};
-ghost use Rattle.usbip_urb.specs.Spelling.{spelling};
-ghost use Rattle.usbip_urb.specs.declared.client.ClientPacket.TheVariants.{Urb};
 ghost use Rattle.redir_wire.specs.Capability.{announced, caps_of, agreed};
 ghost use Rattle.redir_wire.specs.Header.{head_size};
 ghost use Rattle.redir_data.specs.declared.packet.RedirPacket.TheVariants.{Plain, Carrying};
 ghost use Rattle.unlink_race.specs.Searches.{has_id};
-ghost use Rattle.gate_core.specs.declared.note.Note.TheVariants.{Answered};
-ghost use Rattle.gate_core.specs.Items.{capped};
-ghost use Rattle.gate_core.specs.Marks.{Submission, StreamTold};
-ghost use Rattle.gate_core.specs.Facts.{tell};
+ghost use Rattle.gate_history.specs.Items.{capped};
+ghost use Rattle.gate_history.specs.Marks.{StreamTold};
+ghost use Rattle.gate_history.specs.Facts.{tell};
 ghost use Rattle.usb_base.specs.Status.{status_of};
-ghost use Rattle.gate_core.specs.Calls.{lifted};
-ghost use Rattle.gate_core.specs.Flight.{wide_ids};
-ghost use Rattle.gate_core.specs.Submits.{has_id as submit_has_id};
-ghost use Rattle.gate_core.specs.State.{State, submits};
-ghost use Rattle.gate_core.specs.Responses.{response_of, seen};
-ghost use Rattle.gate_core.specs.Meaning.{mark_as, fact_of, by_response, data_meaning, told_meaning};
-ghost use Rattle.gate_core.specs.Sound.{IsSound};
-ghost use Rattle.gate_core.specs.Answers.{answers_by};
-ghost use Rattle.gate_core.specs.Wants.{GivesSome};
-ghost use Rattle.gate_core.specs.inner.Asked.{HasItsPackets};
-ghost use Rattle.gate_core.specs.inner.Responses.{response_view, stream_in, packet_in, row_mismatch, IsAnswer, IsCounted, has_won, completes};
-ghost use Rattle.gate_core.specs.inner.Rows.{row_of, IsRead};
-ghost use Rattle.gate_core.specs.inner.Holds.{IsKept, Holds, Does, Leaves, Extends, ResponseFits, ToldFits};
+ghost use Rattle.gate_history.specs.Calls.{lifted};
+ghost use Rattle.gate_history.specs.Flight.{wide_ids};
+ghost use Rattle.gate_history.specs.Submits.{has_id as submit_has_id};
+ghost use Rattle.gate_history.specs.State.{State, submits};
+ghost use Rattle.gate_history.specs.Responses.{response_of};
+ghost use Rattle.gate_history.specs.Meaning.{mark_as, fact_of, by_response, data_meaning, told_meaning};
+ghost use Rattle.gate_history.specs.Sound.{IsSound};
+ghost use Rattle.gate_history.specs.Wants.{GivesSome};
+ghost use Rattle.gate_parts.specs.Responses.{response_view, stream_in, row_mismatch, IsAnswer, completes};
+ghost use Rattle.gate_core.specs.inner.Holds.{IsKept, Holds, Does, Leaves};
+ghost use Rattle.gate_history.specs.Fits.{ResponseFits, ToldFits};
 
-use crate::finish::write_answers;
 use crate::kept::Kept;
-use crate::note::{Note, Notes};
-use crate::response::{Response, data_of, gets, mismatch, seen, status_of};
+use gate_history::{Note, Notes};
+use gate_parts::{
+    Response, data_of, head_size, lifted, mismatch, status_of, stream_in, stream_packet,
+    write_completed,
+};
 use redir_data::{RedirData, RedirPacket};
-use redir_wire::{ANNOUNCED, Caps, Header, Hello, RedirControl, WIDE_IDS};
-use std::alloc::Global;
-use unlink_race::{Ending, Live, ending_of};
-use usb_base::{Bytes, Memory, Refusal, StreamPacket, UsbStatus};
+use redir_wire::{ANNOUNCED, Caps, Header, Hello, RedirControl};
+use unlink_race::Live;
+use usb_base::{Bytes, Memory, Refusal, UsbStatus};
 
 impl Kept {
     /// Takes a packet of the host, which begins at `place` of its stream.
@@ -280,79 +276,4 @@ impl Kept {
         self.unlinked = self.unlinked.saturating_add(u64::from(won));
         Ok(())
     }
-}
-
-// Tells that a request was answered, and appends its answers. It gives whether its unlink has won.
-fn write_completed(
-    alloc: Global,
-    live: &Live,
-    response: Response,
-    to_client: &mut Bytes,
-    notes: &mut Notes,
-) -> Result<bool, Memory>
-    requires packets { HasItsPackets live.now.packets live.now.descs }
-    requires read { (live.now.wanted ≡ 0) ⊎ IsRead live.now.is_in live.now.kind }
-    requires answer { IsAnswer live.now (response_view response) }
-    ensures ok { (s : Submission) → row_of s live.now.unlinker ≡ live.now → OnOk result (to_client.new ≡ to_client.old ++ flat_map spelling (answers_by s (seen s.request s.verdict (response_view response)) live.now.unlinker)) }
-    ensures counted { (s : Submission) → row_of s live.now.unlinker ≡ live.now → IfOk result (IsCounted (map Urb (answers_by s (seen s.request s.verdict (response_view response)) live.now.unlinker))) }
-    ensures notes { OnOk result (notes.new ≡ notes.old ++ Answered live.now.seqnum ∷ []) }
-    ensures err { OnErr result (to_client.new ≡ to_client.old) }
-    ensures err_notes { OnErr result (Extends notes.old notes.new) }
-{
-    let outcome = seen(alloc, gets(&live.kind), live.wanted, response)?;
-    let ending = ending_of(live, outcome.status);
-    notes.push(Note::Answered {
-        seqnum: live.seqnum,
-    })?;
-    write_answers(alloc, live, outcome, to_client)?;
-    Ok(has_won(ending))
-}
-
-// The IN endpoint of whose stream a packet is, and whether it is an isochronous one.
-fn stream_in(packet: &RedirData) -> Option<(u8, bool)>
-    ensures { result ≡ stream_in packet.now }
-{
-    match packet {
-        RedirData::Interrupt { endpoint, .. } if *endpoint >= 0x80 => Some((*endpoint, false)),
-        RedirData::Iso { endpoint, .. } if *endpoint >= 0x80 => Some((*endpoint, true)),
-        _ => None,
-    }
-}
-
-// A packet of a stream. Its data are moved.
-fn stream_packet(packet: RedirData) -> StreamPacket
-    ensures { result ≡ packet_in packet }
-{
-    let (RedirData::Control { status, body, .. }
-    | RedirData::Bulk { status, body, .. }
-    | RedirData::Iso { status, body, .. }
-    | RedirData::Interrupt { status, body, .. }) = packet;
-    StreamPacket {
-        status: UsbStatus::from_byte(status),
-        body,
-    }
-}
-
-// Whether a request ends by its unlink.
-fn has_won(ending: Ending) -> bool
-    ensures { result ≡ has_won ending }
-{
-    matches!(ending, Ending::Unlinked { .. })
-}
-
-// The id that no import passes, once the host has told of this one.
-fn lifted(id: u64, fence: Option<u64>) -> Option<u64>
-    ensures { result ≡ lifted id fence }
-{
-    match fence {
-        Some(fence) if fence != id => Some(fence),
-        _ => None,
-    }
-}
-
-/// How many bytes a header has, by whether its id has 64 bits.
-fn head_size(caps: Caps) -> u64
-    ensures { result ≡ head_size (wide_ids caps) }
-{
-    if caps.has(WIDE_IDS) { 16 } else { 12 }
 }

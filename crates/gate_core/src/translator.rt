@@ -1,17 +1,17 @@
 //! What becomes of the items of both streams: what each sends, and what is kept of it.
 
 ghost use Rattle.std.specs.Prelude.{◌≡◌, ◌≤◌, OnOk, OnErr, IfOk, false};
-ghost use Rattle.gate_core.specs.Items.{Item as PastItem};
-ghost use Rattle.gate_core.specs.State.{State};
-ghost use Rattle.gate_core.specs.Meaning.{mark_of};
-ghost use Rattle.gate_core.specs.Past.{is_left_out};
-ghost use Rattle.gate_core.specs.Sound.{IsSound};
-ghost use Rattle.gate_core.specs.Wants.{GivesSome};
-ghost use Rattle.gate_core.specs.inner.Holds.{Holds, IsFirst, IsKept, IsItem, ItemFits, Does, DoesNothing};
+ghost use Rattle.gate_history.specs.Items.{Item as PastItem};
+ghost use Rattle.gate_history.specs.State.{State};
+ghost use Rattle.gate_history.specs.Meaning.{mark_of};
+ghost use Rattle.gate_history.specs.Past.{is_left_out};
+ghost use Rattle.gate_history.specs.Sound.{IsSound};
+ghost use Rattle.gate_history.specs.Wants.{GivesSome};
+ghost use Rattle.gate_core.specs.inner.Holds.{Holds, IsFirst, IsKept, Does, DoesNothing};
+ghost use Rattle.gate_history.specs.Fits.{IsItem, ItemFits};
 
-use crate::item::Item;
 use crate::kept::Kept;
-use crate::note::Notes;
+use gate_history::{Item, Notes};
 use std::alloc::Global;
 use std::marker::Model;
 use usb_base::{Bytes, Memory};

@@ -1,21 +1,21 @@
 //! The requests that wait for packets of a stream.
 
 ghost use Rattle.std.specs.Prelude.{◌≡◌, ◌++◌, ◌∷◌, [], ℕ, List, None, OnOk, OnErr};
-ghost use Rattle.gate_core.specs.Ups.{stream_at};
-ghost use Rattle.gate_core.specs.declared.note.Note.TheVariants.{Submitted};
-ghost use Rattle.gate_core.specs.Verdict.{Stream};
-ghost use Rattle.gate_core.specs.Meaning.{mark_as, accepts};
-ghost use Rattle.gate_core.specs.State.{State};
-ghost use Rattle.gate_core.specs.Sound.{IsSound};
-ghost use Rattle.gate_core.specs.inner.Views.{request_view};
-ghost use Rattle.gate_core.specs.inner.Filling.{up_fill, up_bytes, filled_notes, HasJoined, joined_rows};
-ghost use Rattle.gate_core.specs.inner.Holds.{IsKept, Holds, Does, Leaves, Extends, IsFree, CanWait};
+ghost use Rattle.gate_history.specs.Ups.{stream_at};
+ghost use Rattle.gate_history.specs.declared.note.Note.TheVariants.{Submitted};
+ghost use Rattle.gate_history.specs.Verdict.{Stream};
+ghost use Rattle.gate_history.specs.Meaning.{mark_as, accepts};
+ghost use Rattle.gate_history.specs.State.{State};
+ghost use Rattle.gate_history.specs.Sound.{IsSound};
+ghost use Rattle.gate_history.specs.Views.{request_view};
+ghost use Rattle.gate_parts.specs.Filling.{up_fill, up_bytes, filled_notes};
+ghost use Rattle.gate_core.specs.inner.Filling.{HasJoined, joined_rows};
+ghost use Rattle.gate_core.specs.inner.Holds.{IsKept, Holds, Does, Leaves, IsFree, CanWait};
+ghost use Rattle.gate_parts.specs.Extends.{Extends};
 
 use crate::kept::Kept;
-use crate::note::{Note, Notes};
-use crate::request::Request;
-use crate::streams::Up;
-use crate::submit::row_of;
+use gate_history::{Note, Notes, Request};
+use gate_parts::{Up, row_of};
 use unlink_race::LiveKind;
 use usb_base::{Bytes, EpRow, Memory};
 

@@ -3,9 +3,9 @@ use Rattle.std.proofs.Common.{◌≡◌, ◌⊎◌, ◌+◌, ◌≤◌, ℕ, Boo
 use Rattle.std.proofs.lemmas.List.{length-append}
 use Rattle.std.proofs.lemmas.Option.{same_Some}
 use Rattle.usb_base.specs.declared.side.Side.{Side}
-use Rattle.gate_core.specs.Events.{Event as GateEvent}
-use Rattle.gate_core.specs.History.{history}
-use Rattle.gate_core.specs.All.{counts_of}
+use Rattle.gate_history.specs.Events.{Event as GateEvent}
+use Rattle.gate_history.specs.History.{history}
+use Rattle.gate_history.specs.All.{counts_of}
 use Rattle.session_tape.specs.Tapes.{Counts}
 use Rattle.session_tape.specs.Lines.{first_comment}
 use Rattle.bridge_run.specs.declared.serve_end.ServeEnd.{ServeEnd}

@@ -9,9 +9,9 @@ use Rattle.hex.proofs.HexLemmas.{decode_of-encode_lower}
 use Rattle.usb_base.specs.Number.{AreBytes}
 use Rattle.usb_base.specs.declared.side.Side.TheVariants.{Client, Host}
 use Rattle.usb_base.specs.declared.refusal.Refusal.{Refusal}
-use Rattle.gate_core.specs.declared.note.Note.{Note}
-use Rattle.gate_core.specs.Events.{Event as GateEvent}
-use Rattle.gate_core.specs.Events as gate
+use Rattle.gate_history.specs.declared.note.Note.{Note}
+use Rattle.gate_history.specs.Events.{Event as GateEvent}
+use Rattle.gate_history.specs.Events as gate
 use Rattle.session_tape.specs.Lines.{refusal_comment}
 use Rattle.packet_show.specs.declared.tape.TapeLine.{TapeLine}
 use Rattle.packet_show.specs.declared.tape.TapeLine.TheVariants as tape

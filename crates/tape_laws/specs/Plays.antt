@@ -1,9 +1,9 @@
 -- What a recording is read as, and what its replay prints, beside what was written to the links.
 use Rattle.std.specs.Prelude.{◌≡◌, ◌⊎◌, ℕ, false, List, ◌++◌, Option, Some}
 use Rattle.session_tape.specs.Lines.{first_comment}
-use Rattle.gate_core.specs.Events.{Event as GateEvent}
-use Rattle.gate_core.specs.History.{history}
-use Rattle.gate_core.specs.All.{counts_of}
+use Rattle.gate_history.specs.Events.{Event as GateEvent}
+use Rattle.gate_history.specs.History.{history}
+use Rattle.gate_history.specs.All.{counts_of}
 use Rattle.bridge_run.specs.declared.serve_end.ServeEnd.{ServeEnd}
 use Rattle.bridge_run.specs.Events.{Event}
 use Rattle.bridge_run.specs.Course.{Course, Next, Making}

@@ -1,8 +1,8 @@
 -- The steps of a made tape, done one after another, and then counted.
 use Rattle.std.proofs.Common.{◌≡◌, ℕ, List, [], ◌∷◌, ◌++◌, Option, Some, None, sym, ap, subst, ◌∙◌}
-use Rattle.gate_core.specs.All.{counts_of}
-use Rattle.gate_core.specs.History.{history}
-use Rattle.gate_core.specs.declared.note.Counts.{Counts}
+use Rattle.gate_history.specs.All.{counts_of}
+use Rattle.gate_history.specs.History.{history}
+use Rattle.gate_history.specs.declared.note.Counts.{Counts}
 use Rattle.packet_show.specs.declared.tape.TapeLine.{TapeLine}
 use Rattle.model_device.specs.Device.{State, first_state, meaning_of}
 use Rattle.model_device.specs.Loopback.{loopback}

@@ -5,18 +5,19 @@ use Rattle.std.proofs.Math.Bool.{or-false}
 use Rattle.std.proofs.lemmas.List.{drop_at}
 use Rattle.std.proofs.lemmas.List.Folds.{list_any-append}
 use Rattle.usb_base.specs.declared.refusal.Refusal.{Refusal}
-use Rattle.gate_core.specs.declared.note.Note.{Note}
-use Rattle.gate_core.specs.declared.note.Note.TheVariants as note
-use Rattle.gate_core.specs.Events.{Event}
-use Rattle.gate_core.specs.Marks.{Submission, Effect, Idle, Replies, Imports, Opens, Waits, Arrives, Unlinks, Agrees, Answers, StreamTold, Disconnects, Ends, Refuses, Mark}
-use Rattle.gate_core.specs.Sides.{refused_at, leaves, is_loss}
-use Rattle.gate_core.specs.Submits.{Pending, opened, ends}
-use Rattle.gate_core.specs.State.{State, state_of}
-use Rattle.gate_core.specs.History.{history}
-use Rattle.gate_core.specs.Notes.{is_by_answer, when, import_notes, submit_notes, unlink_notes, arrival_notes, answer_notes, refusal_notes, notes_of}
-use Rattle.gate_core.specs.Output.{present}
-use Rattle.gate_core.specs.Bytes.{out_client, out_host}
-use Rattle.gate_core.specs.Stands.{Gains, Takes}
+use Rattle.gate_history.specs.declared.note.Note.{Note}
+use Rattle.gate_history.specs.declared.note.Note.TheVariants as note
+use Rattle.gate_history.specs.Events.{Event}
+use Rattle.gate_history.specs.Marks.{Submission, Effect, Idle, Replies, Imports, Opens, Waits, Arrives, Unlinks, Agrees, Answers, StreamTold, Disconnects, Ends, Refuses, Mark}
+use Rattle.gate_history.specs.Sides.{refused_at, leaves, is_loss}
+use Rattle.gate_history.specs.Submits.{Pending, opened, ends}
+use Rattle.gate_history.specs.State.{State, state_of}
+use Rattle.gate_history.specs.History.{history}
+use Rattle.gate_history.specs.Notes.{is_by_answer, when, import_notes, submit_notes, unlink_notes, arrival_notes, answer_notes, refusal_notes, notes_of}
+use Rattle.gate_history.specs.Output.{present}
+use Rattle.gate_history.specs.Bytes.{out_client, out_host}
+use Rattle.gate_history.specs.Headline.{Gains}
+use Rattle.gate_core.specs.Stands.{Takes}
 use Rattle.usbgate.specs.declared.replay.Replay.{Replay}
 use Rattle.usbgate.specs.Text.{told_notes, gained, sent_text}
 use Rattle.usbgate.specs.Replay.{has_refusal}

@@ -3,12 +3,12 @@ use Rattle.std.proofs.Common.{◌≡◌, ◌↔◌, ℕ, Bool, true, false, ◌|
 use Rattle.std.specs.List.{flat_map, list_any}
 use Rattle.std.proofs.Math.Bool.{or-false}
 use Rattle.usb_base.specs.declared.refusal.Refusal.{Refusal}
-use Rattle.gate_core.specs.declared.note.Note.{Note}
-use Rattle.gate_core.specs.declared.note.Note.TheVariants as note
-use Rattle.gate_core.specs.Events.{Event, ClientPiece, ClientEnd as ClientEnds, HostPiece}
-use Rattle.gate_core.specs.History.{history}
-use Rattle.gate_core.specs.Notes.{notes_of}
-use Rattle.gate_core.proofs.Events.{event-gives}
+use Rattle.gate_history.specs.declared.note.Note.{Note}
+use Rattle.gate_history.specs.declared.note.Note.TheVariants as note
+use Rattle.gate_history.specs.Events.{Event, ClientPiece, ClientEnd as ClientEnds, HostPiece}
+use Rattle.gate_history.specs.History.{history}
+use Rattle.gate_history.specs.Notes.{notes_of}
+use Rattle.gate_history.proofs.Events.{event-gives}
 use Rattle.model_device.specs.Meaning.{Meaning}
 use Rattle.packet_show.specs.declared.tape.TapeKind.TheVariants.{Model}
 use Rattle.packet_show.specs.declared.tape.TapeLine.{TapeLine}

@@ -11,7 +11,7 @@ use Rattle.packet_stream.specs.declared.read.ReadError.TheVariants.{Refused, Mem
 use Rattle.packet_stream.specs.Split.{Reader, Splitting, split}
 use Rattle.packet_stream.specs.Streams.{Kept, capped, passed, FollowsBy, Follows, Drained, Wrongs, Answered, Nexts, Changes, after_piece, after_piece_by, Puts}
 use Rattle.packet_stream.proofs.Loops.{changed_to}
-use Rattle.gate_core.specs.Events.{Event}
+use Rattle.gate_history.specs.Events.{Event}
 use Rattle.usbgate.specs.Show.{Shown, packet_lines, wrong_line, split_text, stream_split, was_wrong, is_wrong, gained_lines, show_side}
 use Rattle.usbgate.specs.inner.Shown.{HasNone}
 use Rattle.usbgate.specs.inner.Show.{HasShown, Sees, Shows, GoesOn, Showed, ShowsPackets}

@@ -3,7 +3,7 @@ use Rattle.std.specs.Prelude.{ℕ, Bool, if◌then◌else◌, List, [], ◌∷�
 use Rattle.packet_show.specs.declared.tape.TapeLine.{TapeLine}
 use Rattle.packet_show.specs.declared.tape.TapeKind.TheVariants.{Replay}
 use Rattle.packet_show.specs.Tape.{tape_line}
-use Rattle.gate_core.specs.Events.{Event}
+use Rattle.gate_history.specs.Events.{Event}
 use Rattle.usbgate.specs.Tape.{event_said, may_happen}
 use Rattle.usbgate.specs.TapeCommand.{TapeCommand}
 

@@ -5,8 +5,8 @@ use Rattle.packet_show.specs.declared.tape.TapeKind.TheVariants.{Model}
 use Rattle.packet_show.specs.declared.tape.TapeLine.{TapeLine}
 use Rattle.packet_show.specs.declared.tape.TapeLine.TheVariants as line
 use Rattle.packet_show.specs.Tape.{tape_line}
-use Rattle.gate_core.specs.All.{counts_of}
-use Rattle.gate_core.specs.History.{history}
+use Rattle.gate_history.specs.All.{counts_of}
+use Rattle.gate_history.specs.History.{history}
 use Rattle.model_device.specs.Device.{first_state, meaning_of}
 use Rattle.model_device.specs.Keyboard.{keyboard}
 use Rattle.model_device.specs.Loopback.{loopback}

@@ -1,10 +1,10 @@
 -- The command `replay`: the events of a tape are put to a gate.
 use Rattle.std.specs.Prelude.{ℕ, Bool, List, is_some}
 use Rattle.std.specs.List.{list_any}
-use Rattle.gate_core.specs.Marks.{Mark}
-use Rattle.gate_core.specs.Sides.{refused_at}
-use Rattle.gate_core.specs.History.{history}
-use Rattle.gate_core.specs.All.{counts_of}
+use Rattle.gate_history.specs.Marks.{Mark}
+use Rattle.gate_history.specs.Sides.{refused_at}
+use Rattle.gate_history.specs.History.{history}
+use Rattle.gate_history.specs.All.{counts_of}
 use Rattle.usbgate.specs.Text.{event_text, made_text, counts_line}
 use Rattle.usbgate.specs.EventCommand.{EventCommand}
 

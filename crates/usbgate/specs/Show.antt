@@ -18,8 +18,8 @@ use Rattle.redir_data.specs.declared.state.RedirState.{RedirState}
 use Rattle.packet_show.specs.Client.{client_line}
 use Rattle.packet_show.specs.Urb.{urb_line}
 use Rattle.packet_show.specs.Redir.{redir_line}
-use Rattle.gate_core.specs.Events.{Event, client_bytes, host_bytes}
-use Rattle.gate_core.specs.Streams.{client_reader, client_start, host_reader, host_start}
+use Rattle.gate_history.specs.Events.{Event, client_bytes, host_bytes}
+use Rattle.gate_history.specs.Streams.{client_reader, client_start, host_reader, host_start}
 use Rattle.usbgate.specs.EventCommand.{EventCommand}
 
 -- how a side is shown

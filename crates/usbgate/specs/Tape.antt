@@ -3,7 +3,7 @@ use Rattle.std.specs.Prelude.{ℕ, ◌==◌, Bool, true, false, not, if◌then�
 use Rattle.std.specs.Io.BufRead.{strip_last}
 use Rattle.packet_show.specs.declared.tape.TapeLine.{TapeLine}
 use Rattle.packet_show.specs.declared.tape.TapeLine.TheVariants as line
-use Rattle.gate_core.specs.Events.{Event, ClientPiece, ClientEnd, HostPiece, HostEnd}
+use Rattle.gate_history.specs.Events.{Event, ClientPiece, ClientEnd, HostPiece, HostEnd}
 
 -- ---- lines
 

@@ -5,15 +5,15 @@ use Rattle.std.specs.List.{flat_map}
 use Rattle.std.specs.Fmt.{decimal}
 use Rattle.hex.specs.Hex.{encode_lower}
 use Rattle.usb_base.specs.Refusal.{refusal_line}
-use Rattle.gate_core.specs.declared.note.Note.{Note}
-use Rattle.gate_core.specs.declared.note.Note.TheVariants as note
-use Rattle.gate_core.specs.declared.note.Counts.{Counts}
-use Rattle.gate_core.specs.Events.{Event}
-use Rattle.gate_core.specs.Marks.{Mark}
-use Rattle.gate_core.specs.History.{history}
-use Rattle.gate_core.specs.Notes.{notes_of}
-use Rattle.gate_core.specs.All.{all_of}
-use Rattle.gate_core.specs.Bytes.{out_client, out_host}
+use Rattle.gate_history.specs.declared.note.Note.{Note}
+use Rattle.gate_history.specs.declared.note.Note.TheVariants as note
+use Rattle.gate_history.specs.declared.note.Counts.{Counts}
+use Rattle.gate_history.specs.Events.{Event}
+use Rattle.gate_history.specs.Marks.{Mark}
+use Rattle.gate_history.specs.History.{history}
+use Rattle.gate_history.specs.Notes.{notes_of}
+use Rattle.gate_history.specs.All.{all_of}
+use Rattle.gate_history.specs.Bytes.{out_client, out_host}
 use Rattle.direct_run.specs.declared.told.Told.{Told}
 use Rattle.direct_run.specs.Lines.{item_line}
 use Rattle.usbgate.specs.Tape.{LF}

@@ -1,7 +1,7 @@
 //! Commands over the events that a replay tape's lines say.
 
 ghost use Rattle.std.specs.Prelude.{◌≡◌, ◌++◌, ◌∷◌, [], List, ℕ, None, OnOk, option_map, true};
-ghost use Rattle.gate_core.specs.Events.{Event as PastEvent, event_of};
+ghost use Rattle.gate_history.specs.Events.{Event as PastEvent, event_of};
 ghost use Rattle.packet_show.specs.Tape.{tape_line};
 ghost use Rattle.packet_show.specs.declared.tape.TapeKind.TheVariants as kind;
 ghost use Rattle.usbgate.specs.Tape.{event_said, IsEvent, host_ended, may_happen};
@@ -9,7 +9,7 @@ ghost use Rattle.usbgate.specs.EventCommand.{EventCommand as Told, over_events};
 ghost use Rattle.usbgate.specs.inner.EventTape.{HasEvents};
 
 use crate::tape_command::TapeCommand;
-use gate_core::Event;
+use gate_history::Event;
 use packet_show::{LineError, TapeKind, TapeLine, read_line};
 use std::alloc::Global;
 use usb_base::{Bytes, Memory};

@@ -2,14 +2,15 @@
 
 ghost use Rattle.std.specs.Prelude.{◌≡◌, ◌++◌, ◌∷◌, ◌≤◌, ◌||◌, [], ℕ, List, IfOk, OnOk};
 ghost use Rattle.std.specs.List.{list_any};
-ghost use Rattle.gate_core.specs.Events.{Event as PastEvent, event_of};
+ghost use Rattle.gate_history.specs.Events.{Event as PastEvent, event_of};
 ghost use Rattle.usbgate.specs.Text.{made_text, sent_text};
 ghost use Rattle.usbgate.specs.Replay.{replay};
 ghost use Rattle.usbgate.specs.inner.Replay.{is_refusal, HasSeen as HasPast, Sees, Replays};
 
 use crate::event_tape::EventCommand;
 use crate::text::{push_bytes, push_counts, push_notes};
-use gate_core::{Event, Gate, Note, Notes};
+use gate_core::Gate;
+use gate_history::{Event, Note, Notes};
 use std::alloc::Global;
 use usb_base::{Bytes, Memory};
 

@@ -1,12 +1,12 @@
 //! The command `show`: the packets of one side's stream as lines of text.
 
 ghost use Rattle.std.specs.Prelude.{◌≡◌, ◌++◌, ◌∷◌, [], ℕ, List, OnOk};
-ghost use Rattle.gate_core.specs.Events.{Event as PastEvent};
+ghost use Rattle.gate_history.specs.Events.{Event as PastEvent};
 ghost use Rattle.usbgate.specs.inner.Show.{shown_by, HasShown, IsShow, Sees, ShowsPackets};
 
 use crate::event_tape::EventCommand;
 use crate::shown_format::{Part, ShownFormat};
-use gate_core::Event;
+use gate_history::Event;
 use packet_stream::{ReadError, Stream};
 use std::alloc::Global;
 use usb_base::{Bytes, Memory, Refusal};

@@ -4,13 +4,13 @@ ghost use Rattle.std.specs.Prelude.{◌≡◌, ◌++◌, ◌∷◌, [], ℕ, Lis
 ghost use Rattle.usb_base.specs.declared.side.Side.{Side as ASide};
 ghost use Rattle.usb_base.specs.declared.side.Side.TheVariants as side;
 ghost use Rattle.packet_stream.specs.Split.{reads};
-ghost use Rattle.gate_core.specs.Events.{Event as PastEvent, event_of, client_bytes, host_bytes};
+ghost use Rattle.gate_history.specs.Events.{Event as PastEvent, event_of, client_bytes, host_bytes};
 ghost use Rattle.redir_data.specs.Streams.{start};
 ghost use Rattle.usbgate.specs.Show.{asked_line, told_line};
 ghost use Rattle.usbgate.specs.inner.Shown.{HasNone, clients_none, host_none};
 ghost use Rattle.usbgate.specs.inner.Part.{IsPart};
 
-use gate_core::Event;
+use gate_history::Event;
 use packet_show::{show_client, show_redir, show_urb};
 use packet_stream::PacketFormat;
 use redir_data::{FromHost, RedirPacket, RedirState};

@@ -7,7 +7,7 @@ ghost use Rattle.direct_run.specs.Lines.{item_line};
 ghost use Rattle.usbgate.specs.Text.{bytes_line, note_line, told_text, counts_line, bad_line};
 
 use direct_run::{Items, Refusals, Told};
-use gate_core::{Counts, Note, Notes};
+use gate_history::{Counts, Note, Notes};
 use std::alloc::Global;
 use usb_base::{Bytes, Memory};
 

@@ -15,10 +15,10 @@ use Rattle.model_device.specs.Gadget.{IsNamed}
 use Rattle.redir_host.specs.declared.host.Host.{Host}
 use Rattle.redir_host.specs.Answers.{answer_by, alt_in}
 use Rattle.redir_host.specs.Performing.{does, performs_any}
-use Rattle.gate_core.specs.Requests.{Request}
-use Rattle.gate_core.specs.Packets.{no_setup}
-use Rattle.gate_core.specs.Verdict.{Verdict, Control, Bulk, InterruptOut, Now, Wire, Routed, IsoOut, Stream}
-use Rattle.gate_core.specs.Responses.{Response, Data, Status, response_of, seen, got, outcome}
+use Rattle.gate_history.specs.Requests.{Request}
+use Rattle.gate_history.specs.Packets.{no_setup}
+use Rattle.gate_history.specs.Verdict.{Verdict, Control, Bulk, InterruptOut, Now, Wire, Routed, IsoOut, Stream}
+use Rattle.gate_history.specs.Responses.{Response, Data, Status, response_of, seen, got, outcome}
 use Rattle.direct_device.specs.Direct.{normal_of, normal_by, seen_by, change_in}
 use Rattle.direct_proof.specs.Requests.{Entry, at_queue, form_by, queued_transfer}
 use Rattle.direct_proof.specs.Loads.{FitsRoute, FitsVerdict}

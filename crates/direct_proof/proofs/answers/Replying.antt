@@ -4,17 +4,17 @@ use Rattle.std.specs.List.{list_any, flat_map}
 use Rattle.usbip_urb.specs.declared.client.ClientPacket.TheVariants.{Urb}
 use Rattle.redir_data.specs.declared.packet.RedirPacket.{RedirPacket}
 use Rattle.model_device.specs.Meaning.{Meaning}
-use Rattle.gate_core.specs.Marks.{Submission, Fact, Effect, Answers, Mark}
-use Rattle.gate_core.specs.Submits.{Pending, has_id}
-use Rattle.gate_core.specs.State.{State, submits}
-use Rattle.gate_core.specs.Sound.{IsSound}
-use Rattle.gate_core.specs.Ups.{stream_of}
-use Rattle.gate_core.specs.Machine.{live_after}
-use Rattle.gate_core.specs.Meaning.{fact_of}
-use Rattle.gate_core.specs.Facts.{tell}
-use Rattle.gate_core.specs.Answers.{answers_by}
-use Rattle.gate_core.proofs.Lists.{filter-map}
-use Rattle.gate_core.proofs.Steady.{none-cancelled, stays-uncancelled}
+use Rattle.gate_history.specs.Marks.{Submission, Fact, Effect, Answers, Mark}
+use Rattle.gate_history.specs.Submits.{Pending, has_id}
+use Rattle.gate_history.specs.State.{State, submits}
+use Rattle.gate_history.specs.Sound.{IsSound}
+use Rattle.gate_history.specs.Ups.{stream_of}
+use Rattle.gate_history.specs.Machine.{live_after}
+use Rattle.gate_history.specs.Meaning.{fact_of}
+use Rattle.gate_history.specs.Facts.{tell}
+use Rattle.gate_history.specs.Answers.{answers_by}
+use Rattle.gate_history.proofs.Lists.{filter-map}
+use Rattle.gate_history.proofs.Uncancelled.{none-cancelled, stays-uncancelled}
 use Rattle.direct_run.specs.declared.submitted.Submitted.{Submitted}
 use Rattle.direct_run.specs.Moves.{World, GateReads}
 use Rattle.direct_device.specs.Direct.{number, seen_of}

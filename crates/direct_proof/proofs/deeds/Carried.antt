@@ -8,13 +8,13 @@ use Rattle.redir_host.specs.declared.note.Offered.{Offered}
 use Rattle.redir_host.specs.declared.note.Offered.TheVariants as offered
 use Rattle.redir_host.specs.Moves.{Move}
 use Rattle.redir_host.specs.Performing.{told_performed_by}
-use Rattle.gate_core.specs.Requests.{Request}
-use Rattle.gate_core.specs.Marks.{Submission, Effect, Imports, Unlinks, Arrives, Mark}
-use Rattle.gate_core.specs.Sides.{leaves, is_loss}
-use Rattle.gate_core.specs.Submits.{Pending, opened, ends}
-use Rattle.gate_core.specs.State.{State}
-use Rattle.gate_core.specs.Output.{present}
-use Rattle.gate_core.specs.Notes.{is_by_answer}
+use Rattle.gate_history.specs.Requests.{Request}
+use Rattle.gate_history.specs.Marks.{Submission, Effect, Imports, Unlinks, Arrives, Mark}
+use Rattle.gate_history.specs.Sides.{leaves, is_loss}
+use Rattle.gate_history.specs.Submits.{Pending, opened, ends}
+use Rattle.gate_history.specs.State.{State}
+use Rattle.gate_history.specs.Output.{present}
+use Rattle.gate_history.specs.Notes.{is_by_answer}
 use Rattle.direct_run.specs.declared.item.Item.{Item as Told}
 use Rattle.direct_run.specs.declared.submitted.Submitted.{Submitted}
 use Rattle.direct_run.specs.Noted.{item_of_host, performed_item, offered_item}

@@ -8,10 +8,10 @@ use Rattle.model_device.specs.Meaning.{Meaning}
 use Rattle.redir_host.specs.Offering.{told_offered}
 use Rattle.redir_host.specs.Packets.{packet_move}
 use Rattle.redir_host.specs.Performing.{performed}
-use Rattle.gate_core.specs.Items.{Item as GateItem, Told}
-use Rattle.gate_core.specs.Marks.{Mark}
-use Rattle.gate_core.specs.Meaning.{mark_of}
-use Rattle.gate_core.specs.Past.{is_left_out}
+use Rattle.gate_history.specs.Items.{Item as GateItem, Told}
+use Rattle.gate_history.specs.Marks.{Mark}
+use Rattle.gate_history.specs.Meaning.{mark_of}
+use Rattle.gate_history.specs.Past.{is_left_out}
 use Rattle.direct_run.specs.Moves.{World, Move, ByClient, HostReads, GateReads, Performs, Offers, Unplugs, first_world}
 use Rattle.direct_run.specs.Moves as told
 use Rattle.direct_device.specs.Legal.{item_of, request_in}

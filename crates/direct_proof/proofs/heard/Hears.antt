@@ -22,8 +22,8 @@ use Rattle.redir_host.specs.Line.{Waits, data_line}
 use Rattle.redir_host.specs.Moves.{quiet as host_quiet}
 use Rattle.redir_host.specs.Packets.{packet_move_by, data_move, joins, queued, request}
 use Rattle.redir_host.specs.Queues.{is_first_queue}
-use Rattle.gate_core.specs.Requests.{Request}
-use Rattle.gate_core.specs.Verdict.{Verdict, Control, Bulk, InterruptOut, Now, Wire, Routed, IsoOut, Stream, changes}
+use Rattle.gate_history.specs.Requests.{Request}
+use Rattle.gate_history.specs.Verdict.{Verdict, Control, Bulk, InterruptOut, Now, Wire, Routed, IsoOut, Stream, changes}
 use Rattle.direct_device.specs.Direct.{normal_of}
 use Rattle.direct_proof.specs.Requests.{Entry, at_queue, form_of, form_by, queued_transfer, resets}
 use Rattle.direct_proof.specs.Shared.{in_line}

@@ -11,7 +11,7 @@ use Rattle.redir_host.specs.Line.{Waiting as InLine, Waits}
 use Rattle.redir_host.specs.Moves.{quiet as host_quiet}
 use Rattle.redir_host.specs.Packets.{packet_move_by, joins}
 use Rattle.redir_host.specs.Sound.{Each}
-use Rattle.gate_core.specs.Bytes.{gateway_hello}
+use Rattle.gate_history.specs.Bytes.{gateway_hello}
 use Rattle.direct_run.specs.Moves.{World, HostReads}
 use Rattle.direct_proof.specs.Moves.{move, quiet, host_reads, host_takes}
 use Rattle.direct_proof.specs.Requests.{Entry, at_queue, at_device}

@@ -14,8 +14,8 @@ use Rattle.redir_host.specs.declared.note.HostNote.TheVariants as host_note
 use Rattle.redir_host.specs.Packets.{cancel_move, packet_move_by}
 use Rattle.redir_host.specs.Moves.{quiet as host_quiet}
 use Rattle.redir_host.specs.Sound.{Each}
-use Rattle.gate_core.specs.Ups.{stream_of}
-use Rattle.gate_core.specs.Verdict.{is_wire}
+use Rattle.gate_history.specs.Ups.{stream_of}
+use Rattle.gate_history.specs.Verdict.{is_wire}
 use Rattle.direct_run.specs.Noted.{number_in}
 use Rattle.direct_run.specs.Moves.{World, HostReads}
 use Rattle.direct_device.specs.Direct.{Direct, number, without_first}

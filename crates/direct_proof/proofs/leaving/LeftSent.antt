@@ -5,9 +5,9 @@ use Rattle.redir_data.specs.declared.packet.RedirPacket.{RedirPacket}
 use Rattle.model_device.specs.Meaning.{Meaning}
 use Rattle.redir_host.specs.Line.{Waiting as InLine}
 use Rattle.redir_host.specs.Sound.{Each}
-use Rattle.gate_core.specs.Output.{cancel}
-use Rattle.gate_core.specs.State.{next_ids}
-use Rattle.gate_core.specs.Submits.{Pending}
+use Rattle.gate_history.specs.Output.{cancel}
+use Rattle.gate_history.specs.State.{next_ids}
+use Rattle.gate_history.specs.Submits.{Pending}
 use Rattle.direct_run.specs.Moves.{World}
 use Rattle.direct_proof.specs.Cancels.{CancelsFit, IsAsking, any_change}
 use Rattle.direct_proof.specs.Kinds.{CallIsIn}

@@ -8,10 +8,10 @@ use Rattle.redir_host.specs.declared.running.Running.{Running}
 use Rattle.redir_host.specs.Moves.{quiet as host_quiet}
 use Rattle.redir_host.specs.Packets.{greets, runs_at}
 use Rattle.redir_host.specs.Sound.{Each}
-use Rattle.gate_core.specs.Bytes.{gateway_hello}
-use Rattle.gate_core.specs.declared.facts.Facts.{Facts}
-use Rattle.gate_core.specs.Ups.{Up, stream_of}
-use Rattle.gate_core.specs.Verdict.{is_iso}
+use Rattle.gate_history.specs.Bytes.{gateway_hello}
+use Rattle.gate_history.specs.declared.facts.Facts.{Facts}
+use Rattle.gate_history.specs.Ups.{Up, stream_of}
+use Rattle.gate_history.specs.Verdict.{is_iso}
 use Rattle.direct_run.specs.Moves.{World, HostReads}
 use Rattle.direct_run.specs.Packets.{both_caps}
 use Rattle.direct_proof.specs.Moves.{move, host_reads, host_takes}

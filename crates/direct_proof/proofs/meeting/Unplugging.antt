@@ -8,9 +8,9 @@ use Rattle.model_device.specs.Meaning.{Meaning}
 use Rattle.redir_host.specs.declared.host.Host.{Host}
 use Rattle.redir_host.specs.Moves.{quiet as host_quiet}
 use Rattle.redir_host.specs.Sound.{Each}
-use Rattle.gate_core.specs.declared.facts.Facts.{Facts}
-use Rattle.gate_core.specs.Ups.{Up, stream_of}
-use Rattle.gate_core.specs.Verdict.{is_iso}
+use Rattle.gate_history.specs.declared.facts.Facts.{Facts}
+use Rattle.gate_history.specs.Ups.{Up, stream_of}
+use Rattle.gate_history.specs.Verdict.{is_iso}
 use Rattle.direct_run.specs.Moves.{World, Unplugs}
 use Rattle.direct_proof.specs.Moves.{move, quiet, host_made}
 use Rattle.direct_proof.specs.Requests.{Coming, ran_of}

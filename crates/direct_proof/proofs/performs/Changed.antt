@@ -14,9 +14,9 @@ use Rattle.redir_host.specs.Queues.{queue_of, is_at}
 use Rattle.redir_host.specs.Changes.{is_touched}
 use Rattle.redir_host.specs.Answers.{ended}
 use Rattle.redir_host.specs.Sound.{Each}
-use Rattle.gate_core.specs.Verdict.{is_iso}
-use Rattle.gate_core.specs.Ups.{Up, stream_of}
-use Rattle.gate_core.proofs.Lists.{filter-map}
+use Rattle.gate_history.specs.Verdict.{is_iso}
+use Rattle.gate_history.specs.Ups.{Up, stream_of}
+use Rattle.gate_history.proofs.Lists.{filter-map}
 use Rattle.direct_run.specs.Noted.{queue_byte}
 use Rattle.direct_run.specs.Moves.{World, Performs}
 use Rattle.direct_device.specs.Direct.{Waiting, Ran, Direct, number, normal_of, change_in, cancelled, is_at as is_first_at, without_first as without}

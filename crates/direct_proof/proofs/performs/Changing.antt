@@ -16,11 +16,11 @@ use Rattle.redir_host.specs.declared.running.Running.{Running}
 use Rattle.redir_host.specs.Queues.{queue_of, is_at, without_first}
 use Rattle.redir_host.specs.Performing.{performs_any, does, with_id}
 use Rattle.redir_host.specs.Sound.{Each}
-use Rattle.gate_core.specs.Verdict.{Verdict, Now, Wire, Routed, IsoOut, Stream, changes}
-use Rattle.gate_core.specs.Ups.{stream_of}
-use Rattle.gate_core.specs.Facts.{tell}
-use Rattle.gate_core.specs.Meaning.{fact_of}
-use Rattle.gate_core.specs.declared.facts.Facts.{Facts}
+use Rattle.gate_history.specs.Verdict.{Verdict, Now, Wire, Routed, IsoOut, Stream, changes}
+use Rattle.gate_history.specs.Ups.{stream_of}
+use Rattle.gate_history.specs.Facts.{tell}
+use Rattle.gate_history.specs.Meaning.{fact_of}
+use Rattle.gate_history.specs.declared.facts.Facts.{Facts}
 use Rattle.direct_run.specs.Noted.{queue_byte, number_in}
 use Rattle.direct_run.specs.Moves.{World, Performs}
 use Rattle.direct_device.specs.Direct.{number, normal_of, change_in}

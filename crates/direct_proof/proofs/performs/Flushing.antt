@@ -12,7 +12,7 @@ use Rattle.redir_host.specs.Changes.{is_touched, touched, stays, runs_on, change
 use Rattle.redir_host.specs.Answers.{answer, cancelled as cancel_answer}
 use Rattle.redir_host.specs.Facts.{facts_of}
 use Rattle.redir_host.specs.Moves.{then_sends}
-use Rattle.gate_core.proofs.Lists.{filter-map, filter-same, filter-all, filter-none, every}
+use Rattle.gate_history.proofs.Lists.{filter-map, filter-same, filter-all, filter-none, every}
 use Rattle.direct_run.specs.Packets.{both_caps}
 use Rattle.direct_device.specs.Direct.{normal_of}
 use Rattle.direct_proof.specs.Requests.{Entry, Coming, at_queue}

@@ -17,7 +17,7 @@ use Rattle.redir_host.specs.declared.request.Request.{Request as HostRequest}
 use Rattle.redir_host.specs.Queues.{queue_of, is_at, without_first}
 use Rattle.redir_host.specs.Performing.{performed, first_performed, performs_any, does, with_id}
 use Rattle.redir_host.specs.Sound.{Each}
-use Rattle.gate_core.specs.Verdict.{Verdict, Pipe, Control, Bulk, InterruptOut, Now, Wire, Routed, IsoOut, Stream, changes}
+use Rattle.gate_history.specs.Verdict.{Verdict, Pipe, Control, Bulk, InterruptOut, Now, Wire, Routed, IsoOut, Stream, changes}
 use Rattle.direct_run.specs.Noted.{queue_byte, number_in}
 use Rattle.direct_run.specs.Moves.{World, Performs}
 use Rattle.direct_device.specs.Direct.{Load, number, normal_of, normal_by, change_in}

@@ -5,20 +5,20 @@ use Rattle.redir_data.specs.declared.packet.RedirPacket.{RedirPacket}
 use Rattle.redir_data.specs.Sent.{sent_header}
 use Rattle.model_device.specs.Meaning.{Meaning}
 use Rattle.redir_host.specs.Sound.{Each}
-use Rattle.gate_core.specs.Items.{Item as GateItem, Told}
-use Rattle.gate_core.specs.Marks.{Submission, Mark}
-use Rattle.gate_core.specs.Submits.{Pending, pending, live, abandoned}
-use Rattle.gate_core.specs.Ids.{holds, AreFresh, Fits, greatest}
-use Rattle.gate_core.specs.Flight.{ids_of, in_flight, wide_ids}
-use Rattle.gate_core.specs.Calls.{calls, call_ids}
-use Rattle.gate_core.specs.State.{State, state_of, submits, flying}
-use Rattle.gate_core.specs.Sound.{IsSound, HasFewPackets}
-use Rattle.gate_core.specs.Past.{is_left_out, past}
-use Rattle.gate_core.specs.Meaning.{mark_of}
-use Rattle.gate_core.specs.Machine.{step, after}
-use Rattle.gate_core.proofs.States.{state-sound}
-use Rattle.gate_core.proofs.Runs.{state-run}
-use Rattle.gate_core.proofs.Flights.{item-fresh}
+use Rattle.gate_history.specs.Items.{Item as GateItem, Told}
+use Rattle.gate_history.specs.Marks.{Submission, Mark}
+use Rattle.gate_history.specs.Submits.{Pending, pending, live, abandoned}
+use Rattle.gate_history.specs.Ids.{holds, AreFresh, Fits, greatest}
+use Rattle.gate_history.specs.Flight.{ids_of, in_flight, wide_ids}
+use Rattle.gate_history.specs.Calls.{calls, call_ids}
+use Rattle.gate_history.specs.State.{State, state_of, submits, flying}
+use Rattle.gate_history.specs.Sound.{IsSound, HasFewPackets}
+use Rattle.gate_history.specs.Past.{is_left_out, past}
+use Rattle.gate_history.specs.Meaning.{mark_of}
+use Rattle.gate_history.specs.Machine.{step, after}
+use Rattle.gate_history.proofs.States.{state-sound}
+use Rattle.gate_history.proofs.Runs.{state-run}
+use Rattle.gate_history.proofs.Flights.{item-fresh}
 use Rattle.direct_run.specs.World.{first_id}
 use Rattle.direct_run.specs.Moves.{World, Move, ByClient, HostReads, GateReads, Performs, Offers, Unplugs}
 use Rattle.direct_proof.proofs.submits.Submitting.{AreBefore}

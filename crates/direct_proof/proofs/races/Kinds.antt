@@ -13,13 +13,13 @@ use Rattle.redir_data.specs.declared.packet.RedirPacket.{RedirPacket}
 use Rattle.redir_data.specs.declared.packet.RedirPacket.TheVariants.{Plain, Carrying}
 use Rattle.control_route.specs.declared.route.Route.{Route}
 use Rattle.redir_host.specs.Sound.{Each}
-use Rattle.gate_core.specs.Items.{Asked, ClientLeft, ClientWrong}
-use Rattle.gate_core.specs.Meaning.{verdict_of}
-use Rattle.gate_core.specs.Requests.{request_of}
-use Rattle.gate_core.specs.State.{State, has_number}
-use Rattle.gate_core.specs.Submits.{Pending, is_touched}
-use Rattle.gate_core.specs.Ups.{Up, is_ended}
-use Rattle.gate_core.specs.Verdict.{Verdict, Now, Wire, Routed, IsoOut, Stream}
+use Rattle.gate_history.specs.Items.{Asked, ClientLeft, ClientWrong}
+use Rattle.gate_history.specs.Meaning.{verdict_of}
+use Rattle.gate_history.specs.Requests.{request_of}
+use Rattle.gate_history.specs.State.{State, has_number}
+use Rattle.gate_history.specs.Submits.{Pending, is_touched}
+use Rattle.gate_history.specs.Ups.{Up, is_ended}
+use Rattle.gate_history.specs.Verdict.{Verdict, Now, Wire, Routed, IsoOut, Stream}
 use Rattle.direct_run.specs.Moves.{World, Move, ByClient, HostReads, GateReads, Performs, Unplugs}
 use Rattle.direct_proof.specs.Running.{called_endpoint}
 

@@ -16,16 +16,16 @@ use Rattle.model_device.specs.Meaning.{Meaning}
 use Rattle.model_device.specs.Transfer.{IsTransfer, is_control}
 use Rattle.model_device.specs.Gadget.{IsGadget}
 use Rattle.redir_host.specs.Sound.{Each}
-use Rattle.gate_core.specs.Requests.{Request, request_of}
-use Rattle.gate_core.specs.Items.{Asked}
-use Rattle.gate_core.specs.Verdict.{Verdict, Pipe, Now, Wire, Routed, IsoOut, Stream, by_transfer, by_endpoint, max_live}
-use Rattle.gate_core.specs.Errno.{enoent, eshutdown, ebusy}
-use Rattle.gate_core.specs.Flight.{wide_bulk}
-use Rattle.gate_core.specs.Ups.{Up, is_ended}
-use Rattle.gate_core.specs.Submits.{Pending, is_touched}
-use Rattle.gate_core.specs.State.{State, change_waits, next_ids, has_number}
-use Rattle.gate_core.specs.Meaning.{verdict_of, mark_of, drawn_by, meaning, refused, accepts}
-use Rattle.gate_core.proofs.Lists.{Each as ListEach}
+use Rattle.gate_history.specs.Requests.{Request, request_of}
+use Rattle.gate_history.specs.Items.{Asked}
+use Rattle.gate_history.specs.Verdict.{Verdict, Pipe, Now, Wire, Routed, IsoOut, Stream, by_transfer, by_endpoint, max_live}
+use Rattle.gate_history.specs.Errno.{enoent, eshutdown, ebusy}
+use Rattle.gate_history.specs.Flight.{wide_bulk}
+use Rattle.gate_history.specs.Ups.{Up, is_ended}
+use Rattle.gate_history.specs.Submits.{Pending, is_touched}
+use Rattle.gate_history.specs.State.{State, change_waits, next_ids, has_number}
+use Rattle.gate_history.specs.Meaning.{verdict_of, mark_of, drawn_by, meaning, refused, accepts}
+use Rattle.gate_history.proofs.Lists.{Each as ListEach}
 use Rattle.direct_run.specs.Moves.{World, ByClient}
 use Rattle.direct_device.specs.Direct.{normal_by}
 use Rattle.direct_proof.specs.Runs.{IsRun}
@@ -42,9 +42,9 @@ use Rattle.direct_proof.proofs.submits.Fresh.{IsSimpleSubmit}
 use Rattle.direct_proof.proofs.submits.Accepted.{keep-simple}
 use Rattle.direct_proof.proofs.shared.Keeps.{Keeps}
 use Rattle.direct_proof.proofs.shared.New.{IsDrawn}
-use Rattle.gate_core.specs.Verdict.{goes_by_id, verdict}
-use Rattle.gate_core.specs.Ups.{stream_at}
-use Rattle.gate_core.specs.Meaning.{by_stream}
+use Rattle.gate_history.specs.Verdict.{goes_by_id, verdict}
+use Rattle.gate_history.specs.Ups.{stream_at}
+use Rattle.gate_history.specs.Meaning.{by_stream}
 use Rattle.direct_device.specs.Direct.{any_changes}
 use Rattle.direct_device.specs.Acting.{made_of}
 use Rattle.direct_proof.specs.Requests.{live_of}

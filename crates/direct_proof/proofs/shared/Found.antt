@@ -3,15 +3,15 @@ use Rattle.std.proofs.Common.{◌≡◌, ℕ, ◌<◌, Bool, true, false, cond, 
 use Rattle.std.specs.List.{find, flat_map}
 use Rattle.usb_base.specs.declared.transfer.Outcome.{Outcome}
 use Rattle.redir_host.specs.Sound.{Each}
-use Rattle.gate_core.specs.declared.note.Note.TheVariants as note
-use Rattle.gate_core.specs.Marks.{Fact, Answers}
-use Rattle.gate_core.specs.Submits.{Pending, ends}
-use Rattle.gate_core.specs.State.{State}
-use Rattle.gate_core.specs.Ups.{Up}
-use Rattle.gate_core.specs.Meaning.{mark_as}
-use Rattle.gate_core.specs.Notes.{notes_of, answer_notes, is_by_answer}
-use Rattle.gate_core.specs.Output.{present}
-use Rattle.gate_core.proofs.Lists.{flat_map-map, flat_map-none}
+use Rattle.gate_history.specs.declared.note.Note.TheVariants as note
+use Rattle.gate_history.specs.Marks.{Fact, Answers}
+use Rattle.gate_history.specs.Submits.{Pending, ends}
+use Rattle.gate_history.specs.State.{State}
+use Rattle.gate_history.specs.Ups.{Up}
+use Rattle.gate_history.specs.Meaning.{mark_as}
+use Rattle.gate_history.specs.Notes.{notes_of, answer_notes, is_by_answer}
+use Rattle.gate_history.specs.Output.{present}
+use Rattle.gate_history.proofs.Lists.{flat_map-map, flat_map-none}
 use Rattle.direct_run.specs.Noted.{named}
 use Rattle.direct_device.specs.Direct.{way_if}
 use Rattle.direct_proof.specs.Tagged.{Tagged}

@@ -3,7 +3,7 @@ use Rattle.std.proofs.Common.{◌≡◌, ℕ, ◌+◌, ◌≤◌, ◌==◌, not,
 use Rattle.std.proofs.lemmas.List.{reverse-append}
 use Rattle.usb_base.specs.declared.transfer.Outcome.{Outcome}
 use Rattle.redir_host.specs.Sound.{Each}
-use Rattle.gate_core.proofs.Lists.{both}
+use Rattle.gate_history.proofs.Lists.{both}
 use Rattle.direct_run.specs.declared.submitted.Submitted.{Submitted}
 use Rattle.direct_run.specs.Noted.{number_in, number_of}
 use Rattle.direct_device.specs.Direct.{Load, number}

@@ -9,10 +9,10 @@ use Rattle.redir_host.specs.Sound.{Each}
 use Rattle.redir_host.specs.declared.request.Form.{Form}
 use Rattle.redir_host.specs.declared.request.Form.TheVariants as form
 use Rattle.redir_host.specs.Answers.{answer_by}
-use Rattle.gate_core.specs.declared.facts.Facts.{Facts}
-use Rattle.gate_core.specs.Facts.{tell}
-use Rattle.gate_core.specs.Meaning.{fact_of}
-use Rattle.gate_core.specs.Marks.{Fact, Configuration}
+use Rattle.gate_history.specs.declared.facts.Facts.{Facts}
+use Rattle.gate_history.specs.Facts.{tell}
+use Rattle.gate_history.specs.Meaning.{fact_of}
+use Rattle.gate_history.specs.Marks.{Fact, Configuration}
 use Rattle.direct_run.specs.Moves.{World}
 use Rattle.direct_proof.specs.Requests.{Entry, Coming, at_queue, form_of, queued_transfer}
 use Rattle.direct_proof.specs.Shared.{Shared}

@@ -5,8 +5,8 @@ use Rattle.usb_base.specs.declared.endpoint.EpTable.{EpTable}
 use Rattle.redir_data.specs.declared.packet.RedirPacket.{RedirPacket}
 use Rattle.redir_host.specs.declared.running.StreamKind.{StreamKind}
 use Rattle.redir_host.specs.Sound.{Each}
-use Rattle.gate_core.specs.Ids.{times}
-use Rattle.gate_core.specs.Calls.{Calls}
+use Rattle.gate_history.specs.Ids.{times}
+use Rattle.gate_history.specs.Calls.{Calls}
 use Rattle.direct_proof.specs.Tagged.{Tagged}
 use Rattle.direct_proof.specs.Stale.{asks}
 use Rattle.direct_proof.specs.Running.{Quits, runs_after, Trails, passes, called_endpoint, started_kind, CanStart, StartsFit}

@@ -7,14 +7,14 @@ use Rattle.usbip_urb.specs.declared.client.ClientPacket.{ClientPacket}
 use Rattle.usbip_urb.specs.declared.client.ClientPacket.TheVariants.{Op, Urb}
 use Rattle.usbip_urb.specs.declared.packet.UrbPacket.{UrbPacket}
 use Rattle.model_device.specs.Meaning.{Meaning}
-use Rattle.gate_core.specs.Answers.{answers_at}
-use Rattle.gate_core.specs.Machine.{after}
-use Rattle.gate_core.specs.Marks.{Mark}
-use Rattle.gate_core.specs.Output.{fresh, to_client}
-use Rattle.gate_core.specs.Sides.{imports, leaves, refuses_client, ends_client}
-use Rattle.gate_core.specs.Sound.{IsSound}
-use Rattle.gate_core.specs.State.{State}
-use Rattle.gate_core.specs.Submits.{ends, opened}
+use Rattle.gate_history.specs.Answers.{answers_at}
+use Rattle.gate_history.specs.Machine.{after}
+use Rattle.gate_history.specs.Marks.{Mark}
+use Rattle.gate_history.specs.Output.{fresh, to_client}
+use Rattle.gate_history.specs.Sides.{imports, leaves, refuses_client, ends_client}
+use Rattle.gate_history.specs.Sound.{IsSound}
+use Rattle.gate_history.specs.State.{State}
+use Rattle.gate_history.specs.Submits.{ends, opened}
 use Rattle.direct_device.specs.Direct.{Direct}
 use Rattle.direct_device.specs.Legal.{all_answers}
 use Rattle.direct_proof.specs.Moves.{deeds_of}

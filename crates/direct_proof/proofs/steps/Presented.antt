@@ -11,11 +11,11 @@ use Rattle.redir_host.specs.Offering.{told_offered}
 use Rattle.redir_host.specs.Packets.{packet_move}
 use Rattle.redir_host.specs.Performing.{performed}
 use Rattle.redir_host.specs.Sound.{Each}
-use Rattle.gate_core.specs.Items.{Item as GateItem, Asked, ClientWrong, ClientLeft, Told, HostWrong, HostLeft}
-use Rattle.gate_core.specs.Meaning.{mark_of}
-use Rattle.gate_core.specs.Past.{is_left_out}
-use Rattle.gate_core.specs.Sound.{IsSound}
-use Rattle.gate_core.specs.State.{State}
+use Rattle.gate_history.specs.Items.{Item as GateItem, Asked, ClientWrong, ClientLeft, Told, HostWrong, HostLeft}
+use Rattle.gate_history.specs.Meaning.{mark_of}
+use Rattle.gate_history.specs.Past.{is_left_out}
+use Rattle.gate_history.specs.Sound.{IsSound}
+use Rattle.gate_history.specs.State.{State}
 use Rattle.direct_run.specs.Clients.{IsMove, present_outs, then_sent}
 use Rattle.direct_run.specs.Moves.{World, Move, ByClient, HostReads, GateReads, Performs, Offers, Unplugs, first_world}
 use Rattle.direct_run.specs.Moves as told

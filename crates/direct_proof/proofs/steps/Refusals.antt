@@ -4,15 +4,15 @@ use Rattle.std.specs.List.{flat_map, list_any}
 use Rattle.std.proofs.lemmas.List.Folds.{list_any-append}
 use Rattle.std.proofs.lemmas.Grind.{flat_map-append}
 use Rattle.usb_base.specs.declared.refusal.Refusal.{Refusal}
-use Rattle.gate_core.specs.declared.note.Note.{Note}
-use Rattle.gate_core.specs.declared.note.Note.TheVariants as note
-use Rattle.gate_core.specs.Marks.{Submission, Effect, Imports, Unlinks, Arrives, Mark}
-use Rattle.gate_core.specs.Sides.{is_client, is_of, refused_at, refuses_host as effect_refuses, ends_host, leaves, is_loss, closes_host, host_over}
-use Rattle.gate_core.specs.Submits.{Pending, opened, ends}
-use Rattle.gate_core.specs.State.{State, state_of}
-use Rattle.gate_core.specs.Output.{present}
-use Rattle.gate_core.specs.Notes.{when, import_notes, submit_notes, unlink_notes, arrival_notes, answer_notes, refusal_notes, is_by_answer, notes_of}
-use Rattle.gate_core.specs.All.{all_of}
+use Rattle.gate_history.specs.declared.note.Note.{Note}
+use Rattle.gate_history.specs.declared.note.Note.TheVariants as note
+use Rattle.gate_history.specs.Marks.{Submission, Effect, Imports, Unlinks, Arrives, Mark}
+use Rattle.gate_history.specs.Sides.{is_client, is_of, refused_at, refuses_host as effect_refuses, ends_host, leaves, is_loss, closes_host, host_over}
+use Rattle.gate_history.specs.Submits.{Pending, opened, ends}
+use Rattle.gate_history.specs.State.{State, state_of}
+use Rattle.gate_history.specs.Output.{present}
+use Rattle.gate_history.specs.Notes.{when, import_notes, submit_notes, unlink_notes, arrival_notes, answer_notes, refusal_notes, is_by_answer, notes_of}
+use Rattle.gate_history.specs.All.{all_of}
 use Rattle.direct_run.specs.Noted.{refusal_in}
 use Rattle.direct_proof.specs.Simulates.{refuses_host}
 

@@ -9,12 +9,12 @@ use Rattle.redir_host.specs.declared.note.Offered.{Offered}
 use Rattle.redir_host.specs.declared.note.Offered.TheVariants as offered
 use Rattle.redir_host.specs.Moves.{Move as HostMove}
 use Rattle.redir_host.specs.Sound.{Each}
-use Rattle.gate_core.specs.Marks.{Submission, Effect, Imports, Unlinks, Arrives, Mark}
-use Rattle.gate_core.specs.Notes.{is_by_answer}
-use Rattle.gate_core.specs.Output.{present}
-use Rattle.gate_core.specs.Sides.{imports, is_loss, leaves}
-use Rattle.gate_core.specs.State.{State}
-use Rattle.gate_core.specs.Submits.{Pending, ends, opened}
+use Rattle.gate_history.specs.Marks.{Submission, Effect, Imports, Unlinks, Arrives, Mark}
+use Rattle.gate_history.specs.Notes.{is_by_answer}
+use Rattle.gate_history.specs.Output.{present}
+use Rattle.gate_history.specs.Sides.{imports, is_loss, leaves}
+use Rattle.gate_history.specs.State.{State}
+use Rattle.gate_history.specs.Submits.{Pending, ends, opened}
 use Rattle.direct_run.specs.declared.submitted.Submitted.{Submitted}
 use Rattle.direct_device.specs.Acting.{Deed, Import, Submit, Unlink, Perform, Cancel, Answer, Offer, Arrive, Gone, ClientGone, act, answers}
 use Rattle.direct_device.specs.Direct.{Direct}

@@ -18,10 +18,10 @@ use Rattle.redir_host.specs.Packets.{packet_move_by, runs_at}
 use Rattle.redir_host.specs.Performing.{first_performed, perform_move_by, told_performed_by}
 use Rattle.redir_host.specs.Queues.{is_at}
 use Rattle.redir_host.proofs.Runs.{act-host}
-use Rattle.gate_core.specs.declared.note.Note.{Note}
-use Rattle.gate_core.specs.declared.note.Note.TheVariants as note
-use Rattle.gate_core.specs.Events.{ClientPiece, ClientEnd as ClientEnds, HostPiece}
-use Rattle.gate_core.specs.Notes.{notes_of}
+use Rattle.gate_history.specs.declared.note.Note.{Note}
+use Rattle.gate_history.specs.declared.note.Note.TheVariants as note
+use Rattle.gate_history.specs.Events.{ClientPiece, ClientEnd as ClientEnds, HostPiece}
+use Rattle.gate_history.specs.Notes.{notes_of}
 use Rattle.direct_run.specs.declared.submitted.Submitted.{Submitted}
 use Rattle.direct_run.specs.Noted.{item_of, item_of_host, performed_item, offered_item}
 use Rattle.direct_run.specs.Steps.{Step, Client, ClientEnd, ToHost, ToGate, Perform, Offer, Unplug}

@@ -7,17 +7,17 @@ use Rattle.model_device.specs.Meaning.{Meaning}
 use Rattle.model_device.specs.Transfer.{is_control}
 use Rattle.redir_host.specs.Line.{Waiting as InLine}
 use Rattle.redir_host.specs.Sound.{Each}
-use Rattle.gate_core.specs.Requests.{Request, request_of}
-use Rattle.gate_core.specs.Verdict.{Verdict, goes_by_id}
-use Rattle.gate_core.specs.Marks.{Submission, Effect, Opens, Mark}
-use Rattle.gate_core.specs.Submits.{Pending}
-use Rattle.gate_core.specs.Calls.{called}
-use Rattle.gate_core.specs.State.{State, submits, is_number as is_numbered, change_waits}
-use Rattle.gate_core.specs.Sound.{IsSound}
-use Rattle.gate_core.specs.Machine.{after}
-use Rattle.gate_core.specs.Meaning.{mark_as}
-use Rattle.gate_core.specs.Output.{fresh}
-use Rattle.gate_core.proofs.Lists.{filter-all}
+use Rattle.gate_history.specs.Requests.{Request, request_of}
+use Rattle.gate_history.specs.Verdict.{Verdict, goes_by_id}
+use Rattle.gate_history.specs.Marks.{Submission, Effect, Opens, Mark}
+use Rattle.gate_history.specs.Submits.{Pending}
+use Rattle.gate_history.specs.Calls.{called}
+use Rattle.gate_history.specs.State.{State, submits, is_number as is_numbered, change_waits}
+use Rattle.gate_history.specs.Sound.{IsSound}
+use Rattle.gate_history.specs.Machine.{after}
+use Rattle.gate_history.specs.Meaning.{mark_as}
+use Rattle.gate_history.specs.Output.{fresh}
+use Rattle.gate_history.proofs.Lists.{filter-all}
 use Rattle.direct_run.specs.Moves.{World}
 use Rattle.direct_device.specs.Direct.{Load, number, normal_of}
 use Rattle.direct_proof.specs.Moves.{gate_made}

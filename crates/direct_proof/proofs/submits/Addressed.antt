@@ -8,7 +8,7 @@ use Rattle.usbip_urb.specs.declared.packet.Submit.{Submit as UrbSubmit}
 use Rattle.usbip_urb.specs.Ranges.{IsSubmit}
 use Rattle.usbip_urb.specs.Sizes.{is_out}
 use Rattle.model_device.specs.Transfer.{is_control}
-use Rattle.gate_core.specs.Requests.{request_of, address, is_in_setup, transfer_by}
+use Rattle.gate_history.specs.Requests.{request_of, address, is_in_setup, transfer_by}
 
 pub record IsAddressed (t : Transfer) : Type 0 where
   pub low : t.ep % 128 < 16

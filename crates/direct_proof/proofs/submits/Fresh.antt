@@ -5,14 +5,14 @@ use Rattle.usb_base.specs.Endpoint.{endpoint_index}
 use Rattle.usbip_urb.specs.declared.packet.Submit.{Submit as UrbSubmit}
 use Rattle.model_device.specs.Transfer.{is_control}
 use Rattle.redir_host.specs.Sound.{Each}
-use Rattle.gate_core.specs.Requests.{request_of}
-use Rattle.gate_core.specs.Verdict.{Verdict, goes_by_id}
-use Rattle.gate_core.specs.Marks.{Submission}
-use Rattle.gate_core.specs.Ids.{holds}
-use Rattle.gate_core.specs.Flight.{ids_of}
-use Rattle.gate_core.specs.Calls.{call_ids}
-use Rattle.gate_core.specs.State.{State, submits, flying, has_number, change_waits}
-use Rattle.gate_core.specs.Meaning.{verdict_of}
+use Rattle.gate_history.specs.Requests.{request_of}
+use Rattle.gate_history.specs.Verdict.{Verdict, goes_by_id}
+use Rattle.gate_history.specs.Marks.{Submission}
+use Rattle.gate_history.specs.Ids.{holds}
+use Rattle.gate_history.specs.Flight.{ids_of}
+use Rattle.gate_history.specs.Calls.{call_ids}
+use Rattle.gate_history.specs.State.{State, submits, flying, has_number, change_waits}
+use Rattle.gate_history.specs.Meaning.{verdict_of}
 use Rattle.direct_device.specs.Direct.{normal_of}
 use Rattle.direct_proof.specs.Requests.{Entry, Debt, debts_of}
 use Rattle.direct_proof.specs.Loads.{IsLoad}

@@ -16,14 +16,14 @@ use Rattle.control_route.specs.declared.route.Route.TheVariants as route
 use Rattle.control_route.specs.Routes.{route_of}
 use Rattle.model_device.specs.Gadget.{IsGadget}
 use Rattle.model_device.specs.Meaning.{Meaning}
-use Rattle.gate_core.specs.Errno.{enoent, ebusy, einval, emsgsize, eshutdown}
-use Rattle.gate_core.specs.Flight.{wide_bulk}
-use Rattle.gate_core.specs.Meaning.{verdict_of}
-use Rattle.gate_core.specs.Requests.{Request, request_of, is_in_setup}
-use Rattle.gate_core.specs.State.{State, change_waits}
-use Rattle.gate_core.specs.Verdict.{Verdict, Now, Wire, Routed, IsoOut, Stream, max_live, max_narrow, none_of, bool_eq, by_route, by_setup, by_kind, is_control, is_iso, is_invalid, is_narrow, by_transfer, verdict, InterruptOut}
-use Rattle.gate_core.specs.inner.Carried.{IsDirected}
-use Rattle.gate_core.proofs.Carried.{is_request}
+use Rattle.gate_history.specs.Errno.{enoent, ebusy, einval, emsgsize, eshutdown}
+use Rattle.gate_history.specs.Flight.{wide_bulk}
+use Rattle.gate_history.specs.Meaning.{verdict_of}
+use Rattle.gate_history.specs.Requests.{Request, request_of, is_in_setup}
+use Rattle.gate_history.specs.State.{State, change_waits}
+use Rattle.gate_history.specs.Verdict.{Verdict, Now, Wire, Routed, IsoOut, Stream, max_live, max_narrow, none_of, bool_eq, by_route, by_setup, by_kind, is_control, is_iso, is_invalid, is_narrow, by_transfer, verdict, InterruptOut}
+use Rattle.gate_history.specs.Carried.{IsDirected}
+use Rattle.gate_history.proofs.Carried.{is_request}
 use Rattle.direct_run.specs.Moves.{World}
 use Rattle.direct_proof.specs.Related.{Related}
 use Rattle.direct_proof.specs.Shared.{Shared}

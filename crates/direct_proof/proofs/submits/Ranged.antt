@@ -21,15 +21,15 @@ use Rattle.redir_wire.specs.declared.packet.Way.TheVariants.{ToHost}
 use Rattle.model_device.specs.Transfer.{IsTransfer, is_control}
 use Rattle.model_device.proofs.Submits.{asks_transfer}
 use Rattle.redir_host.specs.Asking.{routed}
-use Rattle.gate_core.specs.Errno.{enoent, ebusy, einval, emsgsize, eshutdown}
-use Rattle.gate_core.specs.Flight.{wide_bulk}
-use Rattle.gate_core.specs.Meaning.{verdict_of}
-use Rattle.gate_core.specs.Requests.{Request, request_of, address, is_in_setup}
-use Rattle.gate_core.specs.State.{State, change_waits}
-use Rattle.gate_core.specs.Verdict.{Verdict, Control, InterruptOut, Now, Wire, Routed, IsoOut, Stream, max_live, max_narrow, none_of, bool_eq, by_route, by_setup, by_kind, is_iso, is_invalid, is_narrow, by_endpoint, by_transfer, verdict, goes_by_id}
-use Rattle.gate_core.specs.Verdict as of_kind
-use Rattle.gate_core.specs.inner.Carried.{IsDirected, IsRequest, IsCarried}
-use Rattle.gate_core.proofs.Carried.{is_request, carried, not-false}
+use Rattle.gate_history.specs.Errno.{enoent, ebusy, einval, emsgsize, eshutdown}
+use Rattle.gate_history.specs.Flight.{wide_bulk}
+use Rattle.gate_history.specs.Meaning.{verdict_of}
+use Rattle.gate_history.specs.Requests.{Request, request_of, address, is_in_setup}
+use Rattle.gate_history.specs.State.{State, change_waits}
+use Rattle.gate_history.specs.Verdict.{Verdict, Control, InterruptOut, Now, Wire, Routed, IsoOut, Stream, max_live, max_narrow, none_of, bool_eq, by_route, by_setup, by_kind, is_iso, is_invalid, is_narrow, by_endpoint, by_transfer, verdict, goes_by_id}
+use Rattle.gate_history.specs.Verdict as of_kind
+use Rattle.gate_history.specs.Carried.{IsDirected, IsRequest, IsCarried}
+use Rattle.gate_history.proofs.Carried.{is_request, carried, not-false}
 use Rattle.direct_device.specs.Direct.{normal_by}
 use Rattle.direct_proof.specs.Loads.{FitsPipe, FitsRoute, FitsVerdict, IsLoad}
 use Rattle.direct_proof.proofs.submits.Addressed.{IsAddressed, addressed}

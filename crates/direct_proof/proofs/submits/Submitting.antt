@@ -4,13 +4,13 @@ use Rattle.usb_base.specs.declared.setup.Setup.{Setup}
 use Rattle.usb_base.specs.declared.endpoint.EpTable.{EpTable}
 use Rattle.usb_base.specs.declared.endpoint.EpRow.{EpRow}
 use Rattle.usb_base.specs.Endpoint.{row_of}
-use Rattle.gate_core.specs.Requests.{Request}
-use Rattle.gate_core.specs.Verdict.{Verdict, Pipe, Wire, verdict, by_transfer, by_endpoint, max_live, Now}
-use Rattle.gate_core.specs.Errno.{enoent, eshutdown, ebusy}
-use Rattle.gate_core.specs.Submits.{Pending}
-use Rattle.gate_core.specs.Ups.{Up}
-use Rattle.gate_core.specs.Meaning.{by_stream}
-use Rattle.gate_core.proofs.Lists.{Each}
+use Rattle.gate_history.specs.Requests.{Request}
+use Rattle.gate_history.specs.Verdict.{Verdict, Pipe, Wire, verdict, by_transfer, by_endpoint, max_live, Now}
+use Rattle.gate_history.specs.Errno.{enoent, eshutdown, ebusy}
+use Rattle.gate_history.specs.Submits.{Pending}
+use Rattle.gate_history.specs.Ups.{Up}
+use Rattle.gate_history.specs.Meaning.{by_stream}
+use Rattle.gate_history.proofs.Lists.{Each}
 
 pub by-wire : (up : Option Up) (pipe : Pipe) → by_stream up (Wire pipe) ≡ Wire pipe
 by-wire None pipe = refl

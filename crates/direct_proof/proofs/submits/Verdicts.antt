@@ -10,18 +10,18 @@ use Rattle.model_device.specs.Meaning.{Meaning}
 use Rattle.redir_host.specs.Facts.{ep_info_of}
 use Rattle.redir_host.specs.Sound.{Each}
 use Rattle.redir_host.specs.declared.running.StreamKind.TheVariants.{Iso, Interrupt}
-use Rattle.gate_core.specs.Requests.{Request}
-use Rattle.gate_core.specs.Verdict.{Verdict, Now, verdict, by_transfer, by_endpoint, max_live, changes, goes_by_id}
-use Rattle.gate_core.specs.Errno.{eshutdown, ebusy}
-use Rattle.gate_core.specs.Marks.{Submission}
-use Rattle.gate_core.specs.Submits.{Pending}
-use Rattle.gate_core.specs.Ups.{stream_at}
-use Rattle.gate_core.specs.Flight.{wide_bulk}
-use Rattle.gate_core.specs.State.{submits, change_waits}
-use Rattle.gate_core.specs.Meaning.{verdict_of, by_stream, fact_of}
-use Rattle.gate_core.proofs.Lists.{both, list_any-map}
-use Rattle.gate_core.specs.declared.facts.Facts.{Facts}
-use Rattle.gate_core.specs.Facts.{tell}
+use Rattle.gate_history.specs.Requests.{Request}
+use Rattle.gate_history.specs.Verdict.{Verdict, Now, verdict, by_transfer, by_endpoint, max_live, changes, goes_by_id}
+use Rattle.gate_history.specs.Errno.{eshutdown, ebusy}
+use Rattle.gate_history.specs.Marks.{Submission}
+use Rattle.gate_history.specs.Submits.{Pending}
+use Rattle.gate_history.specs.Ups.{stream_at}
+use Rattle.gate_history.specs.Flight.{wide_bulk}
+use Rattle.gate_history.specs.State.{submits, change_waits}
+use Rattle.gate_history.specs.Meaning.{verdict_of, by_stream, fact_of}
+use Rattle.gate_history.proofs.Lists.{both, list_any-map}
+use Rattle.gate_history.specs.declared.facts.Facts.{Facts}
+use Rattle.gate_history.specs.Facts.{tell}
 use Rattle.direct_run.specs.declared.submitted.Submitted.{Submitted}
 use Rattle.direct_run.specs.Moves.{World}
 use Rattle.direct_run.specs.Packets.{both_caps}

@@ -5,18 +5,18 @@ use Rattle.std.specs.List.{list_any, flat_map}
 use Rattle.usbip_urb.specs.declared.client.ClientPacket.{ClientPacket}
 use Rattle.usbip_urb.specs.declared.client.ClientPacket.TheVariants.{Urb}
 use Rattle.redir_host.specs.Sound.{Each}
-use Rattle.gate_core.specs.Verdict.{Verdict, Now, Wire, Routed, IsoOut, Stream, goes_by_id}
-use Rattle.gate_core.specs.Marks.{Submission, Effect, Unlinks}
-use Rattle.gate_core.specs.Submits.{Pending, is_waiting, ends, ByUnlink}
-use Rattle.gate_core.specs.Answers.{ret_unlink, answers_at}
-use Rattle.gate_core.specs.Errno.{econnreset}
-use Rattle.gate_core.specs.Output.{is_target as gate_target, is_taken as gate_taken, cancels, cancel, to_host, to_client, present}
-use Rattle.gate_core.specs.Notes.{is_by_answer, notes_of}
-use Rattle.gate_core.specs.State.{State, submits}
-use Rattle.gate_core.specs.Machine.{ask, live_after}
-use Rattle.gate_core.specs.Meaning.{mark_as}
-use Rattle.gate_core.proofs.Lists.{Each as ListEach, every, filter-same, filter-none, filter-map, flat_map-same, flat_map-filter, list_any-map, map-map}
-use Rattle.gate_core.specs.declared.note.Note.TheVariants as note
+use Rattle.gate_history.specs.Verdict.{Verdict, Now, Wire, Routed, IsoOut, Stream, goes_by_id}
+use Rattle.gate_history.specs.Marks.{Submission, Effect, Unlinks}
+use Rattle.gate_history.specs.Submits.{Pending, is_waiting, ends, ByUnlink}
+use Rattle.gate_history.specs.Answers.{ret_unlink, answers_at}
+use Rattle.gate_history.specs.Errno.{econnreset}
+use Rattle.gate_history.specs.Output.{is_target as gate_target, is_taken as gate_taken, cancels, cancel, to_host, to_client, present}
+use Rattle.gate_history.specs.Notes.{is_by_answer, notes_of}
+use Rattle.gate_history.specs.State.{State, submits}
+use Rattle.gate_history.specs.Machine.{ask, live_after}
+use Rattle.gate_history.specs.Meaning.{mark_as}
+use Rattle.gate_history.proofs.Lists.{Each as ListEach, every, filter-same, filter-none, filter-map, flat_map-same, flat_map-filter, list_any-map, map-map}
+use Rattle.gate_history.specs.declared.note.Note.TheVariants as note
 use Rattle.direct_run.specs.Noted.{named}
 use Rattle.direct_device.specs.Direct.{Live, Direct}
 use Rattle.direct_device.specs.Acting.{Unlink, Answer, is_taken, is_target, asked_back, unlink_answers}

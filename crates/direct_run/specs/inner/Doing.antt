@@ -1,8 +1,8 @@
 -- What an event of the gateway and an act of the host make of a system.
 use Rattle.std.specs.Prelude.{◌≡◌, List, [], ◌∷◌, ◌++◌}
 use Rattle.std.specs.List.{flat_map}
-use Rattle.gate_core.specs.Events.{Event}
-use Rattle.gate_core.specs.Notes.{notes_of}
+use Rattle.gate_history.specs.Events.{Event}
+use Rattle.gate_history.specs.Notes.{notes_of}
 use Rattle.gate_core.specs.Stands.{Stands as GateStands}
 use Rattle.model_device.specs.Meaning.{Meaning}
 use Rattle.redir_host.specs.Acts.{Act}

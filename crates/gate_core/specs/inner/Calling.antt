@@ -1,26 +1,21 @@
 -- What is drawn and sent for streams, by what is kept.
-use Rattle.std.specs.Prelude.{◌≡◌, ℕ, Bool, false, ◌==◌, List, ◌++◌, length, zip, Option, Some, None}
+use Rattle.std.specs.Prelude.{◌≡◌, ℕ, List, ◌++◌, length, zip, Option}
 use Rattle.redir_data.specs.declared.packet.RedirPacket.{RedirPacket}
 use Rattle.control_route.specs.declared.route.Route.{Route}
 use Rattle.usb_base.specs.declared.endpoint.EpRow.{EpRow}
 use Rattle.gate_core.specs.declared.kept.Kept.{Kept}
-use Rattle.gate_core.specs.declared.calls.Called.{Called}
-use Rattle.gate_core.specs.Ids.{draws, greatest, last_of}
-use Rattle.gate_core.specs.Ups.{stream_at, is_ended}
-use Rattle.gate_core.specs.Marks.{Effect}
-use Rattle.gate_core.specs.State.{State}
-use Rattle.gate_core.specs.Meaning.{drawn_by}
-use Rattle.gate_core.specs.Packets.{starts, stops, asked_packets}
-use Rattle.gate_core.specs.Calls.{called, call_ids, last_or}
+use Rattle.gate_parts.specs.declared.calls.Called.{Called}
+use Rattle.gate_history.specs.Ids.{draws, greatest, last_of}
+use Rattle.gate_history.specs.Ups.{stream_at, is_ended}
+use Rattle.gate_history.specs.Marks.{Effect}
+use Rattle.gate_history.specs.State.{State}
+use Rattle.gate_history.specs.Meaning.{drawn_by}
+use Rattle.gate_history.specs.Packets.{starts, stops, asked_packets}
+use Rattle.gate_history.specs.Calls.{called, call_ids, last_or}
 use Rattle.std.specs.List.{flat_map}
-use Rattle.gate_core.specs.Bytes.{host_packet_bytes}
-use Rattle.gate_core.specs.Flight.{wide_ids}
-use Rattle.gate_core.specs.inner.Flying.{ids_in}
-
--- of an optional id, whether it is this one
-abbrev pub is_id : ℕ → Option ℕ → Bool
-is_id id None = false
-is_id id (Some x) = x == id
+use Rattle.gate_history.specs.Bytes.{host_packet_bytes}
+use Rattle.gate_history.specs.Flight.{wide_ids}
+use Rattle.gate_parts.specs.Flying.{ids_in}
 
 abbrev pub flying_in : Kept → List ℕ
 flying_in t = ids_in t.lives ++ call_ids t.calls

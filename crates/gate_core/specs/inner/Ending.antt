@@ -1,5 +1,5 @@
 -- The requests that end with their stream, by their rows: what goes out for them, and what is left.
-use Rattle.std.specs.Prelude.{◌≡◌, ◌+◌, ◌&&◌, ℕ, ℤ, not, Bool, if◌then◌else◌, List, [], length, filter}
+use Rattle.std.specs.Prelude.{◌≡◌, ◌+◌, ◌&&◌, ℕ, not, Bool, if◌then◌else◌, List, [], length, filter}
 use Rattle.usb_base.specs.declared.status.UsbStatus.{UsbStatus}
 use Rattle.usb_base.specs.Status.{errno_of}
 use Rattle.usbip_urb.specs.Spelling.{spelling}
@@ -8,15 +8,12 @@ use Rattle.unlink_race.specs.declared.live.Live.{Live}
 use Rattle.unlink_race.specs.declared.live.StreamEnd.{StreamEnd}
 use Rattle.unlink_race.specs.Searches.{ended_by, waits_for}
 use Rattle.gate_core.specs.declared.kept.Kept.{Kept}
-use Rattle.gate_core.specs.Items.{capped}
-use Rattle.gate_core.specs.Ups.{lower_at}
-use Rattle.gate_core.specs.Answers.{without_packets}
-use Rattle.gate_core.specs.inner.Rows.{row_request}
+use Rattle.gate_history.specs.Items.{capped}
+use Rattle.gate_history.specs.Ups.{lower_at}
+use Rattle.gate_history.specs.Answers.{without_packets}
+use Rattle.gate_parts.specs.Rows.{row_request}
 
 -- ---- by what ends its stream
-
-abbrev pub ended_bytes : StreamEnd → ℤ → Live → List ℕ
-ended_bytes end status l = if ended_by end l then spelling (without_packets (row_request l) status) else []
 
 -- they are gone, and counted
 pub record HasDropped (end : StreamEnd) (old new : Kept) : Type 0 where

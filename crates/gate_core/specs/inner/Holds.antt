@@ -1,46 +1,34 @@
 -- When what is kept stands for a state of the machine, and what it does with an item.
-use Rattle.std.specs.Prelude.{◌≡◌, ◌⊎◌, ◌∷◌, ◌<◌, not, ◌+◌, ◌-◌, ◌^◌, [], ◌++◌, ◌≤◌, ℕ, true, false, List, length, filter, IsTrue, Option, Some, None}
+use Rattle.std.specs.Prelude.{◌≡◌, ◌⊎◌, ◌∷◌, ◌<◌, not, ◌+◌, ◌-◌, ◌^◌, [], ◌++◌, ◌≤◌, ℕ, true, false, List, length, filter, IsTrue, None}
 use Rattle.std.specs.List.{AllByRecursion, list_any}
 use Rattle.usbip_urb.specs.declared.code.TheConstants.{MAX_LENGTH}
 use Rattle.usbip_urb.specs.Buffers.{laid}
-use Rattle.usbip_urb.specs.ClientPackets.{IsClientPacket}
-use Rattle.redir_wire.specs.declared.packet.Caps.{Caps}
-use Rattle.redir_wire.specs.declared.packet.Header.{Header}
-use Rattle.redir_wire.specs.declared.packet.Way.TheVariants.{ToGuest}
-use Rattle.redir_wire.specs.declared.packet.RedirControl.TheVariants as plain
-use Rattle.redir_wire.specs.Header.{IdFits}
-use Rattle.redir_data.specs.declared.packet.RedirPacket.{RedirPacket}
-use Rattle.redir_data.specs.declared.packet.RedirPacket.TheVariants.{Plain}
-use Rattle.redir_data.specs.Spelling.{data_count}
 use Rattle.unlink_race.specs.Requests.{no_requests}
 use Rattle.unlink_race.specs.declared.live.Live.{Live}
 use Rattle.unlink_race.specs.declared.live.LiveKind.{LiveKind}
 use Rattle.unlink_race.specs.Searches.{goes_by_id, has_number, is_stream}
-use Rattle.gate_core.specs.declared.note.Note.{Note}
+use Rattle.gate_history.specs.declared.note.Note.{Note}
 use Rattle.gate_core.specs.declared.kept.Kept.{Kept}
-use Rattle.gate_core.specs.declared.calls.Called.{Called}
-use Rattle.gate_core.specs.declared.item.Item.{Item as RawItem}
-use Rattle.gate_core.specs.declared.item.Item.TheVariants as raw
-use Rattle.gate_core.specs.Items.{Item, Asked, ClientWrong, ClientLeft, Told, HostWrong, HostLeft, capped}
-use Rattle.gate_core.specs.Marks.{Mark}
-use Rattle.gate_core.specs.Facts.{no_facts}
-use Rattle.gate_core.specs.Ups.{no_streams}
-use Rattle.gate_core.specs.Verdict.{Verdict, goes_by_id as goes_by_id_of}
-use Rattle.gate_core.specs.Flight.{wide_ids}
-use Rattle.gate_core.specs.Responses.{Response, Data, Status, response_of}
-use Rattle.gate_core.specs.Packets.{HasRoute}
-use Rattle.gate_core.specs.Submits.{is_waiting}
-use Rattle.gate_core.specs.State.{State}
-use Rattle.gate_core.specs.Output.{to_client}
-use Rattle.gate_core.specs.Notes.{notes_of, dropped}
-use Rattle.gate_core.specs.All.{is_ret_submit, is_won_unlink}
-use Rattle.gate_core.specs.Bytes.{client_bytes_of, host_bytes_of}
-use Rattle.gate_core.specs.Machine.{start, after}
-use Rattle.gate_core.specs.Requests.{Request}
+use Rattle.gate_parts.specs.declared.calls.Called.{Called}
+use Rattle.gate_history.specs.Items.{capped}
+use Rattle.gate_history.specs.Marks.{Mark}
+use Rattle.gate_history.specs.Facts.{no_facts}
+use Rattle.gate_history.specs.Ups.{no_streams}
+use Rattle.gate_history.specs.Verdict.{Verdict, goes_by_id as goes_by_id_of}
+use Rattle.gate_history.specs.Packets.{HasRoute}
+use Rattle.gate_history.specs.Submits.{is_waiting}
+use Rattle.gate_history.specs.State.{State}
+use Rattle.gate_history.specs.Output.{to_client}
+use Rattle.gate_history.specs.Notes.{notes_of, dropped}
+use Rattle.gate_history.specs.All.{is_ret_submit, is_won_unlink}
+use Rattle.gate_history.specs.Bytes.{client_bytes_of, host_bytes_of}
+use Rattle.gate_history.specs.Machine.{start, after}
+use Rattle.gate_history.specs.Requests.{Request}
 use Rattle.gate_core.specs.Kept.{ItemsKept}
 use Rattle.gate_core.specs.Stands.{IsOf}
-use Rattle.gate_core.specs.inner.Asked.{HasItsPackets}
-use Rattle.gate_core.specs.inner.Rows.{kind_of, IsFine, IsRead}
+use Rattle.gate_history.specs.Asked.{HasItsPackets}
+use Rattle.gate_parts.specs.Rows.{kind_of, IsFine, IsRead}
+use Rattle.gate_parts.specs.Extends.{Extends}
 
 -- ---- standing for a state
 
@@ -89,38 +77,6 @@ pub record IsFirst (t : Kept) (first : ℕ) : Type 0 where
   pub unlinked : t.unlinked ≡ 0
   pub dropped : t.dropped ≡ 0
 
--- ---- an item as the code has it
-
-abbrev pub IsItem : RawItem → Item → Type 0
-IsItem (raw.Asked place packet) x = (at : ℕ) × (place ≡ capped at) × (x ≡ Asked at packet)
-IsItem (raw.ClientWrong place reason) x = (at : ℕ) × (place ≡ capped at) × (x ≡ ClientWrong at reason)
-IsItem raw.ClientLeft x = x ≡ ClientLeft
-IsItem (raw.Told place header packet) x = (at : ℕ) × (place ≡ capped at) × (x ≡ Told at header packet)
-IsItem (raw.HostWrong place reason) x = (at : ℕ) × (place ≡ capped at) × (x ≡ HostWrong at reason)
-IsItem raw.HostLeft x = x ≡ HostLeft
-
--- an answer's type is that of its form, and its data are there
-abbrev pub ResponseFits : ℕ → Option Response → Type 0
-ResponseFits kind None = Unit {0}
-ResponseFits kind (Some (Status status value)) = kind ≤ 99
-ResponseFits kind (Some (Data endpoint length_place o)) = (100 ≤ kind) × (length o.body ≡ data_count ToGuest endpoint o.done)
-
--- ids have 32 bits before the hello
-abbrev pub HelloFits : Caps → RedirPacket → Type 0
-HelloFits caps (Plain (plain.Hello hello)) = wide_ids caps ≡ false
-HelloFits caps _ = Unit {0}
-
-pub record ToldFits (caps : Caps) (h : Header) (p : RedirPacket) : Type 0 where
-  pub id_fits : IdFits (wide_ids caps) h.id
-  pub response : ResponseFits h.kind (response_of p)
-  pub hello : HelloFits caps p
-
--- as its reader gives it
-abbrev pub ItemFits : Caps → RawItem → Type 0
-ItemFits caps (raw.Asked place packet) = IsClientPacket packet
-ItemFits caps (raw.Told place header packet) = ToldFits caps header packet
-ItemFits caps _ = Unit {0}
-
 -- ---- what is done with a mark, and so with an item
 
 pub record Does (st : State) (m : Mark) (old new : Kept) (client_old client_new host_old host_new : List ℕ) (notes_old notes_new : List Note) : Type 0 where
@@ -138,11 +94,6 @@ pub record DoesNothing (old new : Kept) (client_old client_new host_old host_new
   pub client : client_new ≡ client_old
   pub host : host_new ≡ host_old
   pub notes : notes_new ≡ notes_old
-
--- bytes or notes were put behind those that were there
-pub record Extends {A : Type 0} (old new : List A) : Type 0 where
-  pub more : List A
-  pub is : new ≡ old ++ more
 
 -- for want of memory what is kept stands, and the outputs may have the first of what was to be sent and told
 pub record Leaves (old new : Kept) (client_old client_new host_old host_new : List ℕ) (notes_old notes_new : List Note) : Type 0 where
@@ -184,20 +135,6 @@ pub record IsFree (t : Kept) (number : ℕ) : Type 0 where
   pub imported : t.imported ≡ true
   pub number_free : list_any (has_number number) t.lives.live ≡ false
   pub room : length t.lives.live < 4096
-
--- the row of a request that goes as one of this kind, under this id
-abbrev pub row_for : Request → LiveKind → ℕ → Live
-row_for r kind id = record {
-  seqnum = r.number;
-  id = id;
-  kind = kind;
-  is_in = r.is_in;
-  wanted = r.transfer.wanted;
-  flags = r.flags;
-  packets = r.packets;
-  descs = r.descs;
-  unlinker = None;
-}
 
 -- it is the last of the live ones, and this is the last id that was drawn
 pub record HasOpened (live : Live) (last : ℕ) (old new : Kept) : Type 0 where

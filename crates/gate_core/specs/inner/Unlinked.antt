@@ -14,13 +14,13 @@ use Rattle.gate_core.specs.declared.unlink.Asked.TheVariants.{Late, Cancel, Wait
 use Rattle.redir_wire.specs.Header.{IdFits}
 use Rattle.gate_core.specs.declared.kept.Kept.{Kept}
 use Rattle.usbip_urb.specs.Spelling.{spelling}
-use Rattle.gate_core.specs.Items.{capped}
-use Rattle.gate_core.specs.Errno.{econnreset}
-use Rattle.gate_core.specs.Answers.{ret_unlink}
-use Rattle.gate_core.specs.Flight.{wide_ids}
-use Rattle.gate_core.specs.Sides.{or_else}
-use Rattle.gate_core.specs.Bytes.{host_packet_bytes}
-use Rattle.gate_core.specs.inner.Rows.{is_wire_row}
+use Rattle.gate_history.specs.Items.{capped}
+use Rattle.gate_history.specs.Errno.{econnreset}
+use Rattle.gate_history.specs.Answers.{ret_unlink}
+use Rattle.gate_history.specs.Flight.{wide_ids}
+use Rattle.gate_history.specs.Sides.{or_else}
+use Rattle.gate_history.specs.Bytes.{host_packet_bytes}
+use Rattle.gate_parts.specs.Rows.{is_wire_row}
 
 -- ---- of the row that has the number
 

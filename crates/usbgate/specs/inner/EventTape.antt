@@ -1,6 +1,6 @@
 -- What a command over events keeps of its tape.
 use Rattle.std.specs.Prelude.{◌≡◌, List}
-use Rattle.gate_core.specs.Events.{Event}
+use Rattle.gate_history.specs.Events.{Event}
 use Rattle.usbgate.specs.declared.event_tape.EventTape.{EventTape}
 use Rattle.usbgate.specs.Tape.{host_ended}
 use Rattle.usbgate.specs.EventCommand.{EventCommand}

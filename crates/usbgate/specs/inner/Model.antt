@@ -1,7 +1,7 @@
 -- What a modelled run keeps of the steps that it has done.
 use Rattle.std.specs.Prelude.{◌≡◌, Bool, true, false, List, [], ◌∷◌, Option, Some, None}
 use Rattle.usb_base.specs.declared.refusal.Refusal.{Refusal}
-use Rattle.gate_core.specs.History.{history}
+use Rattle.gate_history.specs.History.{history}
 use Rattle.model_device.specs.Meaning.{Meaning}
 use Rattle.direct_run.specs.declared.told.Told.{Told}
 use Rattle.direct_run.specs.Kept.{SystemKept}

@@ -1,9 +1,9 @@
 -- What a replay keeps of the events that it has seen.
 use Rattle.std.specs.Prelude.{◌≡◌, ℕ, Bool, true, false, List, [], ◌∷◌, ◌++◌}
-use Rattle.gate_core.specs.declared.note.Note.{Note}
-use Rattle.gate_core.specs.declared.note.Note.TheVariants as note
-use Rattle.gate_core.specs.Events.{Event}
-use Rattle.gate_core.specs.History.{history}
+use Rattle.gate_history.specs.declared.note.Note.{Note}
+use Rattle.gate_history.specs.declared.note.Note.TheVariants as note
+use Rattle.gate_history.specs.Events.{Event}
+use Rattle.gate_history.specs.History.{history}
 use Rattle.gate_core.specs.Stands.{Stands}
 use Rattle.usbgate.specs.declared.replay.Replay.{Replay}
 use Rattle.usbgate.specs.Text.{event_text}

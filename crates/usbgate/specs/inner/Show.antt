@@ -7,7 +7,7 @@ use Rattle.packet_stream.specs.declared.read.ReadError.TheVariants.{Refused, Mem
 use Rattle.packet_stream.specs.Format.{Format}
 use Rattle.packet_stream.specs.Split.{reads, split}
 use Rattle.packet_stream.specs.Streams.{Kept, Follows, Drained, Wrongs}
-use Rattle.gate_core.specs.Events.{Event}
+use Rattle.gate_history.specs.Events.{Event}
 use Rattle.usbgate.specs.EventCommand.{EventCommand}
 use Rattle.usbgate.specs.Show.{Shown, packet_lines, was_wrong, is_wrong, show_side}
 

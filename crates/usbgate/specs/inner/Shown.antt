@@ -3,7 +3,7 @@ use Rattle.std.specs.Prelude.{◌≡◌, [], None, refl}
 use Rattle.usb_base.specs.Number.{be_at, le_at}
 use Rattle.usb_base.specs.declared.reason.Reason.{Reason}
 use Rattle.packet_stream.specs.Split.{Reader, Position, split}
-use Rattle.gate_core.specs.Streams.{client_reader, client_start, host_reader, host_start}
+use Rattle.gate_history.specs.Streams.{client_reader, client_start, host_reader, host_start}
 
 pub record HasNone {S P : Type 0} (r : Reader S P Reason) (start : Position S) : Type 0 where
   pub packets : (split r start []).packets ≡ []

@@ -1,5 +1,5 @@
 use Rattle.std.proofs.Common.{◌≡◌, ℕ, List, [], ◌++◌, Err, refl, sym, ◌∙◌, ap, subst}
-use Rattle.gate_core.specs.Bytes.{out_host}
+use Rattle.gate_history.specs.Bytes.{out_host}
 use Rattle.gate_core.specs.Stands.{Stands}
 use Rattle.bridge_run.specs.Course.{Setting, Making, AtDoor}
 use Rattle.bridge_run.specs.Calls.{Goes, make}

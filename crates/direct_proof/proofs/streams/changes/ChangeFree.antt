@@ -7,10 +7,10 @@ use Rattle.redir_data.specs.declared.packet.RedirPacket.TheVariants.{Plain}
 use Rattle.control_route.specs.declared.route.Route.{Route}
 use Rattle.control_route.specs.declared.route.Route.TheVariants as route
 use Rattle.redir_host.specs.Sound.{Each}
-use Rattle.gate_core.specs.Packets.{stops, stop_packet, route_packets}
-use Rattle.gate_core.specs.State.{State}
-use Rattle.gate_core.specs.Ups.{Up, is_ended}
-use Rattle.gate_core.specs.Verdict.{is_iso}
+use Rattle.gate_history.specs.Packets.{stops, stop_packet, route_packets}
+use Rattle.gate_history.specs.State.{State}
+use Rattle.gate_history.specs.Ups.{Up, is_ended}
+use Rattle.gate_history.specs.Verdict.{is_iso}
 use Rattle.direct_proof.specs.Requests.{Entry}
 use Rattle.direct_proof.specs.Cancels.{CancelsFit, IsAsking, begins, is_cancel, left, moved}
 use Rattle.direct_proof.proofs.shared.Owed.{each-append}

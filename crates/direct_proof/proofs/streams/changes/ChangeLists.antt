@@ -9,16 +9,16 @@ use Rattle.control_route.specs.declared.route.Route.TheVariants as route
 use Rattle.control_route.specs.Changes.{is_change}
 use Rattle.model_device.specs.Transfer.{is_control}
 use Rattle.redir_host.specs.Sound.{Each}
-use Rattle.gate_core.specs.Requests.{Request}
-use Rattle.gate_core.specs.Verdict.{Verdict, Now, Wire, Routed, IsoOut, Stream, verdict, by_transfer, max_live, goes_by_id}
-use Rattle.gate_core.specs.Errno.{eshutdown, ebusy}
-use Rattle.gate_core.specs.Ids.{holds}
-use Rattle.gate_core.specs.Marks.{Submission}
-use Rattle.gate_core.specs.Submits.{Pending, touches_stream}
-use Rattle.gate_core.specs.Output.{fresh}
-use Rattle.gate_core.specs.State.{State, is_number as has_seq}
-use Rattle.gate_core.specs.Meaning.{by_stream}
-use Rattle.gate_core.specs.Ups.{Up}
+use Rattle.gate_history.specs.Requests.{Request}
+use Rattle.gate_history.specs.Verdict.{Verdict, Now, Wire, Routed, IsoOut, Stream, verdict, by_transfer, max_live, goes_by_id}
+use Rattle.gate_history.specs.Errno.{eshutdown, ebusy}
+use Rattle.gate_history.specs.Ids.{holds}
+use Rattle.gate_history.specs.Marks.{Submission}
+use Rattle.gate_history.specs.Submits.{Pending, touches_stream}
+use Rattle.gate_history.specs.Output.{fresh}
+use Rattle.gate_history.specs.State.{State, is_number as has_seq}
+use Rattle.gate_history.specs.Meaning.{by_stream}
+use Rattle.gate_history.specs.Ups.{Up}
 use Rattle.direct_device.specs.Direct.{number, normal_of, normal_by}
 use Rattle.direct_proof.proofs.shared.New.{IsNew}
 use Rattle.direct_proof.specs.Requests.{Entry, Debt, load_of, debts_of}

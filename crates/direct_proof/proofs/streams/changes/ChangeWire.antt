@@ -8,15 +8,15 @@ use Rattle.control_route.specs.Changes.{is_change}
 use Rattle.redir_host.specs.Line.{Waiting as InLine}
 use Rattle.redir_host.specs.Sound.{Each}
 use Rattle.model_device.specs.Meaning.{Meaning}
-use Rattle.gate_core.specs.Requests.{Request}
-use Rattle.gate_core.specs.Flight.{wide_ids}
-use Rattle.gate_core.specs.Ids.{AreFresh, greatest, draws, last_of}
-use Rattle.gate_core.specs.Packets.{stops, route_packets}
-use Rattle.gate_core.specs.Sound.{IsSound}
-use Rattle.gate_core.specs.State.{State, flying}
-use Rattle.gate_core.specs.Ups.{Up, stream_of, lower, is_ended}
-use Rattle.gate_core.proofs.Called.{AreLong, zip-append, draws-append, last-append, last-any}
-use Rattle.gate_core.proofs.Draws.{length-draws}
+use Rattle.gate_history.specs.Requests.{Request}
+use Rattle.gate_history.specs.Flight.{wide_ids}
+use Rattle.gate_history.specs.Ids.{AreFresh, greatest, draws, last_of}
+use Rattle.gate_history.specs.Packets.{stops, route_packets}
+use Rattle.gate_history.specs.Sound.{IsSound}
+use Rattle.gate_history.specs.State.{State, flying}
+use Rattle.gate_history.specs.Ups.{Up, stream_of, lower, is_ended}
+use Rattle.gate_history.proofs.Called.{AreLong, zip-append, draws-append, last-append, last-any}
+use Rattle.gate_history.proofs.Draws.{length-draws}
 use Rattle.direct_run.specs.Moves.{World}
 use Rattle.direct_proof.specs.Requests.{Entry, at_host}
 use Rattle.direct_proof.specs.Shared.{Shared, lines, half_line, at_hosts}

@@ -5,11 +5,11 @@ use Rattle.std.proofs.lemmas.List.{get_or-set_same, get_or-set_other, length-set
 use Rattle.usb_base.specs.Endpoint.{endpoint_index}
 use Rattle.redir_data.specs.declared.packet.RedirPacket.{RedirPacket}
 use Rattle.redir_host.specs.Sound.{Each}
-use Rattle.gate_core.specs.Calls.{Calls, called, stopped}
-use Rattle.gate_core.specs.Ids.{times}
-use Rattle.gate_core.specs.Packets.{stop_packet, stops}
-use Rattle.gate_core.specs.Ups.{Up}
-use Rattle.gate_core.proofs.Called.{times-append, stop-calls}
+use Rattle.gate_history.specs.Calls.{Calls, called, stopped}
+use Rattle.gate_history.specs.Ids.{times}
+use Rattle.gate_history.specs.Packets.{stop_packet, stops}
+use Rattle.gate_history.specs.Ups.{Up}
+use Rattle.gate_history.proofs.Called.{times-append, stop-calls}
 use Rattle.direct_proof.specs.Kinds.{IsIn, UpFits}
 use Rattle.direct_proof.specs.Calls.{IsKept, CallIsKept, is_id, call_id, calls_on}
 use Rattle.direct_proof.specs.Running.{called_endpoint}

@@ -5,11 +5,11 @@ use Rattle.std.specs.Option.{option_map}
 use Rattle.usbip_urb.specs.declared.packet.UrbPacket.{UrbPacket}
 use Rattle.usb_base.specs.declared.transfer.StreamPacket.{StreamPacket}
 use Rattle.stream_buffers.specs.Cuts.{Cut}
-use Rattle.gate_core.specs.Requests.{Request}
-use Rattle.gate_core.specs.Fillings.{Given, Fill, Filling, fill, filled_by, cut_of, given_to}
-use Rattle.gate_core.specs.Submits.{Pending, End, ByPackets, waits_at, packets_end}
-use Rattle.gate_core.specs.Answers.{answers_at, with_given}
-use Rattle.gate_core.specs.Notes.{is_by_answer}
+use Rattle.gate_history.specs.Requests.{Request}
+use Rattle.gate_history.specs.Fillings.{Given, Fill, Filling, fill, filled_by, cut_of, given_to}
+use Rattle.gate_history.specs.Submits.{Pending, End, ByPackets, waits_at, packets_end}
+use Rattle.gate_history.specs.Answers.{answers_at, with_given}
+use Rattle.gate_history.specs.Notes.{is_by_answer}
 use Rattle.redir_host.specs.Sound.{Each}
 use Rattle.direct_device.specs.Direct.{Live}
 use Rattle.direct_proof.specs.Requests.{live_of}

@@ -4,20 +4,20 @@ use Rattle.std.proofs.Common.{◌≡◌, ◌≤◌, Bool, true, false, List, ◌
 use Rattle.std.proofs.lemmas.List.{length-map, length-append}
 use Rattle.control_route.specs.declared.route.Route.{Route}
 use Rattle.control_route.specs.declared.route.Route.TheVariants as route
-use Rattle.gate_core.specs.Calls.{call_ids, asking}
-use Rattle.gate_core.specs.Flight.{wide_ids, ids_of}
-use Rattle.gate_core.specs.Ids.{greatest}
-use Rattle.gate_core.specs.Machine.{after}
-use Rattle.gate_core.specs.Marks.{Submission, Mark}
-use Rattle.gate_core.specs.Packets.{stops, route_packets}
-use Rattle.gate_core.specs.Sound.{IsSound}
-use Rattle.gate_core.specs.State.{State, submits, flying}
-use Rattle.gate_core.specs.Submits.{Pending}
-use Rattle.gate_core.specs.Ups.{is_ended}
-use Rattle.gate_core.specs.Verdict.{goes_by_id}
-use Rattle.gate_core.proofs.Called.{AreLong, few-ids, long-called, few-stops}
-use Rattle.gate_core.proofs.Draws.{draws-fresh}
-use Rattle.gate_core.proofs.Lists.{length-filter}
+use Rattle.gate_history.specs.Calls.{call_ids, asking}
+use Rattle.gate_history.specs.Flight.{wide_ids, ids_of}
+use Rattle.gate_history.specs.Ids.{greatest}
+use Rattle.gate_history.specs.Machine.{after}
+use Rattle.gate_history.specs.Marks.{Submission, Mark}
+use Rattle.gate_history.specs.Packets.{stops, route_packets}
+use Rattle.gate_history.specs.Sound.{IsSound}
+use Rattle.gate_history.specs.State.{State, submits, flying}
+use Rattle.gate_history.specs.Submits.{Pending}
+use Rattle.gate_history.specs.Ups.{is_ended}
+use Rattle.gate_history.specs.Verdict.{goes_by_id}
+use Rattle.gate_history.proofs.Called.{AreLong, few-ids, long-called, few-stops}
+use Rattle.gate_history.proofs.Draws.{draws-fresh}
+use Rattle.gate_history.proofs.Lists.{length-filter}
 use Rattle.direct_proof.proofs.streams.gates.Unstopped.{Unstopped}
 use Rattle.direct_proof.proofs.streams.submits.Accepted.{IsGate}
 use Rattle.direct_proof.proofs.streams.changes.ChangeWire.{IsChanging}

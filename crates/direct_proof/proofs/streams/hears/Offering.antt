@@ -12,9 +12,9 @@ use Rattle.redir_host.specs.declared.running.Running.{Running}
 use Rattle.redir_host.specs.Facts.{ep_info_of}
 use Rattle.redir_host.specs.Offering.{stream_packet}
 use Rattle.redir_host.specs.Packets.{runs_at}
-use Rattle.gate_core.specs.Ids.{times}
-use Rattle.gate_core.specs.Ups.{stream_of}
-use Rattle.gate_core.specs.declared.facts.Facts.{Facts}
+use Rattle.gate_history.specs.Ids.{times}
+use Rattle.gate_history.specs.Ups.{stream_of}
+use Rattle.gate_history.specs.declared.facts.Facts.{Facts}
 use Rattle.direct_device.specs.Acting.{Offer, offered_by}
 use Rattle.direct_run.specs.Moves.{World, Offers}
 use Rattle.direct_proof.specs.Moves.{move, quiet}

@@ -10,12 +10,12 @@ use Rattle.redir_data.specs.declared.packet.RedirPacket.{RedirPacket}
 use Rattle.redir_host.specs.Line.{Waiting as InLine}
 use Rattle.redir_host.specs.Sound.{Each}
 use Rattle.model_device.specs.Meaning.{Meaning}
-use Rattle.gate_core.specs.Calls.{call_ids, started}
-use Rattle.gate_core.specs.Ids.{times, holds}
-use Rattle.gate_core.specs.Packets.{start_packet}
-use Rattle.gate_core.specs.Ups.{Up, stream_of}
-use Rattle.gate_core.specs.Verdict.{is_iso}
-use Rattle.gate_core.proofs.Called.{AreLong, times-append}
+use Rattle.gate_history.specs.Calls.{call_ids, started}
+use Rattle.gate_history.specs.Ids.{times, holds}
+use Rattle.gate_history.specs.Packets.{start_packet}
+use Rattle.gate_history.specs.Ups.{Up, stream_of}
+use Rattle.gate_history.specs.Verdict.{is_iso}
+use Rattle.gate_history.proofs.Called.{AreLong, times-append}
 use Rattle.direct_device.specs.Direct.{way_if}
 use Rattle.direct_run.specs.Moves.{World}
 use Rattle.direct_proof.specs.Tagged.{Tagged, Greeted, Plugged, ToldTable, ToldFaces, Answered, Packed, Stated, Bye}

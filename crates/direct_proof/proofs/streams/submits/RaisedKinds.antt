@@ -10,11 +10,11 @@ use Rattle.redir_host.specs.declared.running.Running.{Running}
 use Rattle.redir_host.specs.declared.running.StreamKind.{StreamKind}
 use Rattle.redir_host.specs.Sound.{Each}
 use Rattle.model_device.specs.Meaning.{Meaning}
-use Rattle.gate_core.specs.Calls.{call_ids}
-use Rattle.gate_core.specs.Ids.{holds}
-use Rattle.gate_core.specs.Packets.{start_packet}
-use Rattle.gate_core.specs.Ups.{Up, stream_of}
-use Rattle.gate_core.proofs.Called.{AreLong}
+use Rattle.gate_history.specs.Calls.{call_ids}
+use Rattle.gate_history.specs.Ids.{holds}
+use Rattle.gate_history.specs.Packets.{start_packet}
+use Rattle.gate_history.specs.Ups.{Up, stream_of}
+use Rattle.gate_history.proofs.Called.{AreLong}
 use Rattle.direct_run.specs.Moves.{World}
 use Rattle.direct_proof.specs.Tagged.{Tagged, Greeted, Plugged, ToldTable, ToldFaces, Answered, Packed, Stated, Bye}
 use Rattle.direct_proof.specs.Shared.{Shared}

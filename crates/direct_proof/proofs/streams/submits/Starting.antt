@@ -16,11 +16,11 @@ use Rattle.redir_host.specs.declared.running.StreamKind.{StreamKind}
 use Rattle.redir_host.specs.declared.running.StreamKind.TheVariants.{Iso, Interrupt}
 use Rattle.redir_host.specs.Packets.{can_start, is_of}
 use Rattle.redir_host.specs.Sound.{Each}
-use Rattle.gate_core.specs.Calls.{Calls, call_ids, started}
-use Rattle.gate_core.specs.Ids.{times, holds}
-use Rattle.gate_core.specs.Packets.{start_packet}
-use Rattle.gate_core.specs.Verdict.{is_iso}
-use Rattle.gate_core.proofs.Called.{AreLong, times-append}
+use Rattle.gate_history.specs.Calls.{Calls, call_ids, started}
+use Rattle.gate_history.specs.Ids.{times, holds}
+use Rattle.gate_history.specs.Packets.{start_packet}
+use Rattle.gate_history.specs.Verdict.{is_iso}
+use Rattle.gate_history.proofs.Called.{AreLong, times-append}
 use Rattle.direct_proof.specs.Tagged.{Tagged, Greeted, Plugged, ToldTable, ToldFaces, Answered, Packed, Stated, Bye, is_kind}
 use Rattle.direct_proof.specs.Kinds.{IsIn}
 use Rattle.direct_proof.specs.Calls.{IsKept, CallIsKept, StatusIsKept, is_id, call_id, calls_on, status_id, statuses_on}

@@ -4,7 +4,7 @@ use Rattle.std.specs.List.{list_any}
 use Rattle.model_device.specs.Meaning.{Meaning}
 use Rattle.redir_host.specs.Line.{Reset}
 use Rattle.redir_host.specs.Sound.{Each}
-use Rattle.gate_core.specs.State.{change_waits}
+use Rattle.gate_history.specs.State.{change_waits}
 use Rattle.direct_run.specs.Moves.{World}
 use Rattle.direct_proof.specs.Calls.{Fenced}
 use Rattle.direct_proof.specs.Cancels.{any_change, is_change}

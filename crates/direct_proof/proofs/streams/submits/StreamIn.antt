@@ -12,12 +12,12 @@ use Rattle.usbip_urb.specs.declared.packet.UrbPacket.TheVariants as urb
 use Rattle.usbip_urb.specs.declared.client.ClientPacket.TheVariants.{Urb}
 use Rattle.usbip_urb.specs.Sizes.{is_out}
 use Rattle.model_device.specs.Meaning.{Meaning}
-use Rattle.gate_core.specs.Flight.{wide_bulk}
-use Rattle.gate_core.specs.Items.{Asked}
-use Rattle.gate_core.specs.Requests.{request_of, address, is_in_setup}
-use Rattle.gate_core.specs.State.{has_number, change_waits}
-use Rattle.gate_core.specs.Meaning.{verdict_of}
-use Rattle.gate_core.specs.Verdict.{Stream}
+use Rattle.gate_history.specs.Flight.{wide_bulk}
+use Rattle.gate_history.specs.Items.{Asked}
+use Rattle.gate_history.specs.Requests.{request_of, address, is_in_setup}
+use Rattle.gate_history.specs.State.{has_number, change_waits}
+use Rattle.gate_history.specs.Meaning.{verdict_of}
+use Rattle.gate_history.specs.Verdict.{Stream}
 use Rattle.direct_run.specs.Moves.{World, ByClient}
 use Rattle.direct_proof.specs.Moves.{move}
 use Rattle.direct_proof.specs.Shared.{Shared}

@@ -5,14 +5,14 @@ use Rattle.usb_base.specs.declared.transfer.StreamPacket.{StreamPacket}
 use Rattle.redir_data.specs.declared.packet.RedirPacket.{RedirPacket}
 use Rattle.model_device.specs.Meaning.{Meaning}
 use Rattle.redir_host.specs.Sound.{Each}
-use Rattle.gate_core.specs.Requests.{Request}
-use Rattle.gate_core.specs.Calls.{Calls}
-use Rattle.gate_core.specs.Marks.{Submission}
-use Rattle.gate_core.specs.Submits.{Pending}
-use Rattle.gate_core.specs.Output.{fresh}
-use Rattle.gate_core.specs.State.{State}
-use Rattle.gate_core.specs.Ups.{Up, hold}
-use Rattle.gate_core.specs.Verdict.{goes_by_id}
+use Rattle.gate_history.specs.Requests.{Request}
+use Rattle.gate_history.specs.Calls.{Calls}
+use Rattle.gate_history.specs.Marks.{Submission}
+use Rattle.gate_history.specs.Submits.{Pending}
+use Rattle.gate_history.specs.Output.{fresh}
+use Rattle.gate_history.specs.State.{State}
+use Rattle.gate_history.specs.Ups.{Up, hold}
+use Rattle.gate_history.specs.Verdict.{goes_by_id}
 use Rattle.direct_run.specs.Moves.{World}
 use Rattle.direct_proof.specs.Requests.{Debt, debts_of, load_of}
 use Rattle.direct_proof.specs.Shared.{Shared, lines, half_line, at_hosts}

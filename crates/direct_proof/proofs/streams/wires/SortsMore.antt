@@ -7,8 +7,8 @@ use Rattle.redir_data.specs.declared.state.RedirState.{RedirState}
 use Rattle.redir_data.specs.Streams.{advanced}
 use Rattle.redir_host.specs.declared.running.StreamKind.{StreamKind}
 use Rattle.redir_host.specs.Sound.{Each}
-use Rattle.gate_core.specs.Ids.{times}
-use Rattle.gate_core.proofs.Called.{times-append}
+use Rattle.gate_history.specs.Ids.{times}
+use Rattle.gate_history.proofs.Called.{times-append}
 use Rattle.direct_proof.specs.Tagged.{Tagged, Greeted, Plugged, ToldTable, ToldFaces, Answered, Packed, Stated, Bye}
 use Rattle.direct_proof.specs.Stale.{asks, ends}
 use Rattle.direct_proof.specs.Running.{called_endpoint, started_kind}

@@ -10,8 +10,8 @@ use Rattle.redir_data.specs.declared.packet.RedirPacket.{RedirPacket}
 use Rattle.redir_host.specs.declared.running.Running.{Running}
 use Rattle.redir_host.specs.declared.running.StreamKind.{StreamKind}
 use Rattle.redir_host.specs.Sound.{Each}
-use Rattle.gate_core.specs.Ups.{Up, stream_at, stream_of, hold}
-use Rattle.gate_core.specs.Verdict.{is_iso}
+use Rattle.gate_history.specs.Ups.{Up, stream_at, stream_of, hold}
+use Rattle.gate_history.specs.Verdict.{is_iso}
 use Rattle.direct_proof.specs.Tagged.{Tagged, Greeted, Plugged, ToldTable, ToldFaces, Answered, Packed, Stated, Bye, is_kind}
 use Rattle.direct_proof.specs.Kinds.{IsIn, OfKind, TaggedOfKind, StartOfKind, UpsFit, UpFits}
 use Rattle.direct_proof.specs.Session.{down_in}

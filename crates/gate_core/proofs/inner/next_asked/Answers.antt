@@ -1,8 +1,8 @@
 use Rattle.std.proofs.Common.{Ok, ap, ◌∙◌}
 use Rattle.usbip_urb.specs.Sound.ClientPackets.{client_packets_sound}
 use Rattle.usbip_urb.specs.ClientPackets.{takes_memory}
-use Rattle.gate_core.specs.Streams.{client_format, client_next}
-use Rattle.gate_core.proofs.Fitting.{fits-next}
+use Rattle.gate_history.specs.Streams.{client_format, client_next}
+use Rattle.gate_core.proofs.Next.{fits-next}
 use Rattle.gate_core.proofs.inner.next_asked.Goals as goal
 
 pub returns-in-Ok-Some-clause-fits : goal.returns-in-Ok-Some-clause-fits

@@ -2,7 +2,7 @@ use Rattle.std.proofs.Common.{ℕ, ◌+◌, length, ◌∙◌, ap, sym, subst, a
 use Rattle.gate_core.specs.Kept.{GateKept}
 use Rattle.gate_core.specs.Stands.{Stands}
 use Rattle.gate_core.specs.inner.Steps.{kept_of}
-use Rattle.gate_core.proofs.Bounds.{rests-few}
+use Rattle.gate_history.proofs.Bounds.{rests-few}
 use Rattle.gate_core.proofs.Held.{held-all}
 use Rattle.gate_core.proofs.gate.Gate.held.Goals as goal
 

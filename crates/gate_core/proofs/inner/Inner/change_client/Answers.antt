@@ -1,9 +1,9 @@
 use Rattle.std.proofs.Common.{inr, refl}
-use Rattle.gate_core.specs.Events.{ClientEnd}
-use Rattle.gate_core.specs.Items.{ClientLeft}
-use Rattle.gate_core.specs.State.{state_of}
-use Rattle.gate_core.specs.History.{arrivals, history}
-use Rattle.gate_core.proofs.States.{state-sound}
+use Rattle.gate_history.specs.Events.{ClientEnd}
+use Rattle.gate_history.specs.Items.{ClientLeft}
+use Rattle.gate_history.specs.State.{state_of}
+use Rattle.gate_history.specs.History.{arrivals, history}
+use Rattle.gate_history.proofs.States.{state-sound}
 use Rattle.gate_core.proofs.Standing.{err-event}
 use Rattle.gate_core.proofs.Ends.{ends-client, stops-end}
 use Rattle.gate_core.proofs.inner.Inner.change_client.Goals as goal

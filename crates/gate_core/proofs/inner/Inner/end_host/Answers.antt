@@ -1,9 +1,9 @@
 use Rattle.std.proofs.Common.{inr, refl, sym, ◌∙◌}
-use Rattle.gate_core.specs.Events.{HostEnd}
-use Rattle.gate_core.specs.Items.{HostLeft}
-use Rattle.gate_core.specs.State.{state_of}
-use Rattle.gate_core.specs.History.{arrivals, history}
-use Rattle.gate_core.proofs.States.{state-sound}
+use Rattle.gate_history.specs.Events.{HostEnd}
+use Rattle.gate_history.specs.Items.{HostLeft}
+use Rattle.gate_history.specs.State.{state_of}
+use Rattle.gate_history.specs.History.{arrivals, history}
+use Rattle.gate_history.proofs.States.{state-sound}
 use Rattle.gate_core.proofs.Standing.{err-event}
 use Rattle.gate_core.proofs.Ends.{ends-again, ends-host, stops-end}
 use Rattle.gate_core.proofs.inner.Inner.end_host.Goals as goal

@@ -1,9 +1,9 @@
 use Rattle.std.proofs.Common.{Ok, refl, sym, ap, subst, ◌∙◌, arith}
 use Rattle.usbip_urb.specs.ClientPackets.{takes_memory}
 use Rattle.gate_core.specs.declared.inner.Inner.{Inner}
-use Rattle.gate_core.specs.Events.{ClientPiece, client_bytes}
-use Rattle.gate_core.specs.History.{arrivals}
-use Rattle.gate_core.specs.inner.Holds.{ItemFits}
+use Rattle.gate_history.specs.Events.{ClientPiece, client_bytes}
+use Rattle.gate_history.specs.History.{arrivals}
+use Rattle.gate_history.specs.Fits.{ItemFits}
 use Rattle.gate_core.specs.inner.Steps.{ended_if}
 use Rattle.gate_core.proofs.Sides.{client_side}
 use Rattle.gate_core.proofs.Pieces.{Taking, taking-first, taking-item, WantsItem, nothing-done}

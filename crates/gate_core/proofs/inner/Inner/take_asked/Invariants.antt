@@ -1,6 +1,6 @@
 use Rattle.std.proofs.Common.{◌≡◌, ℕ, List}
-use Rattle.gate_core.specs.Events.{Event, client_bytes}
-use Rattle.gate_core.specs.History.{arrivals}
+use Rattle.gate_history.specs.Events.{Event, client_bytes}
+use Rattle.gate_history.specs.History.{arrivals}
 use Rattle.gate_core.specs.Stands.{Stands}
 use Rattle.gate_core.specs.inner.Steps.{kept_of, left_of}
 use Rattle.gate_core.proofs.Sides.{client_side}

@@ -1,8 +1,8 @@
 use Rattle.std.proofs.Common.{Ok, refl, sym, ap, subst, ◌∙◌, arith}
 use Rattle.redir_data.specs.Packets.{takes_memory}
 use Rattle.gate_core.specs.declared.inner.Inner.{Inner}
-use Rattle.gate_core.specs.Events.{HostPiece, host_bytes}
-use Rattle.gate_core.specs.History.{arrivals}
+use Rattle.gate_history.specs.Events.{HostPiece, host_bytes}
+use Rattle.gate_history.specs.History.{arrivals}
 use Rattle.gate_core.specs.inner.Steps.{ended_if}
 use Rattle.gate_core.proofs.Sides.{host_side}
 use Rattle.gate_core.proofs.Pieces.{Taking, taking-first, taking-item, WantsItem, nothing-done}

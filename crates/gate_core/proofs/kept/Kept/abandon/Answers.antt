@@ -3,7 +3,7 @@ use Rattle.std.proofs.lemmas.Bool.{true≢false}
 use Rattle.unlink_race.specs.Requests.{Requests}
 use Rattle.unlink_race.specs.Searches.{goes_by_id}
 use Rattle.gate_core.specs.inner.Holds.{IsKept}
-use Rattle.gate_core.proofs.Lists.{length-filter}
+use Rattle.gate_history.proofs.Lists.{length-filter}
 use Rattle.gate_core.proofs.kept.Kept.abandon.Goals as goal
 
 pub returns-then-abandoned-eq0-clause-kept : goal.returns-then-abandoned-eq0-clause-kept

@@ -1,14 +1,13 @@
-use Rattle.std.proofs.Common.{◌≡◌, None, OnOk, sym, ap, subst, ◌∙◌}
-use Rattle.std.proofs.Common.{w32, length}
+use Rattle.std.proofs.Common.{◌≡◌, None, OnOk, sym, ap, subst, ◌∙◌, w32, length}
 use Rattle.std.specs.Prelude.{FitsSigned}
 use Rattle.std.proofs.lemmas.Int.{to_z-of_z}
-use Rattle.gate_core.specs.Verdict.{Verdict, Now}
-use Rattle.gate_core.specs.Flight.{wide_bulk}
-use Rattle.gate_core.specs.Marks.{Effect}
-use Rattle.gate_core.specs.State.{change_waits}
-use Rattle.gate_core.proofs.Reading.{StatusFits, verdict-fits}
-use Rattle.gate_core.specs.Meaning.{mark_as, accepts, verdict_of}
-use Rattle.gate_core.specs.inner.Views.{request_view, verdict_view}
+use Rattle.gate_history.specs.Verdict.{Verdict, Now}
+use Rattle.gate_history.specs.Flight.{wide_bulk}
+use Rattle.gate_history.specs.Marks.{Effect}
+use Rattle.gate_history.specs.State.{change_waits}
+use Rattle.gate_parts.proofs.Reading.{StatusFits, verdict-fits}
+use Rattle.gate_history.specs.Meaning.{mark_as, accepts, verdict_of}
+use Rattle.gate_history.specs.Views.{request_view, verdict_view}
 use Rattle.gate_core.specs.inner.Holds.{Does}
 use Rattle.gate_core.proofs.Accepting.{now-opens, wire-opens, routed-opens, iso-opens}
 use Rattle.gate_core.proofs.kept.Kept.accept.Goals as goal

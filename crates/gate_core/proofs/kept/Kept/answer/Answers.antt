@@ -2,15 +2,15 @@ use Rattle.std.proofs.Common.{◌∙◌, ◌++◌, None, OnOk, OnErr, sym, subst
 use Rattle.std.specs.List.{find}
 use Rattle.redir_wire.specs.Header.{head_size}
 use Rattle.unlink_race.specs.Searches.{has_id}
-use Rattle.gate_core.specs.Flight.{wide_ids}
-use Rattle.gate_core.specs.Marks.{Effect}
-use Rattle.gate_core.specs.Submits.{has_id as submit_has_id}
-use Rattle.gate_core.specs.State.{submits}
-use Rattle.gate_core.specs.Meaning.{mark_as}
-use Rattle.gate_core.specs.inner.Responses.{response_view}
+use Rattle.gate_history.specs.Flight.{wide_ids}
+use Rattle.gate_history.specs.Marks.{Effect}
+use Rattle.gate_history.specs.Submits.{has_id as submit_has_id}
+use Rattle.gate_history.specs.State.{submits}
+use Rattle.gate_history.specs.Meaning.{mark_as}
+use Rattle.gate_parts.specs.Responses.{response_view}
 use Rattle.gate_core.specs.inner.Holds.{Does}
 use Rattle.gate_core.proofs.Answering.{found-wrong, found-answer, is-refused, is-completed}
-use Rattle.gate_core.specs.Wants.{GivesSome}
+use Rattle.gate_history.specs.Wants.{GivesSome}
 use Rattle.gate_core.proofs.Giving.{refusal-gives}
 use Rattle.gate_core.proofs.Stopping.{on-err}
 use Rattle.gate_core.proofs.kept.Kept.answer.Goals as goal

@@ -1,8 +1,8 @@
 use Rattle.std.proofs.Common.{cond, Bool, None, OnOk, sym, ap, subst, ◌∙◌}
 use Rattle.usb_base.specs.declared.reason.Reason.TheVariants.{AlreadyImported}
 use Rattle.usb_base.specs.declared.side.Side.TheVariants.{Client}
-use Rattle.gate_core.specs.Marks.{Effect, Refuses}
-use Rattle.gate_core.specs.Meaning.{mark_as, refused, import_meaning}
+use Rattle.gate_history.specs.Marks.{Effect, Refuses}
+use Rattle.gate_history.specs.Meaning.{mark_as, refused, import_meaning}
 use Rattle.gate_core.specs.inner.Holds.{Does}
 use Rattle.gate_core.proofs.kept.Kept.answer_import.Goals as goal
 

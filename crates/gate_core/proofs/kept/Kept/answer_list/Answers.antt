@@ -1,9 +1,9 @@
 use Rattle.std.proofs.Common.{cond, Bool, None, OnOk, sym, ap, subst, ◌∙◌}
 use Rattle.usb_base.specs.declared.reason.Reason.TheVariants.{AlreadyImported}
 use Rattle.usb_base.specs.declared.side.Side.TheVariants.{Client}
-use Rattle.gate_core.specs.Marks.{Effect, Replies, Refuses}
-use Rattle.gate_core.specs.Replies.{list_reply}
-use Rattle.gate_core.specs.Meaning.{mark_as, refused}
+use Rattle.gate_history.specs.Marks.{Effect, Replies, Refuses}
+use Rattle.gate_history.specs.Replies.{list_reply}
+use Rattle.gate_history.specs.Meaning.{mark_as, refused}
 use Rattle.gate_core.specs.inner.Holds.{Does}
 use Rattle.gate_core.proofs.kept.Kept.answer_list.Goals as goal
 

@@ -1,13 +1,12 @@
-use Rattle.std.proofs.Common.{[], ◌++◌, refl, sym, ◌∙◌}
-use Rattle.std.proofs.Common.{w32}
+use Rattle.std.proofs.Common.{[], ◌++◌, refl, sym, ◌∙◌, w32}
 use Rattle.std.proofs.lemmas.Int.{to_z-of_z}
 use Rattle.std.proofs.lemmas.List.{append-nil}
 use Rattle.usbip_urb.specs.Spelling.{spelling}
 use Rattle.usbip_urb.specs.declared.client.ClientPacket.TheVariants.{Urb}
-use Rattle.gate_core.specs.Answers.{without_packets}
-use Rattle.gate_core.specs.Verdict.{Now}
-use Rattle.gate_core.specs.Meaning.{submission}
-use Rattle.gate_core.specs.inner.Views.{request_view}
+use Rattle.gate_history.specs.Answers.{without_packets}
+use Rattle.gate_history.specs.Verdict.{Now}
+use Rattle.gate_history.specs.Meaning.{submission}
+use Rattle.gate_history.specs.Views.{request_view}
 use Rattle.gate_core.proofs.Steady.{one-reply}
 use Rattle.gate_core.proofs.Opened.{does-open}
 use Rattle.gate_core.proofs.kept.Kept.answer_now.Goals as goal

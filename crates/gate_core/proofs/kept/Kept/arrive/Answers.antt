@@ -3,17 +3,17 @@ use Rattle.std.specs.Prelude.{slice_set}
 use Rattle.std.proofs.lemmas.Bool.{false≢true}
 use Rattle.std.proofs.lemmas.List.{append-nil}
 use Rattle.usb_base.specs.Endpoint.{endpoint_index}
-use Rattle.gate_core.specs.declared.note.Note.TheVariants as note
-use Rattle.gate_core.specs.Marks.{Idle}
+use Rattle.gate_history.specs.declared.note.Note.TheVariants as note
+use Rattle.gate_history.specs.Marks.{Idle}
 use Rattle.gate_core.specs.inner.Filling.{HasReceived, received_bytes, received_notes}
 use Rattle.gate_core.specs.declared.kept.Kept.{Kept}
-use Rattle.gate_core.specs.Ups.{Up, stream_at, stream_of}
-use Rattle.gate_core.specs.Meaning.{mark_as, arrives}
+use Rattle.gate_history.specs.Ups.{Up, stream_at, stream_of}
+use Rattle.gate_history.specs.Meaning.{mark_as, arrives}
 use Rattle.gate_core.specs.inner.Holds.{Does}
 use Rattle.gate_core.proofs.Steady.{does-idle}
-use Rattle.gate_core.proofs.Places.{set-back, set-twice}
+use Rattle.gate_parts.proofs.Places.{set-back, set-twice}
 use Rattle.gate_core.proofs.Arrived.{of-address, of-none, on-ok, on-err, does-receive}
-use Rattle.gate_core.specs.Wants.{GivesSome}
+use Rattle.gate_history.specs.Wants.{GivesSome}
 use Rattle.gate_core.proofs.Giving.{by-arrival}
 use Rattle.gate_core.proofs.Stopping as stopping
 use Rattle.gate_core.proofs.kept.Kept.arrive.Goals as goal

@@ -2,13 +2,13 @@ use Rattle.std.proofs.Common.{◌≡◌, ℕ, ◌-◌, take, get_or, List, [], �
 use Rattle.std.specs.Prelude.{zip}
 use Rattle.std.specs.List.{flat_map}
 use Rattle.redir_wire.specs.Header.{IdFits}
-use Rattle.gate_core.specs.Ids.{draw, greatest}
-use Rattle.gate_core.specs.Flight.{wide_ids}
-use Rattle.gate_core.specs.Packets.{route_packets}
-use Rattle.gate_core.specs.Bytes.{host_packet_bytes}
+use Rattle.gate_history.specs.Ids.{draw, greatest}
+use Rattle.gate_history.specs.Flight.{wide_ids}
+use Rattle.gate_history.specs.Packets.{route_packets}
+use Rattle.gate_history.specs.Bytes.{host_packet_bytes}
 use Rattle.gate_core.specs.inner.Calling.{flying_in, ids_after}
-use Rattle.gate_core.proofs.Called.{last-any}
-use Rattle.gate_core.proofs.Draws.{length-draws}
+use Rattle.gate_history.proofs.Called.{last-any}
+use Rattle.gate_history.proofs.Draws.{length-draws}
 use Rattle.gate_core.proofs.Flown.{route-ids, route-id, route-one}
 use Rattle.gate_core.proofs.kept.Kept.ask_route.Goals as goal
 

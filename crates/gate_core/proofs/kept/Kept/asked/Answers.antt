@@ -1,7 +1,7 @@
 use Rattle.std.proofs.Common.{sym, ap, ◌∙◌}
 use Rattle.std.specs.Option.{option_copied}
 use Rattle.unlink_race.specs.Searches.{has_number}
-use Rattle.gate_core.specs.inner.Rows.{IsFine}
+use Rattle.gate_parts.specs.Rows.{IsFine}
 use Rattle.gate_core.proofs.Unlinked.{each-found}
 use Rattle.gate_core.proofs.kept.Kept.asked.Goals as goal
 

@@ -1,20 +1,19 @@
 use Rattle.std.proofs.Common.{◌<◌, not, false, None, List, [], ◌++◌, length, refl, sym, ap, subst, ◌∙◌, arith}
 use Rattle.std.proofs.lemmas.List.{append-nil}
 use Rattle.gate_core.specs.declared.kept.Kept.{Kept}
-use Rattle.gate_core.specs.declared.note.Note.{Note}
-use Rattle.gate_core.specs.declared.note.Note.TheVariants as note
+use Rattle.gate_history.specs.declared.note.Note.{Note}
+use Rattle.gate_history.specs.declared.note.Note.TheVariants as note
 use Rattle.usb_base.specs.declared.side.Side.TheVariants.{Client}
-use Rattle.gate_core.specs.Marks.{Ends}
-use Rattle.gate_core.specs.Notes.{when}
+use Rattle.gate_history.specs.Marks.{Ends}
+use Rattle.gate_history.specs.Notes.{when}
 use Rattle.gate_core.proofs.Left.{end-leaves, left-none, does-leave}
-use Rattle.gate_core.proofs.Flown.{parts-are, leaving-sent}
+use Rattle.gate_core.proofs.Flown.{parts-are, leaving-sent, stops-are}
 use Rattle.gate_core.proofs.Stopping.{extends-after, on-err}
 use Rattle.std.specs.Prelude.{filter}
 use Rattle.unlink_race.specs.declared.live.Live.{Live}
 use Rattle.redir_data.specs.declared.packet.RedirPacket.{RedirPacket}
-use Rattle.gate_core.specs.Output.{cancels}
-use Rattle.gate_core.specs.inner.Rows.{is_cancelled_row}
-use Rattle.gate_core.proofs.Flown.{stops-are}
+use Rattle.gate_history.specs.Output.{cancels}
+use Rattle.gate_parts.specs.Rows.{is_cancelled_row}
 use Rattle.gate_core.proofs.Giving.{by-cancels, by-asked, by-leaving, cancelled-some}
 use Rattle.gate_core.proofs.kept.Kept.client_left.Goals as goal
 

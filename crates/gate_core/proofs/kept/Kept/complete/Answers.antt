@@ -5,10 +5,10 @@ use Rattle.unlink_race.specs.Searches.{has_id}
 use Rattle.unlink_race.specs.Requests.{Requests}
 use Rattle.unlink_race.specs.Firsts.{without_first}
 use Rattle.gate_core.specs.inner.Holds.{IsKept}
-use Rattle.gate_core.specs.inner.Rows.{IsFine}
-use Rattle.gate_core.specs.inner.Responses.{response_view}
-use Rattle.gate_core.specs.Items.{capped}
-use Rattle.gate_core.proofs.Lists.{Each}
+use Rattle.gate_parts.specs.Rows.{IsFine}
+use Rattle.gate_parts.specs.Responses.{response_view}
+use Rattle.gate_history.specs.Items.{capped}
+use Rattle.gate_history.proofs.Lists.{Each}
 use Rattle.gate_core.proofs.Answering.{does-live, live-gives, does-late, Each-find, Each-without, length-without}
 use Rattle.gate_core.proofs.Stopping.{on-err}
 use Rattle.gate_core.proofs.kept.Kept.complete.Goals as goal

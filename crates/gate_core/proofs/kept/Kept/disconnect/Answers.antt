@@ -1,13 +1,13 @@
 use Rattle.std.proofs.Common.{◌<◌, ◌&&◌, not, None, List, ◌++◌, length, refl, sym, ap, subst, ◌∙◌, arith}
 use Rattle.std.proofs.lemmas.List.{append-nil, length-map}
-use Rattle.gate_core.specs.declared.note.Note.{Note}
-use Rattle.gate_core.specs.declared.note.Note.TheVariants as note
-use Rattle.gate_core.specs.Notes.{when}
+use Rattle.gate_history.specs.declared.note.Note.{Note}
+use Rattle.gate_history.specs.declared.note.Note.TheVariants as note
+use Rattle.gate_history.specs.Notes.{when}
 use Rattle.gate_core.proofs.Lost.{disconnect-loses, lost-is, does-loss}
 use Rattle.redir_wire.specs.declared.packet.Caps.{Caps}
-use Rattle.gate_core.specs.Marks.{Disconnects}
-use Rattle.gate_core.specs.Output.{acknowledgements}
-use Rattle.gate_core.specs.inner.Rows.{row}
+use Rattle.gate_history.specs.Marks.{Disconnects}
+use Rattle.gate_history.specs.Output.{acknowledgements}
+use Rattle.gate_parts.specs.Rows.{row}
 use Rattle.gate_core.proofs.Giving.{by-lives, by-loss, by-word}
 use Rattle.gate_core.proofs.Stopping.{on-err}
 use Rattle.gate_core.proofs.kept.Kept.disconnect.Goals as goal

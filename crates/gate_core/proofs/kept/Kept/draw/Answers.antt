@@ -1,7 +1,7 @@
 use Rattle.std.proofs.Common.{Bool, ap, ◌∙◌, arith}
-use Rattle.gate_core.specs.Ids.{draw, greatest}
+use Rattle.gate_history.specs.Ids.{draw, greatest}
 use Rattle.gate_core.specs.inner.Calling.{flying_in}
-use Rattle.gate_core.proofs.Called.{few-ids}
+use Rattle.gate_history.proofs.Called.{few-ids}
 use Rattle.gate_core.proofs.kept.Kept.draw.Goals as goal
 
 pub draw-requires : goal.draw-requires

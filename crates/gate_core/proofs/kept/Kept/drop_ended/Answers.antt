@@ -4,10 +4,10 @@ use Rattle.std.proofs.lemmas.List.Filters.{length-filter_both}
 use Rattle.unlink_race.specs.declared.live.Live.{Live}
 use Rattle.unlink_race.specs.Requests.{Requests}
 use Rattle.unlink_race.specs.Searches.{ended_by}
-use Rattle.gate_core.specs.Items.{capped}
-use Rattle.gate_core.specs.inner.Rows.{IsFine}
+use Rattle.gate_history.specs.Items.{capped}
+use Rattle.gate_parts.specs.Rows.{IsFine}
 use Rattle.gate_core.specs.inner.Holds.{IsKept}
-use Rattle.gate_core.proofs.Lists.{Each-filter, length-filter}
+use Rattle.gate_history.proofs.Lists.{Each-filter, length-filter}
 use Rattle.gate_core.proofs.kept.Kept.drop_ended.Goals as goal
 
 pub overflow_sub-ended : goal.overflow_sub-ended

@@ -11,13 +11,14 @@ use Rattle.unlink_race.specs.declared.live.Live.{Live}
 use Rattle.unlink_race.specs.declared.live.StreamEnd.TheVariants.{Told}
 use Rattle.unlink_race.specs.Searches.{ended_by, waits_for}
 use Rattle.gate_core.specs.declared.kept.Kept.{Kept}
-use Rattle.gate_core.specs.Items.{capped}
-use Rattle.gate_core.specs.Ups.{lower_at}
-use Rattle.gate_core.specs.Answers.{without_packets}
-use Rattle.gate_core.specs.inner.Rows.{row_request}
-use Rattle.gate_core.specs.inner.Ending.{is_told, ended_bytes, status_bytes}
-use Rattle.gate_core.proofs.Lists.{every, filter-same, filter-none, filter-all, flat_map-same, flat_map-none}
-use Rattle.gate_core.proofs.Lost.{capped-same, and-false}
+use Rattle.gate_history.specs.Items.{capped}
+use Rattle.gate_history.specs.Ups.{lower_at}
+use Rattle.gate_history.specs.Answers.{without_packets}
+use Rattle.gate_parts.specs.Rows.{row_request, ended_bytes}
+use Rattle.gate_core.specs.inner.Ending.{is_told, status_bytes}
+use Rattle.gate_history.proofs.Lists.{every, filter-same, filter-none, filter-all, flat_map-same, flat_map-none}
+use Rattle.gate_core.proofs.Lost.{capped-same}
+use Rattle.gate_history.proofs.Uncancelled.{and-false}
 use Rattle.gate_core.proofs.Stopping.{on-err}
 use Rattle.gate_core.proofs.kept.Kept.end_stream.Goals as goal
 

@@ -1,13 +1,13 @@
 use Rattle.std.proofs.Common.{◌&&◌, not, true, None, List, ◌++◌, length, refl, sym, ap, ◌∙◌, arith}
 use Rattle.std.proofs.lemmas.List.{append-nil, length-map}
 use Rattle.gate_core.specs.declared.kept.Kept.{Kept}
-use Rattle.gate_core.specs.declared.note.Note.{Note}
-use Rattle.gate_core.specs.declared.note.Note.TheVariants as note
-use Rattle.gate_core.specs.Notes.{when}
+use Rattle.gate_history.specs.declared.note.Note.{Note}
+use Rattle.gate_history.specs.declared.note.Note.TheVariants as note
+use Rattle.gate_history.specs.Notes.{when}
 use Rattle.gate_core.proofs.Lost.{end-loses, lost-is, does-loss}
 use Rattle.usb_base.specs.declared.side.Side.TheVariants.{Host}
-use Rattle.gate_core.specs.Marks.{Ends}
-use Rattle.gate_core.specs.inner.Rows.{row}
+use Rattle.gate_history.specs.Marks.{Ends}
+use Rattle.gate_parts.specs.Rows.{row}
 use Rattle.gate_core.proofs.Giving.{by-lives, by-loss}
 use Rattle.gate_core.proofs.Stopping.{on-err}
 use Rattle.gate_core.proofs.kept.Kept.host_left.Goals as goal

@@ -2,10 +2,11 @@ use Rattle.std.proofs.Common.{◌++◌, refl, ap, ◌∙◌}
 use Rattle.usbip_op.specs.declared.packet.OpPacket.{OpPacket}
 use Rattle.usbip_urb.specs.declared.client.ClientPacket.TheVariants.{Op}
 use Rattle.usbip_urb.specs.ClientPackets.{client_spelling}
-use Rattle.gate_core.specs.declared.facts.Facts.{Facts}
-use Rattle.gate_core.specs.Replies.{import_reply}
-use Rattle.gate_core.specs.Marks.{Imports}
-use Rattle.gate_core.proofs.Steady.{imports-steady, does-steady, rows-same, host-same, one-reply, stays-uncancelled}
+use Rattle.gate_history.specs.declared.facts.Facts.{Facts}
+use Rattle.gate_history.specs.Replies.{import_reply}
+use Rattle.gate_history.specs.Marks.{Imports}
+use Rattle.gate_core.proofs.Steady.{imports-steady, does-steady, rows-same, host-same, one-reply}
+use Rattle.gate_history.proofs.Uncancelled.{stays-uncancelled}
 use Rattle.gate_core.proofs.kept.Kept.import.Goals as goal
 
 pub returns-clause-ok : goal.returns-clause-ok

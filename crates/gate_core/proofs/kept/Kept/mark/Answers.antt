@@ -4,7 +4,7 @@ use Rattle.unlink_race.specs.Unlinking.{unlinked_by}
 use Rattle.std.specs.List.{find}
 use Rattle.unlink_race.specs.declared.live.Live.{Live}
 use Rattle.unlink_race.specs.Requests.{Requests}
-use Rattle.gate_core.specs.inner.Rows.{IsFine}
+use Rattle.gate_parts.specs.Rows.{IsFine}
 use Rattle.gate_core.specs.inner.Holds.{IsKept}
 use Rattle.gate_core.proofs.Unlinked.{each-changed, length-changed, first-left}
 use Rattle.gate_core.proofs.kept.Kept.mark.Goals as goal

@@ -1,10 +1,10 @@
 use Rattle.std.proofs.Common.{◌≡◌, ◌&&◌, not, cond, true, List, [], ◌∷◌, ◌++◌, sym, ap, ◌∙◌, append_assoc}
 use Rattle.std.proofs.lemmas.List.{append-nil}
-use Rattle.gate_core.specs.declared.note.Note.{Note}
-use Rattle.gate_core.specs.declared.note.Note.TheVariants as note
+use Rattle.gate_history.specs.declared.note.Note.{Note}
+use Rattle.gate_history.specs.declared.note.Note.TheVariants as note
 use Rattle.usb_base.specs.declared.side.Side.{Side}
-use Rattle.gate_core.specs.Sides.{is_client}
-use Rattle.gate_core.specs.Notes.{when}
+use Rattle.gate_history.specs.Sides.{is_client}
+use Rattle.gate_history.specs.Notes.{when}
 use Rattle.gate_core.proofs.Lost.{refusal-loses, lost-is, does-loss}
 use Rattle.gate_core.proofs.kept.Kept.refuse_host.Goals as goal
 

@@ -1,8 +1,9 @@
 use Rattle.std.proofs.Common.{refl, sym}
 use Rattle.std.proofs.lemmas.List.{append-nil}
-use Rattle.gate_core.specs.Marks.{Replies}
+use Rattle.gate_history.specs.Marks.{Replies}
 use Rattle.usbip_urb.specs.declared.client.ClientPacket.TheVariants.{Op}
-use Rattle.gate_core.proofs.Steady.{replies-steady, does-steady, rows-same, host-same, one-reply, stays-uncancelled}
+use Rattle.gate_core.proofs.Steady.{replies-steady, does-steady, rows-same, host-same, one-reply}
+use Rattle.gate_history.proofs.Uncancelled.{stays-uncancelled}
 use Rattle.gate_core.proofs.kept.Kept.reply.Goals as goal
 
 pub returns-clause-ok : goal.returns-clause-ok

@@ -1,19 +1,19 @@
 use Rattle.std.proofs.Common.{◌≡◌, ℕ, [], ◌∷◌, ◌++◌, refl, sym, ap, ◌∙◌}
 use Rattle.std.proofs.lemmas.List.{append-nil}
 use Rattle.unlink_race.specs.declared.live.LiveKind.TheVariants as live_kind
-use Rattle.gate_core.specs.declared.note.Note.TheVariants as note
-use Rattle.gate_core.specs.inner.Holds.{row_for}
+use Rattle.gate_history.specs.declared.note.Note.TheVariants as note
+use Rattle.gate_parts.specs.Rows.{row_for}
 use Rattle.gate_core.proofs.Lost.{capped-same}
-use Rattle.gate_core.specs.Verdict.{Wire}
-use Rattle.gate_core.specs.Ids.{draw, greatest}
-use Rattle.gate_core.specs.Flight.{wide_ids}
-use Rattle.gate_core.specs.State.{flying, next_ids}
-use Rattle.gate_core.specs.Packets.{wire_packet}
-use Rattle.gate_core.specs.Meaning.{submission}
-use Rattle.gate_core.specs.Output.{fresh}
-use Rattle.gate_core.specs.Bytes.{host_packet_bytes}
-use Rattle.gate_core.specs.inner.Views.{request_view, pipe_view}
-use Rattle.gate_core.proofs.Called.{called-silent, wire-silent}
+use Rattle.gate_history.specs.Verdict.{Wire}
+use Rattle.gate_history.specs.Ids.{draw, greatest}
+use Rattle.gate_history.specs.Flight.{wide_ids}
+use Rattle.gate_history.specs.State.{flying, next_ids}
+use Rattle.gate_history.specs.Packets.{wire_packet}
+use Rattle.gate_history.specs.Meaning.{submission}
+use Rattle.gate_history.specs.Output.{fresh}
+use Rattle.gate_history.specs.Bytes.{host_packet_bytes}
+use Rattle.gate_history.specs.Views.{request_view, pipe_view}
+use Rattle.gate_history.proofs.Called.{called-silent, wire-silent}
 use Rattle.gate_core.proofs.Flown.{draw-is}
 use Rattle.gate_core.proofs.Opened.{does-open}
 use Rattle.gate_core.proofs.kept.Kept.send.Goals as goal

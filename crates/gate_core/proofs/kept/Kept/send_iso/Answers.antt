@@ -5,20 +5,19 @@ use Rattle.std.proofs.lemmas.List.{append-nil}
 use Rattle.usbip_urb.specs.Spelling.{spelling}
 use Rattle.usbip_urb.specs.declared.client.ClientPacket.TheVariants.{Urb}
 use Rattle.redir_data.specs.declared.packet.RedirPacket.{RedirPacket}
-use Rattle.gate_core.specs.declared.note.Note.TheVariants as note
-use Rattle.gate_core.specs.Ups.{Up}
-use Rattle.gate_core.specs.declared.calls.Called.{Called}
-use Rattle.gate_core.specs.Ids.{last_of}
-use Rattle.gate_core.specs.Verdict.{IsoOut}
-use Rattle.gate_core.specs.Ups.{stream_at}
-use Rattle.gate_core.specs.Packets.{starts, iso_packets}
-use Rattle.gate_core.specs.Calls.{called}
-use Rattle.gate_core.specs.Meaning.{drawn_for, submission}
-use Rattle.gate_core.specs.Answers.{all_sent}
-use Rattle.gate_core.specs.Bytes.{host_packet_bytes}
-use Rattle.gate_core.specs.inner.Views.{request_view}
+use Rattle.gate_history.specs.declared.note.Note.TheVariants as note
+use Rattle.gate_history.specs.Ups.{Up, stream_at}
+use Rattle.gate_parts.specs.declared.calls.Called.{Called}
+use Rattle.gate_history.specs.Ids.{last_of}
+use Rattle.gate_history.specs.Verdict.{IsoOut}
+use Rattle.gate_history.specs.Packets.{starts, iso_packets}
+use Rattle.gate_history.specs.Calls.{called}
+use Rattle.gate_history.specs.Meaning.{drawn_for, submission}
+use Rattle.gate_history.specs.Answers.{all_sent}
+use Rattle.gate_history.specs.Bytes.{host_packet_bytes}
+use Rattle.gate_history.specs.Views.{request_view}
 use Rattle.gate_core.specs.inner.Calling.{ids_after, with_ids, starts_of, called_of, after_starts, bytes_of}
-use Rattle.gate_core.proofs.Called.{iso-silent}
+use Rattle.gate_history.proofs.Called.{iso-silent}
 use Rattle.gate_core.proofs.Flown.{ids-are, asked-are}
 use Rattle.gate_core.proofs.Stopping.{last-more, bytes-more, calls-silent, extends-after, on-err}
 use Rattle.gate_core.proofs.Steady.{one-reply}

@@ -9,24 +9,23 @@ use Rattle.unlink_race.specs.declared.live.LiveKind.TheVariants as live_kind
 use Rattle.unlink_race.specs.declared.live.StreamEnd.TheVariants.{Change}
 use Rattle.unlink_race.specs.Searches.{touched_by}
 use Rattle.gate_core.specs.declared.kept.Kept.{Kept}
-use Rattle.gate_core.specs.declared.note.Note.TheVariants as note
-use Rattle.gate_core.specs.declared.calls.Called.{Called}
-use Rattle.gate_core.specs.Items.{capped}
-use Rattle.gate_core.specs.Errno.{eshutdown}
-use Rattle.gate_core.specs.Ids.{greatest, last_of}
-use Rattle.gate_core.specs.Verdict.{Routed}
-use Rattle.gate_core.specs.Ups.{lower, is_ended}
-use Rattle.gate_core.specs.Flight.{wide_ids}
-use Rattle.gate_core.specs.Packets.{stops, route_packets}
-use Rattle.gate_core.specs.Calls.{called}
-use Rattle.gate_core.specs.Meaning.{drawn_for, submission}
-use Rattle.gate_core.specs.Bytes.{host_packet_bytes}
-use Rattle.gate_core.specs.inner.Views.{request_view}
+use Rattle.gate_history.specs.declared.note.Note.TheVariants as note
+use Rattle.gate_parts.specs.declared.calls.Called.{Called}
+use Rattle.gate_history.specs.Items.{capped}
+use Rattle.gate_history.specs.Errno.{eshutdown}
+use Rattle.gate_history.specs.Ids.{greatest, last_of}
+use Rattle.gate_history.specs.Verdict.{Routed}
+use Rattle.gate_history.specs.Ups.{lower, is_ended}
+use Rattle.gate_history.specs.Flight.{wide_ids}
+use Rattle.gate_history.specs.Packets.{stops, route_packets}
+use Rattle.gate_history.specs.Calls.{called}
+use Rattle.gate_history.specs.Meaning.{drawn_for, submission}
+use Rattle.gate_history.specs.Bytes.{host_packet_bytes}
+use Rattle.gate_history.specs.Views.{request_view}
 use Rattle.gate_core.specs.inner.Calling.{flying_in, ids_after, with_ids, stops_of, called_of, after_stops, bytes_of}
-use Rattle.gate_core.specs.inner.Ending.{ended_bytes}
-use Rattle.gate_core.specs.inner.Holds.{row_for}
-use Rattle.gate_core.proofs.Called.{last-any, route-silent}
-use Rattle.gate_core.proofs.Draws.{length-draws}
+use Rattle.gate_parts.specs.Rows.{ended_bytes, row_for}
+use Rattle.gate_history.proofs.Called.{last-any, route-silent}
+use Rattle.gate_history.proofs.Draws.{length-draws}
 use Rattle.gate_core.proofs.Flown.{ids-are, asked-are, stops-are}
 use Rattle.gate_core.proofs.Stopping.{last-more, bytes-more, calls-silent, extends-after, on-err}
 use Rattle.gate_core.proofs.Changed.{does-change}

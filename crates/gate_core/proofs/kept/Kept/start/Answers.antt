@@ -3,15 +3,15 @@ use Rattle.std.specs.Prelude.{zip}
 use Rattle.std.specs.List.{flat_map}
 use Rattle.redir_data.specs.declared.packet.RedirPacket.{RedirPacket}
 use Rattle.unlink_race.specs.declared.live.LiveKind.TheVariants as live_kind
-use Rattle.gate_core.specs.declared.calls.Called.{Called}
-use Rattle.gate_core.specs.Ids.{last_of}
-use Rattle.gate_core.specs.State.{next_ids}
-use Rattle.gate_core.specs.Ups.{Up, stream_at, raise}
-use Rattle.gate_core.specs.Packets.{starts}
-use Rattle.gate_core.specs.Calls.{called}
-use Rattle.gate_core.specs.Bytes.{host_packet_bytes}
-use Rattle.gate_core.specs.inner.Views.{request_view}
-use Rattle.gate_core.specs.inner.Holds.{row_for}
+use Rattle.gate_parts.specs.declared.calls.Called.{Called}
+use Rattle.gate_history.specs.Ids.{last_of}
+use Rattle.gate_history.specs.State.{next_ids}
+use Rattle.gate_history.specs.Ups.{Up, stream_at, raise}
+use Rattle.gate_history.specs.Packets.{starts}
+use Rattle.gate_history.specs.Calls.{called}
+use Rattle.gate_history.specs.Bytes.{host_packet_bytes}
+use Rattle.gate_history.specs.Views.{request_view}
+use Rattle.gate_parts.specs.Rows.{row_for}
 use Rattle.gate_core.specs.inner.Calling.{ids_after, with_ids, starts_of, called_of, after_starts, bytes_of}
 use Rattle.gate_core.proofs.Flown.{ids-are, asked-are}
 use Rattle.gate_core.proofs.Joined.{does-start}

@@ -3,11 +3,11 @@ use Rattle.std.specs.List.{list_any}
 use Rattle.usb_base.specs.declared.reason.Reason.TheVariants.{NotImported, DuplicateSeq}
 use Rattle.usb_base.specs.declared.side.Side.TheVariants.{Client}
 use Rattle.unlink_race.specs.Searches.{has_number}
-use Rattle.gate_core.specs.Items.{capped}
-use Rattle.gate_core.specs.Requests.{Request, request_of}
-use Rattle.gate_core.specs.Marks.{Effect, Refuses}
-use Rattle.gate_core.specs.State.{is_number, submits}
-use Rattle.gate_core.specs.Meaning.{mark_as, refused, accepts, verdict_of}
+use Rattle.gate_history.specs.Items.{capped}
+use Rattle.gate_history.specs.Requests.{Request, request_of}
+use Rattle.gate_history.specs.Marks.{Effect, Refuses}
+use Rattle.gate_history.specs.State.{is_number, submits}
+use Rattle.gate_history.specs.Meaning.{mark_as, refused, accepts, verdict_of}
 use Rattle.gate_core.specs.inner.Holds.{Does}
 use Rattle.gate_core.proofs.Flown.{number-rows}
 use Rattle.gate_core.proofs.kept.Kept.submit.Goals as goal

@@ -1,15 +1,15 @@
 use Rattle.std.proofs.Common.{◌≡◌, false, None, OnOk, OnErr, sym, ap, subst}
-use Rattle.gate_core.specs.declared.item.Item.{Item as RawItem}
-use Rattle.gate_core.specs.declared.item.Item.TheVariants as raw
+use Rattle.gate_history.specs.declared.item.Item.{Item as RawItem}
+use Rattle.gate_history.specs.declared.item.Item.TheVariants as raw
 use Rattle.usb_base.specs.declared.side.Side.TheVariants.{Client, Host}
-use Rattle.gate_core.specs.Items.{Item}
-use Rattle.gate_core.specs.Sides.{refusal}
-use Rattle.gate_core.specs.Marks.{Effect, Refuses}
-use Rattle.gate_core.specs.Meaning.{mark_as, mark_of}
-use Rattle.gate_core.specs.Past.{is_left_out}
-use Rattle.gate_core.specs.inner.Holds.{IsItem, Does}
-use Rattle.gate_core.specs.Wants.{GivesSome}
-use Rattle.gate_core.specs.inner.Holds.{ItemFits}
+use Rattle.gate_history.specs.Items.{Item}
+use Rattle.gate_history.specs.Sides.{refusal}
+use Rattle.gate_history.specs.Marks.{Effect, Refuses}
+use Rattle.gate_history.specs.Meaning.{mark_as, mark_of}
+use Rattle.gate_history.specs.Past.{is_left_out}
+use Rattle.gate_history.specs.Fits.{IsItem, ItemFits}
+use Rattle.gate_core.specs.inner.Holds.{Does}
+use Rattle.gate_history.specs.Wants.{GivesSome}
 use Rattle.gate_core.proofs.Giving.{asked-gives, refusal-gives}
 use Rattle.gate_core.proofs.Stopping.{on-err}
 use Rattle.gate_core.proofs.kept.Kept.take.Goals as goal

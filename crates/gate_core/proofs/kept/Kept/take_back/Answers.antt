@@ -1,7 +1,7 @@
 use Rattle.std.proofs.Common.{sym, subst, arith}
 use Rattle.unlink_race.specs.Requests.{Requests}
 use Rattle.unlink_race.specs.Searches.{has_number}
-use Rattle.gate_core.specs.inner.Rows.{IsFine}
+use Rattle.gate_parts.specs.Rows.{IsFine}
 use Rattle.gate_core.specs.inner.Holds.{IsKept}
 use Rattle.gate_core.proofs.Unlinked.{Each-without, length-without}
 use Rattle.gate_core.proofs.kept.Kept.take_back.Goals as goal

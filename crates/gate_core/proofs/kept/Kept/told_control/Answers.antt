@@ -2,9 +2,9 @@ use Rattle.std.proofs.Common.{None, OnOk, OnErr, sym, subst}
 use Rattle.redir_wire.specs.Capability.{announced, caps_of, agreed}
 use Rattle.redir_data.specs.declared.packet.RedirPacket.TheVariants.{Plain}
 use Rattle.gate_core.specs.declared.kept.Kept.{Kept}
-use Rattle.gate_core.specs.Marks.{Effect, Agrees}
-use Rattle.gate_core.specs.Meaning.{mark_as, fact_of}
-use Rattle.gate_core.specs.Wants.{GivesSome}
+use Rattle.gate_history.specs.Marks.{Effect, Agrees}
+use Rattle.gate_history.specs.Meaning.{mark_as, fact_of}
+use Rattle.gate_history.specs.Wants.{GivesSome}
 use Rattle.gate_core.specs.inner.Holds.{Does}
 use Rattle.gate_core.proofs.Answering.{does-agree, told-other}
 use Rattle.gate_core.proofs.kept.Kept.told_control.Goals as goal

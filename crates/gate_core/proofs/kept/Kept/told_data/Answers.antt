@@ -1,11 +1,11 @@
 use Rattle.std.proofs.Common.{None, OnOk, OnErr, sym, ap, subst, ◌∙◌}
 use Rattle.usb_base.specs.declared.transfer.StreamPacket.{StreamPacket}
-use Rattle.gate_core.specs.Ups.{stream_of}
-use Rattle.gate_core.specs.Marks.{Effect}
-use Rattle.gate_core.specs.Meaning.{mark_as, arrives, by_response}
+use Rattle.gate_history.specs.Ups.{stream_of}
+use Rattle.gate_history.specs.Marks.{Effect}
+use Rattle.gate_history.specs.Meaning.{mark_as, arrives, by_response}
 use Rattle.gate_core.specs.inner.Holds.{Does}
 use Rattle.gate_core.proofs.Sorting.{arrives-so, responds-so}
-use Rattle.gate_core.specs.Wants.{GivesSome}
+use Rattle.gate_history.specs.Wants.{GivesSome}
 use Rattle.gate_core.proofs.kept.Kept.told_data.Goals as goal
 
 pub returns-in_default-clause-ok : goal.returns-in_default-clause-ok

@@ -1,11 +1,11 @@
 use Rattle.std.proofs.Common.{Option, None, sym, subst}
 use Rattle.redir_data.specs.declared.packet.RedirPacket.TheVariants.{Plain}
 use Rattle.gate_core.specs.declared.kept.Kept.{Kept}
-use Rattle.gate_core.specs.Responses.{Response, response_of}
-use Rattle.gate_core.specs.Meaning.{mark_as, fact_of, by_response}
+use Rattle.gate_history.specs.Responses.{Response, response_of}
+use Rattle.gate_history.specs.Meaning.{mark_as, fact_of, by_response}
 use Rattle.gate_core.specs.inner.Holds.{Does}
 use Rattle.gate_core.proofs.Answering.{does-tell}
-use Rattle.gate_core.specs.Wants.{GivesSome}
+use Rattle.gate_history.specs.Wants.{GivesSome}
 use Rattle.gate_core.proofs.Stopping.{on-err}
 use Rattle.gate_core.proofs.kept.Kept.told_fact.Goals as goal
 

@@ -1,12 +1,12 @@
 use Rattle.std.proofs.Common.{◌<◌, List, None, length, subst}
 use Rattle.std.specs.Prelude.{filter}
 use Rattle.usb_base.specs.declared.status.UsbStatus.{UsbStatus}
-use Rattle.gate_core.specs.Marks.{StreamTold}
-use Rattle.gate_core.specs.Meaning.{mark_as}
+use Rattle.gate_history.specs.Marks.{StreamTold}
+use Rattle.gate_history.specs.Meaning.{mark_as}
 use Rattle.gate_core.specs.inner.Holds.{Does}
 use Rattle.gate_core.proofs.StreamEnds.{does-tell_stream, tell-gives}
 use Rattle.unlink_race.specs.declared.live.Live.{Live}
-use Rattle.gate_core.specs.Wants.{GivesSome}
+use Rattle.gate_history.specs.Wants.{GivesSome}
 use Rattle.gate_core.specs.inner.Ending.{is_told}
 use Rattle.gate_core.proofs.Stopping.{on-err}
 use Rattle.gate_core.proofs.kept.Kept.told_stream.Goals as goal

@@ -1,8 +1,8 @@
 use Rattle.std.proofs.Common.{not, cond, None, OnOk, sym, ap, subst, ◌∙◌}
 use Rattle.usb_base.specs.declared.reason.Reason.TheVariants.{NotImported}
 use Rattle.usb_base.specs.declared.side.Side.TheVariants.{Client}
-use Rattle.gate_core.specs.Marks.{Effect, Refuses, Unlinks}
-use Rattle.gate_core.specs.Meaning.{mark_as, refused}
+use Rattle.gate_history.specs.Marks.{Effect, Refuses, Unlinks}
+use Rattle.gate_history.specs.Meaning.{mark_as, refused}
 use Rattle.gate_core.specs.inner.Holds.{Does}
 use Rattle.gate_core.proofs.kept.Kept.unlink.Goals as goal
 

@@ -2,14 +2,14 @@ use Rattle.std.proofs.Common.{length, sym, ap, subst, ◌∙◌, arith}
 use Rattle.std.proofs.lemmas.List.{length-map}
 use Rattle.unlink_race.specs.Searches.{changes}
 use Rattle.std.specs.List.{list_any}
-use Rattle.gate_core.specs.Verdict.{verdict}
-use Rattle.gate_core.specs.Flight.{wide_bulk}
-use Rattle.gate_core.specs.Packets.{HasRoute}
-use Rattle.gate_core.specs.inner.Views.{request_view, verdict_view}
-use Rattle.gate_core.specs.inner.Rows.{row}
+use Rattle.gate_history.specs.Verdict.{verdict}
+use Rattle.gate_history.specs.Flight.{wide_bulk}
+use Rattle.gate_history.specs.Packets.{HasRoute}
+use Rattle.gate_history.specs.Views.{request_view, verdict_view}
+use Rattle.gate_parts.specs.Rows.{row}
 use Rattle.gate_core.proofs.Flown.{change-rows}
-use Rattle.gate_core.proofs.Reading.{not-stream}
-use Rattle.gate_core.proofs.Openings.{verdict-sends}
+use Rattle.gate_parts.proofs.Reading.{not-stream}
+use Rattle.gate_history.proofs.Openings.{verdict-sends}
 use Rattle.gate_core.proofs.kept.Kept.verdict.Goals as goal
 
 pub returns-clause-value : goal.returns-clause-value

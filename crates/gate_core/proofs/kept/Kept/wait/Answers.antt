@@ -2,14 +2,14 @@ use Rattle.std.proofs.Common.{◌≡◌, ◌∙◌, [], ℕ, List, Option, Some,
 use Rattle.std.specs.Prelude.{slice_set}
 use Rattle.std.proofs.lemmas.List.{append-nil}
 use Rattle.usb_base.specs.Endpoint.{endpoint_index}
-use Rattle.gate_core.specs.declared.note.Note.TheVariants as note
+use Rattle.gate_history.specs.declared.note.Note.TheVariants as note
 use Rattle.gate_core.specs.declared.kept.Kept.{Kept}
-use Rattle.gate_core.specs.Ups.{Up, stream_at}
-use Rattle.gate_core.specs.Verdict.{Stream}
-use Rattle.gate_core.specs.Meaning.{mark_as, accepts}
-use Rattle.gate_core.specs.inner.Views.{request_view}
+use Rattle.gate_history.specs.Ups.{Up, stream_at}
+use Rattle.gate_history.specs.Verdict.{Stream}
+use Rattle.gate_history.specs.Meaning.{mark_as, accepts}
+use Rattle.gate_history.specs.Views.{request_view}
 use Rattle.gate_core.specs.inner.Holds.{Holds, Does}
-use Rattle.gate_core.proofs.Places.{set-back, set-twice}
+use Rattle.gate_parts.proofs.Places.{set-back, set-twice}
 use Rattle.gate_core.proofs.Arrived.{on-ok, on-err}
 use Rattle.gate_core.proofs.Joined.{does-join}
 use Rattle.gate_core.proofs.kept.Kept.wait.Goals as goal

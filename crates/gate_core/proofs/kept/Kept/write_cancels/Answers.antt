@@ -1,8 +1,7 @@
 use Rattle.std.proofs.Common.{sym, ap, ◌∙◌}
 use Rattle.std.specs.Option.{option_copied}
-use Rattle.gate_core.specs.inner.Rows.{cancel_bytes}
+use Rattle.gate_parts.specs.Rows.{cancel_bytes, is_cancelled_row}
 use Rattle.gate_core.proofs.Fronts.{sent-next}
-use Rattle.gate_core.specs.inner.Rows.{is_cancelled_row}
 use Rattle.gate_core.proofs.Giving.{some-kept}
 use Rattle.gate_core.proofs.Stopping.{on-err}
 use Rattle.gate_core.proofs.kept.Kept.write_cancels.Goals as goal

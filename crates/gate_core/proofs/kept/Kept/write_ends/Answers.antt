@@ -1,6 +1,6 @@
 use Rattle.std.proofs.Common.{w32, to_z, of_z, sym, ap, ◌∙◌}
 use Rattle.std.specs.Option.{option_copied}
-use Rattle.gate_core.specs.inner.Ending.{ended_bytes}
+use Rattle.gate_parts.specs.Rows.{ended_bytes}
 use Rattle.gate_core.proofs.Fronts.{sent-next}
 use Rattle.unlink_race.specs.Searches.{ended_by}
 use Rattle.gate_core.proofs.Giving.{some-kept}

@@ -1,6 +1,6 @@
 use Rattle.std.proofs.Common.{◌≡◌, ◌++◌, take}
 use Rattle.std.specs.List.{flat_map}
-use Rattle.gate_core.specs.inner.Ending.{ended_bytes}
+use Rattle.gate_parts.specs.Rows.{ended_bytes}
 use Rattle.gate_core.proofs.kept.Kept.write_ends.Given as goal
 
 abbrev pub invariant-loop-place : goal.invariant-loop-place

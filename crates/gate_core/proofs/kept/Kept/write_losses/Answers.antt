@@ -1,9 +1,8 @@
 use Rattle.std.proofs.Common.{◌≡◌, ◌≤◌, ℕ, cond, not, Option, Some, None, refl, sym, ap, ◌∙◌, arith}
 use Rattle.std.specs.Prelude.{is_none}
-use Rattle.std.specs.Option.{option_copied}
+use Rattle.std.specs.Option.{option_copied, is_some}
 use mir.Val.{bool_byte}
-use Rattle.std.specs.Option.{is_some}
-use Rattle.gate_core.specs.inner.Rows.{lost_bytes, is_asked_back}
+use Rattle.gate_parts.specs.Rows.{lost_bytes, is_asked_back}
 use Rattle.gate_core.proofs.Fronts.{sent-next, count-next}
 use Rattle.gate_core.proofs.kept.Kept.write_losses.Goals as goal
 

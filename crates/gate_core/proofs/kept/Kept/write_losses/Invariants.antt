@@ -1,6 +1,6 @@
 use Rattle.std.proofs.Common.{◌≡◌, ◌≤◌, ◌++◌, length, filter, take}
 use Rattle.std.specs.List.{flat_map}
-use Rattle.gate_core.specs.inner.Rows.{lost_bytes, is_asked_back}
+use Rattle.gate_parts.specs.Rows.{lost_bytes, is_asked_back}
 use Rattle.gate_core.proofs.kept.Kept.write_losses.Given as goal
 
 abbrev pub invariant-loop-place : goal.invariant-loop-place

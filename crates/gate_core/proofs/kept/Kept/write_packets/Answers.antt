@@ -4,13 +4,13 @@ use Rattle.usbip_urb.specs.Buffers.{laid}
 use Rattle.redir_data.specs.declared.packet.RedirPacket.{RedirPacket}
 use Rattle.redir_data.specs.declared.packet.RedirData.TheVariants as data_packet
 use Rattle.redir_data.specs.declared.packet.RedirPacket.TheVariants.{Carrying}
-use Rattle.gate_core.specs.Ids.{draw, greatest, last_of}
-use Rattle.gate_core.specs.Flight.{wide_ids}
-use Rattle.gate_core.specs.Packets.{iso_packet, iso_packets}
-use Rattle.gate_core.specs.Bytes.{host_packet_bytes}
-use Rattle.gate_core.specs.inner.Views.{request_view}
+use Rattle.gate_history.specs.Ids.{draw, greatest, last_of}
+use Rattle.gate_history.specs.Flight.{wide_ids}
+use Rattle.gate_history.specs.Packets.{iso_packet, iso_packets}
+use Rattle.gate_history.specs.Bytes.{host_packet_bytes}
+use Rattle.gate_history.specs.Views.{request_view}
 use Rattle.gate_core.specs.inner.Calling.{flying_in, ids_after, bytes_of}
-use Rattle.gate_core.proofs.Laid.{no_desc, few-stretch, stretch-packet, next-iso}
+use Rattle.gate_history.proofs.Laid.{no_desc, few-stretch, stretch-packet, next-iso}
 use Rattle.gate_core.proofs.Stopping.{last-more, bytes-more}
 use Rattle.gate_core.proofs.kept.Kept.write_packets.Goals as goal
 

@@ -1,7 +1,7 @@
 use Rattle.std.proofs.Common.{◌≡◌, ◌++◌, length, take}
-use Rattle.gate_core.specs.Ids.{last_of}
-use Rattle.gate_core.specs.Packets.{iso_packets}
-use Rattle.gate_core.specs.inner.Views.{request_view}
+use Rattle.gate_history.specs.Ids.{last_of}
+use Rattle.gate_history.specs.Packets.{iso_packets}
+use Rattle.gate_history.specs.Views.{request_view}
 use Rattle.gate_core.specs.inner.Calling.{ids_after, bytes_of}
 use Rattle.gate_core.proofs.kept.Kept.write_packets.Given as goal
 

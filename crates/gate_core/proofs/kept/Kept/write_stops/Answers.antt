@@ -1,12 +1,11 @@
 use Rattle.std.proofs.Common.{◌≡◌, ◌+◌, ◌∙◌, ◌++◌, List, Option, get_or, take, length, sym, ap, subst, append_assoc, arith}
 use Rattle.std.proofs.lemmas.List.{append-nil}
-use Rattle.gate_core.specs.declared.calls.Called.{Called}
-use Rattle.gate_core.specs.Ups.{Up, is_ended}
-use Rattle.gate_core.specs.Packets.{stop_of, stops}
+use Rattle.gate_parts.specs.declared.calls.Called.{Called}
+use Rattle.gate_history.specs.Ups.{Up, is_ended}
+use Rattle.gate_history.specs.Packets.{stop_of, stops}
 use Rattle.gate_core.specs.inner.Calling.{called_of, after_stops, bytes_of}
-use Rattle.gate_core.proofs.Stopping.{bytes-more, stops-more, next-stops}
+use Rattle.gate_core.proofs.Stopping.{bytes-more, stops-more, next-stops, on-err}
 use Rattle.gate_core.proofs.Giving.{some-joined}
-use Rattle.gate_core.proofs.Stopping.{on-err}
 use Rattle.gate_core.proofs.kept.Kept.write_stops.Goals as goal
 
 pub loop-stream-init : goal.loop-stream-init

@@ -1,6 +1,6 @@
 use Rattle.std.proofs.Common.{◌≡◌, ◌++◌, take}
-use Rattle.gate_core.specs.Ups.{is_ended}
-use Rattle.gate_core.specs.Packets.{stops}
+use Rattle.gate_history.specs.Ups.{is_ended}
+use Rattle.gate_history.specs.Packets.{stops}
 use Rattle.gate_core.specs.inner.Calling.{called_of, after_stops, bytes_of}
 use Rattle.gate_core.proofs.kept.Kept.write_stops.Given as goal
 

@@ -1,5 +1,5 @@
 use Rattle.std.proofs.Common.{Bool, ◌||◌, ap}
-use Rattle.gate_core.specs.Events.{event_of}
+use Rattle.gate_history.specs.Events.{event_of}
 use Rattle.usbgate.proofs.Events.{sees}
 use Rattle.usbgate.proofs.replay.Replay.put.Goals as goal
 

@@ -1,5 +1,5 @@
 use Rattle.std.proofs.Common.{◌++◌, ap, sym, ◌∙◌}
-use Rattle.gate_core.specs.Events.{event_of}
+use Rattle.gate_history.specs.Events.{event_of}
 use Rattle.usbgate.specs.EventCommand.{EventCommand}
 use Rattle.usbgate.proofs.show.ShowEventCommand.see.Goals as goal
 

@@ -1,8 +1,0 @@
-use Rattle.gate_core.proofs.Bounds.{client-rest, host-rest}
-use Rattle.gate_core.proofs.laws.rests_are_short.Goals as goal
-
-pub returns-clause-client : goal.returns-clause-client
-returns-clause-client c bytes are = client-rest bytes are
-
-pub returns-clause-host : goal.returns-clause-host
-returns-clause-host c bytes are = host-rest bytes are

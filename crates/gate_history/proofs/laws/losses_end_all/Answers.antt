@@ -1,0 +1,5 @@
+use Rattle.gate_history.proofs.Losses.{ends-all}
+use Rattle.gate_history.proofs.laws.losses_end_all.Goals as goal
+
+pub returns : goal.returns
+returns c = ends-all

@@ -1,0 +1,5 @@
+use Rattle.gate_history.proofs.States.{state-sound}
+use Rattle.gate_history.proofs.laws.states_are_sound.Goals as goal
+
+pub returns : goal.returns
+returns c = state-sound

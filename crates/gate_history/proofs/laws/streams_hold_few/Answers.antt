@@ -1,0 +1,5 @@
+use Rattle.gate_history.proofs.Room.{few-held}
+use Rattle.gate_history.proofs.laws.streams_hold_few.Goals as goal
+
+pub returns : goal.returns
+returns c = few-held

@@ -1,0 +1,39 @@
+-- The gateway in a page: what it sends to each side and tells, whatever comes, and however it is cut. An event is a piece of
+-- a side's stream, or its end (Events.antt); lists of events have the latest first. Their history (History.antt) is what
+-- came, in the order in which packets became whole: each packet, each wrong place and each end, as what it means behind
+-- those before it (Past.antt, Meaning.antt). All that is sent, told and counted is what each mark of the history gives, one
+-- after another (All.antt): packets to the clients and to the host (Output.antt), and notes (Notes.antt).
+use Rattle.std.specs.Prelude.{ℕ, List, ◌≡◌, ◌++◌}
+use Rattle.gate_history.specs.declared.note.Note.{Note}
+use Rattle.gate_history.specs.declared.note.Counts.{Counts}
+use Rattle.gate_history.specs.Events.{Event}
+use Rattle.gate_history.specs.History.{history}
+use Rattle.gate_history.specs.Notes.{notes_of}
+use Rattle.gate_history.specs.All.{all_of, counts_of}
+use Rattle.gate_history.specs.Bytes.{out_client, out_host}
+
+-- ---- of all events, where the ids of packets to the host begin with the first one
+
+-- to the clients, one after another
+abbrev pub client_output : ℕ → List Event → List ℕ
+client_output first events = out_client first (history first events)
+
+-- to the host, the hello first
+abbrev pub host_output : ℕ → List Event → List ℕ
+host_output first events = out_host first (history first events)
+
+-- the notes, in the order in which they are told
+abbrev pub notes : ℕ → List Event → List Note
+notes first events = all_of notes_of first (history first events)
+
+-- how many submits were answered, taken back and dropped, and how many are live
+abbrev pub counts : ℕ → List Event → Counts
+counts first events = counts_of first (history first events)
+
+-- ---- of one event more
+
+-- the one list has gained what the other has
+pub record Gains {A : Type 0} (old new before after : List A) : Type 0 where
+  pub more : List A
+  pub new-is : new ≡ old ++ more
+  pub after-is : after ≡ before ++ more

@@ -1,0 +1,71 @@
+-- The replies to list and import requests: the one device, as it was told, or none.
+use Rattle.std.specs.Prelude.{ℕ, ◌-◌, ◌==◌, Bool, if◌then◌else◌, List, [], ◌∷◌, ◌++◌, length, take, replicate, codes, bytes_eq, Option, Some, None}
+use Rattle.usb_base.specs.Speed.{speed_of, usbip_speed}
+use Rattle.usbip_op.specs.declared.packet.OpPacket.{OpPacket}
+use Rattle.usbip_op.specs.declared.packet.OpPacket.TheVariants.{RepDevlist, RepImport}
+use Rattle.usbip_op.specs.declared.packet.DeviceRow.{DeviceRow}
+use Rattle.usbip_op.specs.declared.packet.IfaceRow.{IfaceRow}
+use Rattle.usbip_op.specs.declared.packet.Listed.{Listed}
+use Rattle.redir_wire.specs.declared.packet.Connect.{Connect}
+use Rattle.redir_wire.specs.declared.packet.InterfaceInfo.{InterfaceInfo}
+use Rattle.gate_history.specs.declared.facts.Facts.{Facts}
+
+-- a text in a field of n bytes, with zeros after it
+abbrev pub padded : ℕ → List ℕ → List ℕ
+padded n text = text ++ replicate (n - length text) 0
+
+-- rows of class, subclass and protocol
+abbrev pub rows : List ℕ → List ℕ → List ℕ → List IfaceRow
+rows (c ∷ cs) (s ∷ ss) (p ∷ ps) = record { class = c; subclass = s; protocol = p; pad = 0 } ∷ rows cs ss ps
+rows [] ss ps = []
+rows (c ∷ cs) [] ps = []
+rows (c ∷ cs) (s ∷ ss) [] = []
+
+-- the first rows of an interface_info, as many as its count, which is at most 32; none before one is told
+abbrev pub interface_rows : Option InterfaceInfo → List IfaceRow
+interface_rows None = []
+interface_rows (Some info) = take info.count (rows info.class info.subclass info.protocol)
+
+abbrev pub device_row : Facts → Connect → DeviceRow
+device_row f c = record {
+  path = padded 256 (codes "/usbredir/1-1");
+  busid = padded 32 (codes "1-1");
+  busnum = 1;
+  devnum = 2;
+  speed = usbip_speed (speed_of c.speed);
+  vendor = c.vendor;
+  product = c.product;
+  version = c.version;
+  class = c.class;
+  subclass = c.subclass;
+  protocol = c.protocol;
+  configuration = f.configuration;
+  configurations = 1;
+  interfaces = length (interface_rows f.interfaces);
+}
+
+-- ---- a list request
+
+abbrev pub devices_of : Facts → Option Connect → List Listed
+devices_of f None = []
+devices_of f (Some c) = record { device = device_row f c; interfaces = interface_rows f.interfaces } ∷ []
+
+abbrev pub list_reply : Facts → OpPacket
+list_reply f = RepDevlist 0 (devices_of f f.connect)
+
+-- ---- an import request
+
+-- a text ends at its first zero
+abbrev pub text_of : List ℕ → List ℕ
+text_of [] = []
+text_of (b ∷ bs) = if b == 0 then [] else b ∷ text_of bs
+
+abbrev pub is_exported : List ℕ → Bool
+is_exported busid = bytes_eq (text_of busid) (codes "1-1")
+
+-- any status other than 0 says that there is no such device to import
+abbrev pub failed_import : OpPacket
+failed_import = RepImport 1 None
+
+abbrev pub import_reply : Facts → Connect → OpPacket
+import_reply f c = RepImport 0 (Some (device_row f c))

@@ -1,0 +1,22 @@
+//! What the gateway means: what the packets of USB/IP clients and of a usbredir host mean in the order in which they become
+//! whole, and what is sent to each side for them. No table, buffer or cursor is named here.
+#![tactic(auto)]
+
+mod event;
+mod facts;
+mod item;
+mod laws;
+mod note;
+mod request;
+mod verdict;
+
+pub use event::Event;
+pub use facts::Facts;
+pub use item::Item;
+pub use laws::{
+    events_add_items, ids_fly_once, losses_end_all, machine_is_past, refusals_have_causes,
+    rests_are_short, sent_can_be_read, states_are_sound, streams_hold_few, submits_end_once,
+};
+pub use note::{Counts, Note, Notes};
+pub use request::{Asked, Request, is_in_setup};
+pub use verdict::{Pipe, Verdict};

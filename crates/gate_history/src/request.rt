@@ -1,0 +1,124 @@
+//! What a submit asks for.
+
+ghost use Rattle.std.specs.Prelude.{◌≡◌, ◌≤◌, None, []};
+ghost use Rattle.usbip_urb.specs.Ranges.{IsSubmit};
+ghost use Rattle.gate_history.specs.Requests.{address, request_of, is_in_setup};
+ghost use Rattle.gate_history.specs.Views.{request_view};
+ghost use Rattle.gate_history.specs.Carried.{IsRequest};
+ghost use Rattle.gate_history.specs.Asked.{asked_view};
+
+use usb_base::{EpAddr, Setup, Transfer};
+use usbip_urb::{Descs, IsoDesc, Submit, USBIP_DIR_OUT};
+
+/// A transfer, and what its answer has of the submit.
+#[derive(Drop)]
+pub struct Request {
+    /// The submit's number, which its answer has.
+    pub number: u32,
+    /// Whether data go from the device to the client, by the submit.
+    pub is_in: bool,
+    /// transfer_flags of the submit.
+    pub flags: u32,
+    /// number_of_packets of the submit, which its answer echoes.
+    pub packets: u32,
+    /// Its isochronous packets, in wire order.
+    pub descs: Descs,
+    pub transfer: Transfer,
+}
+
+impl Request {
+    /// The endpoint of its transfer.
+    pub fn ep(&self) -> EpAddr
+        ensures { result ≡ self.now.transfer.ep }
+    {
+        self.transfer.ep
+    }
+
+    /// What a submit asks for. Its body and its descriptors are moved.
+    pub fn of(submit: Submit) -> Request
+        requires { IsSubmit submit }
+        ensures value { request_view result ≡ request_of submit }
+        ensures whole { IsRequest (request_view result) }
+    {
+        let Submit {
+            head,
+            flags,
+            length,
+            packets,
+            setup,
+            body,
+            descs,
+            ..
+        } = submit;
+        let is_in = head.direction != USBIP_DIR_OUT;
+        let (ep, setup) = if head.ep == 0 {
+            let setup = Setup::read(setup);
+            (address(is_in_setup(&setup), 0), Some(setup))
+        } else {
+            (address(is_in, head.ep), None)
+        };
+        Request {
+            number: head.seqnum,
+            is_in,
+            flags,
+            packets,
+            descs,
+            transfer: Transfer {
+                ep,
+                setup,
+                wanted: length,
+                body,
+            },
+        }
+    }
+}
+
+/// The address of an endpoint by its direction and its number.
+fn address(is_in: bool, number: u32) -> EpAddr
+    requires { number ≤ 15 }
+    ensures { result ≡ address is_in number }
+{
+    let number = number as u8;
+    let byte = if is_in { number + 0x80 } else { number };
+    EpAddr::new(byte).unwrap()
+}
+
+/// Whether a control transfer's data go from the device, which its setup says.
+pub fn is_in_setup(setup: &Setup) -> bool
+    ensures { result ≡ is_in_setup setup.now }
+{
+    setup.kind >= 0x80
+}
+
+/// What the answer of a submit has of the submit.
+#[derive(Clone, Copy)]
+pub struct Asked<'a> {
+    /// The submit's number.
+    pub number: u32,
+    /// Whether data go from the device to the client.
+    pub is_in: bool,
+    /// transfer_flags of the submit.
+    pub flags: u32,
+    /// number_of_packets of the submit.
+    pub packets: u32,
+    /// How many bytes are asked for.
+    pub wanted: u32,
+    /// Its isochronous packets, in wire order.
+    pub descs: &'a [IsoDesc],
+}
+
+impl Request {
+    /// What its answer has of it.
+    pub fn asked(&self) -> Asked<'_>
+        ensures { asked_view result ≡ record { number = self.now.number; is_in = self.now.is_in; flags = self.now.flags; packets = self.now.packets; descs = self.now.descs; transfer = record { ep = 0; setup = None; wanted = self.now.transfer.wanted; body = [] } } }
+    {
+        Asked {
+            number: self.number,
+            is_in: self.is_in,
+            flags: self.flags,
+            packets: self.packets,
+            wanted: self.transfer.wanted,
+            descs: self.descs.as_slice(),
+        }
+    }
+}

@@ -1,0 +1,45 @@
+//! What is made of a submit.
+
+ghost use Rattle.std.specs.Prelude.{◌≡◌, ◌⊎◌, ◌<◌};
+ghost use Rattle.gate_history.specs.Views.{pipe_view};
+ghost use Rattle.gate_history.specs.Verdict.{pipe_kind};
+
+use control_route::Route;
+use usb_base::{EpKind, EpRow};
+
+/// The kinds of transfers of which each is one packet to the host and one back.
+#[derive(Clone, Copy)]
+pub enum Pipe {
+    Control,
+    Bulk,
+    InterruptOut,
+}
+
+impl Pipe {
+    /// The kind of endpoints that have such transfers.
+    pub fn kind(self) -> EpKind
+        ensures { result ≡ pipe_kind (pipe_view self) }
+    {
+        match self {
+            Pipe::Control => EpKind::Control,
+            Pipe::Bulk => EpKind::Bulk,
+            Pipe::InterruptOut => EpKind::Interrupt,
+        }
+    }
+}
+
+/// What is made of a submit.
+#[derive(Clone, Copy)]
+pub enum Verdict {
+    /// It is answered at once with this status.
+    Now(i32),
+    /// It goes to the host as a packet of its own kind.
+    Wire(Pipe),
+    /// It goes to the host by the packets of its route.
+    Routed(Route),
+    /// It goes to the host as isochronous packets by the stream of an endpoint that has this row, and is answered at
+    /// once.
+    IsoOut(EpRow),
+    /// It waits for the packets of its endpoint's stream, which keeps this row.
+    Stream(EpRow),
+}

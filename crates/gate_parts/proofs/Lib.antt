@@ -1,0 +1,10 @@
+pub mod Rows
+pub mod Mapped
+pub mod Interfaces
+pub mod Flying
+pub mod Answered
+pub mod Reading
+pub mod Responding
+pub mod Places
+pub mod SoFar
+pub mod Lent
