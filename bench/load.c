@@ -19,7 +19,7 @@
    its links stay up for so many seconds behind that, in which nothing is sent.
 
    Each side has a thread that reads and one that writes. A reader takes what has come in one call. What is to be sent
-   for that goes out with AT_ONCE packets in one call at most: with 1 as Linux's client and usbredir's host send them.
+   for that goes out with AT_ONCE packets in one call at most.
    The reader sends it where it is short and the link takes it at once, so that a lone transfer wakes no thread beside
    the two that its packets wake; the rest is left to the writer. */
 #define _GNU_SOURCE
