@@ -1,5 +1,5 @@
 -- How serving goes on over doors that tell their turns: what each call of the doors gives, and what comes of that.
-use Rattle.std.specs.Prelude.{ℕ, zero, suc, ◌-◌, ◌==◌, ◌&&◌, not, Bool, true, false, if◌then◌else◌, List, [], ◌∷◌, ◌++◌}
+use Rattle.std.specs.Prelude.{ℕ, zero, suc, ◌-◌, ◌==◌, ◌&&◌, ◌||◌, not, Bool, true, false, if◌then◌else◌, List, [], ◌∷◌, ◌++◌}
 use Rattle.std.specs.List.{flat_map}
 use Rattle.usb_base.specs.declared.side.Side.{Side}
 use Rattle.usb_base.specs.declared.side.Side.TheVariants.{Client, Host}
@@ -9,7 +9,7 @@ use Rattle.gate_outside.specs.declared.turn.Polled.{Polled}
 use Rattle.gate_outside.specs.declared.turn.Polled.TheVariants.{Took, NotYet, Ended, Failed}
 use Rattle.gate_outside.specs.Turns.{pending, answer, given, after}
 use Rattle.bridge_run.specs.Events.{Event, ClientComes, ClientPiece, ClientQuiet, ClientEnd, HostPiece, HostEnd}
-use Rattle.bridge_run.specs.Recorded.{lines_of}
+use Rattle.bridge_run.specs.Recorded.{lines_of, sends_any, is_last, is_full, written_if, waiting_if}
 use Rattle.bridge_run.specs.declared.serve_end.ServeEnd.{ServeEnd}
 use Rattle.bridge_run.specs.declared.serve_end.ServeEnd.TheVariants as end
 use Rattle.bridge_run.specs.Prescribed.{Prescribed, gained, refuses, drops, first_of}
@@ -26,8 +26,21 @@ room = 65536
 
 -- ---- an event
 
--- its lines are recorded, and what it sends is written to each side whose link is up. Then a side that it refuses has
--- its link closed, and a client that it lets go. What that client had still to send is lost.
+-- its lines don't wait where it sends anything, and where no more may come
+abbrev pub sends_now : Prescribed → Event → Course → Bool
+sends_now p e c = sends_any (gained p.to_client c.events e) (gained p.to_host c.events e) (gained p.refusals c.events e) (p.lets_go (e ∷ c.events)) || is_last c.client_up c.host_up c.left
+
+-- the lines that wait, and behind them its own
+abbrev pub lines_with : Prescribed → Event → Course → List ℕ
+lines_with p e c = c.waiting ++ lines_of e (gained p.refusals c.events e)
+
+-- they are written to the tape
+abbrev pub is_due : Prescribed → Event → Course → Bool
+is_due p e c = sends_now p e c || is_full (lines_with p e c)
+
+-- its lines are put behind those that wait, and all of them are written to the tape where they are due. Then what it
+-- sends is written to each side whose link is up. Then a side that it refuses has its link closed, and a client that it
+-- lets go. What that client had still to send is lost.
 abbrev pub put : Prescribed → Event → Course → Course
 put p e c = let refused = gained p.refusals c.events e in record c {
   events = e ∷ c.events;
@@ -37,7 +50,8 @@ put p e c = let refused = gained p.refusals c.events e in record c {
   to_client = if c.client_up then c.to_client ++ gained p.to_client c.events e else c.to_client;
   to_host = if c.host_up then c.to_host ++ gained p.to_host c.events e else c.to_host;
   told = c.told ++ flat_map refusal_line refused;
-  recorded = c.recorded ++ lines_of e refused;
+  recorded = c.recorded ++ written_if (is_due p e c) (lines_with p e c);
+  waiting = waiting_if (is_due p e c) (lines_with p e c);
 }
 
 -- no client is there and the host is gone, or all bytes are taken that may be
@@ -100,12 +114,16 @@ heard side next Failed bytes c = Stops (end.LinkFault side) c
 abbrev pub poll : Side → List Turn → Next → Course → Outcome
 poll side turns next c = heard side next (answer room (pending turns)) (given room (pending turns)) (turned side c)
 
--- a round that brought nothing is one fewer that may follow
+-- what waits is written to the tape
+abbrev pub gathered : Course → Course
+gathered c = record c { recorded = c.recorded ++ c.waiting; waiting = [] }
+
+-- a round that brought nothing is one fewer that may follow, and leaves nothing waiting
 abbrev pub rest : Setting → Course → Outcome
 rest s c =
     if c.busy then Goes AtDoor (record c { busy = false; waits = s.idle })
-    else if c.waits - 1 == 0 then Stops end.Idle (record c { waits = c.waits - 1 })
-    else Goes AtDoor (record c { waits = c.waits - 1 })
+    else if c.waits - 1 == 0 then Stops end.Idle (record (gathered c) { waits = c.waits - 1 })
+    else Goes AtDoor (record (gathered c) { waits = c.waits - 1 })
 
 -- ---- one call after another
 

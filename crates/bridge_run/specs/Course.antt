@@ -29,8 +29,9 @@ pub record Course : Type 0 where
   pub to_client : List ℕ
   pub to_host : List ℕ
   pub told : List ℕ
-  -- what was written to the tape
+  -- what was written to the tape, and the lines that wait to be written
   pub recorded : List ℕ
+  pub waiting : List ℕ
 
 -- what is done next
 pub data Next : Type 0 where

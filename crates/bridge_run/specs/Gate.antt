@@ -4,12 +4,12 @@ use Rattle.std.specs.List.{flat_map, list_any}
 use Rattle.usb_base.specs.declared.refusal.Refusal.{Refusal}
 use Rattle.gate_history.specs.declared.note.Note.{Note}
 use Rattle.gate_history.specs.declared.note.Note.TheVariants as note
-use Rattle.gate_history.specs.Events.{Event as GateEvent}
-use Rattle.gate_history.specs.Events as gate
-use Rattle.gate_history.specs.History.{history}
-use Rattle.gate_history.specs.Notes.{notes_of}
-use Rattle.gate_history.specs.All.{all_of}
-use Rattle.gate_history.specs.Bytes.{out_client, out_host}
+use Rattle.gate_history.specs.step.Events.{Event as GateEvent}
+use Rattle.gate_history.specs.step.Events as gate
+use Rattle.gate_history.specs.step.History.{history}
+use Rattle.gate_history.specs.write.Notes.{notes_of}
+use Rattle.gate_history.specs.write.All.{all_of}
+use Rattle.gate_history.specs.write.Bytes.{out_client, out_host}
 use Rattle.bridge_run.specs.Events.{Event, ClientComes, ClientPiece, ClientQuiet, ClientEnd, HostPiece, HostEnd}
 use Rattle.bridge_run.specs.Prescribed.{Prescribed, gained}
 use Rattle.bridge_run.specs.declared.after_loss.AfterLoss.{AfterLoss}

@@ -7,8 +7,8 @@ use Rattle.usb_base.specs.declared.refusal.Refusal.{Refusal}
 use Rattle.model_device.specs.Meaning.{Meaning}
 use Rattle.redir_host.specs.declared.note.HostNote.{HostNote}
 use Rattle.redir_host.specs.declared.note.HostNote.TheVariants as note
-use Rattle.redir_host.specs.Acts.{Act, Piece, Perform, Offer}
-use Rattle.redir_host.specs.Output.{host_out, act_notes}
+use Rattle.redir_host.specs.step.Acts.{Act, Piece, Perform, Offer}
+use Rattle.redir_host.specs.write.Output.{host_out, act_notes}
 use Rattle.bridge_run.specs.Events.{Event, ClientComes, ClientPiece, ClientQuiet, ClientEnd, HostPiece, HostEnd}
 use Rattle.bridge_run.specs.Prescribed.{Prescribed}
 

@@ -104,12 +104,24 @@ pub record Wrote {D : Type 0} (gives : D → Call → D → Type 0) (opening : O
   pub settled : Settled opening p calls
   pub written : IsWritten opening p (events_of calls) calls
 
--- a call failed, or memory ran out: what the last event sends may be written in part
+-- a call failed: what the last event sends may be written in part
 pub record WroteInPart {D : Type 0} (gives : D → Call → D → Type 0) (opening : Opening) (p : Prescribed) (old new : D) : Type 0 where
   pub calls : List Call
   pub called : Called gives calls old new
   pub settled : Settled opening p calls
   pub written : IsWrittenInPart opening p (events_of calls) calls
+
+-- of the latest event nothing is written, and all for those before it; where none came, nothing was asked
+abbrev pub IsWrittenBefore : Opening → Prescribed → List Event → List Call → Type 0
+IsWrittenBefore opening p [] calls = calls ≡ []
+IsWrittenBefore opening p (e ∷ events) calls = IsWritten opening p events calls
+
+-- memory ran out before all, or as the latest event was taken
+pub record WroteBefore {D : Type 0} (gives : D → Call → D → Type 0) (opening : Opening) (p : Prescribed) (old new : D) : Type 0 where
+  pub calls : List Call
+  pub called : Called gives calls old new
+  pub settled : Settled opening p calls
+  pub written : IsWrittenBefore opening p (events_of calls) calls
 
 abbrev pub Logged : {D : Type 0} → ServeEnd → (D → Call → D → Type 0) → Opening → Prescribed → D → D → Type 0
 Logged (end.Ended refused) gives opening p old new = Wrote gives opening p old new
@@ -117,4 +129,4 @@ Logged end.Idle gives opening p old new = Wrote gives opening p old new
 Logged end.Spent gives opening p old new = Wrote gives opening p old new
 Logged (end.LinkFault side) gives opening p old new = WroteInPart gives opening p old new
 Logged end.WriteFault gives opening p old new = WroteInPart gives opening p old new
-Logged end.Memory gives opening p old new = WroteInPart gives opening p old new
+Logged end.Memory gives opening p old new = WroteBefore gives opening p old new

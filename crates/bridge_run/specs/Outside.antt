@@ -1,5 +1,5 @@
 -- What is known of the doors, and what they tell.
-use Rattle.std.specs.Prelude.{◌≡◌, ◌⊎◌, ◌≤◌, ◌+◌, ◌-◌, ◌^◌, ℕ, min, Bool, true, false, List, ◌++◌, Option, Some, IfSome}
+use Rattle.std.specs.Prelude.{◌≡◌, ◌⊎◌, ◌≤◌, ◌+◌, ◌-◌, ◌^◌, ℕ, min, Bool, true, false, List, [], ◌++◌, Option, Some, IfSome}
 use Rattle.usb_base.specs.declared.side.Side.{Side}
 use Rattle.usb_base.specs.declared.side.Side.TheVariants.{Client, Host}
 use Rattle.gate_outside.specs.declared.turn.Turn.{Turn}
@@ -18,13 +18,19 @@ pub record Outside : Type 0 where
 abbrev pub outside : (Side → Link) → Door → Outside
 outside links door = record { client = links Client; host = links Host; door = door }
 
--- the bytes of the sink, which takes the lines of refusals, and those of the tape, where they are told
+-- the bytes of the sink, which takes the lines of refusals, and those of the tape, where they are told; and the lines
+-- that wait to be written to the tape
 pub record Written : Type 0 where
   pub told : Option (List ℕ)
   pub tape : Option (List ℕ)
+  pub waiting : List ℕ
 
+abbrev pub gathering : Option (List ℕ) → Option (List ℕ) → List ℕ → Written
+gathering told tape waiting = record { told = told; tape = tape; waiting = waiting }
+
+-- none wait
 abbrev pub written : Option (List ℕ) → Option (List ℕ) → Written
-written told tape = record { told = told; tape = tape }
+written told tape = gathering told tape []
 
 -- ---- causes, by the counts of faults
 
@@ -103,13 +109,17 @@ pub record Shows (link : Link) (up : Bool) (turns : List Turn) (written : List �
   pub turns-is : link.turns ≡ Some turns
   pub written-is : link.written ≡ Some written
 
+-- a tape that tells its bytes has those of the course, and its lines wait
+abbrev pub IsTaped : Written → Course → Type 0
+IsTaped out c = IfSome out.tape (λ held. (held ≡ c.recorded) × (out.waiting ≡ c.waiting))
+
 -- the doors and the sink tell that this is their course, and so does the tape, where it tells its bytes
 pub record Tells (w : Outside) (out : Written) (c : Course) : Type 0 where
   pub client : Shows w.client c.client_up c.client c.to_client
   pub host : Shows w.host c.host_up c.host c.to_host
   pub clients : w.door.to_come ≡ Some c.clients
   pub told : out.told ≡ Some c.told
-  pub tape : IfSome out.tape (λ held. held ≡ c.recorded)
+  pub tape : IsTaped out c
 
 -- at least the first bytes are written, and at most the last
 pub record IsBetween (least : List ℕ) (known : Option (List ℕ)) (most : List ℕ) : Type 0 where

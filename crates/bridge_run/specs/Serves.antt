@@ -32,6 +32,15 @@ Leaves (LinkFault side) s from w out = CutShort s from w out
 Leaves WriteFault s from w out = CutShort s from w out
 Leaves Memory s from w out = CutShort s from w out
 
+-- at an end that is no fault no line waits to be written to the tape
+abbrev pub NoneWaits : ServeEnd → Course → Type 0
+NoneWaits (Ended refused) c = c.waiting ≡ []
+NoneWaits Idle c = c.waiting ≡ []
+NoneWaits Spent c = c.waiting ≡ []
+NoneWaits (LinkFault side) c = Unit {0}
+NoneWaits WriteFault c = Unit {0}
+NoneWaits Memory c = Unit {0}
+
 -- nothing has happened yet
 pub record Begins (idle budget : ℕ) (c : Course) : Type 0 where
   pub events : c.events ≡ []

@@ -2,7 +2,7 @@
 
 ghost use Rattle.std.specs.Prelude.{◌≡◌, ◌++◌, ◌||◌, OnOk, option_map};
 ghost use Rattle.std.specs.List.{flat_map, list_any};
-ghost use Rattle.gate_history.specs.Events.{event_of as told_of};
+ghost use Rattle.gate_history.specs.step.Events.{event_of as told_of};
 ghost use Rattle.bridge_run.specs.Events.{event_of};
 ghost use Rattle.bridge_run.specs.Gate.{gate_event, refusal_in, is_loss, lets_go};
 
@@ -22,10 +22,10 @@ pub struct Gateway {
 }
 
 impl Served for Gateway {
-    ghost use Rattle.std.specs.Prelude.{ℕ};
+    ghost use Rattle.std.specs.Prelude.{ℕ, is_some};
     ghost use Rattle.bridge_run.specs.declared.after_loss.AfterLoss.{AfterLoss as Setting};
-    ghost use Rattle.gate_core.specs.Stands.{Stands};
-    ghost use Rattle.bridge_run.specs.Gate.{gate_events, gate_sends};
+    ghost use Rattle.gate_core.specs.step.Stands.{Stands};
+    ghost use Rattle.bridge_run.specs.Gate.{gate_event, gate_events, gate_sends};
 
     // what becomes of such a client, and the first id
     ghost First = { Setting × ℕ };
@@ -33,6 +33,9 @@ impl Served for Gateway {
     ghost sends = { λ first. gate_sends first.0 first.1 };
 
     ghost stands = { λ first gateway events. (gateway.after_loss ≡ first.0) × Stands first.1 gateway.gate (gate_events events) };
+
+    // none at an event that is none to a gate
+    ghost takes_memory = { λ e. is_some (gate_event e) };
 
     fn take(&mut self, event: Event, sent: &mut Sent) -> Result<(), Memory> {
         match gate_event(event) {

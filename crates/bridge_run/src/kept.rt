@@ -1,6 +1,7 @@
 //! What is kept of the course of serving.
 
 ghost use Rattle.std.specs.Prelude.{◌≡◌, ◌-◌, ◌<◌, ◌≤◌, true};
+ghost use Rattle.bridge_run.specs.Recorded.{is_last as is_last_of};
 ghost use Rattle.bridge_run.specs.inner.Keeping.{begun, up_of, with_up, refusing, Settles, Rests};
 
 use crate::sent::Sent;
@@ -48,6 +49,13 @@ impl Kept {
             Side::Client => self.client_up,
             Side::Host => self.host_up,
         }
+    }
+
+    /// Whether no link is up, or all is taken that may be.
+    pub fn is_last(&self) -> bool
+        ensures { result ≡ is_last_of self.now.client_up self.now.host_up self.now.left }
+    {
+        (!self.client_up && !self.host_up) || self.left == 0
     }
 
     /// The client's link has come.

@@ -3,10 +3,10 @@
 ghost use Rattle.std.specs.Prelude.{◌≡◌, ◌∷◌, ◌++◌, ◌||◌, [], true, if◌then◌else◌, List as ListOf, OnOk, IfOk};
 ghost use Rattle.std.specs.List.{flat_map, list_any};
 ghost use Rattle.usb_base.specs.Endpoint.{IsEndpoint};
-ghost use Rattle.redir_host.specs.Acts.{Act, Piece};
-ghost use Rattle.redir_host.specs.Sound.{Each};
-ghost use Rattle.redir_host.specs.Stands.{DoesAct, Stands};
-ghost use Rattle.redir_host.specs.Output.{act_notes};
+ghost use Rattle.redir_host.specs.step.Acts.{Act, Piece};
+ghost use Rattle.redir_host.specs.state.Sound.{Each};
+ghost use Rattle.redir_host.specs.step.Stands.{DoesAct, Stands};
+ghost use Rattle.redir_host.specs.write.Output.{act_notes};
 ghost use Rattle.bridge_run.specs.Events.{event_of, is_quiet};
 ghost use Rattle.bridge_run.specs.Lent.{each, used, behind_piece, acts_behind, is_coming, refused_by, refusal_in, is_refusal};
 ghost use Rattle.bridge_run.specs.inner.Lending.{Acts, IsLent, act_of};
@@ -97,6 +97,7 @@ impl<G: Gadget> Lent<G> {
 }
 
 impl<G: Gadget> Served for Lent<G> {
+    ghost use Rattle.std.specs.Prelude.{true};
     ghost use Rattle.bridge_run.specs.Lent.{lent_sends};
     ghost use Rattle.bridge_run.specs.inner.Lending.{IsLent};
 
@@ -106,6 +107,9 @@ impl<G: Gadget> Served for Lent<G> {
     ghost sends = { λ first. lent_sends G.meaning first };
 
     ghost stands = { λ first lent events. IsLent G.meaning first lent events };
+
+    // a quiet guest's device is used, too
+    ghost takes_memory = { λ e. true };
 
     fn take(&mut self, event: Event, sent: &mut Sent) -> Result<(), Memory> {
         self.act(event, &mut sent.refusals)?;

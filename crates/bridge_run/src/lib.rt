@@ -6,6 +6,7 @@ mod after_loss;
 mod event;
 mod gate;
 mod kept;
+mod laws;
 mod lending;
 mod lent;
 mod link;
@@ -17,6 +18,7 @@ mod serving;
 mod session;
 
 pub use after_loss::AfterLoss;
+pub use laws::few_lines_wait;
 pub use lending::serve_host;
 pub use serve_end::ServeEnd;
 pub use serving::serve;

@@ -1,12 +1,12 @@
 //! What is recorded of an event.
 
-ghost use Rattle.std.specs.Prelude.{◌≡◌, ◌++◌, OnOk, OnErr, IfErr};
+ghost use Rattle.std.specs.Prelude.{◌≡◌, ◌++◌, ◌||◌, OnOk, OnErr, IfErr, IfSome};
 ghost use Rattle.std.specs.List.{flat_map};
 ghost use Rattle.std.specs.Io.KnownBytes.{append_known};
 ghost use Rattle.session_tape.specs.Lines.{refusal_comment};
 ghost use Rattle.session_tape.specs.Tapes.{GrowsInPart};
 ghost use Rattle.bridge_run.specs.Events.{event_of};
-ghost use Rattle.bridge_run.specs.Recorded.{event_line, lines_of};
+ghost use Rattle.bridge_run.specs.Recorded.{event_line, lines_of, is_full as are_full, written_if, waiting_if};
 ghost use Rattle.bridge_run.specs.inner.Follows.{IsCutEnd};
 ghost use Rattle.bridge_run.specs.inner.Recording.{TapeFaults};
 
@@ -17,30 +17,60 @@ use session_tape::{Tape, push_end, push_piece, push_refusal, record};
 use std::alloc::Global;
 use usb_base::{Bytes, List, Memory, Refusal, Side};
 
-/// Writes the event's line to the tape, where that is made, and a comment for each refusal that it sends. The text
-/// becomes these lines.
+/// How many bytes of lines are written at the latest.
+const PIECE: usize = 65_536;
+
+/// Puts the event's line behind those that wait, where the tape is made, and a comment for each refusal that it sends.
+/// Where they are due, or 64 KiB wait, all of them are written to the tape.
 pub fn record_event<T: Tape>(
     alloc: Global,
     event: Event,
     sent: &Sent,
-    text: &mut Bytes,
+    due: bool,
+    waiting: &mut Bytes,
     tape: &mut T,
 ) -> Result<(), ServeEnd>
-    ensures ok { OnOk result (T.contents tape.new ≡ append_known (T.contents tape.old) (lines_of (event_of event.entry) sent.now.refusals)) }
-    ensures err { OnErr result (GrowsInPart (T.contents tape.old) (T.contents tape.new) (lines_of (event_of event.entry) sent.now.refusals)) }
+    ensures ok { OnOk result (T.contents tape.new ≡ append_known (T.contents tape.old) (written_if (due || are_full (waiting.old ++ lines_of (event_of event.entry) sent.now.refusals)) (waiting.old ++ lines_of (event_of event.entry) sent.now.refusals))) }
+    ensures waits { OnOk result (IfSome (T.contents tape.new) (λ held. waiting.new ≡ waiting_if (due || are_full (waiting.old ++ lines_of (event_of event.entry) sent.now.refusals)) (waiting.old ++ lines_of (event_of event.entry) sent.now.refusals))) }
+    ensures err { OnErr result (GrowsInPart (T.contents tape.old) (T.contents tape.new) (written_if (due || are_full (waiting.old ++ lines_of (event_of event.entry) sent.now.refusals)) (waiting.old ++ lines_of (event_of event.entry) sent.now.refusals))) }
     ensures cause { TapeFaults result (T.counts tape.old) (T.counts tape.new) }
     ensures cut { IfErr result IsCutEnd }
 {
     if !tape.is_made() {
         return Ok(());
     }
-    text.clear();
-    push_event(event, text)?;
-    push_refusals(alloc, &sent.refusals, text)?;
-    match record(tape, text.as_slice()) {
-        Ok(()) => Ok(()),
+    push_event(event, waiting)?;
+    push_refusals(alloc, &sent.refusals, waiting)?;
+    let is_due = due || is_full(waiting);
+    write_waiting(is_due, waiting, tape)
+}
+
+/// Writes the lines that wait to the tape, where they are due and it is made. Then none wait.
+pub fn write_waiting<T: Tape>(due: bool, waiting: &mut Bytes, tape: &mut T) -> Result<(), ServeEnd>
+    ensures ok { OnOk result (T.contents tape.new ≡ append_known (T.contents tape.old) (written_if due waiting.old)) }
+    ensures waits { OnOk result (IfSome (T.contents tape.new) (λ held. waiting.new ≡ waiting_if due waiting.old)) }
+    ensures err { OnErr result (GrowsInPart (T.contents tape.old) (T.contents tape.new) (written_if due waiting.old)) }
+    ensures cause { TapeFaults result (T.counts tape.old) (T.counts tape.new) }
+    ensures cut { IfErr result IsCutEnd }
+    ensures fault { IfErr result (λ end. end ≡ ServeEnd.WriteFault) }
+{
+    if !due || !tape.is_made() {
+        return Ok(());
+    }
+    match record(tape, waiting.as_slice()) {
+        Ok(()) => {
+            waiting.clear();
+            Ok(())
+        }
         Err(_) => Err(ServeEnd::WriteFault),
     }
+}
+
+/// Whether as many bytes wait as are written at the latest.
+fn is_full(waiting: &Bytes) -> bool
+    ensures { result ≡ are_full waiting.now }
+{
+    waiting.len() >= PIECE
 }
 
 fn push_event(event: Event, text: &mut Bytes) -> Result<(), Memory>

@@ -5,6 +5,7 @@ ghost use Rattle.usb_base.specs.declared.side.Side.TheVariants.{Client};
 ghost use Rattle.std.specs.List.{flat_map};
 ghost use Rattle.usb_base.specs.Refusal.{refusal_line};
 ghost use Rattle.bridge_run.specs.Prescribed.{refuses as among, first_of};
+ghost use Rattle.bridge_run.specs.Recorded.{has_any as any_in, sends_any};
 
 use std::alloc::Global;
 use usb_base::{Bytes, List, Memory, Refusal, Side};
@@ -47,6 +48,16 @@ impl Sent {
         self.lets_go = false;
     }
 
+    /// Whether bytes go to a side, a side is refused, or the client is let go.
+    pub fn is_any(&self) -> bool
+        ensures { result ≡ sends_any self.now.to_client self.now.to_host self.now.refusals self.now.lets_go }
+    {
+        has_any(self.to_client.as_slice())
+            || has_any(self.to_host.as_slice())
+            || has_any(self.refusals.as_slice())
+            || self.lets_go
+    }
+
     /// Whether the side is refused.
     pub fn refuses(&self, side: Side) -> bool
         ensures { result ≡ among side self.now.refusals }
@@ -76,5 +87,14 @@ impl Sent {
             refusal.line(alloc, text)?;
         }
         Ok(())
+    }
+}
+
+fn has_any<T>(items: &[T]) -> bool
+    ensures { result ≡ any_in items.now }
+{
+    match items {
+        [] => false,
+        _ => true,
     }
 }

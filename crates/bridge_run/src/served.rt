@@ -1,6 +1,6 @@
 //! What is served.
 
-ghost use Rattle.std.specs.Prelude.{◌≡◌, List, ◌∷◌, OnOk, true};
+ghost use Rattle.std.specs.Prelude.{◌≡◌, Bool, List, ◌∷◌, OnOk, OnErr, true};
 ghost use Rattle.bridge_run.specs.Events.{Event as PastEvent, event_of, is_quiet};
 ghost use Rattle.bridge_run.specs.inner.Sends.{Sends};
 
@@ -21,11 +21,15 @@ pub trait Served {
     /// It stands for these events, the latest first.
     ghost stands: { First → Self → List PastEvent → Type 0 };
 
+    /// Whether memory may be wanting at an event.
+    ghost takes_memory: { PastEvent → Bool };
+
     /// Takes the next event, and appends what that sends. A quiet client is no ground to refuse a side, or to let the
     /// client go. For want of memory anything may be there.
     fn take(&mut self, event: Event, sent: &mut Sent) -> Result<(), Memory>
         ensures stands { OnOk result ((first : First) (past : List PastEvent) → stands first self.old past → stands first self.new (event_of event.entry ∷ past)) }
         ensures sends { OnOk result ((first : First) (past : List PastEvent) → stands first self.old past → Sends (sends first) past (event_of event.entry) sent.old sent.new) }
         ensures quiet { OnOk result (is_quiet (event_of event.entry) ≡ true → sent.new.refusals ≡ sent.old.refusals) }
-        ensures stays { OnOk result (is_quiet (event_of event.entry) ≡ true → sent.new.lets_go ≡ sent.old.lets_go) };
+        ensures stays { OnOk result (is_quiet (event_of event.entry) ≡ true → sent.new.lets_go ≡ sent.old.lets_go) }
+        ensures wants { OnErr result (takes_memory (event_of event.entry) ≡ true) };
 }

@@ -1,11 +1,12 @@
 //! Serving, once both sides can come.
 
-ghost use Rattle.std.specs.Prelude.{◌≡◌, ◌<◌, List, [], ◌∷◌, not, true, false, OnOk, IfOk, IfErr, length};
+ghost use Rattle.std.specs.Prelude.{◌≡◌, ◌<◌, ◌||◌, List, [], ◌∷◌, not, true, false, OnOk, IfOk, IfErr, length};
 ghost use Rattle.bridge_run.specs.Events.{Event as PastEvent, ClientComes, event_of, is_quiet};
 ghost use Rattle.bridge_run.specs.Course.{Course, Next};
 ghost use Rattle.bridge_run.specs.Course.{AtDoor, AtClient, Takes};
 ghost use Rattle.bridge_run.specs.Calls.{Goes, ends_next as has_end_next, piece as piece_of, end_of as past_end_of, quiet};
-ghost use Rattle.bridge_run.specs.Outside.{outside, written, faults};
+ghost use Rattle.bridge_run.specs.Outside.{outside, gathering, written, faults};
+ghost use Rattle.bridge_run.specs.Recorded.{sends_any, is_last};
 ghost use Rattle.bridge_run.specs.Serves.{Leaves};
 ghost use Rattle.bridge_run.specs.inner.Keeping.{Agrees, Wears, IsLive, rounds_of, up_of};
 ghost use Rattle.bridge_run.specs.inner.Follows.{Prepared, Follows, HasFaults, IsCutEnd, Puts, setting, Runs, polls, behind};
@@ -19,7 +20,7 @@ ghost use Rattle.gate_outside.specs.Link.{other};
 use crate::event::Event;
 use crate::kept::Kept;
 use crate::link::{close_link, write_link};
-use crate::recording::record_event;
+use crate::recording::{record_event, write_waiting};
 use crate::sent::Sent;
 use crate::serve_end::ServeEnd;
 use crate::served::Served;
@@ -37,8 +38,8 @@ pub struct Session<C> {
     /// What the event at hand sends, and the lines that tell its refusals.
     sent: Sent,
     lines: Bytes,
-    /// Its lines on the tape.
-    entry: Bytes,
+    /// The lines that wait to be written to the tape.
+    waiting: Bytes,
 }
 
 impl<C: Served + Drop> Session<C> {
@@ -46,6 +47,7 @@ impl<C: Served + Drop> Session<C> {
     pub fn new(alloc: Global, core: C, kept: Kept) -> Self
         ensures core { result.core ≡ core }
         ensures kept { result.kept ≡ kept }
+        ensures waiting { result.waiting ≡ [] }
     {
         Session {
             alloc,
@@ -53,7 +55,7 @@ impl<C: Served + Drop> Session<C> {
             kept,
             sent: Sent::new(alloc),
             lines: Bytes::new(alloc),
-            entry: Bytes::new(alloc),
+            waiting: Bytes::new(alloc),
         }
     }
 
@@ -64,6 +66,7 @@ impl<C: Served + Drop> Session<C> {
         ensures quiet { OnOk result (is_quiet (event_of event.entry) ≡ true → self.new.sent.refusals ≡ []) }
         ensures stays { OnOk result (is_quiet (event_of event.entry) ≡ true → self.new.sent.lets_go ≡ false) }
         ensures kept { self.new.kept ≡ self.old.kept }
+        ensures waiting { self.new.waiting ≡ self.old.waiting }
     {
         self.sent.clear();
         self.lines.clear();
@@ -71,9 +74,16 @@ impl<C: Served + Drop> Session<C> {
         self.sent.lines(self.alloc, &mut self.lines)
     }
 
-    /// Takes one event: its lines are recorded, what it sends is written to each side whose link is up, then a side that
-    /// it refuses has its link closed, or a client that it lets go, and the lines of refusals are written. Says whether
-    /// the client's link was closed.
+    /// Whether the event's lines don't wait: it sends anything, or no more may come.
+    fn is_due(&self) -> bool
+        ensures { result ≡ (sends_any self.now.sent.to_client self.now.sent.to_host self.now.sent.refusals self.now.sent.lets_go || is_last self.now.kept.client_up self.now.kept.host_up self.now.kept.left) }
+    {
+        self.sent.is_any() || self.kept.is_last()
+    }
+
+    /// Takes one event: its lines are recorded, or wait, what it sends is written to each side whose link is up, then a
+    /// side that it refuses has its link closed, or a client that it lets go, and the lines of refusals are written. Says
+    /// whether the client's link was closed.
     fn put<D: Doors, K: Sink, T: Tape>(
         &mut self,
         event: Event,
@@ -82,8 +92,8 @@ impl<C: Served + Drop> Session<C> {
         tape: &mut T,
     ) -> Result<bool, ServeEnd>
         requires { Agrees self.old.kept (outside (D.link doors.old) (D.door doors.old)) }
-        ensures course { (first : C.First) (c : Course) → Follows (C.stands first self.old.core) (C.sends first) self.old.kept (outside (D.link doors.old) (D.door doors.old)) (written (K.contents out.old) (T.contents tape.old)) c
-            → Puts result (C.stands first self.new.core) (C.sends first) (event_of event.entry) self.new.kept (outside (D.link doors.new) (D.door doors.new)) (written (K.contents out.new) (T.contents tape.new)) c }
+        ensures course { (first : C.First) (c : Course) → Follows (C.stands first self.old.core) (C.sends first) self.old.kept (outside (D.link doors.old) (D.door doors.old)) (gathering (K.contents out.old) (T.contents tape.old) self.old.waiting) c
+            → Puts result (C.stands first self.new.core) (C.sends first) (event_of event.entry) self.new.kept (outside (D.link doors.new) (D.door doors.new)) (gathering (K.contents out.new) (T.contents tape.new) self.new.waiting) c }
         ensures log { (first : C.First) (opening : Opening) (begun : D) → IsTaking D.call_gives (C.stands first self.old.core) opening (C.sends first) (event_of event.entry) self.old.kept begun doors.old
             → PutLogs result D.call_gives (C.stands first self.new.core) opening (C.sends first) (event_of event.entry) self.new.kept begun doors.new }
         ensures faults { HasFaults result (outside (D.link doors.old) (D.door doors.old)) (outside (D.link doors.new) (D.door doors.new)) (faults (K.faults out.old) (T.counts tape.old)) (faults (K.faults out.new) (T.counts tape.new)) }
@@ -95,7 +105,8 @@ impl<C: Served + Drop> Session<C> {
         ensures idles { OnOk result (NotIdle (outside (D.link doors.old) (D.door doors.old)) (outside (D.link doors.new) (D.door doors.new))) }
     {
         self.prepare(event)?;
-        record_event(self.alloc, event, &self.sent, &mut self.entry, tape)?;
+        let due = self.is_due();
+        record_event(self.alloc, event, &self.sent, due, &mut self.waiting, tape)?;
         let Kept {
             client_up,
             host_up,
@@ -127,8 +138,8 @@ impl<C: Served + Drop> Session<C> {
         tape: &mut T,
     ) -> Result<(), ServeEnd>
         requires { Agrees self.old.kept (outside (D.link doors.old) (D.door doors.old)) }
-        ensures course { (first : C.First) (next : Next) (c : Course) → Follows (C.stands first self.old.core) (C.sends first) self.old.kept (outside (D.link doors.old) (D.door doors.old)) (written (K.contents out.old) (T.contents tape.old)) c
-            → Runs result (C.stands first self.new.core) (setting (C.sends first) self.old.kept) self.new.kept (outside (D.link doors.new) (D.door doors.new)) (written (K.contents out.new) (T.contents tape.new)) (Goes (Takes (event_of event.entry) next) c) next }
+        ensures course { (first : C.First) (next : Next) (c : Course) → Follows (C.stands first self.old.core) (C.sends first) self.old.kept (outside (D.link doors.old) (D.door doors.old)) (gathering (K.contents out.old) (T.contents tape.old) self.old.waiting) c
+            → Runs result (C.stands first self.new.core) (setting (C.sends first) self.old.kept) self.new.kept (outside (D.link doors.new) (D.door doors.new)) (gathering (K.contents out.new) (T.contents tape.new) self.new.waiting) (Goes (Takes (event_of event.entry) next) c) next }
         ensures log { (first : C.First) (opening : Opening) (begun : D) → IsTaking D.call_gives (C.stands first self.old.core) opening (C.sends first) (event_of event.entry) self.old.kept begun doors.old
             → Logs result D.call_gives (C.stands first self.new.core) opening (C.sends first) self.new.kept begun doors.new }
         ensures faults { HasFaults result (outside (D.link doors.old) (D.door doors.old)) (outside (D.link doors.new) (D.door doors.new)) (faults (K.faults out.old) (T.counts tape.old)) (faults (K.faults out.new) (T.counts tape.new)) }
@@ -156,8 +167,8 @@ impl<C: Served + Drop> Session<C> {
     ) -> Result<(), ServeEnd>
         requires agrees { Agrees self.old.kept (outside (D.link doors.old) (D.door doors.old)) }
         requires left { 0 < self.old.kept.left }
-        ensures course { (first : C.First) (c : Course) → Follows (C.stands first self.old.core) (C.sends first) self.old.kept (outside (D.link doors.old) (D.door doors.old)) (written (K.contents out.old) (T.contents tape.old)) c
-            → Runs result (C.stands first self.new.core) (setting (C.sends first) self.old.kept) self.new.kept (outside (D.link doors.new) (D.door doors.new)) (written (K.contents out.new) (T.contents tape.new)) (Goes AtDoor c) AtClient }
+        ensures course { (first : C.First) (c : Course) → Follows (C.stands first self.old.core) (C.sends first) self.old.kept (outside (D.link doors.old) (D.door doors.old)) (gathering (K.contents out.old) (T.contents tape.old) self.old.waiting) c
+            → Runs result (C.stands first self.new.core) (setting (C.sends first) self.old.kept) self.new.kept (outside (D.link doors.new) (D.door doors.new)) (gathering (K.contents out.new) (T.contents tape.new) self.new.waiting) (Goes AtDoor c) AtClient }
         ensures log { (first : C.First) (opening : Opening) (begun : D) → IsAt D.call_gives (C.stands first self.old.core) opening (C.sends first) self.old.kept begun doors.old
             → Logs result D.call_gives (C.stands first self.new.core) opening (C.sends first) self.new.kept begun doors.new }
         ensures faults { HasFaults result (outside (D.link doors.old) (D.door doors.old)) (outside (D.link doors.new) (D.door doors.new)) (faults (K.faults out.old) (T.counts tape.old)) (faults (K.faults out.new) (T.counts tape.new)) }
@@ -191,8 +202,8 @@ impl<C: Served + Drop> Session<C> {
     ) -> Result<(), ServeEnd>
         requires agrees { Agrees self.old.kept (outside (D.link doors.old) (D.door doors.old)) }
         requires left { 0 < self.old.kept.left }
-        ensures course { (first : C.First) (next : Next) (c : Course) → Follows (C.stands first self.old.core) (C.sends first) self.old.kept (outside (D.link doors.old) (D.door doors.old)) (written (K.contents out.old) (T.contents tape.old)) c
-            → Runs result (C.stands first self.new.core) (setting (C.sends first) self.old.kept) self.new.kept (outside (D.link doors.new) (D.door doors.new)) (written (K.contents out.new) (T.contents tape.new)) (Goes (quiet side next) c) next }
+        ensures course { (first : C.First) (next : Next) (c : Course) → Follows (C.stands first self.old.core) (C.sends first) self.old.kept (outside (D.link doors.old) (D.door doors.old)) (gathering (K.contents out.old) (T.contents tape.old) self.old.waiting) c
+            → Runs result (C.stands first self.new.core) (setting (C.sends first) self.old.kept) self.new.kept (outside (D.link doors.new) (D.door doors.new)) (gathering (K.contents out.new) (T.contents tape.new) self.new.waiting) (Goes (quiet side next) c) next }
         ensures log { (first : C.First) (opening : Opening) (begun : D) → IsResting side D.call_gives (C.stands first self.old.core) opening (C.sends first) self.old.kept begun doors.old
             → Logs result D.call_gives (C.stands first self.new.core) opening (C.sends first) self.new.kept begun doors.new }
         ensures faults { HasFaults result (outside (D.link doors.old) (D.door doors.old)) (outside (D.link doors.new) (D.door doors.new)) (faults (K.faults out.old) (T.counts tape.old)) (faults (K.faults out.new) (T.counts tape.new)) }
@@ -220,8 +231,8 @@ impl<C: Served + Drop> Session<C> {
         requires agrees { Agrees self.old.kept (outside (D.link doors.old) (D.door doors.old)) }
         requires left { 0 < self.old.kept.left }
         requires room { length buf.old ≡ 65536 }
-        ensures course { (first : C.First) (c : Course) → Follows (C.stands first self.old.core) (C.sends first) self.old.kept (outside (D.link doors.old) (D.door doors.old)) (written (K.contents out.old) (T.contents tape.old)) c
-            → Runs result (C.stands first self.new.core) (setting (C.sends first) self.old.kept) self.new.kept (outside (D.link doors.new) (D.door doors.new)) (written (K.contents out.new) (T.contents tape.new)) (Goes (polls side) c) (behind side) }
+        ensures course { (first : C.First) (c : Course) → Follows (C.stands first self.old.core) (C.sends first) self.old.kept (outside (D.link doors.old) (D.door doors.old)) (gathering (K.contents out.old) (T.contents tape.old) self.old.waiting) c
+            → Runs result (C.stands first self.new.core) (setting (C.sends first) self.old.kept) self.new.kept (outside (D.link doors.new) (D.door doors.new)) (gathering (K.contents out.new) (T.contents tape.new) self.new.waiting) (Goes (polls side) c) (behind side) }
         ensures log { (first : C.First) (opening : Opening) (begun : D) → IsAt D.call_gives (C.stands first self.old.core) opening (C.sends first) self.old.kept begun doors.old
             → Logs result D.call_gives (C.stands first self.new.core) opening (C.sends first) self.new.kept begun doors.new }
         ensures faults { HasFaults result (outside (D.link doors.old) (D.door doors.old)) (outside (D.link doors.new) (D.door doors.new)) (faults (K.faults out.old) (T.counts tape.old)) (faults (K.faults out.new) (T.counts tape.new)) }
@@ -249,7 +260,7 @@ impl<C: Served + Drop> Session<C> {
         }
     }
 
-    /// One round.
+    /// One round. Where it brings nothing, the lines that wait are written.
     fn round<D: Doors, K: Sink, T: Tape>(
         &mut self,
         buf: &mut [u8],
@@ -260,8 +271,8 @@ impl<C: Served + Drop> Session<C> {
         requires agrees { Agrees self.old.kept (outside (D.link doors.old) (D.door doors.old)) }
         requires live { IsLive self.old.kept }
         requires room { length buf.old ≡ 65536 }
-        ensures course { (first : C.First) (c : Course) → Follows (C.stands first self.old.core) (C.sends first) self.old.kept (outside (D.link doors.old) (D.door doors.old)) (written (K.contents out.old) (T.contents tape.old)) c
-            → Runs result (C.stands first self.new.core) (setting (C.sends first) self.old.kept) self.new.kept (outside (D.link doors.new) (D.door doors.new)) (written (K.contents out.new) (T.contents tape.new)) (Goes AtDoor c) AtDoor }
+        ensures course { (first : C.First) (c : Course) → Follows (C.stands first self.old.core) (C.sends first) self.old.kept (outside (D.link doors.old) (D.door doors.old)) (gathering (K.contents out.old) (T.contents tape.old) self.old.waiting) c
+            → Runs result (C.stands first self.new.core) (setting (C.sends first) self.old.kept) self.new.kept (outside (D.link doors.new) (D.door doors.new)) (gathering (K.contents out.new) (T.contents tape.new) self.new.waiting) (Goes AtDoor c) AtDoor }
         ensures log { (first : C.First) (opening : Opening) (begun : D) → IsAt D.call_gives (C.stands first self.old.core) opening (C.sends first) self.old.kept begun doors.old
             → Logs result D.call_gives (C.stands first self.new.core) opening (C.sends first) self.new.kept begun doors.new }
         ensures faults { HasFaults result (outside (D.link doors.old) (D.door doors.old)) (outside (D.link doors.new) (D.door doors.new)) (faults (K.faults out.old) (T.counts tape.old)) (faults (K.faults out.new) (T.counts tape.new)) }
@@ -274,6 +285,7 @@ impl<C: Served + Drop> Session<C> {
         self.ask_door(doors, out, tape)?;
         self.ask(Side::Client, buf, doors, out, tape)?;
         self.ask(Side::Host, buf, doors, out, tape)?;
+        write_waiting(!self.kept.busy, &mut self.waiting, tape)?;
         self.kept.rest()
     }
 
@@ -289,7 +301,7 @@ impl<C: Served + Drop> Session<C> {
         requires live { IsLive self.old.kept }
         requires room { length buf.old ≡ 65536 }
         requires fresh { self.old.kept.waits ≡ self.old.kept.idle }
-        ensures course { (first : C.First) (c : Course) → Follows (C.stands first self.old.core) (C.sends first) self.old.kept (outside (D.link doors.old) (D.door doors.old)) (written (K.contents out.old) (T.contents tape.old)) c
+        ensures course { (first : C.First) (c : Course) → Follows (C.stands first self.old.core) (C.sends first) self.old.kept (outside (D.link doors.old) (D.door doors.old)) (gathering (K.contents out.old) (T.contents tape.old) self.old.waiting) c
             → Leaves result (setting (C.sends first) self.old.kept) (Goes AtDoor c) (outside (D.link doors.new) (D.door doors.new)) (written (K.contents out.new) (T.contents tape.new)) }
         ensures log { (first : C.First) (opening : Opening) (begun : D) → IsAt D.call_gives (C.stands first self.old.core) opening (C.sends first) self.old.kept begun doors.old
             → Logged result D.call_gives opening (C.sends first) begun doors.new }

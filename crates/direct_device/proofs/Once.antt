@@ -3,11 +3,11 @@ use Rattle.std.proofs.Common.{◌≡◌, ℕ, ◌+◌, ◌≤◌, ◌==◌, Bool
 use Rattle.std.proofs.lemmas.Bool.{eqb-true}
 use Rattle.usb_base.specs.declared.status.UsbStatus.{UsbStatus}
 use Rattle.model_device.specs.Meaning.{Meaning}
-use Rattle.gate_history.proofs.Lists.{Each, both}
-use Rattle.gate_history.specs.Requests.{Request}
-use Rattle.gate_history.specs.Verdict.{Verdict, Now, Wire, Routed, IsoOut, Stream, goes_by_id}
-use Rattle.gate_history.specs.Submits.{is_waiting}
-use Rattle.gate_history.specs.Answers.{is_cancelled}
+use Rattle.gate_history.proofs.lemmas.Lists.{Each, both}
+use Rattle.gate_history.specs.client.Requests.{Request}
+use Rattle.gate_history.specs.client.Verdict.{Verdict, Now, Wire, Routed, IsoOut, Stream, goes_by_id}
+use Rattle.gate_history.specs.client.Submits.{is_waiting}
+use Rattle.gate_history.specs.write.Answers.{is_cancelled}
 use Rattle.direct_device.specs.Direct.{Live, Waiting, Ran, Direct, number, is_number}
 use Rattle.direct_device.specs.Acting.{Deed, Import, Submit, Unlink, Perform, Cancel, Answer, Offer, Arrive, Gone, ClientGone}
 use Rattle.direct_device.proofs.Counts.{count}

@@ -8,14 +8,14 @@ use Rattle.usb_base.specs.declared.transfer.StreamPacket.{StreamPacket}
 use Rattle.stream_buffers.specs.Cuts.{Cut}
 use Rattle.model_device.specs.Meaning.{Meaning}
 use Rattle.model_device.specs.Device.{is_success}
-use Rattle.gate_history.specs.Requests.{Request}
-use Rattle.gate_history.specs.Errno.{eshutdown}
-use Rattle.gate_history.specs.Fillings.{Given}
-use Rattle.gate_history.specs.Verdict.{Now, verdict, goes_by_id}
-use Rattle.gate_history.specs.Submits.{is_waiting}
-use Rattle.gate_history.specs.Answers.{is_cancelled}
-use Rattle.gate_history.specs.Meaning.{by_stream}
-use Rattle.gate_history.specs.Ups.{Up, no_streams, stream_at, stream_of}
+use Rattle.gate_history.specs.client.Requests.{Request}
+use Rattle.gate_history.specs.write.Errno.{eshutdown}
+use Rattle.gate_history.specs.host.Fillings.{Given}
+use Rattle.gate_history.specs.client.Verdict.{Now, verdict, goes_by_id}
+use Rattle.gate_history.specs.client.Submits.{is_waiting}
+use Rattle.gate_history.specs.write.Answers.{is_cancelled}
+use Rattle.gate_history.specs.step.Meaning.{by_stream}
+use Rattle.gate_history.specs.state.Ups.{Up, no_streams, stream_at, stream_of}
 use Rattle.direct_device.specs.Direct.{Live, Waiting, Ran, Direct, no_way, number, is_number, normal_of, seen_of, is_at, without_first, any_changes, change_in, cancelled}
 use Rattle.direct_device.specs.Acting.{Deed, Import, Submit, Unlink, Perform, Cancel, Answer, Offer, Arrive, Gone, ClientGone, act, made_of, is_ended, joins_live, is_taken, asked_back, marked, is_cancelled_by, is_flushed, performed_by, performed_first, cancelled_by, answered_by, filled_by, cut_for, first_ran, rest_ran, without_number, offered_by, arrived_by}
 use Rattle.direct_device.specs.Legal.{CanPerform, CanCancel, CanAnswer, CanAnswerBy, IsRan, IsAllowed}

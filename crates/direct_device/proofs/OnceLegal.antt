@@ -3,9 +3,9 @@ use Rattle.std.proofs.Common.{◌≡◌, ℕ, ◌≤◌, Bool, true, false, List
 use Rattle.std.specs.List.{find}
 use Rattle.std.proofs.lemmas.Bool.{eqb-true}
 use Rattle.model_device.specs.Meaning.{Meaning}
-use Rattle.gate_history.proofs.Lists.{Each, both, Each-weaker}
-use Rattle.gate_history.specs.Verdict.{goes_by_id}
-use Rattle.gate_history.specs.Submits.{is_waiting}
+use Rattle.gate_history.proofs.lemmas.Lists.{Each, both, Each-weaker}
+use Rattle.gate_history.specs.client.Verdict.{goes_by_id}
+use Rattle.gate_history.specs.client.Submits.{is_waiting}
 use Rattle.direct_device.specs.Direct.{Live, Waiting, Ran, Direct, first_direct, number, is_number, is_at}
 use Rattle.direct_device.specs.Acting.{Deed, Perform, Answer, Gone, act, first_ran}
 use Rattle.direct_device.specs.Legal.{CanPerform, CanAnswer, CanAnswerBy, IsRan, IsAllowed, AreAllowed, acts}

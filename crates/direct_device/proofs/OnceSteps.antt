@@ -9,12 +9,12 @@ use Rattle.control_route.specs.declared.route.Route.TheVariants as route
 use Rattle.usb_base.specs.declared.setup.Setup.{Setup}
 use Rattle.model_device.specs.Device.{is_success}
 use Rattle.model_device.specs.Submit.{seen, byte_seen, status_alone}
-use Rattle.gate_history.proofs.Lists.{Each, both, Each-append, Each-filter}
-use Rattle.gate_history.specs.Requests.{Request}
-use Rattle.gate_history.specs.Verdict.{Verdict, Now, Wire, Routed, IsoOut, Stream, goes_by_id}
-use Rattle.gate_history.specs.Submits.{is_waiting}
-use Rattle.gate_history.specs.Answers.{is_cancelled}
-use Rattle.gate_history.specs.Packets.{no_setup}
+use Rattle.gate_history.proofs.lemmas.Lists.{Each, both, Each-append, Each-filter}
+use Rattle.gate_history.specs.client.Requests.{Request}
+use Rattle.gate_history.specs.client.Verdict.{Verdict, Now, Wire, Routed, IsoOut, Stream, goes_by_id}
+use Rattle.gate_history.specs.client.Submits.{is_waiting}
+use Rattle.gate_history.specs.write.Answers.{is_cancelled}
+use Rattle.gate_history.specs.write.Packets.{no_setup}
 use Rattle.direct_device.specs.Direct.{Live, Waiting, Ran, number, is_number, is_at, without_first, cancelled, seen_by}
 use Rattle.direct_device.specs.Acting.{Perform, is_taken, asked_back, marked, is_cancelled_by, without_number}
 use Rattle.direct_device.proofs.Counts.{count, count-append, count-map, zero-count, itself, Each-map, Each-and, count-parts}

@@ -3,13 +3,13 @@ use Rattle.std.proofs.Common.{◌≡◌, ℕ, ◌+◌, ◌≤◌, ◌==◌, Bool
 use Rattle.std.specs.Prelude.{filter}
 use Rattle.std.specs.List.{list_any}
 use Rattle.std.proofs.lemmas.Bool.{eqb-true}
-use Rattle.gate_history.proofs.Lists.{Each, Each-append, Each-filter}
-use Rattle.gate_history.specs.Requests.{Request}
-use Rattle.gate_history.specs.Errno.{eshutdown}
-use Rattle.gate_history.specs.Verdict.{Verdict, Now, Wire, Routed, IsoOut, Stream, goes_by_id}
-use Rattle.gate_history.specs.Submits.{is_waiting, is_touched as ends_by_change}
-use Rattle.gate_history.specs.Ups.{Up}
-use Rattle.gate_history.specs.Meaning.{by_stream}
+use Rattle.gate_history.proofs.lemmas.Lists.{Each, Each-append, Each-filter}
+use Rattle.gate_history.specs.client.Requests.{Request}
+use Rattle.gate_history.specs.write.Errno.{eshutdown}
+use Rattle.gate_history.specs.client.Verdict.{Verdict, Now, Wire, Routed, IsoOut, Stream, goes_by_id}
+use Rattle.gate_history.specs.client.Submits.{is_waiting, is_touched as ends_by_change}
+use Rattle.gate_history.specs.state.Ups.{Up}
+use Rattle.gate_history.specs.step.Meaning.{by_stream}
 use Rattle.direct_device.specs.Direct.{Load, Live, Waiting, Ran, number}
 use Rattle.direct_device.specs.Acting.{Submit, is_ended, joins_live, joins_queue}
 use Rattle.direct_device.proofs.Counts.{count, count-append, any-none, count-zero, zero-count, itself, Each-and, count-parts}

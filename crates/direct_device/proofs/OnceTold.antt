@@ -8,14 +8,14 @@ use Rattle.usb_base.specs.declared.status.UsbStatus.TheVariants.{Success, Cancel
 use Rattle.usb_base.specs.declared.transfer.Outcome.{Outcome}
 use Rattle.stream_buffers.specs.Cuts.{Cut}
 use Rattle.model_device.specs.Meaning.{Meaning}
-use Rattle.gate_history.proofs.Lists.{Each}
-use Rattle.gate_history.specs.Errno.{econnreset, eremoteio, is_zero}
-use Rattle.gate_history.specs.Marks.{Submission}
-use Rattle.gate_history.specs.Requests.{Request}
-use Rattle.gate_history.specs.Verdict.{is_wire, goes_by_id}
-use Rattle.gate_history.specs.Fillings.{Given, Transferred, Isochronous}
-use Rattle.gate_history.specs.Submits.{is_waiting}
-use Rattle.gate_history.specs.Answers.{is_cancelled, is_short, ret_unlink, answers_by, with_outcome, with_given}
+use Rattle.gate_history.proofs.lemmas.Lists.{Each}
+use Rattle.gate_history.specs.write.Errno.{econnreset, eremoteio, is_zero}
+use Rattle.gate_history.specs.step.Marks.{Submission}
+use Rattle.gate_history.specs.client.Requests.{Request}
+use Rattle.gate_history.specs.client.Verdict.{is_wire, goes_by_id}
+use Rattle.gate_history.specs.host.Fillings.{Given, Transferred, Isochronous}
+use Rattle.gate_history.specs.client.Submits.{is_waiting}
+use Rattle.gate_history.specs.write.Answers.{is_cancelled, is_short, ret_unlink, answers_by, with_outcome, with_given}
 use Rattle.direct_device.specs.Direct.{Load, Live, Ran, Direct, first_direct, as_submission, number, is_number}
 use Rattle.direct_device.specs.Acting.{Deed, Import, Submit, Unlink, Perform, Cancel, Answer, Offer, Arrive, Gone, ClientGone, answers_of, is_taken, is_target, unlink_answers, filled_answers, ran_answers, cut_for, first_ran}
 use Rattle.direct_device.specs.Legal.{IsAllowed, acts}

@@ -2,7 +2,7 @@
 use Rattle.std.proofs.Common.{◌≡◌, ℕ, ◌+◌, ◌≤◌, ◌&&◌, Bool, true, false, cond, not, eqb, List, [], ◌∷◌, Some, refl, sym, ap, subst, ◌∙◌, arith}
 use Rattle.std.specs.Prelude.{filter}
 use Rattle.std.specs.List.{find}
-use Rattle.gate_history.proofs.Lists.{Each}
+use Rattle.gate_history.proofs.lemmas.Lists.{Each}
 use Rattle.direct_device.specs.Direct.{without_first}
 use Rattle.direct_device.proofs.Counts.{count, zero-count}
 

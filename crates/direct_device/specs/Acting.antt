@@ -10,17 +10,17 @@ use Rattle.stream_buffers.specs.Cuts.{Cut}
 use Rattle.control_route.specs.declared.route.Route.{Route}
 use Rattle.model_device.specs.Meaning.{Meaning}
 use Rattle.model_device.specs.Device.{is_success}
-use Rattle.redir_host.specs.Changes.{is_touched}
-use Rattle.gate_history.specs.Requests.{Request}
-use Rattle.gate_history.specs.Verdict.{Verdict, Now, Wire, Routed, IsoOut, Stream, verdict, is_wire, goes_by_id}
-use Rattle.gate_history.specs.Errno.{econnreset}
-use Rattle.gate_history.specs.Fillings.{Given, cut_of}
-use Rattle.gate_history.specs.Sides.{or_else}
-use Rattle.gate_history.specs.Submits.{is_waiting, is_touched as ends_by_change}
-use Rattle.gate_history.specs.Ups.{Up, no_streams, stream_at, stream_of, hold, opened_streams}
-use Rattle.gate_history.specs.Meaning.{by_stream}
-use Rattle.gate_history.specs.Answers.{ret_unlink, without_packets, with_given, answers_by, lost_answer}
-use Rattle.gate_history.specs.Errno.{eshutdown}
+use Rattle.redir_host.specs.device.Changes.{is_touched}
+use Rattle.gate_history.specs.client.Requests.{Request}
+use Rattle.gate_history.specs.client.Verdict.{Verdict, Now, Wire, Routed, IsoOut, Stream, verdict, is_wire, goes_by_id}
+use Rattle.gate_history.specs.write.Errno.{econnreset}
+use Rattle.gate_history.specs.host.Fillings.{Given, cut_of}
+use Rattle.gate_history.specs.state.Sides.{or_else}
+use Rattle.gate_history.specs.client.Submits.{is_waiting, is_touched as ends_by_change}
+use Rattle.gate_history.specs.state.Ups.{Up, no_streams, stream_at, stream_of, hold, opened_streams}
+use Rattle.gate_history.specs.step.Meaning.{by_stream}
+use Rattle.gate_history.specs.write.Answers.{ret_unlink, without_packets, with_given, answers_by, lost_answer}
+use Rattle.gate_history.specs.write.Errno.{eshutdown}
 use Rattle.direct_device.specs.Direct.{Load, Live, Waiting, Ran, Direct, no_way, as_submission, number, is_number, any_changes, normal_of, seen_of, change_in, cancelled, is_at, without_first, way_by, with_way}
 
 -- an item of a trace; of a submit, what it asks

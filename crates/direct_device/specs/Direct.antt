@@ -8,14 +8,14 @@ use Rattle.usb_base.specs.declared.status.UsbStatus.TheVariants.{Cancelled}
 use Rattle.control_route.specs.declared.route.Route.{Route}
 use Rattle.control_route.specs.Changes.{is_change}
 use Rattle.model_device.specs.Submit.{seen}
-use Rattle.redir_host.specs.Asking.{routed}
-pub use Rattle.redir_host.specs.Queues.{without_first}
-use Rattle.redir_host.specs.Queues.{queue_of}
-use Rattle.gate_history.specs.Requests.{Request}
-use Rattle.gate_history.specs.Verdict.{Verdict, Now, Wire, Routed, IsoOut, Stream, changes}
-use Rattle.gate_history.specs.Marks.{Submission}
-use Rattle.gate_history.specs.Packets.{no_setup}
-use Rattle.gate_history.specs.Ups.{Up, no_streams, stream_of}
+use Rattle.redir_host.specs.guest.Asking.{routed}
+pub use Rattle.redir_host.specs.state.Queues.{without_first}
+use Rattle.redir_host.specs.state.Queues.{queue_of}
+use Rattle.gate_history.specs.client.Requests.{Request}
+use Rattle.gate_history.specs.client.Verdict.{Verdict, Now, Wire, Routed, IsoOut, Stream, changes}
+use Rattle.gate_history.specs.step.Marks.{Submission}
+use Rattle.gate_history.specs.write.Packets.{no_setup}
+use Rattle.gate_history.specs.state.Ups.{Up, no_streams, stream_of}
 
 -- what a submit asks, and what is made of it
 pub record Load : Type 0 where

@@ -7,9 +7,9 @@ use Rattle.usb_base.specs.declared.transfer.Outcome.{Outcome}
 use Rattle.usbip_urb.specs.declared.packet.UrbPacket.{UrbPacket}
 use Rattle.usbip_urb.specs.declared.packet.UrbPacket.TheVariants as urb
 use Rattle.model_device.specs.Meaning.{Meaning}
-use Rattle.gate_history.specs.Errno.{is_zero}
-use Rattle.gate_history.specs.Verdict.{goes_by_id}
-use Rattle.gate_history.specs.Answers.{is_cancelled}
+use Rattle.gate_history.specs.write.Errno.{is_zero}
+use Rattle.gate_history.specs.client.Verdict.{goes_by_id}
+use Rattle.gate_history.specs.write.Answers.{is_cancelled}
 use Rattle.direct_device.specs.Direct.{Live, Direct, first_direct, number, is_number}
 use Rattle.direct_device.specs.Acting.{Deed, Import, Submit, Unlink, Perform, Cancel, Answer, Offer, Arrive, Gone, ClientGone, answers}
 use Rattle.direct_device.specs.Legal.{AreAllowed, acts}

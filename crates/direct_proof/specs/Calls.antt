@@ -2,9 +2,9 @@
 use Rattle.std.specs.Prelude.{◌≡◌, ℕ, ◌+◌, ◌≤◌, ◌==◌, ◌||◌, Bool, true, false, if◌then◌else◌, List, [], ◌∷◌, ◌++◌, Option, Some, None, is_some, get_or}
 use Rattle.usb_base.specs.Endpoint.{endpoint_index}
 use Rattle.redir_data.specs.declared.packet.RedirPacket.{RedirPacket}
-use Rattle.redir_host.specs.Sound.{Each}
-use Rattle.gate_history.specs.Calls.{Calls}
-use Rattle.gate_history.specs.Ids.{times}
+use Rattle.redir_host.specs.state.Sound.{Each}
+use Rattle.gate_history.specs.state.Calls.{Calls}
+use Rattle.gate_history.specs.state.Ids.{times}
 use Rattle.direct_proof.specs.Running.{called_endpoint}
 use Rattle.direct_proof.specs.Tagged.{Stated, Tagged}
 

@@ -1,6 +1,6 @@
 -- What is owed: the requests and answers under way, by their ids and numbers.
 use Rattle.std.specs.Prelude.{◌≡◌, ℕ, ◌+◌, ◌≤◌, ◌==◌, Bool, true, List}
-use Rattle.redir_host.specs.Sound.{Each}
+use Rattle.redir_host.specs.state.Sound.{Each}
 use Rattle.direct_run.specs.Noted.{number_in}
 use Rattle.direct_run.specs.declared.submitted.Submitted.{Submitted}
 pub use Rattle.direct_device.specs.Counts.{count}

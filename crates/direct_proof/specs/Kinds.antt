@@ -4,8 +4,8 @@ use Rattle.usb_base.specs.Endpoint.{endpoint_index}
 use Rattle.usb_base.specs.declared.endpoint.EpKind.TheVariants as kind
 use Rattle.model_device.specs.Gadget.{IsNamed}
 use Rattle.redir_host.specs.declared.running.StreamKind.{StreamKind}
-use Rattle.gate_history.specs.Ups.{Up, stream_of}
-use Rattle.gate_history.specs.Verdict.{is_iso}
+use Rattle.gate_history.specs.state.Ups.{Up, stream_of}
+use Rattle.gate_history.specs.client.Verdict.{is_iso}
 use Rattle.direct_proof.specs.Loads.{IsComing}
 use Rattle.direct_proof.specs.Tagged.{Answered, Packed, Stated, Tagged, is_kind}
 

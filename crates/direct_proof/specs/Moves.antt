@@ -6,24 +6,24 @@ use Rattle.usbip_urb.specs.declared.client.ClientPacket.{ClientPacket}
 use Rattle.redir_data.specs.Sent.{sent_header}
 use Rattle.redir_data.specs.declared.packet.RedirPacket.{RedirPacket}
 use Rattle.model_device.specs.Meaning.{Meaning}
-use Rattle.redir_host.specs.Moves.{Move as HostMove}
-use Rattle.redir_host.specs.Offering.{offer_move, told_offered, unplug_move}
-use Rattle.redir_host.specs.Packets.{packet_move}
-use Rattle.redir_host.specs.Performing.{perform_move_by, performed}
+use Rattle.redir_host.specs.step.Moves.{Move as HostMove}
+use Rattle.redir_host.specs.device.Offering.{offer_move, told_offered, unplug_move}
+use Rattle.redir_host.specs.guest.Packets.{packet_move}
+use Rattle.redir_host.specs.device.Performing.{perform_move_by, performed}
 use Rattle.redir_host.specs.declared.note.HostNote.{HostNote}
 use Rattle.redir_host.specs.declared.note.HostNote.TheVariants as host_note
 use Rattle.redir_host.specs.declared.note.Offered.{Offered}
 use Rattle.redir_host.specs.declared.note.Offered.TheVariants as offered
-use Rattle.gate_history.specs.Items.{Item as GateItem, Told}
-use Rattle.gate_history.specs.Machine.{after}
-use Rattle.gate_history.specs.Marks.{Arrives, Effect, Imports, Mark, Unlinks}
-use Rattle.gate_history.specs.Meaning.{mark_of}
-use Rattle.gate_history.specs.Notes.{is_by_answer, notes_of}
-use Rattle.gate_history.specs.Output.{present, to_client, to_host}
-use Rattle.gate_history.specs.Past.{is_left_out}
-use Rattle.gate_history.specs.Sides.{is_loss, leaves}
-use Rattle.gate_history.specs.State.{State}
-use Rattle.gate_history.specs.Submits.{ends, opened}
+use Rattle.gate_history.specs.step.Items.{Item as GateItem, Told}
+use Rattle.gate_history.specs.step.Machine.{after}
+use Rattle.gate_history.specs.step.Marks.{Arrives, Effect, Imports, Mark, Unlinks}
+use Rattle.gate_history.specs.step.Meaning.{mark_of}
+use Rattle.gate_history.specs.write.Notes.{is_by_answer, notes_of}
+use Rattle.gate_history.specs.write.Output.{present, to_client, to_host}
+use Rattle.gate_history.specs.step.Past.{is_left_out}
+use Rattle.gate_history.specs.state.Sides.{is_loss, leaves}
+use Rattle.gate_history.specs.state.State.{State}
+use Rattle.gate_history.specs.client.Submits.{ends, opened}
 use Rattle.direct_run.specs.Moves.{ByClient, GateReads, HostReads, Move, Offers, Performs, Unplugs, World, first_world}
 use Rattle.direct_run.specs.Noted.{named, number_in, queue_byte}
 use Rattle.direct_run.specs.declared.submitted.Submitted.{Submitted}

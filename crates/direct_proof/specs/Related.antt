@@ -3,10 +3,10 @@ use Rattle.std.specs.Prelude.{◌≡◌, ℕ, ◌==◌, true, false, if◌then�
 use Rattle.std.specs.List.{list_any}
 use Rattle.redir_data.specs.declared.packet.RedirPacket.{RedirPacket}
 use Rattle.model_device.specs.Meaning.{Meaning}
-use Rattle.redir_host.specs.Sound.{Each}
+use Rattle.redir_host.specs.state.Sound.{Each}
 use Rattle.redir_host.specs.declared.running.Running.{Running}
-use Rattle.gate_history.specs.State.{submits}
-use Rattle.gate_history.specs.Ups.{no_streams, stream_of}
+use Rattle.gate_history.specs.state.State.{submits}
+use Rattle.gate_history.specs.state.Ups.{no_streams, stream_of}
 use Rattle.direct_run.specs.Moves.{World}
 use Rattle.direct_proof.specs.Calls.{Controls, Fenced}
 use Rattle.direct_proof.specs.Cancels.{Behind, CancelsFit}

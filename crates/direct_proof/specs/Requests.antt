@@ -4,16 +4,16 @@ use Rattle.usb_base.specs.declared.transfer.Outcome.{Outcome}
 use Rattle.usb_base.specs.declared.transfer.Transfer.{Transfer}
 use Rattle.control_route.specs.declared.route.Route.{Route}
 use Rattle.control_route.specs.declared.route.Route.TheVariants as route
-use Rattle.redir_host.specs.Asking.{routed}
-use Rattle.redir_host.specs.Line.{Waiting as InLine, Reset, Waits}
+use Rattle.redir_host.specs.guest.Asking.{routed}
+use Rattle.redir_host.specs.guest.Line.{Waiting as InLine, Reset, Waits}
 use Rattle.redir_host.specs.declared.request.Form.{Form}
 use Rattle.redir_host.specs.declared.request.Form.TheVariants as form
 use Rattle.redir_host.specs.declared.request.Request.{Request as HostRequest}
-use Rattle.gate_history.specs.Marks.{Submission}
-use Rattle.gate_history.specs.Packets.{no_setup}
-use Rattle.gate_history.specs.Requests.{Request}
-use Rattle.gate_history.specs.Submits.{Pending}
-use Rattle.gate_history.specs.Verdict.{Bulk, Control, InterruptOut, IsoOut, Now, Pipe, Routed, Stream, Verdict, Wire, goes_by_id}
+use Rattle.gate_history.specs.step.Marks.{Submission}
+use Rattle.gate_history.specs.write.Packets.{no_setup}
+use Rattle.gate_history.specs.client.Requests.{Request}
+use Rattle.gate_history.specs.client.Submits.{Pending}
+use Rattle.gate_history.specs.client.Verdict.{Bulk, Control, InterruptOut, IsoOut, Now, Pipe, Routed, Stream, Verdict, Wire, goes_by_id}
 use Rattle.direct_device.specs.Direct.{Live, Load, Ran, Waiting, normal_of, seen_of}
 
 -- ---- how a submit stands at the host

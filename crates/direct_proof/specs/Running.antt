@@ -5,7 +5,7 @@ use Rattle.usb_base.specs.declared.endpoint.EpTable.{EpTable}
 use Rattle.redir_wire.specs.declared.packet.RedirControl.TheVariants as plain
 use Rattle.redir_data.specs.declared.packet.RedirPacket.{RedirPacket}
 use Rattle.redir_data.specs.declared.packet.RedirPacket.TheVariants.{Carrying, Plain}
-use Rattle.redir_host.specs.Packets.{can_start}
+use Rattle.redir_host.specs.guest.Packets.{can_start}
 use Rattle.redir_host.specs.declared.running.StreamKind.{StreamKind}
 use Rattle.redir_host.specs.declared.running.StreamKind.TheVariants.{Interrupt, Iso}
 use Rattle.direct_proof.specs.Stale.{asks}

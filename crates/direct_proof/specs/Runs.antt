@@ -6,9 +6,9 @@ use Rattle.usbip_urb.specs.declared.client.ClientPacket.{ClientPacket}
 use Rattle.usbip_urb.specs.declared.client.ClientPacket.TheVariants.{Op, Urb}
 use Rattle.usbip_urb.specs.declared.packet.UrbPacket.{UrbPacket}
 use Rattle.model_device.specs.Meaning.{Meaning}
-use Rattle.gate_history.specs.Items.{Item}
-use Rattle.gate_history.specs.Machine.{run as gate_run}
-use Rattle.gate_history.specs.State.{State}
+use Rattle.gate_history.specs.step.Items.{Item}
+use Rattle.gate_history.specs.step.Machine.{run as gate_run}
+use Rattle.gate_history.specs.state.State.{State}
 use Rattle.direct_run.specs.Moves.{Move, World}
 use Rattle.direct_run.specs.World.{first_id}
 use Rattle.direct_device.specs.Legal.{AreAllowed, acts, all_answers}

@@ -4,12 +4,12 @@ use Rattle.std.specs.List.{list_any}
 use Rattle.redir_wire.specs.EpTable.{table_of}
 use Rattle.redir_data.specs.declared.packet.RedirPacket.{RedirPacket}
 use Rattle.model_device.specs.Meaning.{Meaning}
-use Rattle.redir_host.specs.Facts.{ep_info_of}
-use Rattle.redir_host.specs.Packets.{runs_at}
-use Rattle.redir_host.specs.Sound.{Each}
+use Rattle.redir_host.specs.device.Facts.{ep_info_of}
+use Rattle.redir_host.specs.guest.Packets.{runs_at}
+use Rattle.redir_host.specs.state.Sound.{Each}
 use Rattle.redir_host.specs.declared.host.Host.{Host}
 use Rattle.redir_host.specs.declared.running.Running.{Running}
-use Rattle.gate_history.specs.Ups.{Up, stream_of}
+use Rattle.gate_history.specs.state.Ups.{Up, stream_of}
 use Rattle.direct_run.specs.Moves.{World}
 use Rattle.direct_run.specs.Packets.{both_caps}
 use Rattle.direct_proof.specs.Cancels.{any_change}

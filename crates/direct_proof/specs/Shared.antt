@@ -2,9 +2,9 @@
 use Rattle.std.specs.Prelude.{ℕ, Bool, if◌then◌else◌, List, [], ◌∷◌, ◌++◌, map, Option, Some, None}
 use Rattle.usb_base.specs.declared.transfer.StreamPacket.{StreamPacket}
 use Rattle.redir_data.specs.declared.packet.RedirPacket.{RedirPacket}
-use Rattle.redir_host.specs.Line.{Waiting as InLine, Reset, packet_line}
-use Rattle.gate_history.specs.Ups.{Up, stream_of}
-use Rattle.gate_history.specs.Verdict.{is_iso}
+use Rattle.redir_host.specs.guest.Line.{Waiting as InLine, Reset, packet_line}
+use Rattle.gate_history.specs.state.Ups.{Up, stream_of}
+use Rattle.gate_history.specs.client.Verdict.{is_iso}
 use Rattle.direct_run.specs.Moves.{World}
 use Rattle.direct_device.specs.Direct.{Direct}
 use Rattle.direct_proof.specs.Requests.{Debt, Entry, at_device, at_host, live_of, ran_of}

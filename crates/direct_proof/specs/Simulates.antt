@@ -8,12 +8,12 @@ use Rattle.usbip_urb.specs.declared.client.ClientPacket.{ClientPacket}
 use Rattle.usbip_urb.specs.declared.client.ClientPacket.TheVariants.{Op, Urb}
 use Rattle.usbip_urb.specs.declared.packet.UrbPacket.{UrbPacket}
 use Rattle.model_device.specs.Meaning.{Meaning}
-use Rattle.redir_host.specs.History.{history as host_history}
-use Rattle.redir_host.specs.Machine.{all_given, notes_of as host_notes_of}
-use Rattle.gate_history.specs.All.{all_of}
-use Rattle.gate_history.specs.History.{history}
-use Rattle.gate_history.specs.Notes.{notes_of}
-use Rattle.gate_history.specs.Sides.{is_client}
+use Rattle.redir_host.specs.step.History.{history as host_history}
+use Rattle.redir_host.specs.step.Machine.{all_given, notes_of as host_notes_of}
+use Rattle.gate_history.specs.write.All.{all_of}
+use Rattle.gate_history.specs.step.History.{history}
+use Rattle.gate_history.specs.write.Notes.{notes_of}
+use Rattle.gate_history.specs.state.Sides.{is_client}
 use Rattle.direct_run.specs.declared.item.Item.{Item}
 use Rattle.direct_run.specs.declared.item.Item.TheVariants as item
 use Rattle.direct_run.specs.Clients.{present}

@@ -4,7 +4,7 @@ use Rattle.std.specs.List.{list_any}
 use Rattle.redir_wire.specs.declared.packet.RedirControl.TheVariants as plain
 use Rattle.redir_data.specs.declared.packet.RedirPacket.{RedirPacket}
 use Rattle.redir_data.specs.declared.packet.RedirPacket.TheVariants.{Carrying, Plain}
-use Rattle.gate_history.specs.Verdict.{changes}
+use Rattle.gate_history.specs.client.Verdict.{changes}
 use Rattle.direct_proof.specs.Tagged.{Answered, Bye, Greeted, Packed, Plugged, Stated, Tagged, ToldFaces, ToldTable}
 
 abbrev pub is_fence : Option ℕ → ℕ → Bool

@@ -3,12 +3,12 @@ use Rattle.std.specs.Prelude.{List, map}
 use Rattle.std.specs.List.{flat_map}
 use Rattle.usbip_urb.specs.declared.packet.UrbPacket.{UrbPacket}
 use Rattle.model_device.specs.Meaning.{Meaning}
-use Rattle.gate_history.specs.All.{all_of}
-use Rattle.gate_history.specs.History.{history}
-use Rattle.gate_history.specs.Marks.{Submission}
-use Rattle.gate_history.specs.Output.{to_client}
-use Rattle.gate_history.specs.Requests.{Request}
-use Rattle.gate_history.specs.Submits.{accepted}
+use Rattle.gate_history.specs.write.All.{all_of}
+use Rattle.gate_history.specs.step.History.{history}
+use Rattle.gate_history.specs.step.Marks.{Submission}
+use Rattle.gate_history.specs.write.Output.{to_client}
+use Rattle.gate_history.specs.client.Requests.{Request}
+use Rattle.gate_history.specs.client.Submits.{accepted}
 use Rattle.direct_run.specs.Steps.{Step}
 use Rattle.direct_run.specs.Trace.{trace}
 use Rattle.direct_run.specs.World.{Course, course, first_id}

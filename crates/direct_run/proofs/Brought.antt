@@ -12,14 +12,14 @@ use Rattle.usbip_urb.specs.declared.client.ClientPacket.{ClientPacket}
 use Rattle.usbip_urb.specs.ClientPackets.{IsClientPacket}
 use Rattle.usbip_urb.specs.Sound.ClientPackets.{client_packets_sound}
 use Rattle.model_device.specs.Meaning.{Meaning}
-use Rattle.gate_history.proofs.Lists.{Each}
-use Rattle.gate_history.specs.Events.{Event, ClientPiece, ClientEnd, HostPiece, HostEnd, client_bytes}
-use Rattle.gate_history.specs.History.{client_split, client_wrong, client_items, brought}
-use Rattle.gate_history.specs.Items.{Item, Asked, ClientWrong, ClientLeft, Told, HostWrong, HostLeft}
-use Rattle.gate_history.specs.Streams.{client_format, client_next, client_start}
+use Rattle.gate_history.proofs.lemmas.Lists.{Each}
+use Rattle.gate_history.specs.step.Events.{Event, ClientPiece, ClientEnd, HostPiece, HostEnd, client_bytes}
+use Rattle.gate_history.specs.step.History.{client_split, client_wrong, client_items, brought}
+use Rattle.gate_history.specs.step.Items.{Item, Asked, ClientWrong, ClientLeft, Told, HostWrong, HostLeft}
+use Rattle.gate_history.specs.step.Streams.{client_format, client_next, client_start}
 use Rattle.direct_run.specs.Moves.{Move, ByClient, move, run}
 use Rattle.direct_run.specs.Clients.{IsMove, then_sent, present_outs}
-use Rattle.gate_history.specs.Readable.{piece_bytes}
+use Rattle.gate_history.specs.write.Readable.{piece_bytes}
 use Rattle.direct_run.proofs.Several.{made_by, moves_onto}
 
 -- ---- what a piece of a client brings

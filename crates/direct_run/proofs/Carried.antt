@@ -1,12 +1,12 @@
 -- What has got to a side, and then what is on the wire to it, is what was sent.
 use Rattle.std.proofs.Common.{◌≡◌, ℕ, ◌≤◌, List, [], ◌∷◌, ◌++◌, length, take, drop, refl, sym, ap, ◌∙◌, subst, append_assoc, arith}
 use Rattle.std.proofs.lemmas.List.{drop-append-le, length-append, take-append-drop}
-use Rattle.gate_history.specs.Bytes.{host_bytes_of}
-use Rattle.gate_history.specs.Events.{ClientPiece, ClientEnd as ClientEnds, HostPiece, host_bytes}
+use Rattle.gate_history.specs.write.Bytes.{host_bytes_of}
+use Rattle.gate_history.specs.step.Events.{ClientPiece, ClientEnd as ClientEnds, HostPiece, host_bytes}
 use Rattle.model_device.specs.Meaning.{Meaning}
-use Rattle.redir_host.proofs.Runs.{act-out}
-use Rattle.redir_host.specs.Acts.{Piece, Perform as Performs, Offer as Offers, Unplug as Unplugs, guest_bytes}
-use Rattle.redir_host.specs.Output.{act_bytes}
+use Rattle.redir_host.proofs.lemmas.step.Acts.{act-out}
+use Rattle.redir_host.specs.step.Acts.{Piece, Perform as Performs, Offer as Offers, Unplug as Unplugs, guest_bytes}
+use Rattle.redir_host.specs.write.Output.{act_bytes}
 use Rattle.direct_run.specs.Steps.{Step, Client, ClientEnd, ToHost, ToGate, Perform, Offer, Unplug}
 use Rattle.direct_run.specs.Trace.{given_of}
 use Rattle.direct_run.specs.World.{Course, course, after_step, sent_to_host, sent_to_gate, wire_to_host, wire_to_gate}

@@ -12,16 +12,16 @@ use Rattle.redir_data.specs.declared.packet.RedirPacket.TheVariants.{Plain}
 use Rattle.redir_data.specs.declared.state.RedirState.{RedirState}
 use Rattle.redir_data.specs.Streams.{after, stream_format}
 use Rattle.model_device.specs.Meaning.{Meaning}
-use Rattle.redir_host.specs.Guest.{asked}
-use Rattle.redir_host.specs.History.{onto as acts_onto}
-use Rattle.redir_host.specs.Items.{Item as HostItem, Asked}
-use Rattle.redir_host.specs.Output.{host_hello}
-use Rattle.gate_history.proofs.Lists.{Each}
-use Rattle.gate_history.specs.Bytes.{gateway_hello}
-use Rattle.gate_history.specs.History.{onto}
-use Rattle.gate_history.specs.Items.{Item, Told}
-use Rattle.gate_history.specs.State.{State}
-use Rattle.gate_history.specs.Machine.{step, run}
+use Rattle.redir_host.specs.guest.Guest.{asked}
+use Rattle.redir_host.specs.step.History.{onto as acts_onto}
+use Rattle.redir_host.specs.step.Items.{Item as HostItem, Asked}
+use Rattle.redir_host.specs.write.Output.{host_hello}
+use Rattle.gate_history.proofs.lemmas.Lists.{Each}
+use Rattle.gate_history.specs.write.Bytes.{gateway_hello}
+use Rattle.gate_history.specs.step.History.{onto}
+use Rattle.gate_history.specs.step.Items.{Item, Told}
+use Rattle.gate_history.specs.state.State.{State}
+use Rattle.gate_history.specs.step.Machine.{step, run}
 use Rattle.redir_data.specs.Sent.{sent_header, CanBeRead}
 use Rattle.direct_run.specs.Packets.{both_caps, Found, bare}
 use Rattle.packet_stream.proofs.Spelled.{placed}

@@ -2,12 +2,12 @@
 use Rattle.std.proofs.Common.{ℕ, List, [], ◌∷◌, ◌++◌, refl, sym, ap, ◌∙◌, append-nil}
 use Rattle.model_device.specs.Meaning.{Meaning}
 use Rattle.redir_host.specs.declared.host.Host.{Host}
-use Rattle.redir_host.specs.Acts.{Perform as PerformAct, Offer as OfferAct, Unplug as UnplugAct}
-use Rattle.redir_host.specs.Offering.{offer_move, told_offered, unplug_move}
-use Rattle.redir_host.specs.Output.{host_of}
-use Rattle.redir_host.specs.Performing.{perform_move, told_performed}
-use Rattle.gate_history.specs.Events.{ClientPiece, ClientEnd as ClientEnds}
-use Rattle.gate_history.specs.History.{brought}
+use Rattle.redir_host.specs.step.Acts.{Perform as PerformAct, Offer as OfferAct, Unplug as UnplugAct}
+use Rattle.redir_host.specs.device.Offering.{offer_move, told_offered, unplug_move}
+use Rattle.redir_host.specs.write.Output.{host_of}
+use Rattle.redir_host.specs.device.Performing.{perform_move, told_performed}
+use Rattle.gate_history.specs.step.Events.{ClientPiece, ClientEnd as ClientEnds}
+use Rattle.gate_history.specs.step.History.{brought}
 use Rattle.direct_run.specs.declared.item.Item.{Item}
 use Rattle.direct_run.specs.Clients.{present_outs}
 use Rattle.direct_run.specs.Follows.{AreMoves}

@@ -15,19 +15,19 @@ use Rattle.redir_data.specs.declared.state.RedirState.{RedirState}
 use Rattle.redir_data.specs.Streams.{after, stream_format}
 use Rattle.usbip_urb.specs.declared.client.ClientPacket.{ClientPacket}
 use Rattle.model_device.specs.Meaning.{Meaning}
-use Rattle.redir_host.specs.Acts.{Act, Piece, guest_bytes}
-use Rattle.redir_host.specs.Guest.{guest_start, guest_split, asked}
-use Rattle.redir_host.specs.History.{brought as act_brought, onto as acts_onto, history as host_history}
-use Rattle.redir_host.specs.Items.{Item as HostItem}
-use Rattle.redir_host.specs.Output.{host_hello, act_bytes}
-use Rattle.gate_history.proofs.Lists.{Each}
-use Rattle.redir_host.proofs.Runs.{act-out}
-use Rattle.gate_history.specs.Bytes.{gateway_hello, host_bytes_of}
-use Rattle.gate_history.specs.Events.{Event, ClientPiece, ClientEnd, HostPiece, client_bytes, host_bytes}
-use Rattle.gate_history.specs.History.{client_split, host_split, client_wrong, client_items, brought, onto, arrivals}
-use Rattle.gate_history.specs.Items.{Item, Asked}
-use Rattle.gate_history.specs.Streams.{host_start}
-use Rattle.gate_history.proofs.Brought.{host-added}
+use Rattle.redir_host.specs.step.Acts.{Act, Piece, guest_bytes}
+use Rattle.redir_host.specs.guest.Guest.{guest_start, guest_split, asked}
+use Rattle.redir_host.specs.step.History.{brought as act_brought, onto as acts_onto, history as host_history}
+use Rattle.redir_host.specs.step.Items.{Item as HostItem}
+use Rattle.redir_host.specs.write.Output.{host_hello, act_bytes}
+use Rattle.gate_history.proofs.lemmas.Lists.{Each}
+use Rattle.redir_host.proofs.lemmas.step.Acts.{act-out}
+use Rattle.gate_history.specs.write.Bytes.{gateway_hello, host_bytes_of}
+use Rattle.gate_history.specs.step.Events.{Event, ClientPiece, ClientEnd, HostPiece, client_bytes, host_bytes}
+use Rattle.gate_history.specs.step.History.{client_split, host_split, client_wrong, client_items, brought, onto, arrivals}
+use Rattle.gate_history.specs.step.Items.{Item, Asked}
+use Rattle.gate_history.specs.step.Streams.{host_start}
+use Rattle.gate_history.proofs.lemmas.step.Piece.{host-added}
 use Rattle.direct_run.specs.World.{Course, first_id, nothing_yet, happened, acted, sent_to_host, sent_to_gate, wire_to_host, wire_to_gate}
 use Rattle.direct_run.specs.Trace.{given_of}
 use Rattle.direct_run.specs.Packets.{both_caps, Found, bare, bares, sent_by_gate, sent_by_host, read_by_host, read_by_gate}

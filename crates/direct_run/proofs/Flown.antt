@@ -5,18 +5,18 @@ use Rattle.usb_base.specs.Number.{AreBytes}
 use Rattle.redir_wire.specs.declared.packet.Way.TheVariants.{ToHost as ByGate}
 use Rattle.redir_data.specs.Sent.{CanBeRead}
 use Rattle.model_device.specs.Meaning.{Meaning}
-use Rattle.redir_host.specs.Acts.{Piece, Perform as PerformAct, Offer as OfferAct, Unplug as UnplugAct, guest_bytes}
-use Rattle.redir_host.specs.Items.{Performs as PerformsItem, Offers as OffersItem, Unplugs as UnplugsItem}
-use Rattle.gate_history.specs.Events.{ClientPiece, ClientEnd as ClientEnds, HostPiece}
-use Rattle.gate_history.specs.History.{arrivals, history}
-use Rattle.gate_history.specs.Machine.{all_given}
-use Rattle.gate_history.specs.Output.{to_host}
-use Rattle.gate_history.specs.Readable.{piece_bytes, SentCanBeRead}
-use Rattle.gate_history.specs.State.{State, state_of}
-use Rattle.gate_history.proofs.Comings.{comes}
-use Rattle.gate_history.proofs.Lists.{Each}
-use Rattle.gate_history.proofs.Runs.{state-run, all-run}
-use Rattle.gate_history.proofs.SentRead.{goes}
+use Rattle.redir_host.specs.step.Acts.{Piece, Perform as PerformAct, Offer as OfferAct, Unplug as UnplugAct, guest_bytes}
+use Rattle.redir_host.specs.step.Items.{Performs as PerformsItem, Offers as OffersItem, Unplugs as UnplugsItem}
+use Rattle.gate_history.specs.step.Events.{ClientPiece, ClientEnd as ClientEnds, HostPiece}
+use Rattle.gate_history.specs.step.History.{arrivals, history}
+use Rattle.gate_history.specs.step.Machine.{all_given}
+use Rattle.gate_history.specs.write.Output.{to_host}
+use Rattle.gate_history.specs.write.Readable.{piece_bytes, SentCanBeRead}
+use Rattle.gate_history.specs.state.State.{State, state_of}
+use Rattle.gate_history.proofs.lemmas.step.Comings.{comes}
+use Rattle.gate_history.proofs.lemmas.Lists.{Each}
+use Rattle.gate_history.proofs.lemmas.step.Runs.{state-run, all-run}
+use Rattle.gate_history.proofs.lemmas.write.EventsRead.{goes}
 use Rattle.direct_run.specs.Known.{IsKnown}
 use Rattle.direct_run.specs.Packets.{read_by_gate}
 use Rattle.direct_run.specs.Steps.{Step, Client, ClientEnd, ToHost, ToGate, Perform, Offer, Unplug}

@@ -11,27 +11,27 @@ use Rattle.redir_wire.specs.Capability.{no_caps}
 use Rattle.redir_data.specs.declared.packet.RedirPacket.TheVariants.{Plain}
 use Rattle.redir_data.specs.Streams.{start, after, stream_format}
 use Rattle.model_device.specs.Meaning.{Meaning}
-use Rattle.redir_host.specs.Acts.{Act, Piece, Perform, Offer, Unplug, guest_bytes}
-use Rattle.redir_host.specs.Guest.{guest_start, guest_split, asked, wrongs, added}
-use Rattle.redir_host.specs.History.{history as host_history}
-use Rattle.redir_host.specs.Machine.{all_given as host_all_given, told_bytes, bytes_of}
-use Rattle.redir_host.specs.Items.{Item as HostItem}
-use Rattle.redir_host.specs.Output.{host_hello, hello_bytes}
-use Rattle.gate_history.proofs.Lists.{Each}
-use Rattle.redir_host.proofs.Runs.{act-gives}
-use Rattle.gate_history.specs.Bytes.{gateway_hello, host_packet_bytes, host_bytes_of}
-use Rattle.gate_history.specs.Events.{Event, ClientPiece, ClientEnd, HostPiece, HostEnd, host_bytes}
-use Rattle.gate_history.specs.History.{host_split, arrivals, history}
-use Rattle.gate_history.specs.Streams.{host_start}
-use Rattle.gate_history.specs.State.{State, state_of}
-use Rattle.gate_history.specs.Output.{to_host}
-use Rattle.gate_history.specs.All.{all_of}
-use Rattle.gate_history.proofs.Runs.{state-run, all-run}
+use Rattle.redir_host.specs.step.Acts.{Act, Piece, Perform, Offer, Unplug, guest_bytes}
+use Rattle.redir_host.specs.guest.Guest.{guest_start, guest_split, asked, wrongs, added}
+use Rattle.redir_host.specs.step.History.{history as host_history}
+use Rattle.redir_host.specs.step.Machine.{all_given as host_all_given, told_bytes, bytes_of}
+use Rattle.redir_host.specs.step.Items.{Item as HostItem}
+use Rattle.redir_host.specs.write.Output.{host_hello, hello_bytes}
+use Rattle.gate_history.proofs.lemmas.Lists.{Each}
+use Rattle.redir_host.proofs.lemmas.step.Acts.{act-gives}
+use Rattle.gate_history.specs.write.Bytes.{gateway_hello, host_packet_bytes, host_bytes_of}
+use Rattle.gate_history.specs.step.Events.{Event, ClientPiece, ClientEnd, HostPiece, HostEnd, host_bytes}
+use Rattle.gate_history.specs.step.History.{host_split, arrivals, history}
+use Rattle.gate_history.specs.step.Streams.{host_start}
+use Rattle.gate_history.specs.state.State.{State, state_of}
+use Rattle.gate_history.specs.write.Output.{to_host}
+use Rattle.gate_history.specs.write.All.{all_of}
+use Rattle.gate_history.proofs.lemmas.step.Runs.{state-run, all-run}
 use Rattle.direct_run.specs.World.{Course, first_id, happened, acted, sent_to_host, sent_to_gate, wire_to_host, wire_to_gate}
 use Rattle.redir_data.specs.Sent.{CanBeRead}
 use Rattle.direct_run.specs.Packets.{both_caps, Found, sent_by_gate, sent_by_host, read_by_host, read_by_gate}
 use Rattle.direct_run.specs.Known.{IsKnown}
-use Rattle.gate_history.specs.Readable.{piece_bytes}
+use Rattle.gate_history.specs.write.Readable.{piece_bytes}
 use Rattle.packet_stream.proofs.Spelled.{IsCut, all_bytes, cut-at, placed}
 use Rattle.direct_run.proofs.Headed.{sound, empty, on_wire, wire-fits, host-hello, gate-hello, to-gate-bytes, to-host-bytes}
 use Rattle.direct_run.proofs.Comes.{Meets, Listens, each-front}

@@ -6,22 +6,22 @@ use Rattle.std.proofs.lemmas.Grind.{flat_map-append}
 use Rattle.redir_data.specs.declared.packet.RedirPacket.{RedirPacket}
 use Rattle.model_device.specs.Meaning.{Meaning}
 use Rattle.redir_host.specs.declared.host.Host.{Host}
-use Rattle.redir_host.specs.Acts.{Act}
-use Rattle.redir_host.specs.History.{brought as act_brought}
-use Rattle.redir_host.specs.Machine.{given_by as host_given}
-use Rattle.redir_host.specs.Output.{first_packet, host_of}
-use Rattle.redir_host.proofs.Runs.{act-gives}
-use Rattle.gate_history.specs.Bytes.{gateway_hello}
-use Rattle.gate_history.specs.Events.{Event}
-use Rattle.gate_history.specs.History.{brought, history}
-use Rattle.gate_history.specs.Marks.{Submission, Mark}
-use Rattle.gate_history.specs.Submits.{opened, accepted}
-use Rattle.gate_history.specs.State.{State, state_of}
-use Rattle.gate_history.specs.Output.{to_client, to_host}
-use Rattle.gate_history.specs.Notes.{notes_of}
-use Rattle.gate_history.specs.All.{all_of}
-use Rattle.gate_history.specs.Machine.{steps, given_by}
-use Rattle.gate_history.proofs.Events.{event-state, event-gives}
+use Rattle.redir_host.specs.step.Acts.{Act}
+use Rattle.redir_host.specs.step.History.{brought as act_brought}
+use Rattle.redir_host.specs.step.Machine.{given_by as host_given}
+use Rattle.redir_host.specs.write.Output.{first_packet, host_of}
+use Rattle.redir_host.proofs.lemmas.step.Acts.{act-gives}
+use Rattle.gate_history.specs.write.Bytes.{gateway_hello}
+use Rattle.gate_history.specs.step.Events.{Event}
+use Rattle.gate_history.specs.step.History.{brought, history}
+use Rattle.gate_history.specs.step.Marks.{Submission, Mark}
+use Rattle.gate_history.specs.client.Submits.{opened, accepted}
+use Rattle.gate_history.specs.state.State.{State, state_of}
+use Rattle.gate_history.specs.write.Output.{to_client, to_host}
+use Rattle.gate_history.specs.write.Notes.{notes_of}
+use Rattle.gate_history.specs.write.All.{all_of}
+use Rattle.gate_history.specs.step.Machine.{steps, given_by}
+use Rattle.gate_history.proofs.lemmas.step.Events.{event-state, event-gives}
 use Rattle.direct_run.specs.declared.item.Item.{Item}
 use Rattle.direct_run.specs.World.{Course, first_id, nothing_yet, happened, acted}
 use Rattle.direct_run.specs.Noted.{item_of, named}

@@ -11,7 +11,7 @@ use Rattle.redir_wire.specs.declared.packet.RedirControl.TheVariants as plain
 use Rattle.redir_wire.specs.Table.{plain_row, goes}
 use Rattle.redir_wire.specs.Header.{is_wide, head_bytes}
 use Rattle.redir_data.specs.Packets.{redir_packets}
-use Rattle.redir_host.proofs.Telling.{no_id}
+use Rattle.redir_host.proofs.lemmas.write.Facts.{no_id}
 use Rattle.usb_base.specs.declared.reason.Reason.{Reason}
 use Rattle.redir_wire.specs.Capability.{no_caps}
 use Rattle.redir_wire.specs.Spelling as wire
@@ -21,10 +21,10 @@ use Rattle.redir_data.specs.declared.packet.RedirPacket.TheVariants.{Plain, Carr
 use Rattle.redir_data.specs.declared.state.RedirState.{RedirState}
 use Rattle.redir_data.specs.Streams.{start, advanced, after, stream_format}
 use Rattle.redir_data.specs.sound.Joined.{redir_sound}
-use Rattle.redir_host.specs.Machine.{told_bytes}
-use Rattle.redir_host.specs.Output.{host_hello, hello_bytes}
-use Rattle.gate_history.proofs.Lists.{Each}
-use Rattle.gate_history.specs.Bytes.{host_packet_bytes, gateway_hello}
+use Rattle.redir_host.specs.step.Machine.{told_bytes}
+use Rattle.redir_host.specs.write.Output.{host_hello, hello_bytes}
+use Rattle.gate_history.proofs.lemmas.Lists.{Each}
+use Rattle.gate_history.specs.write.Bytes.{host_packet_bytes, gateway_hello}
 use Rattle.redir_data.specs.Sent.{sent_header, CanBeRead}
 use Rattle.direct_run.specs.Packets.{both_caps, bare}
 use Rattle.packet_stream.proofs.Spelled.{all_bytes, AllFit}

@@ -17,21 +17,21 @@ use Rattle.redir_host.specs.declared.request.Asking.TheVariants.{Nothing, Refuse
 use Rattle.redir_host.specs.declared.request.Request.{Request}
 use Rattle.redir_host.specs.declared.running.StreamKind.{StreamKind}
 use Rattle.redir_host.specs.declared.running.StreamKind.TheVariants.{Iso, Interrupt}
-use Rattle.redir_host.specs.Asking.{asking_of}
-use Rattle.redir_host.specs.Items.{Item, Asked, Wrong, Performs, Offers, Unplugs}
-use Rattle.redir_host.specs.Machine.{move, run, told_bytes, bytes_of, notes_of, all_given, given_by}
-use Rattle.redir_host.specs.Makes.{IsTaken}
-use Rattle.redir_host.specs.Moves.{Move, quiet}
-use Rattle.redir_host.specs.Offering.{offer_move, offered_on}
-use Rattle.redir_host.specs.Packets.{runs_at, data_move, start_move, can_start, cancel_move, packet_move, packet_move_by}
-use Rattle.redir_host.specs.Performing.{first_performed, perform_move, perform_move_by}
-use Rattle.redir_host.specs.Queues.{is_at, is_cancelled_by}
-use Rattle.redir_host.specs.Sound.{Each as HostEach, IsRequest, IsRunning, IsSound}
-use Rattle.gate_history.proofs.Lists.{Each}
-use Rattle.redir_host.proofs.Keeps.{Keeps, keeps-perform, keeps-offer, keeps-unplug, unplugged-by}
-use Rattle.redir_host.proofs.Coming.{keeps-packet}
-use Rattle.redir_host.proofs.Silent.{perform-silent, offer-silent, unplug-silent}
-use Rattle.gate_history.specs.Bytes.{gateway_hello}
+use Rattle.redir_host.specs.guest.Asking.{asking_of}
+use Rattle.redir_host.specs.step.Items.{Item, Asked, Wrong, Performs, Offers, Unplugs}
+use Rattle.redir_host.specs.step.Machine.{move, run, told_bytes, bytes_of, notes_of, all_given, given_by}
+use Rattle.redir_host.specs.step.Makes.{IsTaken}
+use Rattle.redir_host.specs.step.Moves.{Move, quiet}
+use Rattle.redir_host.specs.device.Offering.{offer_move, offered_on}
+use Rattle.redir_host.specs.guest.Packets.{runs_at, data_move, start_move, can_start, cancel_move, packet_move, packet_move_by}
+use Rattle.redir_host.specs.device.Performing.{first_performed, perform_move, perform_move_by}
+use Rattle.redir_host.specs.state.Queues.{is_at, is_cancelled_by}
+use Rattle.redir_host.specs.state.Sound.{Each as HostEach, IsRequest, IsRunning, IsSound}
+use Rattle.gate_history.proofs.lemmas.Lists.{Each}
+use Rattle.redir_host.proofs.lemmas.state.Sound.{Keeps, keeps-perform, keeps-offer, keeps-unplug, unplugged-by}
+use Rattle.redir_host.proofs.lemmas.guest.Sound.{keeps-packet}
+use Rattle.redir_host.proofs.lemmas.device.Silent.{perform-silent, offer-silent, unplug-silent}
+use Rattle.gate_history.specs.write.Bytes.{gateway_hello}
 use Rattle.redir_data.specs.Sent.{sent_header, CanBeRead}
 use Rattle.direct_run.specs.Packets.{both_caps}
 use Rattle.direct_run.specs.Follows.{is_refusal}

@@ -9,19 +9,19 @@ use Rattle.redir_data.specs.declared.state.RedirState.{RedirState}
 use Rattle.redir_data.specs.Sent.{CanBeRead}
 use Rattle.model_device.specs.Meaning.{Meaning}
 use Rattle.redir_host.specs.declared.host.Host.{Host}
-use Rattle.redir_host.specs.Acts.{Act}
-use Rattle.redir_host.specs.History.{history as host_history}
-use Rattle.redir_host.specs.Items.{Item as HostItem}
-use Rattle.redir_host.specs.Kept.{HostKept}
-use Rattle.redir_host.specs.Machine.{run, all_given}
-use Rattle.redir_host.specs.Readable.{AreRead}
-use Rattle.redir_host.specs.Sound.{Each as HostEach}
-use Rattle.redir_host.specs.Stands.{Stands as HostStands}
-use Rattle.gate_history.specs.Events.{Event, ClientPiece, ClientEnd, HostPiece, HostEnd, client_bytes, host_bytes}
-use Rattle.gate_core.specs.Kept.{GateKept}
-use Rattle.gate_history.specs.Readable.{piece_bytes}
-use Rattle.gate_core.specs.Stands.{Stands as GateStands}
-use Rattle.gate_history.proofs.Lists.{Each}
+use Rattle.redir_host.specs.step.Acts.{Act}
+use Rattle.redir_host.specs.step.History.{history as host_history}
+use Rattle.redir_host.specs.step.Items.{Item as HostItem}
+use Rattle.redir_host.specs.state.Kept.{HostKept}
+use Rattle.redir_host.specs.step.Machine.{run, all_given}
+use Rattle.redir_host.specs.write.Readable.{AreRead}
+use Rattle.redir_host.specs.state.Sound.{Each as HostEach}
+use Rattle.redir_host.specs.step.Stands.{Stands as HostStands}
+use Rattle.gate_history.specs.step.Events.{Event, ClientPiece, ClientEnd, HostPiece, HostEnd, client_bytes, host_bytes}
+use Rattle.gate_core.specs.state.Kept.{GateKept}
+use Rattle.gate_history.specs.write.Readable.{piece_bytes}
+use Rattle.gate_core.specs.step.Stands.{Stands as GateStands}
+use Rattle.gate_history.proofs.lemmas.Lists.{Each}
 use Rattle.direct_run.specs.Known.{IsKnown}
 use Rattle.direct_run.specs.Packets.{both_caps, Found, read_by_host}
 use Rattle.direct_run.specs.World.{Course, first_id, nothing_yet, happened, acted}

@@ -10,22 +10,22 @@ use Rattle.redir_wire.specs.declared.packet.RedirControl.TheVariants as plain
 use Rattle.redir_wire.specs.Capability.{no_caps}
 use Rattle.redir_data.specs.declared.packet.RedirPacket.{RedirPacket}
 use Rattle.redir_data.specs.declared.packet.RedirPacket.TheVariants.{Plain, Carrying}
-use Rattle.redir_host.specs.Output.{host_hello}
-use Rattle.gate_history.specs.Items.{Item, Asked, ClientWrong, ClientLeft, Told, HostWrong, HostLeft}
-use Rattle.gate_history.specs.Marks.{Mark, Agrees}
-use Rattle.gate_history.specs.Sides.{agrees}
-use Rattle.gate_history.specs.Ups.{Up}
-use Rattle.gate_history.specs.Packets.{asked_packets}
-use Rattle.gate_history.specs.State.{State}
-use Rattle.gate_history.specs.Output.{to_host}
-use Rattle.gate_history.specs.Bytes.{host_packet_bytes, host_bytes_of}
-use Rattle.gate_history.specs.Meaning.{told_by, told_meaning, meaning, mark_of, mark_as}
-use Rattle.gate_history.specs.Past.{is_left_out, past}
-use Rattle.gate_history.specs.Machine.{after, run, given, all_given}
-use Rattle.gate_history.proofs.Runs.{state-run}
-use Rattle.gate_history.proofs.Apart.{asked-host, wrong-host, left-host, asked-agreed, wrong-agreed, left-agreed, data-agrees, response-agrees}
-use Rattle.gate_history.proofs.Quiet.{IsQuiet, IsUntold, none-sent, stays-quiet, sends-none}
-use Rattle.gate_history.specs.Responses.{response_of}
+use Rattle.redir_host.specs.write.Output.{host_hello}
+use Rattle.gate_history.specs.step.Items.{Item, Asked, ClientWrong, ClientLeft, Told, HostWrong, HostLeft}
+use Rattle.gate_history.specs.step.Marks.{Mark, Agrees}
+use Rattle.gate_history.specs.state.Sides.{agrees}
+use Rattle.gate_history.specs.state.Ups.{Up}
+use Rattle.gate_history.specs.write.Packets.{asked_packets}
+use Rattle.gate_history.specs.state.State.{State}
+use Rattle.gate_history.specs.write.Output.{to_host}
+use Rattle.gate_history.specs.write.Bytes.{host_packet_bytes, host_bytes_of}
+use Rattle.gate_history.specs.step.Meaning.{told_by, told_meaning, meaning, mark_of, mark_as}
+use Rattle.gate_history.specs.step.Past.{is_left_out, past}
+use Rattle.gate_history.specs.step.Machine.{after, run, given, all_given}
+use Rattle.gate_history.proofs.lemmas.step.Runs.{state-run}
+use Rattle.gate_history.proofs.lemmas.step.Apart.{asked-host, wrong-host, left-host, asked-agreed, wrong-agreed, left-agreed, data-agrees, response-agrees}
+use Rattle.gate_history.proofs.lemmas.host.NoHello.{IsQuiet, IsUntold, none-sent, stays-quiet, sends-none}
+use Rattle.gate_history.specs.host.Responses.{response_of}
 use Rattle.direct_run.specs.Packets.{both_caps}
 use Rattle.direct_run.proofs.Headed.{is_hello}
 
@@ -79,7 +79,7 @@ unmet-first first = record { fresh = record { quiet = record { live = refl; conn
 pub client-agreed : (first : ℕ) (xs : List Item) (x : Item) → IsClients x → (run first (x ∷ xs)).agreed ≡ (run first xs).agreed
 client-agreed first xs x client = ap (λ (st : State). st.agreed) (sym (state-run first (x ∷ xs))) ∙ by x client ∙ ap (λ (st : State). st.agreed) (state-run first xs)
   where
-    by : (y : Item) → IsClients y → Rattle.gate_history.specs.Sides.agreed (past first (y ∷ xs)) ≡ Rattle.gate_history.specs.Sides.agreed (past first xs)
+    by : (y : Item) → IsClients y → Rattle.gate_history.specs.state.Sides.agreed (past first (y ∷ xs)) ≡ Rattle.gate_history.specs.state.Sides.agreed (past first xs)
     by (Asked place packet) h = asked-agreed first xs place packet
     by (ClientWrong place reason) h = wrong-agreed first xs place reason
     by ClientLeft h = left-agreed first xs
@@ -90,7 +90,7 @@ client-agreed first xs x client = ap (λ (st : State). st.agreed) (sym (state-ru
 client-host : (first : ℕ) (xs : List Item) (x : Item) → IsClients x → (run first (x ∷ xs)).host_over ≡ (run first xs).host_over
 client-host first xs x client = ap (λ (st : State). st.host_over) (sym (state-run first (x ∷ xs))) ∙ by x client ∙ ap (λ (st : State). st.host_over) (state-run first xs)
   where
-    by : (y : Item) → IsClients y → Rattle.gate_history.specs.Sides.host_over (past first (y ∷ xs)) ≡ Rattle.gate_history.specs.Sides.host_over (past first xs)
+    by : (y : Item) → IsClients y → Rattle.gate_history.specs.state.Sides.host_over (past first (y ∷ xs)) ≡ Rattle.gate_history.specs.state.Sides.host_over (past first xs)
     by (Asked place packet) h = asked-host first xs place packet
     by (ClientWrong place reason) h = wrong-host first xs place reason
     by ClientLeft h = left-host first xs

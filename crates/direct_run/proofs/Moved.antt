@@ -7,21 +7,21 @@ use Rattle.std.proofs.lemmas.List.{append_cancel_left, map-append}
 use Rattle.redir_data.specs.declared.packet.RedirPacket.{RedirPacket}
 use Rattle.model_device.specs.Meaning.{Meaning}
 use Rattle.redir_host.specs.declared.host.Host.{Host}
-use Rattle.redir_host.specs.Acts.{Act, Piece}
-use Rattle.redir_host.specs.Guest.{asked}
-use Rattle.redir_host.specs.History.{brought as act_brought, history as host_history}
-use Rattle.redir_host.specs.Machine.{notes_of as host_notes_of, steps as host_steps, given_by as host_given, all_given as host_all_given}
-use Rattle.redir_host.specs.Output.{host_of}
-use Rattle.gate_history.proofs.Lists.{Each}
-use Rattle.redir_host.proofs.Runs.{act-host, act-gives}
-use Rattle.gate_history.specs.Events.{Event, ClientPiece, HostPiece}
-use Rattle.gate_history.specs.History.{brought, arrivals}
-use Rattle.gate_history.specs.Items.{Item as GateItem}
-use Rattle.gate_history.specs.Notes.{notes_of}
-use Rattle.gate_history.specs.Output.{to_client}
-use Rattle.gate_history.specs.Machine.{given_by}
-use Rattle.gate_history.specs.State.{State}
-use Rattle.gate_history.proofs.Runs.{state-run}
+use Rattle.redir_host.specs.step.Acts.{Act, Piece}
+use Rattle.redir_host.specs.guest.Guest.{asked}
+use Rattle.redir_host.specs.step.History.{brought as act_brought, history as host_history}
+use Rattle.redir_host.specs.step.Machine.{notes_of as host_notes_of, steps as host_steps, given_by as host_given, all_given as host_all_given}
+use Rattle.redir_host.specs.write.Output.{host_of}
+use Rattle.gate_history.proofs.lemmas.Lists.{Each}
+use Rattle.redir_host.proofs.lemmas.step.Acts.{act-host, act-gives}
+use Rattle.gate_history.specs.step.Events.{Event, ClientPiece, HostPiece}
+use Rattle.gate_history.specs.step.History.{brought, arrivals}
+use Rattle.gate_history.specs.step.Items.{Item as GateItem}
+use Rattle.gate_history.specs.write.Notes.{notes_of}
+use Rattle.gate_history.specs.write.Output.{to_client}
+use Rattle.gate_history.specs.step.Machine.{given_by}
+use Rattle.gate_history.specs.state.State.{State}
+use Rattle.gate_history.proofs.lemmas.step.Runs.{state-run}
 use Rattle.direct_run.specs.declared.item.Item.{Item}
 use Rattle.direct_run.specs.Clients.{IsMove, present, present_outs}
 use Rattle.direct_run.specs.Follows.{Follows, AreMoves, is_refusal}

@@ -1,12 +1,12 @@
 -- What the steps of a run put on each wire, one after another.
 use Rattle.std.proofs.Common.{◌≡◌, ℕ, List, [], ◌∷◌, ◌++◌, take, refl, sym, ap, ◌∙◌, append-nil, append_assoc}
-use Rattle.gate_history.specs.Events.{ClientPiece, ClientEnd as ClientEnds, HostPiece}
-use Rattle.gate_history.specs.History.{history}
-use Rattle.gate_history.specs.Bytes.{client_bytes_of, out_client}
-use Rattle.gate_history.proofs.Events.{event-gives}
+use Rattle.gate_history.specs.step.Events.{ClientPiece, ClientEnd as ClientEnds, HostPiece}
+use Rattle.gate_history.specs.step.History.{history}
+use Rattle.gate_history.specs.write.Bytes.{client_bytes_of, out_client}
+use Rattle.gate_history.proofs.lemmas.step.Events.{event-gives}
 use Rattle.model_device.specs.Meaning.{Meaning}
-use Rattle.redir_host.specs.Acts.{Piece, Perform as Performs, Offer as Offers, Unplug as Unplugs}
-use Rattle.redir_host.proofs.Runs.{act-out}
+use Rattle.redir_host.specs.step.Acts.{Piece, Perform as Performs, Offer as Offers, Unplug as Unplugs}
+use Rattle.redir_host.proofs.lemmas.step.Acts.{act-out}
 use Rattle.direct_run.specs.declared.told.Told.{Told}
 use Rattle.direct_run.specs.Steps.{Step, Client, ClientEnd, ToHost, ToGate, Perform, Offer, Unplug}
 use Rattle.direct_run.specs.World.{Course, first_id, nothing_yet, course, after_step, sent_to_host, sent_to_gate}

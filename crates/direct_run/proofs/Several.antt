@@ -6,15 +6,15 @@ use Rattle.redir_wire.specs.declared.packet.Header.{Header}
 use Rattle.redir_data.specs.declared.packet.RedirPacket.{RedirPacket}
 use Rattle.redir_data.specs.Sent.{sent_header}
 use Rattle.model_device.specs.Meaning.{Meaning}
-use Rattle.redir_host.specs.Guest.{asked}
-use Rattle.redir_host.specs.Items.{Item as HostItem}
-use Rattle.redir_host.specs.Machine.{move as host_move, notes_of as host_notes_of, steps as host_steps, given_by as host_given}
-use Rattle.gate_history.specs.Items.{Item, Told}
-use Rattle.gate_history.specs.Output.{to_client, to_host}
-use Rattle.gate_history.specs.Notes.{notes_of}
-use Rattle.gate_history.specs.Meaning.{mark_of}
-use Rattle.gate_history.specs.Past.{is_left_out}
-use Rattle.gate_history.specs.Machine.{after, step, given, steps, given_by}
+use Rattle.redir_host.specs.guest.Guest.{asked}
+use Rattle.redir_host.specs.step.Items.{Item as HostItem}
+use Rattle.redir_host.specs.step.Machine.{move as host_move, notes_of as host_notes_of, steps as host_steps, given_by as host_given}
+use Rattle.gate_history.specs.step.Items.{Item, Told}
+use Rattle.gate_history.specs.write.Output.{to_client, to_host}
+use Rattle.gate_history.specs.write.Notes.{notes_of}
+use Rattle.gate_history.specs.step.Meaning.{mark_of}
+use Rattle.gate_history.specs.step.Past.{is_left_out}
+use Rattle.gate_history.specs.step.Machine.{after, step, given, steps, given_by}
 use Rattle.direct_run.specs.declared.submitted.Submitted.{Submitted}
 use Rattle.direct_run.specs.Moves.{World, Made, Move, ByClient, HostReads, GateReads, opens, quiet, then_made, gate_made, gate_move, move, run}
 use Rattle.direct_run.specs.Noted.{item_of, item_of_host, named}

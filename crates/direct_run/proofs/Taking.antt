@@ -2,10 +2,10 @@
 use Rattle.std.proofs.Common.{◌≡◌, ℕ, ◌≤◌, List, ◌∷◌, ◌++◌, length, drop, sym, ap, ◌∙◌, subst}
 use Rattle.std.specs.List.{flat_map}
 use Rattle.usb_base.specs.Number.{AreBytes}
-use Rattle.gate_history.specs.Events.{Event, host_bytes}
-use Rattle.gate_history.specs.Readable.{piece_bytes}
+use Rattle.gate_history.specs.step.Events.{Event, host_bytes}
+use Rattle.gate_history.specs.write.Readable.{piece_bytes}
 use Rattle.model_device.specs.Meaning.{Meaning}
-use Rattle.redir_host.specs.Acts.{Act, guest_bytes}
+use Rattle.redir_host.specs.step.Acts.{Act, guest_bytes}
 use Rattle.direct_run.specs.declared.submitted.Submitted.{Submitted}
 use Rattle.direct_run.specs.declared.told.Told.{Told}
 use Rattle.direct_run.specs.Kept.{SystemKept}

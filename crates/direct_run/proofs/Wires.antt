@@ -6,21 +6,21 @@ use Rattle.std.proofs.lemmas.List.{append_cancel_left, drop-append-le, length-ap
 use Rattle.std.proofs.lemmas.Grind.{flat_map-append}
 use Rattle.usb_base.specs.declared.refusal.Refusal.{Refusal}
 use Rattle.gate_history.specs.declared.note.Note.{Note}
-use Rattle.gate_history.specs.Events.{Event, host_bytes}
-use Rattle.gate_history.specs.History.{history}
-use Rattle.gate_core.specs.Kept.{GateKept}
-use Rattle.gate_history.specs.Notes.{notes_of}
-use Rattle.gate_history.specs.All.{all_of}
-use Rattle.gate_history.specs.Bytes.{client_bytes_of, host_bytes_of, host_packet_bytes, gateway_hello, out_client, out_host}
+use Rattle.gate_history.specs.step.Events.{Event, host_bytes}
+use Rattle.gate_history.specs.step.History.{history}
+use Rattle.gate_core.specs.state.Kept.{GateKept}
+use Rattle.gate_history.specs.write.Notes.{notes_of}
+use Rattle.gate_history.specs.write.All.{all_of}
+use Rattle.gate_history.specs.write.Bytes.{client_bytes_of, host_bytes_of, host_packet_bytes, gateway_hello, out_client, out_host}
 use Rattle.redir_wire.specs.Capability.{no_caps}
 use Rattle.gate_history.specs.Headline.{Gains}
-use Rattle.gate_core.specs.Stands.{Takes as GateTakes, Stands as GateStands}
-use Rattle.gate_history.proofs.Events.{event-gives}
+use Rattle.gate_core.specs.step.Stands.{Takes as GateTakes, Stands as GateStands}
+use Rattle.gate_history.proofs.lemmas.step.Events.{event-gives}
 use Rattle.model_device.specs.Meaning.{Meaning}
-use Rattle.redir_host.specs.Acts.{Act, guest_bytes}
-use Rattle.redir_host.specs.Output.{act_bytes}
-use Rattle.redir_host.specs.Stands.{Stands as HostStands}
-use Rattle.redir_host.proofs.Runs.{act-out}
+use Rattle.redir_host.specs.step.Acts.{Act, guest_bytes}
+use Rattle.redir_host.specs.write.Output.{act_bytes}
+use Rattle.redir_host.specs.step.Stands.{Stands as HostStands}
+use Rattle.redir_host.proofs.lemmas.step.Acts.{act-out}
 use Rattle.direct_run.specs.declared.item.Item.{Item}
 use Rattle.direct_run.specs.declared.submitted.Submitted.{Submitted}
 use Rattle.direct_run.specs.declared.told.Told.{Told}

@@ -2,9 +2,9 @@
 use Rattle.std.specs.Prelude.{List, [], ◌∷◌, ◌++◌}
 use Rattle.usbip_urb.specs.declared.client.ClientPacket.{ClientPacket}
 use Rattle.usbip_urb.specs.ClientPackets.{IsClientPacket}
-use Rattle.gate_history.specs.Events.{Event, ClientPiece, ClientEnd, HostPiece, HostEnd}
-use Rattle.gate_history.specs.Items.{Item, Asked, ClientWrong, ClientLeft, Told, HostWrong, HostLeft}
-use Rattle.gate_history.specs.Output.{to_client}
+use Rattle.gate_history.specs.step.Events.{Event, ClientPiece, ClientEnd, HostPiece, HostEnd}
+use Rattle.gate_history.specs.step.Items.{Item, Asked, ClientWrong, ClientLeft, Told, HostWrong, HostLeft}
+use Rattle.gate_history.specs.write.Output.{to_client}
 use Rattle.model_device.specs.Meaning.{Meaning}
 use Rattle.direct_run.specs.Trace.{given_of}
 use Rattle.direct_run.specs.Moves.{Move, ByClient, HostReads, GateReads, Performs, Offers, Unplugs, move, run}

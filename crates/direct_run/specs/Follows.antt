@@ -1,18 +1,18 @@
 -- That a list of moves on packets follows a course of bytes.
 use Rattle.std.specs.Prelude.{◌≡◌, Bool, true, false, List, ◌∷◌, ◌++◌}
 use Rattle.std.specs.List.{list_any, AllByRecursion}
-use Rattle.gate_history.specs.All.{all_of}
-use Rattle.gate_history.specs.Bytes.{gateway_hello}
-use Rattle.gate_history.specs.History.{history}
-use Rattle.gate_history.specs.Output.{to_client}
-use Rattle.gate_history.specs.State.{state_of}
-use Rattle.gate_history.specs.Submits.{accepted}
+use Rattle.gate_history.specs.write.All.{all_of}
+use Rattle.gate_history.specs.write.Bytes.{gateway_hello}
+use Rattle.gate_history.specs.step.History.{history}
+use Rattle.gate_history.specs.write.Output.{to_client}
+use Rattle.gate_history.specs.state.State.{state_of}
+use Rattle.gate_history.specs.client.Submits.{accepted}
 use Rattle.model_device.specs.Meaning.{Meaning}
 use Rattle.redir_host.specs.declared.note.HostNote.{HostNote}
 use Rattle.redir_host.specs.declared.note.HostNote.TheVariants as host_note
-use Rattle.redir_host.specs.History.{history as host_history}
-use Rattle.redir_host.specs.Machine.{all_given, notes_of as host_notes_of}
-use Rattle.redir_host.specs.Output.{first_packet, host_of}
+use Rattle.redir_host.specs.step.History.{history as host_history}
+use Rattle.redir_host.specs.step.Machine.{all_given, notes_of as host_notes_of}
+use Rattle.redir_host.specs.write.Output.{first_packet, host_of}
 use Rattle.direct_run.specs.declared.item.Item.{Item}
 use Rattle.direct_run.specs.Clients.{IsMove, present, present_outs}
 use Rattle.direct_run.specs.Moves.{Made, Move, run}

@@ -3,9 +3,9 @@ use Rattle.std.specs.List.{flat_map, AllByRecursion}
 use Rattle.usb_base.specs.Number.{AreBytes}
 use Rattle.redir_wire.specs.declared.packet.Way.TheVariants.{ToGuest}
 use Rattle.redir_data.specs.Sent.{CanBeRead}
-use Rattle.gate_history.specs.Readable.{piece_bytes}
+use Rattle.gate_history.specs.write.Readable.{piece_bytes}
 use Rattle.model_device.specs.Meaning.{Meaning}
-use Rattle.redir_host.specs.Acts.{guest_bytes}
+use Rattle.redir_host.specs.step.Acts.{guest_bytes}
 use Rattle.direct_run.specs.Packets.{both_caps, sent_by_host}
 use Rattle.direct_run.specs.World.{Course}
 

@@ -4,24 +4,24 @@ use Rattle.std.specs.List.{flat_map}
 use Rattle.redir_data.specs.declared.packet.RedirPacket.{RedirPacket}
 use Rattle.redir_data.specs.Sent.{sent_header}
 use Rattle.usbip_urb.specs.declared.client.ClientPacket.{ClientPacket}
-use Rattle.gate_history.specs.Items.{Item as GateItem, Told}
-use Rattle.gate_history.specs.Marks.{Submission, Mark}
-use Rattle.gate_history.specs.Submits.{opened}
-use Rattle.gate_history.specs.State.{State}
-use Rattle.gate_history.specs.Meaning.{mark_of}
-use Rattle.gate_history.specs.Past.{is_left_out}
-use Rattle.gate_history.specs.Output.{to_client, to_host}
-use Rattle.gate_history.specs.Notes.{notes_of}
-use Rattle.gate_history.specs.Bytes.{gateway_hello}
-use Rattle.gate_history.specs.Machine.{after, start as first_state}
+use Rattle.gate_history.specs.step.Items.{Item as GateItem, Told}
+use Rattle.gate_history.specs.step.Marks.{Submission, Mark}
+use Rattle.gate_history.specs.client.Submits.{opened}
+use Rattle.gate_history.specs.state.State.{State}
+use Rattle.gate_history.specs.step.Meaning.{mark_of}
+use Rattle.gate_history.specs.step.Past.{is_left_out}
+use Rattle.gate_history.specs.write.Output.{to_client, to_host}
+use Rattle.gate_history.specs.write.Notes.{notes_of}
+use Rattle.gate_history.specs.write.Bytes.{gateway_hello}
+use Rattle.gate_history.specs.step.Machine.{after, start as first_state}
 use Rattle.model_device.specs.Meaning.{Meaning}
 use Rattle.redir_host.specs.declared.host.Host.{Host}
-use Rattle.redir_host.specs.Machine.{first_host}
-use Rattle.redir_host.specs.Moves.{Move as HostMove}
-use Rattle.redir_host.specs.Offering.{offer_move, told_offered, unplug_move}
-use Rattle.redir_host.specs.Output.{first_packet}
-use Rattle.redir_host.specs.Packets.{packet_move}
-use Rattle.redir_host.specs.Performing.{perform_move, told_performed}
+use Rattle.redir_host.specs.step.Machine.{first_host}
+use Rattle.redir_host.specs.step.Moves.{Move as HostMove}
+use Rattle.redir_host.specs.device.Offering.{offer_move, told_offered, unplug_move}
+use Rattle.redir_host.specs.write.Output.{first_packet}
+use Rattle.redir_host.specs.guest.Packets.{packet_move}
+use Rattle.redir_host.specs.device.Performing.{perform_move, told_performed}
 use Rattle.direct_run.specs.declared.item.Item.{Item}
 use Rattle.direct_run.specs.declared.submitted.Submitted.{Submitted}
 use Rattle.direct_run.specs.Noted.{item_of, item_of_host, named, performed_item, offered_item}

@@ -4,15 +4,15 @@ use Rattle.redir_wire.specs.declared.packet.Caps.{Caps}
 use Rattle.redir_wire.specs.declared.packet.Header.{Header}
 use Rattle.redir_wire.specs.Capability.{agreed, announced}
 use Rattle.redir_data.specs.declared.packet.RedirPacket.{RedirPacket}
-use Rattle.gate_history.specs.All.{all_of}
-use Rattle.gate_history.specs.Events.{host_bytes}
-use Rattle.gate_history.specs.History.{history, host_split}
-use Rattle.gate_history.specs.Output.{to_host}
+use Rattle.gate_history.specs.write.All.{all_of}
+use Rattle.gate_history.specs.step.Events.{host_bytes}
+use Rattle.gate_history.specs.step.History.{history, host_split}
+use Rattle.gate_history.specs.write.Output.{to_host}
 use Rattle.model_device.specs.Meaning.{Meaning}
-use Rattle.redir_host.specs.Acts.{guest_bytes}
-use Rattle.redir_host.specs.Guest.{guest_split}
-use Rattle.redir_host.specs.History.{history as host_history}
-use Rattle.redir_host.specs.Machine.{all_given}
+use Rattle.redir_host.specs.step.Acts.{guest_bytes}
+use Rattle.redir_host.specs.guest.Guest.{guest_split}
+use Rattle.redir_host.specs.step.History.{history as host_history}
+use Rattle.redir_host.specs.step.Machine.{all_given}
 use Rattle.direct_run.specs.World.{Course, first_id}
 
 -- what both announce

@@ -1,19 +1,19 @@
 -- What a step sends on each wire and tells, and all that steps tell.
 use Rattle.std.specs.Prelude.{ℕ, List, [], ◌∷◌, ◌++◌, take}
 use Rattle.std.specs.List.{flat_map}
-use Rattle.gate_history.specs.All.{all_of}
-use Rattle.gate_history.specs.Bytes.{client_bytes_of, host_bytes_of}
-use Rattle.gate_history.specs.Events.{Event, ClientPiece, ClientEnd as ClientEnds, HostPiece}
-use Rattle.gate_history.specs.History.{brought, history}
-use Rattle.gate_history.specs.Machine.{given_by}
-use Rattle.gate_history.specs.Marks.{Mark}
-use Rattle.gate_history.specs.Notes.{notes_of}
-use Rattle.gate_history.specs.State.{State, state_of}
+use Rattle.gate_history.specs.write.All.{all_of}
+use Rattle.gate_history.specs.write.Bytes.{client_bytes_of, host_bytes_of}
+use Rattle.gate_history.specs.step.Events.{Event, ClientPiece, ClientEnd as ClientEnds, HostPiece}
+use Rattle.gate_history.specs.step.History.{brought, history}
+use Rattle.gate_history.specs.step.Machine.{given_by}
+use Rattle.gate_history.specs.step.Marks.{Mark}
+use Rattle.gate_history.specs.write.Notes.{notes_of}
+use Rattle.gate_history.specs.state.State.{State, state_of}
 use Rattle.model_device.specs.Meaning.{Meaning}
-use Rattle.redir_host.specs.Acts.{Act, Piece, Perform as Performs, Offer as Offers, Unplug as Unplugs}
-use Rattle.redir_host.specs.Offering.{told_offered}
-use Rattle.redir_host.specs.Output.{host_of, act_bytes, act_notes}
-use Rattle.redir_host.specs.Performing.{told_performed}
+use Rattle.redir_host.specs.step.Acts.{Act, Piece, Perform as Performs, Offer as Offers, Unplug as Unplugs}
+use Rattle.redir_host.specs.device.Offering.{told_offered}
+use Rattle.redir_host.specs.write.Output.{host_of, act_bytes, act_notes}
+use Rattle.redir_host.specs.device.Performing.{told_performed}
 use Rattle.direct_run.specs.declared.item.Item.{Item}
 use Rattle.direct_run.specs.declared.submitted.Submitted.{Submitted}
 use Rattle.direct_run.specs.declared.told.Told.{Told}

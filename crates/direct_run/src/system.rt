@@ -1,8 +1,8 @@
 //! A gateway and a modelled device on two wires.
 
 ghost use Rattle.std.specs.Prelude.{◌≡◌, [], List, IfOk, OnErr, IsErr};
-ghost use Rattle.gate_history.specs.History.{history};
-ghost use Rattle.gate_history.specs.All.{counts_of};
+ghost use Rattle.gate_history.specs.step.History.{history};
+ghost use Rattle.gate_history.specs.write.All.{counts_of};
 ghost use Rattle.direct_run.specs.Steps.{Step as PastStep, step_of};
 ghost use Rattle.direct_run.specs.World.{first_id, course};
 ghost use Rattle.direct_run.specs.Trace.{told_first, trace as trace_of};

@@ -1,3 +1,3 @@
-pub mod Kept
-pub mod Stands
 pub mod inner
+pub mod state
+pub mod step

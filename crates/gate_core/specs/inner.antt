@@ -1,7 +1,7 @@
 -- What the code's own values are of the definitions.
-pub mod Calling
+pub mod Calls
 pub mod Holds
-pub mod Filling
-pub mod Ending
-pub mod Unlinked
+pub mod Fill
+pub mod StreamEnd
+pub mod Unlink
 pub mod Steps

@@ -1,15 +1,15 @@
 //! The gate: it translates between USB/IP clients, one after another, and a usbredir host.
 
 ghost use Rattle.std.specs.Prelude.{◌≡◌, ◌+◌, ◌++◌, ◌≤◌, [], List, length, ℕ, OnOk, OnErr, IfOk, IsErr};
-ghost use Rattle.gate_history.specs.Events.{Event as PastEvent, event_of};
-ghost use Rattle.gate_history.specs.Items.{Item as PastItem};
-ghost use Rattle.gate_history.specs.Past.{past};
-ghost use Rattle.gate_history.specs.History.{history, rest_length};
-ghost use Rattle.gate_history.specs.All.{counts_of};
-ghost use Rattle.gate_history.specs.Bytes.{out_host};
-ghost use Rattle.gate_core.specs.Stands.{Stands, StandsFor, Takes, Stops, HasFailed};
+ghost use Rattle.gate_history.specs.step.Events.{Event as PastEvent, event_of};
+ghost use Rattle.gate_history.specs.step.Items.{Item as PastItem};
+ghost use Rattle.gate_history.specs.step.Past.{past};
+ghost use Rattle.gate_history.specs.step.History.{history, rest_length};
+ghost use Rattle.gate_history.specs.write.All.{counts_of};
+ghost use Rattle.gate_history.specs.write.Bytes.{out_host};
+ghost use Rattle.gate_core.specs.step.Stands.{Stands, StandsFor, Takes, Stops, HasFailed};
 
-use crate::inner::Inner;
+use crate::step::inner::Inner;
 use gate_history::{Counts, Event, Notes};
 use gate_parts::write_hello;
 use std::alloc::Global;
@@ -23,8 +23,8 @@ pub struct Gate {
 }
 
 impl Model for Gate {
-    ghost use Rattle.gate_core.specs.Kept.{GateKept};
-    ghost use Rattle.gate_core.specs.Stands.{IsReady};
+    ghost use Rattle.gate_core.specs.state.Kept.{GateKept};
+    ghost use Rattle.gate_core.specs.step.Stands.{IsReady};
     ghost use Rattle.gate_core.specs.inner.Steps.{kept_of};
 
     ghost Value = { GateKept };

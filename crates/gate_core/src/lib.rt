@@ -1,20 +1,11 @@
 //! The gate: what is kept of the packets that have come, and what is done with the next one.
 #![tactic(auto)]
 
-mod arrive;
 mod client;
-mod end;
 mod gate;
-mod inner;
-mod iso;
-mod kept;
-mod stop;
-mod stream_end;
-mod submit;
-mod take;
-mod told;
-mod translator;
-mod unlink;
-mod wait;
+mod host;
+mod state;
+mod step;
+mod write;
 
 pub use gate::Gate;

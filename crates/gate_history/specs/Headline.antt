@@ -6,11 +6,11 @@
 use Rattle.std.specs.Prelude.{ℕ, List, ◌≡◌, ◌++◌}
 use Rattle.gate_history.specs.declared.note.Note.{Note}
 use Rattle.gate_history.specs.declared.note.Counts.{Counts}
-use Rattle.gate_history.specs.Events.{Event}
-use Rattle.gate_history.specs.History.{history}
-use Rattle.gate_history.specs.Notes.{notes_of}
-use Rattle.gate_history.specs.All.{all_of, counts_of}
-use Rattle.gate_history.specs.Bytes.{out_client, out_host}
+use Rattle.gate_history.specs.step.Events.{Event}
+use Rattle.gate_history.specs.step.History.{history}
+use Rattle.gate_history.specs.write.Notes.{notes_of}
+use Rattle.gate_history.specs.write.All.{all_of, counts_of}
+use Rattle.gate_history.specs.write.Bytes.{out_client, out_host}
 
 -- ---- of all events, where the ids of packets to the host begin with the first one
 

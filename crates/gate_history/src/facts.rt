@@ -2,8 +2,8 @@
 
 ghost use Rattle.std.specs.Prelude.{◌≡◌};
 ghost use Rattle.redir_data.specs.declared.packet.RedirPacket.TheVariants.{Plain};
-ghost use Rattle.gate_history.specs.Facts.{no_facts, tell};
-ghost use Rattle.gate_history.specs.Meaning.{fact_of};
+ghost use Rattle.gate_history.specs.state.Facts.{no_facts, tell};
+ghost use Rattle.gate_history.specs.step.Meaning.{fact_of};
 
 use redir_wire::{Connect, InterfaceInfo, RedirControl};
 use usb_base::EpTable;

@@ -4,26 +4,27 @@ ghost use Rattle.std.specs.Prelude.{◌≡◌, ◌<◌, ◌≤◌, ◌↔◌, �
 ghost use Rattle.std.specs.List.{list_any, flat_map, AllByRecursion};
 ghost use Rattle.std.specs.Option.{option_to_list};
 ghost use Rattle.usb_base.specs.Number.{AreBytes};
-ghost use Rattle.gate_history.specs.Events.{Event as PastEvent};
-ghost use Rattle.gate_history.specs.Items.{Item};
-ghost use Rattle.gate_history.specs.Ids.{draw, greatest, IsNext, AreFresh, Once};
-ghost use Rattle.gate_history.specs.Submits.{live};
-ghost use Rattle.gate_history.specs.Flight.{wide_ids, in_flight};
-ghost use Rattle.gate_history.specs.Ups.{held_of, streams};
-ghost use Rattle.gate_history.specs.State.{state_of, is_number};
-ghost use Rattle.gate_history.specs.Meaning.{mark_of};
-ghost use Rattle.gate_history.specs.Past.{past};
-ghost use Rattle.gate_history.specs.History.{client_split, host_split, client_items, host_items, brought, arrivals, history};
-ghost use Rattle.gate_history.specs.Output.{to_client, to_host};
-ghost use Rattle.gate_history.specs.Notes.{notes_of, dropped};
-ghost use Rattle.gate_history.specs.All.{all_of, counts_of};
-ghost use Rattle.gate_history.specs.Bytes.{client_bytes_of, host_bytes_of};
-ghost use Rattle.gate_history.specs.Machine.{run, run_counts, steps, GivesPast, AddsItems};
-ghost use Rattle.gate_history.specs.Turns.{turns, Alternate, answers_in, answered_ends, answer_of};
-ghost use Rattle.gate_history.specs.Losses.{Loses, EndsAll};
-ghost use Rattle.gate_history.specs.Sound.{IsSound, HasFewPackets, DrawFresh};
-ghost use Rattle.gate_history.specs.Readable.{SentCanBeRead, piece_bytes};
-ghost use Rattle.gate_history.specs.Refusals.{causes, is_refusal, client_wrongs, host_wrongs};
+ghost use Rattle.stream_buffers.specs.declared.inbox.TheConstants.{MAX_HELD};
+ghost use Rattle.gate_history.specs.step.Events.{Event as PastEvent};
+ghost use Rattle.gate_history.specs.step.Items.{Item};
+ghost use Rattle.gate_history.specs.state.Ids.{draw, greatest, IsNext, AreFresh, Once};
+ghost use Rattle.gate_history.specs.client.Submits.{live};
+ghost use Rattle.gate_history.specs.state.Flight.{wide_ids, in_flight};
+ghost use Rattle.gate_history.specs.state.Ups.{held_of, streams};
+ghost use Rattle.gate_history.specs.state.State.{state_of, is_number};
+ghost use Rattle.gate_history.specs.step.Meaning.{mark_of};
+ghost use Rattle.gate_history.specs.step.Past.{past};
+ghost use Rattle.gate_history.specs.step.History.{client_split, host_split, client_items, host_items, brought, arrivals, history};
+ghost use Rattle.gate_history.specs.write.Output.{to_client, to_host};
+ghost use Rattle.gate_history.specs.write.Notes.{notes_of, dropped};
+ghost use Rattle.gate_history.specs.write.All.{all_of, counts_of};
+ghost use Rattle.gate_history.specs.write.Bytes.{client_bytes_of, host_bytes_of};
+ghost use Rattle.gate_history.specs.step.Machine.{run, run_counts, steps, GivesPast, AddsItems};
+ghost use Rattle.gate_history.specs.client.Turns.{turns, Alternate, answers_in, answered_ends, answer_of};
+ghost use Rattle.gate_history.specs.host.Losses.{Loses, EndsAll};
+ghost use Rattle.gate_history.specs.state.Sound.{IsSound, HasFewPackets, DrawFresh};
+ghost use Rattle.gate_history.specs.write.Readable.{SentCanBeRead, piece_bytes};
+ghost use Rattle.gate_history.specs.step.Refusals.{causes, is_refusal, client_wrongs, host_wrongs};
 
 /// A law: the machine's state is what the searches of the past find, and it sends, tells and counts the same.
 pub fn machine_is_past()
@@ -101,7 +102,7 @@ pub fn rests_are_short()
 
 /// A law: after every past each stream holds at most 1,024 packets.
 pub fn streams_hold_few()
-    ensures { (first : ℕ) (items : List Item) → AllByRecursion (λ o. length (held_of o) ≤ 1024) (streams (past first items)) }
+    ensures { (first : ℕ) (items : List Item) → AllByRecursion (λ o. length (held_of o) ≤ MAX_HELD) (streams (past first items)) }
 {}
 
 /// A law: where the bytes of events are bytes, the host can read all packets that it was sent for them, spelled with the

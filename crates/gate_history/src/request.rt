@@ -2,10 +2,10 @@
 
 ghost use Rattle.std.specs.Prelude.{◌≡◌, ◌≤◌, None, []};
 ghost use Rattle.usbip_urb.specs.Ranges.{IsSubmit};
-ghost use Rattle.gate_history.specs.Requests.{address, request_of, is_in_setup};
-ghost use Rattle.gate_history.specs.Views.{request_view};
-ghost use Rattle.gate_history.specs.Carried.{IsRequest};
-ghost use Rattle.gate_history.specs.Asked.{asked_view};
+ghost use Rattle.gate_history.specs.client.Requests.{address, request_of, is_in_setup};
+ghost use Rattle.gate_history.specs.client.Views.{request_view};
+ghost use Rattle.gate_history.specs.client.Carried.{IsRequest};
+ghost use Rattle.gate_history.specs.write.Asked.{asked_view};
 
 use usb_base::{EpAddr, Setup, Transfer};
 use usbip_urb::{Descs, IsoDesc, Submit, USBIP_DIR_OUT};

@@ -1,8 +1,8 @@
 //! What is made of a submit.
 
 ghost use Rattle.std.specs.Prelude.{◌≡◌, ◌⊎◌, ◌<◌};
-ghost use Rattle.gate_history.specs.Views.{pipe_view};
-ghost use Rattle.gate_history.specs.Verdict.{pipe_kind};
+ghost use Rattle.gate_history.specs.client.Views.{pipe_view};
+ghost use Rattle.gate_history.specs.client.Verdict.{pipe_kind};
 
 use control_route::Route;
 use usb_base::{EpKind, EpRow};

@@ -18,7 +18,7 @@ pub data Call : Type 0 where
   Close : Side → Call
 
 -- these calls were made, one after the other, and each was answered so: by what each of them does
-abbrev pub Called : {D : Type 0} → (D → Call → D → Type 0) → List Call → D → D → Type 0
+abbrev pub Called : {C D : Type 0} → (D → C → D → Type 0) → List C → D → D → Type 0
 Called gives [] old new = new ≡ old
 Called {D = D} gives (call ∷ calls) old new = (mid : D) × (Called gives calls old mid × gives mid call new)
 

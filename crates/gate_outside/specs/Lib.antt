@@ -3,6 +3,7 @@ pub mod Front
 pub mod Link
 pub mod Turns
 pub mod Calls
+pub mod Moved
 pub mod Doors
 pub mod NoDoors
 pub mod Plan

@@ -5,6 +5,7 @@ ghost use Rattle.std.specs.Io.{WritesAtMost};
 ghost use Rattle.std.specs.Io.KnownBytes.{WriteAppends, Appends};
 ghost use Rattle.gate_outside.specs.Faults.{HasCause};
 ghost use Rattle.gate_outside.specs.Front.{AppendsFront};
+ghost use Rattle.gate_outside.specs.Moved.{Moves, MovesFront};
 
 use crate::fault::Failed;
 
@@ -36,6 +37,8 @@ pub fn write_all<K: Sink>(sink: &mut K, bytes: &[u8]) -> Result<(), Failed>
     ensures ok { OnOk result (Appends (K.contents sink.old) (K.contents sink.new) bytes.now) }
     ensures err { OnErr result (AppendsFront (K.contents sink.old) (K.contents sink.new) bytes.now) }
     ensures cause { HasCause (K.faults sink.old) (K.faults sink.new) result }
+    ensures writes { OnOk result (Moves K.write_gives bytes.now sink.old sink.new) }
+    ensures writes_front { OnErr result (MovesFront K.write_gives bytes.now sink.old sink.new) }
 {
     let mut done = 0;
     while done < bytes.len() {

@@ -1,6 +1,3 @@
-pub mod Filling
-pub mod Extends
-pub mod Rows
-pub mod Responses
-pub mod Flying
-pub mod Lent
+pub mod host
+pub mod state
+pub mod write

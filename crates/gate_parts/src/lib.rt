@@ -1,33 +1,25 @@
 //! The parts of the gate: the verdict on a submit, ids, streams, and the packets that are written to each side.
 #![tactic(auto)]
 
-mod answer;
-mod ask;
-mod calls;
-mod errno;
-mod field;
-mod fill;
-mod filling;
-mod finish;
-mod id;
-mod refusal;
-mod reply;
-mod response;
-mod rules;
-mod streams;
+mod client;
+mod host;
+mod state;
+mod write;
 
-pub use answer::{write_all_sent, write_ret_unlink, write_without_packets};
-pub use ask::{
+pub use client::reply::{failed_import, import_reply, is_exported, list_reply};
+pub use client::verdict::decide;
+pub use host::fill::{finish_fronts, write_fillings};
+pub use host::response::{
+    Response, data_of, head_size, mismatch, status_of, stream_in, stream_packet,
+};
+pub use state::calls::{Called, Calls, lifted};
+pub use state::id::draw;
+pub use state::streams::{Streams, Up};
+pub use write::answer::{write_all_sent, write_ret_unlink, write_without_packets};
+pub use write::ask::{
     acknowledge, packet_count, write_cancel, write_cancel_of, write_hello, write_iso, write_route,
     write_start, write_stop, write_wire,
 };
-pub use calls::{Called, Calls, lifted};
-pub use errno::{ECONNRESET, ESHUTDOWN};
-pub use fill::{finish_fronts, write_fillings};
-pub use finish::{is_success, row_of, write_completed, write_end_of, write_lost};
-pub use id::draw;
-pub use refusal::{client_refusal, host_refusal};
-pub use reply::{failed_import, import_reply, is_exported, list_reply};
-pub use response::{Response, data_of, head_size, mismatch, status_of, stream_in, stream_packet};
-pub use rules::{MAX_LIVE, decide};
-pub use streams::{Streams, Up};
+pub use write::errno::{ECONNRESET, ESHUTDOWN};
+pub use write::finish::{row_of, write_completed, write_end_of, write_lost};
+pub use write::refusal::{client_refusal, host_refusal};

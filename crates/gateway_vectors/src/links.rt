@@ -9,7 +9,8 @@ use gate_outside::{Script, ScriptDoors, Scripts, Side, TextSink, TextSource};
 use session_tape::TextTape;
 use std::alloc::Global;
 use usb_base::Memory;
-use usbgate::{Status, run};
+use usbgate::run;
+use usbgate_tapes::Status;
 
 /// How many bytes can be written to each side.
 const ROOM: usize = 65_536;

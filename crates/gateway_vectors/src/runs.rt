@@ -7,7 +7,8 @@ use crate::recorded::{check_recording, recording_of};
 use gate_outside::{NoDoors, TextSink, TextSource};
 use std::alloc::Global;
 use usb_base::Memory;
-use usbgate::{Status, run};
+use usbgate::run;
+use usbgate_tapes::Status;
 
 /// What a run printed, whether of its text only the bytes of each side are compared, and how it ended.
 #[derive(Drop)]

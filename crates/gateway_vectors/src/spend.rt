@@ -8,7 +8,8 @@ use gate_outside::{Doors, Sink};
 use model_device::Loopback;
 use session_tape::NoTape;
 use std::alloc::Global;
-use usbgate::Status;
+use usbgate_commands::ended_as;
+use usbgate_tapes::Status;
 
 /// Serves as `serve` does, or lends a loop as `host` does, until so many bytes and links have come, or five rounds in a
 /// row bring nothing.
@@ -42,7 +43,7 @@ fn serve_to_budget<D: Doors, K: Sink>(
 {
     let keep = AfterLoss::Keep;
     let tape = &mut NoTape;
-    Status::from(serve(alloc, "a:1", "b:2", 5, budget, 1, keep, doors, out, tape))
+    ended_as(serve(alloc, "a:1", "b:2", 5, budget, 1, keep, doors, out, tape))
 }
 
 fn lend<D: Doors, K: Sink>(alloc: Global, budget: u64, doors: &mut D, out: &mut K) -> Status
@@ -51,7 +52,7 @@ fn lend<D: Doors, K: Sink>(alloc: Global, budget: u64, doors: &mut D, out: &mut 
     requires budget { 1 ≤ budget }
 {
     match Loopback::make(alloc) {
-        Ok(device) => Status::from(serve_host(alloc, device, "b:1", 5, budget, doors, out)),
+        Ok(device) => ended_as(serve_host(alloc, device, "b:1", 5, budget, doors, out)),
         Err(_) => Status::OutOfMemory,
     }
 }

@@ -5,7 +5,7 @@ use crate::how::How;
 use crate::runs::Came;
 use std::alloc::Global;
 use usb_base::{Memory, Side};
-use usbgate::Status;
+use usbgate_tapes::Status;
 
 /// Whether a run printed this text and had this end; if not, where they part.
 pub fn told(

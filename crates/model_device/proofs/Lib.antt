@@ -1,1 +1,2 @@
 pub mod Submits
+pub mod Performed

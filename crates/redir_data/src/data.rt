@@ -57,6 +57,18 @@ impl RedirData {
         }
     }
 
+    /// Its data alone.
+    pub fn into_body(self) -> Bytes
+        ensures { result ≡ body_of self }
+    {
+        match self {
+            RedirData::Control { body, .. }
+            | RedirData::Bulk { body, .. }
+            | RedirData::Iso { body, .. }
+            | RedirData::Interrupt { body, .. } => body,
+        }
+    }
+
     /// Whether it has as many data as its length tells, where packets of its endpoint carry data this way, and
     /// else none.
     pub fn has_its_data(&self, way: Way) -> bool

@@ -20,4 +20,4 @@ pub use read::read_data;
 pub use redir::read_redir;
 pub use state::RedirState;
 pub use stream::{FromGuest, FromHost};
-pub use write::{write_data, write_iso_out};
+pub use write::{move_data, write_data, write_iso_out};

@@ -49,7 +49,7 @@ pub fn read_data(
     if bytes.len() < head.length as usize {
         return Ok(None);
     }
-    match copied(alloc, &bytes[fixed..fixed + count]) {
+    match Bytes::copied(alloc, &bytes[fixed..fixed + count]) {
         Ok(body) => Ok(Some(fields_with(kind, bytes, told, body))),
         Err(Memory) => Err(ReadError::Memory),
     }
@@ -88,17 +88,6 @@ fn bulk_length(wide: bool, bytes: &[u8]) -> u32
     } else {
         low
     }
-}
-
-fn copied(alloc: Global, piece: &[u8]) -> Result<Bytes, Memory>
-    ensures ok { IfOk result (λ body. body ≡ piece.now) }
-    ensures err { OnErr result (0 < length piece.now) }
-{
-    let mut body = Bytes::new(alloc);
-    if !piece.is_empty() {
-        body.append(piece)?;
-    }
-    Ok(body)
 }
 
 fn fields_with(kind: DataKind, bytes: &[u8], told: u32, body: Bytes) -> RedirData

@@ -31,6 +31,25 @@ pub fn write_data(
     all_or_none(pushed, before, out)
 }
 
+/// As `write_data`, of a packet whose data are moved: long ones are not copied where `out` has little else.
+pub fn move_data(
+    packet: RedirData,
+    id: u64,
+    way: Way,
+    caps: Caps,
+    out: &mut Bytes,
+) -> Result<(), Memory>
+    requires { CanWrite id way caps packet }
+    ensures ok { OnOk result (out.new ≡ out.old ++ packet_bytes id caps packet) }
+    ensures err { OnErr result (out.new ≡ out.old) }
+{
+    let agrees = packet.has_its_data(way);
+    prove!(agrees);
+    let before = out.len();
+    let pushed = push_moved(packet, id, caps, out);
+    all_or_none(pushed, before, out)
+}
+
 // For want of memory, what was begun of a packet goes again.
 fn all_or_none(pushed: Result<(), Memory>, before: usize, out: &mut Bytes) -> Result<(), Memory>
     requires { before ≤ length out.old }
@@ -97,6 +116,20 @@ fn push_data(packet: &RedirData, id: u64, caps: Caps, out: &mut Bytes) -> Result
     push_header(caps.has(WIDE_IDS), &Header { kind, length, id }, out)?;
     push_fixed(packet, caps, out)?;
     out.append(packet.body().as_slice())?;
+    Ok(())
+}
+
+fn push_moved(packet: RedirData, id: u64, caps: Caps, out: &mut Bytes) -> Result<(), Memory>
+    requires id_fits { IdFits (is_wide false caps) id }
+    requires in_limit { size_of caps packet ≤ 16777280 }
+    ensures ok { OnOk result (out.new ≡ out.old ++ packet_bytes id caps packet) }
+    ensures err { OnErr result (Begins out.old out.new) }
+{
+    let kind = packet.kind().row().number;
+    let length = size_of(&packet, caps);
+    push_header(caps.has(WIDE_IDS), &Header { kind, length, id }, out)?;
+    push_fixed(&packet, caps, out)?;
+    out.append_list(packet.into_body())?;
     Ok(())
 }
 

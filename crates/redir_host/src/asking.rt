@@ -2,7 +2,7 @@
 
 ghost use Rattle.std.specs.Prelude.{◌≡◌, ◌==◌, None, IsTrue, nat_lt, if◌then◌else◌};
 ghost use Rattle.usb_base.specs.Endpoint.{IsEndpoint, is_in_endpoint};
-ghost use Rattle.redir_host.specs.Asking.{asking_of, asked_if, is_other};
+ghost use Rattle.redir_host.specs.guest.Asking.{asking_of, asked_if, is_other};
 
 use crate::request::{Asking, Form};
 use redir_data::RedirData;

@@ -2,7 +2,7 @@
 
 ghost use Rattle.std.specs.Prelude.{◌≡◌};
 ghost use Rattle.model_device.specs.Transfer.{is_control as is_control_endpoint};
-ghost use Rattle.redir_host.specs.Changes.{change_of, is_touched};
+ghost use Rattle.redir_host.specs.device.Changes.{change_of, is_touched};
 
 use crate::request::Form;
 use control_route::{Route, touches};

@@ -5,8 +5,8 @@ ghost use Rattle.usb_base.specs.Endpoint.{no_endpoint};
 ghost use Rattle.redir_wire.specs.Begins.{Begins};
 ghost use Rattle.redir_wire.specs.Capability.{has};
 ghost use Rattle.redir_wire.specs.Ranges.{ConnectRanges, EpRanges, InterfaceRanges};
-ghost use Rattle.redir_host.specs.Facts.{connect_of, ep_info_of, kind_byte};
-ghost use Rattle.redir_host.specs.Told.{facts_bytes, connect_bytes};
+ghost use Rattle.redir_host.specs.device.Facts.{connect_of, ep_info_of, kind_byte};
+ghost use Rattle.redir_host.specs.write.Told.{facts_bytes, connect_bytes};
 
 use crate::write::write;
 use redir_data::RedirPacket;

@@ -1,7 +1,7 @@
 //! The host's hello.
 
 ghost use Rattle.std.specs.Prelude.{◌≡◌, ◌++◌, OnOk, OnErr};
-ghost use Rattle.redir_host.specs.Output.{hello_bytes};
+ghost use Rattle.redir_host.specs.write.Output.{hello_bytes};
 
 use redir_wire::{ANNOUNCED, Caps, Hello, RedirControl, Words, write_control};
 use std::alloc::Global;

@@ -1,10 +1,10 @@
 //! The host of a device: what it keeps, and how it changes.
 
 ghost use Rattle.std.specs.Prelude.{◌≡◌, ◌≤◌, length, not, IfOk, OnOk, OnErr};
-ghost use Rattle.redir_host.specs.Machine.{first_host};
-ghost use Rattle.redir_host.specs.Makes.{Makes};
-ghost use Rattle.redir_host.specs.Offering.{offer_move, stream_packet, unplug_move, told_offered};
-ghost use Rattle.redir_host.specs.Sound.{IsSound};
+ghost use Rattle.redir_host.specs.step.Machine.{first_host};
+ghost use Rattle.redir_host.specs.step.Makes.{Makes};
+ghost use Rattle.redir_host.specs.device.Offering.{offer_move, stream_packet, unplug_move, told_offered};
+ghost use Rattle.redir_host.specs.state.Sound.{IsSound};
 
 use crate::note::Offered;
 use crate::queue::Queue;

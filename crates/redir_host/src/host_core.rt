@@ -1,11 +1,11 @@
 //! A usbredir host over a stream of bytes each way: what its guest sends comes in pieces.
 
 ghost use Rattle.std.specs.Prelude.{◌≡◌, ◌++◌, [], List, not, IfOk, OnOk, OnErr, IsErr};
-ghost use Rattle.redir_host.specs.Acts.{Act, Piece, Perform, Offer, Unplug};
-ghost use Rattle.redir_host.specs.Offering.{told_offered};
-ghost use Rattle.redir_host.specs.Output.{host_of, host_out};
-ghost use Rattle.redir_host.specs.Performing.{told_performed};
-ghost use Rattle.redir_host.specs.Stands.{DoesAct, HasFailed, Stands, Stops, TakesAct};
+ghost use Rattle.redir_host.specs.step.Acts.{Act, Piece, Perform, Offer, Unplug};
+ghost use Rattle.redir_host.specs.device.Offering.{told_offered};
+ghost use Rattle.redir_host.specs.write.Output.{host_of, host_out};
+ghost use Rattle.redir_host.specs.device.Performing.{told_performed};
+ghost use Rattle.redir_host.specs.step.Stands.{DoesAct, HasFailed, Stands, Stops, TakesAct};
 
 use crate::hello::write_hello;
 use crate::kept::Kept;
@@ -23,8 +23,8 @@ pub struct HostCore<G: Gadget> {
 }
 
 impl<G: Gadget> Model for HostCore<G> {
-    ghost use Rattle.redir_host.specs.Kept.{HostKept};
-    ghost use Rattle.redir_host.specs.Stands.{IsReady};
+    ghost use Rattle.redir_host.specs.state.Kept.{HostKept};
+    ghost use Rattle.redir_host.specs.step.Stands.{IsReady};
     ghost use Rattle.redir_host.specs.inner.Views.{kept_of};
 
     ghost Value = { HostKept G };

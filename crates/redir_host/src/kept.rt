@@ -2,17 +2,17 @@
 
 ghost use Rattle.std.specs.Prelude.{◌≡◌, [], List, not, IfOk, OnOk, OnErr};
 ghost use Rattle.packet_stream.specs.Loops.{TakesPackets};
-ghost use Rattle.redir_host.specs.Acts.{Act, Piece, Perform, Offer, Unplug};
-ghost use Rattle.redir_host.specs.Guest.{guest_reader};
-ghost use Rattle.redir_host.specs.Makes.{IsTaken, Takes};
-ghost use Rattle.redir_host.specs.Offering.{told_offered};
-ghost use Rattle.redir_host.specs.Output.{host_of};
-ghost use Rattle.redir_host.specs.Packets.{packet_move};
-ghost use Rattle.redir_host.specs.Performing.{told_performed};
-ghost use Rattle.redir_host.specs.Readable.{TakesInRange};
-ghost use Rattle.redir_host.specs.Sound.{IsSound};
-ghost use Rattle.redir_host.specs.Stands.{DoesAct, HasPast, Stands, Stops, TakesAct};
-ghost use Rattle.redir_host.specs.Takings.{HasRead, TookPackets};
+ghost use Rattle.redir_host.specs.step.Acts.{Act, Piece, Perform, Offer, Unplug};
+ghost use Rattle.redir_host.specs.guest.Guest.{guest_reader};
+ghost use Rattle.redir_host.specs.step.Makes.{IsTaken, Takes};
+ghost use Rattle.redir_host.specs.device.Offering.{told_offered};
+ghost use Rattle.redir_host.specs.write.Output.{host_of};
+ghost use Rattle.redir_host.specs.guest.Packets.{packet_move};
+ghost use Rattle.redir_host.specs.device.Performing.{told_performed};
+ghost use Rattle.redir_host.specs.write.Readable.{TakesInRange};
+ghost use Rattle.redir_host.specs.state.Sound.{IsSound};
+ghost use Rattle.redir_host.specs.step.Stands.{DoesAct, HasPast, Stands, Stops, TakesAct};
+ghost use Rattle.redir_host.specs.guest.Takings.{HasRead, TookPackets};
 ghost use Rattle.redir_host.specs.inner.Views.{kept_of};
 
 use crate::host::Host;

@@ -2,9 +2,9 @@
 
 ghost use Rattle.std.specs.Prelude.{◌≡◌, ◌<◌, ◌≤◌, [], ◌∷◌, ◌++◌, length, drop, take, filter, slice_get, Some, OnOk, OnErr};
 ghost use Rattle.std.specs.List.{list_any, position, remove};
-ghost use Rattle.redir_host.specs.Changes.{stays};
-ghost use Rattle.redir_host.specs.Queues.{is_at, is_cancelled_by, is_data, is_first_queue, queue_of, with_first_marked};
-ghost use Rattle.redir_host.specs.Cancels.{Cancels};
+ghost use Rattle.redir_host.specs.device.Changes.{stays};
+ghost use Rattle.redir_host.specs.state.Queues.{is_at, is_cancelled_by, is_data, is_first_queue, queue_of, with_first_marked};
+ghost use Rattle.redir_host.specs.guest.Cancels.{Cancels};
 
 use crate::change::{is_control, is_touched};
 use crate::request::{Form, Request};

@@ -4,7 +4,7 @@
 ghost use Rattle.std.specs.Prelude.{◌≡◌, []};
 ghost use Rattle.control_route.specs.declared.route.Route.TheVariants as route;
 ghost use Rattle.model_device.specs.Submit.{control_transfer};
-ghost use Rattle.redir_host.specs.Asking.{routed};
+ghost use Rattle.redir_host.specs.guest.Asking.{routed};
 
 use std::alloc::Global;
 use usb_base::{Bytes, EpAddr, Setup, Transfer};

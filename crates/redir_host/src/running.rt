@@ -2,8 +2,8 @@
 
 ghost use Rattle.std.specs.Prelude.{◌≡◌, [], ◌∷◌, ◌++◌, filter, OnOk, OnErr};
 ghost use Rattle.std.specs.List.{find};
-ghost use Rattle.redir_host.specs.Packets.{runs_at, started, stopped};
-ghost use Rattle.redir_host.specs.Changes.{runs_on};
+ghost use Rattle.redir_host.specs.guest.Packets.{runs_at, started, stopped};
+ghost use Rattle.redir_host.specs.device.Changes.{runs_on};
 
 use crate::change::is_touched;
 use control_route::Route;

@@ -1,8 +1,8 @@
 //! Writes packets to the guest.
 
 ghost use Rattle.std.specs.Prelude.{◌≡◌, ◌++◌, OnOk, OnErr};
-ghost use Rattle.redir_host.specs.Machine.{told_bytes};
-ghost use Rattle.redir_host.specs.Sound.{CanTell};
+ghost use Rattle.redir_host.specs.step.Machine.{told_bytes};
+ghost use Rattle.redir_host.specs.state.Sound.{CanTell};
 
 use redir_data::{RedirPacket, write_data};
 use redir_wire::{Caps, Way, write_control};

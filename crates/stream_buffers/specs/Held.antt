@@ -1,5 +1,6 @@
 -- What is held of a receiving stream: the packets that came and that no request took, the first first.
 use Rattle.std.specs.Prelude.{ℕ, nat_le, Bool, if◌then◌else◌, List, [], ◌∷◌, ◌++◌, length}
+use Rattle.stream_buffers.specs.declared.inbox.TheConstants.{MAX_HELD}
 use Rattle.usb_base.specs.declared.transfer.StreamPacket.{StreamPacket}
 
 pub record Held : Type 0 where
@@ -9,7 +10,7 @@ pub record Held : Type 0 where
 
 -- at most 1,024 are held
 abbrev pub is_full : List StreamPacket → Bool
-is_full packets = nat_le 1024 (length packets)
+is_full packets = nat_le MAX_HELD (length packets)
 
 -- a packet is put behind those that are held, and is lost where there is no room
 abbrev pub receive : StreamPacket → List StreamPacket → List StreamPacket

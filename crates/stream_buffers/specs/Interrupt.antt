@@ -5,16 +5,13 @@ use Rattle.std.specs.Option.{option_map}
 use Rattle.std.specs.List.{flat_map}
 use Rattle.usb_base.specs.declared.status.UsbStatus.{UsbStatus}
 use Rattle.usb_base.specs.declared.status.UsbStatus.TheVariants.{Success, Babble}
+use Rattle.usb_base.specs.Status.{is_success}
 use Rattle.usb_base.specs.declared.transfer.Outcome.{Outcome}
 use Rattle.usb_base.specs.declared.transfer.StreamPacket.{StreamPacket}
 use Rattle.stream_buffers.specs.Cuts.{Cut}
 use Rattle.stream_buffers.specs.Least.{least_below}
 
 -- ---- which packets
-
-abbrev pub is_success : UsbStatus → Bool
-is_success Success = true
-is_success _ = false
 
 -- it ends the transfer, however many bytes are wanted; where the largest packet has 0 bytes, each does
 abbrev pub ends : ℕ → StreamPacket → Bool

@@ -2,13 +2,13 @@
 
 ghost use Rattle.std.specs.Prelude.{◌≡◌, ◌+◌, ◌||◌, ◌<◌, ◌≤◌, ◌^◌, nat_le, None, drop, length, IfSome};
 ghost use Rattle.std.specs.Option.{option_map};
-ghost use Rattle.stream_buffers.specs.Interrupt.{is_success, ends, fills, last_of, bodies_to};
+ghost use Rattle.stream_buffers.specs.Interrupt.{ends, fills, last_of, bodies_to};
 ghost use Rattle.stream_buffers.specs.Least.{least_below};
 ghost use Rattle.stream_buffers.specs.inner.Seen.{IsSeen};
 
 use crate::behind::packet_behind;
 use std::collections::VecDeque;
-use usb_base::{StreamPacket, UsbStatus};
+use usb_base::StreamPacket;
 
 /// How many packets were looked at for a request that they don't fill, and the bytes that they have: the next look
 /// begins behind them.
@@ -94,11 +94,5 @@ fn fills(max_packet: u16, packet: &StreamPacket, bytes: u64, wanted: u32) -> boo
 fn ends(max_packet: u16, packet: &StreamPacket) -> bool
     ensures { result ≡ ends max_packet packet.now }
 {
-    !is_success(packet.status) || packet.body.len() < max_packet as usize || max_packet == 0
-}
-
-fn is_success(status: UsbStatus) -> bool
-    ensures { result ≡ is_success status }
-{
-    matches!(status, UsbStatus::Success)
+    !packet.status.is_success() || packet.body.len() < max_packet as usize || max_packet == 0
 }

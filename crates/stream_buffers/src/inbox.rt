@@ -37,6 +37,7 @@ pub struct Inbox {
 
 impl Model for Inbox {
     ghost use Rattle.std.specs.Prelude.{◌≤◌, length};
+    ghost use Rattle.stream_buffers.specs.declared.inbox.TheConstants.{MAX_HELD};
     ghost use Rattle.stream_buffers.specs.Held.{Held};
     ghost use Rattle.stream_buffers.specs.inner.Seen.{IsSeen};
 
@@ -44,7 +45,7 @@ impl Model for Inbox {
 
     ghost view = { λ b. record { packets = b.packets.items; max_packet = b.max_packet } };
 
-    ghost invariant = { λ b. IsSeen b.max_packet b.packets.items b.seen × (length b.packets.items ≤ 1024) };
+    ghost invariant = { λ b. IsSeen b.max_packet b.packets.items b.seen × (length b.packets.items ≤ MAX_HELD) };
 }
 
 impl Inbox {
@@ -63,7 +64,7 @@ impl Inbox {
     /// How many packets are held.
     pub fn len(&self) -> usize
         ensures len { result ≡ length self.now.packets }
-        ensures bound { result ≤ 1024 }
+        ensures bound { result ≤ MAX_HELD }
     {
         self.packets.len()
     }

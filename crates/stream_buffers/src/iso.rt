@@ -2,6 +2,7 @@
 
 ghost use Rattle.std.specs.Prelude.{◌≡◌, ◌+◌, ◌≤◌, ◌<◌, ◌^◌, ◌∷◌, [], drop, length, IfOk};
 ghost use Rattle.packet_stream.specs.Writes.{AppendsSome};
+ghost use Rattle.usbip_urb.specs.declared.code.TheConstants.{MAX_PACKETS};
 ghost use Rattle.usbip_urb.specs.Spelling.{descs_bytes};
 ghost use Rattle.stream_buffers.specs.Iso.{piece, piece_status, pieces, filled, all_filled, iso_outcome};
 ghost use Rattle.stream_buffers.specs.Fillings.{errors_of, FillsIso};
@@ -36,7 +37,7 @@ pub(crate) fn iso_filling(
     packets: &VecDeque<StreamPacket>,
     from: usize,
 ) -> IsoFilling
-    requires few { length descs.now ≤ 1024 }
+    requires few { length descs.now ≤ MAX_PACKETS }
     requires enough { from + length descs.now ≤ length packets.now.items }
     ensures { FillsIso descs.now (drop from packets.now.items) result }
 {

@@ -12,11 +12,11 @@ use Rattle.bridge_run.specs.declared.serve_end.ServeEnd.{ServeEnd}
 use Rattle.bridge_run.specs.declared.serve_end.ServeEnd.TheVariants as end
 use Rattle.bridge_run.specs.Events.{Event, ClientComes, ClientPiece, ClientQuiet, ClientEnd, HostPiece, HostEnd}
 use Rattle.bridge_run.specs.Prescribed.{Prescribed, gained, refuses, drops, first_of}
-use Rattle.bridge_run.specs.Recorded.{lines_of}
+use Rattle.bridge_run.specs.Recorded.{lines_of, has_any, is_last, is_full, written_if, waiting_if}
 use Rattle.bridge_run.specs.Course.{Setting, Course, Next, Making, AtDoor, AtClient, AtHost, AtEnd, Takes}
-use Rattle.bridge_run.specs.Calls.{Outcome, Goes, Stops, room, put, settle, ends_next, take_event, come, heard, poll, rest, make, call, and_then, calls}
+use Rattle.bridge_run.specs.Calls.{Outcome, Goes, Stops, room, is_due, lines_with, put, settle, ends_next, take_event, come, heard, poll, gathered, rest, make, call, and_then, calls}
 use Rattle.bridge_run.specs.Gate.{gate_events}
-use Rattle.usbgate.specs.Tape.{host_ended}
+use Rattle.usbgate_tapes.specs.Tape.{host_ended}
 use Rattle.bridge_run.specs.Ups.{client_at, host_at, client_behind, to_clients}
 use Rattle.tape_laws.specs.Ups.{host_behind, to_host}
 use Rattle.tape_laws.specs.Recordings.{recorded}
@@ -36,15 +36,27 @@ pub record Seen : Type 0 where
   pub to_client : List ℕ
   pub to_host : List ℕ
   pub recorded : List ℕ
+  pub waiting : List ℕ
 
 abbrev pub seen : Course → Seen
-seen c = record { events = c.events; client_up = c.client_up; host_up = c.host_up; client = c.client; clients = c.clients; host = c.host; to_client = c.to_client; to_host = c.to_host; recorded = c.recorded }
+seen c = record { events = c.events; client_up = c.client_up; host_up = c.host_up; client = c.client; clients = c.clients; host = c.host; to_client = c.to_client; to_host = c.to_host; recorded = c.recorded; waiting = c.waiting }
+
+-- the first of the events have their lines behind the first line, and the lines of the later ones wait, which send nothing
+pub record Gathers (p : Prescribed) (first : List ℕ) (events : List Event) (written waiting : List ℕ) : Type 0 where
+  pub taped : List Event
+  pub later : List Event
+  pub events-are : events ≡ later ++ taped
+  pub written-is : written ≡ first ++ recorded p taped
+  pub all-is : first ++ recorded p events ≡ written ++ waiting
+  pub to_client-is : to_clients p events ≡ to_clients p taped
+  pub to_host-is : to_host p events ≡ to_host p taped
+  pub fit : AllFit taped
 
 -- what it recorded behind the first line and what it wrote are those of its events; these links are up
 pub record Holds (p : Prescribed) (first : List ℕ) (client_up host_up : Bool) (c : Seen) : Type 0 where
   pub client_up-is : c.client_up ≡ client_up
   pub host_up-is : c.host_up ≡ host_up
-  pub recorded-is : c.recorded ≡ first ++ recorded p c.events
+  pub gathers : Gathers p first c.events c.recorded c.waiting
   pub to_client-is : c.to_client ≡ to_clients p c.events
   pub to_host-is : c.to_host ≡ to_host p c.events
   pub fit : AllFit c.events
@@ -61,6 +73,7 @@ pub record IsMaking (p : Prescribed) (first : List ℕ) (c : Course) : Type 0 wh
   pub events-are : c.events ≡ []
   pub client_up-is : c.client_up ≡ false
   pub recorded-is : c.recorded ≡ first
+  pub none_waits : c.waiting ≡ []
   pub to_client-is : c.to_client ≡ []
   pub to_host-is : c.to_host ≡ []
   pub client : SendBytes c.client
@@ -115,6 +128,54 @@ bytes-if : (t : Bool) (turns : List Turn) → SendBytes turns → SendBytes (con
 bytes-if true turns h = tt
 bytes-if false turns h = h
 
+any-none : {X : Type 0} → (xs : List X) → has_any xs ≡ false → xs ≡ []
+any-none [] is = refl
+any-none (x ∷ xs) is = cc
+
+neither : (a b more last full : Bool) → (((a || (b || more)) || last) || full) ≡ false → (a ≡ false) × (b ≡ false)
+neither true b more last full is = cc
+neither false true more last full is = cc
+neither false false more last full is = (refl, refl)
+
+nothing-more : (t : Bool) (old more all : List ℕ) → more ≡ [] → old ≡ all → old ++ cond t more [] ≡ all
+nothing-more true old more all none is = ap (λ (l : List ℕ). old ++ l) none ∙ append-nil old ∙ is
+nothing-more false old more all none is = append-nil old ∙ is
+
+-- an event's lines are written behind those that wait, or wait behind them where it sends nothing
+put-gathers : (p : Prescribed) (first : List ℕ) (e : Event) (c : Course) (due : Bool) → is_due p e c ≡ due → Gathers p first c.events c.recorded c.waiting → AllFit c.events → Fits e c.events
+    → Gathers p first (e ∷ c.events) (c.recorded ++ written_if due (lines_with p e c)) (waiting_if due (lines_with p e c))
+put-gathers p first e c true is g fit fits =
+    let lines = lines_of e (gained p.refusals c.events e) in
+    let all : first ++ recorded p (e ∷ c.events) ≡ c.recorded ++ (c.waiting ++ lines) =
+    sym (append_assoc first (recorded p c.events) lines) ∙ ap (λ (l : List ℕ). l ++ lines) g.all-is ∙ append_assoc c.recorded c.waiting lines in
+    record {
+      taped = e ∷ c.events;
+      later = [];
+      events-are = refl;
+      written-is = sym all;
+      all-is = all ∙ sym (append-nil (c.recorded ++ (c.waiting ++ lines)));
+      to_client-is = refl;
+      to_host-is = refl;
+      fit = (fits, fit);
+    }
+put-gathers p first e c false is g fit fits =
+    let refused = gained p.refusals c.events e in
+    let lines = lines_of e refused in
+    let for_client = gained p.to_client c.events e in
+    let for_host = gained p.to_host c.events e in
+    let none = neither (has_any for_client) (has_any for_host) (has_any refused || p.lets_go (e ∷ c.events)) (is_last c.client_up c.host_up c.left) (is_full (lines_with p e c)) is in
+    record {
+      taped = g.taped;
+      later = e ∷ g.later;
+      events-are = ap (λ (events : List Event). e ∷ events) g.events-are;
+      written-is = append-nil c.recorded ∙ g.written-is;
+      all-is = sym (append_assoc first (recorded p c.events) lines) ∙ ap (λ (l : List ℕ). l ++ lines) g.all-is ∙ append_assoc c.recorded c.waiting lines
+          ∙ ap (λ (l : List ℕ). l ++ (c.waiting ++ lines)) (sym (append-nil c.recorded));
+      to_client-is = nothing-more (client_at e (client_behind p c.events)) (to_clients p c.events) for_client (to_clients p g.taped) (any-none for_client none.0) g.to_client-is;
+      to_host-is = nothing-more (host_at e (host_behind p c.events)) (to_host p c.events) for_host (to_host p g.taped) (any-none for_host none.1) g.to_host-is;
+      fit = g.fit;
+    }
+
 put-stands : (p : Prescribed) (first : List ℕ) (e : Event) (c : Course) → Holds p first (client_at e (client_behind p c.events)) (host_at e (host_behind p c.events)) (seen c) → Fits e c.events → Stands p first (put p e c)
 put-stands p first e c h fits =
     let refusals = gained p.refusals c.events e in
@@ -123,7 +184,7 @@ put-stands p first e c h fits =
     record {
       client_up-is = ap (λ (t : Bool). t && not (drops p c.events e)) h.client_up-is;
       host_up-is = ap (λ (t : Bool). t && not (refuses Host refusals)) h.host_up-is;
-      recorded-is = ap (λ (l : List ℕ). l ++ lines_of e refusals) h.recorded-is ∙ append_assoc first (recorded p c.events) (lines_of e refusals);
+      gathers = put-gathers p first e c (is_due p e c) refl h.gathers h.fit fits;
       to_client-is = written-if c.client_up up c.to_client (gained p.to_client c.events e) (to_clients p c.events) h.client_up-is h.to_client-is;
       to_host-is = written-if c.host_up host_up c.to_host (gained p.to_host c.events e) (to_host p c.events) h.host_up-is h.to_host-is;
       fit = (fits, h.fit);
@@ -169,7 +230,7 @@ come-comes p first (turns ∷ clients) c bytes h = record {
   holds = record {
     client_up-is = refl;
     host_up-is = h.host_up-is;
-    recorded-is = h.recorded-is;
+    gathers = h.gathers;
     to_client-is = h.to_client-is;
     to_host-is = h.to_host-is;
     fit = h.fit;
@@ -214,7 +275,7 @@ with-client : (p : Prescribed) (first : List ℕ) (up host_up : Bool) (c : Cours
 with-client p first up host_up c turns bytes h = record {
   client_up-is = h.client_up-is;
   host_up-is = h.host_up-is;
-  recorded-is = h.recorded-is;
+  gathers = h.gathers;
   to_client-is = h.to_client-is;
   to_host-is = h.to_host-is;
   fit = h.fit;
@@ -227,7 +288,7 @@ with-host : (p : Prescribed) (first : List ℕ) (up host_up : Bool) (c : Course)
 with-host p first up host_up c turns bytes h = record {
   client_up-is = h.client_up-is;
   host_up-is = h.host_up-is;
-  recorded-is = h.recorded-is;
+  gathers = h.gathers;
   to_client-is = h.to_client-is;
   to_host-is = h.to_host-is;
   fit = h.fit;
@@ -240,7 +301,7 @@ without-client : (p : Prescribed) (first : List ℕ) (up host_up : Bool) (c : Co
 without-client p first up host_up c h = record {
   client_up-is = refl;
   host_up-is = h.host_up-is;
-  recorded-is = h.recorded-is;
+  gathers = h.gathers;
   to_client-is = h.to_client-is;
   to_host-is = h.to_host-is;
   fit = h.fit;
@@ -253,7 +314,7 @@ without-host : (p : Prescribed) (first : List ℕ) (up host_up : Bool) (c : Cour
 without-host p first up host_up c h = record {
   client_up-is = h.client_up-is;
   host_up-is = refl;
-  recorded-is = h.recorded-is;
+  gathers = h.gathers;
   to_client-is = h.to_client-is;
   to_host-is = h.to_host-is;
   fit = h.fit;
@@ -301,13 +362,50 @@ host-heard p first (Piece (b ∷ bs) ∷ turns) c full bytes going h = record {
 host-heard p first (Wait ∷ turns) c full bytes going h = with-host p first (client_behind p c.events) (host_behind p c.events) c turns bytes h
 host-heard p first (Fail ∷ turns) c full bytes going h = with-host p first (client_behind p c.events) (host_behind p c.events) c turns bytes h
 
+-- what waits is written
+gathered-stands : (p : Prescribed) (first : List ℕ) (c : Course) → Stands p first c → Stands p first (gathered c)
+gathered-stands p first c h = record {
+  client_up-is = h.client_up-is;
+  host_up-is = h.host_up-is;
+  gathers = record {
+    taped = c.events;
+    later = [];
+    events-are = refl;
+    written-is = sym h.gathers.all-is;
+    all-is = h.gathers.all-is ∙ sym (append-nil (c.recorded ++ c.waiting));
+    to_client-is = refl;
+    to_host-is = refl;
+    fit = h.fit;
+  };
+  to_client-is = h.to_client-is;
+  to_host-is = h.to_host-is;
+  fit = h.fit;
+  client = h.client;
+  clients = h.clients;
+  host = h.host;
+}
+
 -- ---- one call
+
+making-gathers : (p : Prescribed) (first : List ℕ) (c : Course) → IsMaking p first c → Gathers p first c.events c.recorded c.waiting
+making-gathers p first c h =
+    let written = h.recorded-is ∙ sym (append-nil first) ∙ sym (ap (λ (l : List Event). first ++ recorded p l) h.events-are) in
+    record {
+      taped = c.events;
+      later = [];
+      events-are = refl;
+      written-is = written;
+      all-is = sym written ∙ sym (append-nil c.recorded) ∙ ap (λ (l : List ℕ). c.recorded ++ l) (sym h.none_waits);
+      to_client-is = refl;
+      to_host-is = refl;
+      fit = subst AllFit (sym h.events-are) tt;
+    }
 
 make-stands : (p : Prescribed) (first : List ℕ) (c : Course) → IsMaking p first c → Stands p first (make p c)
 make-stands p first c h = record {
   client_up-is = h.client_up-is ∙ sym (ap (client_behind p) h.events-are);
   host_up-is = sym (ap (host_behind p) h.events-are);
-  recorded-is = h.recorded-is ∙ sym (append-nil first) ∙ sym (ap (λ (l : List Event). first ++ recorded p l) h.events-are);
+  gathers = making-gathers p first c h;
   to_client-is = h.to_client-is ∙ sym (ap (to_clients p) h.events-are);
   to_host-is = ap (λ (l : List ℕ). l ++ p.to_host []) h.to_host-is ∙ sym (ap (to_host p) h.events-are);
   fit = subst AllFit (sym h.events-are) tt;
@@ -326,8 +424,8 @@ call-comes s first AtHost c h =
     if-comes s.served first c.host_up (poll Host c.host AtEnd c) (Goes AtEnd c)
     (λ up. host-heard s.served first (pending c.host) c (pending-full c.host) (pending-bytes c.host h.host) (not-ended s.served c.events (sym h.host_up-is ∙ up)) h) (λ down. h)
 call-comes s first AtEnd c h =
-    if-comes s.served first c.busy (Goes AtDoor (record c { busy = false; waits = s.idle })) (cond (c.waits - 1 == 0) (Stops end.Idle (record c { waits = c.waits - 1 })) (Goes AtDoor (record c { waits = c.waits - 1 }))) (λ busy. h)
-    (λ none. if-comes s.served first (c.waits - 1 == 0) (Stops end.Idle (record c { waits = c.waits - 1 })) (Goes AtDoor (record c { waits = c.waits - 1 })) (λ idle. h) (λ waits. h))
+    if-comes s.served first c.busy (Goes AtDoor (record c { busy = false; waits = s.idle })) (cond (c.waits - 1 == 0) (Stops end.Idle (record (gathered c) { waits = c.waits - 1 })) (Goes AtDoor (record (gathered c) { waits = c.waits - 1 }))) (λ busy. h)
+    (λ none. if-comes s.served first (c.waits - 1 == 0) (Stops end.Idle (record (gathered c) { waits = c.waits - 1 })) (Goes AtDoor (record (gathered c) { waits = c.waits - 1 })) (λ idle. gathered-stands s.served first c h) (λ waits. gathered-stands s.served first c h))
 call-comes s first (Takes e next) c h = take-comes s first e next c h
 
 and-then-comes : (s : Setting) (first : List ℕ) (o : Outcome) → Comes s.served first o → Comes s.served first (and_then o (call s))

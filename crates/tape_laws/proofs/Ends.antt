@@ -3,9 +3,9 @@ use Rattle.std.proofs.Common.{◌≡◌, ◌⊎◌, ◌+◌, ◌≤◌, ℕ, Boo
 use Rattle.std.proofs.lemmas.List.{length-append}
 use Rattle.std.proofs.lemmas.Option.{same_Some}
 use Rattle.usb_base.specs.declared.side.Side.{Side}
-use Rattle.gate_history.specs.Events.{Event as GateEvent}
-use Rattle.gate_history.specs.History.{history}
-use Rattle.gate_history.specs.All.{counts_of}
+use Rattle.gate_history.specs.step.Events.{Event as GateEvent}
+use Rattle.gate_history.specs.step.History.{history}
+use Rattle.gate_history.specs.write.All.{counts_of}
 use Rattle.session_tape.specs.Tapes.{Counts}
 use Rattle.session_tape.specs.Lines.{first_comment}
 use Rattle.bridge_run.specs.declared.serve_end.ServeEnd.{ServeEnd}
@@ -15,20 +15,21 @@ use Rattle.bridge_run.specs.Prescribed.{Prescribed}
 use Rattle.bridge_run.specs.Course.{Setting, Course, Next, Making, AtDoor, AtClient, AtHost, AtEnd, Takes}
 use Rattle.bridge_run.specs.Calls.{Outcome, Goes, Stops, make, call, calls, course_of}
 use Rattle.bridge_run.specs.Outside.{Outside, Written, Faults, written, Tells, IsBetween, IsRecordedInPart, Cut}
-use Rattle.bridge_run.specs.Serves.{Reaches, EndsSo, CutShort, Leaves}
+use Rattle.bridge_run.specs.Serves.{Reaches, NoneWaits, EndsSo, CutShort, Leaves}
 use Rattle.bridge_run.specs.Gate.{gate_events}
-use Rattle.usbgate.specs.declared.status.Status.{Status}
-use Rattle.usbgate.specs.declared.status.Status.TheVariants.{Done, Usage, Refused, ReadFault, WriteFault, LinkFault, OutOfMemory, BadTape, Idle, Spent}
-use Rattle.usbgate.specs.Tape.{lines_of}
-use Rattle.usbgate.specs.Text.{made_text, counts_line}
-use Rattle.usbgate.specs.TapeCommand.{tape_limit, Progress, begin, one_further, Reading, read_lines, last_text}
-use Rattle.usbgate.specs.EventCommand.{over_events}
-use Rattle.usbgate.specs.Replay.{replay}
-use Rattle.usbgate.specs.Recording.{IsUnmade}
-use Rattle.usbgate.specs.Serving.{Asked}
-use Rattle.usbgate.specs.Serves.{setting_of, ended_as, EndsOf, IsUnrecorded, IsRecorded, Serves, ServesBy}
-use Rattle.usbgate.specs.Run.{HasNoLF}
-use Rattle.usbgate.proofs.Lines.{HasNoLF-append}
+use Rattle.bridge_run.proofs.lemmas.events.Gather.{ended-waiting}
+use Rattle.usbgate_tapes.specs.declared.status.Status.{Status}
+use Rattle.usbgate_tapes.specs.declared.status.Status.TheVariants.{Done, Usage, Refused, ReadFault, WriteFault, LinkFault, OutOfMemory, BadTape, Idle, Spent}
+use Rattle.usbgate_tapes.specs.Tape.{lines_of}
+use Rattle.usbgate_tapes.specs.Text.{made_text, counts_line}
+use Rattle.usbgate_tapes.specs.TapeCommand.{tape_limit, Progress, begin, one_further, Reading, read_lines, last_text}
+use Rattle.usbgate_tapes.specs.EventCommand.{over_events}
+use Rattle.usbgate_tapes.specs.Replay.{replay}
+use Rattle.usbgate_commands.specs.Recording.{IsUnmade}
+use Rattle.usbgate_commands.specs.Serving.{Asked}
+use Rattle.usbgate_commands.specs.Serves.{setting_of, ended_as, EndsOf, IsUnrecorded, IsRecorded, Serves, ServesBy}
+use Rattle.usbgate_tapes.specs.Run.{HasNoLF}
+use Rattle.usbgate_tapes.proofs.Lines.{HasNoLF-append}
 use Rattle.std.specs.Prelude.{codes}
 use Rattle.std.specs.Fmt.{decimal}
 use Rattle.tape_laws.specs.Recordings.{recorded, served, all_replayed}
@@ -98,10 +99,10 @@ front-text asked events x y is =
 -- ---- a run that has ended by itself
 
 plays : (asked : Asked) (c d : Course) (e : ServeEnd) (new : Outside) (out : Written) (held : List ℕ) → Reaches (setting_of asked) (Goes Making c) (Stops e d) → Tells new out d → out.tape ≡ Some held → length held ≤ tape_limit
-    → Stands (served asked) (first_comment asked.first_id) d → Plays asked c new held
-plays asked c d e new out held reaches tells tape-is room s =
-    let held-tape : held ≡ d.recorded = subst (λ (o : Option (List ℕ)). IfSome o (λ (l : List ℕ). l ≡ d.recorded)) tape-is tells.tape in
-    let held-is : held ≡ recording asked d.events = held-tape ∙ s.recorded-is in
+    → d.waiting ≡ [] → Stands (served asked) (first_comment asked.first_id) d → Plays asked c new held
+plays asked c d e new out held reaches tells tape-is room none s =
+    let held-tape : (held ≡ d.recorded) × (out.waiting ≡ d.waiting) = subst (λ (o : Option (List ℕ)). IfSome o (λ (l : List ℕ). (l ≡ d.recorded) × (out.waiting ≡ d.waiting))) tape-is tells.tape in
+    let held-is : held ≡ recording asked d.events = held-tape.0 ∙ sym (append-nil d.recorded) ∙ ap (λ (l : List ℕ). d.recorded ++ l) (sym none) ∙ sym s.gathers.all-is in
     let fits : length (recording asked d.events) ≤ tape_limit = subst (λ (l : List ℕ). length l ≤ tape_limit) held-is room in
     let comes = recording-comes asked d.events s.fit fits in
     let all = all-read asked d.events held comes held-is in
@@ -124,17 +125,32 @@ plays asked c d e new out held reaches tells tape-is room s =
 
 -- what the lines of a course's events and its links have
 record Facts (asked : Asked) (d : Course) : Type 0 where
-  pub fit : AllFit d.events
-  pub recorded-is : d.recorded ≡ recording asked d.events
-  pub client-is : d.to_client ≡ to_clients (served asked) d.events
+  pub taped : List Event
+  pub later : List Event
+  pub events-are : d.events ≡ later ++ taped
+  pub fit : AllFit taped
+  pub recorded-is : d.recorded ≡ recording asked taped
+  pub client-is : d.to_client ≡ to_clients (served asked) taped
   pub lost : List ℕ
-  pub host-is : to_host (served asked) d.events ≡ d.to_host ++ lost
+  pub host-is : to_host (served asked) taped ≡ d.to_host ++ lost
 
 stands-facts : (asked : Asked) (d : Course) (up host_up : Bool) → Holds (served asked) (first_comment asked.first_id) up host_up (course.seen d) → Facts asked d
-stands-facts asked d up host_up h = record { fit = h.fit; recorded-is = h.recorded-is; client-is = h.to_client-is; lost = []; host-is = sym h.to_host-is ∙ sym (append-nil d.to_host) }
+stands-facts asked d up host_up h = record {
+  taped = h.gathers.taped;
+  later = h.gathers.later;
+  events-are = h.gathers.events-are;
+  fit = h.gathers.fit;
+  recorded-is = h.gathers.written-is;
+  client-is = h.to_client-is ∙ h.gathers.to_client-is;
+  lost = [];
+  host-is = sym h.gathers.to_host-is ∙ sym h.to_host-is ∙ sym (append-nil d.to_host);
+}
 
 making-facts : (asked : Asked) (d : Course) → IsMaking (served asked) (first_comment asked.first_id) d → Facts asked d
 making-facts asked d h = record {
+  taped = d.events;
+  later = [];
+  events-are = refl;
   fit = subst AllFit (sym h.events-are) tt;
   recorded-is = h.recorded-is ∙ sym (append-nil (first_comment asked.first_id)) ∙ sym (ap (λ (l : List Event). recording asked l) h.events-are);
   client-is = h.to_client-is ∙ sym (ap (to_clients (served asked)) h.events-are);
@@ -171,41 +187,43 @@ recorded-all : (asked : Asked) (c before : Course) (next : Next) (new : Outside)
     → PlaysInPart asked c new held
 recorded-all asked c before next new out held reaches cut is room f =
     let behind = course_of (call (setting_of asked) next before) in
-    let held-is : held ≡ recording asked behind.events = is ∙ f.recorded-is in
-    let fits : length (recording asked behind.events) ≤ tape_limit = subst (λ (l : List ℕ). length l ≤ tape_limit) held-is room in
-    let comes = recording-comes asked behind.events f.fit fits in
+    let held-is : held ≡ recording asked f.taped = is ∙ f.recorded-is in
+    let fits : length (recording asked f.taped) ≤ tape_limit = subst (λ (l : List ℕ). length l ≤ tape_limit) held-is room in
+    let comes = recording-comes asked f.taped f.fit fits in
     let end = rest_read asked comes.to [] in
     record {
       next = next;
       course = before;
       reaches = reaches;
-      events = behind.events;
-      events-are = inr refl;
-      rest = end.text ++ last_text (over_events (replay asked.first_id)) (with_text (all_replayed asked behind.events) end);
-      prints = front-text asked behind.events (read_of asked held) end (front-read asked behind.events [] held comes (held-is ∙ sym (append-nil (recording asked behind.events))));
-      client = front-between new.client.written before.to_client behind.to_client (to_clients (served asked) behind.events) [] cut.to_client (sym f.client-is ∙ sym (append-nil behind.to_client));
-      host = front-between new.host.written before.to_host behind.to_host (to_host (served asked) behind.events) f.lost cut.to_host f.host-is;
+      events = f.taped;
+      later = f.later;
+      events-are = inr f.events-are;
+      rest = end.text ++ last_text (over_events (replay asked.first_id)) (with_text (all_replayed asked f.taped) end);
+      prints = front-text asked f.taped (read_of asked held) end (front-read asked f.taped [] held comes (held-is ∙ sym (append-nil (recording asked f.taped))));
+      client = front-between new.client.written before.to_client behind.to_client (to_clients (served asked) f.taped) [] cut.to_client (sym f.client-is ∙ sym (append-nil behind.to_client));
+      host = front-between new.host.written before.to_host behind.to_host (to_host (served asked) f.taped) f.lost cut.to_host f.host-is;
     }
 
 -- the lines of the call's event are there in part
 recorded-some : (asked : Asked) (c before behind : Course) (next : Next) (new : Outside) (out : Written) (held : List ℕ) → Reaches (setting_of asked) (Goes Making c) (Goes next before)
     → IsRecordedInPart new out before behind held → length held ≤ tape_limit → Facts asked before → PlaysInPart asked c new held
 recorded-some asked c before behind next new out held reaches part room f =
-    let held-is : held ≡ recording asked before.events ++ part.more = part.held-is ∙ ap (λ (l : List ℕ). l ++ part.more) f.recorded-is in
-    let whole : length (recording asked before.events ++ part.more) ≤ tape_limit = subst (λ (l : List ℕ). length l ≤ tape_limit) held-is room in
-    let long = length-append (recording asked before.events) part.more in
-    let comes = recording-comes asked before.events f.fit (omega (arith, whole, long)) in
+    let held-is : held ≡ recording asked f.taped ++ part.more = part.held-is ∙ ap (λ (l : List ℕ). l ++ part.more) f.recorded-is in
+    let whole : length (recording asked f.taped ++ part.more) ≤ tape_limit = subst (λ (l : List ℕ). length l ≤ tape_limit) held-is room in
+    let long = length-append (recording asked f.taped) part.more in
+    let comes = recording-comes asked f.taped f.fit (omega (arith, whole, long)) in
     let end = rest_read asked comes.to part.more in
     record {
       next = next;
       course = before;
       reaches = reaches;
-      events = before.events;
-      events-are = inl refl;
-      rest = end.text ++ last_text (over_events (replay asked.first_id)) (with_text (all_replayed asked before.events) end);
-      prints = front-text asked before.events (read_of asked held) end (front-read asked before.events part.more held comes held-is);
-      client = front-of new.client.written (to_clients (served asked) before.events) before.to_client [] part.to_client (sym f.client-is ∙ sym (append-nil before.to_client));
-      host = front-of new.host.written (to_host (served asked) before.events) before.to_host f.lost part.to_host f.host-is;
+      events = f.taped;
+      later = f.later;
+      events-are = inl f.events-are;
+      rest = end.text ++ last_text (over_events (replay asked.first_id)) (with_text (all_replayed asked f.taped) end);
+      prints = front-text asked f.taped (read_of asked held) end (front-read asked f.taped part.more held comes held-is);
+      client = front-of new.client.written (to_clients (served asked) f.taped) before.to_client [] part.to_client (sym f.client-is ∙ sym (append-nil before.to_client));
+      host = front-of new.host.written (to_host (served asked) f.taped) before.to_host f.lost part.to_host f.host-is;
     }
 
 cut-plays : (asked : Asked) (c before : Course) (next : Next) (new : Outside) (out : Written) (held : List ℕ) → Reaches (setting_of asked) (Goes Making c) (Goes next before)
@@ -226,6 +244,7 @@ fresh-making asked c f = record {
   events-are = f.begins.events;
   client_up-is = f.begins.client_down;
   recorded-is = f.recorded-is;
+  none_waits = f.none_waits;
   to_client-is = f.no_client;
   to_host-is = f.no_host;
   client = f.client;
@@ -237,18 +256,18 @@ reached : (asked : Asked) (c : Course) (o : Outcome) → IsFresh asked c → Rea
 reached asked c o f r =
     subst (course.Comes (served asked) (first_comment asked.first_id)) r.is (calls-come (setting_of asked) (first_comment asked.first_id) r.count (Goes Making c) (fresh-making asked c f))
 
-ended-plays : (asked : Asked) (c : Course) (e : ServeEnd) (new : Outside) (out : Written) (held : List ℕ) → IsFresh asked c → out.tape ≡ Some held → length held ≤ tape_limit → EndsSo (setting_of asked) (Goes Making c) e new out → Plays asked c new held
-ended-plays asked c e new out held f tape-is room x = plays asked c x.course e new out held x.reaches x.tells tape-is room (reached asked c (Stops e x.course) f x.reaches)
+ended-plays : (asked : Asked) (c : Course) (e : ServeEnd) (new : Outside) (out : Written) (held : List ℕ) → ((d : Course) → NoneWaits e d → d.waiting ≡ []) → IsFresh asked c → out.tape ≡ Some held → length held ≤ tape_limit → EndsSo (setting_of asked) (Goes Making c) e new out → Plays asked c new held
+ended-plays asked c e new out held none f tape-is room x = plays asked c x.course e new out held x.reaches x.tells tape-is room (none x.course (ended-waiting (setting_of asked) Making c e x.course x.reaches)) (reached asked c (Stops e x.course) f x.reaches)
 
 short-plays : (asked : Asked) (c : Course) (new : Outside) (out : Written) (held : List ℕ) → IsFresh asked c → out.tape ≡ Some held → length held ≤ tape_limit → CutShort (setting_of asked) (Goes Making c) new out → PlaysInPart asked c new held
 short-plays asked c new out held f tape-is room x = cut-plays asked c x.course x.next new out held x.reaches x.cut tape-is room (reached asked c (Goes x.next x.course) f x.reaches)
 
 end-replays : (asked : Asked) (c : Course) (e : ServeEnd) (new : Outside) (out : Written) (held : List ℕ) → IsFresh asked c → out.tape ≡ Some held → length held ≤ tape_limit → Leaves e (setting_of asked) (Goes Making c) new out
     → Replays (ended_as e) asked c new held
-end-replays asked c (end.Ended None) new out held f tape-is room x = ended-plays asked c (end.Ended None) new out held f tape-is room x
-end-replays asked c (end.Ended (Some r)) new out held f tape-is room x = ended-plays asked c (end.Ended (Some r)) new out held f tape-is room x
-end-replays asked c end.Idle new out held f tape-is room x = ended-plays asked c end.Idle new out held f tape-is room x
-end-replays asked c end.Spent new out held f tape-is room x = ended-plays asked c end.Spent new out held f tape-is room x
+end-replays asked c (end.Ended None) new out held f tape-is room x = ended-plays asked c (end.Ended None) new out held (λ d h. h) f tape-is room x
+end-replays asked c (end.Ended (Some r)) new out held f tape-is room x = ended-plays asked c (end.Ended (Some r)) new out held (λ d h. h) f tape-is room x
+end-replays asked c end.Idle new out held f tape-is room x = ended-plays asked c end.Idle new out held (λ d h. h) f tape-is room x
+end-replays asked c end.Spent new out held f tape-is room x = ended-plays asked c end.Spent new out held (λ d h. h) f tape-is room x
 end-replays asked c (end.LinkFault side) new out held f tape-is room x = short-plays asked c new out held f tape-is room x
 end-replays asked c end.WriteFault new out held f tape-is room x = short-plays asked c new out held f tape-is room x
 end-replays asked c end.Memory new out held f tape-is room x = short-plays asked c new out held f tape-is room x
@@ -265,7 +284,8 @@ untouched asked c old out held f tells =
       course = c;
       reaches = record { count = 0; is = refl };
       events = [];
-      events-are = inl (sym f.begins.events);
+      later = [];
+      events-are = inl f.begins.events;
       rest = x.text ++ last_text command x;
       prints = append_assoc made x.text (last_text command x) ∙ ap (λ (l : List ℕ). l ++ (x.text ++ last_text command x)) (sym (append-nil made));
       client = front-of old.client.written [] [] [] (tells.client.written-is ∙ ap (λ (l : List ℕ). Some l) f.no_client) refl;
@@ -286,9 +306,9 @@ unmade-replays Spent asked c new held t t' is x = absurd is
 
 -- ---- the law
 
-told-line : (known : Option (List ℕ)) (line recorded : List ℕ) → IfSome known (λ (l : List ℕ). l ≡ line) → recorded ≡ line → IfSome known (λ (l : List ℕ). l ≡ recorded)
-told-line None line recorded h is = tt
-told-line (Some l) line recorded h is = h ∙ sym is
+told-line : (known : Option (List ℕ)) (line recorded waiting : List ℕ) → IfSome known (λ (l : List ℕ). l ≡ line) → recorded ≡ line → waiting ≡ [] → IfSome known (λ (l : List ℕ). (l ≡ recorded) × ([] ≡ waiting))
+told-line None line recorded waiting h is none = tt
+told-line (Some l) line recorded waiting h is none = (h ∙ sym is, sym none)
 
 pub replays : (status : Status) (asked : Asked) (name : List ℕ) (old new : Outside) (f f' : Faults) (w w' : Written) (c : Course) (held : List ℕ) → asked.recording ≡ Some name → Serves status asked old new f f' w w' → IsFresh asked c
     → Tells old (written w.told None) c → w'.tape ≡ Some held → length held ≤ tape_limit → Replays status asked c new held
@@ -301,4 +321,4 @@ replays status asked name old new f f' w w' c held asks serves fresh tells tape-
     go (inr x) =
         subst (λ (s : Status). Replays s asked c new held) (sym x.ends.status-is)
         (end-replays asked c x.ends.end new w' held fresh tape-is room
-        (x.ends.leaves c fresh.begins (record { client = tells.client; host = tells.host; clients = tells.clients; told = tells.told; tape = told-line x.known (first_comment asked.first_id) c.recorded x.first_line fresh.recorded-is })))
+        (x.ends.leaves c fresh.begins (record { client = tells.client; host = tells.host; clients = tells.clients; told = tells.told; tape = told-line x.known (first_comment asked.first_id) c.recorded c.waiting x.first_line fresh.recorded-is fresh.none_waits })))

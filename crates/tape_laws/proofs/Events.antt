@@ -10,8 +10,8 @@ use Rattle.usb_base.specs.Number.{AreBytes}
 use Rattle.usb_base.specs.declared.side.Side.TheVariants.{Client, Host}
 use Rattle.usb_base.specs.declared.refusal.Refusal.{Refusal}
 use Rattle.gate_history.specs.declared.note.Note.{Note}
-use Rattle.gate_history.specs.Events.{Event as GateEvent}
-use Rattle.gate_history.specs.Events as gate
+use Rattle.gate_history.specs.step.Events.{Event as GateEvent}
+use Rattle.gate_history.specs.step.Events as gate
 use Rattle.session_tape.specs.Lines.{refusal_comment}
 use Rattle.packet_show.specs.declared.tape.TapeLine.{TapeLine}
 use Rattle.packet_show.specs.declared.tape.TapeLine.TheVariants as tape
@@ -21,15 +21,15 @@ use Rattle.bridge_run.specs.Events.{Event, ClientComes, ClientPiece, ClientQuiet
 use Rattle.bridge_run.specs.Recorded.{event_line, lines_of}
 use Rattle.bridge_run.specs.Prescribed.{Prescribed, gained}
 use Rattle.bridge_run.specs.Gate.{gate_events, gate_notes}
-use Rattle.usbgate.specs.Tape.{host_ended}
-use Rattle.usbgate.specs.Text.{sent_text, event_text}
-use Rattle.usbgate.specs.TapeCommand.{TapeCommand, tape_limit, Progress, one_further}
-use Rattle.usbgate.specs.EventCommand.{EventCommand, on_event, on_said, over_events}
-use Rattle.usbgate.specs.Replay.{replay}
-use Rattle.usbgate.specs.Run.{HasNoLF}
-use Rattle.usbgate.specs.Serving.{Asked}
+use Rattle.usbgate_tapes.specs.Tape.{host_ended}
+use Rattle.usbgate_tapes.specs.Text.{sent_text, event_text}
+use Rattle.usbgate_tapes.specs.TapeCommand.{TapeCommand, tape_limit, Progress, one_further}
+use Rattle.usbgate_tapes.specs.EventCommand.{EventCommand, on_event, on_said, over_events}
+use Rattle.usbgate_tapes.specs.Replay.{replay}
+use Rattle.usbgate_tapes.specs.Run.{HasNoLF}
+use Rattle.usbgate_commands.specs.Serving.{Asked}
 use Rattle.tape_laws.specs.Recordings.{recorded, served, replayed, all_replayed}
-use Rattle.usbgate.proofs.Lines.{HasNoLF-append}
+use Rattle.usbgate_tapes.proofs.Lines.{HasNoLF-append}
 use Rattle.tape_laws.proofs.Spelled.{no-lf-tested, no-lf-hex, no-lf-refusal, refusal_words}
 use Rattle.tape_laws.proofs.Reading.{Reads, reads-none, reads-both, reads-line}
 

@@ -6,8 +6,8 @@ use Rattle.gate_outside.specs.declared.turn.Turn.TheVariants.{Piece, Wait, Fail}
 use Rattle.session_tape.specs.Lines.{first_comment}
 use Rattle.bridge_run.specs.Course.{Course}
 use Rattle.bridge_run.specs.Serves.{Begins}
-use Rattle.usbgate.specs.Serving.{Asked}
-use Rattle.usbgate.specs.Serves.{budget}
+use Rattle.usbgate_commands.specs.Serving.{Asked}
+use Rattle.usbgate_commands.specs.Serves.{budget}
 
 -- what a peer sends are bytes
 abbrev pub SendBytes : List Turn → Type 0
@@ -20,10 +20,11 @@ abbrev pub AllSendBytes : List (List Turn) → Type 0
 AllSendBytes [] = Unit {0}
 AllSendBytes (turns ∷ peers) = SendBytes turns × AllSendBytes peers
 
--- the tape has its first line, and the links have nothing
+-- the tape has its first line, nothing waits, and the links have nothing
 pub record IsFresh (asked : Asked) (c : Course) : Type 0 where
   pub begins : Begins asked.idle budget c
   pub recorded-is : c.recorded ≡ first_comment asked.first_id
+  pub none_waits : c.waiting ≡ []
   pub no_client : c.to_client ≡ []
   pub no_host : c.to_host ≡ []
   pub client : SendBytes c.client

@@ -1,9 +1,9 @@
 -- What a recording is read as, and what its replay prints, beside what was written to the links.
 use Rattle.std.specs.Prelude.{◌≡◌, ◌⊎◌, ℕ, false, List, ◌++◌, Option, Some}
 use Rattle.session_tape.specs.Lines.{first_comment}
-use Rattle.gate_history.specs.Events.{Event as GateEvent}
-use Rattle.gate_history.specs.History.{history}
-use Rattle.gate_history.specs.All.{counts_of}
+use Rattle.gate_history.specs.step.Events.{Event as GateEvent}
+use Rattle.gate_history.specs.step.History.{history}
+use Rattle.gate_history.specs.write.All.{counts_of}
 use Rattle.bridge_run.specs.declared.serve_end.ServeEnd.{ServeEnd}
 use Rattle.bridge_run.specs.Events.{Event}
 use Rattle.bridge_run.specs.Course.{Course, Next, Making}
@@ -11,14 +11,14 @@ use Rattle.bridge_run.specs.Calls.{Goes, Stops, call, course_of}
 use Rattle.bridge_run.specs.Outside.{Outside}
 use Rattle.bridge_run.specs.Gate.{gate_events}
 use Rattle.bridge_run.specs.Serves.{Reaches}
-use Rattle.usbgate.specs.declared.status.Status.{Status}
-use Rattle.usbgate.specs.declared.status.Status.TheVariants.{Done, Usage, Refused, ReadFault, WriteFault, LinkFault, OutOfMemory, BadTape, Idle, Spent}
-use Rattle.usbgate.specs.Text.{made_text, counts_line}
-use Rattle.usbgate.specs.TapeCommand.{Reading, read_tape, tape_text}
-use Rattle.usbgate.specs.EventCommand.{over_events}
-use Rattle.usbgate.specs.Replay.{replay}
-use Rattle.usbgate.specs.Serving.{Asked}
-use Rattle.usbgate.specs.Serves.{setting_of}
+use Rattle.usbgate_tapes.specs.declared.status.Status.{Status}
+use Rattle.usbgate_tapes.specs.declared.status.Status.TheVariants.{Done, Usage, Refused, ReadFault, WriteFault, LinkFault, OutOfMemory, BadTape, Idle, Spent}
+use Rattle.usbgate_tapes.specs.Text.{made_text, counts_line}
+use Rattle.usbgate_tapes.specs.TapeCommand.{Reading, read_tape, tape_text}
+use Rattle.usbgate_tapes.specs.EventCommand.{over_events}
+use Rattle.usbgate_tapes.specs.Replay.{replay}
+use Rattle.usbgate_commands.specs.Serving.{Asked}
+use Rattle.usbgate_commands.specs.Serves.{setting_of}
 use Rattle.bridge_run.specs.Ups.{to_clients}
 use Rattle.tape_laws.specs.Ups.{to_host}
 use Rattle.tape_laws.specs.Recordings.{recorded, served, all_replayed}
@@ -50,14 +50,16 @@ pub record WroteFront (known : Option (List ℕ)) (all : List ℕ) : Type 0 wher
   pub known-is : known ≡ Some front
   pub all-is : all ≡ front ++ lost
 
--- The run was cut short, by a fault or for want of memory, within a call. The replay of the tape prints what the events
--- before that call send, or also the one that the call takes; and of no other event was anything written to the links.
+-- The run was cut short, by a fault or for want of memory, within a call. The replay of the tape prints what the first
+-- of the events before that call send, or also the one that the call takes; and of no other event was anything written to
+-- the links.
 pub record PlaysInPart (asked : Asked) (c : Course) (new : Outside) (held : List ℕ) : Type 0 where
   pub next : Next
   pub course : Course
   pub reaches : Reaches (setting_of asked) (Goes Making c) (Goes next course)
   pub events : List Event
-  pub events-are : (events ≡ course.events) ⊎ (events ≡ (course_of (call (setting_of asked) next course)).events)
+  pub later : List Event
+  pub events-are : (course.events ≡ later ++ events) ⊎ ((course_of (call (setting_of asked) next course)).events ≡ later ++ events)
   pub rest : List ℕ
   pub prints : text_of asked held ≡ made_text asked.first_id ++ all_replayed asked events ++ rest
   pub client : WroteFront new.client.written (to_clients (served asked) events)

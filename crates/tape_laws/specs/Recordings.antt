@@ -4,8 +4,8 @@ use Rattle.bridge_run.specs.Events.{Event}
 use Rattle.bridge_run.specs.Prescribed.{Prescribed, gained}
 use Rattle.bridge_run.specs.Recorded.{lines_of}
 use Rattle.bridge_run.specs.Gate.{gate_sends, gate_notes}
-use Rattle.usbgate.specs.Text.{sent_text}
-use Rattle.usbgate.specs.Serving.{Asked}
+use Rattle.usbgate_tapes.specs.Text.{sent_text}
+use Rattle.usbgate_commands.specs.Serving.{Asked}
 
 -- the lines of each event, behind the first line of a recording
 abbrev pub recorded : Prescribed → List Event → List ℕ

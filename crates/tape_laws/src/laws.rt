@@ -3,10 +3,10 @@
 ghost use Rattle.std.specs.Prelude.{◌≡◌, ◌≤◌, ℕ, List, length, Some, None};
 ghost use Rattle.bridge_run.specs.Course.{Course};
 ghost use Rattle.bridge_run.specs.Outside.{Outside, Written, Faults, written, Tells};
-ghost use Rattle.usbgate.specs.declared.status.Status.{Status as End};
-ghost use Rattle.usbgate.specs.Serving.{Asked};
-ghost use Rattle.usbgate.specs.Serves.{Serves};
-ghost use Rattle.usbgate.specs.TapeCommand.{tape_limit};
+ghost use Rattle.usbgate_tapes.specs.declared.status.Status.{Status as End};
+ghost use Rattle.usbgate_commands.specs.Serving.{Asked};
+ghost use Rattle.usbgate_commands.specs.Serves.{Serves};
+ghost use Rattle.usbgate_tapes.specs.TapeCommand.{tape_limit};
 ghost use Rattle.tape_laws.specs.Begun.{IsFresh};
 ghost use Rattle.tape_laws.specs.Plays.{Replays};
 

@@ -10,6 +10,11 @@ module _ {X Y : Type 0} (f : X → Y) where
   map-remove (x ∷ xs) zero = refl
   map-remove (x ∷ xs) (suc i) = ap (λ ys. f x ∷ ys) (map-remove xs i)
 
+  pub map-set : (xs : List X) (i : ℕ) (y : X) → map f (set xs i y) ≡ set (map f xs) i (f y)
+  map-set [] i y = refl
+  map-set (x ∷ xs) zero y = refl
+  map-set (x ∷ xs) (suc i) y = ap (λ ys. f x ∷ ys) (map-set xs i y)
+
   -- the first place that passes in the column is that of the list
   pub position-map : (p : Y → Bool) (xs : List X) → position p (map f xs) ≡ position (λ x. p (f x)) xs
   position-map p xs = rw (length-map xs f, places xs) refl

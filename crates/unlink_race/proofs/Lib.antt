@@ -1,9 +1,13 @@
 pub mod Firsts
 pub mod Columns
 pub mod Counts
+pub mod Dealing
 pub mod Ids
 pub mod Indexes
+pub mod Lanes
 pub mod Passing
+pub mod Rising
 pub mod Rows
 pub mod Tables
+pub mod Told
 pub mod Unlinks

@@ -1,30 +1,31 @@
 -- A sound table, and what a change makes of its list.
-use Rattle.std.proofs.Common.{◌≡◌, ℕ, ◌+◌, ◌<◌, Bool, false, cond, List, [], ◌∷◌, ◌++◌, length, map, get_or, set, Some, None, refl, ap, sym, subst, ◌∙◌, arith, is_some}
+use Rattle.std.proofs.Common.{◌≡◌, ℕ, ◌+◌, ◌<◌, Bool, List, [], ◌∷◌, ◌++◌, length, map, get_or, set, Some, None, refl, ap, sym, subst, ◌∙◌, arith}
+use lib.ListN.{length-set}
 use Rattle.std.specs.List.{position, remove, slice_get}
+use Rattle.std.specs.Option.{option_map}
 use Rattle.std.proofs.lemmas.List.{length-append, length-map, map-append}
 use Rattle.std.proofs.lemmas.List.Edits.{length-remove}
-use Rattle.std.proofs.lemmas.Option.{slice_get-get_or}
-use Rattle.std.proofs.lemmas.List.Sums.{sum_by-set}
-use Rattle.slab.specs.Slab.{Slab, get, slab_len, ContainsKey, Updates, with_value}
-use Rattle.slab.proofs.SlabLemmas.{Updates-with_value, ContainsKey-within}
+use Rattle.std.proofs.lemmas.Option.{slice_get-get_or, slice_get-map}
+use Rattle.usbip_urb.specs.declared.code.TheConstants.{MAX_LIVE}
+use Rattle.urb_arena.specs.Seen.{Seen, seen}
+use Rattle.urb_arena.specs.Lanes.{without, replaced, count}
 use Rattle.unlink_race.specs.declared.live.Live.{Live}
 use Rattle.unlink_race.specs.declared.live.LiveKind.{LiveKind}
-use Rattle.usb_base.specs.declared.endpoint.EpKind.TheVariants.{Bulk}
-use Rattle.unlink_race.specs.declared.live.LiveKind.TheVariants.{Wire}
 use Rattle.unlink_race.specs.declared.table.Row.{Row}
 use Rattle.unlink_race.specs.declared.index.Index.{Index}
 use Rattle.unlink_race.specs.Inner.Indexed.{IsIndexed}
-use Rattle.unlink_race.specs.Inner.Sound.{in_order, IsSound, AreColumns, HasRoom}
-use Rattle.unlink_race.proofs.Rows.{length-listed, took_at, put_last, changed_at}
-use Rattle.unlink_race.proofs.Columns.{map-remove, position-map, map_unchanged}
+use Rattle.unlink_race.specs.Inner.Sound.{entry_of, in_order, lives_of, numbers_of, Rises, IsSound, AreColumns, HasRoom}
+use Rattle.unlink_race.proofs.Columns.{map-remove, map-set, position-map, map_unchanged}
+use Rattle.unlink_race.proofs.Ids.{no_live}
+use Rattle.unlink_race.proofs.Lanes.{found_pushed, others_pushed, count_pushed, others_removed, found_replaced, others_replaced, count_replaced}
+use Rattle.unlink_race.proofs.Rows.{SameBut, length-listed, took_at, put_last, changed_at}
 
 abbrev key_of : Row → ℕ
 key_of r = r.key
 
-pub same_room : {slab rows seqnums ids slab' rows' seqnums' ids' : ℕ} → HasRoom slab rows seqnums ids → slab' ≡ slab → rows' ≡ rows → seqnums' ≡ seqnums → ids' ≡ ids → HasRoom slab' rows' seqnums' ids'
-same_room room slab rows seqnums ids =
+pub same_room : {rows seqnums ids rows' seqnums' ids' : ℕ} → HasRoom rows seqnums ids → rows' ≡ rows → seqnums' ≡ seqnums → ids' ≡ ids → HasRoom rows' seqnums' ids'
+same_room room rows seqnums ids =
     record {
-      slab_room = rw slab room.slab_room;
       row_room = rw rows room.row_room;
       seqnum_room = rw seqnums room.seqnum_room;
       id_room = rw ids room.id_room;
@@ -33,6 +34,10 @@ same_room room slab rows seqnums ids =
 -- the index is that of the list by each name
 pub indexed : {xs ys : List Live} {index : Index} → xs ≡ ys → IsIndexed xs index → IsIndexed ys index
 indexed {index = index} same is = let P : List Live → Type 0 = λ zs. IsIndexed zs index in subst P same is
+
+-- and the numbers rise by each name
+pub rising : {ns ms : List ℕ} (high : ℕ) → ms ≡ ns → Rises 0 ns high → Rises 0 ms high
+rising high same rises = rw same rises
 
 -- the columns are those of a list without the element at a place
 columns_removed : (xs : List Live) (rows : List Row) (seqnums ids : List ℕ) (i : ℕ) → AreColumns xs rows seqnums ids → AreColumns (remove xs i) (remove rows i) (remove seqnums i) (remove ids i)
@@ -52,9 +57,15 @@ columns_pushed xs rows seqnums ids x r kind c =
       are_ids = ap (λ ns. ns ++ x.id ∷ []) c.are_ids ∙ sym (map-append (λ live. live.id) xs (x ∷ []));
     }
 
-module _ {slab : Slab Live} {rows : List Row} {seqnums ids : List ℕ} (s : IsSound slab rows seqnums ids) {xs : List Live} (v : in_order slab rows ≡ xs) where
+no_entry : ℕ × Live
+no_entry = (0, no_live)
+
+module _ {arena : Seen (ℕ × Live)} {rows : List Row} {seqnums ids : List ℕ} (s : IsSound arena rows seqnums ids) {xs : List Live} (v : lives_of arena rows ≡ xs) where
+  long_entries : length (in_order arena rows) ≡ length rows
+  long_entries = length-listed key_of (entry_of arena) rows s.kept
+
   pub long : length xs ≡ length rows
-  long = ap length (sym v) ∙ length-listed key_of (get slab) rows s.kept
+  long = ap length (sym v) ∙ length-map (in_order arena rows) (λ entry. entry.1) ∙ long_entries
 
   pub columns : AreColumns xs rows seqnums ids
   columns = let P : List Live → Type 0 = λ ys. AreColumns ys rows seqnums ids in subst P v s.columns
@@ -71,65 +82,80 @@ module _ {slab : Slab Live} {rows : List Row} {seqnums ids : List ℕ} (s : IsSo
   pub placed_kind : (p : LiveKind → Bool) → position (λ r. p r.kind) rows ≡ position (λ live. p live.kind) xs
   placed_kind p = sym (position-map (λ r. r.kind) p rows) ∙ ap (position p) columns.are_kinds ∙ position-map (λ live. live.kind) p xs
 
-  pub found_at : (i : ℕ) (r : Row) → i < length xs → r ≡ get_or rows i r → get slab r.key ≡ slice_get xs i
+  -- the key of the row at a place leads to the request there
+  pub read_at : (i : ℕ) (r : Row) (entry : ℕ × Live) → i < length xs → r ≡ get_or rows i r → entry_of arena r.key ≡ Some entry → slice_get xs i ≡ Some entry.1
+  read_at i r entry within read is =
+      let took = took_at key_of (entry_of arena) (entry_of arena) rows i r (omega (arith, within, long)) read (λ _ _. refl) s.kept in
+      ap (λ ys. slice_get ys i) (sym v) ∙ slice_get-map (λ (e : ℕ × Live). e.1) (in_order arena rows) i ∙ ap (option_map (λ (e : ℕ × Live). e.1)) (sym took.entry ∙ is)
+
+  pub found_at : (i : ℕ) (r : Row) → i < length xs → r ≡ get_or rows i r → (entry : ℕ × Live) × (entry_of arena r.key ≡ Some entry)
   found_at i r within read =
-      (took_at key_of (get slab) (get slab) rows i r (omega (arith, long)) read (λ _ _. refl) s.kept).entry ∙ ap (λ ys. slice_get ys i) v
+      let took = took_at key_of (entry_of arena) (entry_of arena) rows i r (omega (arith, within, long)) read (λ _ _. refl) s.kept in
+      (get_or (in_order arena rows) i no_entry, took.entry ∙ slice_get-get_or (in_order arena rows) i no_entry (omega (arith, within, long, long_entries)))
 
-  pub has_key : (i : ℕ) (r : Row) → i < length xs → r ≡ get_or rows i r → ContainsKey slab r.key
-  has_key i r within read =
-      let default : Live = record { seqnum = 0; id = 0; kind = Wire 0 Bulk; is_in = false; wanted = 0; flags = 0; packets = 0; descs = []; unlinker = None } in
-      ap is_some (found_at i r within read ∙ slice_get-get_or xs i default within)
-
-  pub removed : (slab' : Slab Live) (rows' : List Row) (seqnums' ids' : List ℕ) (i : ℕ) (r : Row) → i < length xs → r ≡ get_or rows i r → rows' ≡ remove rows i → seqnums' ≡ remove seqnums i → ids' ≡ remove ids i → Updates slab slab' r.key None → slab_len slab' + 1 ≡ slab_len slab → IsSound slab' rows' seqnums' ids' × (in_order slab' rows' ≡ remove xs i)
-  removed slab' rows' seqnums' ids' i r within read left seqnums_left ids_left updates len =
-      let at : i < length rows = omega (arith, long) in
-      let took = took_at key_of (get slab) (get slab') rows i r at read updates.others s.kept in
+  pub removed : (arena' : Seen (ℕ × Live)) (rows' : List Row) (seqnums' ids' : List ℕ) (i : ℕ) (r : Row) → i < length xs → r ≡ get_or rows i r → arena' ≡ seen (map (without r.key) arena.lanes) arena.capacity → count arena'.lanes + 1 ≡ count arena.lanes → rows' ≡ remove rows i → seqnums' ≡ remove seqnums i → ids' ≡ remove ids i → IsSound arena' rows' seqnums' ids' × (lives_of arena' rows' ≡ remove xs i) × (numbers_of arena' rows' ≡ remove (numbers_of arena rows) i)
+  removed arena' rows' seqnums' ids' i r within read made less left seqnums_left ids_left =
+      let at : i < length rows = omega (arith, within, long) in
+      let others : SameBut key_of r.key (entry_of arena) (entry_of arena') = λ j other. ap (λ (a : Seen (ℕ × Live)). entry_of a j) made ∙ others_removed j r.key other arena.lanes in
+      let took = took_at key_of (entry_of arena) (entry_of arena') rows i r at read others s.kept in
       let shorter = length-remove rows i at in
-      let rest : in_order slab' (remove rows i) ≡ remove xs i = took.rest ∙ ap (λ ys. remove ys i) v in
+      let rest : lives_of arena' (remove rows i) ≡ remove xs i = ap (map (λ (e : ℕ × Live). e.1)) took.rest ∙ sym (map-remove (λ (e : ℕ × Live). e.1) (in_order arena rows) i) ∙ ap (λ ys. remove ys i) v in
       rw (left, seqnums_left, ids_left) (
         record {
           kept = took.kept;
-          all = omega (arith, shorter, len, s.all);
+          all = omega (arith, shorter, less, s.all);
           bound = omega (arith, shorter, s.bound);
           columns = rw rest (columns_removed xs rows seqnums ids i columns);
+          capacity = ap (λ (a : Seen (ℕ × Live)). a.capacity) made ∙ s.capacity;
+          lanes = ap (λ (a : Seen (ℕ × Live)). length a.lanes) made ∙ length-map arena.lanes (without r.key) ∙ s.lanes;
         },
         rest,
+        ap (map (λ (e : ℕ × Live). e.0)) took.rest ∙ sym (map-remove (λ (e : ℕ × Live). e.0) (in_order arena rows) i),
       )
 
-  pub pushed : (slab' : Slab Live) (rows' : List Row) (seqnums' ids' : List ℕ) (r : Row) (x : Live) → length xs < 4096 → get slab r.key ≡ None → r.kind ≡ x.kind → rows' ≡ rows ++ r ∷ [] → seqnums' ≡ seqnums ++ x.seqnum ∷ [] → ids' ≡ ids ++ x.id ∷ [] → Updates slab slab' r.key (Some x) → slab_len slab' ≡ slab_len slab + 1 → IsSound slab' rows' seqnums' ids' × (in_order slab' rows' ≡ xs ++ x ∷ [])
-  pushed slab' rows' seqnums' ids' r x free vacant kind whole seqnums_whole ids_whole updates len =
-      let put = put_last key_of (get slab) (get slab') rows r x vacant updates.changed updates.others s.kept in
+  pub pushed : (arena' : Seen (ℕ × Live)) (rows' : List Row) (seqnums' ids' : List ℕ) (lane number : ℕ) (r : Row) (x : Live) → length xs < MAX_LIVE → lane < 32 → entry_of arena r.key ≡ None → r.kind ≡ x.kind → arena' ≡ seen (set arena.lanes lane (get_or arena.lanes lane [] ++ (r.key, (number, x)) ∷ [])) arena.capacity → rows' ≡ rows ++ r ∷ [] → seqnums' ≡ seqnums ++ x.seqnum ∷ [] → ids' ≡ ids ++ x.id ∷ [] → IsSound arena' rows' seqnums' ids' × (lives_of arena' rows' ≡ xs ++ x ∷ []) × (numbers_of arena' rows' ≡ numbers_of arena rows ++ number ∷ [])
+  pushed arena' rows' seqnums' ids' lane number r x free in_lane vacant kind made whole seqnums_whole ids_whole =
+      let within : lane < length arena.lanes = omega (arith, in_lane, s.lanes) in
+      let there : entry_of arena' r.key ≡ Some (number, x) = ap (λ (a : Seen (ℕ × Live)). entry_of a r.key) made ∙ found_pushed r.key (number, x) arena.lanes lane within vacant in
+      let others : SameBut key_of r.key (entry_of arena) (entry_of arena') = λ j other. ap (λ (a : Seen (ℕ × Live)). entry_of a j) made ∙ others_pushed j r.key (number, x) other arena.lanes lane in
+      let put = put_last key_of (entry_of arena) (entry_of arena') rows r (number, x) vacant there others s.kept in
       let longer = length-append rows (r ∷ []) in
-      let all_in : in_order slab' (rows ++ r ∷ []) ≡ xs ++ x ∷ [] = put.whole ∙ ap (λ ys. ys ++ x ∷ []) v in
+      let more : count arena'.lanes ≡ count arena.lanes + 1 = ap (λ (a : Seen (ℕ × Live)). count a.lanes) made ∙ count_pushed (r.key, (number, x)) arena.lanes lane within in
+      let all_in : lives_of arena' (rows ++ r ∷ []) ≡ xs ++ x ∷ [] = ap (map (λ (e : ℕ × Live). e.1)) put.whole ∙ map-append (λ (e : ℕ × Live). e.1) (in_order arena rows) ((number, x) ∷ []) ∙ ap (λ ys. ys ++ x ∷ []) v in
       rw (whole, seqnums_whole, ids_whole) (
         record {
           kept = put.kept;
-          all = omega (arith, longer, len, s.all);
-          bound = omega (arith, longer, long);
+          all = omega (arith, longer, more, s.all);
+          bound = omega (arith, longer, long, free);
           columns = rw all_in (columns_pushed xs rows seqnums ids x r kind columns);
+          capacity = ap (λ (a : Seen (ℕ × Live)). a.capacity) made ∙ s.capacity;
+          lanes = ap (λ (a : Seen (ℕ × Live)). length a.lanes) made ∙ length-set arena.lanes lane _ ∙ s.lanes;
         },
         all_in,
+        ap (map (λ (e : ℕ × Live). e.0)) put.whole ∙ map-append (λ (e : ℕ × Live). e.0) (in_order arena rows) ((number, x) ∷ []),
       )
 
-  pub changed : (i : ℕ) (r : Row) (x y : Live) → i < length xs → r ≡ get_or rows i r → get slab r.key ≡ Some x → y.kind ≡ x.kind → y.seqnum ≡ x.seqnum → y.id ≡ x.id → IsSound (with_value slab r.key y) rows seqnums ids × (in_order (with_value slab r.key y) rows ≡ set xs i y)
-  changed i r x y within read is kind seqnum id =
-      let here : ContainsKey slab r.key = ap is_some is in
-      let slot = ContainsKey-within slab r.key here in
-      let updates = Updates-with_value slab r.key y here in
-      let made = changed_at key_of (get slab) (get (with_value slab r.key y)) rows i r y (omega (arith, long)) read updates.changed updates.others s.kept in
-      let count : slab_len (with_value slab r.key y) + 1 ≡ slab_len slab + 1 =
-      rw is at (sum_by-set (λ o. cond (is_some o) 1 0) slab.slots r.key (Some y) None slot) in
-      let there : slice_get xs i ≡ Some x = sym (found_at i r within read) ∙ is in
-      let set_in : in_order (with_value slab r.key y) rows ≡ set xs i y = made.whole ∙ ap (λ ys. set ys i y) v in (
+  pub changed : (arena' : Seen (ℕ × Live)) (i : ℕ) (r : Row) (entry : ℕ × Live) (y : Live) → i < length xs → r ≡ get_or rows i r → entry_of arena r.key ≡ Some entry → arena' ≡ seen (map (replaced r.key (entry.0, y)) arena.lanes) arena.capacity → y.kind ≡ entry.1.kind → y.seqnum ≡ entry.1.seqnum → y.id ≡ entry.1.id → IsSound arena' rows seqnums ids × (lives_of arena' rows ≡ set xs i y) × (numbers_of arena' rows ≡ numbers_of arena rows)
+  changed arena' i r entry y within read is made kind seqnum id =
+      let there : entry_of arena' r.key ≡ Some (entry.0, y) = ap (λ (a : Seen (ℕ × Live)). entry_of a r.key) made ∙ found_replaced r.key (entry.0, y) arena.lanes ∙ ap (option_map (λ _. (entry.0, y))) is in
+      let others : SameBut key_of r.key (entry_of arena) (entry_of arena') = λ j other. ap (λ (a : Seen (ℕ × Live)). entry_of a j) made ∙ others_replaced j r.key (entry.0, y) other arena.lanes in
+      let turned = changed_at key_of (entry_of arena) (entry_of arena') rows i r (entry.0, y) (omega (arith, within, long)) read there others s.kept in
+      let was : slice_get xs i ≡ Some entry.1 = read_at i r entry within read is in
+      let set_in : lives_of arena' rows ≡ set xs i y = ap (map (λ (e : ℕ × Live). e.1)) turned.whole ∙ map-set (λ (e : ℕ × Live). e.1) (in_order arena rows) i (entry.0, y) ∙ ap (λ ys. set ys i y) v in
+      let here : slice_get (in_order arena rows) i ≡ Some entry = sym (took_at key_of (entry_of arena) (entry_of arena) rows i r (omega (arith, within, long)) read (λ _ _. refl) s.kept).entry ∙ is in
+      let same : count arena'.lanes ≡ count arena.lanes = ap (λ (a : Seen (ℕ × Live)). count a.lanes) made ∙ count_replaced r.key (entry.0, y) arena.lanes in (
         record {
-          kept = made.kept;
-          all = omega (arith, count, s.all);
+          kept = turned.kept;
+          all = same ∙ s.all;
           bound = s.bound;
           columns = rw set_in record {
-            are_kinds = columns.are_kinds ∙ sym (map_unchanged (λ live. live.kind) xs i x y there kind);
-            are_seqnums = columns.are_seqnums ∙ sym (map_unchanged (λ live. live.seqnum) xs i x y there seqnum);
-            are_ids = columns.are_ids ∙ sym (map_unchanged (λ live. live.id) xs i x y there id);
+            are_kinds = columns.are_kinds ∙ sym (map_unchanged (λ live. live.kind) xs i entry.1 y was kind);
+            are_seqnums = columns.are_seqnums ∙ sym (map_unchanged (λ live. live.seqnum) xs i entry.1 y was seqnum);
+            are_ids = columns.are_ids ∙ sym (map_unchanged (λ live. live.id) xs i entry.1 y was id);
           };
+          capacity = ap (λ (a : Seen (ℕ × Live)). a.capacity) made ∙ s.capacity;
+          lanes = ap (λ (a : Seen (ℕ × Live)). length a.lanes) made ∙ length-map arena.lanes (replaced r.key (entry.0, y)) ∙ s.lanes;
         },
         set_in,
+        ap (map (λ (e : ℕ × Live). e.0)) turned.whole ∙ map_unchanged (λ (e : ℕ × Live). e.0) (in_order arena rows) i entry (entry.0, y) here refl,
       )

@@ -1,6 +1,7 @@
 -- Which requests are turned away.
 use Rattle.std.specs.Prelude.{◌==◌, List, length, Option, Some, None, if◌then◌else◌}
 use Rattle.std.specs.List.{list_any}
+use Rattle.usbip_urb.specs.declared.code.TheConstants.{MAX_LIVE}
 use Rattle.unlink_race.specs.declared.live.Live.{Live}
 use Rattle.unlink_race.specs.declared.lives.NotAccepted.{NotAccepted}
 use Rattle.unlink_race.specs.declared.lives.NotAccepted.TheVariants.{Full, SeqInFlight}
@@ -10,5 +11,5 @@ use Rattle.unlink_race.specs.Searches.{has_number}
 abbrev pub refusal_of : List Live → Live → Option NotAccepted
 refusal_of lives live =
     if list_any (has_number live.seqnum) lives then Some (SeqInFlight live.seqnum) else
-    if length lives == 4096 then Some Full else
+    if length lives == MAX_LIVE then Some Full else
     None

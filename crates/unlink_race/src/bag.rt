@@ -8,6 +8,7 @@ use std::alloc::Global;
 use std::collections::VecDeque;
 use std::marker::Model;
 use usb_base::Memory;
+use usbip_urb::MAX_LIVE;
 
 /// At most 4,096 numbers; contracts see them in their order. Only `make` takes memory.
 #[derive(Drop)]
@@ -19,12 +20,13 @@ impl Model for Bag {
     ghost use Rattle.std.specs.Prelude.{ℕ, List, ◌≤◌};
     ghost use Rattle.std.specs.VecDeque.{deque_capacity};
     ghost use Rattle.std.specs.List.Sorted.{IsNonDecreasing};
+    ghost use Rattle.usbip_urb.specs.declared.code.TheConstants.{MAX_LIVE};
 
     ghost Value = { List ℕ };
 
     ghost view = { λ b. b.numbers.items };
 
-    ghost invariant = { λ b. IsNonDecreasing b.numbers.items × (4096 ≤ deque_capacity b.numbers) };
+    ghost invariant = { λ b. IsNonDecreasing b.numbers.items × (MAX_LIVE ≤ deque_capacity b.numbers) };
 }
 
 impl Bag {
@@ -32,7 +34,7 @@ impl Bag {
     pub fn make(alloc: Global) -> Result<Self, Memory>
         ensures { IfOk result (λ bag. bag ≡ []) }
     {
-        let numbers = VecDeque::with_capacity(alloc, 4096)?;
+        let numbers = VecDeque::with_capacity(alloc, MAX_LIVE)?;
         Ok(Bag { numbers })
     }
 
@@ -56,9 +58,46 @@ impl Bag {
         }
     }
 
+    // Whether all before this place are less than what stands there.
+    fn is_first(&self, place: usize) -> bool
+        requires { place < length self.now }
+        ensures { result ≡ true → (k : ℕ) (d : ℕ) → k < place → get_or self.now k d < get_or self.now place d }
+    {
+        if place == 0 {
+            return true;
+        }
+        self.numbers[place - 1] < self.numbers[place]
+    }
+
+    // Whether all behind this place are greater.
+    fn is_last(&self, place: usize) -> bool
+        requires { place < length self.now }
+        ensures { result ≡ true → (k : ℕ) (d : ℕ) → place < k → k < length self.now → get_or self.now place d < get_or self.now k d }
+    {
+        if place == self.numbers.len() - 1 {
+            return true;
+        }
+        self.numbers[place] < self.numbers[place + 1]
+    }
+
+    /// Whether the number is there once.
+    pub fn has_once(&self, number: u64) -> bool
+        ensures { result ≡ true → times number self.now ≡ 1 }
+    {
+        match self.numbers.binary_search(&number) {
+            Ok(place) => {
+                if !self.is_first(place) {
+                    return false;
+                }
+                self.is_last(place)
+            }
+            Err(_) => false,
+        }
+    }
+
     /// Puts the number in, once more where it is there.
     pub fn put(&mut self, number: u64)
-        requires { length self.old < 4096 }
+        requires { length self.old < MAX_LIVE }
         ensures times { (n : ℕ) → times n self.new ≡ times n self.old + (if number == n then 1 else 0) }
         ensures len { length self.new ≡ length self.old + 1 }
     {

@@ -1,7 +1,7 @@
 //! What is counted of the requests in a table, so that a submit walks none of them.
 
 ghost use Rattle.std.specs.Prelude.{◌≡◌, ◌==◌, ◌<◌, ◌+◌, ℕ, true, List, [], ◌∷◌, ◌++◌, length, remove, slice_get, if◌then◌else◌, IfOk, Some};
-ghost use Rattle.std.specs.List.{list_any};
+ghost use Rattle.std.specs.List.{count_by, list_any};
 ghost use Rattle.unlink_race.specs.declared.live.Live.{Live};
 ghost use Rattle.unlink_race.specs.Searches.{has_number, has_id, goes_by_id, changes, is_change};
 ghost use Rattle.unlink_race.specs.Inner.Indexed.{times, IsIndexed};
@@ -10,6 +10,7 @@ use crate::bag::Bag;
 use crate::live::Live;
 use std::alloc::Global;
 use usb_base::Memory;
+use usbip_urb::MAX_LIVE;
 
 /// The numbers and the ids of the requests in a table, and how many of them change the device's interfaces. It holds
 /// no request, and of one that has ended nothing.
@@ -22,7 +23,7 @@ pub struct Index {
 }
 
 fn put_id(held: &mut Bag, live: &Live)
-    requires { length held.old < 4096 }
+    requires { length held.old < MAX_LIVE }
     ensures times { (n : ℕ) → times n held.new ≡ times n held.old + (if has_id n live.now then 1 else 0) }
     ensures len { length held.new ≡ length held.old + (if goes_by_id live.now then 1 else 0) }
 {
@@ -75,6 +76,20 @@ impl Index {
         self.held.has(id)
     }
 
+    /// Whether one request alone has this number.
+    pub fn has_number_once(&self, seqnum: u32) -> bool
+        ensures { (lives : List Live) → IsIndexed lives self.now → result ≡ true → count_by (has_number seqnum) lives ≡ 1 }
+    {
+        self.numbers.has_once(u64::from(seqnum))
+    }
+
+    /// Whether one request alone flies with this id.
+    pub fn has_id_once(&self, id: u64) -> bool
+        ensures { (lives : List Live) → IsIndexed lives self.now → result ≡ true → count_by (has_id id) lives ≡ 1 }
+    {
+        self.held.has_once(id)
+    }
+
     /// Whether a request changes the configuration or an interface.
     pub fn has_change(&self) -> bool
         ensures { (lives : List Live) → IsIndexed lives self.now → result ≡ list_any changes lives }
@@ -84,7 +99,7 @@ impl Index {
 
     /// One more request comes to the others.
     pub fn note(&mut self, live: &Live)
-        requires { (lives : List Live) × (length lives < 4096) × IsIndexed lives self.old }
+        requires { (lives : List Live) × (length lives < MAX_LIVE) × IsIndexed lives self.old }
         ensures { (lives : List Live) → IsIndexed lives self.old → IsIndexed (lives ++ live.now ∷ []) self.new }
     {
         self.numbers.put(u64::from(live.seqnum));

@@ -7,6 +7,7 @@ mod ending;
 mod index;
 mod live;
 mod lives;
+mod numbered;
 mod table;
 mod unlink;
 

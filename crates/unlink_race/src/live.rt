@@ -1,6 +1,7 @@
 //! A request in flight.
 
-ghost use Rattle.std.specs.Prelude.{◌≡◌};
+ghost use Rattle.std.specs.Prelude.{◌≡◌, ◌<◌};
+ghost use Rattle.unlink_race.specs.Inner.Lane.{lane_of};
 ghost use Rattle.unlink_race.specs.Searches.{is_stream, waits_at, is_touched_by, ends_with, is_change};
 
 use control_route::Route;
@@ -69,6 +70,18 @@ impl LiveKind {
                 _ => false,
             },
             StreamEnd::Change(route) => self.is_touched_by(route),
+        }
+    }
+
+    /// The lane of its endpoint, and the first for what went by a route.
+    pub(crate) fn lane(&self) -> usize
+        ensures value { result ≡ lane_of self.now }
+        ensures bound { result < 32 }
+    {
+        match self {
+            LiveKind::Wire { ep, .. } => ep.index(),
+            LiveKind::Routed(_) => 0,
+            LiveKind::Stream { ep, .. } => ep.index(),
         }
     }
 

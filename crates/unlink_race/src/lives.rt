@@ -1,8 +1,9 @@
 //! The requests in flight.
 
-ghost use Rattle.std.specs.Prelude.{◌≡◌, ◌≤◌, ◌||◌, ◌-◌, not, [], ◌∷◌, ◌++◌, length, filter, take, drop, slice_get, option_copied, IfOk, OnOk, OnErr};
+ghost use Rattle.std.specs.Prelude.{◌≡◌, ◌≤◌, ◌||◌, ◌-◌, not, [], ◌∷◌, ◌++◌, length, filter, take, drop, replicate, slice_get, option_copied, IfOk, OnOk, OnErr};
 ghost use Rattle.std.specs.List.{find, list_any};
 ghost use Rattle.std.specs.Result.{result_err};
+ghost use Rattle.urb_arena.specs.Seen.{seen};
 ghost use Rattle.unlink_race.specs.Firsts.{without_first};
 ghost use Rattle.unlink_race.specs.Searches.{has_number, has_id, waits_for, touched_by, ended_by, changes};
 ghost use Rattle.unlink_race.specs.Requests.{no_requests, left_behind, OneIsEmpty};
@@ -10,12 +11,14 @@ ghost use Rattle.unlink_race.specs.Accepting.{refusal_of};
 ghost use Rattle.unlink_race.specs.Unlinking.{told_of, left_by};
 
 use crate::live::{Live, StreamEnd};
-use crate::table::{ROOM, Table};
+use crate::table::{LANES, Table};
 use crate::unlink::{UnlinkTold, unlink};
 use control_route::Route;
 use std::alloc::Global;
 use std::marker::Model;
+use urb_arena::Arena;
 use usb_base::{EpAddr, Memory};
+use usbip_urb::MAX_LIVE;
 
 /// Why a submit isn't accepted.
 #[derive(Clone, Copy, Debug)]
@@ -27,7 +30,7 @@ pub enum NotAccepted {
 }
 
 /// A client's requests in flight, or those that a former client left with the host; contracts see both lists, in
-/// order of acceptance, of which one is always empty. All memory is taken by `make`.
+/// order of acceptance, of which one is always empty. All memory is taken by `make` and `over`.
 #[derive(Drop)]
 pub struct Lives {
     table: Table,
@@ -49,8 +52,18 @@ impl Lives {
     pub fn make(alloc: Global) -> Result<Self, Memory>
         ensures { IfOk result (λ lives. lives ≡ no_requests) }
     {
+        let arena = Arena::new(alloc, MAX_LIVE, LANES)?;
+        Lives::over(alloc, arena)
+    }
+
+    /// No request, in an arena that is handed over: 4,096 requests fit, in a lane for each endpoint. The memory that it
+    /// takes is for what finds a request beside the arena, and no request is kept there.
+    pub fn over(alloc: Global, arena: Arena<(u64, Live)>) -> Result<Self, Memory>
+        requires { arena ≡ seen (replicate 32 []) MAX_LIVE }
+        ensures { IfOk result (λ lives. lives ≡ no_requests) }
+    {
         Ok(Lives {
-            table: Table::make(alloc)?,
+            table: Table::over(alloc, arena)?,
             client_gone: false,
         })
     }
@@ -58,7 +71,7 @@ impl Lives {
     /// How many are live.
     pub fn len(&self) -> usize
         ensures len { result ≡ length self.now.live }
-        ensures bound { result ≤ 4096 }
+        ensures bound { result ≤ MAX_LIVE }
     {
         if self.client_gone {
             0
@@ -70,7 +83,7 @@ impl Lives {
     /// How many are abandoned.
     pub fn abandoned(&self) -> usize
         ensures len { result ≡ length self.now.abandoned }
-        ensures bound { result ≤ 4096 }
+        ensures bound { result ≤ MAX_LIVE }
         ensures one_is_empty { OneIsEmpty self.now }
     {
         if self.client_gone {
@@ -112,7 +125,7 @@ impl Lives {
         if self.table.has_number(live.seqnum) {
             return Err(NotAccepted::SeqInFlight(live.seqnum));
         }
-        if self.table.len() == ROOM {
+        if self.table.len() == MAX_LIVE {
             return Err(NotAccepted::Full);
         }
         self.client_gone = false;

@@ -1,37 +1,45 @@
-//! The table behind `Lives`: the requests in a slab, and beside it, in order of acceptance, their keys and kinds
-//! and a column each of their numbers and ids, for the searches that want a place; whether there is one at all an
-//! index says.
+//! The table behind `Lives`: the requests in an arena, each in the lane of its endpoint, and beside it, in order of
+//! acceptance, their keys and kinds and a column each of their numbers and ids, for the searches that want a place;
+//! whether there is one at all an index says.
 
-ghost use Rattle.std.specs.Prelude.{◌≡◌, ◌==◌, ◌<◌, ◌≤◌, not, List, [], ◌∷◌, ◌++◌, length, filter, map, remove, slice_get, slice_set, option_copied, IfOk, Some};
+ghost use Rattle.std.specs.Prelude.{◌≡◌, ◌==◌, ◌<◌, ◌≤◌, ◌+◌, ◌^◌, not, true, List, [], ◌∷◌, ◌++◌, length, filter, map, remove, replicate, slice_get, slice_set, option_copied, IfOk, Some};
 ghost use Rattle.std.specs.List.{find, position, list_any};
+ghost use Rattle.urb_arena.specs.Seen.{seen};
 ghost use Rattle.unlink_race.specs.declared.live.Live.{Live};
 ghost use Rattle.unlink_race.specs.Firsts.{without_first};
+ghost use Rattle.unlink_race.specs.Inner.Listed.{Kept};
+ghost use Rattle.unlink_race.specs.Inner.Sound.{entry_of, numbers_of, Rises, HasDealt};
 ghost use Rattle.unlink_race.specs.Unlinking.{unlinked_by};
 ghost use Rattle.unlink_race.specs.Searches.{has_number, has_id, waits_for, touched_by, ended_by, changes, waits_at, is_touched_by, ends_with};
 
 use crate::index::Index;
 use crate::live::{Live, LiveKind, StreamEnd};
+use crate::numbered::{mark, renumber};
 use control_route::Route;
-use slab::Slab;
 use std::alloc::Global;
 use std::marker::Model;
+use urb_arena::{Arena, Key};
 use usb_base::{EpAddr, Memory};
+use usbip_urb::MAX_LIVE;
 
-/// How many requests fit.
-pub const ROOM: usize = 4096;
+/// A lane for each endpoint, at its index; the requests that went by a route stand in the first.
+pub const LANES: usize = 32;
 
-/// Where a request stands in the slab, and what the searches ask of it.
+/// Where a request stands in the arena, and what the searches ask of it.
 #[derive(Clone, Copy)]
 struct Row {
-    key: usize,
+    key: Key,
     kind: LiveKind,
 }
 
 /// Requests in order of acceptance, at most 4,096; contracts see it as their list. The rows and the two columns
-/// have the same order. Only `make` takes memory.
+/// have the same order. Only `over` takes memory.
 #[derive(Drop)]
 pub struct Table {
-    slab: Slab<Live>,
+    // each request with its number, which rises in order of acceptance
+    arena: Arena<(u64, Live)>,
+    // above all numbers
+    next: u64,
     rows: Vec<Row>,
     seqnums: Vec<u32>,
     ids: Vec<u64>,
@@ -41,14 +49,14 @@ pub struct Table {
 impl Model for Table {
     ghost use Rattle.std.specs.Prelude.{List, vec_capacity};
     ghost use Rattle.unlink_race.specs.declared.live.Live.{Live};
-    ghost use Rattle.unlink_race.specs.Inner.Sound.{in_order, IsSound, HasRoom};
+    ghost use Rattle.unlink_race.specs.Inner.Sound.{lives_of, numbers_of, Rises, IsSound, HasRoom};
     ghost use Rattle.unlink_race.specs.Inner.Indexed.{IsIndexed};
 
     ghost Value = { List Live };
 
-    ghost view = { λ t. in_order t.slab t.rows.items };
+    ghost view = { λ t. lives_of t.arena t.rows.items };
 
-    ghost invariant = { λ t. IsSound t.slab t.rows.items t.seqnums.items t.ids.items × HasRoom t.slab.capacity (vec_capacity t.rows) (vec_capacity t.seqnums) (vec_capacity t.ids) × IsIndexed (in_order t.slab t.rows.items) t.index };
+    ghost invariant = { λ t. IsSound t.arena t.rows.items t.seqnums.items t.ids.items × HasRoom (vec_capacity t.rows) (vec_capacity t.seqnums) (vec_capacity t.ids) × IsIndexed (lives_of t.arena t.rows.items) t.index × Rises 0 (numbers_of t.arena t.rows.items) t.next };
 }
 
 fn first_number(seqnums: &[u32], seqnum: u32) -> Option<usize>
@@ -71,6 +79,26 @@ fn first_id(ids: &[u64], rows: &[Row], id: u64) -> Option<usize>
     None
 }
 
+// Where a value stands if the column rises, as numbers and ids do that are given one after another.
+fn likely_place<T: Ord>(column: &[T], wanted: &T) -> usize {
+    match column.binary_search(wanted) {
+        Ok(place) => place,
+        Err(place) => place,
+    }
+}
+
+fn is_numbered(live: &Live, seqnum: u32) -> bool
+    ensures { result ≡ has_number seqnum live.now }
+{
+    live.seqnum == seqnum
+}
+
+fn flies_with(live: &Live, id: u64) -> bool
+    ensures { result ≡ has_id id live.now }
+{
+    !live.kind.is_stream() && live.id == id
+}
+
 fn first_waiting(rows: &[Row], ep: EpAddr) -> Option<usize>
     ensures { result ≡ position (λ r. waits_at ep r.kind) rows.now }
 {
@@ -83,20 +111,47 @@ fn first_touched(rows: &[Row], route: &Route) -> Option<usize>
     rows.iter().position(|row| row.kind.is_touched_by(route))
 }
 
+// Numbers the requests anew from 0, in their order.
+fn deal(arena: &mut Arena<(u64, Live)>, rows: &[Row])
+    requires { Kept (λ r. r.key) (entry_of arena.old) rows.now × (length rows.now ≤ MAX_LIVE) }
+    ensures dealt { HasDealt arena.old arena.new rows.now }
+    ensures numbers { Rises 0 (numbers_of arena.new rows.now) (length rows.now) }
+{
+    for (place, row) in rows.iter().enumerate() {
+        renumber(arena, row.key, place as u64);
+    }
+}
+
+// The number for one that comes behind the others. They are numbered anew before it would be the greatest there is.
+fn next_number(arena: &mut Arena<(u64, Live)>, rows: &[Row], next: u64) -> u64
+    requires kept { Kept (λ r. r.key) (entry_of arena.old) rows.now × (length rows.now ≤ MAX_LIVE) }
+    requires rises { Rises 0 (numbers_of arena.old rows.now) next }
+    ensures bound { result + 1 < 2 ^ 64 }
+    ensures dealt { HasDealt arena.old arena.new rows.now }
+    ensures rises { Rises 0 (numbers_of arena.new rows.now) result }
+{
+    if next < u64::MAX {
+        return next;
+    }
+    deal(arena, rows);
+    rows.len() as u64
+}
+
 impl Table {
     ghost use Rattle.std.specs.Prelude.{Bool};
 
-    /// The empty table, with room for as many requests as fit.
-    pub fn make(alloc: Global) -> Result<Self, Memory>
+    /// The empty table over an arena, with room beside it for what the searches want of as many requests as fit.
+    pub fn over(alloc: Global, arena: Arena<(u64, Live)>) -> Result<Self, Memory>
+        requires { arena ≡ seen (replicate 32 []) MAX_LIVE }
         ensures { IfOk result (λ table. table ≡ []) }
     {
-        let slab = Slab::with_capacity(alloc, ROOM)?;
-        let rows = Vec::with_capacity(alloc, ROOM)?;
-        let seqnums = Vec::with_capacity(alloc, ROOM)?;
-        let ids = Vec::with_capacity(alloc, ROOM)?;
+        let rows = Vec::with_capacity(alloc, MAX_LIVE)?;
+        let seqnums = Vec::with_capacity(alloc, MAX_LIVE)?;
+        let ids = Vec::with_capacity(alloc, MAX_LIVE)?;
         let index = Index::make(alloc)?;
         Ok(Table {
-            slab,
+            arena,
+            next: 0,
             rows,
             seqnums,
             ids,
@@ -107,7 +162,7 @@ impl Table {
     /// How many requests there are.
     pub fn len(&self) -> usize
         ensures len { result ≡ length self.now }
-        ensures bound { result ≤ 4096 }
+        ensures bound { result ≤ MAX_LIVE }
     {
         self.rows.len()
     }
@@ -116,14 +171,48 @@ impl Table {
     pub fn place_of_number(&self, seqnum: u32) -> Option<usize>
         ensures { result ≡ position (has_number seqnum) self.now }
     {
+        let place = likely_place(&self.seqnums, &seqnum);
+        if self.is_alone_numbered(place, seqnum) {
+            return Some(place);
+        }
         first_number(&self.seqnums, seqnum)
+    }
+
+    // Whether the request at this place has this number, and no other has it.
+    fn is_alone_numbered(&self, place: usize, seqnum: u32) -> bool
+        ensures { result ≡ true → Some place ≡ position (has_number seqnum) self.now }
+    {
+        if place >= self.len() {
+            return false;
+        }
+        if !is_numbered(self.at(place), seqnum) {
+            return false;
+        }
+        self.index.has_number_once(seqnum)
     }
 
     /// Where the first request that flies with this id stands.
     pub fn place_of_id(&self, id: u64) -> Option<usize>
         ensures { result ≡ position (has_id id) self.now }
     {
+        let place = likely_place(&self.ids, &id);
+        if self.is_alone(place, id) {
+            return Some(place);
+        }
         first_id(&self.ids, &self.rows, id)
+    }
+
+    // Whether the request at this place flies with this id, and no other does.
+    fn is_alone(&self, place: usize, id: u64) -> bool
+        ensures { result ≡ true → Some place ≡ position (has_id id) self.now }
+    {
+        if place >= self.len() {
+            return false;
+        }
+        if !flies_with(self.at(place), id) {
+            return false;
+        }
+        self.index.has_id_once(id)
     }
 
     /// Whether a request has this number.
@@ -166,7 +255,7 @@ impl Table {
         requires { place < length self.now }
         ensures { slice_get self.now place ≡ Some result.now }
     {
-        &self.slab[self.rows[place].key]
+        &self.arena.get(self.rows[place].key).unwrap().1
     }
 
     /// Takes out the request at this place; those behind it move up.
@@ -178,21 +267,25 @@ impl Table {
         self.seqnums.remove(place);
         self.ids.remove(place);
         let row = self.rows.remove(place);
-        let live = self.slab.remove(row.key);
+        let entry = self.arena.remove(row.key);
+        let (_, live) = entry.unwrap();
         self.index.forget(&live);
         live
     }
 
     /// Puts a request behind the others.
     pub fn push(&mut self, live: Live)
-        requires { length self.old < 4096 }
+        requires { length self.old < MAX_LIVE }
         ensures { self.new ≡ self.old ++ live ∷ [] }
     {
         self.index.note(&live);
         self.seqnums.push_reserved(live.seqnum);
         self.ids.push_reserved(live.id);
         let kind = live.kind;
-        let key = self.slab.insert_reserved(live);
+        let number = next_number(&mut self.arena, &self.rows, self.next);
+        self.next = number + 1;
+        let pushed = self.arena.push_back(kind.lane(), (number, live));
+        let key = pushed.ok().unwrap();
         self.rows.push_reserved(Row { key, kind });
     }
 
@@ -202,7 +295,7 @@ impl Table {
         ensures { (live : Live) → slice_get self.old place ≡ Some live → self.new ≡ slice_set self.old place (unlinked_by by live) }
     {
         let key = self.rows[place].key;
-        self.slab[key].unlinker = Some(by);
+        mark(&mut self.arena, key, by);
     }
 
     /// The request at a place that one of the searches gave.
@@ -250,10 +343,8 @@ impl Table {
     pub fn clear(&mut self)
         ensures { self.new ≡ [] }
     {
-        self.slab.clear();
-        self.rows.clear();
-        self.seqnums.clear();
-        self.ids.clear();
-        self.index.clear();
+        for place in (0..self.len()).rev() {
+            self.remove(place);
+        }
     }
 }

@@ -1,6 +1,6 @@
 //! The arena.
 
-ghost use Rattle.std.specs.Prelude.{◌≡◌, ◌<◌, ◌≤◌, ◌++◌, ◌∷◌, [], length, map, get_or, slice_set, replicate, IfOk, IfErr, MatchOption, None, Some, option_copied};
+ghost use Rattle.std.specs.Prelude.{◌≡◌, ◌<◌, ◌≤◌, ◌+◌, ◌++◌, ◌∷◌, [], length, map, get_or, slice_set, replicate, IfOk, IfErr, OnSome, MatchOption, None, Some, option_copied};
 ghost use Rattle.std.specs.Option.{option_copied_mut};
 ghost use Rattle.std.specs.Borrow.{sem};
 ghost use Rattle.urb_arena.specs.Lanes.{find_in, without, first_key, key_after_in, count, ByKey};
@@ -86,6 +86,7 @@ impl<T> Arena<T> {
     pub fn remove(&mut self, key: Key) -> Option<T>
         ensures value { result ≡ find_in key self.old.lanes }
         ensures lanes { self.new ≡ seen (map (without key) self.old.lanes) self.old.capacity }
+        ensures len { OnSome result (count self.new.lanes + 1 ≡ count self.old.lanes) }
     {
         self.table.remove(key.place)
     }

@@ -1,5 +1,5 @@
 -- How a transfer ended: usbredir's bytes, and the error numbers of Linux that USB/IP has.
-use Rattle.std.specs.Prelude.{ℕ, ◌==◌, if◌then◌else◌, ℤ, pos, negsuc}
+use Rattle.std.specs.Prelude.{ℕ, ◌==◌, Bool, true, false, if◌then◌else◌, ℤ, pos, negsuc}
 use Rattle.usb_base.specs.declared.status.UsbStatus.{UsbStatus}
 use Rattle.usb_base.specs.declared.status.UsbStatus.TheVariants.{Success, Cancelled, Inval, IoError, Stall, Timeout, Babble, Other}
 
@@ -23,6 +23,10 @@ status_byte Stall = 4
 status_byte Timeout = 5
 status_byte Babble = 6
 status_byte (Other byte) = byte
+
+abbrev pub is_success : UsbStatus → Bool
+is_success Success = true
+is_success _ = false
 
 -- the negative number n is `negsuc (n - 1)`: -104 ECONNRESET, -22 EINVAL, -71 EPROTO, -32 EPIPE, -110 ETIMEDOUT, -75 EOVERFLOW
 abbrev pub errno_of : UsbStatus → ℤ

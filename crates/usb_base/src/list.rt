@@ -1,6 +1,6 @@
 //! Lists that contracts see as lists.
 
-ghost use Rattle.std.specs.Prelude.{◌≡◌, ◌++◌, ◌∷◌, [], ◌≤◌, ◌<◌, length, take, drop, IsTrue, ◌↔◌, OnOk, OnErr};
+ghost use Rattle.std.specs.Prelude.{◌≡◌, ◌++◌, ◌∷◌, [], ◌≤◌, ◌<◌, ◌+◌, length, take, drop, IsTrue, ◌↔◌, OnOk, OnErr, IfOk};
 
 use crate::memory::Memory;
 use std::alloc::Global;
@@ -10,17 +10,21 @@ use std::marker::Model;
 #[derive(Drop)]
 pub struct List<T> {
     items: Vec<T>,
+    /// How many of them, at the front, are no more of the list: their room is kept for what may be put before the others.
+    front: usize,
 }
 
 /// Bytes, as they come from a peer or go to one.
 pub type Bytes = List<u8>;
 
 impl<T> Model for List<T> {
-    ghost use Rattle.std.specs.Prelude.{List as Items};
+    ghost use Rattle.std.specs.Prelude.{List as Items, drop, length, ◌≤◌};
 
     ghost Value = { Items T };
 
-    ghost view = { λ list. list.items.items };
+    ghost view = { λ list. drop list.front list.items.items };
+
+    ghost invariant = { λ list. list.front ≤ length list.items.items };
 }
 
 impl<T> List<T> {
@@ -30,6 +34,7 @@ impl<T> List<T> {
     {
         List {
             items: Vec::new(alloc),
+            front: 0,
         }
     }
 
@@ -37,21 +42,22 @@ impl<T> List<T> {
     pub fn as_slice(&self) -> &[T]
         ensures { result.now ≡ self.now }
     {
-        &self.items
+        let (_, items) = self.items.as_slice().split_at(self.front);
+        items
     }
 
     /// How many items it has.
     pub fn len(&self) -> usize
         ensures { result ≡ length self.now }
     {
-        self.items.len()
+        self.items.len() - self.front
     }
 
     /// Whether it has none.
     pub fn is_empty(&self) -> bool
         ensures { IsTrue result ↔ (self.now ≡ []) }
     {
-        self.items.is_empty()
+        self.as_slice().is_empty()
     }
 }
 
@@ -70,7 +76,7 @@ impl<T: Drop> List<T> {
         requires { len ≤ length self.old }
         ensures { self.new ≡ take len self.old }
     {
-        self.items.truncate(len);
+        self.items.truncate(self.front + len);
     }
 
     /// Drops every item, and keeps the room.
@@ -78,10 +84,33 @@ impl<T: Drop> List<T> {
         ensures { self.new ≡ [] }
     {
         self.items.clear();
+        self.front = 0;
     }
 }
 
+/// How many bytes a list has at least that is moved and not copied where it is put behind another.
+const LONG: usize = 32_768;
+
+/// The room before the bytes of a long list that is made as a copy: for the head of any packet that carries them.
+const ROOM: usize = 64;
+
 impl List<u8> {
+    /// A copy of a piece. It takes no memory where that is empty.
+    pub fn copied(alloc: Global, piece: &[u8]) -> Result<Self, Memory>
+        ensures ok { IfOk result (λ copy. copy ≡ piece.now) }
+        ensures err { OnErr result (0 < length piece.now) }
+    {
+        if piece.len() < LONG {
+            let mut copy = List::new(alloc);
+            copy.append(piece)?;
+            return Ok(copy);
+        }
+        let mut items = Vec::with_capacity(alloc, ROOM + piece.len())?;
+        items.extend_from_slice(&[0; ROOM])?;
+        items.extend_from_slice(piece)?;
+        Ok(List { items, front: ROOM })
+    }
+
     /// Puts a piece at the end.
     pub fn append(&mut self, piece: &[u8]) -> Result<(), Memory>
         ensures ok { OnOk result (self.new ≡ self.old ++ piece.now) }
@@ -92,12 +121,31 @@ impl List<u8> {
         Ok(())
     }
 
+    /// Puts a list at the end. A long one is not copied where it has room for the bytes that stand before it: they are
+    /// put into that, and the list takes the place of this one.
+    pub fn append_list(&mut self, tail: List<u8>) -> Result<(), Memory>
+        ensures ok { OnOk result (self.new ≡ self.old ++ tail) }
+        ensures err { OnErr result (self.new ≡ self.old) }
+        ensures wants { OnErr result (0 < length tail) }
+    {
+        let mut tail = tail;
+        let len = self.len();
+        if tail.len() < LONG || tail.front < len {
+            return self.append(tail.as_slice());
+        }
+        let front = tail.front - len;
+        tail.items.as_mut_slice()[front..front + len].copy_from_slice(self.as_slice());
+        tail.front = front;
+        *self = tail;
+        Ok(())
+    }
+
     /// Drops the first `count` bytes, in one move of those that stay.
     pub fn skip(&mut self, count: usize)
         requires { count ≤ length self.old }
         ensures { self.new ≡ drop count self.old }
     {
-        self.items.copy_within(count.., 0);
+        self.items.copy_within(self.front + count.., self.front);
         self.items.truncate(self.items.len() - count);
     }
 }

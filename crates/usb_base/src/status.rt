@@ -1,7 +1,7 @@
 //! How a transfer ended, in both protocols.
 
 ghost use Rattle.std.specs.Prelude.{◌≡◌, ℕ, ◌<◌};
-ghost use Rattle.usb_base.specs.Status.{status_of, status_byte, errno_of};
+ghost use Rattle.usb_base.specs.Status.{status_of, status_byte, errno_of, is_success};
 
 /// How a transfer ended, as usbredir tells it (protocol description, section "usb_redir status codes").
 #[derive(Clone, Copy, PartialEq, Eq)]
@@ -51,6 +51,13 @@ impl UsbStatus {
             UsbStatus::Babble => 6,
             UsbStatus::Other(other) => other,
         }
+    }
+
+    /// Whether it went well.
+    pub fn is_success(self) -> bool
+        ensures { result ≡ is_success self }
+    {
+        matches!(self, UsbStatus::Success)
     }
 
     /// The status that a USB/IP answer has: 0, or the negative of a Linux error number.

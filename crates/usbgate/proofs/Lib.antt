@@ -1,12 +1,1 @@
-pub mod Lines
-pub mod Stages
-pub mod Going
-pub mod Events
-pub mod Modelled
-pub mod Loaded
-pub mod Doing
-pub mod Simulated
-pub mod Showing
-pub mod Served
-pub mod Intervals
-mod Logs
+mod Simulated

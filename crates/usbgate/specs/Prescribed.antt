@@ -1,38 +1,13 @@
 -- What each command is to print that goes over a tape or over nothing, and how it is to end, where it meets no fault and has memory.
-use Rattle.std.specs.Prelude.{List, [], ℕ, Option, Some, None}
-use Rattle.usbgate.specs.declared.status.Status.{Status}
-use Rattle.usbgate.specs.declared.status.Status.TheVariants.{Done, Usage}
-use Rattle.usbgate.specs.declared.words.Command.{Command}
-use Rattle.usbgate.specs.declared.words.Command.TheVariants.{Replay, Model, Show, Serve, Host, Make, Load, Unknown}
-use Rattle.usbgate.specs.Text.{usage_line}
-use Rattle.usbgate.specs.TapeCommand.{TapeCommand, tape_text, tape_status, front_text}
-use Rattle.usbgate.specs.EventCommand.{over_events}
-use Rattle.usbgate.specs.Replay.{replay}
-use Rattle.usbgate.specs.Model.{model_of}
-use Rattle.usbgate.specs.Show.{show}
-use Rattle.usbgate.specs.Made.{made, loaded}
-
-pub record Prescribed : Type 0 where
-  -- the whole text of a tape
-  pub text : List ℕ → List ℕ
-  pub status : List ℕ → Status
-  -- the text of whole lines, the first of a tape, without a last text; none where one is bad, and where no tape is read
-  pub front : List ℕ → Option (List ℕ)
-  -- what it leaves of a tape, where it comes to its end
-  pub rest : List ℕ → List ℕ
-
-abbrev pub over_tape : {S : Type 0} → TapeCommand S → Prescribed
-over_tape command = record { text = λ tape. tape_text command tape; status = λ tape. tape_status command tape; front = λ whole. front_text command whole; rest = λ tape. [] }
-
--- a text for which no tape is read
-abbrev pub untaped : Status → List ℕ → Prescribed
-untaped status text = record { text = λ tape. text; status = λ tape. status; front = λ whole. None; rest = λ tape. tape }
-
-abbrev pub usage : Prescribed
-usage = untaped Usage usage_line
-
-abbrev pub printed : List ℕ → Prescribed
-printed text = untaped Done text
+use Rattle.std.specs.Prelude.{Option, Some, None}
+use Rattle.usbgate_commands.specs.declared.words.Command.{Command}
+use Rattle.usbgate_commands.specs.declared.words.Command.TheVariants.{Replay, Model, Show, Serve, Host, Make, Load, Unknown}
+use Rattle.usbgate_tapes.specs.Prescribed.{Prescribed, over_tape, printed, usage}
+use Rattle.usbgate_tapes.specs.EventCommand.{over_events}
+use Rattle.usbgate_tapes.specs.Replay.{replay}
+use Rattle.usbgate_tapes.specs.Model.{model_of}
+use Rattle.usbgate_tapes.specs.Show.{show}
+use Rattle.usbgate_tapes.specs.Made.{made, loaded}
 
 -- none where sockets are what it works on
 abbrev pub prescribed : Command → Option Prescribed

@@ -4,8 +4,8 @@
 
 ghost use Rattle.std.specs.Prelude.{◌≡◌, IfOk, drop, map, string_bytes};
 ghost use Rattle.std.specs.Process.{exit_status};
-ghost use Rattle.usbgate.specs.Code.{code_of};
-ghost use Rattle.usbgate.specs.Words.{texts};
+ghost use Rattle.usbgate_tapes.specs.Code.{code_of};
+ghost use Rattle.usbgate_commands.specs.Words.{texts};
 
 use gate_outside::{NoDoors, StdSink, StdSource};
 use gate_sockets::TcpDoors;
@@ -16,7 +16,9 @@ use std::process::ExitCode;
 use std::rt::{Clock, Env, Files};
 use std::{env, io, net};
 use usb_base::{Memory, Side};
-use usbgate::{COMMANDS, Status, pace_of, run, wrong_with};
+use usbgate::run;
+use usbgate_commands::{COMMANDS, pace_of, wrong_with};
+use usbgate_tapes::Status;
 
 fn main(rt: HostRuntime) -> ExitCode {
     exit_code(run_args(&rt))

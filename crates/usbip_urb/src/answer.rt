@@ -16,9 +16,9 @@ use crate::check::wrong_answer;
 use crate::code::{HEAD_SIZE, USBIP_RET_SUBMIT};
 use crate::field::{head_at, ret_unlink_at};
 use crate::packet::{RetSubmit, UrbError, UrbPacket, UrbRead};
-use crate::payload::{copied, payload_of, read_descs};
+use crate::payload::{payload_of, read_descs};
 use std::alloc::Global;
-use usb_base::{array_at, be_u32_at};
+use usb_base::{Bytes, array_at, be_u32_at};
 
 /// A law: what is read as an answer is spelled so, and what is spelled so is read.
 pub fn answers_sound()
@@ -75,7 +75,7 @@ fn read_ret_submit(alloc: Global, is_in: bool, bytes: &[u8]) -> Result<UrbRead, 
     let Some(payload) = payload_of(is_in, bytes) else {
         return Ok(UrbRead::Short);
     };
-    let body = copied(alloc, payload.body)?;
+    let body = Bytes::copied(alloc, payload.body)?;
     let descs = read_descs(alloc, payload.descs)?;
     let answer = RetSubmit {
         head: head_at(bytes),

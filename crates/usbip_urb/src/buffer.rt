@@ -4,7 +4,7 @@ ghost use Rattle.std.specs.Prelude.{◌≡◌, ◌+◌, ◌≤◌, ◌<◌, leng
 ghost use Rattle.usb_base.specs.Number.{part as part_of};
 ghost use Rattle.usbip_urb.specs.Buffers.{laid, stretch, total};
 
-use crate::code::MAX_PACKET_LENGTH;
+use crate::code::{MAX_PACKET_LENGTH, MAX_PACKETS};
 use crate::packet::Descs;
 
 /// Whether the descriptors lie one behind another in a buffer of `length` bytes: each is at most 65,535 bytes long,
@@ -42,7 +42,7 @@ fn piece_at(bytes: &[u8], start: usize, size: usize) -> &[u8]
 
 /// How many bytes were moved in all: the sum of the actual lengths.
 pub fn total(descs: &Descs) -> u64
-    requires { length descs.now ≤ 1024 }
+    requires { length descs.now ≤ MAX_PACKETS }
     ensures { result ≡ total descs.now }
 {
     descs

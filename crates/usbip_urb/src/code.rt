@@ -22,6 +22,8 @@ pub const NO_PACKETS: u32 = 0xFFFF_FFFF;
 pub const EXPORTED_DEVID: u32 = 0x0001_0002;
 /// The greatest endpoint number.
 pub const MAX_ENDPOINT: u32 = 15;
+/// How many submits may be in flight.
+pub const MAX_LIVE: usize = 4096;
 /// The longest transfer, in bytes: 16 MiB.
 pub const MAX_LENGTH: u32 = 16_777_216;
 /// The most isochronous packets of a transfer.

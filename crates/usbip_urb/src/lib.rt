@@ -20,13 +20,13 @@ pub use client::{
     ClientFormat, ClientPacket, client_packets_sound, read_client, read_client_again,
 };
 pub use code::{
-    DESC_SIZE, EXPORTED_DEVID, HEAD_SIZE, MAX_ENDPOINT, MAX_LENGTH, MAX_PACKET_LENGTH, MAX_PACKETS,
-    NO_PACKETS, USBIP_CMD_SUBMIT, USBIP_CMD_UNLINK, USBIP_DIR_IN, USBIP_DIR_OUT, USBIP_RET_SUBMIT,
-    USBIP_RET_UNLINK,
+    DESC_SIZE, EXPORTED_DEVID, HEAD_SIZE, MAX_ENDPOINT, MAX_LENGTH, MAX_LIVE, MAX_PACKET_LENGTH,
+    MAX_PACKETS, NO_PACKETS, USBIP_CMD_SUBMIT, USBIP_CMD_UNLINK, USBIP_DIR_IN, USBIP_DIR_OUT,
+    USBIP_RET_SUBMIT, USBIP_RET_UNLINK,
 };
 pub use next::{next_client, next_urb};
 pub use packet::{
     Descs, Head, IsoDesc, RetSubmit, RetUnlink, Submit, Unlink, UrbError, UrbPacket, UrbRead,
 };
 pub use request::{read_urb, read_urb_again, requests_sound};
-pub use write::{push_desc, push_ret_fields, write_urb};
+pub use write::{push_desc, push_ret_fields, write_ret_submit, write_urb};

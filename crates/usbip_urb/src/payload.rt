@@ -11,7 +11,7 @@ use crate::code::{DESC_SIZE, HEAD_SIZE, NO_PACKETS};
 use crate::field::desc_at;
 use crate::packet::Descs;
 use std::alloc::Global;
-use usb_base::{Bytes, List, Memory, be_u32_at};
+use usb_base::{List, Memory, be_u32_at};
 
 /// What stands behind the head, lent from the packet's bytes.
 #[derive(Clone, Copy)]
@@ -61,18 +61,6 @@ pub(crate) fn desc_count(bytes: &[u8]) -> usize
     } else {
         packets as usize
     }
-}
-
-/// A copy of the bytes. It takes no memory where there are none.
-pub(crate) fn copied(alloc: Global, bytes: &[u8]) -> Result<Bytes, Memory>
-    ensures ok { IfOk result (λ copy. copy ≡ bytes.now) }
-    ensures err { OnErr result (0 < length bytes.now) }
-{
-    let mut copy = Bytes::new(alloc);
-    if !bytes.is_empty() {
-        copy.append(bytes)?;
-    }
-    Ok(copy)
 }
 
 /// The descriptors that stand one behind another, 16 bytes each. They take no memory where there are none.

@@ -16,9 +16,9 @@ use crate::check::wrong_request;
 use crate::code::{HEAD_SIZE, USBIP_CMD_SUBMIT, USBIP_DIR_OUT};
 use crate::field::{head_at, unlink_at};
 use crate::packet::{Submit, UrbError, UrbPacket, UrbRead};
-use crate::payload::{copied, payload_of, read_descs};
+use crate::payload::{payload_of, read_descs};
 use std::alloc::Global;
-use usb_base::{array_at, be_u32_at};
+use usb_base::{Bytes, array_at, be_u32_at};
 
 /// A law: what is read as a request is spelled so, and what is spelled so is read.
 pub fn requests_sound()
@@ -66,7 +66,7 @@ fn read_submit(alloc: Global, bytes: &[u8]) -> Result<UrbRead, UrbError>
     let Some(payload) = payload_of(is_out, bytes) else {
         return Ok(UrbRead::Short);
     };
-    let body = copied(alloc, payload.body)?;
+    let body = Bytes::copied(alloc, payload.body)?;
     let descs = read_descs(alloc, payload.descs)?;
     let submit = Submit {
         head: head_at(bytes),

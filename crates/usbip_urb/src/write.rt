@@ -25,6 +25,32 @@ pub fn write_urb(packet: &UrbPacket, out: &mut Bytes) -> Result<(), Memory>
     }
 }
 
+/// Appends the answer of a submit, whose body is moved: a long one is not copied where `out` has little else. For want of
+/// memory the bytes stay as they were.
+pub fn write_ret_submit(answer: RetSubmit, out: &mut Bytes) -> Result<(), Memory>
+    requires { IsWritable (RetSubmitPacket answer) }
+    ensures { Appends result out.old out.new (spelling (RetSubmitPacket answer)) }
+{
+    let len = out.len();
+    match move_ret_submit(answer, out) {
+        Ok(()) => Ok(()),
+        Err(error) => {
+            out.cut(len);
+            Err(error)
+        }
+    }
+}
+
+fn move_ret_submit(answer: RetSubmit, out: &mut Bytes) -> Result<(), Memory>
+    ensures { AppendsSome result out.old out.new (spelling (RetSubmitPacket answer)) }
+{
+    push_ret_fields(&answer, out)?;
+    let RetSubmit { body, descs, .. } = answer;
+    out.append_list(body)?;
+    push_descs(descs.as_slice(), out)?;
+    Ok(())
+}
+
 fn push_packet(packet: &UrbPacket, out: &mut Bytes) -> Result<(), Memory>
     ensures { AppendsSome result out.old out.new (spelling packet.now) }
 {

@@ -1,11 +1,11 @@
 -- What acts make of a lent device's host and of its output, and what is kept of the events.
 use Rattle.std.specs.Prelude.{◌≡◌, ℕ, if◌then◌else◌, List, [], ◌++◌}
 use Rattle.model_device.specs.Meaning.{Meaning}
-use Rattle.redir_host.specs.Kept.{HostKept as Core}
-use Rattle.redir_host.specs.Acts.{Act}
-use Rattle.redir_host.specs.Acts as act
-use Rattle.redir_host.specs.Output.{host_out}
-use Rattle.redir_host.specs.Stands.{Stands}
+use Rattle.redir_host.specs.state.Kept.{HostKept as Core}
+use Rattle.redir_host.specs.step.Acts.{Act}
+use Rattle.redir_host.specs.step.Acts as act
+use Rattle.redir_host.specs.write.Output.{host_out}
+use Rattle.redir_host.specs.step.Stands.{Stands}
 use Rattle.bridge_run.specs.declared.lent.Lent.{Lent}
 use Rattle.bridge_run.specs.declared.lent.Use.{Use}
 use Rattle.bridge_run.specs.declared.lent.Use.TheVariants.{Perform, Offer}

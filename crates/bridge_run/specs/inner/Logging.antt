@@ -10,7 +10,7 @@ use Rattle.bridge_run.specs.declared.kept.Kept.{Kept}
 use Rattle.bridge_run.specs.Prescribed.{Prescribed}
 use Rattle.bridge_run.specs.Calls.{ends_next}
 use Rattle.bridge_run.specs.Ups.{client_at, client_behind, host_at, host_since}
-use Rattle.bridge_run.specs.Log.{Opening, events_of, IsWritten, WroteInPart, Settled, Logged}
+use Rattle.bridge_run.specs.Log.{Opening, events_of, IsWritten, Settled, Logged}
 
 -- what is served stands for the events that came, and all is written that they send
 pub record IsAt {D : Type 0} (gives : D → Call → D → Type 0) (stands : List Event → Type 0) (opening : Opening) (p : Prescribed) (k : Kept) (begun now : D) : Type 0 where
@@ -41,7 +41,7 @@ IsBehind false gives stands opening p k begun now = IsAt gives stands opening p 
 
 abbrev pub PutLogs : {D : Type 0} → Result Bool ServeEnd → (D → Call → D → Type 0) → (List Event → Type 0) → Opening → Prescribed → Event → Kept → D → D → Type 0
 PutLogs (Ok dropped) gives stands opening p e k begun now = IsBehind (ends_next e dropped) gives stands opening p k begun now
-PutLogs (Err _) gives stands opening p e k begun now = WroteInPart gives opening p begun now
+PutLogs (Err x) gives stands opening p e k begun now = Logged x gives opening p begun now
 
 abbrev pub Logs : {T D : Type 0} → Result T ServeEnd → (D → Call → D → Type 0) → (List Event → Type 0) → Opening → Prescribed → Kept → D → D → Type 0
 Logs (Ok _) gives stands opening p k begun now = IsAt gives stands opening p k begun now
@@ -87,4 +87,4 @@ pub record HasOpened {D : Type 0} (gives : D → Call → D → Type 0) (host do
 
 abbrev pub OpenLogs : {T D : Type 0} → Result T ServeEnd → (D → Call → D → Type 0) → (host door : List ℕ) → Prescribed → D → D → Type 0
 OpenLogs (Ok _) gives host door p begun now = HasOpened gives host door p begun now
-OpenLogs (Err _) gives host door p begun now = WroteInPart gives (record { host = Some host; door = door }) p begun now
+OpenLogs (Err x) gives host door p begun now = Logged x gives (record { host = Some host; door = door }) p begun now

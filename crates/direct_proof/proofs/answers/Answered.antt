@@ -5,13 +5,13 @@ use Rattle.usb_base.specs.declared.transfer.Outcome.{Outcome}
 use Rattle.usbip_urb.specs.declared.client.ClientPacket.TheVariants.{Urb}
 use Rattle.redir_data.specs.Sent.{sent_header}
 use Rattle.model_device.specs.Meaning.{Meaning}
-use Rattle.gate_history.specs.Items.{Item as GateItem, Told}
-use Rattle.gate_history.specs.Marks.{Answers, Mark}
-use Rattle.gate_history.specs.Submits.{Pending, has_id, is_waiting}
-use Rattle.gate_history.specs.State.{State, submits}
-use Rattle.gate_history.specs.Meaning.{mark_as, told_by}
-use Rattle.gate_history.specs.Answers.{answers_by}
-use Rattle.gate_history.specs.Ups.{Up, stream_of}
+use Rattle.gate_history.specs.step.Items.{Item as GateItem, Told}
+use Rattle.gate_history.specs.step.Marks.{Answers, Mark}
+use Rattle.gate_history.specs.client.Submits.{Pending, has_id, is_waiting}
+use Rattle.gate_history.specs.state.State.{State, submits}
+use Rattle.gate_history.specs.step.Meaning.{mark_as, told_by}
+use Rattle.gate_history.specs.write.Answers.{answers_by}
+use Rattle.gate_history.specs.state.Ups.{Up, stream_of}
 use Rattle.direct_run.specs.Moves.{World, GateReads}
 use Rattle.direct_device.specs.Direct.{Load, Live, Ran, Direct, number, is_number, seen_of, as_submission}
 use Rattle.direct_device.specs.Acting.{Deed, Answer, act, answers, without_number, first_ran}

@@ -13,21 +13,21 @@ use Rattle.control_route.specs.declared.route.Route.TheVariants as route
 use Rattle.model_device.specs.Transfer.{IsOutcome}
 use Rattle.model_device.specs.Meaning.{Meaning}
 use Rattle.model_device.specs.Gadget.{IsNamed}
-use Rattle.redir_host.specs.Answers.{answer_by, alt_in}
-use Rattle.gate_history.specs.Requests.{Request}
-use Rattle.gate_history.specs.Items.{Told}
-use Rattle.gate_history.specs.Verdict.{Verdict, Control, Bulk, InterruptOut, Now, Wire, Routed, IsoOut, Stream}
-use Rattle.gate_history.specs.Marks.{Submission, Effect, Answers, Mark}
-use Rattle.gate_history.specs.Submits.{Pending, ByAnswer, has_id, ends, is_waiting}
-use Rattle.gate_history.specs.State.{State, submits}
-use Rattle.gate_history.specs.Responses.{Response, Data, Status, response_of, answer_kind, seen, outcome}
-use Rattle.gate_history.specs.Meaning.{meaning, answered_as, answer_to, by_response, by_arrival}
-use Rattle.gate_history.specs.Machine.{live_after}
-use Rattle.gate_history.specs.Output.{present, to_client}
-use Rattle.gate_history.specs.Answers.{answers_at, answers_by}
-use Rattle.gate_history.specs.Notes.{is_by_answer}
-use Rattle.gate_history.proofs.Lists.{every, Each, filter-same, filter-map, flat_map-same, flat_map-filter}
-use Rattle.gate_history.proofs.Uncancelled.{asks-none}
+use Rattle.redir_host.specs.write.Answers.{answer_by, alt_in}
+use Rattle.gate_history.specs.client.Requests.{Request}
+use Rattle.gate_history.specs.step.Items.{Told}
+use Rattle.gate_history.specs.client.Verdict.{Verdict, Control, Bulk, InterruptOut, Now, Wire, Routed, IsoOut, Stream}
+use Rattle.gate_history.specs.step.Marks.{Submission, Effect, Answers, Mark}
+use Rattle.gate_history.specs.client.Submits.{Pending, ByAnswer, has_id, ends, is_waiting}
+use Rattle.gate_history.specs.state.State.{State, submits}
+use Rattle.gate_history.specs.host.Responses.{Response, Data, Status, response_of, answer_kind, seen, outcome}
+use Rattle.gate_history.specs.step.Meaning.{meaning, answered_as, answer_to, by_response, by_arrival}
+use Rattle.gate_history.specs.step.Machine.{live_after}
+use Rattle.gate_history.specs.write.Output.{present, to_client}
+use Rattle.gate_history.specs.write.Answers.{answers_at, answers_by}
+use Rattle.gate_history.specs.write.Notes.{is_by_answer}
+use Rattle.gate_history.proofs.lemmas.Lists.{every, Each, filter-same, filter-map, flat_map-same, flat_map-filter}
+use Rattle.gate_history.proofs.lemmas.step.NoCancel.{asks-none}
 use Rattle.direct_device.specs.Direct.{Live, Ran, Direct, number, is_number, seen_by, normal_by, as_submission}
 use Rattle.direct_device.specs.Acting.{Answer, act, answers, answered_by, answers_of, ran_answers, filled_by, filled_answers, cut_for, rest_ran, first_ran, without_number}
 use Rattle.direct_proof.specs.Moves.{deeds_of, answer_deeds}

@@ -8,17 +8,17 @@ use Rattle.usb_base.specs.Status.{status_of, status_byte}
 use Rattle.redir_data.specs.declared.packet.RedirPacket.{RedirPacket}
 use Rattle.control_route.specs.declared.route.Route.{Route}
 use Rattle.control_route.specs.declared.route.Route.TheVariants as route
-use Rattle.model_device.specs.Meaning.{Meaning}
 use Rattle.model_device.specs.Device.{is_success}
+use Rattle.model_device.specs.Meaning.{Meaning}
 use Rattle.model_device.specs.Submit.{status_alone, byte_seen}
 use Rattle.model_device.specs.Gadget.{IsNamed}
 use Rattle.redir_host.specs.declared.host.Host.{Host}
-use Rattle.redir_host.specs.Answers.{answer_by, alt_in}
-use Rattle.redir_host.specs.Performing.{does, performs_any}
-use Rattle.gate_history.specs.Requests.{Request}
-use Rattle.gate_history.specs.Packets.{no_setup}
-use Rattle.gate_history.specs.Verdict.{Verdict, Control, Bulk, InterruptOut, Now, Wire, Routed, IsoOut, Stream}
-use Rattle.gate_history.specs.Responses.{Response, Data, Status, response_of, seen, got, outcome}
+use Rattle.redir_host.specs.write.Answers.{answer_by, alt_in}
+use Rattle.redir_host.specs.device.Performing.{does, performs_any}
+use Rattle.gate_history.specs.client.Requests.{Request}
+use Rattle.gate_history.specs.write.Packets.{no_setup}
+use Rattle.gate_history.specs.client.Verdict.{Verdict, Control, Bulk, InterruptOut, Now, Wire, Routed, IsoOut, Stream}
+use Rattle.gate_history.specs.host.Responses.{Response, Data, Status, response_of, seen, got, outcome}
 use Rattle.direct_device.specs.Direct.{normal_of, normal_by, seen_by, change_in}
 use Rattle.direct_proof.specs.Requests.{Entry, at_queue, form_by, queued_transfer}
 use Rattle.direct_proof.specs.Loads.{FitsRoute, FitsVerdict}

@@ -4,17 +4,17 @@ use Rattle.std.specs.List.{list_any, flat_map}
 use Rattle.usbip_urb.specs.declared.client.ClientPacket.TheVariants.{Urb}
 use Rattle.redir_data.specs.declared.packet.RedirPacket.{RedirPacket}
 use Rattle.model_device.specs.Meaning.{Meaning}
-use Rattle.gate_history.specs.Marks.{Submission, Fact, Effect, Answers, Mark}
-use Rattle.gate_history.specs.Submits.{Pending, has_id}
-use Rattle.gate_history.specs.State.{State, submits}
-use Rattle.gate_history.specs.Sound.{IsSound}
-use Rattle.gate_history.specs.Ups.{stream_of}
-use Rattle.gate_history.specs.Machine.{live_after}
-use Rattle.gate_history.specs.Meaning.{fact_of}
-use Rattle.gate_history.specs.Facts.{tell}
-use Rattle.gate_history.specs.Answers.{answers_by}
-use Rattle.gate_history.proofs.Lists.{filter-map}
-use Rattle.gate_history.proofs.Uncancelled.{none-cancelled, stays-uncancelled}
+use Rattle.gate_history.specs.step.Marks.{Submission, Fact, Effect, Answers, Mark}
+use Rattle.gate_history.specs.client.Submits.{Pending, has_id}
+use Rattle.gate_history.specs.state.State.{State, submits}
+use Rattle.gate_history.specs.state.Sound.{IsSound}
+use Rattle.gate_history.specs.state.Ups.{stream_of}
+use Rattle.gate_history.specs.step.Machine.{live_after}
+use Rattle.gate_history.specs.step.Meaning.{fact_of}
+use Rattle.gate_history.specs.state.Facts.{tell}
+use Rattle.gate_history.specs.write.Answers.{answers_by}
+use Rattle.gate_history.proofs.lemmas.Lists.{filter-map}
+use Rattle.gate_history.proofs.lemmas.step.NoCancel.{none-cancelled, stays-uncancelled}
 use Rattle.direct_run.specs.declared.submitted.Submitted.{Submitted}
 use Rattle.direct_run.specs.Moves.{World, GateReads}
 use Rattle.direct_device.specs.Direct.{number, seen_of}

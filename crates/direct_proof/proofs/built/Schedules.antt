@@ -3,7 +3,7 @@ use Rattle.std.proofs.Common.{◌≡◌, ℕ, List, [], ◌∷◌, Option, Some,
 use Rattle.std.specs.List.{AllByRecursion, flat_map}
 use Rattle.model_device.specs.Gadget.{IsGadget}
 use Rattle.model_device.specs.Meaning.{Meaning}
-use Rattle.gate_history.specs.Ups.{Up, no_streams, stream_of}
+use Rattle.gate_history.specs.state.Ups.{Up, no_streams, stream_of}
 use Rattle.direct_run.specs.Clients.{IsMove}
 use Rattle.direct_run.specs.Moves.{World, Move, first_world}
 use Rattle.direct_device.specs.Direct.{Direct, first_direct}

@@ -3,14 +3,14 @@ use Rattle.std.proofs.Common.{◌≡◌, ℕ, true, false, [], ◌++◌, None, r
 use Rattle.std.specs.List.{flat_map}
 use Rattle.usb_base.specs.declared.reason.Reason.{Reason}
 use Rattle.usb_base.specs.declared.side.Side.TheVariants.{Client}
-use Rattle.gate_history.specs.Marks.{Effect, Ends}
-use Rattle.gate_history.specs.Meaning.{refused}
-use Rattle.gate_history.specs.Notes.{import_notes, submit_notes, unlink_notes, arrival_notes, refusal_notes}
-use Rattle.gate_history.specs.Output.{replies, acknowledgements}
-use Rattle.gate_history.specs.Packets.{asked_packets, stops}
-use Rattle.gate_history.specs.Sides.{refused_at, leaves, is_loss, closes_host, imports, agrees}
-use Rattle.gate_history.specs.State.{State}
-use Rattle.gate_history.specs.Ups.{is_ended}
+use Rattle.gate_history.specs.step.Marks.{Effect, Ends}
+use Rattle.gate_history.specs.step.Meaning.{refused}
+use Rattle.gate_history.specs.write.Notes.{import_notes, submit_notes, unlink_notes, arrival_notes, refusal_notes}
+use Rattle.gate_history.specs.write.Output.{replies, acknowledgements}
+use Rattle.gate_history.specs.write.Packets.{asked_packets, stops}
+use Rattle.gate_history.specs.state.Sides.{refused_at, leaves, is_loss, closes_host, imports, agrees}
+use Rattle.gate_history.specs.state.State.{State}
+use Rattle.gate_history.specs.state.Ups.{is_ended}
 use Rattle.direct_run.specs.Noted.{named}
 use Rattle.direct_proof.specs.Moves.{import_deeds, submit_deeds, unlink_deeds, arrive_deeds}
 

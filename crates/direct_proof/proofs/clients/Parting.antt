@@ -4,19 +4,19 @@ use Rattle.usb_base.specs.declared.reason.Reason.{Reason}
 use Rattle.usb_base.specs.declared.side.Side.TheVariants.{Client}
 use Rattle.usbip_urb.specs.declared.client.ClientPacket.{ClientPacket}
 use Rattle.model_device.specs.Meaning.{Meaning}
-use Rattle.gate_history.specs.Items.{Asked, ClientLeft, ClientWrong}
-use Rattle.gate_history.specs.Marks.{Effect, Ends}
-use Rattle.gate_history.specs.Meaning.{mark_as, mark_of, meaning, refused}
-use Rattle.gate_history.specs.Output.{cancels, cancel}
-use Rattle.gate_history.specs.Sound.{IsSound}
-use Rattle.gate_history.specs.State.{State, next_ids}
-use Rattle.gate_history.specs.Submits.{Pending}
-use Rattle.gate_history.specs.Ups.{Up, is_ended, no_streams}
-use Rattle.gate_history.specs.Calls.{called, last_or}
-use Rattle.gate_history.specs.Ids.{last_of}
-use Rattle.gate_history.specs.Packets.{stops}
-use Rattle.gate_history.specs.Sides.{ends_client, refuses_client, turned}
-use Rattle.gate_history.specs.Verdict.{goes_by_id}
+use Rattle.gate_history.specs.step.Items.{Asked, ClientLeft, ClientWrong}
+use Rattle.gate_history.specs.step.Marks.{Effect, Ends}
+use Rattle.gate_history.specs.step.Meaning.{mark_as, mark_of, meaning, refused}
+use Rattle.gate_history.specs.write.Output.{cancels, cancel}
+use Rattle.gate_history.specs.state.Sound.{IsSound}
+use Rattle.gate_history.specs.state.State.{State, next_ids}
+use Rattle.gate_history.specs.client.Submits.{Pending}
+use Rattle.gate_history.specs.state.Ups.{Up, is_ended, no_streams}
+use Rattle.gate_history.specs.state.Calls.{called, last_or}
+use Rattle.gate_history.specs.state.Ids.{last_of}
+use Rattle.gate_history.specs.write.Packets.{stops}
+use Rattle.gate_history.specs.state.Sides.{ends_client, refuses_client, turned}
+use Rattle.gate_history.specs.client.Verdict.{goes_by_id}
 use Rattle.direct_run.specs.Moves.{World, ByClient}
 use Rattle.direct_device.specs.Acting.{ClientGone}
 use Rattle.direct_device.specs.Direct.{Waiting, no_way}

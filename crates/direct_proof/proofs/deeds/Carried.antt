@@ -6,15 +6,15 @@ use Rattle.redir_host.specs.declared.note.HostNote.{HostNote}
 use Rattle.redir_host.specs.declared.note.HostNote.TheVariants as host_note
 use Rattle.redir_host.specs.declared.note.Offered.{Offered}
 use Rattle.redir_host.specs.declared.note.Offered.TheVariants as offered
-use Rattle.redir_host.specs.Moves.{Move}
-use Rattle.redir_host.specs.Performing.{told_performed_by}
-use Rattle.gate_history.specs.Requests.{Request}
-use Rattle.gate_history.specs.Marks.{Submission, Effect, Imports, Unlinks, Arrives, Mark}
-use Rattle.gate_history.specs.Sides.{leaves, is_loss}
-use Rattle.gate_history.specs.Submits.{Pending, opened, ends}
-use Rattle.gate_history.specs.State.{State}
-use Rattle.gate_history.specs.Output.{present}
-use Rattle.gate_history.specs.Notes.{is_by_answer}
+use Rattle.redir_host.specs.step.Moves.{Move}
+use Rattle.redir_host.specs.device.Performing.{told_performed_by}
+use Rattle.gate_history.specs.client.Requests.{Request}
+use Rattle.gate_history.specs.step.Marks.{Submission, Effect, Imports, Unlinks, Arrives, Mark}
+use Rattle.gate_history.specs.state.Sides.{leaves, is_loss}
+use Rattle.gate_history.specs.client.Submits.{Pending, opened, ends}
+use Rattle.gate_history.specs.state.State.{State}
+use Rattle.gate_history.specs.write.Output.{present}
+use Rattle.gate_history.specs.write.Notes.{is_by_answer}
 use Rattle.direct_run.specs.declared.item.Item.{Item as Told}
 use Rattle.direct_run.specs.declared.submitted.Submitted.{Submitted}
 use Rattle.direct_run.specs.Noted.{item_of_host, performed_item, offered_item}

@@ -5,12 +5,12 @@ use Rattle.std.proofs.lemmas.Grind.{flat_map-append}
 use Rattle.usb_base.specs.declared.refusal.Refusal.{Refusal}
 use Rattle.gate_history.specs.declared.note.Note.{Note}
 use Rattle.gate_history.specs.declared.note.Note.TheVariants as note
-use Rattle.gate_history.specs.Marks.{Submission, Effect, Idle, Replies, Imports, Opens, Waits, Arrives, Unlinks, Agrees, Answers, StreamTold, Disconnects, Ends, Refuses, Mark}
-use Rattle.gate_history.specs.Sides.{refused_at, leaves, is_loss}
-use Rattle.gate_history.specs.Submits.{Pending, opened, ends}
-use Rattle.gate_history.specs.State.{State}
-use Rattle.gate_history.specs.Output.{present}
-use Rattle.gate_history.specs.Notes.{when, import_notes, submit_notes, unlink_notes, arrival_notes, answer_notes, refusal_notes, notes_of, is_by_answer}
+use Rattle.gate_history.specs.step.Marks.{Submission, Effect, Idle, Replies, Imports, Opens, Waits, Arrives, Unlinks, Agrees, Answers, StreamTold, Disconnects, Ends, Refuses, Mark}
+use Rattle.gate_history.specs.state.Sides.{refused_at, leaves, is_loss}
+use Rattle.gate_history.specs.client.Submits.{Pending, opened, ends}
+use Rattle.gate_history.specs.state.State.{State}
+use Rattle.gate_history.specs.write.Output.{present}
+use Rattle.gate_history.specs.write.Notes.{when, import_notes, submit_notes, unlink_notes, arrival_notes, answer_notes, refusal_notes, notes_of, is_by_answer}
 use Rattle.direct_run.specs.declared.item.Item.{Item}
 use Rattle.direct_run.specs.Noted.{item_of}
 use Rattle.direct_device.specs.Acting.{Deed, Submit, Answer, Gone, ClientGone}

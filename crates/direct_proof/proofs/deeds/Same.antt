@@ -5,13 +5,13 @@ use Rattle.std.proofs.lemmas.Grind.{flat_map-append}
 use Rattle.redir_data.specs.declared.packet.RedirPacket.{RedirPacket}
 use Rattle.redir_data.specs.Sent.{sent_header}
 use Rattle.model_device.specs.Meaning.{Meaning}
-use Rattle.redir_host.specs.Offering.{told_offered}
-use Rattle.redir_host.specs.Packets.{packet_move}
-use Rattle.redir_host.specs.Performing.{performed}
-use Rattle.gate_history.specs.Items.{Item as GateItem, Told}
-use Rattle.gate_history.specs.Marks.{Mark}
-use Rattle.gate_history.specs.Meaning.{mark_of}
-use Rattle.gate_history.specs.Past.{is_left_out}
+use Rattle.redir_host.specs.device.Offering.{told_offered}
+use Rattle.redir_host.specs.guest.Packets.{packet_move}
+use Rattle.redir_host.specs.device.Performing.{performed}
+use Rattle.gate_history.specs.step.Items.{Item as GateItem, Told}
+use Rattle.gate_history.specs.step.Marks.{Mark}
+use Rattle.gate_history.specs.step.Meaning.{mark_of}
+use Rattle.gate_history.specs.step.Past.{is_left_out}
 use Rattle.direct_run.specs.Moves.{World, Move, ByClient, HostReads, GateReads, Performs, Offers, Unplugs, first_world}
 use Rattle.direct_run.specs.Moves as told
 use Rattle.direct_device.specs.Legal.{item_of, request_in}

@@ -8,9 +8,9 @@ use Rattle.redir_data.specs.declared.packet.RedirPacket.TheVariants.{Carrying}
 use Rattle.model_device.specs.Transfer.{IsTransfer, is_control}
 use Rattle.redir_host.specs.declared.request.Asking.TheVariants.{Nothing, Asks}
 use Rattle.redir_host.specs.declared.request.Form.TheVariants as form
-use Rattle.redir_host.specs.Asking.{asking_of, asked_if, is_other, greatest}
-use Rattle.gate_history.specs.Verdict.{Pipe, Control, Bulk, InterruptOut}
-use Rattle.gate_history.specs.Packets.{wire_packet, control_packet, no_setup}
+use Rattle.redir_host.specs.guest.Asking.{asking_of, asked_if, is_other, greatest}
+use Rattle.gate_history.specs.client.Verdict.{Pipe, Control, Bulk, InterruptOut}
+use Rattle.gate_history.specs.write.Packets.{wire_packet, control_packet, no_setup}
 use Rattle.direct_proof.specs.Requests.{pipe_form}
 use Rattle.direct_proof.specs.Loads.{FitsPipe}
 use Rattle.direct_proof.proofs.performs.Performs.{itself}

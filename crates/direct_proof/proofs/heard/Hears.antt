@@ -17,13 +17,13 @@ use Rattle.redir_host.specs.declared.request.Asking.{Asking}
 use Rattle.redir_host.specs.declared.request.Asking.TheVariants.{Nothing, Refuses, Asks}
 use Rattle.redir_host.specs.declared.request.Form.{Form}
 use Rattle.redir_host.specs.declared.request.Form.TheVariants as form
-use Rattle.redir_host.specs.Asking.{asking_of, asked_if, routed}
-use Rattle.redir_host.specs.Line.{Waits, data_line}
-use Rattle.redir_host.specs.Moves.{quiet as host_quiet}
-use Rattle.redir_host.specs.Packets.{packet_move_by, data_move, joins, queued, request}
-use Rattle.redir_host.specs.Queues.{is_first_queue}
-use Rattle.gate_history.specs.Requests.{Request}
-use Rattle.gate_history.specs.Verdict.{Verdict, Control, Bulk, InterruptOut, Now, Wire, Routed, IsoOut, Stream, changes}
+use Rattle.redir_host.specs.guest.Asking.{asking_of, asked_if, routed}
+use Rattle.redir_host.specs.guest.Line.{Waits, data_line}
+use Rattle.redir_host.specs.step.Moves.{quiet as host_quiet}
+use Rattle.redir_host.specs.guest.Packets.{packet_move_by, data_move, joins, queued, request}
+use Rattle.redir_host.specs.state.Queues.{is_first_queue}
+use Rattle.gate_history.specs.client.Requests.{Request}
+use Rattle.gate_history.specs.client.Verdict.{Verdict, Control, Bulk, InterruptOut, Now, Wire, Routed, IsoOut, Stream, changes}
 use Rattle.direct_device.specs.Direct.{normal_of}
 use Rattle.direct_proof.specs.Requests.{Entry, at_queue, form_of, form_by, queued_transfer, resets}
 use Rattle.direct_proof.specs.Shared.{in_line}

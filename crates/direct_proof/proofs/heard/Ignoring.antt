@@ -4,10 +4,10 @@ use Rattle.redir_wire.specs.declared.packet.RedirControl.TheVariants as plain
 use Rattle.redir_data.specs.declared.packet.RedirPacket.{RedirPacket}
 use Rattle.redir_data.specs.declared.packet.RedirPacket.TheVariants.{Plain}
 use Rattle.model_device.specs.Meaning.{Meaning}
-use Rattle.redir_host.specs.Line.{Waiting as InLine, Reset}
-use Rattle.redir_host.specs.Moves.{quiet as host_quiet}
-use Rattle.redir_host.specs.Packets.{packet_move_by}
-use Rattle.redir_host.specs.Sound.{Each}
+use Rattle.redir_host.specs.guest.Line.{Waiting as InLine, Reset}
+use Rattle.redir_host.specs.step.Moves.{quiet as host_quiet}
+use Rattle.redir_host.specs.guest.Packets.{packet_move_by}
+use Rattle.redir_host.specs.state.Sound.{Each}
 use Rattle.direct_run.specs.Moves.{World, HostReads}
 use Rattle.direct_proof.specs.Moves.{move, quiet}
 use Rattle.direct_proof.specs.Shared.{Shared, in_line, lines, half_line, at_hosts}

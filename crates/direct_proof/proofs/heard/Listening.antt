@@ -7,11 +7,11 @@ use Rattle.model_device.specs.Meaning.{Meaning}
 use Rattle.redir_host.specs.declared.host.Host.{Host}
 use Rattle.redir_host.specs.declared.request.Request.{Request as HostRequest}
 use Rattle.redir_host.specs.declared.request.Form.{Form}
-use Rattle.redir_host.specs.Line.{Waiting as InLine, Waits}
-use Rattle.redir_host.specs.Moves.{quiet as host_quiet}
-use Rattle.redir_host.specs.Packets.{packet_move_by, joins}
-use Rattle.redir_host.specs.Sound.{Each}
-use Rattle.gate_history.specs.Bytes.{gateway_hello}
+use Rattle.redir_host.specs.guest.Line.{Waiting as InLine, Waits}
+use Rattle.redir_host.specs.step.Moves.{quiet as host_quiet}
+use Rattle.redir_host.specs.guest.Packets.{packet_move_by, joins}
+use Rattle.redir_host.specs.state.Sound.{Each}
+use Rattle.gate_history.specs.write.Bytes.{gateway_hello}
 use Rattle.direct_run.specs.Moves.{World, HostReads}
 use Rattle.direct_proof.specs.Moves.{move, quiet, host_reads, host_takes}
 use Rattle.direct_proof.specs.Requests.{Entry, at_queue, at_device}

@@ -8,14 +8,14 @@ use Rattle.redir_data.specs.declared.packet.RedirPacket.{RedirPacket}
 use Rattle.redir_data.specs.declared.packet.RedirPacket.TheVariants.{Plain}
 use Rattle.model_device.specs.Meaning.{Meaning}
 use Rattle.redir_host.specs.declared.request.Request.{Request as HostRequest}
-use Rattle.redir_host.specs.Queues.{is_cancelled_by as is_taken_by, after_cancel, leaves_mark}
-use Rattle.redir_host.specs.Answers.{ended}
+use Rattle.redir_host.specs.state.Queues.{is_cancelled_by as is_taken_by, after_cancel, leaves_mark}
+use Rattle.redir_host.specs.write.Answers.{ended}
 use Rattle.redir_host.specs.declared.note.HostNote.TheVariants as host_note
-use Rattle.redir_host.specs.Packets.{cancel_move, packet_move_by}
-use Rattle.redir_host.specs.Moves.{quiet as host_quiet}
-use Rattle.redir_host.specs.Sound.{Each}
-use Rattle.gate_history.specs.Ups.{stream_of}
-use Rattle.gate_history.specs.Verdict.{is_wire}
+use Rattle.redir_host.specs.guest.Packets.{cancel_move, packet_move_by}
+use Rattle.redir_host.specs.step.Moves.{quiet as host_quiet}
+use Rattle.redir_host.specs.state.Sound.{Each}
+use Rattle.gate_history.specs.state.Ups.{stream_of}
+use Rattle.gate_history.specs.client.Verdict.{is_wire}
 use Rattle.direct_run.specs.Noted.{number_in}
 use Rattle.direct_run.specs.Moves.{World, HostReads}
 use Rattle.direct_device.specs.Direct.{Direct, number, without_first}

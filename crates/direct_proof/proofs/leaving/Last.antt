@@ -3,7 +3,7 @@ use Rattle.std.proofs.Common.{◌≡◌, ℕ, List, [], ◌∷◌, ◌++◌, len
 use Rattle.std.specs.Prelude.{zip}
 use Rattle.std.specs.List.{AllByRecursion}
 use Rattle.redir_data.specs.declared.packet.RedirPacket.{RedirPacket}
-use Rattle.gate_history.specs.Calls.{last_or}
+use Rattle.gate_history.specs.state.Calls.{last_or}
 
 pub data IsLast (P : ℕ → Type 0) (before : Option ℕ) (zs : List (ℕ × RedirPacket)) (now : Option ℕ) : Type 0 where
   NoneIs : zs ≡ [] → now ≡ before → IsLast P before zs now

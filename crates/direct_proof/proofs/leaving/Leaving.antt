@@ -1,10 +1,10 @@
 -- A client that has imported leaves, whatever of streams and requests is under way.
 use Rattle.std.proofs.Common.{◌≡◌, true, false, None, sym, subst}
 use Rattle.model_device.specs.Meaning.{Meaning}
-use Rattle.gate_history.specs.Marks.{Effect}
-use Rattle.gate_history.specs.Meaning.{mark_as}
-use Rattle.gate_history.specs.Output.{cancels}
-use Rattle.gate_history.specs.Sides.{ends_client, refuses_client, turned}
+use Rattle.gate_history.specs.step.Marks.{Effect}
+use Rattle.gate_history.specs.step.Meaning.{mark_as}
+use Rattle.gate_history.specs.write.Output.{cancels}
+use Rattle.gate_history.specs.state.Sides.{ends_client, refuses_client, turned}
 use Rattle.direct_run.specs.Moves.{World}
 use Rattle.direct_proof.specs.Moves.{gate_made}
 use Rattle.direct_proof.specs.Related.{Related}

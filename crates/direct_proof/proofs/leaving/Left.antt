@@ -4,24 +4,24 @@ use Rattle.std.specs.Prelude.{zip}
 use Rattle.std.specs.List.{flat_map}
 use Rattle.std.proofs.lemmas.Grind.{flat_map-append}
 use Rattle.redir_data.specs.declared.packet.RedirPacket.{RedirPacket}
-use Rattle.gate_history.specs.Calls.{called, last_or, moved_fence}
-use Rattle.gate_history.specs.Facts.{no_facts, tell}
-use Rattle.gate_history.specs.Ids.{last_of}
-use Rattle.gate_history.specs.Marks.{Effect, Mark}
-use Rattle.gate_history.specs.Meaning.{mark_as, drawn_by}
-use Rattle.gate_history.specs.Notes.{import_notes, submit_notes, unlink_notes, arrival_notes, answer_notes, refusal_notes, notes_of, is_by_answer}
-use Rattle.gate_history.specs.Notes as notes
-use Rattle.gate_history.specs.Output.{present, cancels, cancel}
-use Rattle.gate_history.specs.Packets.{stops}
-use Rattle.gate_history.specs.Sides.{refused_at, leaves, is_loss, refuses_client, ends_client, turned}
-use Rattle.gate_history.specs.State.{State, submits, next_ids}
-use Rattle.gate_history.specs.Submits.{Pending, ByClient, ByLoss, is_answered, ends, own_end}
-use Rattle.gate_history.specs.Ups.{no_streams, is_ended, moved_streams}
-use Rattle.gate_history.specs.Verdict.{goes_by_id}
+use Rattle.gate_history.specs.state.Calls.{called, last_or, moved_fence}
+use Rattle.gate_history.specs.state.Facts.{no_facts, tell}
+use Rattle.gate_history.specs.state.Ids.{last_of}
+use Rattle.gate_history.specs.step.Marks.{Effect, Mark}
+use Rattle.gate_history.specs.step.Meaning.{mark_as, drawn_by}
+use Rattle.gate_history.specs.write.Notes.{import_notes, submit_notes, unlink_notes, arrival_notes, answer_notes, refusal_notes, notes_of, is_by_answer}
+use Rattle.gate_history.specs.write.Notes as notes
+use Rattle.gate_history.specs.write.Output.{present, cancels, cancel}
+use Rattle.gate_history.specs.write.Packets.{stops}
+use Rattle.gate_history.specs.state.Sides.{refused_at, leaves, is_loss, refuses_client, ends_client, turned}
+use Rattle.gate_history.specs.state.State.{State, submits, next_ids}
+use Rattle.gate_history.specs.client.Submits.{Pending, ByClient, ByLoss, is_answered, ends, own_end}
+use Rattle.gate_history.specs.state.Ups.{no_streams, is_ended, moved_streams}
+use Rattle.gate_history.specs.client.Verdict.{goes_by_id}
 use Rattle.gate_history.specs.declared.note.Note.{Note}
 use Rattle.gate_history.specs.declared.note.Note.TheVariants as note
-use Rattle.gate_history.proofs.Effects.{leaving-left, leaving-answered, leaving-noted}
-use Rattle.gate_history.proofs.Lists.{every, filter-same, filter-none}
+use Rattle.gate_history.proofs.lemmas.step.Effects.{leaving-left, leaving-answered, leaving-noted}
+use Rattle.gate_history.proofs.lemmas.Lists.{every, filter-same, filter-none}
 use Rattle.direct_run.specs.Moves.{World}
 use Rattle.direct_run.specs.Noted.{named}
 use Rattle.direct_run.specs.declared.submitted.Submitted.{Submitted}

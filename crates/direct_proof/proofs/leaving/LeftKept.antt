@@ -3,15 +3,15 @@ use Rattle.std.proofs.Common.{◌≡◌, ℕ, ◌||◌, not, Bool, true, false, 
 use Rattle.redir_data.specs.declared.packet.RedirPacket.{RedirPacket}
 use Rattle.model_device.specs.Meaning.{Meaning}
 use Rattle.redir_host.specs.declared.request.Request.{Request as HostRequest}
-use Rattle.redir_host.specs.Sound.{Each}
-use Rattle.gate_history.specs.Calls.{called, last_or}
-use Rattle.gate_history.specs.Marks.{Submission}
-use Rattle.gate_history.specs.Ids.{holds}
-use Rattle.gate_history.specs.Output.{cancel}
-use Rattle.gate_history.specs.State.{submits, flying}
-use Rattle.gate_history.specs.Submits.{Pending}
-use Rattle.gate_history.specs.Ups.{Up, no_streams}
-use Rattle.gate_history.proofs.Lists.{map-map}
+use Rattle.redir_host.specs.state.Sound.{Each}
+use Rattle.gate_history.specs.state.Calls.{called, last_or}
+use Rattle.gate_history.specs.step.Marks.{Submission}
+use Rattle.gate_history.specs.state.Ids.{holds}
+use Rattle.gate_history.specs.write.Output.{cancel}
+use Rattle.gate_history.specs.state.State.{submits, flying}
+use Rattle.gate_history.specs.client.Submits.{Pending}
+use Rattle.gate_history.specs.state.Ups.{Up, no_streams}
+use Rattle.gate_history.proofs.lemmas.Lists.{map-map}
 use Rattle.direct_run.specs.Moves.{World}
 use Rattle.direct_device.specs.Acting.{ClientGone}
 use Rattle.direct_device.specs.Direct.{Direct, Waiting}

@@ -3,10 +3,10 @@ use Rattle.std.proofs.Common.{◌≡◌, ℕ, Bool, true, false, cond, List, [],
 use Rattle.redir_data.specs.declared.packet.RedirPacket.{RedirPacket}
 use Rattle.redir_host.specs.declared.running.Running.{Running}
 use Rattle.redir_host.specs.declared.running.StreamKind.{StreamKind}
-use Rattle.redir_host.specs.Sound.{Each}
-use Rattle.gate_history.specs.Marks.{Submission}
-use Rattle.gate_history.specs.Ups.{Up, no_streams, stream_of}
-use Rattle.gate_history.specs.Verdict.{goes_by_id}
+use Rattle.redir_host.specs.state.Sound.{Each}
+use Rattle.gate_history.specs.step.Marks.{Submission}
+use Rattle.gate_history.specs.state.Ups.{Up, no_streams, stream_of}
+use Rattle.gate_history.specs.client.Verdict.{goes_by_id}
 use Rattle.direct_proof.specs.Cancels.{CancelsFit, IsAsked, begins, left, moved}
 use Rattle.direct_proof.specs.Kinds.{OfKind, StartOfKind, TaggedOfKind}
 use Rattle.direct_proof.specs.Requests.{Debt, Entry, debts_of, load_of}

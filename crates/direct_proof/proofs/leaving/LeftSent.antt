@@ -3,11 +3,11 @@ use Rattle.std.proofs.Common.{◌≡◌, ℕ, ◌||◌, Bool, true, false, List,
 use Rattle.std.specs.Prelude.{zip}
 use Rattle.redir_data.specs.declared.packet.RedirPacket.{RedirPacket}
 use Rattle.model_device.specs.Meaning.{Meaning}
-use Rattle.redir_host.specs.Line.{Waiting as InLine}
-use Rattle.redir_host.specs.Sound.{Each}
-use Rattle.gate_history.specs.Output.{cancel}
-use Rattle.gate_history.specs.State.{next_ids}
-use Rattle.gate_history.specs.Submits.{Pending}
+use Rattle.redir_host.specs.guest.Line.{Waiting as InLine}
+use Rattle.redir_host.specs.state.Sound.{Each}
+use Rattle.gate_history.specs.write.Output.{cancel}
+use Rattle.gate_history.specs.state.State.{next_ids}
+use Rattle.gate_history.specs.client.Submits.{Pending}
 use Rattle.direct_run.specs.Moves.{World}
 use Rattle.direct_proof.specs.Cancels.{CancelsFit, IsAsking, any_change}
 use Rattle.direct_proof.specs.Kinds.{CallIsIn}

@@ -4,17 +4,17 @@ use Rattle.std.specs.Prelude.{get_or, zip}
 use Rattle.redir_wire.specs.declared.packet.RedirControl.TheVariants as plain
 use Rattle.redir_data.specs.declared.packet.RedirPacket.{RedirPacket}
 use Rattle.redir_data.specs.declared.packet.RedirPacket.TheVariants.{Plain}
-use Rattle.redir_host.specs.Sound.{Each}
+use Rattle.redir_host.specs.state.Sound.{Each}
 use Rattle.usb_base.specs.Endpoint.{endpoint_index}
-use Rattle.gate_history.specs.Calls.{called, call_ids, last_or}
-use Rattle.gate_history.specs.Flight.{wide_ids, ids_of}
-use Rattle.gate_history.specs.Ids.{AreFresh, greatest, holds, times}
-use Rattle.gate_history.specs.Packets.{stops}
-use Rattle.gate_history.specs.State.{State, submits, flying}
-use Rattle.gate_history.specs.Ups.{Up, stream_of, lower, unless, is_ended}
-use Rattle.gate_history.specs.Verdict.{is_iso}
-use Rattle.gate_history.proofs.Called.{AreLong, times-append}
-use Rattle.gate_history.proofs.Draws.{length-draws}
+use Rattle.gate_history.specs.state.Calls.{called, call_ids, last_or}
+use Rattle.gate_history.specs.state.Flight.{wide_ids, ids_of}
+use Rattle.gate_history.specs.state.Ids.{AreFresh, greatest, holds, times}
+use Rattle.gate_history.specs.write.Packets.{stops}
+use Rattle.gate_history.specs.state.State.{State, submits, flying}
+use Rattle.gate_history.specs.state.Ups.{Up, stream_of, lower, unless, is_ended}
+use Rattle.gate_history.specs.client.Verdict.{is_iso}
+use Rattle.gate_history.proofs.lemmas.state.Calls.{AreLong, times-append}
+use Rattle.gate_history.proofs.lemmas.state.Draws.{length-draws}
 use Rattle.direct_proof.specs.Calls.{Controls, Fenced, IsKept, CallIsKept, StatusIsKept, calls_on, statuses_on}
 use Rattle.direct_proof.specs.Kinds.{UpsFit, UpFits}
 use Rattle.direct_proof.specs.Running.{Quits, Trails, called_endpoint}

@@ -1,12 +1,12 @@
 -- What the stops of a client's end take of a gateway is true of each that has taken items.
 use Rattle.std.proofs.Common.{◌≡◌, length, None, arith}
-use Rattle.gate_history.specs.Flight.{wide_ids}
-use Rattle.gate_history.specs.Ids.{greatest}
-use Rattle.gate_history.specs.Packets.{stops}
-use Rattle.gate_history.specs.State.{State, flying}
-use Rattle.gate_history.specs.Ups.{is_ended}
-use Rattle.gate_history.proofs.Called.{few-stops}
-use Rattle.gate_history.proofs.Draws.{draws-fresh}
+use Rattle.gate_history.specs.state.Flight.{wide_ids}
+use Rattle.gate_history.specs.state.Ids.{greatest}
+use Rattle.gate_history.specs.write.Packets.{stops}
+use Rattle.gate_history.specs.state.State.{State, flying}
+use Rattle.gate_history.specs.state.Ups.{is_ended}
+use Rattle.gate_history.proofs.lemmas.state.Calls.{few-stops}
+use Rattle.gate_history.proofs.lemmas.state.Draws.{draws-fresh}
 use Rattle.direct_proof.specs.Runs.{IsRun}
 use Rattle.direct_proof.proofs.races.Gates.{run-sound}
 use Rattle.direct_proof.proofs.streams.gates.Gates.{few-flying, many}

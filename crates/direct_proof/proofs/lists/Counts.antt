@@ -2,8 +2,8 @@
 use Rattle.std.proofs.Common.{◌≡◌, ℕ, ◌+◌, ◌≤◌, ◌<◌, ◌||◌, Bool, true, false, cond, not, eqb, List, [], ◌∷◌, ◌++◌, map, refl, sym, ap, ◌∙◌, arith}
 use Rattle.std.specs.Prelude.{filter}
 use Rattle.std.specs.List.{list_any}
-use Rattle.redir_host.specs.Sound.{Each}
-use Rattle.gate_history.proofs.Lists.{both}
+use Rattle.redir_host.specs.state.Sound.{Each}
+use Rattle.gate_history.proofs.lemmas.Lists.{both}
 pub use Rattle.direct_device.proofs.Counts.{count-append, count-map, count-parts, any-some, any-none, count-zero, zero-count, itself, Each-and, Each-map}
 use Rattle.direct_proof.specs.Ids.{count}
 

@@ -7,13 +7,13 @@ use Rattle.redir_wire.specs.declared.packet.Connect.{Connect}
 use Rattle.redir_wire.specs.declared.packet.Caps.{Caps}
 use Rattle.redir_data.specs.Sent.{sent_header}
 use Rattle.model_device.specs.Meaning.{Meaning}
-use Rattle.gate_history.specs.Items.{Told}
-use Rattle.gate_history.specs.Marks.{Idle, Agrees}
-use Rattle.gate_history.specs.State.{State}
-use Rattle.gate_history.specs.Meaning.{meaning, mark_as, fact_of}
-use Rattle.gate_history.specs.Facts.{tell}
-use Rattle.gate_history.specs.Verdict.{is_iso}
-use Rattle.gate_history.specs.Ups.{Up, stream_of}
+use Rattle.gate_history.specs.step.Items.{Told}
+use Rattle.gate_history.specs.step.Marks.{Idle, Agrees}
+use Rattle.gate_history.specs.state.State.{State}
+use Rattle.gate_history.specs.step.Meaning.{meaning, mark_as, fact_of}
+use Rattle.gate_history.specs.state.Facts.{tell}
+use Rattle.gate_history.specs.client.Verdict.{is_iso}
+use Rattle.gate_history.specs.state.Ups.{Up, stream_of}
 use Rattle.direct_run.specs.Moves.{World, GateReads}
 use Rattle.direct_run.specs.Packets.{both_caps}
 use Rattle.direct_proof.specs.Moves.{move, quiet, gate_reads, gate_made}

@@ -3,7 +3,7 @@ use Rattle.std.proofs.Common.{◌≡◌, ℕ, zero, suc, ◌%◌, nat_lt, Bool, 
 use Rattle.std.specs.Prelude.{replicate}
 use Rattle.usb_base.specs.Endpoint.{endpoint_index}
 use Rattle.model_device.specs.Meaning.{Meaning}
-use Rattle.gate_history.specs.Ups.{Up, stream_of, stream_at, no_streams}
+use Rattle.gate_history.specs.state.Ups.{Up, stream_of, stream_at, no_streams}
 use Rattle.direct_run.specs.Moves.{first_world}
 use Rattle.direct_proof.specs.Shared.{Shared}
 use Rattle.direct_proof.specs.Tagged.{Greeted}

@@ -9,19 +9,19 @@ use Rattle.usbip_urb.specs.declared.client.ClientPacket.TheVariants.{Op, Urb}
 use Rattle.redir_wire.specs.declared.packet.Connect.{Connect}
 use Rattle.redir_data.specs.declared.packet.RedirPacket.{RedirPacket}
 use Rattle.model_device.specs.Meaning.{Meaning}
-use Rattle.gate_history.specs.Items.{Asked}
-use Rattle.gate_history.specs.Marks.{Replies, Imports}
-use Rattle.gate_history.specs.Submits.{Pending, ends}
-use Rattle.gate_history.specs.Replies.{list_reply, import_reply, failed_import, is_exported}
-use Rattle.gate_history.specs.Output.{present}
-use Rattle.gate_history.specs.Verdict.{none_of}
-use Rattle.gate_history.specs.State.{State}
-use Rattle.gate_history.specs.Sound.{IsSound}
-use Rattle.gate_history.specs.Machine.{live_after}
-use Rattle.gate_history.specs.Meaning.{mark_as, mark_of, refused, may_import, importable, imported_as}
+use Rattle.gate_history.specs.step.Items.{Asked}
+use Rattle.gate_history.specs.step.Marks.{Replies, Imports}
+use Rattle.gate_history.specs.client.Submits.{Pending, ends}
+use Rattle.gate_history.specs.client.Replies.{list_reply, import_reply, failed_import, is_exported}
+use Rattle.gate_history.specs.write.Output.{present}
+use Rattle.gate_history.specs.client.Verdict.{none_of}
+use Rattle.gate_history.specs.state.State.{State}
+use Rattle.gate_history.specs.state.Sound.{IsSound}
+use Rattle.gate_history.specs.step.Machine.{live_after}
+use Rattle.gate_history.specs.step.Meaning.{mark_as, mark_of, refused, may_import, importable, imported_as}
 use Rattle.gate_history.specs.declared.note.Note.TheVariants as note
-use Rattle.gate_history.proofs.Lists.{filter-all, filter-none, flat_map-none}
-use Rattle.gate_history.proofs.Uncancelled.{asks-none, none-cancelled, stays-uncancelled}
+use Rattle.gate_history.proofs.lemmas.Lists.{filter-all, filter-none, flat_map-none}
+use Rattle.gate_history.proofs.lemmas.step.NoCancel.{asks-none, none-cancelled, stays-uncancelled}
 use Rattle.direct_run.specs.Noted.{named}
 use Rattle.direct_run.specs.Moves.{World, ByClient}
 use Rattle.direct_device.specs.Acting.{Import, Answer}

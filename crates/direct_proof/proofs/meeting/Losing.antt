@@ -8,22 +8,22 @@ use Rattle.redir_wire.specs.declared.packet.RedirControl.TheVariants as plain
 use Rattle.redir_data.specs.declared.packet.RedirPacket.{RedirPacket}
 use Rattle.redir_data.specs.declared.packet.RedirPacket.TheVariants.{Plain}
 use Rattle.model_device.specs.Meaning.{Meaning}
-use Rattle.redir_host.specs.Line.{Waiting as InLine}
-use Rattle.redir_host.specs.Sound.{Each}
-use Rattle.gate_history.specs.Marks.{Submission, Effect, Disconnects}
-use Rattle.gate_history.specs.Submits.{Pending, ends}
-use Rattle.gate_history.specs.Answers.{answers_at, lost_answer}
-use Rattle.gate_history.specs.Output.{present, acknowledgements}
-use Rattle.gate_history.specs.Notes as notes
-use Rattle.gate_history.specs.Facts.{no_facts}
-use Rattle.gate_history.specs.State.{State}
-use Rattle.gate_history.specs.Sound.{IsSound}
-use Rattle.gate_history.specs.Machine.{ask}
-use Rattle.gate_history.specs.Meaning.{mark_as}
-use Rattle.gate_history.specs.Ups.{no_streams, stream_of}
+use Rattle.redir_host.specs.guest.Line.{Waiting as InLine}
+use Rattle.redir_host.specs.state.Sound.{Each}
+use Rattle.gate_history.specs.step.Marks.{Submission, Effect, Disconnects}
+use Rattle.gate_history.specs.client.Submits.{Pending, ends}
+use Rattle.gate_history.specs.write.Answers.{answers_at, lost_answer}
+use Rattle.gate_history.specs.write.Output.{present, acknowledgements}
+use Rattle.gate_history.specs.write.Notes as notes
+use Rattle.gate_history.specs.state.Facts.{no_facts}
+use Rattle.gate_history.specs.state.State.{State}
+use Rattle.gate_history.specs.state.Sound.{IsSound}
+use Rattle.gate_history.specs.step.Machine.{ask}
+use Rattle.gate_history.specs.step.Meaning.{mark_as}
+use Rattle.gate_history.specs.state.Ups.{no_streams, stream_of}
 use Rattle.gate_history.specs.declared.note.Note.TheVariants as note
-use Rattle.gate_history.proofs.Lists.{filter-none}
-use Rattle.gate_history.proofs.Uncancelled.{none-cancelled, stays-uncancelled}
+use Rattle.gate_history.proofs.lemmas.Lists.{filter-none}
+use Rattle.gate_history.proofs.lemmas.step.NoCancel.{none-cancelled, stays-uncancelled}
 use Rattle.direct_run.specs.Noted.{named}
 use Rattle.direct_run.specs.Moves.{World, GateReads}
 use Rattle.direct_device.specs.Direct.{Live, as_submission}

@@ -5,13 +5,13 @@ use Rattle.redir_data.specs.declared.packet.RedirPacket.{RedirPacket}
 use Rattle.model_device.specs.Meaning.{Meaning}
 use Rattle.redir_host.specs.declared.host.Host.{Host}
 use Rattle.redir_host.specs.declared.running.Running.{Running}
-use Rattle.redir_host.specs.Moves.{quiet as host_quiet}
-use Rattle.redir_host.specs.Packets.{greets, runs_at}
-use Rattle.redir_host.specs.Sound.{Each}
-use Rattle.gate_history.specs.Bytes.{gateway_hello}
+use Rattle.redir_host.specs.step.Moves.{quiet as host_quiet}
+use Rattle.redir_host.specs.guest.Packets.{greets, runs_at}
+use Rattle.redir_host.specs.state.Sound.{Each}
+use Rattle.gate_history.specs.write.Bytes.{gateway_hello}
 use Rattle.gate_history.specs.declared.facts.Facts.{Facts}
-use Rattle.gate_history.specs.Ups.{Up, stream_of}
-use Rattle.gate_history.specs.Verdict.{is_iso}
+use Rattle.gate_history.specs.state.Ups.{Up, stream_of}
+use Rattle.gate_history.specs.client.Verdict.{is_iso}
 use Rattle.direct_run.specs.Moves.{World, HostReads}
 use Rattle.direct_run.specs.Packets.{both_caps}
 use Rattle.direct_proof.specs.Moves.{move, host_reads, host_takes}

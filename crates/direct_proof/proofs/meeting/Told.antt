@@ -4,16 +4,16 @@ use Rattle.std.specs.List.{flat_map}
 use Rattle.usbip_urb.specs.declared.client.ClientPacket.TheVariants.{Urb}
 use Rattle.redir_wire.specs.declared.packet.Caps.{Caps}
 use Rattle.redir_data.specs.declared.packet.RedirPacket.{RedirPacket}
-use Rattle.gate_history.specs.Marks.{Fact, Idle, Agrees}
-use Rattle.gate_history.specs.Submits.{Pending, ends}
-use Rattle.gate_history.specs.Output.{present}
-use Rattle.gate_history.specs.State.{State}
-use Rattle.gate_history.specs.Machine.{live_after}
-use Rattle.gate_history.specs.Meaning.{mark_as}
-use Rattle.gate_history.specs.Facts.{tell}
+use Rattle.gate_history.specs.step.Marks.{Fact, Idle, Agrees}
+use Rattle.gate_history.specs.client.Submits.{Pending, ends}
+use Rattle.gate_history.specs.write.Output.{present}
+use Rattle.gate_history.specs.state.State.{State}
+use Rattle.gate_history.specs.step.Machine.{live_after}
+use Rattle.gate_history.specs.step.Meaning.{mark_as}
+use Rattle.gate_history.specs.state.Facts.{tell}
 use Rattle.gate_history.specs.declared.note.Note.TheVariants as note
-use Rattle.gate_history.proofs.Lists.{filter-all, filter-none, flat_map-none}
-use Rattle.gate_history.proofs.Uncancelled.{asks-none, none-cancelled, stays-uncancelled}
+use Rattle.gate_history.proofs.lemmas.Lists.{filter-all, filter-none, flat_map-none}
+use Rattle.gate_history.proofs.lemmas.step.NoCancel.{asks-none, none-cancelled, stays-uncancelled}
 use Rattle.direct_run.specs.Noted.{named}
 use Rattle.direct_run.specs.Moves.{World}
 use Rattle.direct_device.specs.Acting.{Answer}

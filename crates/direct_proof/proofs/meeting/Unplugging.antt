@@ -6,11 +6,11 @@ use Rattle.redir_data.specs.declared.packet.RedirPacket.{RedirPacket}
 use Rattle.redir_data.specs.declared.packet.RedirPacket.TheVariants.{Plain}
 use Rattle.model_device.specs.Meaning.{Meaning}
 use Rattle.redir_host.specs.declared.host.Host.{Host}
-use Rattle.redir_host.specs.Moves.{quiet as host_quiet}
-use Rattle.redir_host.specs.Sound.{Each}
+use Rattle.redir_host.specs.step.Moves.{quiet as host_quiet}
+use Rattle.redir_host.specs.state.Sound.{Each}
 use Rattle.gate_history.specs.declared.facts.Facts.{Facts}
-use Rattle.gate_history.specs.Ups.{Up, stream_of}
-use Rattle.gate_history.specs.Verdict.{is_iso}
+use Rattle.gate_history.specs.state.Ups.{Up, stream_of}
+use Rattle.gate_history.specs.client.Verdict.{is_iso}
 use Rattle.direct_run.specs.Moves.{World, Unplugs}
 use Rattle.direct_proof.specs.Moves.{move, quiet, host_made}
 use Rattle.direct_proof.specs.Requests.{Coming, ran_of}

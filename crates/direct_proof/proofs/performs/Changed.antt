@@ -5,18 +5,18 @@ use Rattle.usb_base.specs.declared.transfer.Outcome.{Outcome}
 use Rattle.usb_base.specs.declared.endpoint.EpTable.{EpTable}
 use Rattle.usb_base.specs.declared.status.UsbStatus.TheVariants.{Cancelled}
 use Rattle.control_route.specs.declared.route.Route.{Route}
+use Rattle.model_device.specs.Device.{is_success}
 use Rattle.model_device.specs.Meaning.{Meaning}
 use Rattle.model_device.specs.Gadget.{IsGadget}
-use Rattle.model_device.specs.Device.{is_success}
 use Rattle.redir_host.specs.declared.request.Request.{Request as HostRequest}
 use Rattle.redir_host.specs.declared.running.Running.{Running}
-use Rattle.redir_host.specs.Queues.{queue_of, is_at}
-use Rattle.redir_host.specs.Changes.{is_touched}
-use Rattle.redir_host.specs.Answers.{ended}
-use Rattle.redir_host.specs.Sound.{Each}
-use Rattle.gate_history.specs.Verdict.{is_iso}
-use Rattle.gate_history.specs.Ups.{Up, stream_of}
-use Rattle.gate_history.proofs.Lists.{filter-map}
+use Rattle.redir_host.specs.state.Queues.{queue_of, is_at}
+use Rattle.redir_host.specs.device.Changes.{is_touched}
+use Rattle.redir_host.specs.write.Answers.{ended}
+use Rattle.redir_host.specs.state.Sound.{Each}
+use Rattle.gate_history.specs.client.Verdict.{is_iso}
+use Rattle.gate_history.specs.state.Ups.{Up, stream_of}
+use Rattle.gate_history.proofs.lemmas.Lists.{filter-map}
 use Rattle.direct_run.specs.Noted.{queue_byte}
 use Rattle.direct_run.specs.Moves.{World, Performs}
 use Rattle.direct_device.specs.Direct.{Waiting, Ran, Direct, number, normal_of, change_in, cancelled, is_at as is_first_at, without_first as without}

@@ -6,20 +6,20 @@ use Rattle.usb_base.specs.declared.transfer.Outcome.{Outcome}
 use Rattle.usb_base.specs.declared.endpoint.EpTable.{EpTable}
 use Rattle.control_route.specs.declared.route.Route.{Route}
 use Rattle.control_route.specs.Changes.{is_change as is_route_change}
+use Rattle.model_device.specs.Device.{is_success}
 use Rattle.model_device.specs.Meaning.{Meaning}
 use Rattle.model_device.specs.Gadget.{IsGadget, IsNamed}
-use Rattle.model_device.specs.Device.{is_success}
 use Rattle.model_device.specs.Transfer.{IsOutcome, is_control}
 use Rattle.redir_host.specs.declared.host.Host.{Host}
 use Rattle.redir_host.specs.declared.request.Request.{Request as HostRequest}
 use Rattle.redir_host.specs.declared.running.Running.{Running}
-use Rattle.redir_host.specs.Queues.{queue_of, is_at, without_first}
-use Rattle.redir_host.specs.Performing.{performs_any, does, with_id}
-use Rattle.redir_host.specs.Sound.{Each}
-use Rattle.gate_history.specs.Verdict.{Verdict, Now, Wire, Routed, IsoOut, Stream, changes}
-use Rattle.gate_history.specs.Ups.{stream_of}
-use Rattle.gate_history.specs.Facts.{tell}
-use Rattle.gate_history.specs.Meaning.{fact_of}
+use Rattle.redir_host.specs.state.Queues.{queue_of, is_at, without_first}
+use Rattle.redir_host.specs.device.Performing.{performs_any, does, with_id}
+use Rattle.redir_host.specs.state.Sound.{Each}
+use Rattle.gate_history.specs.client.Verdict.{Verdict, Now, Wire, Routed, IsoOut, Stream, changes}
+use Rattle.gate_history.specs.state.Ups.{stream_of}
+use Rattle.gate_history.specs.state.Facts.{tell}
+use Rattle.gate_history.specs.step.Meaning.{fact_of}
 use Rattle.gate_history.specs.declared.facts.Facts.{Facts}
 use Rattle.direct_run.specs.Noted.{queue_byte, number_in}
 use Rattle.direct_run.specs.Moves.{World, Performs}

@@ -8,11 +8,11 @@ use Rattle.model_device.specs.Meaning.{Meaning}
 use Rattle.redir_host.specs.declared.host.Host.{Host}
 use Rattle.redir_host.specs.declared.request.Request.{Request as HostRequest}
 use Rattle.redir_host.specs.declared.running.Running.{Running}
-use Rattle.redir_host.specs.Changes.{is_touched, touched, stays, runs_on, changed}
-use Rattle.redir_host.specs.Answers.{answer, cancelled as cancel_answer}
-use Rattle.redir_host.specs.Facts.{facts_of}
-use Rattle.redir_host.specs.Moves.{then_sends}
-use Rattle.gate_history.proofs.Lists.{filter-map, filter-same, filter-all, filter-none, every}
+use Rattle.redir_host.specs.device.Changes.{is_touched, touched, stays, runs_on, changed}
+use Rattle.redir_host.specs.write.Answers.{answer, cancelled as cancel_answer}
+use Rattle.redir_host.specs.device.Facts.{facts_of}
+use Rattle.redir_host.specs.step.Moves.{then_sends}
+use Rattle.gate_history.proofs.lemmas.Lists.{filter-map, filter-same, filter-all, filter-none, every}
 use Rattle.direct_run.specs.Packets.{both_caps}
 use Rattle.direct_device.specs.Direct.{normal_of}
 use Rattle.direct_proof.specs.Requests.{Entry, Coming, at_queue}

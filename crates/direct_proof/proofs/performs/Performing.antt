@@ -12,12 +12,12 @@ use Rattle.control_route.specs.Changes.{is_change as is_route_change}
 use Rattle.model_device.specs.Meaning.{Meaning}
 use Rattle.model_device.specs.Gadget.{IsGadget, SameFacts, IsNamed}
 use Rattle.model_device.specs.Transfer.{IsOutcome, asks_change, setup_changes}
-use Rattle.redir_host.specs.Asking.{routed}
+use Rattle.redir_host.specs.guest.Asking.{routed}
 use Rattle.redir_host.specs.declared.request.Request.{Request as HostRequest}
-use Rattle.redir_host.specs.Queues.{queue_of, is_at, without_first}
-use Rattle.redir_host.specs.Performing.{performed, first_performed, performs_any, does, with_id}
-use Rattle.redir_host.specs.Sound.{Each}
-use Rattle.gate_history.specs.Verdict.{Verdict, Pipe, Control, Bulk, InterruptOut, Now, Wire, Routed, IsoOut, Stream, changes}
+use Rattle.redir_host.specs.state.Queues.{queue_of, is_at, without_first}
+use Rattle.redir_host.specs.device.Performing.{performed, first_performed, performs_any, does, with_id}
+use Rattle.redir_host.specs.state.Sound.{Each}
+use Rattle.gate_history.specs.client.Verdict.{Verdict, Pipe, Control, Bulk, InterruptOut, Now, Wire, Routed, IsoOut, Stream, changes}
 use Rattle.direct_run.specs.Noted.{queue_byte, number_in}
 use Rattle.direct_run.specs.Moves.{World, Performs}
 use Rattle.direct_device.specs.Direct.{Load, number, normal_of, normal_by, change_in}

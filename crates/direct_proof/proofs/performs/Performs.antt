@@ -4,16 +4,16 @@ use Rattle.std.specs.List.{find}
 use Rattle.usb_base.specs.declared.transfer.Outcome.{Outcome}
 use Rattle.control_route.specs.declared.route.Route.{Route}
 use Rattle.control_route.specs.declared.route.Route.TheVariants as route
-use Rattle.model_device.specs.Meaning.{Meaning}
 use Rattle.model_device.specs.Device.{is_success}
+use Rattle.model_device.specs.Meaning.{Meaning}
 use Rattle.redir_host.specs.declared.host.Host.{Host}
 use Rattle.redir_host.specs.declared.request.Request.{Request as HostRequest}
-use Rattle.redir_host.specs.Queues.{queue_of, is_at, without_first}
-use Rattle.redir_host.specs.Performing.{does, performs_any, first_performed, with_id}
-use Rattle.gate_history.proofs.Lists.{filter-all, filter-none}
-use Rattle.gate_history.specs.Ups.{stream_of}
-use Rattle.gate_history.specs.Verdict.{Verdict, Now, Wire, Routed, IsoOut, Stream}
-use Rattle.gate_history.specs.Requests.{Request}
+use Rattle.redir_host.specs.state.Queues.{queue_of, is_at, without_first}
+use Rattle.redir_host.specs.device.Performing.{does, performs_any, first_performed, with_id}
+use Rattle.gate_history.proofs.lemmas.Lists.{filter-all, filter-none}
+use Rattle.gate_history.specs.state.Ups.{stream_of}
+use Rattle.gate_history.specs.client.Verdict.{Verdict, Now, Wire, Routed, IsoOut, Stream}
+use Rattle.gate_history.specs.client.Requests.{Request}
 use Rattle.direct_run.specs.Noted.{queue_byte, number_in}
 use Rattle.direct_run.specs.Moves.{World, Performs}
 use Rattle.direct_device.specs.Direct.{Load, Waiting, Direct, number, normal_of, normal_by, change_in, cancelled, is_at as is_first_at, without_first as without}

@@ -4,9 +4,9 @@ use Rattle.std.specs.List.{list_any}
 use Rattle.usb_base.specs.declared.endpoint.EpTable.{EpTable}
 use Rattle.control_route.specs.declared.route.Route.{Route}
 use Rattle.redir_host.specs.declared.running.Running.{Running}
-use Rattle.redir_host.specs.Packets.{runs_at}
-use Rattle.redir_host.specs.Changes.{runs_on}
-use Rattle.redir_host.specs.Sound.{Each}
+use Rattle.redir_host.specs.guest.Packets.{runs_at}
+use Rattle.redir_host.specs.device.Changes.{runs_on}
+use Rattle.redir_host.specs.state.Sound.{Each}
 use Rattle.direct_proof.specs.Running.{Quits}
 use Rattle.direct_proof.proofs.shared.Owed.{each-filter}
 use Rattle.direct_proof.proofs.shared.Folds.{clash, or-none}

@@ -4,21 +4,21 @@ use Rattle.std.specs.List.{AllByRecursion}
 use Rattle.redir_data.specs.declared.packet.RedirPacket.{RedirPacket}
 use Rattle.redir_data.specs.Sent.{sent_header}
 use Rattle.model_device.specs.Meaning.{Meaning}
-use Rattle.redir_host.specs.Sound.{Each}
-use Rattle.gate_history.specs.Items.{Item as GateItem, Told}
-use Rattle.gate_history.specs.Marks.{Submission, Mark}
-use Rattle.gate_history.specs.Submits.{Pending, pending, live, abandoned}
-use Rattle.gate_history.specs.Ids.{holds, AreFresh, Fits, greatest}
-use Rattle.gate_history.specs.Flight.{ids_of, in_flight, wide_ids}
-use Rattle.gate_history.specs.Calls.{calls, call_ids}
-use Rattle.gate_history.specs.State.{State, state_of, submits, flying}
-use Rattle.gate_history.specs.Sound.{IsSound, HasFewPackets}
-use Rattle.gate_history.specs.Past.{is_left_out, past}
-use Rattle.gate_history.specs.Meaning.{mark_of}
-use Rattle.gate_history.specs.Machine.{step, after}
-use Rattle.gate_history.proofs.States.{state-sound}
-use Rattle.gate_history.proofs.Runs.{state-run}
-use Rattle.gate_history.proofs.Flights.{item-fresh}
+use Rattle.redir_host.specs.state.Sound.{Each}
+use Rattle.gate_history.specs.step.Items.{Item as GateItem, Told}
+use Rattle.gate_history.specs.step.Marks.{Submission, Mark}
+use Rattle.gate_history.specs.client.Submits.{Pending, pending, live, abandoned}
+use Rattle.gate_history.specs.state.Ids.{holds, AreFresh, Fits, greatest}
+use Rattle.gate_history.specs.state.Flight.{ids_of, in_flight, wide_ids}
+use Rattle.gate_history.specs.state.Calls.{calls, call_ids}
+use Rattle.gate_history.specs.state.State.{State, state_of, submits, flying}
+use Rattle.gate_history.specs.state.Sound.{IsSound, HasFewPackets}
+use Rattle.gate_history.specs.step.Past.{is_left_out, past}
+use Rattle.gate_history.specs.step.Meaning.{mark_of}
+use Rattle.gate_history.specs.step.Machine.{step, after}
+use Rattle.gate_history.proofs.lemmas.state.Sound.{state-sound}
+use Rattle.gate_history.proofs.lemmas.step.Runs.{state-run}
+use Rattle.gate_history.proofs.lemmas.state.Flights.{item-fresh}
 use Rattle.direct_run.specs.World.{first_id}
 use Rattle.direct_run.specs.Moves.{World, Move, ByClient, HostReads, GateReads, Performs, Offers, Unplugs}
 use Rattle.direct_proof.proofs.submits.Submitting.{AreBefore}

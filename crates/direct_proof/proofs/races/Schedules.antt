@@ -10,13 +10,13 @@ use Rattle.usbip_urb.specs.declared.client.ClientPacket.TheVariants.{Op, Urb}
 use Rattle.redir_data.specs.declared.packet.RedirPacket.{RedirPacket}
 use Rattle.model_device.specs.Meaning.{Meaning}
 use Rattle.model_device.specs.Gadget.{IsGadget}
-use Rattle.redir_host.specs.Sound.{Each}
+use Rattle.redir_host.specs.state.Sound.{Each}
 use Rattle.redir_host.specs.declared.running.StreamKind.TheVariants.{Iso, Interrupt}
-use Rattle.gate_history.specs.Items.{Asked, ClientWrong, ClientLeft, Told, HostWrong, HostLeft}
-use Rattle.gate_history.specs.Sound.{IsSound}
-use Rattle.gate_history.specs.Meaning.{refused, import_meaning}
-use Rattle.gate_history.specs.Marks.{Unlinks, Replies}
-use Rattle.gate_history.specs.Replies.{list_reply}
+use Rattle.gate_history.specs.step.Items.{Asked, ClientWrong, ClientLeft, Told, HostWrong, HostLeft}
+use Rattle.gate_history.specs.state.Sound.{IsSound}
+use Rattle.gate_history.specs.step.Meaning.{refused, import_meaning}
+use Rattle.gate_history.specs.step.Marks.{Unlinks, Replies}
+use Rattle.gate_history.specs.client.Replies.{list_reply}
 use Rattle.direct_run.specs.Moves.{World, Move, ByClient, HostReads, GateReads, Performs, Offers, Unplugs}
 use Rattle.direct_proof.specs.Runs.{IsRun}
 use Rattle.direct_proof.specs.Shared.{Shared}

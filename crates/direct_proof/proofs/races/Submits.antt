@@ -9,23 +9,24 @@ use Rattle.usbip_urb.specs.declared.packet.Submit.{Submit as UrbSubmit}
 use Rattle.usbip_urb.specs.declared.packet.UrbPacket.TheVariants as urb
 use Rattle.usbip_urb.specs.declared.client.ClientPacket.TheVariants.{Urb}
 use Rattle.usbip_urb.specs.ClientPackets.{IsClientPacket}
+use Rattle.usbip_urb.specs.declared.code.TheConstants.{MAX_LIVE}
 use Rattle.redir_data.specs.declared.packet.RedirPacket.{RedirPacket}
 use Rattle.control_route.specs.declared.route.Route.{Route}
 use Rattle.control_route.specs.declared.route.Route.TheVariants as route
 use Rattle.model_device.specs.Meaning.{Meaning}
 use Rattle.model_device.specs.Transfer.{IsTransfer, is_control}
 use Rattle.model_device.specs.Gadget.{IsGadget}
-use Rattle.redir_host.specs.Sound.{Each}
-use Rattle.gate_history.specs.Requests.{Request, request_of}
-use Rattle.gate_history.specs.Items.{Asked}
-use Rattle.gate_history.specs.Verdict.{Verdict, Pipe, Now, Wire, Routed, IsoOut, Stream, by_transfer, by_endpoint, max_live}
-use Rattle.gate_history.specs.Errno.{enoent, eshutdown, ebusy}
-use Rattle.gate_history.specs.Flight.{wide_bulk}
-use Rattle.gate_history.specs.Ups.{Up, is_ended}
-use Rattle.gate_history.specs.Submits.{Pending, is_touched}
-use Rattle.gate_history.specs.State.{State, change_waits, next_ids, has_number}
-use Rattle.gate_history.specs.Meaning.{verdict_of, mark_of, drawn_by, meaning, refused, accepts}
-use Rattle.gate_history.proofs.Lists.{Each as ListEach}
+use Rattle.redir_host.specs.state.Sound.{Each}
+use Rattle.gate_history.specs.client.Requests.{Request, request_of}
+use Rattle.gate_history.specs.step.Items.{Asked}
+use Rattle.gate_history.specs.client.Verdict.{Verdict, Pipe, Now, Wire, Routed, IsoOut, Stream, by_transfer, by_endpoint}
+use Rattle.gate_history.specs.write.Errno.{enoent, eshutdown, ebusy}
+use Rattle.gate_history.specs.state.Flight.{wide_bulk}
+use Rattle.gate_history.specs.state.Ups.{Up, is_ended}
+use Rattle.gate_history.specs.client.Submits.{Pending, is_touched}
+use Rattle.gate_history.specs.state.State.{State, change_waits, next_ids, has_number}
+use Rattle.gate_history.specs.step.Meaning.{verdict_of, mark_of, drawn_by, meaning, refused, accepts}
+use Rattle.gate_history.proofs.lemmas.Lists.{Each as ListEach}
 use Rattle.direct_run.specs.Moves.{World, ByClient}
 use Rattle.direct_device.specs.Direct.{normal_by}
 use Rattle.direct_proof.specs.Runs.{IsRun}
@@ -42,9 +43,9 @@ use Rattle.direct_proof.proofs.submits.Fresh.{IsSimpleSubmit}
 use Rattle.direct_proof.proofs.submits.Accepted.{keep-simple}
 use Rattle.direct_proof.proofs.shared.Keeps.{Keeps}
 use Rattle.direct_proof.proofs.shared.New.{IsDrawn}
-use Rattle.gate_history.specs.Verdict.{goes_by_id, verdict}
-use Rattle.gate_history.specs.Ups.{stream_at}
-use Rattle.gate_history.specs.Meaning.{by_stream}
+use Rattle.gate_history.specs.client.Verdict.{goes_by_id, verdict}
+use Rattle.gate_history.specs.state.Ups.{stream_at}
+use Rattle.gate_history.specs.step.Meaning.{by_stream}
 use Rattle.direct_device.specs.Direct.{any_changes}
 use Rattle.direct_device.specs.Acting.{made_of}
 use Rattle.direct_proof.specs.Requests.{live_of}
@@ -84,8 +85,8 @@ wire-behind st r pipe is transfer = go (change_waits st) refl
 
     by : (c : Bool) → change_waits st ≡ c → c ≡ true → (setup : Option Setup) → r.transfer.setup ≡ setup → is_control r.transfer.ep ≡ true
     by c e t (Some s) k = sym transfer.has_setup ∙ ap is_some k
-    by c e t None k = absurd (never st.lost (nat_le max_live (length st.live))
-        (ap (λ (v : Verdict). cond st.lost (Now eshutdown) (cond (nat_le max_live (length st.live)) (Now ebusy) v)) (sym same) ∙ is))
+    by c e t None k = absurd (never st.lost (nat_le MAX_LIVE (length st.live))
+        (ap (λ (v : Verdict). cond st.lost (Now eshutdown) (cond (nat_le MAX_LIVE (length st.live)) (Now ebusy) v)) (sym same) ∙ is))
       where
         same : by_transfer (change_waits st) st.facts.table (wide_bulk st.agreed) r r.transfer.setup ≡ Now enoent
         same = ap (by_transfer (change_waits st) st.facts.table (wide_bulk st.agreed) r) k ∙ ap (λ (b : Bool). cond b (Now enoent) (by_endpoint (wide_bulk st.agreed) r (row_of st.facts.table r.transfer.ep))) (e ∙ t)
@@ -170,7 +171,7 @@ keep-taken {S = S} m laws w j place s rel run read inside new fits = go (verdict
     same-now status e true off =
         (λ i. by_stream up (verdict ((sym (rel.seen inside) ∙ off) i) (length (map live_of st.live)) (any_changes (map live_of st.live)) (m.table w.host.gadget) true r))
         ∙ kept-now up eshutdown
-        ∙ (λ i. cond (sym off i) (Now eshutdown) (cond (nat_le max_live (length st.live)) (Now ebusy) (by_transfer (change_waits st) st.facts.table (wide_bulk st.agreed) r r.transfer.setup)))
+        ∙ (λ i. cond (sym off i) (Now eshutdown) (cond (nat_le MAX_LIVE (length st.live)) (Now ebusy) (by_transfer (change_waits st) st.facts.table (wide_bulk st.agreed) r r.transfer.setup)))
         ∙ e
     same-now status e false there = same-verdict m w j rel inside there r (addressed s read.0).index ∙ ap (by_stream up) e ∙ kept-now up status
 

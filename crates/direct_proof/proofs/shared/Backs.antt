@@ -1,10 +1,10 @@
 -- The wire to the gateway: facts told, and what is stale, as it grows and is read.
 use Rattle.std.proofs.Common.{◌≡◌, ℕ, ◌||◌, Bool, true, false, List, [], ◌∷◌, ◌++◌, Option, refl, sym, ap, ◌∙◌}
 use Rattle.std.specs.List.{list_any}
-use Rattle.redir_host.specs.Sound.{Each}
+use Rattle.redir_host.specs.state.Sound.{Each}
 use Rattle.gate_history.specs.declared.facts.Facts.{Facts}
-use Rattle.gate_history.specs.Facts.{tell}
-use Rattle.gate_history.specs.Meaning.{fact_of}
+use Rattle.gate_history.specs.state.Facts.{tell}
+use Rattle.gate_history.specs.step.Meaning.{fact_of}
 use Rattle.direct_proof.specs.Tagged.{Tagged, on_wire, told}
 use Rattle.direct_proof.specs.Stale.{ends, is_stale, Clean}
 use Rattle.direct_proof.proofs.shared.Folds.{clash, not-both, or-left, or-right, or-none, any-append}

@@ -2,12 +2,12 @@
 use Rattle.std.proofs.Common.{◌≡◌, ℕ, suc, ◌+◌, ◌≤◌, ◌==◌, ◌&&◌, not, Bool, true, false, cond, List, [], ◌∷◌, ◌++◌, map, filter, length, Some, refl, sym, ap, ◌∙◌, arith}
 use Rattle.std.specs.List.{find}
 use Rattle.usb_base.specs.declared.transfer.Transfer.{Transfer}
-use Rattle.gate_history.specs.Verdict.{Verdict, Now, Wire, Routed, IsoOut, Stream, goes_by_id}
-use Rattle.gate_history.specs.Marks.{Submission}
-use Rattle.gate_history.specs.Submits.{Pending, has_id, is_waiting}
-use Rattle.gate_history.specs.State.{State, submits, is_number as is_numbered}
-use Rattle.gate_history.specs.Sound.{IsSound}
-use Rattle.gate_history.proofs.Lists.{every, both, filter-same, filter-twice, filter-map}
+use Rattle.gate_history.specs.client.Verdict.{Verdict, Now, Wire, Routed, IsoOut, Stream, goes_by_id}
+use Rattle.gate_history.specs.step.Marks.{Submission}
+use Rattle.gate_history.specs.client.Submits.{Pending, has_id, is_waiting}
+use Rattle.gate_history.specs.state.State.{State, submits, is_number as is_numbered}
+use Rattle.gate_history.specs.state.Sound.{IsSound}
+use Rattle.gate_history.proofs.lemmas.Lists.{every, both, filter-same, filter-twice, filter-map}
 use Rattle.direct_run.specs.declared.submitted.Submitted.{Submitted}
 use Rattle.direct_device.specs.Direct.{Load, number, is_number}
 use Rattle.direct_proof.specs.Requests.{Entry, Coming, Debt, debts_of, load_of}

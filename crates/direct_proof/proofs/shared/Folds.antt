@@ -10,8 +10,8 @@ use Rattle.redir_host.specs.declared.request.Asking.{Asking}
 use Rattle.redir_host.specs.declared.request.Asking.TheVariants.{Nothing, Refuses, Asks}
 use Rattle.redir_host.specs.declared.request.Form.{Form}
 use Rattle.redir_host.specs.declared.request.Form.TheVariants as form
-use Rattle.redir_host.specs.Asking.{asking_of, routed}
-use Rattle.redir_host.specs.Line.{Waiting as InLine, Reset, Waits, data_line}
+use Rattle.redir_host.specs.guest.Asking.{asking_of, routed}
+use Rattle.redir_host.specs.guest.Line.{Waiting as InLine, Reset, Waits, data_line}
 use Rattle.direct_proof.specs.Requests.{Entry, at_host, form_of, queued_transfer, resets}
 use Rattle.direct_proof.specs.Shared.{in_line, lines, half_line, at_hosts}
 use Rattle.direct_proof.specs.Cancels.{begins, is_request}

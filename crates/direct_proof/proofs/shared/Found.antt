@@ -2,16 +2,16 @@
 use Rattle.std.proofs.Common.{◌≡◌, ℕ, ◌<◌, Bool, true, false, cond, List, [], ◌∷◌, ◌++◌, map, filter, Option, Some, None, refl, ap, ◌∙◌, arith, append-nil}
 use Rattle.std.specs.List.{find, flat_map}
 use Rattle.usb_base.specs.declared.transfer.Outcome.{Outcome}
-use Rattle.redir_host.specs.Sound.{Each}
+use Rattle.redir_host.specs.state.Sound.{Each}
 use Rattle.gate_history.specs.declared.note.Note.TheVariants as note
-use Rattle.gate_history.specs.Marks.{Fact, Answers}
-use Rattle.gate_history.specs.Submits.{Pending, ends}
-use Rattle.gate_history.specs.State.{State}
-use Rattle.gate_history.specs.Ups.{Up}
-use Rattle.gate_history.specs.Meaning.{mark_as}
-use Rattle.gate_history.specs.Notes.{notes_of, answer_notes, is_by_answer}
-use Rattle.gate_history.specs.Output.{present}
-use Rattle.gate_history.proofs.Lists.{flat_map-map, flat_map-none}
+use Rattle.gate_history.specs.step.Marks.{Fact, Answers}
+use Rattle.gate_history.specs.client.Submits.{Pending, ends}
+use Rattle.gate_history.specs.state.State.{State}
+use Rattle.gate_history.specs.state.Ups.{Up}
+use Rattle.gate_history.specs.step.Meaning.{mark_as}
+use Rattle.gate_history.specs.write.Notes.{notes_of, answer_notes, is_by_answer}
+use Rattle.gate_history.specs.write.Output.{present}
+use Rattle.gate_history.proofs.lemmas.Lists.{flat_map-map, flat_map-none}
 use Rattle.direct_run.specs.Noted.{named}
 use Rattle.direct_device.specs.Direct.{way_if}
 use Rattle.direct_proof.specs.Tagged.{Tagged}

@@ -1,9 +1,9 @@
 -- Ids that are new: those that the gateway draws are none that is owed, and none is 0.
 use Rattle.std.proofs.Common.{◌≡◌, ℕ, ◌≤◌, ◌==◌, false, List, arith}
-use Rattle.redir_host.specs.Sound.{Each}
-use Rattle.gate_history.specs.Flight.{wide_ids}
-use Rattle.gate_history.specs.Ids.{draw, greatest, holds}
-use Rattle.gate_history.specs.State.{State, flying}
+use Rattle.redir_host.specs.state.Sound.{Each}
+use Rattle.gate_history.specs.state.Flight.{wide_ids}
+use Rattle.gate_history.specs.state.Ids.{draw, greatest, holds}
+use Rattle.gate_history.specs.state.State.{State, flying}
 use Rattle.direct_proof.specs.Requests.{Debt}
 
 abbrev pub next_id : State → ℕ

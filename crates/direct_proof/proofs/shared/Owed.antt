@@ -2,8 +2,8 @@
 use Rattle.std.proofs.Common.{◌≡◌, ℕ, ◌+◌, ◌≤◌, ◌==◌, not, Bool, true, false, cond, List, [], ◌∷◌, ◌++◌, filter, refl, sym, ap, ◌∙◌, subst, arith, Some}
 use Rattle.std.proofs.lemmas.List.{reverse-append}
 use Rattle.usb_base.specs.declared.transfer.Outcome.{Outcome}
-use Rattle.redir_host.specs.Sound.{Each}
-use Rattle.gate_history.proofs.Lists.{both}
+use Rattle.redir_host.specs.state.Sound.{Each}
+use Rattle.gate_history.proofs.lemmas.Lists.{both}
 use Rattle.direct_run.specs.declared.submitted.Submitted.{Submitted}
 use Rattle.direct_run.specs.Noted.{number_in, number_of}
 use Rattle.direct_device.specs.Direct.{Load, number}

@@ -7,8 +7,8 @@ use Rattle.redir_wire.specs.EpTable.{table_of}
 use Rattle.model_device.specs.Meaning.{Meaning}
 use Rattle.model_device.specs.Gadget.{SameFacts}
 use Rattle.model_device.specs.Transfer.{is_control}
-use Rattle.redir_host.specs.Facts.{ep_info_of}
-use Rattle.redir_host.specs.Sound.{Each}
+use Rattle.redir_host.specs.device.Facts.{ep_info_of}
+use Rattle.redir_host.specs.state.Sound.{Each}
 use Rattle.direct_run.specs.Moves.{World}
 use Rattle.direct_run.specs.Packets.{both_caps}
 use Rattle.direct_device.specs.Direct.{normal_of}

@@ -5,14 +5,14 @@ use Rattle.usb_base.specs.Status.{status_byte}
 use Rattle.redir_data.specs.declared.packet.RedirPacket.{RedirPacket}
 use Rattle.model_device.specs.Meaning.{Meaning}
 use Rattle.redir_host.specs.declared.running.Running.{Running}
-use Rattle.redir_host.specs.Sound.{Each}
+use Rattle.redir_host.specs.state.Sound.{Each}
 use Rattle.redir_host.specs.declared.request.Form.{Form}
 use Rattle.redir_host.specs.declared.request.Form.TheVariants as form
-use Rattle.redir_host.specs.Answers.{answer_by}
+use Rattle.redir_host.specs.write.Answers.{answer_by}
 use Rattle.gate_history.specs.declared.facts.Facts.{Facts}
-use Rattle.gate_history.specs.Facts.{tell}
-use Rattle.gate_history.specs.Meaning.{fact_of}
-use Rattle.gate_history.specs.Marks.{Fact, Configuration}
+use Rattle.gate_history.specs.state.Facts.{tell}
+use Rattle.gate_history.specs.step.Meaning.{fact_of}
+use Rattle.gate_history.specs.step.Marks.{Fact, Configuration}
 use Rattle.direct_run.specs.Moves.{World}
 use Rattle.direct_proof.specs.Requests.{Entry, Coming, at_queue, form_of, queued_transfer}
 use Rattle.direct_proof.specs.Shared.{Shared}

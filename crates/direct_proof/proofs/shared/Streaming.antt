@@ -4,9 +4,9 @@ use Rattle.std.specs.List.{list_any}
 use Rattle.usb_base.specs.declared.endpoint.EpTable.{EpTable}
 use Rattle.redir_data.specs.declared.packet.RedirPacket.{RedirPacket}
 use Rattle.redir_host.specs.declared.running.StreamKind.{StreamKind}
-use Rattle.redir_host.specs.Sound.{Each}
-use Rattle.gate_history.specs.Ids.{times}
-use Rattle.gate_history.specs.Calls.{Calls}
+use Rattle.redir_host.specs.state.Sound.{Each}
+use Rattle.gate_history.specs.state.Ids.{times}
+use Rattle.gate_history.specs.state.Calls.{Calls}
 use Rattle.direct_proof.specs.Tagged.{Tagged}
 use Rattle.direct_proof.specs.Stale.{asks}
 use Rattle.direct_proof.specs.Running.{Quits, runs_after, Trails, passes, called_endpoint, started_kind, CanStart, StartsFit}

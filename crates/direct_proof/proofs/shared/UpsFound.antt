@@ -5,7 +5,7 @@ use Rattle.std.proofs.lemmas.List.{get_or-set_same, get_or-set_other}
 use Rattle.std.proofs.Math.ListN.{get_or-map}
 use Rattle.usb_base.specs.Endpoint.{endpoint_index}
 use Rattle.usb_base.specs.declared.transfer.StreamPacket.{StreamPacket}
-use Rattle.gate_history.specs.Ups.{Up, stream_at, stream_of, raised, raise, unless, lower, hold}
+use Rattle.gate_history.specs.state.Ups.{Up, stream_at, stream_of, raised, raise, unless, lower, hold}
 use Rattle.direct_proof.specs.Kinds.{IsIn}
 
 pub in-place : (ep : ℕ) → IsIn ep → endpoint_index ep < 32

@@ -7,15 +7,15 @@ use Rattle.redir_data.specs.declared.packet.RedirPacket.{RedirPacket}
 use Rattle.redir_data.specs.Sent.{sent_header}
 use Rattle.model_device.specs.Gadget.{IsGadget}
 use Rattle.model_device.specs.Meaning.{Meaning}
-use Rattle.redir_host.specs.Offering.{told_offered}
-use Rattle.redir_host.specs.Packets.{packet_move}
-use Rattle.redir_host.specs.Performing.{performed}
-use Rattle.redir_host.specs.Sound.{Each}
-use Rattle.gate_history.specs.Items.{Item as GateItem, Asked, ClientWrong, ClientLeft, Told, HostWrong, HostLeft}
-use Rattle.gate_history.specs.Meaning.{mark_of}
-use Rattle.gate_history.specs.Past.{is_left_out}
-use Rattle.gate_history.specs.Sound.{IsSound}
-use Rattle.gate_history.specs.State.{State}
+use Rattle.redir_host.specs.device.Offering.{told_offered}
+use Rattle.redir_host.specs.guest.Packets.{packet_move}
+use Rattle.redir_host.specs.device.Performing.{performed}
+use Rattle.redir_host.specs.state.Sound.{Each}
+use Rattle.gate_history.specs.step.Items.{Item as GateItem, Asked, ClientWrong, ClientLeft, Told, HostWrong, HostLeft}
+use Rattle.gate_history.specs.step.Meaning.{mark_of}
+use Rattle.gate_history.specs.step.Past.{is_left_out}
+use Rattle.gate_history.specs.state.Sound.{IsSound}
+use Rattle.gate_history.specs.state.State.{State}
 use Rattle.direct_run.specs.Clients.{IsMove, present_outs, then_sent}
 use Rattle.direct_run.specs.Moves.{World, Move, ByClient, HostReads, GateReads, Performs, Offers, Unplugs, first_world}
 use Rattle.direct_run.specs.Moves as told

@@ -6,13 +6,13 @@ use Rattle.std.proofs.lemmas.Grind.{flat_map-append}
 use Rattle.usb_base.specs.declared.refusal.Refusal.{Refusal}
 use Rattle.gate_history.specs.declared.note.Note.{Note}
 use Rattle.gate_history.specs.declared.note.Note.TheVariants as note
-use Rattle.gate_history.specs.Marks.{Submission, Effect, Imports, Unlinks, Arrives, Mark}
-use Rattle.gate_history.specs.Sides.{is_client, is_of, refused_at, refuses_host as effect_refuses, ends_host, leaves, is_loss, closes_host, host_over}
-use Rattle.gate_history.specs.Submits.{Pending, opened, ends}
-use Rattle.gate_history.specs.State.{State, state_of}
-use Rattle.gate_history.specs.Output.{present}
-use Rattle.gate_history.specs.Notes.{when, import_notes, submit_notes, unlink_notes, arrival_notes, answer_notes, refusal_notes, is_by_answer, notes_of}
-use Rattle.gate_history.specs.All.{all_of}
+use Rattle.gate_history.specs.step.Marks.{Submission, Effect, Imports, Unlinks, Arrives, Mark}
+use Rattle.gate_history.specs.state.Sides.{is_client, is_of, refused_at, refuses_host as effect_refuses, ends_host, leaves, is_loss, closes_host, host_over}
+use Rattle.gate_history.specs.client.Submits.{Pending, opened, ends}
+use Rattle.gate_history.specs.state.State.{State, state_of}
+use Rattle.gate_history.specs.write.Output.{present}
+use Rattle.gate_history.specs.write.Notes.{when, import_notes, submit_notes, unlink_notes, arrival_notes, answer_notes, refusal_notes, is_by_answer, notes_of}
+use Rattle.gate_history.specs.write.All.{all_of}
 use Rattle.direct_run.specs.Noted.{refusal_in}
 use Rattle.direct_proof.specs.Simulates.{refuses_host}
 

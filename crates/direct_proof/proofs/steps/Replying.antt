@@ -20,20 +20,20 @@ use Rattle.redir_data.specs.declared.packet.RedirData.{RedirData}
 use Rattle.redir_data.specs.declared.packet.RedirData.TheVariants as moving
 use Rattle.redir_data.specs.declared.packet.RedirPacket.{RedirPacket}
 use Rattle.redir_data.specs.declared.packet.RedirPacket.TheVariants.{Plain, Carrying}
-use Rattle.gate_history.specs.Answers.{ret_unlink}
-use Rattle.gate_history.specs.Items.{Item, Asked, ClientWrong, ClientLeft, Told, HostWrong, HostLeft}
-use Rattle.gate_history.specs.Marks.{Submission, Effect, Replies, Unlinks}
-use Rattle.gate_history.specs.Meaning.{meaning, refused, imported_as, importable, op_meaning, urb_meaning, accepts, accepted_as, submission, by_stream, drawn_for, verdict_of, told_meaning, data_meaning, by_response, answer_to, answered_as, arrives}
-use Rattle.gate_history.specs.Output.{replies, is_target, is_taken}
-use Rattle.gate_history.specs.Past.{is_left_out}
-use Rattle.gate_history.specs.Replies.{list_reply, failed_import, import_reply}
-use Rattle.gate_history.specs.Requests.{Request, request_of}
-use Rattle.gate_history.specs.Responses.{Response, response_of}
-use Rattle.gate_history.specs.Sides.{ends_client, imports}
-use Rattle.gate_history.specs.State.{State, has_number}
-use Rattle.gate_history.specs.Submits.{Pending, opened}
-use Rattle.gate_history.specs.Ups.{Up, stream_at, stream_of}
-use Rattle.gate_history.specs.Verdict.{Verdict, Now, Wire, Routed, IsoOut, Stream}
+use Rattle.gate_history.specs.write.Answers.{ret_unlink}
+use Rattle.gate_history.specs.step.Items.{Item, Asked, ClientWrong, ClientLeft, Told, HostWrong, HostLeft}
+use Rattle.gate_history.specs.step.Marks.{Submission, Effect, Replies, Unlinks}
+use Rattle.gate_history.specs.step.Meaning.{meaning, refused, imported_as, importable, op_meaning, urb_meaning, accepts, accepted_as, submission, by_stream, drawn_for, verdict_of, told_meaning, data_meaning, by_response, answer_to, answered_as, arrives}
+use Rattle.gate_history.specs.write.Output.{replies, is_target, is_taken}
+use Rattle.gate_history.specs.step.Past.{is_left_out}
+use Rattle.gate_history.specs.client.Replies.{list_reply, failed_import, import_reply}
+use Rattle.gate_history.specs.client.Requests.{Request, request_of}
+use Rattle.gate_history.specs.host.Responses.{Response, response_of}
+use Rattle.gate_history.specs.state.Sides.{ends_client, imports}
+use Rattle.gate_history.specs.state.State.{State, has_number}
+use Rattle.gate_history.specs.client.Submits.{Pending, opened}
+use Rattle.gate_history.specs.state.Ups.{Up, stream_at, stream_of}
+use Rattle.gate_history.specs.client.Verdict.{Verdict, Now, Wire, Routed, IsoOut, Stream}
 use Rattle.direct_proof.specs.Simulates.{is_import}
 
 pub record Replying (st : State) (e : Effect) : Type 0 where

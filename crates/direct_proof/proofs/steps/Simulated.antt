@@ -2,9 +2,9 @@
 use Rattle.std.proofs.Common.{◌≡◌, false, List, sym, ap, ◌∙◌, subst, [], refl, map}
 use Rattle.model_device.specs.Gadget.{IsGadget}
 use Rattle.model_device.specs.Meaning.{Meaning}
-use Rattle.gate_history.specs.History.{history}
-use Rattle.gate_history.specs.Sides.{host_over}
-use Rattle.gate_history.specs.State.{State}
+use Rattle.gate_history.specs.step.History.{history}
+use Rattle.gate_history.specs.state.Sides.{host_over}
+use Rattle.gate_history.specs.state.State.{State}
 use Rattle.direct_run.specs.Follows.{AreMoves}
 use Rattle.direct_run.specs.Known.{IsKnown}
 use Rattle.direct_run.specs.Moves.{World, first_world, run}

@@ -7,14 +7,14 @@ use Rattle.redir_host.specs.declared.note.HostNote.{HostNote}
 use Rattle.redir_host.specs.declared.note.HostNote.TheVariants as host_note
 use Rattle.redir_host.specs.declared.note.Offered.{Offered}
 use Rattle.redir_host.specs.declared.note.Offered.TheVariants as offered
-use Rattle.redir_host.specs.Moves.{Move as HostMove}
-use Rattle.redir_host.specs.Sound.{Each}
-use Rattle.gate_history.specs.Marks.{Submission, Effect, Imports, Unlinks, Arrives, Mark}
-use Rattle.gate_history.specs.Notes.{is_by_answer}
-use Rattle.gate_history.specs.Output.{present}
-use Rattle.gate_history.specs.Sides.{imports, is_loss, leaves}
-use Rattle.gate_history.specs.State.{State}
-use Rattle.gate_history.specs.Submits.{Pending, ends, opened}
+use Rattle.redir_host.specs.step.Moves.{Move as HostMove}
+use Rattle.redir_host.specs.state.Sound.{Each}
+use Rattle.gate_history.specs.step.Marks.{Submission, Effect, Imports, Unlinks, Arrives, Mark}
+use Rattle.gate_history.specs.write.Notes.{is_by_answer}
+use Rattle.gate_history.specs.write.Output.{present}
+use Rattle.gate_history.specs.state.Sides.{imports, is_loss, leaves}
+use Rattle.gate_history.specs.state.State.{State}
+use Rattle.gate_history.specs.client.Submits.{Pending, ends, opened}
 use Rattle.direct_run.specs.declared.submitted.Submitted.{Submitted}
 use Rattle.direct_device.specs.Acting.{Deed, Import, Submit, Unlink, Perform, Cancel, Answer, Offer, Arrive, Gone, ClientGone, act, answers}
 use Rattle.direct_device.specs.Direct.{Direct}

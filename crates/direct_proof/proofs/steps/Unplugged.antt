@@ -7,21 +7,21 @@ use Rattle.redir_host.specs.declared.host.Host.{Host}
 use Rattle.redir_host.specs.declared.note.HostNote.{HostNote}
 use Rattle.redir_host.specs.declared.note.HostNote.TheVariants as host_note
 use Rattle.redir_host.specs.declared.note.Offered.TheVariants as offered
-use Rattle.redir_host.specs.Acts.{Piece, Perform as Performs, Offer as Offers, Unplug as Unplugs}
-use Rattle.redir_host.specs.History.{brought}
-use Rattle.redir_host.specs.Items.{Item as HostItem, Asked, Wrong, Performs as ItemPerforms, Offers as ItemOffers, Unplugs as ItemUnplugs}
-use Rattle.redir_host.specs.Machine.{move, steps as host_steps}
-use Rattle.redir_host.specs.Moves.{quiet}
-use Rattle.redir_host.specs.Offering.{offered_on, told_offered_by, unplug_move}
-use Rattle.redir_host.specs.Output.{act_notes, host_of}
-use Rattle.redir_host.specs.Packets.{packet_move_by, runs_at}
-use Rattle.redir_host.specs.Performing.{first_performed, perform_move_by, told_performed_by}
-use Rattle.redir_host.specs.Queues.{is_at}
-use Rattle.redir_host.proofs.Runs.{act-host}
+use Rattle.redir_host.specs.step.Acts.{Piece, Perform as Performs, Offer as Offers, Unplug as Unplugs}
+use Rattle.redir_host.specs.step.History.{brought}
+use Rattle.redir_host.specs.step.Items.{Item as HostItem, Asked, Wrong, Performs as ItemPerforms, Offers as ItemOffers, Unplugs as ItemUnplugs}
+use Rattle.redir_host.specs.step.Machine.{move, steps as host_steps}
+use Rattle.redir_host.specs.step.Moves.{quiet}
+use Rattle.redir_host.specs.device.Offering.{offered_on, told_offered_by, unplug_move}
+use Rattle.redir_host.specs.write.Output.{act_notes, host_of}
+use Rattle.redir_host.specs.guest.Packets.{packet_move_by, runs_at}
+use Rattle.redir_host.specs.device.Performing.{first_performed, perform_move_by, told_performed_by}
+use Rattle.redir_host.specs.state.Queues.{is_at}
+use Rattle.redir_host.proofs.lemmas.step.Acts.{act-host}
 use Rattle.gate_history.specs.declared.note.Note.{Note}
 use Rattle.gate_history.specs.declared.note.Note.TheVariants as note
-use Rattle.gate_history.specs.Events.{ClientPiece, ClientEnd as ClientEnds, HostPiece}
-use Rattle.gate_history.specs.Notes.{notes_of}
+use Rattle.gate_history.specs.step.Events.{ClientPiece, ClientEnd as ClientEnds, HostPiece}
+use Rattle.gate_history.specs.write.Notes.{notes_of}
 use Rattle.direct_run.specs.declared.submitted.Submitted.{Submitted}
 use Rattle.direct_run.specs.Noted.{item_of, item_of_host, performed_item, offered_item}
 use Rattle.direct_run.specs.Steps.{Step, Client, ClientEnd, ToHost, ToGate, Perform, Offer, Unplug}

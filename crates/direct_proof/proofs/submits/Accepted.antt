@@ -5,17 +5,17 @@ use Rattle.usbip_urb.specs.declared.packet.UrbPacket.TheVariants as urb
 use Rattle.usbip_urb.specs.declared.client.ClientPacket.TheVariants.{Urb}
 use Rattle.redir_data.specs.declared.packet.RedirPacket.{RedirPacket}
 use Rattle.model_device.specs.Meaning.{Meaning}
-use Rattle.gate_history.specs.Requests.{Request, request_of}
-use Rattle.gate_history.specs.Items.{Asked}
-use Rattle.gate_history.specs.Verdict.{Verdict}
-use Rattle.gate_history.specs.Marks.{Effect, Opens, Mark}
-use Rattle.gate_history.specs.Submits.{Pending, is_touched}
-use Rattle.gate_history.specs.Ups.{stream_at, stream_of}
-use Rattle.gate_history.specs.State.{State, is_number as is_numbered}
-use Rattle.gate_history.specs.Sound.{IsSound}
-use Rattle.gate_history.specs.Meaning.{mark_as, mark_of, by_stream}
-use Rattle.gate_history.specs.Output.{fresh}
-use Rattle.gate_history.proofs.Lists.{Each as ListEach, list_any-map}
+use Rattle.gate_history.specs.client.Requests.{Request, request_of}
+use Rattle.gate_history.specs.step.Items.{Asked}
+use Rattle.gate_history.specs.client.Verdict.{Verdict}
+use Rattle.gate_history.specs.step.Marks.{Effect, Opens, Mark}
+use Rattle.gate_history.specs.client.Submits.{Pending, is_touched}
+use Rattle.gate_history.specs.state.Ups.{stream_at, stream_of}
+use Rattle.gate_history.specs.state.State.{State, is_number as is_numbered}
+use Rattle.gate_history.specs.state.Sound.{IsSound}
+use Rattle.gate_history.specs.step.Meaning.{mark_as, mark_of, by_stream}
+use Rattle.gate_history.specs.write.Output.{fresh}
+use Rattle.gate_history.proofs.lemmas.Lists.{Each as ListEach, list_any-map}
 use Rattle.direct_run.specs.Moves.{World, ByClient}
 use Rattle.direct_device.specs.Direct.{Load, Live, Direct, is_number}
 use Rattle.direct_device.specs.Acting.{Submit, act, answers, made_of}

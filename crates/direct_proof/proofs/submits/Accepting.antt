@@ -5,19 +5,19 @@ use Rattle.usbip_urb.specs.declared.packet.Submit.{Submit as UrbSubmit}
 use Rattle.redir_data.specs.declared.packet.RedirPacket.{RedirPacket}
 use Rattle.model_device.specs.Meaning.{Meaning}
 use Rattle.model_device.specs.Transfer.{is_control}
-use Rattle.redir_host.specs.Line.{Waiting as InLine}
-use Rattle.redir_host.specs.Sound.{Each}
-use Rattle.gate_history.specs.Requests.{Request, request_of}
-use Rattle.gate_history.specs.Verdict.{Verdict, goes_by_id}
-use Rattle.gate_history.specs.Marks.{Submission, Effect, Opens, Mark}
-use Rattle.gate_history.specs.Submits.{Pending}
-use Rattle.gate_history.specs.Calls.{called}
-use Rattle.gate_history.specs.State.{State, submits, is_number as is_numbered, change_waits}
-use Rattle.gate_history.specs.Sound.{IsSound}
-use Rattle.gate_history.specs.Machine.{after}
-use Rattle.gate_history.specs.Meaning.{mark_as}
-use Rattle.gate_history.specs.Output.{fresh}
-use Rattle.gate_history.proofs.Lists.{filter-all}
+use Rattle.redir_host.specs.guest.Line.{Waiting as InLine}
+use Rattle.redir_host.specs.state.Sound.{Each}
+use Rattle.gate_history.specs.client.Requests.{Request, request_of}
+use Rattle.gate_history.specs.client.Verdict.{Verdict, goes_by_id}
+use Rattle.gate_history.specs.step.Marks.{Submission, Effect, Opens, Mark}
+use Rattle.gate_history.specs.client.Submits.{Pending}
+use Rattle.gate_history.specs.state.Calls.{called}
+use Rattle.gate_history.specs.state.State.{State, submits, is_number as is_numbered, change_waits}
+use Rattle.gate_history.specs.state.Sound.{IsSound}
+use Rattle.gate_history.specs.step.Machine.{after}
+use Rattle.gate_history.specs.step.Meaning.{mark_as}
+use Rattle.gate_history.specs.write.Output.{fresh}
+use Rattle.gate_history.proofs.lemmas.Lists.{filter-all}
 use Rattle.direct_run.specs.Moves.{World}
 use Rattle.direct_device.specs.Direct.{Load, number, normal_of}
 use Rattle.direct_proof.specs.Moves.{gate_made}

@@ -7,8 +7,9 @@ use Rattle.usb_base.specs.Setup.{setup_at}
 use Rattle.usbip_urb.specs.declared.packet.Submit.{Submit as UrbSubmit}
 use Rattle.usbip_urb.specs.Ranges.{IsSubmit}
 use Rattle.usbip_urb.specs.Sizes.{is_out}
+use Rattle.usbip_urb.specs.declared.code.TheConstants.{MAX_PACKETS}
 use Rattle.model_device.specs.Transfer.{is_control}
-use Rattle.gate_history.specs.Requests.{request_of, address, is_in_setup, transfer_by}
+use Rattle.gate_history.specs.client.Requests.{request_of, address, is_in_setup, transfer_by}
 
 pub record IsAddressed (t : Transfer) : Type 0 where
   pub low : t.ep % 128 < 16
@@ -46,10 +47,10 @@ addressed s is = go (s.head.ep == 0) refl
     go true z = record { low = zero-low (is_in_setup (setup_at s.setup)); has_setup = zero-control (is_in_setup (setup_at s.setup)); index = zero-index (is_in_setup (setup_at s.setup)) }
     go false z = record { low = other-low (not (is_out s.head.direction)) s.head.ep is.head.endpoint; has_setup = other-control (not (is_out s.head.direction)) s.head.ep is.head.endpoint z; index = other-index (not (is_out s.head.direction)) s.head.ep is.head.endpoint }
 
-pub few-descs : (s : UrbSubmit) → IsSubmit s → length s.descs ≤ 1024
-few-descs s is = go (s.packets == 4294967295) (nat_le s.packets 1024) refl refl is.few_packets
+pub few-descs : (s : UrbSubmit) → IsSubmit s → length s.descs ≤ MAX_PACKETS
+few-descs s is = go (s.packets == 4294967295) (nat_le s.packets MAX_PACKETS) refl refl is.few_packets
   where
-    go : (b c : Bool) → (s.packets == 4294967295) ≡ b → nat_le s.packets 1024 ≡ c → (c || b) ≡ true → length s.descs ≤ 1024
+    go : (b c : Bool) → (s.packets == 4294967295) ≡ b → nat_le s.packets MAX_PACKETS ≡ c → (c || b) ≡ true → length s.descs ≤ MAX_PACKETS
     go true c e f h = let none : length s.descs ≡ 0 = is.descs ∙ ap (λ (x : Bool). cond x 0 s.packets) e in omega arith
-    go false true e f h = let some : length s.descs ≡ s.packets = is.descs ∙ ap (λ (x : Bool). cond x 0 s.packets) e in let few = leb-true s.packets 1024 f in omega arith
+    go false true e f h = let some : length s.descs ≡ s.packets = is.descs ∙ ap (λ (x : Bool). cond x 0 s.packets) e in let few = leb-true s.packets MAX_PACKETS f in omega arith
     go false false e f h = absurd (cc)

@@ -10,22 +10,22 @@ use Rattle.usbip_urb.specs.declared.packet.UrbPacket.TheVariants as urb
 use Rattle.usbip_urb.specs.declared.client.ClientPacket.TheVariants.{Urb}
 use Rattle.redir_data.specs.declared.packet.RedirPacket.{RedirPacket}
 use Rattle.model_device.specs.Meaning.{Meaning}
-use Rattle.gate_history.specs.Requests.{Request, request_of}
-use Rattle.gate_history.specs.Items.{Asked}
-use Rattle.gate_history.specs.Verdict.{Verdict, Now}
-use Rattle.gate_history.specs.Marks.{Submission, Effect, Opens}
-use Rattle.gate_history.specs.Submits.{Pending, ends, at_once, AtOnce}
-use Rattle.gate_history.specs.Ups.{Up, stream_at, stream_of}
-use Rattle.gate_history.specs.State.{State, has_number, is_number as is_numbered}
-use Rattle.gate_history.specs.Machine.{live_after}
-use Rattle.gate_history.specs.Meaning.{meaning, mark_as, mark_of, refused, submission, accepted_as, accepts, drawn_for, by_stream, verdict_of}
-use Rattle.gate_history.specs.Output.{fresh, present}
-use Rattle.gate_history.specs.Answers.{answers_at, without_packets}
-use Rattle.gate_history.specs.Notes.{is_by_answer}
+use Rattle.gate_history.specs.client.Requests.{Request, request_of}
+use Rattle.gate_history.specs.step.Items.{Asked}
+use Rattle.gate_history.specs.client.Verdict.{Verdict, Now}
+use Rattle.gate_history.specs.step.Marks.{Submission, Effect, Opens}
+use Rattle.gate_history.specs.client.Submits.{Pending, ends, at_once, AtOnce}
+use Rattle.gate_history.specs.state.Ups.{Up, stream_at, stream_of}
+use Rattle.gate_history.specs.state.State.{State, has_number, is_number as is_numbered}
+use Rattle.gate_history.specs.step.Machine.{live_after}
+use Rattle.gate_history.specs.step.Meaning.{meaning, mark_as, mark_of, refused, submission, accepted_as, accepts, drawn_for, by_stream, verdict_of}
+use Rattle.gate_history.specs.write.Output.{fresh, present}
+use Rattle.gate_history.specs.write.Answers.{answers_at, without_packets}
+use Rattle.gate_history.specs.write.Notes.{is_by_answer}
 use Rattle.gate_history.specs.declared.note.Note.TheVariants as note
-use Rattle.gate_history.specs.Errno.{eshutdown}
-use Rattle.gate_history.proofs.Lists.{filter-all, filter-none, list_any-map}
-use Rattle.gate_history.proofs.Uncancelled.{asks-none, none-cancelled, stays-uncancelled}
+use Rattle.gate_history.specs.write.Errno.{eshutdown}
+use Rattle.gate_history.proofs.lemmas.Lists.{filter-all, filter-none, list_any-map}
+use Rattle.gate_history.proofs.lemmas.step.NoCancel.{asks-none, none-cancelled, stays-uncancelled}
 use Rattle.direct_run.specs.Moves.{World, ByClient}
 use Rattle.direct_run.specs.Noted.{named}
 use Rattle.direct_device.specs.Direct.{Live, Direct, is_number}

@@ -4,15 +4,15 @@ use Rattle.std.specs.List.{list_any}
 use Rattle.usb_base.specs.Endpoint.{endpoint_index}
 use Rattle.usbip_urb.specs.declared.packet.Submit.{Submit as UrbSubmit}
 use Rattle.model_device.specs.Transfer.{is_control}
-use Rattle.redir_host.specs.Sound.{Each}
-use Rattle.gate_history.specs.Requests.{request_of}
-use Rattle.gate_history.specs.Verdict.{Verdict, goes_by_id}
-use Rattle.gate_history.specs.Marks.{Submission}
-use Rattle.gate_history.specs.Ids.{holds}
-use Rattle.gate_history.specs.Flight.{ids_of}
-use Rattle.gate_history.specs.Calls.{call_ids}
-use Rattle.gate_history.specs.State.{State, submits, flying, has_number, change_waits}
-use Rattle.gate_history.specs.Meaning.{verdict_of}
+use Rattle.redir_host.specs.state.Sound.{Each}
+use Rattle.gate_history.specs.client.Requests.{request_of}
+use Rattle.gate_history.specs.client.Verdict.{Verdict, goes_by_id}
+use Rattle.gate_history.specs.step.Marks.{Submission}
+use Rattle.gate_history.specs.state.Ids.{holds}
+use Rattle.gate_history.specs.state.Flight.{ids_of}
+use Rattle.gate_history.specs.state.Calls.{call_ids}
+use Rattle.gate_history.specs.state.State.{State, submits, flying, has_number, change_waits}
+use Rattle.gate_history.specs.step.Meaning.{verdict_of}
 use Rattle.direct_device.specs.Direct.{normal_of}
 use Rattle.direct_proof.specs.Requests.{Entry, Debt, debts_of}
 use Rattle.direct_proof.specs.Loads.{IsLoad}

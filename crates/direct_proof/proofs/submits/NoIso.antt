@@ -11,19 +11,20 @@ use Rattle.usb_base.specs.Endpoint.{is_in_endpoint, no_endpoint, row_of}
 use Rattle.usbip_urb.specs.declared.packet.Submit.{Submit as UrbSubmit}
 use Rattle.usbip_urb.specs.Buffers.{laid}
 use Rattle.usbip_urb.specs.Ranges.{IsSubmit}
+use Rattle.usbip_urb.specs.declared.code.TheConstants.{MAX_LIVE}
 use Rattle.control_route.specs.declared.route.Route.{Route}
 use Rattle.control_route.specs.declared.route.Route.TheVariants as route
 use Rattle.control_route.specs.Routes.{route_of}
 use Rattle.model_device.specs.Gadget.{IsGadget}
 use Rattle.model_device.specs.Meaning.{Meaning}
-use Rattle.gate_history.specs.Errno.{enoent, ebusy, einval, emsgsize, eshutdown}
-use Rattle.gate_history.specs.Flight.{wide_bulk}
-use Rattle.gate_history.specs.Meaning.{verdict_of}
-use Rattle.gate_history.specs.Requests.{Request, request_of, is_in_setup}
-use Rattle.gate_history.specs.State.{State, change_waits}
-use Rattle.gate_history.specs.Verdict.{Verdict, Now, Wire, Routed, IsoOut, Stream, max_live, max_narrow, none_of, bool_eq, by_route, by_setup, by_kind, is_control, is_iso, is_invalid, is_narrow, by_transfer, verdict, InterruptOut}
-use Rattle.gate_history.specs.Carried.{IsDirected}
-use Rattle.gate_history.proofs.Carried.{is_request}
+use Rattle.gate_history.specs.write.Errno.{enoent, ebusy, einval, emsgsize, eshutdown}
+use Rattle.gate_history.specs.state.Flight.{wide_bulk}
+use Rattle.gate_history.specs.step.Meaning.{verdict_of}
+use Rattle.gate_history.specs.client.Requests.{Request, request_of, is_in_setup}
+use Rattle.gate_history.specs.state.State.{State, change_waits}
+use Rattle.gate_history.specs.client.Verdict.{Verdict, Now, Wire, Routed, IsoOut, Stream, max_narrow, none_of, bool_eq, by_route, by_setup, by_kind, is_control, is_iso, is_invalid, is_narrow, by_transfer, verdict, InterruptOut}
+use Rattle.gate_history.specs.client.Carried.{IsDirected}
+use Rattle.gate_history.proofs.lemmas.client.Carried.{is_request}
 use Rattle.direct_run.specs.Moves.{World}
 use Rattle.direct_proof.specs.Related.{Related}
 use Rattle.direct_proof.specs.Shared.{Shared}
@@ -73,7 +74,7 @@ module _ (table : EpTable) (changing : Bool) (r : Request) where
   kind-shows still none kind.Invalid e = tt
 
   shows : (lost : Bool) (live : ℕ) (wide : Bool) → ShowsIso table changing r (verdict lost live changing table wide r)
-  shows lost live wide = unless lost eshutdown _ (λ there. unless (nat_le max_live live) ebusy _ (λ room. by r.transfer.setup refl))
+  shows lost live wide = unless lost eshutdown _ (λ there. unless (nat_le MAX_LIVE live) ebusy _ (λ room. by r.transfer.setup refl))
     where
       row : EpRow
       row = row_of table r.transfer.ep

@@ -8,25 +8,25 @@ use Rattle.usbip_urb.specs.declared.packet.UrbPacket.TheVariants as urb
 use Rattle.usbip_urb.specs.declared.client.ClientPacket.TheVariants.{Urb}
 use Rattle.redir_data.specs.declared.packet.RedirPacket.{RedirPacket}
 use Rattle.model_device.specs.Meaning.{Meaning}
-use Rattle.gate_history.specs.Requests.{Request, request_of}
-use Rattle.gate_history.specs.Items.{Asked}
-use Rattle.gate_history.specs.Verdict.{Verdict}
-use Rattle.gate_history.specs.Marks.{Submission, Effect, Opens}
-use Rattle.gate_history.specs.Submits.{Pending, ends, at_once, ByChange, is_touched}
-use Rattle.gate_history.specs.Ids.{last_of}
-use Rattle.gate_history.specs.Errno.{eshutdown}
-use Rattle.gate_history.specs.Calls.{asking}
-use Rattle.gate_history.specs.Ups.{stream_at, stream_of, opened_streams}
-use Rattle.gate_history.specs.State.{State, has_number, next_ids}
-use Rattle.gate_history.specs.Packets.{packets_of}
-use Rattle.gate_history.specs.Meaning.{meaning, mark_as, refused, submission, accepted_as, accepts, drawn_for, verdict_of}
-use Rattle.gate_history.specs.Machine.{live_after}
-use Rattle.gate_history.specs.Output.{fresh, present, to_client, to_host}
-use Rattle.gate_history.specs.Answers.{answers_at, without_packets}
-use Rattle.gate_history.specs.Notes.{notes_of, is_by_answer}
+use Rattle.gate_history.specs.client.Requests.{Request, request_of}
+use Rattle.gate_history.specs.step.Items.{Asked}
+use Rattle.gate_history.specs.client.Verdict.{Verdict}
+use Rattle.gate_history.specs.step.Marks.{Submission, Effect, Opens}
+use Rattle.gate_history.specs.client.Submits.{Pending, ends, at_once, ByChange, is_touched}
+use Rattle.gate_history.specs.state.Ids.{last_of}
+use Rattle.gate_history.specs.write.Errno.{eshutdown}
+use Rattle.gate_history.specs.state.Calls.{asking}
+use Rattle.gate_history.specs.state.Ups.{stream_at, stream_of, opened_streams}
+use Rattle.gate_history.specs.state.State.{State, has_number, next_ids}
+use Rattle.gate_history.specs.write.Packets.{packets_of}
+use Rattle.gate_history.specs.step.Meaning.{meaning, mark_as, refused, submission, accepted_as, accepts, drawn_for, verdict_of}
+use Rattle.gate_history.specs.step.Machine.{live_after}
+use Rattle.gate_history.specs.write.Output.{fresh, present, to_client, to_host}
+use Rattle.gate_history.specs.write.Answers.{answers_at, without_packets}
+use Rattle.gate_history.specs.write.Notes.{notes_of, is_by_answer}
 use Rattle.gate_history.specs.declared.note.Note.TheVariants as note
-use Rattle.gate_history.proofs.Lists.{Each, Each-append, Each-weaker, filter-same, filter-all, filter-none, flat_map-same, flat_map-none}
-use Rattle.gate_history.proofs.Uncancelled.{asks-none, none-cancelled, stays-uncancelled}
+use Rattle.gate_history.proofs.lemmas.Lists.{Each, Each-append, Each-weaker, filter-same, filter-all, filter-none, flat_map-same, flat_map-none}
+use Rattle.gate_history.proofs.lemmas.step.NoCancel.{asks-none, none-cancelled, stays-uncancelled}
 use Rattle.direct_run.specs.Noted.{named}
 use Rattle.direct_device.specs.Direct.{Load, Live, Direct, way_if}
 use Rattle.direct_device.specs.Acting.{Submit, Answer, act, answers, made_of, submitted, submit_answers}

@@ -13,6 +13,7 @@ use Rattle.usbip_urb.specs.declared.packet.UrbPacket.TheVariants as urb
 use Rattle.usbip_urb.specs.declared.client.ClientPacket.TheVariants.{Urb}
 use Rattle.usbip_urb.specs.Buffers.{laid}
 use Rattle.usbip_urb.specs.ClientPackets.{IsClientPacket}
+use Rattle.usbip_urb.specs.declared.code.TheConstants.{MAX_LIVE}
 use Rattle.control_route.specs.declared.route.Route.{Route}
 use Rattle.control_route.specs.declared.route.Route.TheVariants as route
 use Rattle.control_route.specs.Routes.{route_of}
@@ -20,16 +21,16 @@ use Rattle.redir_data.specs.Spelling.{data_count}
 use Rattle.redir_wire.specs.declared.packet.Way.TheVariants.{ToHost}
 use Rattle.model_device.specs.Transfer.{IsTransfer, is_control}
 use Rattle.model_device.proofs.Submits.{asks_transfer}
-use Rattle.redir_host.specs.Asking.{routed}
-use Rattle.gate_history.specs.Errno.{enoent, ebusy, einval, emsgsize, eshutdown}
-use Rattle.gate_history.specs.Flight.{wide_bulk}
-use Rattle.gate_history.specs.Meaning.{verdict_of}
-use Rattle.gate_history.specs.Requests.{Request, request_of, address, is_in_setup}
-use Rattle.gate_history.specs.State.{State, change_waits}
-use Rattle.gate_history.specs.Verdict.{Verdict, Control, InterruptOut, Now, Wire, Routed, IsoOut, Stream, max_live, max_narrow, none_of, bool_eq, by_route, by_setup, by_kind, is_iso, is_invalid, is_narrow, by_endpoint, by_transfer, verdict, goes_by_id}
-use Rattle.gate_history.specs.Verdict as of_kind
-use Rattle.gate_history.specs.Carried.{IsDirected, IsRequest, IsCarried}
-use Rattle.gate_history.proofs.Carried.{is_request, carried, not-false}
+use Rattle.redir_host.specs.guest.Asking.{routed}
+use Rattle.gate_history.specs.write.Errno.{enoent, ebusy, einval, emsgsize, eshutdown}
+use Rattle.gate_history.specs.state.Flight.{wide_bulk}
+use Rattle.gate_history.specs.step.Meaning.{verdict_of}
+use Rattle.gate_history.specs.client.Requests.{Request, request_of, address, is_in_setup}
+use Rattle.gate_history.specs.state.State.{State, change_waits}
+use Rattle.gate_history.specs.client.Verdict.{Verdict, Control, InterruptOut, Now, Wire, Routed, IsoOut, Stream, max_narrow, none_of, bool_eq, by_route, by_setup, by_kind, is_iso, is_invalid, is_narrow, by_endpoint, by_transfer, verdict, goes_by_id}
+use Rattle.gate_history.specs.client.Verdict as of_kind
+use Rattle.gate_history.specs.client.Carried.{IsDirected, IsRequest, IsCarried}
+use Rattle.gate_history.proofs.lemmas.client.Carried.{is_request, carried, not-false}
 use Rattle.direct_device.specs.Direct.{normal_by}
 use Rattle.direct_proof.specs.Loads.{FitsPipe, FitsRoute, FitsVerdict, IsLoad}
 use Rattle.direct_proof.proofs.submits.Addressed.{IsAddressed, addressed}
@@ -118,7 +119,7 @@ endpoint-fits wide r row none other way few =
 verdict-fits : (lost : Bool) (live : ℕ) (changing : Bool) (table : EpTable) (wide : Bool) (r : Request) → IsAddressed r.transfer → IsRequest r → FitsIt (verdict lost live changing table wide r) r
 verdict-fits lost live changing table wide r at is =
     unless lost eshutdown _ r (λ there.
-    unless (nat_le max_live live) ebusy _ r (λ room.
+    unless (nat_le MAX_LIVE live) ebusy _ r (λ room.
     by r.transfer.setup refl))
   where
     by : (o : Option Setup) → r.transfer.setup ≡ o → FitsIt (by_transfer changing table wide r o) r

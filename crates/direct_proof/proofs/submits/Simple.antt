@@ -8,20 +8,20 @@ use Rattle.control_route.specs.declared.route.Route.TheVariants as route
 use Rattle.control_route.specs.Changes.{touches}
 use Rattle.control_route.specs.declared.route.Route.{Route}
 use Rattle.model_device.specs.Transfer.{IsTransfer}
-use Rattle.redir_host.specs.Line.{Waiting as InLine, data_line}
-use Rattle.redir_host.specs.Sound.{Each as HostEach}
-use Rattle.gate_history.specs.Requests.{Request}
-use Rattle.gate_history.specs.Verdict.{Verdict, Pipe, Now, Wire, Routed, IsoOut, Stream, goes_by_id}
-use Rattle.gate_history.specs.Marks.{Submission, Opens}
-use Rattle.gate_history.specs.Submits.{Pending, at_once, is_touched}
-use Rattle.gate_history.specs.Ids.{last_of, draw, greatest}
-use Rattle.gate_history.specs.Flight.{wide_ids}
-use Rattle.gate_history.specs.Calls.{Calls, called_by, called, asking}
-use Rattle.gate_history.specs.Ups.{Up, opened_streams, lower, is_ended as ends_with}
-use Rattle.gate_history.specs.State.{State, flying, next_ids}
-use Rattle.gate_history.specs.Packets.{packets_of, wire_packet, route_packets, stops, stop_of, stop_packet}
-use Rattle.gate_history.specs.Meaning.{by_stream, accepted_as}
-use Rattle.gate_history.proofs.Lists.{Each, every}
+use Rattle.redir_host.specs.guest.Line.{Waiting as InLine, data_line}
+use Rattle.redir_host.specs.state.Sound.{Each as HostEach}
+use Rattle.gate_history.specs.client.Requests.{Request}
+use Rattle.gate_history.specs.client.Verdict.{Verdict, Pipe, Now, Wire, Routed, IsoOut, Stream, goes_by_id}
+use Rattle.gate_history.specs.step.Marks.{Submission, Opens}
+use Rattle.gate_history.specs.client.Submits.{Pending, at_once, is_touched}
+use Rattle.gate_history.specs.state.Ids.{last_of, draw, greatest}
+use Rattle.gate_history.specs.state.Flight.{wide_ids}
+use Rattle.gate_history.specs.state.Calls.{Calls, called_by, called, asking}
+use Rattle.gate_history.specs.state.Ups.{Up, opened_streams, lower, is_ended as ends_with}
+use Rattle.gate_history.specs.state.State.{State, flying, next_ids}
+use Rattle.gate_history.specs.write.Packets.{packets_of, wire_packet, route_packets, stops, stop_of, stop_packet}
+use Rattle.gate_history.specs.step.Meaning.{by_stream, accepted_as}
+use Rattle.gate_history.proofs.lemmas.Lists.{Each, every}
 use Rattle.direct_device.specs.Direct.{Load}
 use Rattle.direct_device.specs.Acting.{joins_live, answered_now}
 use Rattle.direct_proof.proofs.shared.New.{next_id, IsDrawn}

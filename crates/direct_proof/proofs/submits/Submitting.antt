@@ -1,16 +1,17 @@
 -- What a verdict reads of the table, and a packet of its own of a stream.
 use Rattle.std.proofs.Common.{◌≡◌, ℕ, ◌==◌, nat_le, Bool, false, cond, List, Option, Some, None, refl, ap}
+use Rattle.usbip_urb.specs.declared.code.TheConstants.{MAX_LIVE}
 use Rattle.usb_base.specs.declared.setup.Setup.{Setup}
 use Rattle.usb_base.specs.declared.endpoint.EpTable.{EpTable}
 use Rattle.usb_base.specs.declared.endpoint.EpRow.{EpRow}
 use Rattle.usb_base.specs.Endpoint.{row_of}
-use Rattle.gate_history.specs.Requests.{Request}
-use Rattle.gate_history.specs.Verdict.{Verdict, Pipe, Wire, verdict, by_transfer, by_endpoint, max_live, Now}
-use Rattle.gate_history.specs.Errno.{enoent, eshutdown, ebusy}
-use Rattle.gate_history.specs.Submits.{Pending}
-use Rattle.gate_history.specs.Ups.{Up}
-use Rattle.gate_history.specs.Meaning.{by_stream}
-use Rattle.gate_history.proofs.Lists.{Each}
+use Rattle.gate_history.specs.client.Requests.{Request}
+use Rattle.gate_history.specs.client.Verdict.{Verdict, Pipe, Wire, verdict, by_transfer, by_endpoint, Now}
+use Rattle.gate_history.specs.write.Errno.{enoent, eshutdown, ebusy}
+use Rattle.gate_history.specs.client.Submits.{Pending}
+use Rattle.gate_history.specs.state.Ups.{Up}
+use Rattle.gate_history.specs.step.Meaning.{by_stream}
+use Rattle.gate_history.proofs.lemmas.Lists.{Each}
 
 pub by-wire : (up : Option Up) (pipe : Pipe) → by_stream up (Wire pipe) ≡ Wire pipe
 by-wire None pipe = refl
@@ -26,7 +27,7 @@ AreBefore place ps = Each (λ (p : Pending). (place == p.submit.place) ≡ false
 
 -- a verdict reads one row of the table
 pub same-verdict : (lost : Bool) (live : ℕ) (changing : Bool) (t u : EpTable) (wide : Bool) (r : Request) → row_of t r.transfer.ep ≡ row_of u r.transfer.ep → verdict lost live changing t wide r ≡ verdict lost live changing u wide r
-same-verdict lost live changing t u wide r h = ap (λ (v : Verdict). cond lost (Now eshutdown) (cond (nat_le max_live live) (Now ebusy) v)) (go r.transfer.setup)
+same-verdict lost live changing t u wide r h = ap (λ (v : Verdict). cond lost (Now eshutdown) (cond (nat_le MAX_LIVE live) (Now ebusy) v)) (go r.transfer.setup)
   where
     go : (setup : Option Setup) → by_transfer changing t wide r setup ≡ by_transfer changing u wide r setup
     go (Some s) = refl

@@ -9,7 +9,7 @@ use Rattle.usb_base.specs.Endpoint.{row_of, no_endpoint, kind_of_byte, endpoint_
 use Rattle.redir_wire.specs.declared.packet.EpInfo.{EpInfo}
 use Rattle.redir_wire.specs.EpTable.{ep_row, ep_rows, table_of}
 use Rattle.redir_wire.specs.Capability.{has}
-use Rattle.redir_host.specs.Facts.{kind_byte, column, ep_info_of}
+use Rattle.redir_host.specs.device.Facts.{kind_byte, column, ep_info_of}
 use Rattle.direct_run.specs.Packets.{both_caps}
 
 get-last : {X : Type 0} (xs : List X) (y : X) (d : X) → get_or (xs ++ y ∷ []) (length xs) d ≡ y

@@ -2,26 +2,27 @@
 use Rattle.std.proofs.Common.{◌≡◌, ℕ, ◌≤◌, ◌<◌, ◌==◌, ◌||◌, nat_le, Bool, true, false, cond, List, [], ◌∷◌, ◌++◌, map, filter, length, Option, Some, None, is_some, refl, sym, ap, ◌∙◌, subst, arith, append-nil}
 use Rattle.std.specs.List.{list_any}
 use Rattle.std.proofs.lemmas.List.{length-map}
+use Rattle.usbip_urb.specs.declared.code.TheConstants.{MAX_LIVE}
 use Rattle.usb_base.specs.declared.setup.Setup.{Setup}
 use Rattle.usb_base.specs.declared.endpoint.EpTable.{EpTable}
 use Rattle.usb_base.specs.Endpoint.{row_of, endpoint_index}
 use Rattle.redir_wire.specs.EpTable.{table_of}
 use Rattle.model_device.specs.Meaning.{Meaning}
-use Rattle.redir_host.specs.Facts.{ep_info_of}
-use Rattle.redir_host.specs.Sound.{Each}
+use Rattle.redir_host.specs.device.Facts.{ep_info_of}
+use Rattle.redir_host.specs.state.Sound.{Each}
 use Rattle.redir_host.specs.declared.running.StreamKind.TheVariants.{Iso, Interrupt}
-use Rattle.gate_history.specs.Requests.{Request}
-use Rattle.gate_history.specs.Verdict.{Verdict, Now, verdict, by_transfer, by_endpoint, max_live, changes, goes_by_id}
-use Rattle.gate_history.specs.Errno.{eshutdown, ebusy}
-use Rattle.gate_history.specs.Marks.{Submission}
-use Rattle.gate_history.specs.Submits.{Pending}
-use Rattle.gate_history.specs.Ups.{stream_at}
-use Rattle.gate_history.specs.Flight.{wide_bulk}
-use Rattle.gate_history.specs.State.{submits, change_waits}
-use Rattle.gate_history.specs.Meaning.{verdict_of, by_stream, fact_of}
-use Rattle.gate_history.proofs.Lists.{both, list_any-map}
+use Rattle.gate_history.specs.client.Requests.{Request}
+use Rattle.gate_history.specs.client.Verdict.{Verdict, Now, verdict, by_transfer, by_endpoint, changes, goes_by_id}
+use Rattle.gate_history.specs.write.Errno.{eshutdown, ebusy}
+use Rattle.gate_history.specs.step.Marks.{Submission}
+use Rattle.gate_history.specs.client.Submits.{Pending}
+use Rattle.gate_history.specs.state.Ups.{stream_at}
+use Rattle.gate_history.specs.state.Flight.{wide_bulk}
+use Rattle.gate_history.specs.state.State.{submits, change_waits}
+use Rattle.gate_history.specs.step.Meaning.{verdict_of, by_stream, fact_of}
+use Rattle.gate_history.proofs.lemmas.Lists.{both, list_any-map}
 use Rattle.gate_history.specs.declared.facts.Facts.{Facts}
-use Rattle.gate_history.specs.Facts.{tell}
+use Rattle.gate_history.specs.state.Facts.{tell}
 use Rattle.direct_run.specs.declared.submitted.Submitted.{Submitted}
 use Rattle.direct_run.specs.Moves.{World}
 use Rattle.direct_run.specs.Packets.{both_caps}
@@ -167,4 +168,4 @@ module _ {S : Type 0} (m : Meaning S) (w : World S) (j : Shared) (rel : Related 
       rows h = sym (row-told (m.table w.host.gadget) r.transfer.ep address) ∙ ap (λ (t : EpTable). row_of t r.transfer.ep) (sym (table-known h))
 
       by_changing : (c : Bool) → change_waits w.gate ≡ c → verdict w.gate.lost (length w.gate.live) (change_waits w.gate) (m.table w.host.gadget) (wide_bulk w.gate.agreed) r ≡ verdict_of w.gate r
-      by_changing c e = ap (λ (v : Verdict). cond w.gate.lost (Now eshutdown) (cond (nat_le max_live (length w.gate.live)) (Now ebusy) v)) (by_transfers (m.table w.host.gadget) w.gate.facts.table (change_waits w.gate) r.transfer.setup rows)
+      by_changing c e = ap (λ (v : Verdict). cond w.gate.lost (Now eshutdown) (cond (nat_le MAX_LIVE (length w.gate.live)) (Now ebusy) v)) (by_transfers (m.table w.host.gadget) w.gate.facts.table (change_waits w.gate) r.transfer.setup rows)

@@ -1,10 +1,10 @@
 -- The cancels of an unlink name what was asked back.
 use Rattle.std.proofs.Common.{◌≡◌, ℕ, ◌==◌, ◌||◌, ◌&&◌, Bool, true, false, cond, List, [], ◌∷◌, map, filter, is_none, refl, sym, ap, ◌∙◌, arith}
-use Rattle.redir_host.specs.Sound.{Each}
-use Rattle.gate_history.specs.Verdict.{goes_by_id, is_wire}
-use Rattle.gate_history.specs.Marks.{Submission, Effect, Unlinks}
-use Rattle.gate_history.specs.Submits.{Pending}
-use Rattle.gate_history.specs.Output.{cancels, is_target as gate_target}
+use Rattle.redir_host.specs.state.Sound.{Each}
+use Rattle.gate_history.specs.client.Verdict.{goes_by_id, is_wire}
+use Rattle.gate_history.specs.step.Marks.{Submission, Effect, Unlinks}
+use Rattle.gate_history.specs.client.Submits.{Pending}
+use Rattle.gate_history.specs.write.Output.{cancels, is_target as gate_target}
 use Rattle.direct_device.specs.Direct.{number, is_number}
 use Rattle.direct_proof.specs.Requests.{Entry}
 use Rattle.direct_proof.specs.Cancels.{IsAsked}

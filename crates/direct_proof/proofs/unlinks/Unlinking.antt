@@ -8,17 +8,17 @@ use Rattle.usbip_urb.specs.declared.client.ClientPacket.TheVariants.{Urb}
 use Rattle.redir_data.specs.declared.packet.RedirPacket.{RedirPacket}
 use Rattle.model_device.specs.Meaning.{Meaning}
 use Rattle.redir_host.specs.declared.request.Request.{Request as HostRequest}
-use Rattle.redir_host.specs.Line.{Waiting as InLine}
-use Rattle.redir_host.specs.Sound.{Each}
-use Rattle.gate_history.specs.Items.{Asked}
-use Rattle.gate_history.specs.Marks.{Submission, Mark}
-use Rattle.gate_history.specs.Submits.{Pending, is_waiting}
-use Rattle.gate_history.specs.Output.{cancels, cancel, is_taken as gate_taken}
-use Rattle.gate_history.specs.State.{State, submits, is_number as is_numbered}
-use Rattle.gate_history.specs.Sound.{IsSound}
-use Rattle.gate_history.specs.Machine.{live_after}
-use Rattle.gate_history.specs.Meaning.{mark_as, mark_of, refused}
-use Rattle.gate_history.proofs.Lists.{filter-all, filter-map, map-map}
+use Rattle.redir_host.specs.guest.Line.{Waiting as InLine}
+use Rattle.redir_host.specs.state.Sound.{Each}
+use Rattle.gate_history.specs.step.Items.{Asked}
+use Rattle.gate_history.specs.step.Marks.{Submission, Mark}
+use Rattle.gate_history.specs.client.Submits.{Pending, is_waiting}
+use Rattle.gate_history.specs.write.Output.{cancels, cancel, is_taken as gate_taken}
+use Rattle.gate_history.specs.state.State.{State, submits, is_number as is_numbered}
+use Rattle.gate_history.specs.state.Sound.{IsSound}
+use Rattle.gate_history.specs.step.Machine.{live_after}
+use Rattle.gate_history.specs.step.Meaning.{mark_as, mark_of, refused}
+use Rattle.gate_history.proofs.lemmas.Lists.{filter-all, filter-map, map-map}
 use Rattle.direct_run.specs.declared.submitted.Submitted.{Submitted}
 use Rattle.direct_run.specs.Moves.{World, ByClient}
 use Rattle.direct_device.specs.Direct.{Direct}

@@ -4,18 +4,18 @@ use Rattle.std.specs.Prelude.{pos}
 use Rattle.std.specs.List.{list_any, flat_map}
 use Rattle.usbip_urb.specs.declared.client.ClientPacket.{ClientPacket}
 use Rattle.usbip_urb.specs.declared.client.ClientPacket.TheVariants.{Urb}
-use Rattle.redir_host.specs.Sound.{Each}
-use Rattle.gate_history.specs.Verdict.{Verdict, Now, Wire, Routed, IsoOut, Stream, goes_by_id}
-use Rattle.gate_history.specs.Marks.{Submission, Effect, Unlinks}
-use Rattle.gate_history.specs.Submits.{Pending, is_waiting, ends, ByUnlink}
-use Rattle.gate_history.specs.Answers.{ret_unlink, answers_at}
-use Rattle.gate_history.specs.Errno.{econnreset}
-use Rattle.gate_history.specs.Output.{is_target as gate_target, is_taken as gate_taken, cancels, cancel, to_host, to_client, present}
-use Rattle.gate_history.specs.Notes.{is_by_answer, notes_of}
-use Rattle.gate_history.specs.State.{State, submits}
-use Rattle.gate_history.specs.Machine.{ask, live_after}
-use Rattle.gate_history.specs.Meaning.{mark_as}
-use Rattle.gate_history.proofs.Lists.{Each as ListEach, every, filter-same, filter-none, filter-map, flat_map-same, flat_map-filter, list_any-map, map-map}
+use Rattle.redir_host.specs.state.Sound.{Each}
+use Rattle.gate_history.specs.client.Verdict.{Verdict, Now, Wire, Routed, IsoOut, Stream, goes_by_id}
+use Rattle.gate_history.specs.step.Marks.{Submission, Effect, Unlinks}
+use Rattle.gate_history.specs.client.Submits.{Pending, is_waiting, ends, ByUnlink}
+use Rattle.gate_history.specs.write.Answers.{ret_unlink, answers_at}
+use Rattle.gate_history.specs.write.Errno.{econnreset}
+use Rattle.gate_history.specs.write.Output.{is_target as gate_target, is_taken as gate_taken, cancels, cancel, to_host, to_client, present}
+use Rattle.gate_history.specs.write.Notes.{is_by_answer, notes_of}
+use Rattle.gate_history.specs.state.State.{State, submits}
+use Rattle.gate_history.specs.step.Machine.{ask, live_after}
+use Rattle.gate_history.specs.step.Meaning.{mark_as}
+use Rattle.gate_history.proofs.lemmas.Lists.{Each as ListEach, every, filter-same, filter-none, filter-map, flat_map-same, flat_map-filter, list_any-map, map-map}
 use Rattle.gate_history.specs.declared.note.Note.TheVariants as note
 use Rattle.direct_run.specs.Noted.{named}
 use Rattle.direct_device.specs.Direct.{Live, Direct}

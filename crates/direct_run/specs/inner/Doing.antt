@@ -1,12 +1,12 @@
 -- What an event of the gateway and an act of the host make of a system.
 use Rattle.std.specs.Prelude.{◌≡◌, List, [], ◌∷◌, ◌++◌}
 use Rattle.std.specs.List.{flat_map}
-use Rattle.gate_history.specs.Events.{Event}
-use Rattle.gate_history.specs.Notes.{notes_of}
-use Rattle.gate_core.specs.Stands.{Stands as GateStands}
+use Rattle.gate_history.specs.step.Events.{Event}
+use Rattle.gate_history.specs.write.Notes.{notes_of}
+use Rattle.gate_core.specs.step.Stands.{Stands as GateStands}
 use Rattle.model_device.specs.Meaning.{Meaning}
-use Rattle.redir_host.specs.Acts.{Act}
-use Rattle.redir_host.specs.Stands.{Stands as HostStands}
+use Rattle.redir_host.specs.step.Acts.{Act}
+use Rattle.redir_host.specs.step.Stands.{Stands as HostStands}
 use Rattle.direct_run.specs.declared.told.Told.{Told}
 use Rattle.direct_run.specs.Kept.{SystemKept}
 use Rattle.direct_run.specs.World.{first_id}

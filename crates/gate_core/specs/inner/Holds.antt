@@ -1,34 +1,34 @@
 -- When what is kept stands for a state of the machine, and what it does with an item.
 use Rattle.std.specs.Prelude.{◌≡◌, ◌⊎◌, ◌∷◌, ◌<◌, not, ◌+◌, ◌-◌, ◌^◌, [], ◌++◌, ◌≤◌, ℕ, true, false, List, length, filter, IsTrue, None}
 use Rattle.std.specs.List.{AllByRecursion, list_any}
-use Rattle.usbip_urb.specs.declared.code.TheConstants.{MAX_LENGTH}
+use Rattle.usbip_urb.specs.declared.code.TheConstants.{MAX_LENGTH, MAX_LIVE}
 use Rattle.usbip_urb.specs.Buffers.{laid}
 use Rattle.unlink_race.specs.Requests.{no_requests}
 use Rattle.unlink_race.specs.declared.live.Live.{Live}
 use Rattle.unlink_race.specs.declared.live.LiveKind.{LiveKind}
 use Rattle.unlink_race.specs.Searches.{goes_by_id, has_number, is_stream}
 use Rattle.gate_history.specs.declared.note.Note.{Note}
-use Rattle.gate_core.specs.declared.kept.Kept.{Kept}
-use Rattle.gate_parts.specs.declared.calls.Called.{Called}
-use Rattle.gate_history.specs.Items.{capped}
-use Rattle.gate_history.specs.Marks.{Mark}
-use Rattle.gate_history.specs.Facts.{no_facts}
-use Rattle.gate_history.specs.Ups.{no_streams}
-use Rattle.gate_history.specs.Verdict.{Verdict, goes_by_id as goes_by_id_of}
-use Rattle.gate_history.specs.Packets.{HasRoute}
-use Rattle.gate_history.specs.Submits.{is_waiting}
-use Rattle.gate_history.specs.State.{State}
-use Rattle.gate_history.specs.Output.{to_client}
-use Rattle.gate_history.specs.Notes.{notes_of, dropped}
-use Rattle.gate_history.specs.All.{is_ret_submit, is_won_unlink}
-use Rattle.gate_history.specs.Bytes.{client_bytes_of, host_bytes_of}
-use Rattle.gate_history.specs.Machine.{start, after}
-use Rattle.gate_history.specs.Requests.{Request}
-use Rattle.gate_core.specs.Kept.{ItemsKept}
-use Rattle.gate_core.specs.Stands.{IsOf}
-use Rattle.gate_history.specs.Asked.{HasItsPackets}
-use Rattle.gate_parts.specs.Rows.{kind_of, IsFine, IsRead}
-use Rattle.gate_parts.specs.Extends.{Extends}
+use Rattle.gate_core.specs.declared.state.kept.Kept.{Kept}
+use Rattle.gate_parts.specs.declared.state.calls.Called.{Called}
+use Rattle.gate_history.specs.step.Items.{capped}
+use Rattle.gate_history.specs.step.Marks.{Mark}
+use Rattle.gate_history.specs.state.Facts.{no_facts}
+use Rattle.gate_history.specs.state.Ups.{no_streams}
+use Rattle.gate_history.specs.client.Verdict.{Verdict, goes_by_id as goes_by_id_of}
+use Rattle.gate_history.specs.write.Packets.{HasRoute}
+use Rattle.gate_history.specs.client.Submits.{is_waiting}
+use Rattle.gate_history.specs.state.State.{State}
+use Rattle.gate_history.specs.write.Output.{to_client}
+use Rattle.gate_history.specs.write.Notes.{notes_of, dropped}
+use Rattle.gate_history.specs.write.All.{is_ret_submit, is_won_unlink}
+use Rattle.gate_history.specs.write.Bytes.{client_bytes_of, host_bytes_of}
+use Rattle.gate_history.specs.step.Machine.{start, after}
+use Rattle.gate_history.specs.client.Requests.{Request}
+use Rattle.gate_core.specs.state.Kept.{ItemsKept}
+use Rattle.gate_core.specs.step.Stands.{IsOf}
+use Rattle.gate_history.specs.write.Asked.{HasItsPackets}
+use Rattle.gate_parts.specs.state.Rows.{kind_of, IsFine, IsRead}
+use Rattle.gate_parts.specs.write.Extends.{Extends}
 
 -- ---- standing for a state
 
@@ -37,8 +37,8 @@ pub record IsKept (t : Kept) : Type 0 where
   pub fine : AllByRecursion (IsFine t.caps) t.lives.live
   -- a client has requests only once it has imported the device, and imports it only once nothing is left of the former
   pub apart : t.imported ≡ true → t.lives.abandoned ≡ []
-  pub few : length t.lives.live ≤ 4096
-  pub left : length t.lives.abandoned ≤ 4096
+  pub few : length t.lives.live ≤ MAX_LIVE
+  pub left : length t.lives.abandoned ≤ MAX_LIVE
   -- each endpoint has its place
   pub places : length t.streams ≡ 32
   pub started : length t.calls.started ≡ 32
@@ -134,7 +134,7 @@ pub record HasLeft (called : Called) (old new : Kept) : Type 0 where
 pub record IsFree (t : Kept) (number : ℕ) : Type 0 where
   pub imported : t.imported ≡ true
   pub number_free : list_any (has_number number) t.lives.live ≡ false
-  pub room : length t.lives.live < 4096
+  pub room : length t.lives.live < MAX_LIVE
 
 -- it is the last of the live ones, and this is the last id that was drawn
 pub record HasOpened (live : Live) (last : ℕ) (old new : Kept) : Type 0 where
@@ -156,6 +156,6 @@ pub record CanWait (r : Request) : Type 0 where
 -- one that goes by an id can be answered, one that waits can do so, and both find room
 pub record CanGo (t : Kept) (r : Request) (v : Verdict) : Type 0 where
   pub answered : goes_by_id_of v ≡ true → CanAnswer r (kind_of v r.transfer.ep)
-  pub room : goes_by_id_of v ≡ true → length t.lives.live < 4096
-  pub waits : is_waiting v ≡ true → CanWait r × (length t.lives.live < 4096)
+  pub room : goes_by_id_of v ≡ true → length t.lives.live < MAX_LIVE
+  pub waits : is_waiting v ≡ true → CanWait r × (length t.lives.live < MAX_LIVE)
   pub sends : HasRoute v

@@ -15,18 +15,18 @@ use Rattle.redir_data.specs.declared.state.RedirState.{RedirState}
 use Rattle.gate_history.specs.declared.item.Item.{Item as RawItem}
 use Rattle.gate_history.specs.declared.item.Item.TheVariants as raw
 use Rattle.gate_history.specs.declared.note.Note.{Note}
-use Rattle.gate_core.specs.declared.inner.Inner.{Inner}
-use Rattle.gate_history.specs.Items.{Item, Asked, ClientWrong, Told, HostWrong}
-use Rattle.gate_history.specs.Streams.{client_reader, client_start, host_reader, host_start}
-use Rattle.gate_history.specs.Events.{Event}
-use Rattle.gate_history.specs.Sides.{client_over, host_over}
-use Rattle.gate_history.specs.Past.{past}
-use Rattle.gate_history.specs.History.{arrivals}
-use Rattle.gate_history.specs.Notes.{notes_of}
-use Rattle.gate_history.specs.All.{all_of}
-use Rattle.gate_history.specs.Bytes.{out_client, out_host}
-use Rattle.gate_core.specs.Kept.{GateKept}
-use Rattle.gate_core.specs.Stands.{Stands, Stops}
+use Rattle.gate_core.specs.declared.step.inner.Inner.{Inner}
+use Rattle.gate_history.specs.step.Items.{Item, Asked, ClientWrong, Told, HostWrong}
+use Rattle.gate_history.specs.step.Streams.{client_reader, client_start, host_reader, host_start}
+use Rattle.gate_history.specs.step.Events.{Event}
+use Rattle.gate_history.specs.state.Sides.{client_over, host_over}
+use Rattle.gate_history.specs.step.Past.{past}
+use Rattle.gate_history.specs.step.History.{arrivals}
+use Rattle.gate_history.specs.write.Notes.{notes_of}
+use Rattle.gate_history.specs.write.All.{all_of}
+use Rattle.gate_history.specs.write.Bytes.{out_client, out_host}
+use Rattle.gate_core.specs.state.Kept.{GateKept}
+use Rattle.gate_core.specs.step.Stands.{Stands, Stops}
 use Rattle.gate_history.specs.Headline.{Gains}
 use Rattle.gate_core.specs.inner.Holds.{items_of}
 

@@ -1,6 +1,6 @@
 -- A host core's own struct as what it keeps.
 use Rattle.redir_host.specs.declared.kept.Kept.{Kept}
-use Rattle.redir_host.specs.Kept.{HostKept}
+use Rattle.redir_host.specs.state.Kept.{HostKept}
 
 -- without its allocator
 abbrev pub kept_of : {S : Type 0} → Kept S → HostKept S

@@ -1,19 +1,20 @@
-use Rattle.std.proofs.Common.{List, [], None, Err, refl, sym, ◌∙◌, ap, subst}
+use Rattle.std.proofs.Common.{ℕ, false, List, [], None, Err, refl, sym, ◌∙◌, ap, subst}
 use Rattle.gate_outside.specs.Link.{Link}
 use Rattle.session_tape.specs.Tapes.{counts}
 use Rattle.bridge_run.specs.Events.{Event}
 use Rattle.bridge_run.specs.Lent.{lent_sends}
-use Rattle.bridge_run.specs.Outside.{outside, HasReason, written, faults}
+use Rattle.bridge_run.specs.Outside.{outside, HasReason, gathering, written, faults}
 use Rattle.bridge_run.specs.Course.{AtDoor}
 use Rattle.bridge_run.specs.Calls.{Goes}
 use Rattle.bridge_run.specs.Serves.{Leaves}
 use Rattle.bridge_run.specs.declared.kept.Kept.{Kept}
 use Rattle.bridge_run.specs.inner.Lending.{IsLent}
+use Rattle.bridge_run.specs.inner.Keeping.{begun}
 use Rattle.bridge_run.specs.inner.Follows.{Follows, setting}
-use Rattle.bridge_run.proofs.Resting.{faults-then}
-use Rattle.bridge_run.proofs.Idling.{reason-from}
-use Rattle.bridge_run.proofs.Opening.{door-short, door-unmade, door-follows}
-use Rattle.bridge_run.proofs.Logging.{no_host, nothing-part, door-part, door-at}
+use Rattle.bridge_run.proofs.lemmas.events.Rest.{faults-then}
+use Rattle.bridge_run.proofs.lemmas.calls.Idle.{reason-from}
+use Rattle.bridge_run.proofs.lemmas.calls.Open.{door-short, door-unmade, door-follows}
+use Rattle.bridge_run.proofs.lemmas.calls.Log.{no_host, nothing-before, door-part, door-at}
 use Rattle.bridge_run.proofs.lending.serve_host.Goals as goal
 
 pub returns-in-Err-clause-leaves : goal.returns-in-Err-clause-leaves
@@ -39,10 +40,11 @@ returns-clause-leaves g c = λ k b t.
     let out = written (g.K.Sink.contents c.args.out.now) None in
     let core = c.new-session.result.core in
     let stands : List Event → Type 0 = λ events. IsLent m first core events in
-    subst (λ (q : Kept). Follows stands p q w out k → Leaves c.run.result (setting p q) (Goes AtDoor k) ends (written (g.K.Sink.contents c.run.new.out) None)) (c.new-session.ensures.kept ∙ c.new.ensures) (c.run.ensures.course first k)
+    subst (λ (q : Kept). Follows stands p q w (gathering (g.K.Sink.contents c.args.out.now) None c.new-session.result.waiting) k → Leaves c.run.result (setting p q) (Goes AtDoor k) ends (written (g.K.Sink.contents c.run.new.out) None)) (c.new-session.ensures.kept ∙ c.new.ensures) (c.run.ensures.course first k)
+    (subst (λ (l : List ℕ). Follows stands p (begun false c.args.idle c.args.budget) w (gathering (g.K.Sink.contents c.args.out.now) None l) k) (sym c.new-session.ensures.waiting)
     (door-follows stands p c.args.idle c.args.budget
     (outside (g.D.Doors.link c.args.doors.now) (g.D.Doors.door c.args.doors.now)) w out k b (subst (λ x. IsLent m first x []) (sym c.new-session.ensures.core) c.in-Ok.ensures) refl t
-    c.in_default.ensures.listens.1 c.in_default.ensures.other c.in_default.ensures.listens.0)
+    c.in_default.ensures.listens.1 c.in_default.ensures.other c.in_default.ensures.listens.0))
 
 pub returns-clause-cause : goal.returns-clause-cause
 returns-clause-cause g c =
@@ -60,10 +62,10 @@ returns-clause-reason g c =
     (subst (λ (q : Kept). HasReason c.run.result q.idle w ends) (c.new-session.ensures.kept ∙ c.new.ensures) c.run.ensures.reason)
 
 pub returns-in-Err-clause-log : goal.returns-in-Err-clause-log
-returns-in-Err-clause-log g c = nothing-part g.D.Doors.call_gives (no_host c.args.listen.now) (lent_sends g.G.Gadget.meaning c.args.gadget) c.args.doors.now
+returns-in-Err-clause-log g c = nothing-before g.D.Doors.call_gives (no_host c.args.listen.now) (lent_sends g.G.Gadget.meaning c.args.gadget) c.args.doors.now
 
 pub returns-in-Err-vec-clause-log : goal.returns-in-Err-vec-clause-log
-returns-in-Err-vec-clause-log g c = nothing-part g.D.Doors.call_gives (no_host c.args.listen.now) (lent_sends g.G.Gadget.meaning c.args.gadget) c.args.doors.now
+returns-in-Err-vec-clause-log g c = nothing-before g.D.Doors.call_gives (no_host c.args.listen.now) (lent_sends g.G.Gadget.meaning c.args.gadget) c.args.doors.now
 
 pub returns-in-Err-listen-clause-log : goal.returns-in-Err-listen-clause-log
 returns-in-Err-listen-clause-log g c = door-part g.D.Doors.call_gives (lent_sends g.G.Gadget.meaning c.args.gadget) c.args.listen.now _ c.args.doors.now c.listen.new.self c.in-Err-listen.ensures.gives

@@ -1,6 +1,6 @@
 use Rattle.std.proofs.Common.{sym, ◌∙◌, ◌∷◌}
-use Rattle.redir_host.specs.Acts.{Piece}
-use Rattle.bridge_run.proofs.Acting.{heard-refused, heard-used, on-ok}
+use Rattle.redir_host.specs.step.Acts.{Piece}
+use Rattle.bridge_run.proofs.lemmas.events.Acts.{heard-refused, heard-used, on-ok}
 use Rattle.bridge_run.proofs.lent.hear.Goals as goal
 
 pub returns-then-has_refusal-clause-acts : goal.returns-then-has_refusal-clause-acts

@@ -1,5 +1,5 @@
 use Rattle.bridge_run.specs.Lent.{used}
-use Rattle.bridge_run.proofs.Acting.{acts-then, on-ok}
+use Rattle.bridge_run.proofs.lemmas.events.Acts.{acts-then, on-ok}
 use Rattle.bridge_run.proofs.lent.use_device.Goals as goal
 
 pub returns : goal.returns

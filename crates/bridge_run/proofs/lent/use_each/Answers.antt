@@ -1,9 +1,9 @@
 use Rattle.std.proofs.Common.{ℕ, List, ◌+◌, ◌∷◌, drop, sym, ap, subst, ◌∙◌}
 use Rattle.std.proofs.lemmas.List.{drop_more}
 use Rattle.usb_base.specs.Endpoint.{IsEndpoint}
-use Rattle.redir_host.specs.Sound.{Each}
+use Rattle.redir_host.specs.state.Sound.{Each}
 use Rattle.bridge_run.specs.inner.Lending.{act_of}
-use Rattle.bridge_run.proofs.Acting.{midway-none, midway-more}
+use Rattle.bridge_run.proofs.lemmas.events.Acts.{midway-none, midway-more}
 use Rattle.bridge_run.proofs.lent.use_each.Goals as goal
 
 pub loop-address-init : goal.loop-address-init

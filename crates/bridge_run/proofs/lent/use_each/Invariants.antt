@@ -1,10 +1,10 @@
 use Rattle.std.proofs.Common.{List, drop}
 use Rattle.usb_base.specs.Endpoint.{IsEndpoint}
-use Rattle.redir_host.specs.Acts.{Act}
-use Rattle.redir_host.specs.Sound.{Each}
-use Rattle.redir_host.specs.Stands.{Stands}
+use Rattle.redir_host.specs.step.Acts.{Act}
+use Rattle.redir_host.specs.state.Sound.{Each}
+use Rattle.redir_host.specs.step.Stands.{Stands}
 use Rattle.bridge_run.specs.inner.Lending.{act_of}
-use Rattle.bridge_run.proofs.Acting.{Midway}
+use Rattle.bridge_run.proofs.lemmas.events.Acts.{Midway}
 use Rattle.bridge_run.proofs.lent.use_each.Given as goal
 
 abbrev pub invariant-loop-address : goal.invariant-loop-address

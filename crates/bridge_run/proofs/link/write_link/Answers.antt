@@ -5,8 +5,8 @@ use Rattle.gate_outside.specs.Link.{Link}
 use Rattle.gate_outside.specs.Doors.{faulted}
 use Rattle.bridge_run.specs.inner.Links.{wrote}
 use Rattle.bridge_run.specs.inner.Logging.{WroteMore}
-use Rattle.bridge_run.proofs.Links.{wrote-twice}
-use Rattle.bridge_run.proofs.Logging.{wrote-call, wrote-fault}
+use Rattle.bridge_run.proofs.lemmas.events.Links.{wrote-twice}
+use Rattle.bridge_run.proofs.lemmas.calls.Log.{wrote-call, wrote-fault}
 use Rattle.bridge_run.proofs.link.write_link.Goals as goal
 
 pub loop-done-preserved : goal.loop-done-preserved

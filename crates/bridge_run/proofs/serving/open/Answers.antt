@@ -1,11 +1,13 @@
-use Rattle.std.proofs.Common.{true, ◌∙◌, ap}
+use Rattle.std.proofs.Common.{true, sym, ◌∙◌, ap, subst}
 use Rattle.usb_base.specs.declared.side.Side.TheVariants.{Host}
 use Rattle.gate_outside.specs.Link.{Door}
 use Rattle.gate_outside.specs.Doors.{faulted}
+use Rattle.bridge_run.specs.declared.serve_end.ServeEnd.{ServeEnd}
+use Rattle.bridge_run.specs.Log.{Logged}
 use Rattle.bridge_run.specs.Outside.{outside}
-use Rattle.bridge_run.proofs.Opening.{cut-opens, not_dialled, not_listened, not_greeted}
+use Rattle.bridge_run.proofs.lemmas.calls.Open.{cut-opens, not_dialled, not_listened, not_greeted}
 use Rattle.std.proofs.Common.{Ok}
-use Rattle.bridge_run.proofs.Logging.{dial-part, listen-part, was-asked, asked, hello-part, hello-sent, open-err}
+use Rattle.bridge_run.proofs.lemmas.calls.Log.{with_host, dial-part, listen-part, was-asked, asked, hello-part, hello-sent, open-err}
 use Rattle.bridge_run.proofs.serving.open.Goals as goal
 
 pub returns-in-Err-clause-course : goal.returns-in-Err-clause-course
@@ -39,7 +41,8 @@ returns-in_err-write_link-clause-log g c = λ p hello.
     let door = c.args.listen.now in
     let cut = c.in_err-write_link.ensures.log c.args.doors.now (asked host door (Ok tt)) (was-asked gives host door (Ok tt) c.args.doors.now c.dial.new.self c.listen.new.self c.in_default.ensures.gives c.in_default-listen.ensures.gives) in
     open-err _ c.from_residual.result gives host door p c.args.doors.now c.write_link.new.doors c.from_residual.ensures.1
-    (hello-part gives p host door c.args.hello.now cut.0 cut.1.0 c.args.doors.now c.write_link.new.doors hello cut.1.1.1 cut.1.1.2)
+    (λ x is. subst (λ (y : ServeEnd). Logged y gives (with_host host door) p c.args.doors.now c.write_link.new.doors) (sym (is ∙ c.in_err-write_link.ensures.fault))
+    (hello-part gives p host door c.args.hello.now cut.0 cut.1.0 c.args.doors.now c.write_link.new.doors hello cut.1.1.1 cut.1.1.2))
 
 pub returns-clause-log : goal.returns-clause-log
 returns-clause-log g c = λ p hello.

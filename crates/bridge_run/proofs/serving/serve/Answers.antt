@@ -1,22 +1,23 @@
-use Rattle.std.proofs.Common.{◌≡◌, ℕ, List, [], ◌++◌, Err, refl, sym, ◌∙◌, ap, subst}
-use Rattle.gate_history.specs.Bytes.{out_host}
-use Rattle.gate_core.specs.Stands.{Stands}
+use Rattle.std.proofs.Common.{◌≡◌, ℕ, true, List, [], ◌++◌, Err, refl, sym, ◌∙◌, ap, subst}
+use Rattle.gate_history.specs.write.Bytes.{out_host}
+use Rattle.gate_core.specs.step.Stands.{Stands}
 use Rattle.bridge_run.specs.Course.{Setting, Making, AtDoor}
 use Rattle.bridge_run.specs.Calls.{Goes, make}
-use Rattle.bridge_run.specs.Outside.{outside, HasReason, written, faults}
+use Rattle.bridge_run.specs.Outside.{outside, HasReason, gathering, written, faults}
 use Rattle.bridge_run.specs.Events.{Event}
 use Rattle.bridge_run.specs.Serves.{Leaves}
 use Rattle.bridge_run.specs.declared.kept.Kept.{Kept}
 use Rattle.bridge_run.specs.declared.gate.Gateway.{Gateway}
+use Rattle.bridge_run.specs.inner.Keeping.{begun}
 use Rattle.bridge_run.specs.inner.Follows.{Follows, setting}
 use Rattle.bridge_run.specs.Gate.{gate_events, gate_sends}
-use Rattle.bridge_run.proofs.Reaching.{reaches-none, reaches-call, leaves-then, cut-leaves, cut-next}
-use Rattle.bridge_run.proofs.Resting.{faults-then}
-use Rattle.bridge_run.proofs.Idling.{cut-reason, reason-from}
-use Rattle.bridge_run.proofs.Opening.{making-short, begun-follows}
+use Rattle.bridge_run.proofs.lemmas.calls.Course.{reaches-none, reaches-call, leaves-then, cut-leaves, cut-next}
+use Rattle.bridge_run.proofs.lemmas.events.Rest.{faults-then}
+use Rattle.bridge_run.proofs.lemmas.calls.Idle.{cut-reason, reason-from}
+use Rattle.bridge_run.proofs.lemmas.calls.Open.{making-short, begun-follows}
 use Rattle.bridge_run.specs.Log.{Logged}
 use Rattle.bridge_run.specs.inner.Logging.{IsAt}
-use Rattle.bridge_run.proofs.Logging.{with_host, nothing-part, cut-logs, opened-at}
+use Rattle.bridge_run.proofs.lemmas.calls.Log.{with_host, nothing-before, opened-at}
 use Rattle.bridge_run.proofs.serving.serve.Goals as goal
 
 pub returns-in-Err-clause-leaves : goal.returns-in-Err-clause-leaves
@@ -47,8 +48,9 @@ returns-clause-leaves g c = λ k b t.
     let tells = c.in_default.ensures.course p k out (c.as_slice.ensures ∙ c.in-Ok.ensures.sent ∙ ap (λ (l : List ℕ). l ++ out_host first []) c.new-hello.ensures) b.client_down t in
     leaves-then c.run.result s (Goes Making k) AtDoor (make p k) ends (written (g.K.Sink.contents c.run.new.out) (g.T.Tape.contents c.run.new.tape))
     (reaches-call s (Goes Making k) Making k (Goes AtDoor (make p k)) (reaches-none s (Goes Making k)) refl)
-    (subst (λ (q : Kept). Follows stands p q w out (make p k) → Leaves c.run.result (setting p q) (Goes AtDoor (make p k)) ends (written (g.K.Sink.contents c.run.new.out) (g.T.Tape.contents c.run.new.tape))) (c.new-session.ensures.kept ∙ c.new.ensures) (c.run.ensures.course (c.args.after_loss, first) (make p k))
-    (begun-follows stands p c.args.idle c.args.budget w out k b (subst (λ (x : Gateway). (x.after_loss ≡ c.args.after_loss) × Stands first x.gate (gate_events [])) (sym c.new-session.ensures.core) (refl, c.in-Ok.ensures.made)) refl tells))
+    (subst (λ (q : Kept). Follows stands p q w (gathering (g.K.Sink.contents c.args.out.now) (g.T.Tape.contents c.args.tape.now) c.new-session.result.waiting) (make p k) → Leaves c.run.result (setting p q) (Goes AtDoor (make p k)) ends (written (g.K.Sink.contents c.run.new.out) (g.T.Tape.contents c.run.new.tape))) (c.new-session.ensures.kept ∙ c.new.ensures) (c.run.ensures.course (c.args.after_loss, first) (make p k))
+    (subst (λ (l : List ℕ). Follows stands p (begun true c.args.idle c.args.budget) w (gathering (g.K.Sink.contents c.args.out.now) (g.T.Tape.contents c.args.tape.now) l) (make p k)) (sym c.new-session.ensures.waiting)
+    (begun-follows stands p c.args.idle c.args.budget w out k b (subst (λ (x : Gateway). (x.after_loss ≡ c.args.after_loss) × Stands first x.gate (gate_events [])) (sym c.new-session.ensures.core) (refl, c.in-Ok.ensures.made)) refl tells)))
 
 pub returns-clause-cause : goal.returns-clause-cause
 returns-clause-cause g c =
@@ -66,16 +68,15 @@ returns-clause-reason g c =
     (subst (λ (q : Kept). HasReason c.run.result q.idle w ends) (c.new-session.ensures.kept ∙ c.new.ensures) c.run.ensures.reason)
 
 pub returns-in-Err-clause-log : goal.returns-in-Err-clause-log
-returns-in-Err-clause-log g c = nothing-part g.D.Doors.call_gives (with_host c.args.host.now c.args.listen.now) (gate_sends c.args.after_loss c.args.first_id) c.args.doors.now
+returns-in-Err-clause-log g c = nothing-before g.D.Doors.call_gives (with_host c.args.host.now c.args.listen.now) (gate_sends c.args.after_loss c.args.first_id) c.args.doors.now
 
 pub returns-in-Err-vec-clause-log : goal.returns-in-Err-vec-clause-log
-returns-in-Err-vec-clause-log g c = nothing-part g.D.Doors.call_gives (with_host c.args.host.now c.args.listen.now) (gate_sends c.args.after_loss c.args.first_id) c.args.doors.now
+returns-in-Err-vec-clause-log g c = nothing-before g.D.Doors.call_gives (with_host c.args.host.now c.args.listen.now) (gate_sends c.args.after_loss c.args.first_id) c.args.doors.now
 
 pub returns-in-Err-open-clause-log : goal.returns-in-Err-open-clause-log
 returns-in-Err-open-clause-log g c =
     let p = gate_sends c.args.after_loss c.args.first_id in
-    cut-logs c.in-Err-open.end g.D.Doors.call_gives (with_host c.args.host.now c.args.listen.now) p c.args.doors.now c.open.new.doors c.in-Err-open.ensures.cut
-    (c.in-Err-open.ensures.log p (c.as_slice.ensures ∙ c.in-Ok.ensures.sent ∙ ap (λ (l : List ℕ). l ++ out_host c.args.first_id []) c.new-hello.ensures))
+    c.in-Err-open.ensures.log p (c.as_slice.ensures ∙ c.in-Ok.ensures.sent ∙ ap (λ (l : List ℕ). l ++ out_host c.args.first_id []) c.new-hello.ensures)
 
 pub returns-clause-log : goal.returns-clause-log
 returns-clause-log g c =

@@ -6,11 +6,11 @@ use Rattle.redir_data.specs.declared.packet.RedirPacket.{RedirPacket}
 use Rattle.redir_data.specs.declared.packet.RedirPacket.TheVariants.{Plain}
 use Rattle.control_route.specs.declared.route.Route.{Route}
 use Rattle.control_route.specs.declared.route.Route.TheVariants as route
-use Rattle.redir_host.specs.Sound.{Each}
-use Rattle.gate_history.specs.Packets.{stops, stop_packet, route_packets}
-use Rattle.gate_history.specs.State.{State}
-use Rattle.gate_history.specs.Ups.{Up, is_ended}
-use Rattle.gate_history.specs.Verdict.{is_iso}
+use Rattle.redir_host.specs.state.Sound.{Each}
+use Rattle.gate_history.specs.write.Packets.{stops, stop_packet, route_packets}
+use Rattle.gate_history.specs.state.State.{State}
+use Rattle.gate_history.specs.state.Ups.{Up, is_ended}
+use Rattle.gate_history.specs.client.Verdict.{is_iso}
 use Rattle.direct_proof.specs.Requests.{Entry}
 use Rattle.direct_proof.specs.Cancels.{CancelsFit, IsAsking, begins, is_cancel, left, moved}
 use Rattle.direct_proof.proofs.shared.Owed.{each-append}

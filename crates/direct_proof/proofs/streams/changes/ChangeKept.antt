@@ -11,22 +11,22 @@ use Rattle.redir_data.specs.declared.packet.RedirPacket.{RedirPacket}
 use Rattle.control_route.specs.declared.route.Route.{Route}
 use Rattle.control_route.specs.Changes.{is_change}
 use Rattle.model_device.specs.Meaning.{Meaning}
-use Rattle.redir_host.specs.Sound.{Each}
-use Rattle.gate_history.specs.Requests.{Request, request_of}
-use Rattle.gate_history.specs.Items.{Asked}
-use Rattle.gate_history.specs.Verdict.{Routed, verdict, changes}
-use Rattle.gate_history.specs.Errno.{eshutdown}
-use Rattle.gate_history.specs.Flight.{wide_bulk, ids_of}
-use Rattle.gate_history.specs.Calls.{call_ids}
-use Rattle.gate_history.specs.Ids.{last_of}
-use Rattle.gate_history.specs.Marks.{Submission}
-use Rattle.gate_history.specs.Submits.{Pending, touches_stream}
-use Rattle.gate_history.specs.Output.{fresh}
-use Rattle.gate_history.specs.State.{submits, has_number, is_number as has_seq, change_waits}
-use Rattle.gate_history.specs.Meaning.{mark_as, by_stream, verdict_of}
-use Rattle.gate_history.specs.Answers.{without_packets}
-use Rattle.gate_history.specs.Ups.{stream_at, lower, is_ended}
-use Rattle.gate_history.proofs.Lists.{list_any-map, filter-map, map-map}
+use Rattle.redir_host.specs.state.Sound.{Each}
+use Rattle.gate_history.specs.client.Requests.{Request, request_of}
+use Rattle.gate_history.specs.step.Items.{Asked}
+use Rattle.gate_history.specs.client.Verdict.{Routed, verdict, changes}
+use Rattle.gate_history.specs.write.Errno.{eshutdown}
+use Rattle.gate_history.specs.state.Flight.{wide_bulk, ids_of}
+use Rattle.gate_history.specs.state.Calls.{call_ids}
+use Rattle.gate_history.specs.state.Ids.{last_of}
+use Rattle.gate_history.specs.step.Marks.{Submission}
+use Rattle.gate_history.specs.client.Submits.{Pending, touches_stream}
+use Rattle.gate_history.specs.write.Output.{fresh}
+use Rattle.gate_history.specs.state.State.{submits, has_number, is_number as has_seq, change_waits}
+use Rattle.gate_history.specs.step.Meaning.{mark_as, by_stream, verdict_of}
+use Rattle.gate_history.specs.write.Answers.{without_packets}
+use Rattle.gate_history.specs.state.Ups.{stream_at, lower, is_ended}
+use Rattle.gate_history.proofs.lemmas.Lists.{list_any-map, filter-map, map-map}
 use Rattle.direct_device.specs.Direct.{Live, Direct, is_number}
 use Rattle.direct_device.specs.Acting.{Submit, made_of}
 use Rattle.direct_run.specs.Moves.{World, ByClient}

@@ -2,23 +2,24 @@
 use Rattle.std.proofs.Common.{◌≡◌, ℕ, ◌<◌, ◌==◌, not, nat_le, Bool, true, false, cond, List, [], ◌∷◌, ◌++◌, map, filter, Option, Some, None, refl, sym, ap, ◌∙◌, arith}
 use Rattle.std.specs.Prelude.{ℤ}
 use Rattle.std.specs.List.{list_any, AllByRecursion}
+use Rattle.usbip_urb.specs.declared.code.TheConstants.{MAX_LIVE}
 use Rattle.usb_base.specs.declared.setup.Setup.{Setup}
 use Rattle.usb_base.specs.declared.endpoint.EpTable.{EpTable}
 use Rattle.control_route.specs.declared.route.Route.{Route}
 use Rattle.control_route.specs.declared.route.Route.TheVariants as route
 use Rattle.control_route.specs.Changes.{is_change}
 use Rattle.model_device.specs.Transfer.{is_control}
-use Rattle.redir_host.specs.Sound.{Each}
-use Rattle.gate_history.specs.Requests.{Request}
-use Rattle.gate_history.specs.Verdict.{Verdict, Now, Wire, Routed, IsoOut, Stream, verdict, by_transfer, max_live, goes_by_id}
-use Rattle.gate_history.specs.Errno.{eshutdown, ebusy}
-use Rattle.gate_history.specs.Ids.{holds}
-use Rattle.gate_history.specs.Marks.{Submission}
-use Rattle.gate_history.specs.Submits.{Pending, touches_stream}
-use Rattle.gate_history.specs.Output.{fresh}
-use Rattle.gate_history.specs.State.{State, is_number as has_seq}
-use Rattle.gate_history.specs.Meaning.{by_stream}
-use Rattle.gate_history.specs.Ups.{Up}
+use Rattle.redir_host.specs.state.Sound.{Each}
+use Rattle.gate_history.specs.client.Requests.{Request}
+use Rattle.gate_history.specs.client.Verdict.{Verdict, Now, Wire, Routed, IsoOut, Stream, verdict, by_transfer, goes_by_id}
+use Rattle.gate_history.specs.write.Errno.{eshutdown, ebusy}
+use Rattle.gate_history.specs.state.Ids.{holds}
+use Rattle.gate_history.specs.step.Marks.{Submission}
+use Rattle.gate_history.specs.client.Submits.{Pending, touches_stream}
+use Rattle.gate_history.specs.write.Output.{fresh}
+use Rattle.gate_history.specs.state.State.{State, is_number as has_seq}
+use Rattle.gate_history.specs.step.Meaning.{by_stream}
+use Rattle.gate_history.specs.state.Ups.{Up}
 use Rattle.direct_device.specs.Direct.{number, normal_of, normal_by}
 use Rattle.direct_proof.proofs.shared.New.{IsNew}
 use Rattle.direct_proof.specs.Requests.{Entry, Debt, load_of, debts_of}
@@ -39,8 +40,8 @@ past false status v x h = (refl, h)
 -- of a control transfer no table is read
 pub setup-alone : (lost : Bool) (live : ℕ) (changing : Bool) (t u : EpTable) (wide : Bool) (r : Request) (s : Setup) → r.transfer.setup ≡ Some s → verdict lost live changing t wide r ≡ verdict lost live changing u wide r
 setup-alone lost live changing t u wide r s h =
-    (λ i. cond lost (Now eshutdown) (cond (nat_le max_live live) (Now ebusy) (by_transfer changing t wide r (h i))))
-    ∙ (λ i. cond lost (Now eshutdown) (cond (nat_le max_live live) (Now ebusy) (by_transfer changing u wide r (sym h i))))
+    (λ i. cond lost (Now eshutdown) (cond (nat_le MAX_LIVE live) (Now ebusy) (by_transfer changing t wide r (h i))))
+    ∙ (λ i. cond lost (Now eshutdown) (cond (nat_le MAX_LIVE live) (Now ebusy) (by_transfer changing u wide r (sym h i))))
 
 pub by-routed : (up : Option Up) (x : Route) → by_stream up (Routed x) ≡ Routed x
 by-routed None x = refl

@@ -6,11 +6,11 @@ use Rattle.redir_data.specs.declared.packet.RedirPacket.{RedirPacket}
 use Rattle.control_route.specs.declared.route.Route.{Route}
 use Rattle.control_route.specs.declared.route.Route.TheVariants as route
 use Rattle.control_route.specs.Changes.{is_change}
-use Rattle.redir_host.specs.Sound.{Each}
-use Rattle.gate_history.specs.Ids.{draws, last_of}
-use Rattle.gate_history.specs.Packets.{route_packets}
-use Rattle.gate_history.specs.Requests.{Request}
-use Rattle.gate_history.specs.Verdict.{Routed}
+use Rattle.redir_host.specs.state.Sound.{Each}
+use Rattle.gate_history.specs.state.Ids.{draws, last_of}
+use Rattle.gate_history.specs.write.Packets.{route_packets}
+use Rattle.gate_history.specs.client.Requests.{Request}
+use Rattle.gate_history.specs.client.Verdict.{Routed}
 use Rattle.direct_proof.specs.Requests.{Entry, at_host}
 use Rattle.direct_proof.specs.Shared.{lines}
 use Rattle.direct_proof.specs.Stale.{asks}

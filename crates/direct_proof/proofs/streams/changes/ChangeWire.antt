@@ -5,18 +5,18 @@ use Rattle.usb_base.specs.Endpoint.{endpoint_index}
 use Rattle.redir_data.specs.declared.packet.RedirPacket.{RedirPacket}
 use Rattle.control_route.specs.declared.route.Route.{Route}
 use Rattle.control_route.specs.Changes.{is_change}
-use Rattle.redir_host.specs.Line.{Waiting as InLine}
-use Rattle.redir_host.specs.Sound.{Each}
+use Rattle.redir_host.specs.guest.Line.{Waiting as InLine}
+use Rattle.redir_host.specs.state.Sound.{Each}
 use Rattle.model_device.specs.Meaning.{Meaning}
-use Rattle.gate_history.specs.Requests.{Request}
-use Rattle.gate_history.specs.Flight.{wide_ids}
-use Rattle.gate_history.specs.Ids.{AreFresh, greatest, draws, last_of}
-use Rattle.gate_history.specs.Packets.{stops, route_packets}
-use Rattle.gate_history.specs.Sound.{IsSound}
-use Rattle.gate_history.specs.State.{State, flying}
-use Rattle.gate_history.specs.Ups.{Up, stream_of, lower, is_ended}
-use Rattle.gate_history.proofs.Called.{AreLong, zip-append, draws-append, last-append, last-any}
-use Rattle.gate_history.proofs.Draws.{length-draws}
+use Rattle.gate_history.specs.client.Requests.{Request}
+use Rattle.gate_history.specs.state.Flight.{wide_ids}
+use Rattle.gate_history.specs.state.Ids.{AreFresh, greatest, draws, last_of}
+use Rattle.gate_history.specs.write.Packets.{stops, route_packets}
+use Rattle.gate_history.specs.state.Sound.{IsSound}
+use Rattle.gate_history.specs.state.State.{State, flying}
+use Rattle.gate_history.specs.state.Ups.{Up, stream_of, lower, is_ended}
+use Rattle.gate_history.proofs.lemmas.state.Calls.{AreLong, zip-append, draws-append, last-append, last-any}
+use Rattle.gate_history.proofs.lemmas.state.Draws.{length-draws}
 use Rattle.direct_run.specs.Moves.{World}
 use Rattle.direct_proof.specs.Requests.{Entry, at_host}
 use Rattle.direct_proof.specs.Shared.{Shared, lines, half_line, at_hosts}

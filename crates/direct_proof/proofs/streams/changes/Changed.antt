@@ -5,16 +5,16 @@ use Rattle.std.specs.List.{AllByRecursion}
 use Rattle.redir_data.specs.declared.packet.RedirPacket.{RedirPacket}
 use Rattle.control_route.specs.declared.route.Route.{Route}
 use Rattle.control_route.specs.Changes.{is_change}
-use Rattle.redir_host.specs.Sound.{Each}
+use Rattle.redir_host.specs.state.Sound.{Each}
 use Rattle.model_device.specs.Meaning.{Meaning}
-use Rattle.gate_history.specs.Requests.{Request}
-use Rattle.gate_history.specs.Calls.{Calls, call_ids, called}
-use Rattle.gate_history.specs.Flight.{ids_of}
-use Rattle.gate_history.specs.Ids.{Fits, times, holds, last_of}
-use Rattle.gate_history.specs.Packets.{stops, route_packets}
-use Rattle.gate_history.specs.State.{submits, flying}
-use Rattle.gate_history.specs.Ups.{is_ended}
-use Rattle.gate_history.proofs.Called.{called-append, called-silent, route-silent, times-append}
+use Rattle.gate_history.specs.client.Requests.{Request}
+use Rattle.gate_history.specs.state.Calls.{Calls, call_ids, called}
+use Rattle.gate_history.specs.state.Flight.{ids_of}
+use Rattle.gate_history.specs.state.Ids.{Fits, times, holds, last_of}
+use Rattle.gate_history.specs.write.Packets.{stops, route_packets}
+use Rattle.gate_history.specs.state.State.{submits, flying}
+use Rattle.gate_history.specs.state.Ups.{is_ended}
+use Rattle.gate_history.proofs.lemmas.state.Calls.{called-append, called-silent, route-silent, times-append}
 use Rattle.direct_run.specs.Moves.{World}
 use Rattle.direct_proof.specs.Tagged.{Tagged, Greeted, Plugged, ToldTable, ToldFaces, Answered, Packed, Stated, Bye}
 use Rattle.direct_proof.specs.Shared.{Shared}

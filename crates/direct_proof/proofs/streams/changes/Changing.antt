@@ -12,24 +12,24 @@ use Rattle.usbip_urb.specs.declared.client.ClientPacket.TheVariants.{Urb}
 use Rattle.redir_data.specs.declared.packet.RedirPacket.{RedirPacket}
 use Rattle.control_route.specs.declared.route.Route.{Route}
 use Rattle.model_device.specs.Meaning.{Meaning}
-use Rattle.gate_history.specs.Requests.{Request, request_of}
-use Rattle.gate_history.specs.Items.{Asked}
-use Rattle.gate_history.specs.Verdict.{Verdict, Routed}
-use Rattle.gate_history.specs.Errno.{eshutdown}
-use Rattle.gate_history.specs.Marks.{Submission, Effect, Opens}
-use Rattle.gate_history.specs.Submits.{Pending, End, ByChange, ends, at_once, touches_stream}
-use Rattle.gate_history.specs.Ids.{last_of}
-use Rattle.gate_history.specs.State.{State, has_number, next_ids}
-use Rattle.gate_history.specs.Packets.{stops, route_packets}
-use Rattle.gate_history.specs.Meaning.{meaning, mark_as, refused, by_stream, accepts, accepted_as, submission, drawn_for, verdict_of}
-use Rattle.gate_history.specs.Output.{fresh}
-use Rattle.gate_history.specs.Calls.{called}
-use Rattle.gate_history.specs.Notes.{is_by_answer}
+use Rattle.gate_history.specs.client.Requests.{Request, request_of}
+use Rattle.gate_history.specs.step.Items.{Asked}
+use Rattle.gate_history.specs.client.Verdict.{Verdict, Routed}
+use Rattle.gate_history.specs.write.Errno.{eshutdown}
+use Rattle.gate_history.specs.step.Marks.{Submission, Effect, Opens}
+use Rattle.gate_history.specs.client.Submits.{Pending, End, ByChange, ends, at_once, touches_stream}
+use Rattle.gate_history.specs.state.Ids.{last_of}
+use Rattle.gate_history.specs.state.State.{State, has_number, next_ids}
+use Rattle.gate_history.specs.write.Packets.{stops, route_packets}
+use Rattle.gate_history.specs.step.Meaning.{meaning, mark_as, refused, by_stream, accepts, accepted_as, submission, drawn_for, verdict_of}
+use Rattle.gate_history.specs.write.Output.{fresh}
+use Rattle.gate_history.specs.state.Calls.{called}
+use Rattle.gate_history.specs.write.Notes.{is_by_answer}
 use Rattle.gate_history.specs.declared.note.Note.TheVariants as note
-use Rattle.gate_history.specs.Answers.{answers_at, without_packets}
-use Rattle.gate_history.specs.Ups.{Up, stream_at, lower, is_ended}
-use Rattle.gate_history.proofs.Lists.{filter-all}
-use Rattle.gate_history.proofs.Uncancelled.{asks-none, none-cancelled, stays-uncancelled}
+use Rattle.gate_history.specs.write.Answers.{answers_at, without_packets}
+use Rattle.gate_history.specs.state.Ups.{Up, stream_at, lower, is_ended}
+use Rattle.gate_history.proofs.lemmas.Lists.{filter-all}
+use Rattle.gate_history.proofs.lemmas.step.NoCancel.{asks-none, none-cancelled, stays-uncancelled}
 use Rattle.direct_run.specs.Noted.{named}
 use Rattle.direct_device.specs.Direct.{Load, Live, Direct, is_number, way_by}
 use Rattle.direct_device.specs.Acting.{Answer, Submit, answers, made_of, submitted, submit_answers}

@@ -4,12 +4,12 @@ use Rattle.std.specs.Prelude.{get_or, slice_set, zip}
 use Rattle.std.proofs.lemmas.List.{get_or-set_same, get_or-set_other, length-set}
 use Rattle.usb_base.specs.Endpoint.{endpoint_index}
 use Rattle.redir_data.specs.declared.packet.RedirPacket.{RedirPacket}
-use Rattle.redir_host.specs.Sound.{Each}
-use Rattle.gate_history.specs.Calls.{Calls, called, stopped}
-use Rattle.gate_history.specs.Ids.{times}
-use Rattle.gate_history.specs.Packets.{stop_packet, stops}
-use Rattle.gate_history.specs.Ups.{Up}
-use Rattle.gate_history.proofs.Called.{times-append, stop-calls}
+use Rattle.redir_host.specs.state.Sound.{Each}
+use Rattle.gate_history.specs.state.Calls.{Calls, called, stopped}
+use Rattle.gate_history.specs.state.Ids.{times}
+use Rattle.gate_history.specs.write.Packets.{stop_packet, stops}
+use Rattle.gate_history.specs.state.Ups.{Up}
+use Rattle.gate_history.proofs.lemmas.state.Calls.{times-append, stop-calls}
 use Rattle.direct_proof.specs.Kinds.{IsIn, UpFits}
 use Rattle.direct_proof.specs.Calls.{IsKept, CallIsKept, is_id, call_id, calls_on}
 use Rattle.direct_proof.specs.Running.{called_endpoint}

@@ -5,10 +5,10 @@ use Rattle.std.specs.List.{list_any}
 use Rattle.redir_wire.specs.declared.packet.RedirControl.TheVariants as plain
 use Rattle.redir_data.specs.declared.packet.RedirPacket.{RedirPacket}
 use Rattle.redir_data.specs.declared.packet.RedirPacket.TheVariants.{Plain}
-use Rattle.redir_host.specs.Sound.{Each}
-use Rattle.gate_history.specs.Packets.{stop_packet, stops}
-use Rattle.gate_history.specs.Ups.{Up}
-use Rattle.gate_history.specs.Verdict.{is_iso}
+use Rattle.redir_host.specs.state.Sound.{Each}
+use Rattle.gate_history.specs.write.Packets.{stop_packet, stops}
+use Rattle.gate_history.specs.state.Ups.{Up}
+use Rattle.gate_history.specs.client.Verdict.{is_iso}
 use Rattle.direct_proof.specs.Shared.{lines}
 use Rattle.direct_proof.specs.Kinds.{IsIn, UpsFit, UpFits, CallIsIn}
 use Rattle.direct_proof.specs.Running.{called_endpoint, started_kind, runs_after, Quits, Trails}

@@ -11,11 +11,11 @@ use Rattle.usbip_urb.specs.declared.client.ClientPacket.TheVariants.{Urb}
 use Rattle.usb_base.specs.declared.transfer.StreamPacket.{StreamPacket}
 use Rattle.stream_buffers.specs.Cuts.{Cut}
 use Rattle.model_device.specs.Meaning.{Meaning}
-use Rattle.gate_history.specs.Fillings.{Given, cut_of}
-use Rattle.gate_history.specs.Submits.{waits_at, is_waiting}
-use Rattle.gate_history.specs.Answers.{with_given}
-use Rattle.gate_history.specs.Ups.{Up, stream_at, hold}
-use Rattle.redir_host.specs.Sound.{Each}
+use Rattle.gate_history.specs.host.Fillings.{Given, cut_of}
+use Rattle.gate_history.specs.client.Submits.{waits_at, is_waiting}
+use Rattle.gate_history.specs.write.Answers.{with_given}
+use Rattle.gate_history.specs.state.Ups.{Up, stream_at, hold}
+use Rattle.redir_host.specs.state.Sound.{Each}
 use Rattle.direct_device.specs.Direct.{Live, Direct, number, is_number, as_submission}
 use Rattle.direct_device.specs.Acting.{Deed, Answer, answers, answered_by, answers_of, filled_by as fills, filled_answers, cut_by, cut_for, without_number, rest_ran, first_ran, ran_answers}
 use Rattle.direct_device.specs.Legal.{CanAnswer, CanAnswerBy, IsEarliest}

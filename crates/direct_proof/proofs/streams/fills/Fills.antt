@@ -5,12 +5,12 @@ use Rattle.std.specs.Option.{option_map}
 use Rattle.usbip_urb.specs.declared.packet.UrbPacket.{UrbPacket}
 use Rattle.usb_base.specs.declared.transfer.StreamPacket.{StreamPacket}
 use Rattle.stream_buffers.specs.Cuts.{Cut}
-use Rattle.gate_history.specs.Requests.{Request}
-use Rattle.gate_history.specs.Fillings.{Given, Fill, Filling, fill, filled_by, cut_of, given_to}
-use Rattle.gate_history.specs.Submits.{Pending, End, ByPackets, waits_at, packets_end}
-use Rattle.gate_history.specs.Answers.{answers_at, with_given}
-use Rattle.gate_history.specs.Notes.{is_by_answer}
-use Rattle.redir_host.specs.Sound.{Each}
+use Rattle.gate_history.specs.client.Requests.{Request}
+use Rattle.gate_history.specs.host.Fillings.{Given, Fill, Filling, fill, filled_by, cut_of, given_to}
+use Rattle.gate_history.specs.client.Submits.{Pending, End, ByPackets, waits_at, packets_end}
+use Rattle.gate_history.specs.write.Answers.{answers_at, with_given}
+use Rattle.gate_history.specs.write.Notes.{is_by_answer}
+use Rattle.redir_host.specs.state.Sound.{Each}
 use Rattle.direct_device.specs.Direct.{Live}
 use Rattle.direct_proof.specs.Requests.{live_of}
 use Rattle.direct_proof.specs.Ids.{count}

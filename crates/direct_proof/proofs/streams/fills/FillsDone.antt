@@ -5,12 +5,12 @@ use Rattle.usbip_urb.specs.declared.packet.UrbPacket.{UrbPacket}
 use Rattle.usb_base.specs.declared.transfer.StreamPacket.{StreamPacket}
 use Rattle.usb_base.specs.Endpoint.{endpoint_index}
 use Rattle.model_device.specs.Meaning.{Meaning}
-use Rattle.gate_history.specs.Fillings.{Fill, fill, none_filled}
-use Rattle.gate_history.specs.Submits.{Pending}
-use Rattle.gate_history.specs.Sound.{IsSound}
-use Rattle.gate_history.specs.State.{State, submits, is_number as has_seq}
-use Rattle.gate_history.specs.Ups.{Up, stream_of, hold}
-use Rattle.gate_history.proofs.Lists.{map-map}
+use Rattle.gate_history.specs.host.Fillings.{Fill, fill, none_filled}
+use Rattle.gate_history.specs.client.Submits.{Pending}
+use Rattle.gate_history.specs.state.Sound.{IsSound}
+use Rattle.gate_history.specs.state.State.{State, submits, is_number as has_seq}
+use Rattle.gate_history.specs.state.Ups.{Up, stream_of, hold}
+use Rattle.gate_history.proofs.lemmas.Lists.{map-map}
 use Rattle.direct_device.specs.Direct.{Live, Direct, is_number}
 use Rattle.direct_device.specs.Acting.{Deed, Answer}
 use Rattle.direct_proof.specs.Requests.{live_of}

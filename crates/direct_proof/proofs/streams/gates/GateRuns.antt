@@ -1,13 +1,13 @@
 -- What the lemmas of streams take of a gateway is true of each that has taken items.
 use Rattle.std.proofs.Common.{◌≡◌, true, false, cond, List, [], ◌∷◌, length, refl, sym, subst}
 use Rattle.control_route.specs.declared.route.Route.{Route}
-use Rattle.gate_history.specs.Calls.{no_calls}
-use Rattle.gate_history.specs.Items.{Item}
-use Rattle.gate_history.specs.Machine.{after, run as gate_run}
-use Rattle.gate_history.specs.Meaning.{mark_of, meaning, told_by}
-use Rattle.gate_history.specs.Past.{is_left_out}
-use Rattle.gate_history.specs.State.{State}
-use Rattle.gate_history.proofs.Called.{AreLong}
+use Rattle.gate_history.specs.state.Calls.{no_calls}
+use Rattle.gate_history.specs.step.Items.{Item}
+use Rattle.gate_history.specs.step.Machine.{after, run as gate_run}
+use Rattle.gate_history.specs.step.Meaning.{mark_of, meaning, told_by}
+use Rattle.gate_history.specs.step.Past.{is_left_out}
+use Rattle.gate_history.specs.state.State.{State}
+use Rattle.gate_history.proofs.lemmas.state.Calls.{AreLong}
 use Rattle.direct_run.specs.World.{first_id}
 use Rattle.direct_proof.specs.Runs.{IsRun}
 use Rattle.direct_proof.proofs.races.Gates.{run-sound}

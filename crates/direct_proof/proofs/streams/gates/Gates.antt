@@ -4,20 +4,20 @@ use Rattle.std.proofs.Common.{◌≡◌, ◌≤◌, Bool, true, false, List, ◌
 use Rattle.std.proofs.lemmas.List.{length-map, length-append}
 use Rattle.control_route.specs.declared.route.Route.{Route}
 use Rattle.control_route.specs.declared.route.Route.TheVariants as route
-use Rattle.gate_history.specs.Calls.{call_ids, asking}
-use Rattle.gate_history.specs.Flight.{wide_ids, ids_of}
-use Rattle.gate_history.specs.Ids.{greatest}
-use Rattle.gate_history.specs.Machine.{after}
-use Rattle.gate_history.specs.Marks.{Submission, Mark}
-use Rattle.gate_history.specs.Packets.{stops, route_packets}
-use Rattle.gate_history.specs.Sound.{IsSound}
-use Rattle.gate_history.specs.State.{State, submits, flying}
-use Rattle.gate_history.specs.Submits.{Pending}
-use Rattle.gate_history.specs.Ups.{is_ended}
-use Rattle.gate_history.specs.Verdict.{goes_by_id}
-use Rattle.gate_history.proofs.Called.{AreLong, few-ids, long-called, few-stops}
-use Rattle.gate_history.proofs.Draws.{draws-fresh}
-use Rattle.gate_history.proofs.Lists.{length-filter}
+use Rattle.gate_history.specs.state.Calls.{call_ids, asking}
+use Rattle.gate_history.specs.state.Flight.{wide_ids, ids_of}
+use Rattle.gate_history.specs.state.Ids.{greatest}
+use Rattle.gate_history.specs.step.Machine.{after}
+use Rattle.gate_history.specs.step.Marks.{Submission, Mark}
+use Rattle.gate_history.specs.write.Packets.{stops, route_packets}
+use Rattle.gate_history.specs.state.Sound.{IsSound}
+use Rattle.gate_history.specs.state.State.{State, submits, flying}
+use Rattle.gate_history.specs.client.Submits.{Pending}
+use Rattle.gate_history.specs.state.Ups.{is_ended}
+use Rattle.gate_history.specs.client.Verdict.{goes_by_id}
+use Rattle.gate_history.proofs.lemmas.state.Calls.{AreLong, few-ids, long-called, few-stops}
+use Rattle.gate_history.proofs.lemmas.state.Draws.{draws-fresh}
+use Rattle.gate_history.proofs.lemmas.Lists.{length-filter}
 use Rattle.direct_proof.proofs.streams.gates.Unstopped.{Unstopped}
 use Rattle.direct_proof.proofs.streams.submits.Accepted.{IsGate}
 use Rattle.direct_proof.proofs.streams.changes.ChangeWire.{IsChanging}

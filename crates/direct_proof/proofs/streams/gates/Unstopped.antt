@@ -4,10 +4,10 @@ use Rattle.std.specs.Prelude.{get_or, slice_set, zip}
 use Rattle.std.proofs.Math.ListN.{get_or-map}
 use Rattle.std.proofs.lemmas.List.{get_or-set_other}
 use Rattle.usb_base.specs.Endpoint.{endpoint_index}
-use Rattle.gate_history.specs.Calls.{Calls, called, started, stopped}
-use Rattle.gate_history.specs.Packets.{stops, stop_packet}
-use Rattle.gate_history.specs.Ups.{Up, lower, unless}
-use Rattle.gate_history.proofs.Called.{stop-calls}
+use Rattle.gate_history.specs.state.Calls.{Calls, called, started, stopped}
+use Rattle.gate_history.specs.write.Packets.{stops, stop_packet}
+use Rattle.gate_history.specs.state.Ups.{Up, lower, unless}
+use Rattle.gate_history.proofs.lemmas.state.Calls.{stop-calls}
 use Rattle.direct_proof.proofs.shared.Folds.{clash, not-both}
 
 -- a place has the stream of its endpoint, and where one is up no stop is kept

@@ -8,20 +8,20 @@ use Rattle.usb_base.specs.declared.endpoint.EpRow.{EpRow}
 use Rattle.usb_base.specs.declared.side.Side.{Side}
 use Rattle.usb_base.specs.declared.side.Side.TheVariants.{Client, Host}
 use Rattle.usb_base.specs.declared.transfer.StreamPacket.{StreamPacket}
-use Rattle.stream_buffers.specs.Interrupt.{is_success}
+use Rattle.usb_base.specs.Status.{is_success}
 use Rattle.redir_data.specs.declared.packet.RedirPacket.{RedirPacket}
-use Rattle.gate_history.specs.Requests.{Request}
-use Rattle.gate_history.specs.Verdict.{Verdict, Now, Wire, Routed, IsoOut, Stream}
-use Rattle.gate_history.specs.Marks.{Fact, Effect, Idle, Replies, Imports, Opens, Waits, Arrives, Unlinks, Agrees, Answers, StreamTold, Disconnects, Ends, Refuses}
-use Rattle.gate_history.specs.Ids.{draws, draw, last_of, greatest}
-use Rattle.gate_history.specs.Flight.{wide_ids}
-use Rattle.gate_history.specs.Calls.{Calls, called, started}
-use Rattle.gate_history.specs.Packets.{stops, route_packets, starts, iso_packets, packets_of}
-use Rattle.gate_history.specs.Ups.{Up, stream_at, raise, raised, lower, hold, is_ended, no_streams, opened_streams}
-use Rattle.gate_history.specs.State.{State, flying}
-use Rattle.gate_history.specs.Meaning.{mark_as}
-use Rattle.gate_history.specs.Machine.{after}
-use Rattle.gate_history.proofs.Called.{zip-append, called-append, called-silent, wire-silent, route-silent, iso-silent, start-calls}
+use Rattle.gate_history.specs.client.Requests.{Request}
+use Rattle.gate_history.specs.client.Verdict.{Verdict, Now, Wire, Routed, IsoOut, Stream}
+use Rattle.gate_history.specs.step.Marks.{Fact, Effect, Idle, Replies, Imports, Opens, Waits, Arrives, Unlinks, Agrees, Answers, StreamTold, Disconnects, Ends, Refuses}
+use Rattle.gate_history.specs.state.Ids.{draws, draw, last_of, greatest}
+use Rattle.gate_history.specs.state.Flight.{wide_ids}
+use Rattle.gate_history.specs.state.Calls.{Calls, called, started}
+use Rattle.gate_history.specs.write.Packets.{stops, route_packets, starts, iso_packets, packets_of}
+use Rattle.gate_history.specs.state.Ups.{Up, stream_at, raise, raised, lower, hold, is_ended, no_streams, opened_streams}
+use Rattle.gate_history.specs.state.State.{State, flying}
+use Rattle.gate_history.specs.step.Meaning.{mark_as}
+use Rattle.gate_history.specs.step.Machine.{after}
+use Rattle.gate_history.proofs.lemmas.state.Calls.{zip-append, called-append, called-silent, wire-silent, route-silent, iso-silent, start-calls}
 use Rattle.direct_proof.proofs.streams.gates.Unstopped.{Unstopped, unstopped-raised, unstopped-fewer, unstopped-lower}
 
 none-up : (n i : ℕ) (up : Up) → get_or (replicate n None) i None ≡ Some up → ⊥

@@ -6,12 +6,12 @@ use Rattle.redir_data.specs.declared.packet.RedirPacket.{RedirPacket}
 use Rattle.redir_data.specs.Streams.{advanced}
 use Rattle.model_device.specs.Meaning.{Meaning}
 use Rattle.redir_host.specs.declared.running.Running.{Running}
-use Rattle.redir_host.specs.Packets.{runs_at}
-use Rattle.redir_host.specs.Sound.{Each}
-use Rattle.gate_history.specs.Ids.{times}
-use Rattle.gate_history.specs.Ups.{stream_of}
+use Rattle.redir_host.specs.guest.Packets.{runs_at}
+use Rattle.redir_host.specs.state.Sound.{Each}
+use Rattle.gate_history.specs.state.Ids.{times}
+use Rattle.gate_history.specs.state.Ups.{stream_of}
 use Rattle.gate_history.specs.declared.facts.Facts.{Facts}
-use Rattle.gate_history.proofs.Called.{times-append}
+use Rattle.gate_history.proofs.lemmas.state.Calls.{times-append}
 use Rattle.direct_run.specs.Moves.{World, HostReads}
 use Rattle.direct_proof.specs.Moves.{move}
 use Rattle.direct_proof.specs.Tagged.{Tagged, Stated, on_wire, told}

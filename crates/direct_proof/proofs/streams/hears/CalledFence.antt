@@ -4,10 +4,10 @@ use Rattle.redir_data.specs.declared.packet.RedirPacket.{RedirPacket}
 use Rattle.redir_data.specs.Streams.{advanced}
 use Rattle.model_device.specs.Meaning.{Meaning}
 use Rattle.redir_host.specs.declared.running.Running.{Running}
-use Rattle.redir_host.specs.Moves.{quiet as host_quiet}
-use Rattle.redir_host.specs.Packets.{packet_move_by}
-use Rattle.gate_history.specs.Ids.{times}
-use Rattle.gate_history.proofs.Called.{times-append}
+use Rattle.redir_host.specs.step.Moves.{quiet as host_quiet}
+use Rattle.redir_host.specs.guest.Packets.{packet_move_by}
+use Rattle.gate_history.specs.state.Ids.{times}
+use Rattle.gate_history.proofs.lemmas.state.Calls.{times-append}
 use Rattle.direct_run.specs.Moves.{World, HostReads}
 use Rattle.direct_proof.specs.Moves.{move, quiet, host_reads, host_takes}
 use Rattle.direct_proof.specs.Tagged.{Tagged, Stated, on_wire}

@@ -10,10 +10,10 @@ use Rattle.redir_host.specs.declared.host.Host.{Host}
 use Rattle.redir_host.specs.declared.running.Running.{Running}
 use Rattle.redir_host.specs.declared.running.StreamKind.{StreamKind}
 use Rattle.redir_host.specs.declared.running.StreamKind.TheVariants.{Iso, Interrupt}
-use Rattle.redir_host.specs.Moves.{replies}
-use Rattle.redir_host.specs.Packets.{packet_move_by, runs_at, started, stopped, start_move}
-use Rattle.redir_host.specs.Sound.{Each}
-use Rattle.gate_history.specs.Ups.{Up, stream_of}
+use Rattle.redir_host.specs.step.Moves.{replies}
+use Rattle.redir_host.specs.guest.Packets.{packet_move_by, runs_at, started, stopped, start_move}
+use Rattle.redir_host.specs.state.Sound.{Each}
+use Rattle.gate_history.specs.state.Ups.{Up, stream_of}
 use Rattle.direct_proof.specs.Tagged.{Stated, on_wire}
 use Rattle.direct_proof.specs.Kinds.{IsIn, OfKind, StartOfKind, CallIsIn}
 use Rattle.direct_proof.specs.Running.{CanStart, called_endpoint, started_kind, runs_after}

@@ -2,9 +2,9 @@
 use Rattle.std.proofs.Common.{◌≡◌, ℕ, ◌||◌, Bool, true, false, List, [], ◌∷◌, ◌++◌, Option, Some, None, refl, sym, ap, ◌∙◌, subst}
 use Rattle.redir_data.specs.declared.packet.RedirPacket.{RedirPacket}
 use Rattle.model_device.specs.Meaning.{Meaning}
-use Rattle.redir_host.specs.Line.{Waiting as InLine}
-use Rattle.redir_host.specs.Sound.{Each}
-use Rattle.gate_history.specs.Bytes.{gateway_hello}
+use Rattle.redir_host.specs.guest.Line.{Waiting as InLine}
+use Rattle.redir_host.specs.state.Sound.{Each}
+use Rattle.gate_history.specs.write.Bytes.{gateway_hello}
 use Rattle.direct_run.specs.Moves.{World}
 use Rattle.direct_proof.specs.Shared.{Shared, lines, half_line, at_hosts}
 use Rattle.direct_proof.specs.Related.{Related}

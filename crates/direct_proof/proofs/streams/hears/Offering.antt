@@ -9,11 +9,11 @@ use Rattle.redir_data.specs.declared.packet.RedirPacket.{RedirPacket}
 use Rattle.model_device.specs.Meaning.{Meaning}
 use Rattle.model_device.specs.Gadget.{IsGadget, IsNamed, SameFacts}
 use Rattle.redir_host.specs.declared.running.Running.{Running}
-use Rattle.redir_host.specs.Facts.{ep_info_of}
-use Rattle.redir_host.specs.Offering.{stream_packet}
-use Rattle.redir_host.specs.Packets.{runs_at}
-use Rattle.gate_history.specs.Ids.{times}
-use Rattle.gate_history.specs.Ups.{stream_of}
+use Rattle.redir_host.specs.device.Facts.{ep_info_of}
+use Rattle.redir_host.specs.device.Offering.{stream_packet}
+use Rattle.redir_host.specs.guest.Packets.{runs_at}
+use Rattle.gate_history.specs.state.Ids.{times}
+use Rattle.gate_history.specs.state.Ups.{stream_of}
 use Rattle.gate_history.specs.declared.facts.Facts.{Facts}
 use Rattle.direct_device.specs.Acting.{Offer, offered_by}
 use Rattle.direct_run.specs.Moves.{World, Offers}

@@ -5,11 +5,11 @@ use Rattle.stream_buffers.specs.Held.{is_full}
 use Rattle.usbip_urb.specs.declared.client.ClientPacket.TheVariants.{Urb}
 use Rattle.redir_host.specs.declared.running.StreamKind.{StreamKind}
 use Rattle.model_device.specs.Meaning.{Meaning}
-use Rattle.gate_history.specs.Fillings.{Fill}
-use Rattle.gate_history.specs.Sound.{IsSound}
-use Rattle.gate_history.specs.Meaning.{mark_as, arrives}
-use Rattle.gate_history.specs.Verdict.{is_iso}
-use Rattle.gate_history.specs.Ups.{Up, stream_of, hold}
+use Rattle.gate_history.specs.host.Fillings.{Fill}
+use Rattle.gate_history.specs.state.Sound.{IsSound}
+use Rattle.gate_history.specs.step.Meaning.{mark_as, arrives}
+use Rattle.gate_history.specs.client.Verdict.{is_iso}
+use Rattle.gate_history.specs.state.Ups.{Up, stream_of, hold}
 use Rattle.direct_device.specs.Direct.{Direct}
 use Rattle.direct_device.specs.Acting.{Answer, Arrive, received, arrived_by}
 use Rattle.direct_device.specs.Legal.{CanArrive}

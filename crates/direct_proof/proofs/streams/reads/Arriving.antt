@@ -11,22 +11,22 @@ use Rattle.usbip_urb.specs.declared.packet.UrbPacket.{UrbPacket}
 use Rattle.redir_data.specs.declared.packet.RedirPacket.{RedirPacket}
 use Rattle.redir_host.specs.declared.running.StreamKind.{StreamKind}
 use Rattle.redir_host.specs.declared.running.StreamKind.TheVariants.{Iso, Interrupt}
-use Rattle.gate_history.specs.Requests.{Request}
-use Rattle.gate_history.specs.Items.{Told}
-use Rattle.gate_history.specs.Fillings.{Fill, Filling, fill, none_filled, given_to}
-use Rattle.gate_history.specs.Marks.{Submission, Effect, Arrives, Mark}
-use Rattle.gate_history.specs.Submits.{Pending, End, ByPackets, is_waiting, waits_at, packets_end}
-use Rattle.gate_history.specs.State.{State}
-use Rattle.gate_history.specs.Meaning.{meaning, mark_as, fact_of, waiting, arrives}
-use Rattle.gate_history.specs.Machine.{live_after}
-use Rattle.gate_history.specs.Answers.{answers_at}
-use Rattle.gate_history.specs.Notes.{is_by_answer, notes_of}
+use Rattle.gate_history.specs.client.Requests.{Request}
+use Rattle.gate_history.specs.step.Items.{Told}
+use Rattle.gate_history.specs.host.Fillings.{Fill, Filling, fill, none_filled, given_to}
+use Rattle.gate_history.specs.step.Marks.{Submission, Effect, Arrives, Mark}
+use Rattle.gate_history.specs.client.Submits.{Pending, End, ByPackets, is_waiting, waits_at, packets_end}
+use Rattle.gate_history.specs.state.State.{State}
+use Rattle.gate_history.specs.step.Meaning.{meaning, mark_as, fact_of, waiting, arrives}
+use Rattle.gate_history.specs.step.Machine.{live_after}
+use Rattle.gate_history.specs.write.Answers.{answers_at}
+use Rattle.gate_history.specs.write.Notes.{is_by_answer, notes_of}
 use Rattle.gate_history.specs.declared.note.Note.{Note}
 use Rattle.gate_history.specs.declared.note.Note.TheVariants as note
-use Rattle.gate_history.specs.Verdict.{Verdict, Now, Wire, Routed, IsoOut, Stream, is_iso, goes_by_id}
-use Rattle.gate_history.specs.Ups.{Up, stream_of, hold}
-use Rattle.gate_history.proofs.Lists.{filter-all, filter-map, map-map}
-use Rattle.gate_history.proofs.Uncancelled.{asks-none, none-cancelled, stays-uncancelled}
+use Rattle.gate_history.specs.client.Verdict.{Verdict, Now, Wire, Routed, IsoOut, Stream, is_iso, goes_by_id}
+use Rattle.gate_history.specs.state.Ups.{Up, stream_of, hold}
+use Rattle.gate_history.proofs.lemmas.Lists.{filter-all, filter-map, map-map}
+use Rattle.gate_history.proofs.lemmas.step.NoCancel.{asks-none, none-cancelled, stays-uncancelled}
 use Rattle.direct_run.specs.declared.submitted.Submitted.{Submitted}
 use Rattle.direct_run.specs.Noted.{named}
 use Rattle.direct_device.specs.Acting.{Deed, Answer, Arrive}

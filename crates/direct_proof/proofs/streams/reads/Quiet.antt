@@ -4,16 +4,16 @@ use Rattle.std.specs.List.{flat_map}
 use Rattle.usb_base.specs.declared.status.UsbStatus.TheVariants.{Success}
 use Rattle.usbip_urb.specs.declared.client.ClientPacket.TheVariants.{Urb}
 use Rattle.redir_data.specs.declared.packet.RedirPacket.{RedirPacket}
-use Rattle.gate_history.specs.Marks.{Submission, Effect, Idle, StreamTold}
-use Rattle.gate_history.specs.Submits.{Pending, ByStatus, ends, waits_at}
-use Rattle.gate_history.specs.Meaning.{mark_as}
-use Rattle.gate_history.specs.Machine.{live_after}
-use Rattle.gate_history.specs.Calls.{lifted}
-use Rattle.gate_history.specs.Answers.{answers_at}
-use Rattle.gate_history.specs.Notes.{is_by_answer}
+use Rattle.gate_history.specs.step.Marks.{Submission, Effect, Idle, StreamTold}
+use Rattle.gate_history.specs.client.Submits.{Pending, ByStatus, ends, waits_at}
+use Rattle.gate_history.specs.step.Meaning.{mark_as}
+use Rattle.gate_history.specs.step.Machine.{live_after}
+use Rattle.gate_history.specs.state.Calls.{lifted}
+use Rattle.gate_history.specs.write.Answers.{answers_at}
+use Rattle.gate_history.specs.write.Notes.{is_by_answer}
 use Rattle.gate_history.specs.declared.note.Note.TheVariants as note
-use Rattle.gate_history.proofs.Lists.{filter-all}
-use Rattle.gate_history.proofs.Uncancelled.{asks-none, none-cancelled, stays-uncancelled}
+use Rattle.gate_history.proofs.lemmas.Lists.{filter-all}
+use Rattle.gate_history.proofs.lemmas.step.NoCancel.{asks-none, none-cancelled, stays-uncancelled}
 use Rattle.direct_run.specs.Noted.{named}
 use Rattle.direct_device.specs.Acting.{Answer}
 use Rattle.direct_run.specs.Moves.{World}

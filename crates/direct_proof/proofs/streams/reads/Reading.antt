@@ -3,15 +3,15 @@
 use Rattle.std.proofs.Common.{◌≡◌, ℕ, ◌||◌, ◌⊎◌, inl, inr, Bool, true, false, List, [], ◌∷◌, ◌++◌, map, Option, None, is_some, refl, sym, ap, ◌∙◌, subst, arith}
 use Rattle.std.specs.List.{list_any}
 use Rattle.model_device.specs.Meaning.{Meaning}
-use Rattle.redir_host.specs.Sound.{Each}
-use Rattle.gate_history.specs.Facts.{tell}
-use Rattle.gate_history.specs.Marks.{Fact}
-use Rattle.gate_history.specs.Meaning.{fact_of}
-use Rattle.gate_history.specs.Submits.{Pending}
-use Rattle.gate_history.specs.State.{submits}
-use Rattle.gate_history.specs.Ups.{Up, no_streams}
+use Rattle.redir_host.specs.state.Sound.{Each}
+use Rattle.gate_history.specs.state.Facts.{tell}
+use Rattle.gate_history.specs.step.Marks.{Fact}
+use Rattle.gate_history.specs.step.Meaning.{fact_of}
+use Rattle.gate_history.specs.client.Submits.{Pending}
+use Rattle.gate_history.specs.state.State.{submits}
+use Rattle.gate_history.specs.state.Ups.{Up, no_streams}
 use Rattle.gate_history.specs.declared.facts.Facts.{Facts}
-use Rattle.gate_history.proofs.Called.{times-append}
+use Rattle.gate_history.proofs.lemmas.state.Calls.{times-append}
 use Rattle.direct_run.specs.Moves.{World}
 use Rattle.direct_proof.specs.Requests.{Coming, Debt, debts_of}
 use Rattle.direct_proof.specs.Tagged.{Tagged, Greeted, on_wire, ran_in, runs_in, told}

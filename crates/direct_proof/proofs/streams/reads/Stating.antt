@@ -4,15 +4,15 @@ use Rattle.usb_base.specs.declared.status.UsbStatus.TheVariants.{Success}
 use Rattle.redir_data.specs.declared.packet.RedirPacket.{RedirPacket}
 use Rattle.redir_host.specs.declared.running.StreamKind.{StreamKind}
 use Rattle.redir_host.specs.declared.running.StreamKind.TheVariants.{Iso, Interrupt}
-use Rattle.redir_host.specs.Sound.{Each}
+use Rattle.redir_host.specs.state.Sound.{Each}
 use Rattle.model_device.specs.Meaning.{Meaning}
-use Rattle.gate_history.specs.Ids.{times}
-use Rattle.gate_history.specs.Items.{Told}
-use Rattle.gate_history.specs.Marks.{StreamTold}
-use Rattle.gate_history.specs.Calls.{lifted}
-use Rattle.gate_history.specs.State.{State}
-use Rattle.gate_history.specs.Meaning.{meaning, mark_as, fact_of}
-use Rattle.gate_history.specs.Ups.{Up, stream_of}
+use Rattle.gate_history.specs.state.Ids.{times}
+use Rattle.gate_history.specs.step.Items.{Told}
+use Rattle.gate_history.specs.step.Marks.{StreamTold}
+use Rattle.gate_history.specs.state.Calls.{lifted}
+use Rattle.gate_history.specs.state.State.{State}
+use Rattle.gate_history.specs.step.Meaning.{meaning, mark_as, fact_of}
+use Rattle.gate_history.specs.state.Ups.{Up, stream_of}
 use Rattle.direct_run.specs.Moves.{World, GateReads}
 use Rattle.direct_proof.specs.Moves.{move, quiet, gate_reads, gate_made}
 use Rattle.redir_data.specs.Sent.{sent_header}

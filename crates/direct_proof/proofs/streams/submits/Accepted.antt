@@ -2,17 +2,17 @@
 use Rattle.direct_proof.proofs.streams.submits.Drawn.{any-back}
 use Rattle.std.proofs.Common.{◌≡◌, ℕ, ◌≤◌, ◌==◌, Bool, true, false, List, [], ◌∷◌, ◌++◌, map, refl, ap, subst, arith}
 use Rattle.usb_base.specs.declared.endpoint.EpRow.{EpRow}
-use Rattle.gate_history.specs.Requests.{Request}
-use Rattle.gate_history.specs.Flight.{wide_ids, ids_of}
-use Rattle.gate_history.specs.Ids.{AreFresh, holds, greatest}
-use Rattle.gate_history.specs.Calls.{call_ids}
-use Rattle.gate_history.specs.Marks.{Submission}
-use Rattle.gate_history.specs.Submits.{Pending}
-use Rattle.gate_history.specs.Output.{fresh}
-use Rattle.redir_host.specs.Sound.{Each}
-use Rattle.gate_history.specs.Sound.{IsSound}
-use Rattle.gate_history.specs.State.{State, submits, flying, next_ids, has_number, is_number as has_seq}
-use Rattle.gate_history.proofs.Called.{AreLong}
+use Rattle.gate_history.specs.client.Requests.{Request}
+use Rattle.gate_history.specs.state.Flight.{wide_ids, ids_of}
+use Rattle.gate_history.specs.state.Ids.{AreFresh, holds, greatest}
+use Rattle.gate_history.specs.state.Calls.{call_ids}
+use Rattle.gate_history.specs.step.Marks.{Submission}
+use Rattle.gate_history.specs.client.Submits.{Pending}
+use Rattle.gate_history.specs.write.Output.{fresh}
+use Rattle.redir_host.specs.state.Sound.{Each}
+use Rattle.gate_history.specs.state.Sound.{IsSound}
+use Rattle.gate_history.specs.state.State.{State, submits, flying, next_ids, has_number, is_number as has_seq}
+use Rattle.gate_history.proofs.lemmas.state.Calls.{AreLong}
 use Rattle.direct_proof.proofs.shared.New.{next_id}
 use Rattle.direct_proof.specs.Ids.{count}
 use Rattle.direct_proof.proofs.lists.Counts.{count-append, count-zero, any-none}

@@ -2,7 +2,7 @@
 use Rattle.std.proofs.Common.{◌≡◌, ℕ, ◌≤◌, ◌==◌, ◌||◌, Bool, true, false, List, [], ◌∷◌, ◌++◌, refl, ap, ◌∙◌, subst, arith}
 use Rattle.std.specs.Prelude.{nat_eq}
 use Rattle.std.specs.List.{AllByRecursion, IsDistinct}
-use Rattle.gate_history.specs.Ids.{times, holds}
+use Rattle.gate_history.specs.state.Ids.{times, holds}
 use Rattle.direct_proof.proofs.streams.fills.FillLists.{weight}
 
 or-parts : (a b : Bool) → (a || b) ≡ false → b ≡ false

@@ -7,15 +7,15 @@ use Rattle.usb_base.specs.declared.endpoint.EpKind.TheVariants as kind
 use Rattle.usb_base.specs.declared.endpoint.EpRow.{EpRow}
 use Rattle.redir_wire.specs.declared.packet.RedirControl.TheVariants as plain
 use Rattle.redir_data.specs.declared.packet.RedirPacket.{RedirPacket}
-use Rattle.redir_host.specs.Line.{Waiting as InLine}
-use Rattle.redir_host.specs.Sound.{Each}
+use Rattle.redir_host.specs.guest.Line.{Waiting as InLine}
+use Rattle.redir_host.specs.state.Sound.{Each}
 use Rattle.model_device.specs.Meaning.{Meaning}
-use Rattle.gate_history.specs.Calls.{call_ids, started}
-use Rattle.gate_history.specs.Ids.{times, holds}
-use Rattle.gate_history.specs.Packets.{start_packet}
-use Rattle.gate_history.specs.Ups.{Up, stream_of}
-use Rattle.gate_history.specs.Verdict.{is_iso}
-use Rattle.gate_history.proofs.Called.{AreLong, times-append}
+use Rattle.gate_history.specs.state.Calls.{call_ids, started}
+use Rattle.gate_history.specs.state.Ids.{times, holds}
+use Rattle.gate_history.specs.write.Packets.{start_packet}
+use Rattle.gate_history.specs.state.Ups.{Up, stream_of}
+use Rattle.gate_history.specs.client.Verdict.{is_iso}
+use Rattle.gate_history.proofs.lemmas.state.Calls.{AreLong, times-append}
 use Rattle.direct_device.specs.Direct.{way_if}
 use Rattle.direct_run.specs.Moves.{World}
 use Rattle.direct_proof.specs.Tagged.{Tagged, Greeted, Plugged, ToldTable, ToldFaces, Answered, Packed, Stated, Bye}

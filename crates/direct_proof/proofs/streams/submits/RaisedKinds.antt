@@ -8,13 +8,13 @@ use Rattle.usb_base.specs.declared.endpoint.EpRow.{EpRow}
 use Rattle.redir_data.specs.declared.packet.RedirPacket.{RedirPacket}
 use Rattle.redir_host.specs.declared.running.Running.{Running}
 use Rattle.redir_host.specs.declared.running.StreamKind.{StreamKind}
-use Rattle.redir_host.specs.Sound.{Each}
+use Rattle.redir_host.specs.state.Sound.{Each}
 use Rattle.model_device.specs.Meaning.{Meaning}
-use Rattle.gate_history.specs.Calls.{call_ids}
-use Rattle.gate_history.specs.Ids.{holds}
-use Rattle.gate_history.specs.Packets.{start_packet}
-use Rattle.gate_history.specs.Ups.{Up, stream_of}
-use Rattle.gate_history.proofs.Called.{AreLong}
+use Rattle.gate_history.specs.state.Calls.{call_ids}
+use Rattle.gate_history.specs.state.Ids.{holds}
+use Rattle.gate_history.specs.write.Packets.{start_packet}
+use Rattle.gate_history.specs.state.Ups.{Up, stream_of}
+use Rattle.gate_history.proofs.lemmas.state.Calls.{AreLong}
 use Rattle.direct_run.specs.Moves.{World}
 use Rattle.direct_proof.specs.Tagged.{Tagged, Greeted, Plugged, ToldTable, ToldFaces, Answered, Packed, Stated, Bye}
 use Rattle.direct_proof.specs.Shared.{Shared}

@@ -2,8 +2,8 @@
 use Rattle.std.proofs.Common.{◌≡◌, ℕ, ◌==◌, ◌&&◌, Bool, true, false, cond, List, [], ◌∷◌, ◌++◌, refl, sym, ap, ◌∙◌, arith}
 use Rattle.std.specs.List.{list_any}
 use Rattle.redir_host.specs.declared.running.Running.{Running}
-use Rattle.redir_host.specs.Packets.{runs_at}
-use Rattle.redir_host.specs.Sound.{Each}
+use Rattle.redir_host.specs.guest.Packets.{runs_at}
+use Rattle.redir_host.specs.state.Sound.{Each}
 use Rattle.model_device.specs.Meaning.{Meaning}
 use Rattle.direct_run.specs.Moves.{World}
 use Rattle.direct_proof.specs.Tagged.{Tagged, Greeted, Plugged, ToldTable, ToldFaces, Answered, Packed, Stated, Bye, packets_in, packet_in, is_kind}

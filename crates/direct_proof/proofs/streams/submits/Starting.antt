@@ -14,13 +14,13 @@ use Rattle.redir_data.specs.declared.packet.RedirPacket.{RedirPacket}
 use Rattle.redir_data.specs.declared.packet.RedirPacket.TheVariants.{Plain}
 use Rattle.redir_host.specs.declared.running.StreamKind.{StreamKind}
 use Rattle.redir_host.specs.declared.running.StreamKind.TheVariants.{Iso, Interrupt}
-use Rattle.redir_host.specs.Packets.{can_start, is_of}
-use Rattle.redir_host.specs.Sound.{Each}
-use Rattle.gate_history.specs.Calls.{Calls, call_ids, started}
-use Rattle.gate_history.specs.Ids.{times, holds}
-use Rattle.gate_history.specs.Packets.{start_packet}
-use Rattle.gate_history.specs.Verdict.{is_iso}
-use Rattle.gate_history.proofs.Called.{AreLong, times-append}
+use Rattle.redir_host.specs.guest.Packets.{can_start, is_of}
+use Rattle.redir_host.specs.state.Sound.{Each}
+use Rattle.gate_history.specs.state.Calls.{Calls, call_ids, started}
+use Rattle.gate_history.specs.state.Ids.{times, holds}
+use Rattle.gate_history.specs.write.Packets.{start_packet}
+use Rattle.gate_history.specs.client.Verdict.{is_iso}
+use Rattle.gate_history.proofs.lemmas.state.Calls.{AreLong, times-append}
 use Rattle.direct_proof.specs.Tagged.{Tagged, Greeted, Plugged, ToldTable, ToldFaces, Answered, Packed, Stated, Bye, is_kind}
 use Rattle.direct_proof.specs.Kinds.{IsIn}
 use Rattle.direct_proof.specs.Calls.{IsKept, CallIsKept, StatusIsKept, is_id, call_id, calls_on, status_id, statuses_on}

@@ -2,9 +2,9 @@
 use Rattle.std.proofs.Common.{◌≡◌, ℕ, ◌||◌, Bool, true, false, List, [], ◌∷◌, ◌++◌, Option, None, refl, sym, ap, ◌∙◌, subst}
 use Rattle.std.specs.List.{list_any}
 use Rattle.model_device.specs.Meaning.{Meaning}
-use Rattle.redir_host.specs.Line.{Reset}
-use Rattle.redir_host.specs.Sound.{Each}
-use Rattle.gate_history.specs.State.{change_waits}
+use Rattle.redir_host.specs.guest.Line.{Reset}
+use Rattle.redir_host.specs.state.Sound.{Each}
+use Rattle.gate_history.specs.state.State.{change_waits}
 use Rattle.direct_run.specs.Moves.{World}
 use Rattle.direct_proof.specs.Calls.{Fenced}
 use Rattle.direct_proof.specs.Cancels.{any_change, is_change}

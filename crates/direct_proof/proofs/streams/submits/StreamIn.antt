@@ -12,12 +12,12 @@ use Rattle.usbip_urb.specs.declared.packet.UrbPacket.TheVariants as urb
 use Rattle.usbip_urb.specs.declared.client.ClientPacket.TheVariants.{Urb}
 use Rattle.usbip_urb.specs.Sizes.{is_out}
 use Rattle.model_device.specs.Meaning.{Meaning}
-use Rattle.gate_history.specs.Flight.{wide_bulk}
-use Rattle.gate_history.specs.Items.{Asked}
-use Rattle.gate_history.specs.Requests.{request_of, address, is_in_setup}
-use Rattle.gate_history.specs.State.{has_number, change_waits}
-use Rattle.gate_history.specs.Meaning.{verdict_of}
-use Rattle.gate_history.specs.Verdict.{Stream}
+use Rattle.gate_history.specs.state.Flight.{wide_bulk}
+use Rattle.gate_history.specs.step.Items.{Asked}
+use Rattle.gate_history.specs.client.Requests.{request_of, address, is_in_setup}
+use Rattle.gate_history.specs.state.State.{has_number, change_waits}
+use Rattle.gate_history.specs.step.Meaning.{verdict_of}
+use Rattle.gate_history.specs.client.Verdict.{Stream}
 use Rattle.direct_run.specs.Moves.{World, ByClient}
 use Rattle.direct_proof.specs.Moves.{move}
 use Rattle.direct_proof.specs.Shared.{Shared}
@@ -29,7 +29,7 @@ use Rattle.direct_proof.proofs.streams.submits.Streamed.{IsStreamed, streamed}
 use Rattle.direct_proof.proofs.streams.submits.Still.{IsStill, is-still}
 use Rattle.direct_proof.proofs.streams.submits.WaitsKept.{keep-waits}
 use Rattle.direct_proof.proofs.streams.submits.Accepted.{IsGate}
-use Rattle.redir_host.specs.Facts.{ep_info_of}
+use Rattle.redir_host.specs.device.Facts.{ep_info_of}
 use Rattle.direct_run.specs.Packets.{both_caps}
 
 -- its address is that of its endpoint's number, with the bit for IN

@@ -4,15 +4,15 @@ use Rattle.usb_base.specs.declared.endpoint.EpRow.{EpRow}
 use Rattle.usb_base.specs.declared.transfer.StreamPacket.{StreamPacket}
 use Rattle.redir_data.specs.declared.packet.RedirPacket.{RedirPacket}
 use Rattle.model_device.specs.Meaning.{Meaning}
-use Rattle.redir_host.specs.Sound.{Each}
-use Rattle.gate_history.specs.Requests.{Request}
-use Rattle.gate_history.specs.Calls.{Calls}
-use Rattle.gate_history.specs.Marks.{Submission}
-use Rattle.gate_history.specs.Submits.{Pending}
-use Rattle.gate_history.specs.Output.{fresh}
-use Rattle.gate_history.specs.State.{State}
-use Rattle.gate_history.specs.Ups.{Up, hold}
-use Rattle.gate_history.specs.Verdict.{goes_by_id}
+use Rattle.redir_host.specs.state.Sound.{Each}
+use Rattle.gate_history.specs.client.Requests.{Request}
+use Rattle.gate_history.specs.state.Calls.{Calls}
+use Rattle.gate_history.specs.step.Marks.{Submission}
+use Rattle.gate_history.specs.client.Submits.{Pending}
+use Rattle.gate_history.specs.write.Output.{fresh}
+use Rattle.gate_history.specs.state.State.{State}
+use Rattle.gate_history.specs.state.Ups.{Up, hold}
+use Rattle.gate_history.specs.client.Verdict.{goes_by_id}
 use Rattle.direct_run.specs.Moves.{World}
 use Rattle.direct_proof.specs.Requests.{Debt, debts_of, load_of}
 use Rattle.direct_proof.specs.Shared.{Shared, lines, half_line, at_hosts}

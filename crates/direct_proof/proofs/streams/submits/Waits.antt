@@ -12,27 +12,27 @@ use Rattle.usbip_urb.specs.declared.packet.UrbPacket.TheVariants as urb
 use Rattle.usbip_urb.specs.declared.client.ClientPacket.TheVariants.{Urb}
 use Rattle.redir_data.specs.declared.packet.RedirPacket.{RedirPacket}
 use Rattle.model_device.specs.Meaning.{Meaning}
-use Rattle.gate_history.specs.Requests.{Request, request_of}
-use Rattle.gate_history.specs.Items.{Asked}
-use Rattle.gate_history.specs.Verdict.{Verdict, Stream}
-use Rattle.gate_history.specs.Errno.{eshutdown}
-use Rattle.gate_history.specs.Fillings.{Fill, fill}
-use Rattle.gate_history.specs.Marks.{Submission, Waits}
-use Rattle.gate_history.specs.Submits.{Pending, waits_at}
-use Rattle.gate_history.specs.Ids.{last_of}
-use Rattle.gate_history.specs.State.{State, has_number, next_ids}
-use Rattle.gate_history.specs.Packets.{starts}
-use Rattle.gate_history.specs.Meaning.{meaning, mark_as, refused, by_stream, accepts, accepted_as, submission, drawn_for, verdict_of, waiting}
-use Rattle.gate_history.specs.Machine.{live_after}
-use Rattle.gate_history.specs.Output.{fresh}
-use Rattle.gate_history.specs.Calls.{called}
-use Rattle.gate_history.specs.Notes.{notes_of, is_by_answer}
+use Rattle.gate_history.specs.client.Requests.{Request, request_of}
+use Rattle.gate_history.specs.step.Items.{Asked}
+use Rattle.gate_history.specs.client.Verdict.{Verdict, Stream}
+use Rattle.gate_history.specs.write.Errno.{eshutdown}
+use Rattle.gate_history.specs.host.Fillings.{Fill, fill}
+use Rattle.gate_history.specs.step.Marks.{Submission, Waits}
+use Rattle.gate_history.specs.client.Submits.{Pending, waits_at}
+use Rattle.gate_history.specs.state.Ids.{last_of}
+use Rattle.gate_history.specs.state.State.{State, has_number, next_ids}
+use Rattle.gate_history.specs.write.Packets.{starts}
+use Rattle.gate_history.specs.step.Meaning.{meaning, mark_as, refused, by_stream, accepts, accepted_as, submission, drawn_for, verdict_of, waiting}
+use Rattle.gate_history.specs.step.Machine.{live_after}
+use Rattle.gate_history.specs.write.Output.{fresh}
+use Rattle.gate_history.specs.state.Calls.{called}
+use Rattle.gate_history.specs.write.Notes.{notes_of, is_by_answer}
 use Rattle.gate_history.specs.declared.note.Note.{Note}
 use Rattle.gate_history.specs.declared.note.Note.TheVariants as note
-use Rattle.gate_history.specs.Answers.{without_packets}
-use Rattle.gate_history.specs.Ups.{Up, stream_at, hold, raise, held_of}
-use Rattle.gate_history.proofs.Lists.{filter-all, filter-none, filter-map, map-map}
-use Rattle.gate_history.proofs.Uncancelled.{asks-none, none-cancelled, stays-uncancelled}
+use Rattle.gate_history.specs.write.Answers.{without_packets}
+use Rattle.gate_history.specs.state.Ups.{Up, stream_at, hold, raise, held_of}
+use Rattle.gate_history.proofs.lemmas.Lists.{filter-all, filter-none, filter-map, map-map}
+use Rattle.gate_history.proofs.lemmas.step.NoCancel.{asks-none, none-cancelled, stays-uncancelled}
 use Rattle.direct_run.specs.declared.submitted.Submitted.{Submitted}
 use Rattle.direct_run.specs.Noted.{named}
 use Rattle.direct_device.specs.Direct.{Live, Direct, is_number, way_by}

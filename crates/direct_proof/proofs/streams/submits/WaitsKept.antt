@@ -11,21 +11,21 @@ use Rattle.usbip_urb.specs.declared.packet.UrbPacket.TheVariants as urb
 use Rattle.usbip_urb.specs.declared.client.ClientPacket.TheVariants.{Urb}
 use Rattle.redir_data.specs.declared.packet.RedirPacket.{RedirPacket}
 use Rattle.model_device.specs.Meaning.{Meaning}
-use Rattle.gate_history.specs.Requests.{Request, request_of}
-use Rattle.gate_history.specs.Items.{Asked}
-use Rattle.gate_history.specs.Verdict.{Stream, verdict, changes}
-use Rattle.gate_history.specs.Fillings.{Fill}
-use Rattle.gate_history.specs.Flight.{wide_bulk}
-use Rattle.gate_history.specs.Calls.{Calls, called, started}
-use Rattle.gate_history.specs.Marks.{Submission}
-use Rattle.gate_history.specs.Submits.{Pending}
-use Rattle.gate_history.specs.Output.{fresh}
-use Rattle.gate_history.specs.State.{next_ids, has_number, is_number as has_seq, change_waits}
-use Rattle.gate_history.specs.Packets.{starts, start_packet}
-use Rattle.gate_history.specs.Meaning.{mark_as, by_stream, verdict_of}
-use Rattle.gate_history.specs.Ups.{Up, stream_at, stream_of, hold, raise, raised, held_of}
-use Rattle.gate_history.proofs.Lists.{list_any-map}
-use Rattle.gate_history.proofs.Called.{start-calls}
+use Rattle.gate_history.specs.client.Requests.{Request, request_of}
+use Rattle.gate_history.specs.step.Items.{Asked}
+use Rattle.gate_history.specs.client.Verdict.{Stream, verdict, changes}
+use Rattle.gate_history.specs.host.Fillings.{Fill}
+use Rattle.gate_history.specs.state.Flight.{wide_bulk}
+use Rattle.gate_history.specs.state.Calls.{Calls, called, started}
+use Rattle.gate_history.specs.step.Marks.{Submission}
+use Rattle.gate_history.specs.client.Submits.{Pending}
+use Rattle.gate_history.specs.write.Output.{fresh}
+use Rattle.gate_history.specs.state.State.{next_ids, has_number, is_number as has_seq, change_waits}
+use Rattle.gate_history.specs.write.Packets.{starts, start_packet}
+use Rattle.gate_history.specs.step.Meaning.{mark_as, by_stream, verdict_of}
+use Rattle.gate_history.specs.state.Ups.{Up, stream_at, stream_of, hold, raise, raised, held_of}
+use Rattle.gate_history.proofs.lemmas.Lists.{list_any-map}
+use Rattle.gate_history.proofs.lemmas.state.Calls.{start-calls}
 use Rattle.direct_proof.proofs.shared.New.{next_id}
 use Rattle.direct_device.specs.Direct.{Live, Direct, is_number, way_if}
 use Rattle.direct_device.specs.Acting.{Submit, Answer, made_of}

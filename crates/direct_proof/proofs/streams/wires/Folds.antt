@@ -3,7 +3,7 @@ use Rattle.std.proofs.Common.{◌≡◌, ℕ, ◌||◌, ◌⊎◌, inl, inr, Boo
 use Rattle.std.specs.List.{list_any}
 use Rattle.usb_base.specs.declared.endpoint.EpTable.{EpTable}
 use Rattle.redir_data.specs.declared.packet.RedirPacket.{RedirPacket}
-use Rattle.redir_host.specs.Sound.{Each}
+use Rattle.redir_host.specs.state.Sound.{Each}
 use Rattle.direct_proof.specs.Requests.{Entry}
 use Rattle.direct_proof.specs.Tagged.{Tagged}
 use Rattle.direct_proof.specs.Stale.{Clean, asks, ends, is_stale}

@@ -5,14 +5,14 @@ use Rattle.usb_base.specs.declared.transfer.StreamPacket.{StreamPacket}
 use Rattle.redir_data.specs.declared.packet.RedirPacket.{RedirPacket}
 use Rattle.redir_host.specs.declared.running.StreamKind.{StreamKind}
 use Rattle.redir_host.specs.declared.running.StreamKind.TheVariants.{Iso, Interrupt}
-use Rattle.redir_host.specs.Offering.{stream_packet}
-use Rattle.redir_host.specs.Sound.{Each}
-use Rattle.gate_history.specs.Ids.{times}
-use Rattle.gate_history.specs.Facts.{tell}
-use Rattle.gate_history.specs.Meaning.{fact_of}
-use Rattle.gate_history.specs.Ups.{Up, stream_of}
+use Rattle.redir_host.specs.device.Offering.{stream_packet}
+use Rattle.redir_host.specs.state.Sound.{Each}
+use Rattle.gate_history.specs.state.Ids.{times}
+use Rattle.gate_history.specs.state.Facts.{tell}
+use Rattle.gate_history.specs.step.Meaning.{fact_of}
+use Rattle.gate_history.specs.state.Ups.{Up, stream_of}
 use Rattle.gate_history.specs.declared.facts.Facts.{Facts}
-use Rattle.gate_history.specs.Verdict.{is_iso}
+use Rattle.gate_history.specs.client.Verdict.{is_iso}
 use Rattle.direct_device.specs.Direct.{way_if}
 use Rattle.direct_proof.specs.Requests.{Coming}
 use Rattle.direct_proof.specs.Tagged.{Tagged, Packed, Stated, on_wire, runs_in, ran_in, told, packets_in, is_kind}

@@ -7,8 +7,8 @@ use Rattle.usb_base.specs.Endpoint.{endpoint_index}
 use Rattle.redir_data.specs.declared.packet.RedirPacket.{RedirPacket}
 use Rattle.redir_host.specs.declared.running.Running.{Running}
 use Rattle.redir_host.specs.declared.running.StreamKind.{StreamKind}
-use Rattle.redir_host.specs.Sound.{Each}
-use Rattle.gate_history.specs.Ups.{Up, stream_at, stream_of, unless, lower}
+use Rattle.redir_host.specs.state.Sound.{Each}
+use Rattle.gate_history.specs.state.Ups.{Up, stream_at, stream_of, unless, lower}
 use Rattle.direct_device.specs.Direct.{way_if}
 use Rattle.direct_proof.specs.Tagged.{Tagged, Greeted, Plugged, ToldTable, ToldFaces, Answered, Packed, Stated, Bye}
 use Rattle.direct_proof.specs.Shared.{way_of}

@@ -4,10 +4,10 @@ use Rattle.std.specs.List.{list_any}
 use Rattle.redir_data.specs.declared.packet.RedirPacket.{RedirPacket}
 use Rattle.control_route.specs.declared.route.Route.{Route}
 use Rattle.control_route.specs.declared.route.Route.TheVariants as route
-use Rattle.redir_host.specs.Line.{Waiting as InLine, Reset}
-use Rattle.gate_history.specs.Ids.{times}
-use Rattle.gate_history.specs.Requests.{Request}
-use Rattle.gate_history.specs.Verdict.{Verdict, Control, Bulk, InterruptOut, Now, Wire, Routed, IsoOut, Stream, changes}
+use Rattle.redir_host.specs.guest.Line.{Waiting as InLine, Reset}
+use Rattle.gate_history.specs.state.Ids.{times}
+use Rattle.gate_history.specs.client.Requests.{Request}
+use Rattle.gate_history.specs.client.Verdict.{Verdict, Control, Bulk, InterruptOut, Now, Wire, Routed, IsoOut, Stream, changes}
 use Rattle.direct_proof.specs.Requests.{Entry, at_host, form_by, resets}
 use Rattle.direct_proof.specs.Tagged.{Tagged}
 use Rattle.direct_proof.specs.Shared.{lines, in_line, half_line, at_hosts}
@@ -17,7 +17,7 @@ use Rattle.direct_proof.specs.Calls.{Fenced, calls_on, call_id}
 use Rattle.direct_proof.proofs.streams.wires.Sorts.{line_changes, form_changes, asks-parts}
 use Rattle.direct_proof.proofs.shared.Folds.{not-both, or-left, or-right, any-append}
 use Rattle.direct_proof.proofs.streams.wires.Folds.{or-either}
-use Rattle.gate_history.proofs.Called.{times-append}
+use Rattle.gate_history.proofs.lemmas.state.Calls.{times-append}
 
 -- ---- changes
 

@@ -6,7 +6,7 @@ use Rattle.redir_data.specs.declared.packet.RedirPacket.{RedirPacket}
 use Rattle.redir_data.specs.declared.packet.RedirPacket.TheVariants.{Plain, Carrying}
 use Rattle.redir_host.specs.declared.request.Form.{Form}
 use Rattle.redir_host.specs.declared.request.Form.TheVariants as form
-use Rattle.redir_host.specs.Line.{Waiting as InLine, Reset, Waits}
+use Rattle.redir_host.specs.guest.Line.{Waiting as InLine, Reset, Waits}
 use Rattle.direct_proof.specs.Shared.{in_line}
 use Rattle.direct_proof.specs.Stale.{asks, is_fence}
 use Rattle.direct_proof.specs.Running.{runs_after, called_endpoint, started_kind}

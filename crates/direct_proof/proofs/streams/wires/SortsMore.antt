@@ -6,9 +6,9 @@ use Rattle.redir_data.specs.declared.packet.RedirPacket.TheVariants.{Plain, Carr
 use Rattle.redir_data.specs.declared.state.RedirState.{RedirState}
 use Rattle.redir_data.specs.Streams.{advanced}
 use Rattle.redir_host.specs.declared.running.StreamKind.{StreamKind}
-use Rattle.redir_host.specs.Sound.{Each}
-use Rattle.gate_history.specs.Ids.{times}
-use Rattle.gate_history.proofs.Called.{times-append}
+use Rattle.redir_host.specs.state.Sound.{Each}
+use Rattle.gate_history.specs.state.Ids.{times}
+use Rattle.gate_history.proofs.lemmas.state.Calls.{times-append}
 use Rattle.direct_proof.specs.Tagged.{Tagged, Greeted, Plugged, ToldTable, ToldFaces, Answered, Packed, Stated, Bye}
 use Rattle.direct_proof.specs.Stale.{asks, ends}
 use Rattle.direct_proof.specs.Running.{called_endpoint, started_kind}

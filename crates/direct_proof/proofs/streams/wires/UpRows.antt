@@ -9,9 +9,9 @@ use Rattle.usb_base.specs.declared.transfer.StreamPacket.{StreamPacket}
 use Rattle.redir_data.specs.declared.packet.RedirPacket.{RedirPacket}
 use Rattle.redir_host.specs.declared.running.Running.{Running}
 use Rattle.redir_host.specs.declared.running.StreamKind.{StreamKind}
-use Rattle.redir_host.specs.Sound.{Each}
-use Rattle.gate_history.specs.Ups.{Up, stream_at, stream_of, hold}
-use Rattle.gate_history.specs.Verdict.{is_iso}
+use Rattle.redir_host.specs.state.Sound.{Each}
+use Rattle.gate_history.specs.state.Ups.{Up, stream_at, stream_of, hold}
+use Rattle.gate_history.specs.client.Verdict.{is_iso}
 use Rattle.direct_proof.specs.Tagged.{Tagged, Greeted, Plugged, ToldTable, ToldFaces, Answered, Packed, Stated, Bye, is_kind}
 use Rattle.direct_proof.specs.Kinds.{IsIn, OfKind, TaggedOfKind, StartOfKind, UpsFit, UpFits}
 use Rattle.direct_proof.specs.Session.{down_in}

@@ -1,7 +1,7 @@
-use Rattle.gate_history.specs.Output.{to_client}
-use Rattle.gate_history.specs.Notes.{notes_of, dropped}
-use Rattle.gate_history.specs.Bytes.{client_bytes_of, host_bytes_of}
-use Rattle.gate_history.proofs.Events.{event-state, event-gives}
+use Rattle.gate_history.specs.write.Output.{to_client}
+use Rattle.gate_history.specs.write.Notes.{notes_of, dropped}
+use Rattle.gate_history.specs.write.Bytes.{client_bytes_of, host_bytes_of}
+use Rattle.gate_history.proofs.lemmas.step.Events.{event-state, event-gives}
 use Rattle.gate_history.proofs.laws.events_add_items.Goals as goal
 
 pub returns-clause-state : goal.returns-clause-state

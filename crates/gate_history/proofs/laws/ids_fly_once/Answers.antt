@@ -1,10 +1,10 @@
 use Rattle.std.proofs.Common.{subst, sym}
-use Rattle.gate_history.specs.Ids.{draw, IsNext}
-use Rattle.gate_history.proofs.Search.{draw-next, next-one}
-use Rattle.gate_history.specs.History.{arrivals}
-use Rattle.gate_history.proofs.Comings.{comes}
-use Rattle.gate_history.proofs.Drawing.{all-drawn}
-use Rattle.gate_history.proofs.Flights.{flights-once, item-fresh}
+use Rattle.gate_history.specs.state.Ids.{draw, IsNext}
+use Rattle.gate_history.proofs.lemmas.state.Search.{draw-next, next-one}
+use Rattle.gate_history.specs.step.History.{arrivals}
+use Rattle.gate_history.proofs.lemmas.step.Comings.{comes}
+use Rattle.gate_history.proofs.lemmas.state.EventDraws.{all-drawn}
+use Rattle.gate_history.proofs.lemmas.state.Flights.{flights-once, item-fresh}
 use Rattle.gate_history.proofs.laws.ids_fly_once.Goals as goal
 
 pub returns-clause-once : goal.returns-clause-once

@@ -1,4 +1,4 @@
-use Rattle.gate_history.proofs.Losses.{ends-all}
+use Rattle.gate_history.proofs.lemmas.host.Losses.{ends-all}
 use Rattle.gate_history.proofs.laws.losses_end_all.Goals as goal
 
 pub returns : goal.returns

@@ -1,8 +1,8 @@
-use Rattle.gate_history.specs.Output.{to_client, to_host}
-use Rattle.gate_history.specs.Notes.{notes_of, dropped}
-use Rattle.gate_history.specs.All.{counted}
-use Rattle.gate_history.specs.Bytes.{client_bytes_of, host_bytes_of}
-use Rattle.gate_history.proofs.Runs.{state-run, all-run}
+use Rattle.gate_history.specs.write.Output.{to_client, to_host}
+use Rattle.gate_history.specs.write.Notes.{notes_of, dropped}
+use Rattle.gate_history.specs.write.All.{counted}
+use Rattle.gate_history.specs.write.Bytes.{client_bytes_of, host_bytes_of}
+use Rattle.gate_history.proofs.lemmas.step.Runs.{state-run, all-run}
 use Rattle.gate_history.proofs.laws.machine_is_past.Goals as goal
 
 pub returns-clause-state : goal.returns-clause-state

@@ -1,4 +1,4 @@
-use Rattle.gate_history.proofs.Refused.{refusals-are, client-wrongs, host-wrongs}
+use Rattle.gate_history.proofs.lemmas.step.Refusals.{refusals-are, client-wrongs, host-wrongs}
 use Rattle.gate_history.proofs.laws.refusals_have_causes.Goals as goal
 
 pub returns-clause-told : goal.returns-clause-told

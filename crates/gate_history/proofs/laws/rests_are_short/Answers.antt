@@ -1,4 +1,4 @@
-use Rattle.gate_history.proofs.Bounds.{client-rest, host-rest}
+use Rattle.gate_history.proofs.lemmas.step.Rests.{client-rest, host-rest}
 use Rattle.gate_history.proofs.laws.rests_are_short.Goals as goal
 
 pub returns-clause-client : goal.returns-clause-client

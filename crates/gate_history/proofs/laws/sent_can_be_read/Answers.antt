@@ -1,14 +1,14 @@
 use Rattle.std.proofs.Common.{ℕ, List, sym, subst}
 use Rattle.redir_data.specs.declared.packet.RedirPacket.{RedirPacket}
-use Rattle.gate_history.specs.History.{arrivals, history}
-use Rattle.gate_history.specs.Machine.{all_given}
-use Rattle.gate_history.specs.Output.{to_host}
-use Rattle.gate_history.specs.State.{State, state_of}
-use Rattle.gate_history.proofs.Comings.{comes}
-use Rattle.gate_history.proofs.Lists.{Each}
-use Rattle.gate_history.proofs.Runs.{state-run, all-run}
-use Rattle.gate_history.proofs.Sending.{Reads}
-use Rattle.gate_history.proofs.SentRead.{goes}
+use Rattle.gate_history.specs.step.History.{arrivals, history}
+use Rattle.gate_history.specs.step.Machine.{all_given}
+use Rattle.gate_history.specs.write.Output.{to_host}
+use Rattle.gate_history.specs.state.State.{State, state_of}
+use Rattle.gate_history.proofs.lemmas.step.Comings.{comes}
+use Rattle.gate_history.proofs.lemmas.Lists.{Each}
+use Rattle.gate_history.proofs.lemmas.step.Runs.{state-run, all-run}
+use Rattle.gate_history.proofs.lemmas.write.ItemsRead.{Reads}
+use Rattle.gate_history.proofs.lemmas.write.EventsRead.{goes}
 use Rattle.gate_history.proofs.laws.sent_can_be_read.Goals as goal
 
 pub returns : goal.returns

@@ -1,4 +1,4 @@
-use Rattle.gate_history.proofs.States.{state-sound}
+use Rattle.gate_history.proofs.lemmas.state.Sound.{state-sound}
 use Rattle.gate_history.proofs.laws.states_are_sound.Goals as goal
 
 pub returns : goal.returns

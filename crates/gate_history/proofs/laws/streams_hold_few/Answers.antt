@@ -1,4 +1,4 @@
-use Rattle.gate_history.proofs.Room.{few-held}
+use Rattle.gate_history.proofs.lemmas.state.StreamRoom.{few-held}
 use Rattle.gate_history.proofs.laws.streams_hold_few.Goals as goal
 
 pub returns : goal.returns

@@ -1,6 +1,6 @@
-use Rattle.gate_history.specs.Past.{past}
-use Rattle.gate_history.proofs.Runs.{well}
-use Rattle.gate_history.proofs.Once.{alternate, answers-ends}
+use Rattle.gate_history.specs.step.Past.{past}
+use Rattle.gate_history.proofs.lemmas.step.Runs.{well}
+use Rattle.gate_history.proofs.lemmas.client.Once.{alternate, answers-ends}
 use Rattle.gate_history.proofs.laws.submits_end_once.Goals as goal
 
 pub returns-clause-alternate : goal.returns-clause-alternate

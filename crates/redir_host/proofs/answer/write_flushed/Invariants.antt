@@ -1,5 +1,5 @@
 use Rattle.std.proofs.Common.{◌≡◌, ◌++◌, take}
-use Rattle.redir_host.specs.Makes.{flushed_bytes}
+use Rattle.redir_host.specs.step.Makes.{flushed_bytes}
 use Rattle.redir_host.proofs.answer.write_flushed.Given as goal
 
 abbrev pub invariant-loop-request : goal.invariant-loop-request

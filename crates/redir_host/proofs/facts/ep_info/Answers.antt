@@ -1,7 +1,7 @@
 use Rattle.std.proofs.Common.{◌≡◌, if◌then◌else◌, refl, arith}
 use Rattle.redir_wire.specs.Capability.{has}
-use Rattle.redir_host.specs.Facts.{kind_byte}
-use Rattle.redir_host.proofs.Columns.{first_column, next_cell, set_halves, whole_column, zero_halves}
+use Rattle.redir_host.specs.device.Facts.{kind_byte}
+use Rattle.redir_host.proofs.lemmas.device.Columns.{first_column, next_cell, set_halves, whole_column, zero_halves}
 use Rattle.redir_host.proofs.facts.ep_info.Goals as goal
 
 pub loop-index-init : goal.loop-index-init

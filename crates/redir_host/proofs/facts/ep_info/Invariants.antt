@@ -1,8 +1,8 @@
 use Rattle.std.proofs.Common.{if◌then◌else◌}
 use Rattle.redir_wire.specs.Capability.{has}
 use Rattle.redir_wire.specs.Words.{AreHalves}
-use Rattle.redir_host.specs.Facts.{kind_byte}
-use Rattle.redir_host.proofs.Columns.{IsColumn}
+use Rattle.redir_host.specs.device.Facts.{kind_byte}
+use Rattle.redir_host.proofs.lemmas.device.Columns.{IsColumn}
 use Rattle.redir_host.proofs.facts.ep_info.Given as goal
 
 abbrev pub invariant-loop-index : goal.invariant-loop-index

@@ -2,7 +2,7 @@ use Rattle.std.proofs.Common.{sym, subst}
 use Rattle.redir_wire.specs.declared.packet.Connect.{Connect}
 use Rattle.redir_wire.specs.declared.packet.RedirControl.TheVariants as plain
 use Rattle.redir_wire.specs.Written.{CanWrite}
-use Rattle.redir_host.proofs.Telling.{connect}
+use Rattle.redir_host.proofs.lemmas.write.Facts.{connect}
 use Rattle.redir_host.proofs.facts.write_connect.Goals as goal
 
 pub write-requires : goal.write-requires

@@ -2,7 +2,7 @@ use Rattle.std.proofs.Common.{sym, subst}
 use Rattle.redir_wire.specs.declared.packet.EpInfo.{EpInfo}
 use Rattle.redir_wire.specs.declared.packet.RedirControl.TheVariants as plain
 use Rattle.redir_wire.specs.Written.{CanWrite}
-use Rattle.redir_host.proofs.Telling.{ep_info, interface_info}
+use Rattle.redir_host.proofs.lemmas.write.Facts.{ep_info, interface_info}
 use Rattle.redir_host.proofs.facts.write_facts.Goals as goal
 
 pub write-requires : goal.write-requires

@@ -1,9 +1,9 @@
 use Rattle.std.proofs.Common.{Ok, ap, ◌∙◌}
 use Rattle.packet_stream.proofs.Loops.{goes-more, goes-none, takes-all, takes-err, takes-memory, takes-weaker}
 use Rattle.redir_data.specs.Packets.{takes_memory}
-use Rattle.redir_host.specs.Guest.{guest_reader}
-use Rattle.redir_host.specs.Takings.{TookPackets}
-use Rattle.redir_host.proofs.Pieces.{Going, going-none, going-one, going-given, going-ended, going-stopped, next-taken}
+use Rattle.redir_host.specs.guest.Guest.{guest_reader}
+use Rattle.redir_host.specs.guest.Takings.{TookPackets}
+use Rattle.redir_host.proofs.lemmas.guest.Pieces.{Going, going-none, going-one, going-given, going-ended, going-stopped, next-taken}
 use Rattle.redir_host.proofs.kept.take_packets.Goals as goal
 
 pub returns-in_err-header : goal.returns-in_err-header

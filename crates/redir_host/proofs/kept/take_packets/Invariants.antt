@@ -1,7 +1,7 @@
 use Rattle.std.proofs.Common.{length}
 use Rattle.packet_stream.specs.Loops.{Goes}
-use Rattle.redir_host.specs.Guest.{guest_reader}
-use Rattle.redir_host.proofs.Pieces.{Going}
+use Rattle.redir_host.specs.guest.Guest.{guest_reader}
+use Rattle.redir_host.proofs.lemmas.guest.Pieces.{Going}
 use Rattle.redir_host.proofs.kept.take_packets.Given as goal
 
 abbrev pub invariant-loop-header : goal.invariant-loop-header

@@ -1,4 +1,4 @@
-use Rattle.redir_host.proofs.Runs.{act-host, act-out}
+use Rattle.redir_host.proofs.lemmas.step.Acts.{act-host, act-out}
 use Rattle.redir_host.proofs.laws.acts_add_items.Goals as goal
 
 pub returns-clause-host : goal.returns-clause-host

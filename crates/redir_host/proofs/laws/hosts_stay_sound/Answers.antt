@@ -1,5 +1,5 @@
-use Rattle.redir_host.proofs.Coming.{keeps-packet}
-use Rattle.redir_host.proofs.Keeps.{keeps-perform, keeps-offer, keeps-unplug}
+use Rattle.redir_host.proofs.lemmas.guest.Sound.{keeps-packet}
+use Rattle.redir_host.proofs.lemmas.state.Sound.{keeps-perform, keeps-offer, keeps-unplug}
 use Rattle.redir_host.proofs.laws.hosts_stay_sound.Goals as goal
 
 pub returns-clause-take : goal.returns-clause-take

@@ -1,7 +1,7 @@
 use Rattle.std.proofs.Common.{[], List, ◌++◌, ap}
 use Rattle.redir_host.specs.declared.note.HostNote.{HostNote}
-use Rattle.redir_host.specs.Output.{host_of}
-use Rattle.redir_host.proofs.Silent.{perform-silent, offer-silent, unplug-silent}
+use Rattle.redir_host.specs.write.Output.{host_of}
+use Rattle.redir_host.proofs.lemmas.device.Silent.{perform-silent, offer-silent, unplug-silent}
 use Rattle.redir_host.proofs.laws.only_bytes_are_noted.Goals as goal
 
 pub returns-clause-perform : goal.returns-clause-perform

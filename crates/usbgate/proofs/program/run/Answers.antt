@@ -1,18 +1,20 @@
 use Rattle.std.proofs.Common.{inr, Some, None, sym, ap, subst, ◌∙◌}
 use Rattle.std.proofs.lemmas.Option.{same_Some}
 use Rattle.bridge_run.specs.Outside.{outside, written, faults}
-use Rattle.usbgate.specs.EventCommand.{over_events}
-use Rattle.usbgate.specs.Replay.{replay}
-use Rattle.usbgate.specs.Model.{model_of}
-use Rattle.usbgate.specs.Made.{made, loaded}
-use Rattle.usbgate.specs.Prescribed.{Prescribed, over_tape, printed, prescribed}
-use Rattle.usbgate.specs.Recording.{records}
-use Rattle.usbgate.specs.Run.{Leaves}
-use Rattle.usbgate.proofs.Served.{unserved, unlent, links-stand, link-fault-of, link-stands}
-use Rattle.usbgate.proofs.Simulated.{simulates-device, simulates-count, unsimulated}
+use Rattle.usbgate_tapes.specs.EventCommand.{over_events}
+use Rattle.usbgate_tapes.specs.Replay.{replay}
+use Rattle.usbgate_tapes.specs.Model.{model_of}
+use Rattle.usbgate_tapes.specs.Made.{made, loaded}
+use Rattle.usbgate_tapes.specs.Prescribed.{Prescribed, over_tape, printed}
+use Rattle.usbgate.specs.Prescribed.{prescribed}
+use Rattle.usbgate_commands.specs.Recording.{records}
+use Rattle.usbgate_tapes.specs.Run.{Leaves}
+use Rattle.usbgate_commands.proofs.Served.{unserved, unlent, links-stand, link-fault-of, link-stands}
+use Rattle.usbgate_tapes.proofs.Simulated.{unsimulated}
+use Rattle.usbgate.proofs.Simulated.{simulates-device, simulates-count}
 use Rattle.bridge_run.specs.Gate.{gate_sends}
-use Rattle.usbgate.specs.Serves.{device_sends}
-use Rattle.usbgate.proofs.Logs.{unlogged}
+use Rattle.usbgate_commands.specs.Serves.{device_sends}
+use Rattle.usbgate_commands.proofs.Logs.{unlogged}
 use Rattle.usbgate.proofs.program.run.Goals as goal
 
 pub returns-in_default-clause-serves : goal.returns-in_default-clause-serves

@@ -1,7 +1,7 @@
 use Rattle.std.proofs.Common.{refl}
 use Rattle.bridge_run.specs.Events.{event_of}
 use Rattle.bridge_run.specs.Lent.{acts_of}
-use Rattle.bridge_run.proofs.Acting.{lent-sends, on-ok}
+use Rattle.bridge_run.proofs.lemmas.events.Acts.{lent-sends, on-ok}
 use Rattle.bridge_run.proofs.lent.LentServed.take.Goals as goal
 
 pub returns-clause-sends : goal.returns-clause-sends

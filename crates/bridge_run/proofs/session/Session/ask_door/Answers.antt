@@ -5,12 +5,12 @@ use Rattle.bridge_run.specs.Events.{ClientComes}
 use Rattle.bridge_run.specs.declared.kept.Kept.{Kept}
 use Rattle.bridge_run.specs.Course.{Setting, AtDoor, AtClient, Takes}
 use Rattle.bridge_run.specs.Calls.{Goes, come, course_of}
-use Rattle.bridge_run.specs.Outside.{outside, written}
+use Rattle.bridge_run.specs.Outside.{outside, gathering}
 use Rattle.bridge_run.specs.inner.Follows.{Runs, setting}
-use Rattle.bridge_run.proofs.Reaching.{reaches-none, reaches-call, runs-then, cut-next}
-use Rattle.bridge_run.proofs.Asking.{accepted, waited, not_accepted, call-door}
+use Rattle.bridge_run.proofs.lemmas.calls.Course.{reaches-none, reaches-call, runs-then, cut-next}
+use Rattle.bridge_run.proofs.lemmas.calls.Answers.{accepted, waited, not_accepted, call-door}
 use Rattle.gate_outside.specs.Calls.{Accept}
-use Rattle.bridge_run.proofs.Logging.{came-taking, nobody-at, accept-failed}
+use Rattle.bridge_run.proofs.lemmas.calls.Log.{came-taking, nobody-at, accept-failed}
 use Rattle.bridge_run.proofs.session.Session.ask_door.Goals as goal
 
 pub returns-in-Ok-true-clause-course : goal.returns-in-Ok-true-clause-course
@@ -21,8 +21,8 @@ returns-in-Ok-true-clause-course g c = λ first k f.
     let w = outside (g.D.Doors.link c.args.doors.now) (g.D.Doors.door c.args.doors.now) in
     let w1 = outside (g.D.Doors.link c.accept.new.self) (g.D.Doors.door c.accept.new.self) in
     let w2 = outside (g.D.Doors.link c.happen.new.doors) (g.D.Doors.door c.happen.new.doors) in
-    let out = written (g.K.Sink.contents c.args.out.now) (g.T.Tape.contents c.args.tape.now) in
-    let out2 = written (g.K.Sink.contents c.happen.new.out) (g.T.Tape.contents c.happen.new.tape) in
+    let out = gathering (g.K.Sink.contents c.args.out.now) (g.T.Tape.contents c.args.tape.now) c.args.self.now.waiting in
+    let out2 = gathering (g.K.Sink.contents c.happen.new.out) (g.T.Tape.contents c.happen.new.tape) c.happen.new.self.waiting in
     let stands2 = g.C.Served.stands first c.happen.new.self.core in
     let from = Goes AtDoor k in
     let down = sym f.client_up ∙ c.if-self.false in
@@ -42,7 +42,7 @@ returns-in-Ok-false-clause-course g c = λ first k f.
     let w1 = outside (g.D.Doors.link c.accept.new.self) (g.D.Doors.door c.accept.new.self) in
     let from = Goes AtDoor k in
     let down = sym f.client_up ∙ c.if-self.false in
-    let a = waited (g.C.Served.stands first c.args.self.now.core) p kept w w1 (written (g.K.Sink.contents c.args.out.now) (g.T.Tape.contents c.args.tape.now)) k f
+    let a = waited (g.C.Served.stands first c.args.self.now.core) p kept w w1 (gathering (g.K.Sink.contents c.args.out.now) (g.T.Tape.contents c.args.tape.now) c.args.self.now.waiting) k f
     (subst (λ (b : Bool). Accepts {E = Fault} (Ok b) w.door w1.door w.client w1.client) c.in-Ok-false.field-0-test c.in-Ok-false.ensures.accepts) c.in-Ok-false.ensures.other in
     record {
       course = k;
@@ -56,7 +56,7 @@ returns-in-Err-clause-course g c = λ first k f.
     let s = setting p c.args.self.now.kept in
     let w = outside (g.D.Doors.link c.args.doors.now) (g.D.Doors.door c.args.doors.now) in
     let w' = outside (g.D.Doors.link c.accept.new.self) (g.D.Doors.door c.accept.new.self) in
-    let out = written (g.K.Sink.contents c.args.out.now) (g.T.Tape.contents c.args.tape.now) in
+    let out = gathering (g.K.Sink.contents c.args.out.now) (g.T.Tape.contents c.args.tape.now) c.args.self.now.waiting in
     let from = Goes AtDoor k in
     let down = sym f.client_up ∙ c.if-self.false in
     cut-next s from AtDoor k (course_of (come k.clients k)) w' out (reaches-none s from) (ap course_of (call-door s k down))

@@ -4,13 +4,13 @@ use Rattle.bridge_run.specs.Events.{ClientEnd, event_of}
 use Rattle.bridge_run.specs.declared.serve_end.ServeEnd.{ServeEnd}
 use Rattle.bridge_run.specs.Course.{Takes}
 use Rattle.bridge_run.specs.Calls.{Goes, put}
-use Rattle.bridge_run.specs.Outside.{outside, written}
+use Rattle.bridge_run.specs.Outside.{outside, gathering}
 use Rattle.bridge_run.specs.inner.Follows.{Runs, setting}
-use Rattle.bridge_run.proofs.Reaching.{reaches-none, reaches-call, cut-leaves, cut-next, is-err}
-use Rattle.bridge_run.proofs.Settling.{settled, take-course, take-settles, take-ends, quiet-on, on-all}
+use Rattle.bridge_run.proofs.lemmas.calls.Course.{reaches-none, reaches-call, cut-leaves, cut-next, is-err}
+use Rattle.bridge_run.proofs.lemmas.events.Settle.{settled, take-course, take-settles, take-ends, quiet-on, on-all}
 use Rattle.bridge_run.specs.Calls.{ends_next}
 use Rattle.bridge_run.specs.inner.Logging.{IsBehind, Logs}
-use Rattle.bridge_run.proofs.Logging.{cut-logs, settled-logs}
+use Rattle.bridge_run.proofs.lemmas.calls.Log.{settled-logs}
 use Rattle.bridge_run.proofs.session.Session.happen.Goals as goal
 
 pub returns-in_err-dropped-clause-course : goal.returns-in_err-dropped-clause-course
@@ -18,7 +18,7 @@ returns-in_err-dropped-clause-course g c = λ first next k f.
     let p = g.C.Served.sends first in
     let s = setting p c.args.self.now.kept in
     let w = outside (g.D.Doors.link c.put.new.doors) (g.D.Doors.door c.put.new.doors) in
-    let out = written (g.K.Sink.contents c.put.new.out) (g.T.Tape.contents c.put.new.tape) in
+    let out = gathering (g.K.Sink.contents c.put.new.out) (g.T.Tape.contents c.put.new.tape) c.put.new.self.waiting in
     let e = event_of c.args.event in
     let from = Goes (Takes e next) k in
     let end = c.in_err-dropped.field-0.0 in
@@ -30,7 +30,7 @@ returns-in_err-put-clause-course g c = λ first next k f.
     let p = g.C.Served.sends first in
     let s = setting p c.args.self.now.kept in
     let w = outside (g.D.Doors.link c.put-2.new.doors) (g.D.Doors.door c.put-2.new.doors) in
-    let out = written (g.K.Sink.contents c.put-2.new.out) (g.T.Tape.contents c.put-2.new.tape) in
+    let out = gathering (g.K.Sink.contents c.put-2.new.out) (g.T.Tape.contents c.put-2.new.tape) c.put-2.new.self.waiting in
     let e = event_of c.args.event in
     let from = Goes (Takes e next) k in
     let end = c.in_err-put.field-0.0 in
@@ -45,7 +45,7 @@ returns-then-not-ends_next-clause-course g c = λ first next k f.
     let p = g.C.Served.sends first in
     let s = setting p c.args.self.now.kept in
     let w = outside (g.D.Doors.link c.put.new.doors) (g.D.Doors.door c.put.new.doors) in
-    let out = written (g.K.Sink.contents c.put.new.out) (g.T.Tape.contents c.put.new.tape) in
+    let out = gathering (g.K.Sink.contents c.put.new.out) (g.T.Tape.contents c.put.new.tape) c.put.new.self.waiting in
     let e = event_of c.args.event in
     let from = Goes (Takes e next) k in
     let first_put = c.in_ok-dropped.ensures.course first k f in
@@ -57,7 +57,7 @@ returns-clause-course g c = λ first next k f.
     let p = g.C.Served.sends first in
     let s = setting p c.args.self.now.kept in
     let w = outside (g.D.Doors.link c.put-2.new.doors) (g.D.Doors.door c.put-2.new.doors) in
-    let out = written (g.K.Sink.contents c.put-2.new.out) (g.T.Tape.contents c.put-2.new.tape) in
+    let out = gathering (g.K.Sink.contents c.put-2.new.out) (g.T.Tape.contents c.put-2.new.tape) c.put-2.new.self.waiting in
     let e = event_of c.args.event in
     let from = Goes (Takes e next) k in
     let first_put = c.in_ok-dropped.ensures.course first k f in
@@ -79,7 +79,7 @@ returns-in_err-dropped-clause-log g c = λ first opening begun t.
     let p = g.C.Served.sends first in
     let e = c.in_err-dropped.field-0.0 in
     subst (λ (r : Result (Unit {0}) ServeEnd). Logs r gives (g.C.Served.stands first c.put.new.self.core) opening p c.put.new.self.kept begun c.put.new.doors) (sym (is-err c.from_residual.result e c.from_residual.ensures.1))
-    (cut-logs e gives opening p begun c.put.new.doors c.in_err-dropped.ensures.cut (c.in_err-dropped.ensures.log first opening begun t))
+    (c.in_err-dropped.ensures.log first opening begun t)
 
 pub returns-in_err-put-clause-log : goal.returns-in_err-put-clause-log
 returns-in_err-put-clause-log g c = λ first opening begun t.
@@ -89,7 +89,7 @@ returns-in_err-put-clause-log g c = λ first opening begun t.
     let taking = subst (λ (b : Bool). IsBehind b gives (g.C.Served.stands first c.put.new.self.core) opening p c.put.new.self.kept begun c.put.new.doors) (sym c.ends_next.ensures ∙ c.if-not-ends_next.false)
     (c.in_ok-dropped.ensures.log first opening begun t) in
     subst (λ (r : Result (Unit {0}) ServeEnd). Logs r gives (g.C.Served.stands first c.put-2.new.self.core) opening p c.put-2.new.self.kept begun c.put-2.new.doors) (sym (is-err c.from_residual-in_err-put.result e c.from_residual-in_err-put.ensures.1))
-    (cut-logs e gives opening p begun c.put-2.new.doors c.in_err-put.ensures.cut (c.in_err-put.ensures.log first opening begun taking))
+    (c.in_err-put.ensures.log first opening begun taking)
 
 pub returns-then-not-ends_next-clause-log : goal.returns-then-not-ends_next-clause-log
 returns-then-not-ends_next-clause-log g c = λ first opening begun t.

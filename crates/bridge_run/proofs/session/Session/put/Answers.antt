@@ -7,29 +7,38 @@ use Rattle.gate_outside.specs.Link.{Link}
 use Rattle.bridge_run.specs.Events.{event_of}
 use Rattle.bridge_run.specs.declared.kept.Kept.{Kept}
 use Rattle.bridge_run.specs.Prescribed.{refuses}
-use Rattle.bridge_run.specs.Outside.{outside, written, faults}
+use Rattle.bridge_run.specs.Outside.{outside, Cut, gathering, faults}
 use Rattle.bridge_run.specs.declared.serve_end.ServeEnd.{ServeEnd}
+use Rattle.bridge_run.specs.declared.serve_end.ServeEnd.TheVariants.{Memory}
+use Rattle.bridge_run.specs.Log.{Logged}
 use Rattle.bridge_run.specs.inner.Follows.{HasFaults}
-use Rattle.bridge_run.proofs.Reaching.{is-err}
+use Rattle.bridge_run.proofs.lemmas.calls.Course.{is-err}
 use Rattle.bridge_run.specs.inner.Links.{wrote_if, WritesFront, closed_if}
 use Rattle.bridge_run.specs.inner.Keeping.{refusing}
-use Rattle.bridge_run.proofs.Putting.{tape-faults, cut-puts, dropped-is, put-client, put-host, put-follows, put-before, put-in_entry, put-in_client, put-in_host, put-in_lines, refusing-none}
-use Rattle.bridge_run.specs.Calls.{ends_next}
+use Rattle.bridge_run.proofs.lemmas.events.Put.{due-of, recorded-by, tape-faults, cut-puts, dropped-is, put-client, put-host, put-follows, put-before, put-in_entry, put-in_client, put-in_host, put-in_lines, refusing-none}
+use Rattle.bridge_run.specs.Calls.{put, ends_next}
 use Rattle.bridge_run.specs.inner.Logging.{WroteMore, all_if, closing}
-use Rattle.bridge_run.proofs.Logging.{has-sent, put-behind, client-kept, host-kept, dropped-down, none-part, client-part, host-part, behind-part, put-err}
+use Rattle.bridge_run.proofs.lemmas.calls.Log.{has-sent, put-behind, client-kept, host-kept, dropped-down, taking-logs, client-part, host-part, behind-part, put-err}
 use Rattle.bridge_run.proofs.session.Session.put.Goals as goal
 
 pub returns-in_err-prepare-clause-course : goal.returns-in_err-prepare-clause-course
-returns-in_err-prepare-clause-course g c = λ first k f. cut-puts _ c.from_residual.result (g.C.Served.stands first c.prepare.new.self.core) (g.C.Served.sends first) (event_of c.args.event) c.prepare.new.self.kept (outside (g.D.Doors.link c.args.doors.now) (g.D.Doors.door c.args.doors.now)) (written (g.K.Sink.contents c.args.out.now) (g.T.Tape.contents c.args.tape.now)) k c.from_residual.ensures.1 (put-before (g.C.Served.sends first) k (event_of c.args.event) (outside (g.D.Doors.link c.args.doors.now) (g.D.Doors.door c.args.doors.now)) (written (g.K.Sink.contents c.args.out.now) (g.T.Tape.contents c.args.tape.now)) f.tells)
+returns-in_err-prepare-clause-course g c = λ first k f. cut-puts _ c.from_residual.result (g.C.Served.stands first c.prepare.new.self.core) (g.C.Served.sends first) (event_of c.args.event) c.prepare.new.self.kept (outside (g.D.Doors.link c.args.doors.now) (g.D.Doors.door c.args.doors.now)) (gathering (g.K.Sink.contents c.args.out.now) (g.T.Tape.contents c.args.tape.now) c.prepare.new.self.waiting) k c.from_residual.ensures.1
+    (subst (λ (l : List ℕ). Cut (outside (g.D.Doors.link c.args.doors.now) (g.D.Doors.door c.args.doors.now)) (gathering (g.K.Sink.contents c.args.out.now) (g.T.Tape.contents c.args.tape.now) l) k (put (g.C.Served.sends first) (event_of c.args.event) k)) (sym c.prepare.ensures.waiting)
+    (put-before (g.C.Served.sends first) k (event_of c.args.event) (outside (g.D.Doors.link c.args.doors.now) (g.D.Doors.door c.args.doors.now)) (gathering (g.K.Sink.contents c.args.out.now) (g.T.Tape.contents c.args.tape.now) c.args.self.now.waiting) f.tells))
 
 pub returns-in_err-record_event-clause-course : goal.returns-in_err-record_event-clause-course
 returns-in_err-record_event-clause-course g c = λ first k f.
     let p = g.C.Served.sends first in
     let e = event_of c.args.event in
     let w = outside (g.D.Doors.link c.args.doors.now) (g.D.Doors.door c.args.doors.now) in
-    let out = (written (g.K.Sink.contents c.args.out.now) (g.T.Tape.contents c.record_event.new.tape)) in
+    let out = (gathering (g.K.Sink.contents c.args.out.now) (g.T.Tape.contents c.record_event.new.tape) c.record_event.new.waiting) in
+    let prepared = c.in_ok-prepare.ensures.prepared first k.events f.stands_for in
+    let up_client = ap (λ (k : Kept). k.client_up) c.in_ok-prepare.ensures.kept ∙ f.client_up in
+    let up_host = ap (λ (k : Kept). k.host_up) c.in_ok-prepare.ensures.kept ∙ f.host_up in
+    let left = ap (λ (k : Kept). k.left) c.in_ok-prepare.ensures.kept ∙ f.left in
+    let due = due-of p k e c.prepare.new.self.sent c.prepare.new.self.lines c.prepare.new.self.kept c.is_due-due.result prepared up_client up_host left c.is_due-due.ensures in
     cut-puts _ c.from_residual-in_err-record_event.result (g.C.Served.stands first c.prepare.new.self.core) p e c.prepare.new.self.kept w out k c.from_residual-in_err-record_event.ensures.1
-    (put-in_entry p k e c.prepare.new.self.sent c.prepare.new.self.lines w (written (g.K.Sink.contents c.args.out.now) (g.T.Tape.contents c.args.tape.now)) out (c.in_ok-prepare.ensures.prepared first k.events f.stands_for) f.tells refl c.in_err-record_event.ensures.err)
+    (put-in_entry p k e c.prepare.new.self.sent c.prepare.new.self.lines c.is_due-due.result w (gathering (g.K.Sink.contents c.args.out.now) (g.T.Tape.contents c.args.tape.now) c.args.self.now.waiting) out c.prepare.new.self.waiting prepared f.tells refl due c.in_ok-prepare.ensures.waiting c.in_err-record_event.ensures.err)
 
 pub returns-in_err-record_event-clause-faults : goal.returns-in_err-record_event-clause-faults
 returns-in_err-record_event-clause-faults g c =
@@ -50,8 +59,11 @@ returns-in_err-write_link-clause-course g c = λ first k f.
     let prepared = c.in_ok-prepare.ensures.prepared first k.events f.stands_for in
     let up_client = ap (λ (k : Kept). k.client_up) c.in_ok-prepare.ensures.kept ∙ f.client_up in
     let up_host = ap (λ (k : Kept). k.host_up) c.in_ok-prepare.ensures.kept ∙ f.host_up in
-    cut-puts _ c.from_residual-in_err-write_link.result (g.C.Served.stands first c.prepare.new.self.core) p e c.prepare.new.self.kept (outside (g.D.Doors.link c.write_link.new.doors) (g.D.Doors.door c.write_link.new.doors)) (written (g.K.Sink.contents c.args.out.now) (g.T.Tape.contents c.record_event.new.tape)) k c.from_residual-in_err-write_link.ensures.1
-    (put-in_client p k e sent lines (outside (g.D.Doors.link c.args.doors.now) (g.D.Doors.door c.args.doors.now)) (outside (g.D.Doors.link c.write_link.new.doors) (g.D.Doors.door c.write_link.new.doors)) (written (g.K.Sink.contents c.args.out.now) (g.T.Tape.contents c.args.tape.now)) (written (g.K.Sink.contents c.args.out.now) (g.T.Tape.contents c.record_event.new.tape)) c.prepare.new.self.kept.client_up prepared f.tells refl c.in_ok-record_event.ensures.ok up_client
+    let left = ap (λ (k : Kept). k.left) c.in_ok-prepare.ensures.kept ∙ f.left in
+    let due = due-of p k e c.prepare.new.self.sent c.prepare.new.self.lines c.prepare.new.self.kept c.is_due-due.result prepared up_client up_host left c.is_due-due.ensures in
+    let recorded = recorded-by p k e sent c.is_due-due.result (gathering (g.K.Sink.contents c.args.out.now) (g.T.Tape.contents c.args.tape.now) c.args.self.now.waiting) (gathering (g.K.Sink.contents c.args.out.now) (g.T.Tape.contents c.record_event.new.tape) c.record_event.new.waiting) c.prepare.new.self.waiting c.in_ok-prepare.ensures.waiting due c.in_ok-record_event.ensures.ok c.in_ok-record_event.ensures.waits in
+    cut-puts _ c.from_residual-in_err-write_link.result (g.C.Served.stands first c.prepare.new.self.core) p e c.prepare.new.self.kept (outside (g.D.Doors.link c.write_link.new.doors) (g.D.Doors.door c.write_link.new.doors)) (gathering (g.K.Sink.contents c.args.out.now) (g.T.Tape.contents c.record_event.new.tape) c.record_event.new.waiting) k c.from_residual-in_err-write_link.ensures.1
+    (put-in_client p k e sent lines c.is_due-due.result (outside (g.D.Doors.link c.args.doors.now) (g.D.Doors.door c.args.doors.now)) (outside (g.D.Doors.link c.write_link.new.doors) (g.D.Doors.door c.write_link.new.doors)) (gathering (g.K.Sink.contents c.args.out.now) (g.T.Tape.contents c.args.tape.now) c.args.self.now.waiting) (gathering (g.K.Sink.contents c.args.out.now) (g.T.Tape.contents c.record_event.new.tape) c.record_event.new.waiting) c.prepare.new.self.kept.client_up prepared f.tells refl recorded up_client
     (subst (λ (b : List ℕ). WritesFront c.prepare.new.self.kept.client_up b (g.D.Doors.link c.args.doors.now Client) (g.D.Doors.link c.write_link.new.doors Client)) c.as_slice.ensures c.in_err-write_link.ensures.link)
     c.in_err-write_link.ensures.other c.in_err-write_link.ensures.door)
 
@@ -64,9 +76,12 @@ returns-in_err-write_link-2-clause-course g c = λ first k f.
     let prepared = c.in_ok-prepare.ensures.prepared first k.events f.stands_for in
     let up_client = ap (λ (k : Kept). k.client_up) c.in_ok-prepare.ensures.kept ∙ f.client_up in
     let up_host = ap (λ (k : Kept). k.host_up) c.in_ok-prepare.ensures.kept ∙ f.host_up in
+    let left = ap (λ (k : Kept). k.left) c.in_ok-prepare.ensures.kept ∙ f.left in
+    let due = due-of p k e c.prepare.new.self.sent c.prepare.new.self.lines c.prepare.new.self.kept c.is_due-due.result prepared up_client up_host left c.is_due-due.ensures in
+    let recorded = recorded-by p k e sent c.is_due-due.result (gathering (g.K.Sink.contents c.args.out.now) (g.T.Tape.contents c.args.tape.now) c.args.self.now.waiting) (gathering (g.K.Sink.contents c.args.out.now) (g.T.Tape.contents c.record_event.new.tape) c.record_event.new.waiting) c.prepare.new.self.waiting c.in_ok-prepare.ensures.waiting due c.in_ok-record_event.ensures.ok c.in_ok-record_event.ensures.waits in
     let wrote_client = c.in_ok-write_link.ensures.link ∙ ap (λ (b : List ℕ). wrote_if c.prepare.new.self.kept.client_up b (g.D.Doors.link c.args.doors.now Client)) c.as_slice.ensures in
-    cut-puts _ c.from_residual-in_err-write_link-2.result (g.C.Served.stands first c.prepare.new.self.core) p e c.prepare.new.self.kept (outside (g.D.Doors.link c.write_link-2.new.doors) (g.D.Doors.door c.write_link-2.new.doors)) (written (g.K.Sink.contents c.args.out.now) (g.T.Tape.contents c.record_event.new.tape)) k c.from_residual-in_err-write_link-2.ensures.1
-    (put-in_host p k e sent lines (outside (g.D.Doors.link c.args.doors.now) (g.D.Doors.door c.args.doors.now)) (outside (g.D.Doors.link c.write_link-2.new.doors) (g.D.Doors.door c.write_link-2.new.doors)) (written (g.K.Sink.contents c.args.out.now) (g.T.Tape.contents c.args.tape.now)) (written (g.K.Sink.contents c.args.out.now) (g.T.Tape.contents c.record_event.new.tape)) c.prepare.new.self.kept.client_up c.prepare.new.self.kept.host_up prepared f.tells refl c.in_ok-record_event.ensures.ok up_client up_host
+    cut-puts _ c.from_residual-in_err-write_link-2.result (g.C.Served.stands first c.prepare.new.self.core) p e c.prepare.new.self.kept (outside (g.D.Doors.link c.write_link-2.new.doors) (g.D.Doors.door c.write_link-2.new.doors)) (gathering (g.K.Sink.contents c.args.out.now) (g.T.Tape.contents c.record_event.new.tape) c.record_event.new.waiting) k c.from_residual-in_err-write_link-2.ensures.1
+    (put-in_host p k e sent lines c.is_due-due.result (outside (g.D.Doors.link c.args.doors.now) (g.D.Doors.door c.args.doors.now)) (outside (g.D.Doors.link c.write_link-2.new.doors) (g.D.Doors.door c.write_link-2.new.doors)) (gathering (g.K.Sink.contents c.args.out.now) (g.T.Tape.contents c.args.tape.now) c.args.self.now.waiting) (gathering (g.K.Sink.contents c.args.out.now) (g.T.Tape.contents c.record_event.new.tape) c.record_event.new.waiting) c.prepare.new.self.kept.client_up c.prepare.new.self.kept.host_up prepared f.tells refl recorded up_client up_host
     (c.in_err-write_link-2.ensures.other ∙ wrote_client)
     (subst (λ (l : Link). WritesFront c.prepare.new.self.kept.host_up sent.to_host l (g.D.Doors.link c.write_link-2.new.doors Host)) c.in_ok-write_link.ensures.other
     (subst (λ (b : List ℕ). WritesFront c.prepare.new.self.kept.host_up b (g.D.Doors.link c.write_link.new.doors Host) (g.D.Doors.link c.write_link-2.new.doors Host)) c.as_slice-2.ensures c.in_err-write_link-2.ensures.link))
@@ -81,6 +96,9 @@ returns-in-Err-clause-course g c = λ first k f.
     let prepared = c.in_ok-prepare.ensures.prepared first k.events f.stands_for in
     let up_client = ap (λ (k : Kept). k.client_up) c.in_ok-prepare.ensures.kept ∙ f.client_up in
     let up_host = ap (λ (k : Kept). k.host_up) c.in_ok-prepare.ensures.kept ∙ f.host_up in
+    let left = ap (λ (k : Kept). k.left) c.in_ok-prepare.ensures.kept ∙ f.left in
+    let due = due-of p k e c.prepare.new.self.sent c.prepare.new.self.lines c.prepare.new.self.kept c.is_due-due.result prepared up_client up_host left c.is_due-due.ensures in
+    let recorded = recorded-by p k e sent c.is_due-due.result (gathering (g.K.Sink.contents c.args.out.now) (g.T.Tape.contents c.args.tape.now) c.args.self.now.waiting) (gathering (g.K.Sink.contents c.write_all.new.sink) (g.T.Tape.contents c.record_event.new.tape) c.record_event.new.waiting) c.prepare.new.self.waiting c.in_ok-prepare.ensures.waiting due c.in_ok-record_event.ensures.ok c.in_ok-record_event.ensures.waits in
     let rc = refuses Client sent.refusals || sent.lets_go in
     let rh = refuses Host sent.refusals in
     let wrote_client = c.in_ok-write_link.ensures.link ∙ ap (λ (b : List ℕ). wrote_if c.prepare.new.self.kept.client_up b (g.D.Doors.link c.args.doors.now Client)) c.as_slice.ensures in
@@ -94,8 +112,8 @@ returns-in-Err-clause-course g c = λ first k f.
     let door = c.close_link-2.ensures.door ∙ c.close_link.ensures.door ∙ c.in_ok-write_link-2.ensures.door ∙ c.in_ok-write_link.ensures.door in
     let shows_client = put-client p k e sent lines (g.D.Doors.link c.args.doors.now Client) (g.D.Doors.link c.close_link-2.new.doors Client) c.prepare.new.self.kept.client_up prepared f.tells.client up_client client in
     let shows_host = put-host p k e sent lines (g.D.Doors.link c.args.doors.now Host) (g.D.Doors.link c.close_link-2.new.doors Host) c.prepare.new.self.kept.host_up prepared f.tells.host up_host host in
-    put-in_lines p k e sent lines (outside (g.D.Doors.link c.args.doors.now) (g.D.Doors.door c.args.doors.now)) (outside (g.D.Doors.link c.close_link-2.new.doors) (g.D.Doors.door c.close_link-2.new.doors)) (written (g.K.Sink.contents c.args.out.now) (g.T.Tape.contents c.args.tape.now)) (written (g.K.Sink.contents c.write_all.new.sink) (g.T.Tape.contents c.record_event.new.tape)) prepared f.tells shows_client shows_host door
-    (subst (λ (b : List ℕ). AppendsFront (g.K.Sink.contents c.args.out.now) (g.K.Sink.contents c.write_all.new.sink) b) c.as_slice-3.ensures c.in-Err.ensures.err) c.in_ok-record_event.ensures.ok
+    put-in_lines p k e sent lines c.is_due-due.result (outside (g.D.Doors.link c.args.doors.now) (g.D.Doors.door c.args.doors.now)) (outside (g.D.Doors.link c.close_link-2.new.doors) (g.D.Doors.door c.close_link-2.new.doors)) (gathering (g.K.Sink.contents c.args.out.now) (g.T.Tape.contents c.args.tape.now) c.args.self.now.waiting) (gathering (g.K.Sink.contents c.write_all.new.sink) (g.T.Tape.contents c.record_event.new.tape) c.record_event.new.waiting) prepared f.tells shows_client shows_host door
+    (subst (λ (b : List ℕ). AppendsFront (g.K.Sink.contents c.args.out.now) (g.K.Sink.contents c.write_all.new.sink) b) c.as_slice-3.ensures c.in-Err.ensures.err) recorded
 
 pub returns-in-Ok-clause-course : goal.returns-in-Ok-clause-course
 returns-in-Ok-clause-course g c = λ first k f.
@@ -106,6 +124,9 @@ returns-in-Ok-clause-course g c = λ first k f.
     let prepared = c.in_ok-prepare.ensures.prepared first k.events f.stands_for in
     let up_client = ap (λ (k : Kept). k.client_up) c.in_ok-prepare.ensures.kept ∙ f.client_up in
     let up_host = ap (λ (k : Kept). k.host_up) c.in_ok-prepare.ensures.kept ∙ f.host_up in
+    let left = ap (λ (k : Kept). k.left) c.in_ok-prepare.ensures.kept ∙ f.left in
+    let due = due-of p k e c.prepare.new.self.sent c.prepare.new.self.lines c.prepare.new.self.kept c.is_due-due.result prepared up_client up_host left c.is_due-due.ensures in
+    let recorded = recorded-by p k e sent c.is_due-due.result (gathering (g.K.Sink.contents c.args.out.now) (g.T.Tape.contents c.args.tape.now) c.args.self.now.waiting) (gathering (g.K.Sink.contents c.write_all.new.sink) (g.T.Tape.contents c.record_event.new.tape) c.record_event.new.waiting) c.prepare.new.self.waiting c.in_ok-prepare.ensures.waiting due c.in_ok-record_event.ensures.ok c.in_ok-record_event.ensures.waits in
     let rc = refuses Client sent.refusals || sent.lets_go in
     let rh = refuses Host sent.refusals in
     let wrote_client = c.in_ok-write_link.ensures.link ∙ ap (λ (b : List ℕ). wrote_if c.prepare.new.self.kept.client_up b (g.D.Doors.link c.args.doors.now Client)) c.as_slice.ensures in
@@ -119,9 +140,9 @@ returns-in-Ok-clause-course g c = λ first k f.
     let door = c.close_link-2.ensures.door ∙ c.close_link.ensures.door ∙ c.in_ok-write_link-2.ensures.door ∙ c.in_ok-write_link.ensures.door in
     let shows_client = put-client p k e sent lines (g.D.Doors.link c.args.doors.now Client) (g.D.Doors.link c.close_link-2.new.doors Client) c.prepare.new.self.kept.client_up prepared f.tells.client up_client client in
     let shows_host = put-host p k e sent lines (g.D.Doors.link c.args.doors.now Host) (g.D.Doors.link c.close_link-2.new.doors Host) c.prepare.new.self.kept.host_up prepared f.tells.host up_host host in (
-      put-follows (g.C.Served.stands first c.prepare.new.self.core) p c.args.self.now.kept c.refuse.new.self (outside (g.D.Doors.link c.args.doors.now) (g.D.Doors.door c.args.doors.now)) (outside (g.D.Doors.link c.close_link-2.new.doors) (g.D.Doors.door c.close_link-2.new.doors)) (written (g.K.Sink.contents c.args.out.now) (g.T.Tape.contents c.args.tape.now)) (written (g.K.Sink.contents c.write_all.new.sink) (g.T.Tape.contents c.record_event.new.tape)) k e sent lines
+      put-follows (g.C.Served.stands first c.prepare.new.self.core) p c.args.self.now.kept c.refuse.new.self (outside (g.D.Doors.link c.args.doors.now) (g.D.Doors.door c.args.doors.now)) (outside (g.D.Doors.link c.close_link-2.new.doors) (g.D.Doors.door c.close_link-2.new.doors)) (gathering (g.K.Sink.contents c.args.out.now) (g.T.Tape.contents c.args.tape.now) c.args.self.now.waiting) (gathering (g.K.Sink.contents c.write_all.new.sink) (g.T.Tape.contents c.record_event.new.tape) c.record_event.new.waiting) k e sent lines c.is_due-due.result
           (g.C.Served.stands first c.args.self.now.core) f prepared (c.in_ok-prepare.ensures.stands first k.events f.stands_for) (c.refuse.ensures ∙ ap (refusing sent.refusals sent.lets_go) c.in_ok-prepare.ensures.kept) shows_client shows_host door
-          (subst (λ (b : List ℕ). Appends (g.K.Sink.contents c.args.out.now) (g.K.Sink.contents c.write_all.new.sink) b) c.as_slice-3.ensures c.in-Ok.ensures.ok) c.in_ok-record_event.ensures.ok,
+          (subst (λ (b : List ℕ). Appends (g.K.Sink.contents c.args.out.now) (g.K.Sink.contents c.write_all.new.sink) b) c.as_slice-3.ensures c.in-Ok.ensures.ok) recorded,
       c.drops_client-dropped.ensures ∙ dropped-is p k.events e sent lines prepared,
     )
 
@@ -140,7 +161,7 @@ returns-in_err-prepare-clause-log g c = λ first opening begun t.
     let p = g.C.Served.sends first in
     let e = event_of c.args.event in
     put-err _ c.from_residual.result gives (g.C.Served.stands first c.prepare.new.self.core) opening p e c.prepare.new.self.kept begun c.args.doors.now c.from_residual.ensures.1
-    (none-part gives (g.C.Served.stands first c.args.self.now.core) opening p e c.args.self.now.kept begun c.args.doors.now t)
+    (λ x is. subst (λ (y : ServeEnd). Logged y gives opening p begun c.args.doors.now) (sym is) (taking-logs Memory gives (g.C.Served.stands first c.args.self.now.core) opening p e c.args.self.now.kept begun c.args.doors.now tt t))
 
 pub returns-in_err-record_event-clause-log : goal.returns-in_err-record_event-clause-log
 returns-in_err-record_event-clause-log g c = λ first opening begun t.
@@ -148,7 +169,8 @@ returns-in_err-record_event-clause-log g c = λ first opening begun t.
     let p = g.C.Served.sends first in
     let e = event_of c.args.event in
     put-err _ c.from_residual-in_err-record_event.result gives (g.C.Served.stands first c.prepare.new.self.core) opening p e c.prepare.new.self.kept begun c.args.doors.now c.from_residual-in_err-record_event.ensures.1
-    (none-part gives (g.C.Served.stands first c.args.self.now.core) opening p e c.args.self.now.kept begun c.args.doors.now t)
+    (λ x is. subst (λ (y : ServeEnd). Logged y gives opening p begun c.args.doors.now) (sym is)
+    (taking-logs c.in_err-record_event.field-0.0 gives (g.C.Served.stands first c.args.self.now.core) opening p e c.args.self.now.kept begun c.args.doors.now c.in_err-record_event.ensures.cut t))
 
 pub returns-in_err-write_link-clause-log : goal.returns-in_err-write_link-clause-log
 returns-in_err-write_link-clause-log g c = λ first opening begun t.
@@ -164,7 +186,8 @@ returns-in_err-write_link-clause-log g c = λ first opening begun t.
     let same = c.in_ok-prepare.ensures.kept in
     let cut = c.in_err-write_link.ensures.log begun t.calls t.called in
     put-err _ c.from_residual-in_err-write_link.result gives (g.C.Served.stands first c.prepare.new.self.core) opening p e k1 begun c.write_link.new.doors c.from_residual-in_err-write_link.ensures.1
-    (client-part gives stands opening p e old k1 sent lines cut.0 cut.1.0 begun c.args.doors.now c.write_link.new.doors t prepared same cut.1.1.0 (sym c.as_slice.ensures ∙ cut.1.1.1) cut.1.1.2)
+    (λ x is. subst (λ (y : ServeEnd). Logged y gives opening p begun c.write_link.new.doors) (sym (is ∙ c.in_err-write_link.ensures.fault))
+    (client-part gives stands opening p e old k1 sent lines cut.0 cut.1.0 begun c.args.doors.now c.write_link.new.doors t prepared same cut.1.1.0 (sym c.as_slice.ensures ∙ cut.1.1.1) cut.1.1.2))
 
 pub returns-in_err-write_link-2-clause-log : goal.returns-in_err-write_link-2-clause-log
 returns-in_err-write_link-2-clause-log g c = λ first opening begun t.
@@ -181,7 +204,8 @@ returns-in_err-write_link-2-clause-log g c = λ first opening begun t.
     let w1 = subst (λ (b : List ℕ). WroteMore gives Client (all_if k1.client_up b) t.calls begun c.write_link.new.doors) c.as_slice.ensures (c.in_ok-write_link.ensures.log begun t.calls t.called) in
     let cut = c.in_err-write_link-2.ensures.log begun w1.behind w1.called in
     put-err _ c.from_residual-in_err-write_link-2.result gives (g.C.Served.stands first c.prepare.new.self.core) opening p e k1 begun c.write_link-2.new.doors c.from_residual-in_err-write_link-2.ensures.1
-    (host-part gives stands opening p e old k1 sent lines cut.0 cut.1.0 begun c.args.doors.now c.write_link.new.doors c.write_link-2.new.doors t prepared same cut.1.1.0 (sym c.as_slice-2.ensures ∙ cut.1.1.1) w1 cut.1.1.2)
+    (λ x is. subst (λ (y : ServeEnd). Logged y gives opening p begun c.write_link-2.new.doors) (sym (is ∙ c.in_err-write_link-2.ensures.fault))
+    (host-part gives stands opening p e old k1 sent lines cut.0 cut.1.0 begun c.args.doors.now c.write_link.new.doors c.write_link-2.new.doors t prepared same cut.1.1.0 (sym c.as_slice-2.ensures ∙ cut.1.1.1) w1 cut.1.1.2))
 
 pub returns-in-Err-clause-log : goal.returns-in-Err-clause-log
 returns-in-Err-clause-log g c = λ first opening begun t.

@@ -1,18 +1,20 @@
 use Rattle.std.proofs.Common.{Ok, Err, refl, ◌∙◌, arith}
 use Rattle.bridge_run.specs.Course.{AtDoor}
 use Rattle.bridge_run.specs.Calls.{Goes}
-use Rattle.bridge_run.specs.Outside.{outside, written, faults}
+use Rattle.bridge_run.specs.Outside.{outside, gathering, faults}
 use Rattle.bridge_run.specs.inner.Follows.{setting}
-use Rattle.bridge_run.proofs.Reaching.{reaches-none}
-use Rattle.bridge_run.proofs.Resting.{faults-then, no-fault, goes-on}
-use Rattle.bridge_run.proofs.Idling.{waited-none, waited-more, reason}
+use Rattle.bridge_run.proofs.lemmas.calls.Course.{reaches-none}
+use Rattle.bridge_run.proofs.lemmas.events.Rest.{faults-then, no-fault, goes-on}
+use Rattle.bridge_run.proofs.lemmas.events.Gather.{leaves-written}
+use Rattle.bridge_run.proofs.lemmas.calls.Idle.{waited-none, waited-more, reason}
 use Rattle.bridge_run.proofs.session.Session.run.Goals as goal
 
 pub returns-in-Err-clause-course : goal.returns-in-Err-clause-course
 returns-in-Err-clause-course g c = λ first k f.
     let a = c.rounds.invariant.comes first k f in
-    goes-on {T = Unit {0}} (Err c.in-Err.end) (g.C.Served.stands first c.rounds.self.core) (g.C.Served.stands first c.round.new.self.core) (g.C.Served.sends first) c.args.self.now.kept c.rounds.self.kept c.round.new.self.kept (outside (g.D.Doors.link c.rounds.doors) (g.D.Doors.door c.rounds.doors)) (outside (g.D.Doors.link c.round.new.doors) (g.D.Doors.door c.round.new.doors))
-    (written (g.K.Sink.contents c.rounds.out) (g.T.Tape.contents c.rounds.tape)) (written (g.K.Sink.contents c.round.new.out) (g.T.Tape.contents c.round.new.tape)) (Goes AtDoor k) AtDoor AtDoor a c.rounds.invariant.idle (c.in-Err.ensures.course first a.course a.follows)
+    leaves-written c.in-Err.end (setting (g.C.Served.sends first) c.args.self.now.kept) AtDoor k (outside (g.D.Doors.link c.round.new.doors) (g.D.Doors.door c.round.new.doors)) (g.K.Sink.contents c.round.new.out) (g.T.Tape.contents c.round.new.tape) c.round.new.self.waiting
+    (goes-on {T = Unit {0}} (Err c.in-Err.end) (g.C.Served.stands first c.rounds.self.core) (g.C.Served.stands first c.round.new.self.core) (g.C.Served.sends first) c.args.self.now.kept c.rounds.self.kept c.round.new.self.kept (outside (g.D.Doors.link c.rounds.doors) (g.D.Doors.door c.rounds.doors)) (outside (g.D.Doors.link c.round.new.doors) (g.D.Doors.door c.round.new.doors))
+    (gathering (g.K.Sink.contents c.rounds.out) (g.T.Tape.contents c.rounds.tape) c.rounds.self.waiting) (gathering (g.K.Sink.contents c.round.new.out) (g.T.Tape.contents c.round.new.tape) c.round.new.self.waiting) (Goes AtDoor k) AtDoor AtDoor a c.rounds.invariant.idle (c.in-Err.ensures.course first a.course a.follows))
 
 pub rounds-preserved : goal.rounds-preserved
 rounds-preserved g c = record {
@@ -25,7 +27,7 @@ rounds-preserved g c = record {
   comes = λ first k f.
       let a = c.rounds.invariant.comes first k f in
       goes-on {T = Unit {0}} (Ok tt) (g.C.Served.stands first c.rounds.self.core) (g.C.Served.stands first c.round.new.self.core) (g.C.Served.sends first) c.args.self.now.kept c.rounds.self.kept c.round.new.self.kept (outside (g.D.Doors.link c.rounds.doors) (g.D.Doors.door c.rounds.doors)) (outside (g.D.Doors.link c.round.new.doors) (g.D.Doors.door c.round.new.doors))
-      (written (g.K.Sink.contents c.rounds.out) (g.T.Tape.contents c.rounds.tape)) (written (g.K.Sink.contents c.round.new.out) (g.T.Tape.contents c.round.new.tape)) (Goes AtDoor k) AtDoor AtDoor a c.rounds.invariant.idle (c.in_default.ensures.course first a.course a.follows);
+      (gathering (g.K.Sink.contents c.rounds.out) (g.T.Tape.contents c.rounds.tape) c.rounds.self.waiting) (gathering (g.K.Sink.contents c.round.new.out) (g.T.Tape.contents c.round.new.tape) c.round.new.self.waiting) (Goes AtDoor k) AtDoor AtDoor a c.rounds.invariant.idle (c.in_default.ensures.course first a.course a.follows);
   log = λ first opening begun a. c.in_default.ensures.log first opening begun (c.rounds.invariant.log first opening begun a);
 }
 

@@ -1,6 +1,6 @@
 use Rattle.std.proofs.Common.{◌∷◌}
 use Rattle.std.proofs.Math.Logic.{∥∥₁_map}
-use Rattle.gate_history.specs.Events.{event_of}
+use Rattle.gate_history.specs.step.Events.{event_of}
 use Rattle.gate_core.proofs.gate.Gate.take.Goals as goal
 
 -- it stands for one event more

@@ -1,6 +1,6 @@
 use Rattle.std.proofs.Common.{rules, sym, subst}
-use Rattle.gate_history.specs.Carried.{IsRequest}
-use Rattle.gate_history.proofs.Carried.{is_request}
+use Rattle.gate_history.specs.client.Carried.{IsRequest}
+use Rattle.gate_history.proofs.lemmas.client.Carried.{is_request}
 use Rattle.gate_history.proofs.request.Request.of.Goals as goal
 
 pub returns-clause-whole : goal.returns-clause-whole

@@ -2,8 +2,8 @@ use Rattle.std.proofs.Common.{◌==◌, ℕ, sym, subst}
 use Rattle.std.proofs.lemmas.Bool.{eqb-true}
 use Rattle.redir_wire.specs.Header.{is_wide, IdFits}
 use Rattle.std.specs.Prelude.{false}
-use Rattle.redir_host.specs.Queues.{is_cancelled_by, is_data}
-use Rattle.redir_host.proofs.Sounds.{found_passes, second}
+use Rattle.redir_host.specs.state.Queues.{is_cancelled_by, is_data}
+use Rattle.redir_host.proofs.lemmas.state.Each.{found_passes, second}
 use Rattle.redir_host.proofs.host.Host.cancel.Goals as goal
 
 pub write_cancelled-requires : goal.write_cancelled-requires

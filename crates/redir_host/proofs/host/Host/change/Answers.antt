@@ -1,7 +1,7 @@
 use Rattle.std.proofs.Common.{Ok, Err}
 use Rattle.std.specs.Prelude.{Result, OnOk}
 use Rattle.std.proofs.lemmas.Result.{on_ok_weaker}
-use Rattle.redir_host.proofs.Makings.{tells_changed}
+use Rattle.redir_host.proofs.lemmas.step.Makes.{tells_changed}
 use Rattle.redir_host.proofs.host.Host.change.Goals as goal
 
 both : {T E : Type 0} (r : Result T E) (A B : Type 0) → OnOk r A → OnOk r B → OnOk r (A × B)

@@ -2,9 +2,9 @@ use Rattle.std.proofs.Common.{sym, subst}
 use Rattle.std.specs.Prelude.{Option, OnOk}
 use Rattle.std.proofs.lemmas.Result.{on_ok_weaker}
 use Rattle.control_route.specs.declared.route.Route.{Route}
-use Rattle.redir_host.specs.Makes.{Tells}
-use Rattle.redir_host.specs.Performing.{done_by}
-use Rattle.redir_host.proofs.Makings.{tells_answer, tells_change}
+use Rattle.redir_host.specs.step.Makes.{Tells}
+use Rattle.redir_host.specs.device.Performing.{done_by}
+use Rattle.redir_host.proofs.lemmas.step.Makes.{tells_answer, tells_change}
 use Rattle.redir_host.proofs.host.Host.finish.Goals as goal
 
 pub returns-in_ok-change-in-Some-clause-ok : goal.returns-in_ok-change-in-Some-clause-ok

@@ -3,10 +3,10 @@ use Rattle.std.proofs.lemmas.Bool.{eqb-true}
 use Rattle.usb_base.specs.Endpoint.{is_in_endpoint}
 use Rattle.usb_base.specs.declared.transfer.StreamPacket.{StreamPacket}
 use Rattle.redir_data.specs.declared.packet.RedirPacket.{RedirPacket}
-use Rattle.redir_host.specs.Packets.{runs_at}
-use Rattle.redir_host.specs.Sound.{CanTell, IsRunning}
-use Rattle.redir_host.proofs.Sounds.{each_found, given_if}
-use Rattle.redir_host.proofs.Telling.{stream_told}
+use Rattle.redir_host.specs.guest.Packets.{runs_at}
+use Rattle.redir_host.specs.state.Sound.{CanTell, IsRunning}
+use Rattle.redir_host.proofs.lemmas.state.Each.{each_found, given_if}
+use Rattle.redir_host.proofs.lemmas.write.Facts.{stream_told}
 use Rattle.redir_host.proofs.host.Host.offer.Goals as goal
 
 pub write-requires : goal.write-requires

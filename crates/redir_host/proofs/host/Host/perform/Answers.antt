@@ -2,7 +2,7 @@ use Rattle.std.proofs.Common.{◌≡◌, true, false, get_or, sym, subst}
 use Rattle.std.specs.Prelude.{Option, IfSome}
 use Rattle.std.proofs.lemmas.Result.{IfOk-weaker}
 use Rattle.redir_host.specs.declared.request.Request.{Request}
-use Rattle.redir_host.proofs.Makings.{first_done, first_none, found_here, on_ok_from}
+use Rattle.redir_host.proofs.lemmas.step.Makes.{first_done, first_none, found_here, on_ok_from}
 use Rattle.redir_host.proofs.host.Host.perform.Goals as goal
 
 pub perform_marked-requires-clause-marked : goal.perform_marked-requires-clause-marked

@@ -1,6 +1,6 @@
 use Rattle.std.proofs.lemmas.Result.{on_ok_weaker}
 use Rattle.control_route.specs.declared.route.Route.TheVariants as route
-use Rattle.redir_host.proofs.Makings.{changed_sound, changed_request, reset_behind, reset_request, reset_sound}
+use Rattle.redir_host.proofs.lemmas.step.Makes.{changed_sound, changed_request, reset_behind, reset_request, reset_sound}
 use Rattle.redir_host.proofs.host.Host.perform_behind_reset.Goals as goal
 
 pub perform_now-requires-clause-sound : goal.perform_now-requires-clause-sound

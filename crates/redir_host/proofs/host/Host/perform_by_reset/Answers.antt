@@ -1,5 +1,5 @@
 use Rattle.std.proofs.lemmas.Result.{on_ok_weaker}
-use Rattle.redir_host.proofs.Makings.{reset_alone, reset_outcome}
+use Rattle.redir_host.proofs.lemmas.step.Makes.{reset_alone, reset_outcome}
 use Rattle.redir_host.proofs.host.Host.perform_by_reset.Goals as goal
 
 pub finish-requires-clause-outcome : goal.finish-requires-clause-outcome

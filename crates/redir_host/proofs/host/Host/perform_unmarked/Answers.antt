@@ -3,11 +3,25 @@ use Rattle.std.specs.List.{slice_get, remove}
 use Rattle.model_device.specs.Meaning.{given_in, state_in}
 use Rattle.redir_host.specs.declared.note.Performed.TheVariants.{Done}
 use Rattle.redir_host.specs.declared.request.Request.{Request}
-use Rattle.redir_host.specs.Makes.{Performs, Tells}
-use Rattle.redir_host.specs.Performing.{done_by, performs, with_id}
-use Rattle.redir_host.specs.Sound.{IsRequest}
-use Rattle.redir_host.proofs.Makings.{each_at, outcome_is, performed_is, performs_done, performs_none, not_ready, read_is, some_same}
+use Rattle.redir_host.specs.step.Makes.{Performs, Tells}
+use Rattle.redir_host.specs.device.Performing.{done_by, performs, with_id}
+use Rattle.redir_host.specs.state.Sound.{Each, IsRequest}
+use Rattle.redir_host.proofs.lemmas.state.Each.{each_removed}
+use Rattle.redir_host.proofs.lemmas.step.Makes.{each_at, outcome_is, performed_is, performs_done, performs_none, not_ready, read_is, some_same}
 use Rattle.redir_host.proofs.host.Host.perform_unmarked.Goals as goal
+
+pub finish-requires-clause-sound : goal.finish-requires-clause-sound
+finish-requires-clause-sound g c =
+    let h = c.args.self.now in
+    record {
+      requests = subst (Each (IsRequest h.guest)) (sym c.remove-request.ensures.rest) (each_removed (IsRequest h.guest) h.queue c.args.place c.requires.sound.requests);
+      streams = c.requires.sound.streams;
+    }
+
+pub finish-requires-clause-request : goal.finish-requires-clause-request
+finish-requires-clause-request g c =
+    let h = c.args.self.now in
+    each_at (IsRequest h.guest) h.queue c.args.place c.remove-request.result c.requires.sound.requests c.remove-request.ensures.request
 
 pub finish-requires-clause-outcome : goal.finish-requires-clause-outcome
 finish-requires-clause-outcome g c =

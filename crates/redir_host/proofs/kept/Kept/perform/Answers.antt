@@ -1,5 +1,5 @@
 use Rattle.std.proofs.Common.{refl}
-use Rattle.redir_host.proofs.Standing.{stands-performed}
+use Rattle.redir_host.proofs.lemmas.step.Stands.{stands-performed}
 use Rattle.redir_host.specs.inner.Views.{kept_of}
 use Rattle.redir_host.proofs.kept.Kept.perform.Goals as goal
 

@@ -1,8 +1,8 @@
 use Rattle.std.proofs.Common.{◌++◌, refl, sym, ◌∙◌, arith}
-use Rattle.redir_host.specs.Acts.{guest_bytes}
-use Rattle.redir_host.specs.Guest.{guest_split}
-use Rattle.redir_host.proofs.Ends.{on-err, over-piece, all-taken, wrong-told, stops-packet, stops-note}
-use Rattle.redir_host.proofs.Pieces.{before}
+use Rattle.redir_host.specs.step.Acts.{guest_bytes}
+use Rattle.redir_host.specs.guest.Guest.{guest_split}
+use Rattle.redir_host.proofs.lemmas.guest.PieceEnds.{on-err, over-piece, all-taken, wrong-told, stops-packet, stops-note}
+use Rattle.redir_host.proofs.lemmas.guest.Pieces.{before}
 use Rattle.redir_host.specs.inner.Views.{kept_of}
 use Rattle.redir_host.proofs.kept.Kept.take.Goals as goal
 

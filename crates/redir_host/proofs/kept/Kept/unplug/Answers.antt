@@ -1,6 +1,6 @@
 use Rattle.std.proofs.Common.{refl}
 use Rattle.std.proofs.lemmas.Result.{on_ok_weaker}
-use Rattle.redir_host.proofs.Standing.{stands-unplugged}
+use Rattle.redir_host.proofs.lemmas.step.Stands.{stands-unplugged}
 use Rattle.redir_host.specs.inner.Views.{kept_of}
 use Rattle.redir_host.proofs.kept.Kept.unplug.Goals as goal
 

@@ -3,9 +3,9 @@ use Rattle.std.specs.Prelude.{Option}
 use Rattle.std.specs.List.{position, list_any}
 use Rattle.redir_host.specs.declared.queue.Cancelled.{Cancelled}
 use Rattle.redir_host.specs.declared.request.Request.{Request}
-use Rattle.redir_host.specs.Cancels.{Cancels, Took}
-use Rattle.redir_host.specs.Queues.{is_cancelled_by, is_first_queue}
-use Rattle.redir_host.proofs.Firsts.{took_none, took-cancelled, passed_mark}
+use Rattle.redir_host.specs.guest.Cancels.{Cancels, Took}
+use Rattle.redir_host.specs.state.Queues.{is_cancelled_by, is_first_queue}
+use Rattle.redir_host.proofs.lemmas.state.Firsts.{took_none, took-cancelled, passed_mark}
 use Rattle.redir_host.proofs.queue.Queue.cancel.Goals as goal
 use Rattle.redir_host.proofs.queue.Queue.cancel.Goals.{then-request, else-request}
 

@@ -1,6 +1,6 @@
 use Rattle.std.proofs.Common.{◌∙◌, ap, filter, rules}
 use Rattle.std.proofs.lemmas.Fn.{filter_same}
-use Rattle.redir_host.specs.Changes.{stays}
+use Rattle.redir_host.specs.device.Changes.{stays}
 use Rattle.redir_host.proofs.queue.Queue.flush.Goals as goal
 
 pub returns : goal.returns

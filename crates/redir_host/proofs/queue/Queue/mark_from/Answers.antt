@@ -3,8 +3,8 @@ use Rattle.std.specs.Prelude.{Option}
 use Rattle.std.specs.List.{position, list_any}
 use Rattle.std.proofs.lemmas.List.{take_rest}
 use Rattle.redir_host.specs.declared.request.Request.{Request}
-use Rattle.redir_host.specs.Queues.{is_first_queue, with_first_marked}
-use Rattle.redir_host.proofs.Firsts.{is_some-position, mark_rest, mark_none}
+use Rattle.redir_host.specs.state.Queues.{is_first_queue, with_first_marked}
+use Rattle.redir_host.proofs.lemmas.state.Firsts.{is_some-position, mark_rest, mark_none}
 use Rattle.redir_host.proofs.queue.Queue.mark_from.Goals as goal
 
 behind_place : (slice own : List Request) (place : ℕ) (r : Option ℕ) → slice ≡ own → r ≡ position is_first_queue (take (length slice - place) (drop place slice)) → position is_first_queue (drop place own) ≡ r

@@ -1,7 +1,7 @@
 use Rattle.std.proofs.Common.{◌∙◌, ap, not, List, ◌++◌, ◌∷◌, [], rules}
 use Rattle.std.proofs.lemmas.Fn.{filter_same}
 use Rattle.redir_host.specs.declared.running.Running.{Running}
-use Rattle.redir_host.specs.Packets.{runs_at, stopped}
+use Rattle.redir_host.specs.guest.Packets.{runs_at, stopped}
 use Rattle.redir_host.proofs.running.Streams.start.Goals as goal
 
 pub returns-clause-ok : goal.returns-clause-ok

@@ -1,6 +1,6 @@
 use Rattle.std.proofs.Common.{◌∙◌, ap, not, rules}
 use Rattle.std.proofs.lemmas.Fn.{filter_same}
-use Rattle.redir_host.specs.Packets.{runs_at, stopped}
+use Rattle.redir_host.specs.guest.Packets.{runs_at, stopped}
 use Rattle.redir_host.proofs.running.Streams.stop.Goals as goal
 
 pub returns : goal.returns

@@ -1,23 +1,26 @@
-use Rattle.std.proofs.Common.{◌≡◌, ◌∙◌, sym, refl, Some}
-use Rattle.unlink_race.proofs.Tables.{found_at, has_key, changed, indexed}
+use Rattle.std.proofs.Common.{◌≡◌, sym, refl, ◌∙◌, Some}
+use Rattle.unlink_race.specs.Unlinking.{unlinked_by}
+use Rattle.unlink_race.proofs.Tables.{found_at, read_at, changed, indexed, rising}
 use Rattle.unlink_race.proofs.Indexes.{index_changed}
 use Rattle.unlink_race.proofs.table.Table.mark.Goals as goal
 
-pub index_mut-requires : goal.index_mut-requires
-index_mut-requires c = has_key c.self.invariant.0 c.self.view_is c.args.place c.index.result.now c.requires c.index.ensures
-
 pub invariant_of-self : goal.invariant_of-self
 invariant_of-self c =
-    let there = found_at c.self.invariant.0 c.self.view_is c.args.place c.index.result.now c.requires c.index.ensures in
-    let made = changed c.self.invariant.0 c.self.view_is c.args.place c.index.result.now c.index_mut.result.now _ c.requires c.index.ensures c.index_mut.ensures.value refl refl refl in (
+    let found = found_at c.self.invariant.0 c.self.view_is c.args.place c.index.result.now c.requires c.index.ensures in
+    let marked = unlinked_by c.args.by found.0.1 in
+    let made = changed c.self.invariant.0 c.self.view_is c.mark.new.arena c.args.place c.index.result.now found.0 marked c.requires c.index.ensures found.1 (c.mark.ensures found.0 found.1) refl refl refl in
+    let was = read_at c.self.invariant.0 c.self.view_is c.args.place c.index.result.now found.0 c.requires c.index.ensures found.1 in (
       made.0,
       c.self.invariant.1,
-      indexed (sym made.1) (index_changed (indexed c.self.view_is c.self.invariant.2) c.args.place c.index_mut.result.now _ (sym there ∙ c.index_mut.ensures.value) refl refl refl),
+      indexed (sym made.1) (index_changed (indexed c.self.view_is c.self.invariant.2) c.args.place found.0.1 marked was refl refl refl),
+      rising _ made.2 c.self.invariant.3,
     )
 
 pub returns : goal.returns
 returns c =
     λ live is.
-    let same : Some live ≡ Some c.index_mut.result.now = sym is ∙ sym (found_at c.self.invariant.0 c.self.view_is c.args.place c.index.result.now c.requires c.index.ensures) ∙ c.index_mut.ensures.value in
-    let one : live ≡ c.index_mut.result.now = cc in
-    rw one (changed c.self.invariant.0 c.self.view_is c.args.place c.index.result.now c.index_mut.result.now _ c.requires c.index.ensures c.index_mut.ensures.value refl refl refl).1
+    let found = found_at c.self.invariant.0 c.self.view_is c.args.place c.index.result.now c.requires c.index.ensures in
+    let was = read_at c.self.invariant.0 c.self.view_is c.args.place c.index.result.now found.0 c.requires c.index.ensures found.1 in
+    let same : Some live ≡ Some found.0.1 = sym is ∙ was in
+    let one : live ≡ found.0.1 = cc in
+    rw one (changed c.self.invariant.0 c.self.view_is c.mark.new.arena c.args.place c.index.result.now found.0 (unlinked_by c.args.by found.0.1) c.requires c.index.ensures found.1 (c.mark.ensures found.0 found.1) refl refl refl).1

@@ -1,0 +1,64 @@
+-- Small runs of the calls, worked out by hand: what is served sends each piece of a client back to it.
+use Rattle.std.proofs.Common.{◌≡◌, ℕ, true, false, List, [], ◌∷◌, ◌++◌, None, refl}
+use Rattle.gate_outside.specs.declared.turn.Turn.{Turn}
+use Rattle.gate_outside.specs.declared.turn.Turn.TheVariants.{Piece, Wait}
+use Rattle.bridge_run.specs.Events.{Event, ClientComes, ClientPiece, ClientQuiet, ClientEnd, HostPiece, HostEnd}
+use Rattle.bridge_run.specs.declared.serve_end.ServeEnd.TheVariants.{Ended}
+use Rattle.bridge_run.specs.Course.{Setting, Course, Making}
+use Rattle.bridge_run.specs.Recorded.{lines_of}
+use Rattle.bridge_run.specs.Calls.{Goes, Stops, calls}
+
+abbrev echo : List Event → List ℕ
+echo [] = []
+echo (ClientComes ∷ events) = echo events
+echo (ClientPiece b ∷ events) = echo events ++ b
+echo (ClientQuiet ∷ events) = echo events
+echo (ClientEnd ∷ events) = echo events
+echo (HostPiece b ∷ events) = echo events ++ b
+echo (HostEnd ∷ events) = echo events
+
+abbrev toy : ℕ → Setting
+toy idle = record { served = record { to_client = echo; to_host = λ events. 9 ∷ []; refusals = λ events. []; lets_go = λ events. false }; idle = idle }
+
+abbrev start : ℕ → List (List Turn) → List Turn → Course
+start idle clients host = record {
+  events = [];
+  client_up = false;
+  host_up = false;
+  client = [];
+  clients = clients;
+  host = host;
+  busy = false;
+  waits = idle;
+  left = 99;
+  to_client = [];
+  to_host = [];
+  told = [];
+  recorded = [];
+  waiting = [];
+}
+
+-- an event's lines are put behind those before it
+abbrev behind : List ℕ → Event → List ℕ
+behind lines e = lines ++ lines_of e []
+
+-- A host's three pieces and its end, and a client's one, behind which it waits once. Each piece is sent to the client, and
+-- so is recorded at once; a client's end waits for the next.
+toy-ended : calls (toy 5) 24 (Goes Making (start 5 ((Piece (7 ∷ []) ∷ Wait ∷ []) ∷ []) (Piece (1 ∷ []) ∷ Piece (2 ∷ []) ∷ Piece (3 ∷ []) ∷ [])))
+    ≡ Stops (Ended None) (record {
+      events = HostEnd ∷ HostPiece (3 ∷ []) ∷ ClientEnd ∷ HostPiece (2 ∷ []) ∷ ClientQuiet ∷ HostPiece (1 ∷ []) ∷ ClientPiece (7 ∷ []) ∷ ClientComes ∷ [];
+      client_up = false;
+      host_up = false;
+      client = [];
+      clients = [];
+      host = [];
+      busy = true;
+      waits = 5;
+      left = 94;
+      to_client = 7 ∷ 1 ∷ 2 ∷ [];
+      to_host = 9 ∷ [];
+      told = [];
+      recorded = behind ((behind (behind (behind (behind (behind [] ClientComes) (ClientPiece (7 ∷ []))) (HostPiece (1 ∷ []))) ClientQuiet) (HostPiece (2 ∷ [])) ++ []) ++ (lines_of ClientEnd [] ++ lines_of (HostPiece (3 ∷ [])) [])) HostEnd;
+      waiting = [];
+    })
+toy-ended = refl

@@ -1,0 +1,39 @@
+-- What an event of a gate sends, by what its gate has gained.
+use Rattle.std.proofs.Common.{◌≡◌, ℕ, ◌||◌, Bool, List, [], ◌∷◌, ◌++◌, length, Option, Some, sym, ap, ◌∙◌}
+use Rattle.std.specs.List.{flat_map}
+use Rattle.std.proofs.lemmas.Grind.{flat_map-append}
+use Rattle.usb_base.specs.declared.refusal.Refusal.{Refusal}
+use Rattle.gate_history.specs.declared.note.Note.{Note}
+use Rattle.gate_history.specs.step.Events.{Event as GateEvent}
+use Rattle.gate_history.specs.Headline.{client_output, host_output, notes as told_notes, Gains}
+use Rattle.gate_core.specs.state.Kept.{GateKept}
+use Rattle.gate_core.specs.step.Stands.{Takes}
+use Rattle.bridge_run.specs.declared.after_loss.AfterLoss.{AfterLoss}
+use Rattle.bridge_run.specs.declared.sent.Sent.{Sent}
+use Rattle.bridge_run.specs.Events.{Event}
+use Rattle.bridge_run.specs.Gate.{gate_event, gate_events, gate_notes, gate_sends, lets_go, put_on, refusal_in}
+use Rattle.bridge_run.specs.Prescribed.{gained}
+use Rattle.bridge_run.specs.inner.Sends.{Sends}
+use Rattle.bridge_run.proofs.lemmas.events.Acts.{gained-is}
+
+-- of an output that has gained as much
+gained-of : (all : List Event → List ℕ) (past : List Event) (e : Event) (old new after : List ℕ) → all (e ∷ past) ≡ after → Gains old new (all past) after → new ≡ old ++ gained all past e
+gained-of all past e old new after is g = g.new-is ∙ ap (λ (l : List ℕ). old ++ l) (sym (gained-is (all past) g.more (all (e ∷ past)) (is ∙ g.after-is)))
+
+pub gate-sends : (setting was : AfterLoss) (first : ℕ) (past : List Event) (e : Event) (ge : GateEvent) (kept : GateKept) (old : Sent) (client host : List ℕ) (refusals : List Refusal) (gone : Bool) (notes : List Note)
+    → gate_event e ≡ Some ge → Takes first kept (gate_events past) ge old.to_client client old.to_host host notes → refusals ≡ old.refusals ++ flat_map refusal_in notes → gone ≡ lets_go was notes → was ≡ setting
+    → Sends (gate_sends setting first) past e old (record { to_client = client; to_host = host; refusals = refusals; lets_go = old.lets_go || gone })
+gate-sends setting was first past e ge kept old client host refusals gone notes is t pushed goes same =
+    let p = gate_sends setting first in
+    let came : gate_events (e ∷ past) ≡ ge ∷ gate_events past = ap (λ (o : Option GateEvent). put_on o (gate_events past)) is in
+    let told : gate_notes first (e ∷ past) ≡ gate_notes first past ++ notes = ap (told_notes first) came ∙ t.told in
+    let told_is : gained (gate_notes first) past e ≡ notes = gained-is (gate_notes first past) notes (gate_notes first (e ∷ past)) told in
+    let refused : p.refusals (e ∷ past) ≡ p.refusals past ++ flat_map refusal_in notes = ap (flat_map refusal_in) told ∙ flat_map-append refusal_in (gate_notes first past) notes in
+    let refused_is : gained p.refusals past e ≡ flat_map refusal_in notes = gained-is (p.refusals past) (flat_map refusal_in notes) (p.refusals (e ∷ past)) refused in
+    record {
+      client = gained-of p.to_client past e old.to_client client (client_output first (ge ∷ gate_events past)) (ap (client_output first) came) t.client;
+      host = gained-of p.to_host past e old.to_host host (host_output first (ge ∷ gate_events past)) (ap (host_output first) came) t.host;
+      refusals = pushed ∙ ap (λ (l : List Refusal). old.refusals ++ l) (sym refused_is);
+      lets_go = ap (λ (b : Bool). old.lets_go || b) (goes ∙ ap (λ (s : AfterLoss). lets_go s notes) same ∙ ap (lets_go setting) (sym told_is));
+      grows = refused ∙ ap (λ (l : List Refusal). p.refusals past ++ l) (sym refused_is);
+    }

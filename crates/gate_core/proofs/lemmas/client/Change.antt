@@ -1,0 +1,158 @@
+-- What a change of the device's interfaces makes of what is kept, and what it sends and tells: the requests that wait
+-- for streams which it touches end with it.
+use Rattle.std.proofs.Common.{◌≡◌, ℕ, ◌+◌, ◌^◌, ◌-◌, ◌<◌, ◌≤◌, eqb, Bool, true, false, cond, not, List, [], ◌∷◌, ◌++◌, length, map, Option, Some, None, refl, sym, ap, ◌∙◌, arith}
+use Rattle.std.specs.Prelude.{filter, zip}
+use Rattle.std.specs.List.{flat_map}
+use Rattle.std.proofs.lemmas.List.{append-nil, map-append}
+use Rattle.std.proofs.lemmas.Grind.{flat_map-append}
+use Rattle.usbip_urb.specs.declared.packet.UrbPacket.{UrbPacket}
+use Rattle.usbip_urb.specs.declared.client.ClientPacket.TheVariants.{Urb}
+use Rattle.usbip_urb.specs.ClientPackets.{client_spelling}
+use Rattle.redir_data.specs.declared.packet.RedirPacket.{RedirPacket}
+use Rattle.control_route.specs.declared.route.Route.{Route}
+use Rattle.unlink_race.specs.declared.live.Live.{Live}
+use Rattle.unlink_race.specs.declared.live.StreamEnd.TheVariants.{Change}
+use Rattle.unlink_race.specs.Searches.{touched_by}
+use Rattle.gate_history.specs.declared.note.Note.{Note}
+use Rattle.gate_history.specs.declared.note.Note.TheVariants as note
+use Rattle.gate_core.specs.declared.state.kept.Kept.{Kept}
+use Rattle.gate_history.specs.step.Items.{capped}
+use Rattle.gate_history.specs.write.Errno.{eshutdown}
+use Rattle.gate_history.specs.client.Requests.{Request}
+use Rattle.gate_history.specs.client.Verdict.{Routed}
+use Rattle.gate_history.specs.step.Marks.{Submission, Effect, Opens}
+use Rattle.gate_history.specs.client.Submits.{Pending, ByChange, at_once, touches_stream, ends}
+use Rattle.gate_history.specs.state.Ids.{last_of}
+use Rattle.gate_history.specs.state.Ups.{lower, is_ended}
+use Rattle.gate_history.specs.state.Calls.{called}
+use Rattle.gate_history.specs.state.State.{State}
+use Rattle.gate_history.specs.write.Packets.{packets_of}
+use Rattle.gate_history.specs.step.Meaning.{mark_as, drawn_for, submission}
+use Rattle.gate_history.specs.state.Sound.{IsSound}
+use Rattle.gate_history.specs.write.Answers.{without_packets, answers_at}
+use Rattle.gate_history.specs.write.Output.{fresh}
+use Rattle.gate_history.specs.write.Notes.{answer_notes}
+use Rattle.gate_history.specs.write.All.{is_ret_submit, is_won_unlink}
+use Rattle.gate_history.specs.write.Bytes.{host_packet_bytes}
+use Rattle.gate_history.specs.step.Machine.{live_after}
+use Rattle.gate_parts.specs.state.Rows.{row, unmarked, left_row, row_request, ended_bytes}
+use Rattle.gate_core.specs.inner.Holds.{Holds, Does}
+use Rattle.gate_history.proofs.lemmas.Lists.{Each, Each-weaker, filter-all, filter-map, filter-same}
+use Rattle.gate_core.proofs.lemmas.host.Loss.{capped-same}
+use Rattle.gate_history.proofs.lemmas.step.NoCancel.{none-cancelled, stays-uncancelled}
+use Rattle.gate_history.proofs.lemmas.step.Effects.{change-left, change-noted, change-dropped}
+use Rattle.gate_core.proofs.lemmas.client.WaitRows.{IsGoing, each-mapped, all-going, touched-row}
+use Rattle.gate_core.proofs.lemmas.state.RequestEnds.{EndsSo, ends-so, ended_packets, ended-bytes, counted-all, counted-none}
+
+other-place : (n m : ℕ) → m < n → eqb n m ≡ false
+other-place n m h = grind arith
+
+own-place : (n : ℕ) → eqb n n ≡ true
+own-place n = grind arith
+
+each-two : {X : Type 0} (P Q R : X → Type 0) → ((x : X) → P x → Q x → R x) → (xs : List X) → Each P xs → Each Q xs → Each R xs
+each-two P Q R f [] h k = tt
+each-two P Q R f (x ∷ xs) h k = (f x h.0 k.0, each-two P Q R f xs h.1 k.1)
+
+module _ (st : State) (sound : IsSound st) (q : Request) (r : Route) where
+  abbrev pub change : Submission
+  change = submission st q (Routed r) (drawn_for st q (Routed r))
+
+  abbrev e : Effect
+  e = Opens change
+
+  abbrev packet : Live → UrbPacket
+  packet l = without_packets (row_request l) eshutdown
+
+  abbrev So : Pending → Type 0
+  So p = EndsSo e (touched_by r) packet p
+
+  other-end : (p : Pending) → p.submit.place < st.items → ends e p.submit ≡ cond (touches_stream r p.submit.verdict) (Some ByChange) None
+  other-end p placed =
+      ap (λ (b : Bool). cond b (at_once p.submit.verdict) (cond (touches_stream r p.submit.verdict) (Some ByChange) None)) (other-place st.items p.submit.place placed)
+
+  other-so : (p : Pending) → p.submit.place < st.items → IsGoing p → So p
+  other-so p placed going = ends-so e (touched_by r) packet p (touches_stream r p.submit.verdict) ByChange (other-end p placed) (touched-row r p going) refl refl refl
+
+  all-so : Each (EndsSo e (touched_by r) packet) st.live
+  all-so =
+      each-two (λ p. p.submit.place < st.items) IsGoing So other-so st.live
+      (each-mapped (λ (s : Submission). s.place < st.items) (λ (p : Pending). p.submit) st.live sound.places) (all-going st sound)
+
+  own : ends e change ≡ None
+  own = ap (λ (b : Bool). cond b None (cond (touches_stream r (Routed r)) (Some ByChange) None)) (own-place st.items)
+
+  abbrev touched : Pending → Bool
+  touched p = touches_stream r p.submit.verdict
+
+  others : Each (λ p. ends e p.submit ≡ cond (touched p) (Some ByChange) None) st.live
+  others =
+      Each-weaker (λ p. p.submit.place < st.items) (λ p. ends e p.submit ≡ cond (touched p) (Some ByChange) None) other-end st.live
+      (each-mapped (λ (s : Submission). s.place < st.items) (λ (p : Pending). p.submit) st.live sound.places)
+
+  live-rows : map row (live_after st e) ≡ filter (λ l. not (touched_by r l)) (map row st.live) ++ row (fresh change) ∷ []
+  live-rows =
+      ap (map row) (change-left st change touched ByChange others own)
+      ∙ map-append row (filter (λ p. not (touched p)) st.live) (fresh change ∷ [])
+      ∙ ap (λ (ls : List Live). ls ++ row (fresh change) ∷ [])
+      (ap (map row) (filter-same (λ p. not (touched p)) (λ p. not (touched_by r (row p))) st.live
+      (Each-weaker IsGoing (λ p. not (touched p) ≡ not (touched_by r (row p))) (λ p going. ap not (sym (touched-row r p going))) st.live (all-going st sound)))
+      ∙ sym (filter-map (λ l. not (touched_by r l)) row st.live))
+
+  change-sent : ended_packets e (touched_by r) packet (st.live ++ fresh change ∷ []) ≡ ended_packets e (touched_by r) packet st.live
+  change-sent =
+      flat_map-append (λ p. answers_at p.submit p.unlinker (ends e p.submit)) st.live (fresh change ∷ [])
+      ∙ (λ i. ended_packets e (touched_by r) packet st.live ++ (answers_at change None (own i) ++ []))
+      ∙ append-nil (ended_packets e (touched_by r) packet st.live)
+
+  pub does-change : (old new : Kept) (client_old client_new host_old host_new : List ℕ) (notes_old notes_new : List Note) → Holds old st →
+      old.unlinked ≤ 2 ^ 64 - 1 → old.dropped ≤ 2 ^ 64 - 1 →
+      new ≡ record old {
+        lives = record { live = filter (λ l. not (touched_by r l)) old.lives.live ++ row (fresh change) ∷ []; abandoned = old.lives.abandoned };
+        streams = lower (is_ended (Some r)) old.streams;
+        calls = called (zip (drawn_for st q (Routed r)) (packets_of st.streams (Routed r) q)) old.calls;
+        last = last_of old.last (drawn_for st q (Routed r));
+        answered = capped (old.answered + length (filter (touched_by r) old.lives.live));
+      } →
+      client_new ≡ client_old ++ flat_map (ended_bytes (Change r) eshutdown) old.lives.live →
+      host_new ≡ host_old ++ flat_map (host_packet_bytes old.caps) (zip (drawn_for st q (Routed r)) (packets_of st.streams (Routed r) q)) →
+      notes_new ≡ notes_old ++ note.Submitted q.number change.id ∷ [] →
+      Does st (mark_as st (Opens change) None) old new client_old client_new host_old host_new notes_old notes_new
+  does-change old new client_old client_new host_old host_new notes_old notes_new h unlinked_fits dropped_fits is client host notes =
+      let asked : List (ℕ × RedirPacket) = zip (drawn_for st q (Routed r)) (packets_of st.streams (Routed r) q) in
+      let done = counted-all e (touched_by r) packet is_ret_submit (λ l. refl) st.live all-so in
+      let won = counted-none e (touched_by r) packet is_won_unlink (λ l. refl) st.live all-so in
+      record {
+        holds = record {
+          facts = ap (λ (k : Kept). k.facts) is ∙ h.facts;
+          caps = ap (λ (k : Kept). k.caps) is ∙ h.caps;
+          imported = ap (λ (k : Kept). k.imported) is ∙ h.imported;
+          lost = ap (λ (k : Kept). k.lost) is ∙ h.lost;
+          client_over = ap (λ (k : Kept). k.client_over) is ∙ h.client_over;
+          host_over = ap (λ (k : Kept). k.host_over) is ∙ h.host_over;
+          streams = ap (λ (k : Kept). k.streams) is ∙ ap (lower (is_ended (Some r))) h.streams;
+          calls = ap (λ (k : Kept). k.calls) is ∙ ap (called asked) h.calls;
+          fence = ap (λ (k : Kept). k.fence) is ∙ h.fence;
+          last = ap (λ (k : Kept). k.last) is ∙ ap (λ (n : ℕ). last_of n (drawn_for st q (Routed r))) h.last;
+          live = ap (λ (k : Kept). k.lives.live) is ∙ ap (λ (ls : List Live). filter (λ l. not (touched_by r l)) ls ++ row (fresh change) ∷ []) h.live ∙ sym live-rows;
+          abandoned = ap (λ (k : Kept). map unmarked k.lives.abandoned) is ∙ h.abandoned ∙ ap (map left_row) (sym (filter-all st.abandoned));
+        };
+        client = client ∙ ap (λ (bs : List ℕ). client_old ++ bs)
+            (ap (flat_map (ended_bytes (Change r) eshutdown)) h.live ∙ sym (ended-bytes e (touched_by r) packet st.live all-so)
+            ∙ ap (λ (ps : List UrbPacket). flat_map client_spelling (map Urb ps)) (sym change-sent));
+        host = host ∙ ap (λ (bs : List ℕ). host_old ++ bs)
+            ((λ i. flat_map (host_packet_bytes (h.caps i)) asked)
+            ∙ ap (flat_map (host_packet_bytes st.agreed)) (sym (append-nil asked) ∙ ap (λ (ps : List (ℕ × RedirPacket)). (ps ++ asked) ++ []) (sym (none-cancelled e stays-uncancelled st.live))));
+        notes = notes ∙ ap (λ (ns : List Note). notes_old ++ note.Submitted q.number change.id ∷ ns) (sym (change-noted st change touched ByChange others own refl)) ∙ closing (answer_notes st e);
+        answered = ap (λ (k : Kept). k.answered) is ∙ ap (λ (ls : List Live). capped (old.answered + length (filter (touched_by r) ls))) h.live
+            ∙ ap (λ (n : ℕ). capped (old.answered + n)) (sym done)
+            ∙ ap (λ (ps : List UrbPacket). capped (old.answered + length (filter is_ret_submit (map Urb ps)))) (sym change-sent);
+        unlinked = ap (λ (k : Kept). k.unlinked) is ∙ capped-same old.unlinked unlinked_fits
+            ∙ ap (λ (n : ℕ). capped (old.unlinked + n)) (sym won)
+            ∙ ap (λ (ps : List UrbPacket). capped (old.unlinked + length (filter is_won_unlink (map Urb ps)))) (sym change-sent);
+        dropped = ap (λ (k : Kept). k.dropped) is ∙ capped-same old.dropped dropped_fits
+            ∙ ap (λ (ss : List Submission). capped (old.dropped + length ss)) (sym (change-dropped st change touched ByChange others own refl));
+      }
+    where
+      closing : (ns : List Note) → notes_old ++ note.Submitted q.number change.id ∷ ns ≡ notes_old ++ (((((note.Submitted q.number change.id ∷ []) ++ ns) ++ []) ++ []) ++ [])
+      closing ns = ap (λ (l : List Note). notes_old ++ note.Submitted q.number change.id ∷ l) (sym (append-nil ns) ∙ sym (append-nil (ns ++ [])) ∙ sym (append-nil ((ns ++ []) ++ [])))

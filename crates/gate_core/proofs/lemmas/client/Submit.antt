@@ -1,0 +1,107 @@
+-- What an accepted submit that ends no other makes of what is kept, and what it sends and tells.
+use Rattle.std.proofs.Common.{◌≡◌, ℕ, ◌+◌, ◌^◌, ◌-◌, ◌<◌, ◌≤◌, eqb, Bool, true, false, cond, List, [], ◌∷◌, ◌++◌, length, map, Some, None, sym, ap, ◌∙◌, arith}
+use Rattle.std.specs.Prelude.{is_none, filter, zip}
+use Rattle.std.specs.List.{flat_map}
+use Rattle.std.proofs.lemmas.List.{append-nil, map-append}
+use Rattle.usbip_urb.specs.declared.client.ClientPacket.{ClientPacket}
+use Rattle.usbip_urb.specs.declared.client.ClientPacket.TheVariants.{Urb}
+use Rattle.usbip_urb.specs.ClientPackets.{client_spelling}
+use Rattle.redir_data.specs.declared.packet.RedirPacket.{RedirPacket}
+use Rattle.unlink_race.specs.declared.live.Live.{Live}
+use Rattle.gate_history.specs.declared.note.Note.{Note}
+use Rattle.gate_history.specs.declared.note.Note.TheVariants as note
+use Rattle.gate_core.specs.declared.state.kept.Kept.{Kept}
+use Rattle.gate_history.specs.step.Items.{capped}
+use Rattle.gate_history.specs.client.Verdict.{Verdict}
+use Rattle.gate_history.specs.step.Marks.{Submission, Opens}
+use Rattle.gate_history.specs.client.Submits.{Pending, ByChange, at_once, is_touched, ends}
+use Rattle.gate_history.specs.state.Ids.{last_of}
+use Rattle.gate_history.specs.state.Ups.{opened_streams}
+use Rattle.gate_history.specs.state.Calls.{called}
+use Rattle.gate_history.specs.state.State.{State}
+use Rattle.gate_history.specs.write.Packets.{packets_of}
+use Rattle.gate_history.specs.step.Meaning.{mark_as, drawn_for}
+use Rattle.gate_history.specs.state.Sound.{IsSound}
+use Rattle.gate_history.specs.write.Answers.{answers_at}
+use Rattle.gate_history.specs.write.Output.{fresh, answered}
+use Rattle.gate_history.specs.write.Notes.{answer_notes, is_by_answer, is_by_client}
+use Rattle.gate_history.specs.write.All.{is_ret_submit, is_won_unlink}
+use Rattle.gate_history.specs.write.Bytes.{host_packet_bytes}
+use Rattle.gate_parts.specs.state.Rows.{row, unmarked, left_row}
+use Rattle.gate_core.specs.inner.Holds.{Holds, Does}
+use Rattle.gate_history.proofs.lemmas.Lists.{Each, Each-weaker, filter-all}
+use Rattle.gate_core.proofs.lemmas.host.Loss.{capped-same}
+use Rattle.gate_history.proofs.lemmas.step.Effects.{opening-left, opening-answered, opening-noted, opening-dropped}
+use Rattle.gate_history.proofs.lemmas.step.NoCancel.{none-cancelled, stays-uncancelled}
+
+other-place : (n m : ℕ) → m < n → eqb n m ≡ false
+other-place n m h = grind arith
+
+own-place : (n : ℕ) → eqb n n ≡ true
+own-place n = grind arith
+
+each-map : {X Y : Type 0} (P : Y → Type 0) (f : X → Y) (xs : List X) → Each P (map f xs) → Each (λ x. P (f x)) xs
+each-map P f [] h = tt
+each-map P f (x ∷ xs) h = (h.0, each-map P f xs h.1)
+
+module _ (st : State) (s : Submission) (placed : s.place ≡ st.items) (sound : IsSound st) (spares : (v : Verdict) → is_touched s.verdict v ≡ false) where
+  -- none of the others ends
+  others : Each (λ p. ends (Opens s) p.submit ≡ None) st.live
+  others =
+      Each-weaker (λ p. p.submit.place < st.items) (λ p. ends (Opens s) p.submit ≡ None)
+      (λ p h. ap (λ (b : Bool). cond b (at_once p.submit.verdict) (cond (is_touched s.verdict p.submit.verdict) (Some ByChange) None)) (other-place s.place p.submit.place (omega (arith, h, placed)))
+      ∙ ap (λ (b : Bool). cond b (Some ByChange) None) (spares p.submit.verdict)) st.live
+      (each-map (λ (t : Submission). t.place < st.items) (λ (p : Pending). p.submit) st.live sound.places)
+
+  own : ends (Opens s) s ≡ at_once s.verdict
+  own = ap (λ (b : Bool). cond b (at_once s.verdict) (cond (is_touched s.verdict s.verdict) (Some ByChange) None)) (own-place s.place)
+
+  -- what is kept, sent and told, where so many more are live
+  pub does-open : (old new : Kept) (more : List Pending) (client_old client_new host_old host_new : List ℕ) (notes_old notes_new : List Note) → Holds old st →
+      old.unlinked ≤ 2 ^ 64 - 1 → old.dropped ≤ 2 ^ 64 - 1 →
+      cond (is_none (at_once s.verdict)) (fresh s ∷ []) [] ≡ more →
+      is_by_answer (at_once s.verdict) ≡ false → is_by_client (at_once s.verdict) ≡ false →
+      filter is_won_unlink (map Urb (answers_at s None (at_once s.verdict))) ≡ [] →
+      new ≡ record old {
+        lives = record { live = old.lives.live ++ map row more; abandoned = old.lives.abandoned };
+        streams = opened_streams s.verdict s.request.transfer.ep old.streams;
+        calls = called (zip (drawn_for st s.request s.verdict) (packets_of st.streams s.verdict s.request)) old.calls;
+        last = last_of old.last (drawn_for st s.request s.verdict);
+        answered = capped (old.answered + length (filter is_ret_submit (map Urb (answers_at s None (at_once s.verdict)))));
+      } →
+      client_new ≡ client_old ++ flat_map client_spelling (map Urb (answers_at s None (at_once s.verdict))) →
+      host_new ≡ host_old ++ flat_map (host_packet_bytes old.caps) (zip (drawn_for st s.request s.verdict) (packets_of st.streams s.verdict s.request)) →
+      notes_new ≡ notes_old ++ note.Submitted s.request.number s.id ∷ [] →
+      Does st (mark_as st (Opens s) None) old new client_old client_new host_old host_new notes_old notes_new
+  does-open old new more client_old client_new host_old host_new notes_old notes_new h unlinked_fits dropped_fits kept by_answer by_client none_won is client host notes =
+      let e = Opens s in
+      let sent : answered st e ≡ map Urb (answers_at s None (at_once s.verdict)) = opening-answered st s others own in
+      record {
+        holds = record {
+          facts = ap (λ (k : Kept). k.facts) is ∙ h.facts;
+          caps = ap (λ (k : Kept). k.caps) is ∙ h.caps;
+          imported = ap (λ (k : Kept). k.imported) is ∙ h.imported;
+          lost = ap (λ (k : Kept). k.lost) is ∙ h.lost;
+          client_over = ap (λ (k : Kept). k.client_over) is ∙ h.client_over;
+          host_over = ap (λ (k : Kept). k.host_over) is ∙ h.host_over;
+          streams = ap (λ (k : Kept). k.streams) is ∙ ap (opened_streams s.verdict s.request.transfer.ep) h.streams;
+          calls = ap (λ (k : Kept). k.calls) is ∙ ap (called (zip (drawn_for st s.request s.verdict) (packets_of st.streams s.verdict s.request))) h.calls;
+          fence = ap (λ (k : Kept). k.fence) is ∙ h.fence;
+          last = ap (λ (k : Kept). k.last) is ∙ ap (λ (n : ℕ). last_of n (drawn_for st s.request s.verdict)) h.last;
+          live = ap (λ (k : Kept). k.lives.live) is ∙ ap (λ (ls : List Live). ls ++ map row more) h.live ∙ sym (map-append row st.live more)
+              ∙ ap (map row) (ap (λ (ps : List Pending). st.live ++ ps) (sym kept) ∙ sym (opening-left st s others own));
+          abandoned = ap (λ (k : Kept). map unmarked k.lives.abandoned) is ∙ h.abandoned ∙ ap (map left_row) (sym (filter-all st.abandoned));
+        };
+        client = client ∙ ap (λ (ps : List ClientPacket). client_old ++ flat_map client_spelling ps) (sym sent);
+        host = host ∙ ap (λ (bs : List ℕ). host_old ++ bs)
+            ((λ i. flat_map (host_packet_bytes (h.caps i)) (zip (drawn_for st s.request s.verdict) (packets_of st.streams s.verdict s.request)))
+            ∙ ap (flat_map (host_packet_bytes st.agreed)) (sym (append-nil (zip (drawn_for st s.request s.verdict) (packets_of st.streams s.verdict s.request)))
+            ∙ ap (λ (ps : List (ℕ × RedirPacket)). (ps ++ zip (drawn_for st s.request s.verdict) (packets_of st.streams s.verdict s.request)) ++ []) (sym (none-cancelled e stays-uncancelled st.live))));
+        notes = notes ∙ ap (λ (ns : List Note). notes_old ++ note.Submitted s.request.number s.id ∷ ns) (sym (opening-noted st s others own by_answer)) ∙ closing (answer_notes st e);
+        answered = ap (λ (k : Kept). k.answered) is ∙ ap (λ (ps : List ClientPacket). capped (old.answered + length (filter is_ret_submit ps))) (sym sent);
+        unlinked = ap (λ (k : Kept). k.unlinked) is ∙ capped-same old.unlinked unlinked_fits ∙ ap (λ (ps : List ClientPacket). capped (old.unlinked + length ps)) (sym none_won ∙ ap (filter is_won_unlink) (sym sent));
+        dropped = ap (λ (k : Kept). k.dropped) is ∙ capped-same old.dropped dropped_fits ∙ ap (λ (ss : List Submission). capped (old.dropped + length ss)) (sym (opening-dropped st s others own by_client));
+      }
+    where
+      closing : (ns : List Note) → notes_old ++ note.Submitted s.request.number s.id ∷ ns ≡ notes_old ++ (((((note.Submitted s.request.number s.id ∷ []) ++ ns) ++ []) ++ []) ++ [])
+      closing ns = ap (λ (l : List Note). notes_old ++ note.Submitted s.request.number s.id ∷ l) (sym (append-nil ns) ∙ sym (append-nil (ns ++ [])) ∙ sym (append-nil ((ns ++ []) ++ [])))

@@ -1,0 +1,185 @@
+-- What an unlink makes of the rows, where a number is that of one at most.
+use Rattle.std.proofs.Common.{◌≡◌, ℕ, suc, ◌≤◌, ◌==◌, ◌&&◌, ◌||◌, Bool, true, false, cond, not, List, [], ◌∷◌, ◌++◌, length, map, Option, Some, None, refl, sym, ap, subst, ◌∙◌, inl, inr, arith}
+use Rattle.std.specs.Prelude.{filter, is_none}
+use Rattle.std.specs.List.{find, list_any, flat_map}
+use Rattle.std.proofs.lemmas.Bool.{cases_Bool, false≢true}
+use Rattle.std.proofs.lemmas.Option.{none-some, same_Some}
+use Rattle.std.proofs.lemmas.List.{append-nil}
+use Rattle.redir_wire.specs.declared.packet.Caps.{Caps}
+use Rattle.redir_wire.specs.declared.packet.RedirControl.TheVariants as plain
+use Rattle.redir_data.specs.declared.packet.RedirPacket.TheVariants.{Plain}
+use Rattle.unlink_race.specs.declared.live.Live.{Live}
+use Rattle.unlink_race.specs.declared.live.LiveKind.{LiveKind}
+use Rattle.unlink_race.specs.declared.live.LiveKind.TheVariants as live_kind
+use Rattle.unlink_race.specs.Searches.{is_stream, goes_by_id, has_number}
+use Rattle.unlink_race.specs.Firsts.{without_first, change_first}
+use Rattle.unlink_race.specs.Unlinking.{unlinked_by, left_by, left_live}
+use Rattle.gate_core.specs.declared.client.unlink.Asked.{Asked}
+use Rattle.gate_core.specs.declared.client.unlink.Asked.TheVariants.{Late, Cancel, Waits, Taken}
+use Rattle.gate_history.specs.state.Sides.{or_else}
+use Rattle.gate_history.specs.write.Bytes.{host_packet_bytes}
+use Rattle.gate_parts.specs.state.Rows.{is_wire_row}
+use Rattle.gate_history.proofs.lemmas.Lists.{Each}
+use Rattle.gate_history.proofs.lemmas.step.NoCancel.{or_else-none}
+use Rattle.usbip_urb.specs.Spelling.{spelling}
+use Rattle.gate_history.specs.write.Errno.{econnreset}
+use Rattle.gate_history.specs.write.Answers.{ret_unlink}
+use Rattle.gate_core.specs.inner.Unlink.{asked_kind, asked_of, asked_row, is_target_row, is_taken_row, cancel_row, asked_rows, left_told, is_late, is_kept, taken_count, taken_bytes, told_bytes}
+
+module _ (caps : Caps) (target by : ℕ) where
+  -- it is marked, or taken out
+  abbrev pub is_found_row : Live → Bool
+  is_found_row l = is_target_row target l || is_taken_row target l
+
+  abbrev pub taken_row_bytes : Live → List ℕ
+  taken_row_bytes l = cond (is_taken_row target l) (spelling (ret_unlink by econnreset)) []
+
+  pub record Told (ls : List Live) (told : Asked) : Type 0 where
+    pub rows : left_told told target by ls ≡ asked_rows target by ls
+    pub late : list_any is_found_row ls ≡ not (is_late told)
+    pub count : taken_count told ≡ length (filter (is_taken_row target) ls)
+    pub back : taken_bytes by told ≡ flat_map taken_row_bytes ls
+    pub bytes : told_bytes caps told ≡ flat_map (cancel_row caps target) ls
+
+  -- a row with another number
+  record Other (l : Live) : Type 0 where
+    same : asked_row target by l ≡ l
+    no_target : is_target_row target l ≡ false
+    not_taken : is_taken_row target l ≡ false
+    silent : cancel_row caps target l ≡ []
+
+  and-false : (b : Bool) → (b && false) ≡ false
+  and-false true = refl
+  and-false false = refl
+
+  other : (l : Live) → (l.seqnum == target) ≡ false → Other l
+  other l e =
+      let no : (goes_by_id l && (l.seqnum == target)) ≡ false = ap (λ (b : Bool). goes_by_id l && b) e ∙ and-false (goes_by_id l) in
+      let none : is_target_row target l ≡ false = ap (λ (b : Bool). b && is_none l.unlinker) no in
+      record {
+        same = λ i. record l { unlinker = (ap (λ (b : Bool). or_else l.unlinker (cond b (Some by) None)) no ∙ or_else-none l.unlinker) i };
+        no_target = none;
+        not_taken = ap (λ (b : Bool). is_stream l.kind && b) e ∙ and-false (is_stream l.kind);
+        silent = ap (λ (b : Bool). cond b (host_packet_bytes caps (l.id, Plain plain.Cancel)) []) (ap (λ (b : Bool). is_wire_row l.kind && b) none ∙ and-false (is_wire_row l.kind));
+      }
+
+  -- ahead of the others
+  ahead : (l : Live) (ls : List Live) (told : Asked) → (l.seqnum == target) ≡ false → Told ls told → Told (l ∷ ls) told
+  ahead l ls told e rest =
+      let o = other l e in
+      record {
+        rows = row told rest.rows ∙ ap (λ (b : Bool). map (asked_row target by) (cond (not b) (l ∷ filter (λ x. not (is_taken_row target x)) ls) (filter (λ x. not (is_taken_row target x)) ls))) (sym o.not_taken);
+        late = (λ i. (o.no_target i || o.not_taken i) || rest.late i);
+        count = rest.count ∙ ap (λ (b : Bool). length (cond b (l ∷ filter (is_taken_row target) ls) (filter (is_taken_row target) ls))) (sym o.not_taken);
+        back = rest.back ∙ ap (λ (b : Bool). cond b (spelling (ret_unlink by econnreset)) [] ++ flat_map taken_row_bytes ls) (sym o.not_taken);
+        bytes = rest.bytes ∙ (λ i. sym o.silent i ++ flat_map (cancel_row caps target) ls);
+      }
+    where
+      row : (t : Asked) → left_told t target by ls ≡ asked_rows target by ls → left_told t target by (l ∷ ls) ≡ asked_row target by l ∷ asked_rows target by ls
+      row Late h = λ i. sym (other l e).same i ∷ h i
+      row (Cancel id) h = ap (λ (b : Bool). cond b (unlinked_by by l ∷ ls) (l ∷ change_first (has_number target) (unlinked_by by) ls)) e ∙ (λ i. sym (other l e).same i ∷ h i)
+      row Waits h = ap (λ (b : Bool). cond b (unlinked_by by l ∷ ls) (l ∷ change_first (has_number target) (unlinked_by by) ls)) e ∙ (λ i. sym (other l e).same i ∷ h i)
+      row Taken h = ap (λ (b : Bool). cond b ls (l ∷ without_first (has_number target) ls)) e ∙ (λ i. sym (other l e).same i ∷ h i)
+
+  none-told : (ls : List Live) → length (filter (has_number target) ls) ≤ 0 → Told ls Late
+  none-told [] h = record { rows = refl; late = refl; count = refl; back = refl; bytes = refl }
+  none-told (l ∷ ls) h =
+      elim (cases_Bool (l.seqnum == target)) [
+        | inl e ↦ let k : length (l ∷ filter (has_number target) ls) ≤ 0 = rw e at h in absurd (omega arith)
+        | inr e ↦ ahead l ls Late e (none-told ls (rw e at h))
+      ]
+
+  -- the row that has it, and none behind it
+  first : (l : Live) (ls : List Live) → (l.seqnum == target) ≡ true → Told ls Late → Told (l ∷ ls) (asked_kind l.kind l.id l.unlinker)
+  first l ls e rest = of l.unlinker l.kind
+    where
+      of : (by' : Option ℕ) (k : LiveKind) → Told (record l { unlinker = by'; kind = k } ∷ ls) (asked_kind k l.id by')
+      of (Some other) (live_kind.Wire ep kind) = record {
+        rows = λ i. record l { unlinker = Some other; kind = live_kind.Wire ep kind } ∷ rest.rows i;
+        late = λ i. (and-false (l.seqnum == target) i || false) || rest.late i;
+        count = rest.count;
+        back = rest.back;
+        bytes = λ i. cond (sym (and-false (l.seqnum == target)) i) (host_packet_bytes caps (l.id, Plain plain.Cancel)) [] ++ rest.bytes i;
+      }
+      of (Some other) (live_kind.Routed route) = record {
+        rows = λ i. record l { unlinker = Some other; kind = live_kind.Routed route } ∷ rest.rows i;
+        late = λ i. (and-false (l.seqnum == target) i || false) || rest.late i;
+        count = rest.count;
+        back = rest.back;
+        bytes = rest.bytes;
+      }
+      of None (live_kind.Wire ep kind) = record {
+        rows = ap (λ (b : Bool). cond b (unlinked_by by (record l { unlinker = None; kind = live_kind.Wire ep kind }) ∷ ls) (record l { unlinker = None; kind = live_kind.Wire ep kind } ∷ change_first (has_number target) (unlinked_by by) ls)) e
+            ∙ (λ i. record l { unlinker = cond (sym e i) (Some by) None; kind = live_kind.Wire ep kind } ∷ rest.rows i);
+        late = ap (λ (b : Bool). ((b && true) || false) || list_any is_found_row ls) e;
+        count = rest.count;
+        back = rest.back;
+        bytes = sym (append-nil (host_packet_bytes caps (l.id, Plain plain.Cancel))) ∙ (λ i. cond (sym e i && true) (host_packet_bytes caps (l.id, Plain plain.Cancel)) [] ++ rest.bytes i);
+      }
+      of None (live_kind.Routed route) = record {
+        rows = ap (λ (b : Bool). cond b (unlinked_by by (record l { unlinker = None; kind = live_kind.Routed route }) ∷ ls) (record l { unlinker = None; kind = live_kind.Routed route } ∷ change_first (has_number target) (unlinked_by by) ls)) e
+            ∙ (λ i. record l { unlinker = cond (sym e i) (Some by) None; kind = live_kind.Routed route } ∷ rest.rows i);
+        late = ap (λ (b : Bool). ((b && true) || false) || list_any is_found_row ls) e;
+        count = rest.count;
+        back = rest.back;
+        bytes = rest.bytes;
+      }
+      of by' (live_kind.Stream ep interface) =
+          let x : Live = record l { unlinker = by'; kind = live_kind.Stream ep interface } in
+          record {
+            rows = ap (λ (b : Bool). cond b ls (x ∷ without_first (has_number target) ls)) e ∙ rest.rows
+                ∙ ap (λ (b : Bool). map (asked_row target by) (cond (not b) (x ∷ filter (λ y. not (is_taken_row target y)) ls) (filter (λ y. not (is_taken_row target y)) ls))) (sym e);
+            late = ap (λ (b : Bool). b || list_any is_found_row ls) e;
+            count = ap (λ (n : ℕ). suc n) rest.count ∙ ap (λ (b : Bool). length (cond b (x ∷ filter (is_taken_row target) ls) (filter (is_taken_row target) ls))) (sym e);
+            back = sym (append-nil (spelling (ret_unlink by econnreset))) ∙ (λ i. cond (sym e i) (spelling (ret_unlink by econnreset)) [] ++ rest.back i);
+            bytes = rest.bytes;
+          }
+
+  pub rows-told : (ls : List Live) → length (filter (has_number target) ls) ≤ 1 → Told ls (asked_of (find (has_number target) ls))
+  rows-told [] h = record { rows = refl; late = refl; count = refl; back = refl; bytes = refl }
+  rows-told (l ∷ ls) h =
+      elim (cases_Bool (l.seqnum == target)) [
+        | inl e ↦
+            let k : length (l ∷ filter (has_number target) ls) ≤ 1 = rw e at h in
+            subst (λ (b : Bool). Told (l ∷ ls) (asked_of (cond b (Some l) (find (has_number target) ls)))) (sym e) (first l ls e (none-told ls (omega arith)))
+        | inr e ↦ subst (λ (b : Bool). Told (l ∷ ls) (asked_of (cond b (Some l) (find (has_number target) ls)))) (sym e) (ahead l ls _ e (rows-told ls (rw e at h)))
+      ]
+
+-- ---- lists
+
+pub each-found : {X : Type 0} (P : X → Type 0) (test : X → Bool) (xs : List X) (x : X) → Each P xs → find test xs ≡ Some x → P x
+each-found P test [] x h e = absurd (none-some x e)
+each-found P test (y ∷ ys) x h e = go (test y) e (λ k. each-found P test ys x h.1 k)
+  where
+    go : (b : Bool) → cond b (Some y) (find test ys) ≡ Some x → (find test ys ≡ Some x → P x) → P x
+    go true k later = subst P (same_Some y x k) h.0
+    go false k later = later k
+
+pub each-changed : {X : Type 0} (P : X → Type 0) (test : X → Bool) (change : X → X) (xs : List X) → ((x : X) → P x → P (change x)) → Each P xs → Each P (change_first test change xs)
+each-changed P test change [] f h = tt
+each-changed P test change (x ∷ xs) f h = elim (test x) as (λ b. Each P (cond b (change x ∷ xs) (x ∷ change_first test change xs))) [ true ↦ (f x h.0, h.1) | false ↦ (h.0, each-changed P test change xs f h.1) ]
+
+pub length-changed : {X : Type 0} (test : X → Bool) (change : X → X) (xs : List X) → length (change_first test change xs) ≡ length xs
+length-changed test change [] = refl
+length-changed test change (x ∷ xs) = elim (test x) as (λ b. length (cond b (change x ∷ xs) (x ∷ change_first test change xs)) ≡ suc (length xs)) [ true ↦ refl | false ↦ ap (λ n. suc n) (length-changed test change xs) ]
+
+pub Each-without : {X : Type 0} (P : X → Type 0) (test : X → Bool) (xs : List X) → Each P xs → Each P (without_first test xs)
+Each-without P test [] h = tt
+Each-without P test (x ∷ xs) h = elim (test x) as (λ b. Each P (cond b xs (x ∷ without_first test xs))) [ true ↦ h.1 | false ↦ (h.0, Each-without P test xs h.1) ]
+
+pub length-without : {X : Type 0} (test : X → Bool) (xs : List X) → length (without_first test xs) ≤ length xs
+length-without test [] = omega arith
+length-without test (x ∷ xs) =
+    let rest = length-without test xs in
+    elim (test x) as (λ b. length (cond b xs (x ∷ without_first test xs)) ≤ suc (length xs)) [ true ↦ omega arith | false ↦ omega arith ]
+
+pub first-left : (target by : ℕ) (o : Option Live) (ls : List Live) → is_kept (asked_of o) ≡ true → left_by target by o ls ≡ change_first (has_number target) (unlinked_by by) ls
+first-left target by None ls e = absurd (false≢true e)
+first-left target by (Some l) ls e = of l.unlinker l.kind e
+  where
+    of : (o : Option ℕ) (k : LiveKind) → is_kept (asked_kind k l.id o) ≡ true → left_live target by o k ls ≡ change_first (has_number target) (unlinked_by by) ls
+    of o (live_kind.Stream ep interface) h = absurd (false≢true h)
+    of (Some first) (live_kind.Wire ep kind) h = absurd (false≢true h)
+    of (Some first) (live_kind.Routed route) h = absurd (false≢true h)
+    of None (live_kind.Wire ep kind) h = refl
+    of None (live_kind.Routed route) h = refl

@@ -1,0 +1,442 @@
+-- What an answer of the host makes of what is kept, and what it sends and tells.
+use Rattle.std.proofs.Common.{◌≡◌, ℕ, ◌+◌, ◌^◌, ◌-◌, ◌≤◌, ◌&&◌, Bool, true, false, cond, not, eqb, List, [], ◌∷◌, ◌++◌, length, map, Option, Some, None, refl, sym, ap, subst, ◌∙◌, arith, suc}
+use Rattle.std.specs.Prelude.{is_none, unwrap_or, filter, option_map, IfSome}
+use Rattle.std.specs.List.{find, flat_map}
+use Rattle.std.specs.Option.{option_and_then, option_or, option_to_list}
+use Rattle.std.proofs.lemmas.Bool.{false≢true}
+use Rattle.std.proofs.lemmas.List.{append-nil, length-append, length-map}
+use Rattle.std.proofs.lemmas.List.Elements.{filter-append}
+use Rattle.std.proofs.lemmas.List.Folds.{find-append}
+use Rattle.usb_base.specs.declared.refusal.Refusal.{Refusal}
+use Rattle.usb_base.specs.declared.transfer.Outcome.{Outcome}
+use Rattle.usbip_urb.specs.declared.client.ClientPacket.{ClientPacket}
+use Rattle.usbip_urb.specs.declared.client.ClientPacket.TheVariants.{Urb}
+use Rattle.usbip_urb.specs.ClientPackets.{client_spelling}
+use Rattle.usbip_urb.specs.Spelling.{spelling}
+use Rattle.redir_wire.specs.declared.packet.Caps.{Caps}
+use Rattle.redir_wire.specs.declared.packet.Header.{Header}
+use Rattle.redir_wire.specs.declared.packet.Hello.{Hello}
+use Rattle.redir_wire.specs.declared.packet.RedirControl.{RedirControl}
+use Rattle.redir_wire.specs.declared.packet.RedirControl.TheVariants as plain
+use Rattle.redir_wire.specs.Header.{head_size}
+use Rattle.redir_data.specs.declared.packet.RedirPacket.{RedirPacket}
+use Rattle.redir_data.specs.declared.packet.RedirPacket.TheVariants.{Plain}
+use Rattle.unlink_race.specs.declared.live.Live.{Live}
+use Rattle.unlink_race.specs.Searches.{has_id as has_row_id}
+use Rattle.unlink_race.specs.Firsts.{without_first}
+use Rattle.unlink_race.specs.Requests.{Requests}
+use Rattle.gate_history.specs.declared.note.Note.{Note}
+use Rattle.gate_history.specs.declared.note.Note.TheVariants as note
+use Rattle.gate_core.specs.declared.state.kept.Kept.{Kept}
+use Rattle.gate_history.specs.step.Items.{capped}
+use Rattle.gate_history.specs.declared.facts.Facts.{Facts}
+use Rattle.gate_history.specs.step.Marks.{Submission, Fact, Effect, Idle, Agrees, Answers, Refuses}
+use Rattle.gate_history.specs.state.Facts.{no_facts, tell}
+use Rattle.gate_history.specs.state.Sides.{is_of, is_loss, closes_host, never, turned}
+use Rattle.gate_history.specs.state.Flight.{wide_ids}
+use Rattle.gate_history.specs.client.Submits.{Pending, has_id}
+use Rattle.gate_history.specs.state.State.{State, submits}
+use Rattle.gate_history.specs.host.Responses.{Response, response_of, mismatch, seen}
+use Rattle.gate_history.specs.step.Meaning.{mark_as, answered_as, answer_to, by_response, told_meaning}
+use Rattle.gate_history.specs.state.Sound.{IsSound}
+use Rattle.gate_history.specs.write.Answers.{answers_by}
+use Rattle.gate_history.specs.write.Output.{cancels, cancel, to_client}
+use Rattle.gate_history.specs.write.Notes.{answer_notes, dropped}
+use Rattle.gate_history.specs.write.All.{is_ret_submit, is_won_unlink}
+use Rattle.gate_history.specs.write.Bytes.{host_packet_bytes}
+use Rattle.gate_parts.specs.state.Rows.{row_of, row, unmarked, left_row, IsFine}
+use Rattle.gate_parts.specs.host.Responses.{row_mismatch, completes, IsAnswer, IsCounted}
+use Rattle.gate_core.specs.inner.Holds.{Holds, Does}
+use Rattle.gate_history.specs.step.Fits.{ResponseFits}
+use Rattle.gate_history.proofs.lemmas.Lists.{Each, every, filter-same, filter-map, flat_map-map}
+use Rattle.gate_history.proofs.lemmas.step.Effects.{answer-left, answer-sent, answer-noted, answer-dropped}
+use Rattle.gate_core.proofs.lemmas.Firsts.{without-first, find-first}
+use Rattle.gate_core.proofs.lemmas.host.Loss.{capped-same}
+use Rattle.gate_parts.proofs.lemmas.state.Rows.{by_id-row}
+use Rattle.gate_history.specs.step.Wants.{GivesSome}
+use Rattle.gate_core.proofs.lemmas.write.Gives.{by-answer}
+use Rattle.gate_core.proofs.lemmas.step.Steady.{host-same, rows-same, does-idle, does-steady, agrees-steady}
+use Rattle.gate_history.proofs.lemmas.step.NoCancel.{stays-uncancelled}
+use Rattle.gate_parts.proofs.lemmas.host.Responses.{row-mismatch, mismatch-capped, is-answer}
+
+-- ---- what is found by a map
+
+pub find-map : {X Y : Type 0} (p : Y → Bool) (f : X → Y) (xs : List X) → find p (map f xs) ≡ option_map f (find (λ x. p (f x)) xs)
+find-map p f [] = refl
+find-map {X = X} p f (x ∷ xs) =
+    let rest = find-map p f xs in
+    elim (p (f x)) as (λ b. cond b (Some (f x)) (find p (map f xs)) ≡ option_map f (cond b (Some x) (find (λ y. p (f y)) xs))) [ true ↦ refl | false ↦ rest ]
+
+find-same : {X : Type 0} (p q : X → Bool) → ((x : X) → p x ≡ q x) → (xs : List X) → find p xs ≡ find q xs
+find-same p q h [] = refl
+find-same {X = X} p q h (x ∷ xs) = λ i. cond (h x i) (Some x) (find-same p q h xs i)
+
+pub without-none : {X : Type 0} (p : X → Bool) (xs : List X) → find p xs ≡ None → without_first p xs ≡ xs
+without-none p [] e = refl
+without-none {X = X} p (x ∷ xs) e = of (without-none p xs) (p x) e
+  where
+    of : (find p xs ≡ None → without_first p xs ≡ xs) → (b : Bool) → cond b (Some x) (find p xs) ≡ None → cond b xs (x ∷ without_first p xs) ≡ x ∷ xs
+    of rest true e = absurd (false≢true (ap is_none e))
+    of rest false e = ap (λ (l : List X). x ∷ l) (rest e)
+
+pub Each-find : {X : Type 0} (P : X → Type 0) (p : X → Bool) (xs : List X) (x : X) → Each P xs → find p xs ≡ Some x → P x
+Each-find P p [] x h e = absurd (false≢true (sym (ap is_none e)))
+Each-find {X = X} P p (y ∷ ys) x h e = of (λ k. Each-find P p ys x h.1 k) (p y) e
+  where
+    of : (find p ys ≡ Some x → P x) → (b : Bool) → cond b (Some y) (find p ys) ≡ Some x → P x
+    of rest true k = subst P (ap (λ (o : Option X). unwrap_or o y) k) h.0
+    of rest false k = rest k
+
+pub Each-without : {X : Type 0} (P : X → Type 0) (p : X → Bool) (xs : List X) → Each P xs → Each P (without_first p xs)
+Each-without P p [] h = tt
+Each-without P p (x ∷ xs) h =
+    let rest = Each-without P p xs h.1 in
+    elim (p x) as (λ b. Each P (cond b xs (x ∷ without_first p xs))) [ true ↦ h.1 | false ↦ (h.0, rest) ]
+
+pub length-without : {X : Type 0} (p : X → Bool) (xs : List X) → length (without_first p xs) ≤ length xs
+length-without p [] = omega arith
+length-without p (x ∷ xs) = let h = length-without p xs in elim (p x) as (λ b. length (cond b xs (x ∷ without_first p xs)) ≤ suc (length xs)) [ true ↦ omega arith | false ↦ omega (arith, h) ]
+
+map-none : {X Y : Type 0} (f : X → Y) (o : Option X) → option_map f o ≡ None → o ≡ None
+map-none f None e = refl
+map-none f (Some x) e = absurd (false≢true (ap is_none e))
+
+record IsOf {X Y : Type 0} (f : X → Y) (o : Option X) (y : Y) : Type 0 where
+  from : X
+  found : o ≡ Some from
+  is : f from ≡ y
+
+map-some : {X Y : Type 0} (f : X → Y) (o : Option X) (y : Y) → option_map f o ≡ Some y → IsOf f o y
+map-some f None y e = absurd (false≢true (sym (ap is_none e)))
+map-some {Y = Y} f (Some x) y e = record { from = x; found = refl; is = ap (λ (o : Option Y). unwrap_or o (f x)) e }
+
+-- ---- rows by their ids
+
+abbrev pub pending_has_id : ℕ → Pending → Bool
+pending_has_id id p = has_id id p.submit
+
+pub row-id : (id : ℕ) (p : Pending) → has_row_id id (row p) ≡ pending_has_id id p
+row-id id p = ap (λ (b : Bool). b && eqb p.submit.id id) (by_id-row p.submit p.unlinker)
+
+left-id : (id : ℕ) (s : Submission) → has_row_id id (left_row s) ≡ has_id id s
+left-id id s = ap (λ (b : Bool). b && eqb s.id id) (by_id-row s None)
+
+pub find-rows : (id : ℕ) (ps : List Pending) → find (has_row_id id) (map row ps) ≡ option_map row (find (pending_has_id id) ps)
+find-rows id ps = find-map (has_row_id id) row ps ∙ ap (option_map row) (find-same (λ p. has_row_id id (row p)) (pending_has_id id) (row-id id) ps)
+
+find-left : (id : ℕ) (ss : List Submission) → find (has_row_id id) (map left_row ss) ≡ option_map left_row (find (has_id id) ss)
+find-left id ss = find-map (has_row_id id) left_row ss ∙ ap (option_map left_row) (find-same (λ s. has_row_id id (left_row s)) (has_id id) (left-id id) ss)
+
+find-unmarked : (id : ℕ) (ls : List Live) → option_map unmarked (find (has_row_id id) ls) ≡ find (has_row_id id) (map unmarked ls)
+find-unmarked id ls = sym (find-map (has_row_id id) unmarked ls)
+
+without-unmarked : (id : ℕ) (ls : List Live) → map unmarked (without_first (has_row_id id) ls) ≡ without_first (has_row_id id) (map unmarked ls)
+without-unmarked id [] = refl
+without-unmarked id (l ∷ ls) =
+    let rest = without-unmarked id ls in
+    elim (has_row_id id l) as (λ b. map unmarked (cond b ls (l ∷ without_first (has_row_id id) ls)) ≡ cond b (map unmarked ls) (unmarked l ∷ without_first (has_row_id id) (map unmarked ls)))
+    [ true ↦ refl | false ↦ ap (λ (rs : List Live). unmarked l ∷ rs) rest ]
+
+-- ---- the request that waits
+
+module _ (st : State) (id : ℕ) (sound : IsSound st) where
+  total : length (filter (has_id id) (submits st)) + length (filter (has_id id) st.abandoned) ≤ 1
+  total =
+      let parts = ap length (filter-append (has_id id) (submits st) st.abandoned) ∙ length-append (filter (has_id id) (submits st)) (filter (has_id id) st.abandoned) in
+      omega (arith, parts, sound.ids id)
+
+  of-live : length (filter (has_id id) (submits st)) ≡ length (filter (pending_has_id id) st.live)
+  of-live = ap length (filter-map (has_id id) (λ (p : Pending). p.submit) st.live) ∙ length-map (filter (pending_has_id id) st.live) (λ (p : Pending). p.submit)
+
+  few-live : length (filter (pending_has_id id) st.live) ≤ 1
+  few-live = omega (arith, total, of-live)
+
+  few-left : length (filter (has_id id) st.abandoned) ≤ 1
+  few-left = omega (arith, total)
+
+  few-rows : length (filter (has_row_id id) (map row st.live)) ≤ 1
+  few-rows =
+      let same = ap length (filter-map (has_row_id id) row st.live) ∙ length-map (filter (λ p. has_row_id id (row p)) st.live) row
+      ∙ ap length (filter-same (λ p. has_row_id id (row p)) (pending_has_id id) st.live (every (λ p. has_row_id id (row p) ≡ pending_has_id id p) (row-id id) st.live)) in
+      omega (arith, same, few-live)
+
+  few-left-rows : length (filter (has_row_id id) (map left_row st.abandoned)) ≤ 1
+  few-left-rows =
+      let same = ap length (filter-map (has_row_id id) left_row st.abandoned) ∙ length-map (filter (λ s. has_row_id id (left_row s)) st.abandoned) left_row
+      ∙ ap length (filter-same (λ s. has_row_id id (left_row s)) (has_id id) st.abandoned (every (λ s. has_row_id id (left_row s) ≡ has_id id s) (left-id id) st.abandoned)) in
+      omega (arith, same, few-left)
+
+  pub live-without : without_first (has_row_id id) (map row st.live) ≡ map row (filter (λ p. not (pending_has_id id p)) st.live)
+  live-without =
+      without-first (has_row_id id) (map row st.live) few-rows
+      ∙ filter-map (λ l. not (has_row_id id l)) row st.live
+      ∙ ap (map row) (filter-same (λ p. not (has_row_id id (row p))) (λ p. not (pending_has_id id p)) st.live (every (λ p. not (has_row_id id (row p)) ≡ not (pending_has_id id p)) (λ p. ap not (row-id id p)) st.live))
+
+  left-without : without_first (has_row_id id) (map left_row st.abandoned) ≡ map left_row (filter (λ s. not (has_id id s)) st.abandoned)
+  left-without =
+      without-first (has_row_id id) (map left_row st.abandoned) few-left-rows
+      ∙ filter-map (λ l. not (has_row_id id l)) left_row st.abandoned
+      ∙ ap (map left_row) (filter-same (λ s. not (has_row_id id (left_row s))) (λ s. not (has_id id s)) st.abandoned (every (λ s. not (has_row_id id (left_row s)) ≡ not (has_id id s)) (λ s. ap not (left-id id s)) st.abandoned))
+
+  pub abandoned-without : (rows : List Live) → map unmarked rows ≡ map left_row st.abandoned → map unmarked (without_first (has_row_id id) rows) ≡ map left_row (filter (λ s. not (has_id id s)) st.abandoned)
+  abandoned-without rows h = without-unmarked id rows ∙ ap (without_first (has_row_id id)) h ∙ left-without
+
+  pub found-alone : filter (pending_has_id id) st.live ≡ option_to_list (find (pending_has_id id) st.live)
+  found-alone = find-first (pending_has_id id) st.live few-live
+
+  -- where one is live nothing is abandoned
+  pub left-alone : (p : Pending) → find (pending_has_id id) st.live ≡ Some p → st.abandoned ≡ []
+  left-alone p e = of st.imported refl
+    where
+      of : (b : Bool) → st.imported ≡ b → st.abandoned ≡ []
+      of true h = sound.apart h
+      of false h = absurd (false≢true (ap is_none (sym e ∙ ap (find (pending_has_id id)) (sound.gone h))))
+
+-- ---- the effect
+
+module _ (st : State) (id : ℕ) (o : Outcome) where
+  -- the answers of the one that has the id
+  abbrev pub sent : List Pending → List ClientPacket
+  sent ps = map Urb (flat_map (λ p. answers_by p.submit o p.unlinker) ps)
+
+  abbrev pub told_of : List Pending → List Note
+  told_of ps = map (λ p. note.Answered p.submit.request.number) ps
+
+  pub does-answer : (old new : Kept) (rows left : List Live) (found : List Pending) (client_old client_new host : List ℕ) (notes_old notes_new : List Note) → Holds old st → old.dropped ≤ 2 ^ 64 - 1 →
+      filter (pending_has_id id) st.live ≡ found →
+      rows ≡ map row (filter (λ p. not (pending_has_id id p)) st.live) →
+      map unmarked left ≡ map left_row (filter (λ s. not (has_id id s)) st.abandoned) →
+      new ≡ record old {
+        lives = record { live = rows; abandoned = left };
+        answered = capped (old.answered + length (filter is_ret_submit (sent found)));
+        unlinked = capped (old.unlinked + length (filter is_won_unlink (sent found)));
+      } →
+      client_new ≡ client_old ++ flat_map client_spelling (sent found) →
+      notes_new ≡ notes_old ++ told_of found →
+      Does st (mark_as st (Answers id o) None) old new client_old client_new host host notes_old notes_new
+  does-answer old new rows left found client_old client_new host notes_old notes_new h few one live_is left_is is client notes =
+      let sends : sent found ≡ to_client st (mark_as st (Answers id o) None) = sym (answer-sent st id o ∙ ap sent one) in
+      let tells : told_of found ≡ answer_notes st (Answers id o) = sym (answer-noted st id o ∙ ap told_of one) in
+      record {
+        holds = record {
+          facts = ap (λ (k : Kept). k.facts) is ∙ h.facts;
+          caps = ap (λ (k : Kept). k.caps) is ∙ h.caps;
+          imported = ap (λ (k : Kept). k.imported) is ∙ h.imported;
+          lost = ap (λ (k : Kept). k.lost) is ∙ h.lost;
+          client_over = ap (λ (k : Kept). k.client_over) is ∙ h.client_over;
+          host_over = ap (λ (k : Kept). k.host_over) is ∙ h.host_over;
+          streams = ap (λ (k : Kept). k.streams) is ∙ h.streams;
+          calls = ap (λ (k : Kept). k.calls) is ∙ h.calls;
+          fence = ap (λ (k : Kept). k.fence) is ∙ h.fence;
+          last = ap (λ (k : Kept). k.last) is ∙ h.last;
+          live = ap (λ (k : Kept). k.lives.live) is ∙ live_is ∙ ap (map row) (sym (answer-left st id o));
+          abandoned = ap (λ (k : Kept). map unmarked k.lives.abandoned) is ∙ left_is;
+        };
+        client = client ∙ ap (λ (ps : List ClientPacket). client_old ++ flat_map client_spelling ps) sends;
+        host = host-same st.agreed (Answers id o) host st.live stays-uncancelled
+            ∙ ap (λ (ps : List (ℕ × RedirPacket)). host ++ flat_map (host_packet_bytes st.agreed) ps)
+            (sym (append-nil (map cancel (filter (cancels (Answers id o)) st.live))) ∙ sym (append-nil (map cancel (filter (cancels (Answers id o)) st.live) ++ [])));
+        notes = notes ∙ ap (λ (ns : List Note). notes_old ++ ns)
+            (tells ∙ sym (append-nil (answer_notes st (Answers id o))) ∙ sym (append-nil (answer_notes st (Answers id o) ++ [])) ∙ sym (append-nil ((answer_notes st (Answers id o) ++ []) ++ [])));
+        answered = ap (λ (k : Kept). k.answered) is ∙ ap (λ (ps : List ClientPacket). capped (old.answered + length (filter is_ret_submit ps))) sends;
+        unlinked = ap (λ (k : Kept). k.unlinked) is ∙ ap (λ (ps : List ClientPacket). capped (old.unlinked + length (filter is_won_unlink ps))) sends;
+        dropped = ap (λ (k : Kept). k.dropped) is ∙ capped-same old.dropped few ∙ ap (λ (ss : List Submission). capped (old.dropped + length ss)) (sym (answer-dropped st id o));
+      }
+
+-- ---- the answer of the one that waits
+
+module _ (st : State) (id : ℕ) (response : Response) (sound : IsSound st) where
+  waits : find (has_id id) (submits st ++ st.abandoned) ≡ option_or (option_map (λ (p : Pending). p.submit) (find (pending_has_id id) st.live)) (find (has_id id) st.abandoned)
+  waits = find-append (has_id id) (submits st) st.abandoned ∙ ap (λ (o : Option Submission). option_or o (find (has_id id) st.abandoned)) (find-map (has_id id) (λ (p : Pending). p.submit) st.live)
+
+  -- of a live one, by its row
+  pub does-live : (old : Kept) (lives : Requests) (l : Live) (won : Bool) (answered unlinked : ℕ) (client_old client_new host : List ℕ) (notes_old notes_new : List Note) → Holds old st → old.dropped ≤ 2 ^ 64 - 1 →
+      find (has_row_id id) old.lives.live ≡ Some l →
+      lives ≡ record old.lives { live = without_first (has_row_id id) old.lives.live } →
+      ((s : Submission) → row_of s l.unlinker ≡ l → client_new ≡ client_old ++ flat_map spelling (answers_by s (seen s.request s.verdict response) l.unlinker)) →
+      ((s : Submission) → row_of s l.unlinker ≡ l → IsCounted (map Urb (answers_by s (seen s.request s.verdict response) l.unlinker)) won) →
+      notes_new ≡ notes_old ++ note.Answered l.seqnum ∷ [] →
+      answered ≡ capped (old.answered + cond won 0 1) →
+      unlinked ≡ capped (old.unlinked + cond won 1 0) →
+      Does st (mark_as st (completes id response (find (has_id id) (submits st ++ st.abandoned))) None) old (record old { lives = lives; answered = answered; unlinked = unlinked }) client_old client_new host host notes_old notes_new
+  does-live old lives l won answered unlinked client_old client_new host notes_old notes_new h few found rest client counted notes answered_is unlinked_is =
+      let p = map-some row (find (pending_has_id id) st.live) l (sym (find-rows id st.live) ∙ ap (find (has_row_id id)) (sym h.live) ∙ found) in
+      let s = p.from.submit in
+      let by : l.unlinker ≡ p.from.unlinker = ap (λ (k : Live). k.unlinker) (sym p.is) in
+      let its : row_of s l.unlinker ≡ l = ap (row_of s) by ∙ p.is in
+      let o = seen s.request s.verdict response in
+      let one : sent st id o (p.from ∷ []) ≡ map Urb (answers_by s o l.unlinker) = ap (map Urb) (append-nil (answers_by s o p.from.unlinker)) ∙ ap (λ (u : Option ℕ). map Urb (answers_by s o u)) (sym by) in
+      let count = counted s its in
+      let effect : Answers id o ≡ completes id response (find (has_id id) (submits st ++ st.abandoned)) =
+      sym (ap (completes id response) (waits ∙ ap (λ (q : Option Pending). option_or (option_map (λ (r : Pending). r.submit) q) (find (has_id id) st.abandoned)) p.found)) in
+      subst (λ (e : Effect). Does st (mark_as st e None) old (record old { lives = lives; answered = answered; unlinked = unlinked }) client_old client_new host host notes_old notes_new) effect
+      (does-answer st id o old (record old { lives = lives; answered = answered; unlinked = unlinked }) lives.live lives.abandoned (p.from ∷ []) client_old client_new host notes_old notes_new h few
+      (found-alone st id sound ∙ ap option_to_list p.found)
+      (ap (λ (r : Requests). r.live) rest ∙ ap (without_first (has_row_id id)) h.live ∙ live-without st id sound)
+      (ap (λ (r : Requests). map unmarked r.abandoned) rest ∙ h.abandoned
+      ∙ (let none = left-alone st id sound p.from p.found in ap (map left_row) (none ∙ sym (ap (filter (λ s. not (has_id id s))) none))))
+      (λ i. record old {
+        lives = lives;
+        answered = (answered_is ∙ ap (λ (n : ℕ). capped (old.answered + n)) (sym count.answered ∙ sym (ap (λ (ps : List ClientPacket). length (filter is_ret_submit ps)) one))) i;
+        unlinked = (unlinked_is ∙ ap (λ (n : ℕ). capped (old.unlinked + n)) (sym count.unlinked ∙ sym (ap (λ (ps : List ClientPacket). length (filter is_won_unlink ps)) one))) i;
+      })
+      (client s its ∙ ap (λ (bs : List ℕ). client_old ++ bs) (sym (flat_map-map client_spelling Urb (answers_by s o l.unlinker)) ∙ sym (ap (flat_map client_spelling) one)))
+      (notes ∙ ap (λ (n : ℕ). notes_old ++ note.Answered n ∷ []) (ap (λ (k : Live). k.seqnum) (sym p.is))))
+
+  -- which is told
+  pub live-gives : (old : Kept) (l : Live) → Holds old st → find (has_row_id id) old.lives.live ≡ Some l →
+      GivesSome st (mark_as st (completes id response (find (has_id id) (submits st ++ st.abandoned))) None)
+  live-gives old l h found =
+      let p = map-some row (find (pending_has_id id) st.live) l (sym (find-rows id st.live) ∙ ap (find (has_row_id id)) (sym h.live) ∙ found) in
+      let o = seen p.from.submit.request p.from.submit.verdict response in
+      let effect : Answers id o ≡ completes id response (find (has_id id) (submits st ++ st.abandoned)) =
+      sym (ap (completes id response) (waits ∙ ap (λ (q : Option Pending). option_or (option_map (λ (r : Pending). r.submit) q) (find (has_id id) st.abandoned)) p.found)) in
+      let one : length (answer_notes st (Answers id o)) ≡ 1 = ap length (answer-noted st id o ∙ ap (told_of st id o) (found-alone st id sound ∙ ap option_to_list p.found)) in
+      subst (λ (e : Effect). GivesSome st (mark_as st e None)) effect (by-answer st (Answers id o) None (omega (arith, one)))
+
+  -- of one whose client is gone, or of none
+  pub does-late : (old : Kept) (lives : Requests) (client host : List ℕ) (notes : List Note) → Holds old st → old.answered ≤ 2 ^ 64 - 1 → old.unlinked ≤ 2 ^ 64 - 1 → old.dropped ≤ 2 ^ 64 - 1 →
+      find (has_row_id id) old.lives.live ≡ None →
+      lives ≡ record old.lives { abandoned = without_first (has_row_id id) old.lives.abandoned } →
+      Does st (mark_as st (completes id response (find (has_id id) (submits st ++ st.abandoned))) None) old (record old { lives = lives }) client client host host notes notes
+  does-late old lives client host notes h answered_fits unlinked_fits dropped_fits missing rest =
+      subst (λ (o : Option Submission). Does st (mark_as st (completes id response o) None) old (record old { lives = lives }) client client host host notes notes)
+      (sym (waits ∙ ap (λ (q : Option Pending). option_or (option_map (λ (r : Pending). r.submit) q) (find (has_id id) st.abandoned)) none))
+      (of (find (has_id id) st.abandoned) refl)
+    where
+      none : find (pending_has_id id) st.live ≡ None
+      none = map-none row (find (pending_has_id id) st.live) (sym (find-rows id st.live) ∙ ap (find (has_row_id id)) (sym h.live) ∙ missing)
+
+      rows : lives.live ≡ map row (filter (λ p. not (pending_has_id id p)) st.live)
+      rows = ap (λ (r : Requests). r.live) rest ∙ sym (without-none (has_row_id id) old.lives.live missing) ∙ ap (without_first (has_row_id id)) h.live ∙ live-without st id sound
+
+      of : (o : Option Submission) → find (has_id id) st.abandoned ≡ o → Does st (mark_as st (completes id response o) None) old (record old { lives = lives }) client client host host notes notes
+      of (Some s) e =
+          does-answer st id (seen s.request s.verdict response) old (record old { lives = lives }) lives.live lives.abandoned [] client client host notes notes h dropped_fits
+          (found-alone st id sound ∙ ap option_to_list none) rows
+          (ap (λ (r : Requests). map unmarked r.abandoned) rest ∙ abandoned-without st id sound old.lives.abandoned h.abandoned)
+          (λ i. record old { lives = lives; answered = capped-same old.answered answered_fits i; unlinked = capped-same old.unlinked unlinked_fits i })
+          (sym (append-nil client)) (sym (append-nil notes))
+      of None e =
+          let nobody = map-none unmarked (find (has_row_id id) old.lives.abandoned) (find-unmarked id old.lives.abandoned ∙ ap (find (has_row_id id)) h.abandoned ∙ find-left id st.abandoned ∙ ap (option_map left_row) e) in
+          let same : lives ≡ old.lives = rest ∙ ap (λ (ls : List Live). record old.lives { abandoned = ls }) (without-none (has_row_id id) old.lives.abandoned nobody) in
+          subst (λ (r : Requests). Does st (mark_as st Idle None) old (record old { lives = r }) client client host host notes notes) (sym same)
+          (does-idle st old client host notes h answered_fits unlinked_fits dropped_fits)
+
+-- ---- what is wrong of an answer
+
+abbrev pub wrong_of : State → ℕ → Header → Response → Submission → Option Refusal
+wrong_of st at h response s = mismatch at (head_size (wide_ids st.agreed)) s h.kind response
+
+-- by the row of the request that waits for it, and by its submit
+pub found-wrong : (old : Kept) (st : State) (at place : ℕ) (h : Header) (response : Response) → Holds old st → place ≡ capped at → ResponseFits h.kind (Some response) →
+    option_and_then (λ l. row_mismatch place (head_size (wide_ids old.caps)) l h.kind response) (option_or (find (has_row_id h.id) old.lives.live) (find (has_row_id h.id) old.lives.abandoned))
+    ≡ option_and_then (wrong_of st at h response) (find (has_id h.id) (submits st ++ st.abandoned))
+found-wrong old st at place h response holds is fits =
+    (λ i. option_and_then (λ l. row_mismatch (is i) (head_size (wide_ids (holds.caps i))) l h.kind response) (option_or ((ap (find (has_row_id h.id)) holds.live ∙ find-rows h.id st.live) i) (find (has_row_id h.id) old.lives.abandoned)))
+    ∙ of (find (pending_has_id h.id) st.live) (find (has_row_id h.id) old.lives.abandoned) (find (has_id h.id) st.abandoned)
+    (find-unmarked h.id old.lives.abandoned ∙ ap (find (has_row_id h.id)) holds.abandoned ∙ find-left h.id st.abandoned)
+    ∙ ap (option_and_then (wrong_of st at h response)) (ap (λ (o : Option Submission). option_or o (find (has_id h.id) st.abandoned)) (sym (find-map (has_id h.id) (λ (p : Pending). p.submit) st.live)) ∙ sym (find-append (has_id h.id) (submits st) st.abandoned))
+  where
+    one : (s : Submission) (by : Option ℕ) → row_mismatch (capped at) (head_size (wide_ids st.agreed)) (row_of s by) h.kind response ≡ wrong_of st at h response s
+    one s by = row-mismatch (capped at) (head_size (wide_ids st.agreed)) s by h.kind response fits ∙ mismatch-capped at (head_size (wide_ids st.agreed)) s h.kind response
+
+    -- of abandoned ones, whose unlinkers don't matter
+    left : (r : Option Live) (a : Option Submission) → option_map unmarked r ≡ option_map left_row a →
+        option_and_then (λ l. row_mismatch (capped at) (head_size (wide_ids st.agreed)) l h.kind response) r ≡ option_and_then (wrong_of st at h response) a
+    left None None e = refl
+    left (Some l) (Some s) e = ap (λ (o : Option Live). option_and_then (λ l. row_mismatch (capped at) (head_size (wide_ids st.agreed)) l h.kind response) o) e ∙ one s None
+    left None (Some s) e = absurd (false≢true (sym (ap is_none e)))
+    left (Some l) None e = absurd (false≢true (ap is_none e))
+
+    of : (p : Option Pending) (r : Option Live) (a : Option Submission) → option_map unmarked r ≡ option_map left_row a →
+        option_and_then (λ l. row_mismatch (capped at) (head_size (wide_ids st.agreed)) l h.kind response) (option_or (option_map row p) r)
+        ≡ option_and_then (wrong_of st at h response) (option_or (option_map (λ (q : Pending). q.submit) p) a)
+    of (Some p) r a e = one p.submit p.unlinker
+    of None r a e = left r a e
+
+pub is-refused : (st : State) (at : ℕ) (h : Header) (response : Response) (o : Option Submission) (r : Refusal) → option_and_then (wrong_of st at h response) o ≡ Some r → answer_to st at h response o ≡ Refuses r
+is-refused st at h response None r e = absurd (false≢true (sym (ap is_none e)))
+is-refused st at h response (Some s) r e = ap (answered_as h.id (seen s.request s.verdict response)) e
+
+pub is-completed : (st : State) (at : ℕ) (h : Header) (response : Response) (o : Option Submission) → option_and_then (wrong_of st at h response) o ≡ None → answer_to st at h response o ≡ completes h.id response o
+is-completed st at h response None e = refl
+is-completed st at h response (Some s) e = ap (answered_as h.id (seen s.request s.verdict response)) e
+
+-- an answer of which nothing is wrong is that of the live request that waits for it
+pub found-answer : (caps : Caps) (place head id kind : ℕ) (response : Response) (rows : List Live) (left : Option Live) → Each (IsFine caps) rows → ResponseFits kind (Some response) →
+    option_and_then (λ l. row_mismatch place head l kind response) (option_or (find (has_row_id id) rows) left) ≡ None → IfSome (find (has_row_id id) rows) (λ l. IsAnswer l response)
+found-answer caps place head id kind response rows left fine fits e = of (find (has_row_id id) rows) refl e
+  where
+    of : (o : Option Live) → find (has_row_id id) rows ≡ o → option_and_then (λ l. row_mismatch place head l kind response) (option_or o left) ≡ None → IfSome o (λ l. IsAnswer l response)
+    of None is k = tt
+    of (Some l) is k = is-answer caps place head l kind response (Each-find (IsFine caps) (has_row_id id) rows l fine is) fits k
+
+-- ---- a fact that is told with it
+
+-- a host that is refused for its answer has lost its device
+closing : (r : Refusal) → cond (is_of false (Some r)) true false ≡ is_of false (Some r)
+closing r = elim (is_of false (Some r)) as (λ b. cond b true false ≡ b) [ true ↦ refl | false ↦ refl ]
+
+answer-closes : (st : State) (at : ℕ) (h : Header) (response : Response) (o : Option Submission) → turned closes_host never (answer_to st at h response o) false ≡ is_loss (answer_to st at h response o)
+answer-closes st at h response None = refl
+answer-closes st at h response (Some s) = of (mismatch at (head_size (wide_ids st.agreed)) s h.kind response)
+  where
+    of : (r : Option Refusal) → turned closes_host never (answered_as h.id (seen s.request s.verdict response) r) false ≡ is_loss (answered_as h.id (seen s.request s.verdict response) r)
+    of None = refl
+    of (Some r) = closing r
+
+response-closes : (st : State) (at : ℕ) (h : Header) (response : Option Response) → turned closes_host never (by_response st at h response) false ≡ is_loss (by_response st at h response)
+response-closes st at h None = refl
+response-closes st at h (Some response) = answer-closes st at h response (find (has_id h.id) (submits st ++ st.abandoned))
+
+pub does-tell : (st : State) (at : ℕ) (header : Header) (response : Option Response) (fact : Option Fact) (old mid : Kept) (client_old client_new host_old host_new : List ℕ) (notes_old notes_new : List Note) → st.host_over ≡ false →
+    Does st (mark_as st (by_response st at header response) None) old mid client_old client_new host_old host_new notes_old notes_new →
+    Does st (mark_as st (by_response st at header response) fact) old (record mid { facts = cond mid.host_over mid.facts (tell mid.facts fact) }) client_old client_new host_old host_new notes_old notes_new
+does-tell st at header response fact old mid client_old client_new host_old host_new notes_old notes_new going d =
+    record {
+      holds = record {
+        facts = ap (λ (b : Bool). cond b mid.facts (tell mid.facts fact)) over ∙ of (is_loss (by_response st at header response)) mid.facts d.holds.facts;
+        caps = d.holds.caps;
+        imported = d.holds.imported;
+        lost = d.holds.lost;
+        client_over = d.holds.client_over;
+        host_over = d.holds.host_over;
+        streams = d.holds.streams;
+        calls = d.holds.calls;
+        fence = d.holds.fence;
+        last = d.holds.last;
+        live = d.holds.live;
+        abandoned = d.holds.abandoned;
+      };
+      client = d.client;
+      host = d.host;
+      notes = d.notes;
+      answered = d.answered;
+      unlinked = d.unlinked;
+      dropped = d.dropped;
+    }
+  where
+    over : mid.host_over ≡ is_loss (by_response st at header response)
+    over = d.holds.host_over ∙ ap (turned closes_host never (by_response st at header response)) going ∙ response-closes st at header response
+
+    of : (b : Bool) (f : Facts) → f ≡ cond b no_facts st.facts → cond b f (tell f fact) ≡ cond b no_facts (tell st.facts fact)
+    of true f h = h
+    of false f h = ap (λ (g : Facts). tell g fact) h
+
+-- ---- a hello, and all else but a disconnect
+
+pub does-agree : (st : State) (old : Kept) (caps : Caps) (client host : List ℕ) (notes : List Note) → Holds old st → old.answered ≤ 2 ^ 64 - 1 → old.unlinked ≤ 2 ^ 64 - 1 → old.dropped ≤ 2 ^ 64 - 1 →
+    Does st (mark_as st (Agrees caps) None) old (record old { caps = caps }) client client host host notes notes
+does-agree st old caps client host notes h answered_fits unlinked_fits dropped_fits =
+    does-steady st (Agrees caps) (agrees-steady st caps) old (record old { caps = caps }) old.lives.live client client host host notes notes h answered_fits unlinked_fits dropped_fits
+    (rows-same (Agrees caps) old.lives.live st.live (λ s. refl) h.live) refl (sym (append-nil client)) (host-same st.agreed (Agrees caps) host st.live stays-uncancelled) (sym (append-nil notes))
+
+pub told-other : (st : State) (at : ℕ) (h : Header) (p : RedirControl) → ((hello : Hello) → p ≡ plain.Hello hello → ⊥) → (p ≡ plain.Disconnect → ⊥) →
+    ((status endpoint : ℕ) → p ≡ plain.IsoStatus status endpoint → ⊥) → ((status endpoint : ℕ) → p ≡ plain.InterruptStatus status endpoint → ⊥) →
+    told_meaning st at h (Plain p) ≡ by_response st at h (response_of (Plain p))
+told-other st at h (plain.Hello hello) no_hello no_disconnect no_iso no_interrupt = absurd (no_hello hello refl)
+told-other st at h plain.Disconnect no_hello no_disconnect no_iso no_interrupt = absurd (no_disconnect refl)
+told-other st at h (plain.IsoStatus status endpoint) no_hello no_disconnect no_iso no_interrupt = absurd (no_iso status endpoint refl)
+told-other st at h (plain.InterruptStatus status endpoint) no_hello no_disconnect no_iso no_interrupt = absurd (no_interrupt status endpoint refl)
+told-other st at h p no_hello no_disconnect no_iso no_interrupt = refl

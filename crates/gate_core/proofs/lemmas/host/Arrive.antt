@@ -1,0 +1,220 @@
+-- What a packet of a stream makes of what is kept.
+use Rattle.std.proofs.Common.{◌≡◌, ◌≤◌, ◌%◌, ◌-◌, ◌==◌, ℕ, Bool, true, false, cond, List, [], ◌∷◌, ◌++◌, length, map, Option, Some, None, Result, Ok, Err, OnOk, OnErr, refl, sym, ap, ◌∙◌, subst, inl, inr, arith}
+use Rattle.std.specs.Prelude.{nat_lt, filter, slice_set}
+use Rattle.std.specs.Option.{option_map}
+use Rattle.std.proofs.lemmas.Bool.{lt-ltb, ltb-true, cases_Bool}
+use Rattle.std.proofs.lemmas.List.{append-nil}
+use Rattle.usb_base.specs.Endpoint.{IsEndpoint, endpoint_index}
+use Rattle.usb_base.specs.declared.transfer.StreamPacket.{StreamPacket}
+use Rattle.gate_history.specs.declared.note.Note.{Note}
+use Rattle.gate_history.specs.declared.note.Note.TheVariants as note
+use Rattle.gate_core.specs.declared.state.kept.Kept.{Kept}
+use Rattle.gate_history.specs.client.Requests.{Request}
+use Rattle.gate_history.specs.host.Fillings.{Fill, none_filled, fill}
+use Rattle.gate_history.specs.step.Marks.{Submission, Effect, Arrives}
+use Rattle.gate_history.specs.client.Submits.{Pending, ByPackets, waits_at, packets_end, own_end}
+use Rattle.gate_history.specs.state.Ups.{Up, stream_at, stream_of, hold}
+use Rattle.gate_history.specs.state.State.{State, is_number}
+use Rattle.gate_history.specs.state.Sound.{IsSound}
+use Rattle.gate_history.specs.step.Meaning.{mark_as, arrives, waiting, is_held}
+use Rattle.gate_history.specs.write.Output.{present}
+use Rattle.gate_parts.specs.state.Rows.{row}
+use Rattle.gate_parts.specs.host.Fill.{up_fill, up_bytes, filled_notes}
+use Rattle.gate_core.specs.inner.Fill.{with_packet, received_bytes, received_notes, HasEnded, HasReceivedIf, HasReceived}
+use Rattle.gate_core.specs.inner.Holds.{IsKept, Holds, Does}
+use Rattle.gate_history.proofs.lemmas.Lists.{Each, every, filter-map, map-map}
+use Rattle.gate_core.proofs.lemmas.client.WaitRows.{IsGoing, all-going}
+use Rattle.gate_core.proofs.lemmas.step.Steady.{IsSteady, does-steady, rows-same, host-same}
+use Rattle.gate_history.proofs.lemmas.step.NoCancel.{stays-uncancelled}
+use Rattle.gate_core.proofs.lemmas.host.Fill.{Differ, number, requests, waiters, fillings, FillsAll, fills-all}
+use Rattle.gate_core.proofs.lemmas.host.FillItem.{IsFiller, does-fill-up}
+use Rattle.gate_parts.proofs.lemmas.state.Places.{set-twice, set-back}
+
+-- ---- the stream of an address
+
+pub of-address : (ups : List (Option Up)) (byte : ℕ) → IsEndpoint byte → stream_of ups byte ≡ stream_at ups byte
+of-address ups byte h = ap (λ (b : Bool). cond b (stream_at ups byte) None) (lt-ltb (byte % 128) 16 h)
+
+pub of-none : (ups : List (Option Up)) (byte : ℕ) → (IsEndpoint byte → ⊥) → stream_of ups byte ≡ None
+of-none ups byte h =
+    elim (cases_Bool (nat_lt (byte % 128) 16)) [
+      | inl e ↦ absurd (h (ltb-true (byte % 128) 16 e))
+      | inr e ↦ ap (λ (b : Bool). cond b (stream_at ups byte) None) e
+    ]
+
+-- ---- the numbers of the live requests differ
+
+none-numbered : (n : ℕ) (ps : List Pending) → length (filter (is_number n) (map (λ (p : Pending). p.submit) ps)) ≤ 0 → Each (λ q. (n == number q) ≡ false) ps
+none-numbered n [] h = tt
+none-numbered n (p ∷ ps) h =
+    elim (cases_Bool (is_number n p.submit)) [
+      | inl e ↦ let k : length (p.submit ∷ filter (is_number n) (map (λ (q : Pending). q.submit) ps)) ≤ 0 = rw e at h in absurd (omega arith)
+      | inr e ↦ (swapped (number p) n e, none-numbered n ps (rw e at h))
+    ]
+  where
+    swapped : (a b : ℕ) → (a == b) ≡ false → (b == a) ≡ false
+    swapped a b e = grind (arith, e)
+
+pub all-differ : (ps : List Pending) → ((n : ℕ) → length (filter (is_number n) (map (λ (p : Pending). p.submit) ps)) ≤ 1) → Differ ps
+all-differ [] h = tt
+all-differ (p ∷ ps) h = (none-numbered (number p) ps (first (h (number p))), all-differ ps (λ n. rest n (is_number n p.submit) refl (h n)))
+  where
+    tail : ℕ → List Submission
+    tail n = filter (is_number n) (map (λ (q : Pending). q.submit) ps)
+
+    own : (n : ℕ) → (n == n) ≡ true
+    own n = grind arith
+
+    first : length (cond (number p == number p) (p.submit ∷ filter (is_number (number p)) (map (λ (q : Pending). q.submit) ps)) (filter (is_number (number p)) (map (λ (q : Pending). q.submit) ps))) ≤ 1
+        → length (filter (is_number (number p)) (map (λ (q : Pending). q.submit) ps)) ≤ 0
+    first k = let one : length (p.submit ∷ filter (is_number (number p)) (map (λ (q : Pending). q.submit) ps)) ≤ 1 =
+        subst (λ (b : Bool). length (cond b (p.submit ∷ filter (is_number (number p)) (map (λ (q : Pending). q.submit) ps)) (filter (is_number (number p)) (map (λ (q : Pending). q.submit) ps))) ≤ 1) (own (number p)) k in
+        omega (arith, one)
+
+    rest : (n : ℕ) (b : Bool) → is_number n p.submit ≡ b →
+        length (cond (is_number n p.submit) (p.submit ∷ filter (is_number n) (map (λ (q : Pending). q.submit) ps)) (filter (is_number n) (map (λ (q : Pending). q.submit) ps))) ≤ 1
+        → length (filter (is_number n) (map (λ (q : Pending). q.submit) ps)) ≤ 1
+    rest n true e k = let more : length (p.submit ∷ filter (is_number n) (map (λ (q : Pending). q.submit) ps)) ≤ 1 =
+        subst (λ (b : Bool). length (cond b (p.submit ∷ filter (is_number n) (map (λ (q : Pending). q.submit) ps)) (filter (is_number n) (map (λ (q : Pending). q.submit) ps))) ≤ 1) e k in omega (arith, more)
+    rest n false e k = subst (λ (b : Bool). length (cond b (p.submit ∷ filter (is_number n) (map (λ (q : Pending). q.submit) ps)) (filter (is_number n) (map (λ (q : Pending). q.submit) ps))) ≤ 1) e k
+
+-- ---- those that wait
+
+pub waiting-are : (st : State) (ep : ℕ) → waiting st ep ≡ requests (waiters ep st.live)
+waiting-are st ep =
+    ap (map (λ (s : Submission). s.request)) (filter-map (waits_at ep) (λ (p : Pending). p.submit) st.live)
+    ∙ map-map (λ (s : Submission). s.request) (λ (p : Pending). p.submit) (waiters ep st.live)
+
+-- ---- an arrival
+
+module _ (st : State) (sound : IsSound st) (ep : ℕ) (packet : StreamPacket) (up : Up) where
+  abbrev held : Effect
+  held = Arrives ep (fill up.row.max_packet (waiting st ep) (up.held ++ packet ∷ []))
+
+  here : present st held ≡ st.live
+  here = append-nil st.live
+
+  filled : fill up.row.max_packet (waiting st ep) (up.held ++ packet ∷ []) ≡ fill up.row.max_packet (requests (waiters ep (present st held))) (up.held ++ packet ∷ [])
+  filled = ap (λ (rs : List Request). fill up.row.max_packet rs (up.held ++ packet ∷ [])) (waiting-are st ep ∙ ap (λ (ps : List Pending). requests (waiters ep ps)) (sym here))
+
+  arrives-filler : IsFiller st held ep (fillings up.row.max_packet (waiters ep (present st held)) (up.held ++ packet ∷ []))
+  arrives-filler = record {
+    stays = refl;
+    keeps = refl;
+    open_host = refl;
+    no_caps = refl;
+    no_import = refl;
+    no_refusal = refl;
+    no_end = refl;
+    answers_none = λ s. refl;
+    no_word = λ caps. refl;
+    no_place = refl;
+    no_reply = refl;
+    no_asks = λ s. refl;
+    no_cancel = stays-uncancelled;
+    no_fence = λ fence. refl;
+    fills = λ s. ap (λ (f : Fill). packets_end ep f.fillings s) filled;
+  }
+
+  all : FillsAll up.row.max_packet ep (present st held) (up.held ++ packet ∷ [])
+  all =
+      fills-all up.row.max_packet ep (present st held) (up.held ++ packet ∷ []) (subst (Each IsGoing) (sym here) (all-going st sound))
+      (subst Differ (sym here) (all-differ st.live sound.numbers))
+
+  -- it is held, and may fill requests
+  pub does-hold : (up_new : Up) (old between mid new : Kept) (client_old client_new host : List ℕ) (notes_old notes_new : List Note) → Holds old st → IsKept old →
+      stream_at old.streams ep ≡ Some up →
+      between ≡ record old { streams = slice_set old.streams (endpoint_index ep) None } →
+      HasEnded ep (with_packet packet up) up_new between mid →
+      new ≡ record mid { streams = slice_set mid.streams (endpoint_index ep) (Some up_new) } →
+      client_new ≡ client_old ++ up_bytes ep (with_packet packet up) between.lives.live →
+      notes_new ≡ notes_old ++ note.Arrived ep ∷ filled_notes (up_fill ep (with_packet packet up) between.lives.live) →
+      Does st (mark_as st held None) old new client_old client_new host host notes_old notes_new
+  does-hold up_new old between mid new client_old client_new host notes_old notes_new h k at between-is ended is client notes =
+      does-fill-up st held up.row.max_packet ep (up.held ++ packet ∷ []) arrives-filler all up up_new old between mid new client_old client_new host host notes_old notes_new
+      (fill up.row.max_packet (waiting st ep) (up.held ++ packet ∷ [])) h k.unlinked_fits k.dropped_fits at refl filled refl refl
+      (ap (λ (t : Kept). t.lives.live) between-is ∙ h.live ∙ ap (map row) (sym here))
+      (between-is ∙ ap (λ (t : Kept). record old { lives = t.lives; streams = slice_set old.streams (endpoint_index ep) None }) (sym between-is))
+      (ap (λ (t : Kept). t.lives.abandoned) between-is) ended is client refl notes
+
+-- ---- a packet that is lost
+
+module _ (st : State) (ep : ℕ) (up : Up) (at : stream_at st.streams ep ≡ Some up) where
+  abbrev lost : Effect
+  lost = Arrives ep (none_filled up.held)
+
+  none-ends : (s : Submission) → packets_end ep [] s ≡ None
+  none-ends s = elim (waits_at ep s) as (λ b. cond b (option_map ByPackets None) None ≡ None) [ true ↦ refl | false ↦ refl ]
+
+  lost-steady : IsSteady st lost
+  lost-steady = record {
+    stays = refl;
+    keeps = refl;
+    open_host = refl;
+    no_refusal = refl;
+    no_end = refl;
+    opens = refl;
+    ends_none = every (λ (p : Pending). own_end lost p.submit ≡ None) (λ p. none-ends p.submit) st.live;
+    answers_none = λ s. refl;
+    no_packets = refl;
+    no_ids = refl;
+    no_word = λ caps. refl;
+    no_place = refl;
+    no_answer = refl;
+    none_won = refl;
+  }
+
+  -- it is told, and nothing changes
+  pub does-lose : (old new : Kept) (client host : List ℕ) (notes_old notes_new : List Note) → Holds old st → IsKept old → new ≡ old →
+      notes_new ≡ notes_old ++ note.Arrived ep ∷ [] → Does st (mark_as st lost None) old new client client host host notes_old notes_new
+  does-lose old new client host notes_old notes_new h k is notes =
+      does-steady st lost lost-steady old new old.lives.live client client host host notes_old notes_new h k.answered_fits k.unlinked_fits k.dropped_fits
+      (rows-same lost old.lives.live st.live (λ s. refl) h.live)
+      (is ∙ ap (λ (ups : List (Option Up)). record old { streams = ups }) (sym same)) (sym (append-nil client)) (host-same st.agreed lost host st.live stays-uncancelled) notes
+    where
+      there : stream_at old.streams ep ≡ Some up
+      there = ap (λ (ups : List (Option Up)). stream_at ups ep) h.streams ∙ at
+
+      same : hold ep up.held old.streams ≡ old.streams
+      same =
+          ap (λ (o : Option Up). slice_set old.streams (endpoint_index ep) (option_map (λ (u : Up). record u { held = up.held }) o)) there
+          ∙ ap (λ (o : Option Up). slice_set old.streams (endpoint_index ep) o) (sym there)
+          ∙ set-back old.streams (endpoint_index ep) None
+
+-- ---- either
+
+-- both of what holds where it succeeds
+pub on-ok : {T E : Type 0} {P Q R S : Type 0} (r : Result T E) → (P → Q → R → S) → OnOk r P → OnOk r Q → OnOk r R → OnOk r S
+on-ok (Ok v) f p q r = f p q r
+on-ok (Err e) f p q r = tt
+
+pub does-receive : (st : State) (sound : IsSound st) (endpoint : ℕ) (iso : Bool) (packet : StreamPacket) (up up_new : Up) (old between mid new : Kept) (client_old client_new host : List ℕ) (notes_old notes_new : List Note) → Holds old st → IsKept old →
+    IsEndpoint endpoint → stream_at old.streams endpoint ≡ Some up →
+    between ≡ record old { streams = slice_set old.streams (endpoint_index endpoint) None } →
+    new ≡ record mid { streams = slice_set mid.streams (endpoint_index endpoint) (Some up_new) } →
+    HasReceived endpoint iso packet up up_new between mid →
+    client_new ≡ client_old ++ received_bytes endpoint iso packet up between.lives.live →
+    notes_new ≡ notes_old ++ note.Arrived endpoint ∷ received_notes endpoint iso packet up between.lives.live →
+    Does st (mark_as st (arrives st endpoint iso packet (stream_of st.streams endpoint)) None) old new client_old client_new host host notes_old notes_new
+does-receive st sound endpoint iso packet up up_new old between mid new client_old client_new host notes_old notes_new h k byte at between-is is received client notes =
+    let there : stream_of st.streams endpoint ≡ Some up = of-address st.streams endpoint byte ∙ ap (λ (ups : List (Option Up)). stream_at ups endpoint) (sym h.streams) ∙ at in
+    subst (λ (o : Option Up). Does st (mark_as st (arrives st endpoint iso packet o) None) old new client_old client_new host host notes_old notes_new) (sym there)
+    (by (is_held iso up) received client notes)
+  where
+    by : (b : Bool) → HasReceivedIf endpoint b packet up up_new between mid →
+        client_new ≡ client_old ++ cond b (up_bytes endpoint (with_packet packet up) between.lives.live) [] →
+        notes_new ≡ notes_old ++ note.Arrived endpoint ∷ cond b (filled_notes (up_fill endpoint (with_packet packet up) between.lives.live)) [] →
+        Does st (mark_as st (Arrives endpoint (cond b (fill up.row.max_packet (waiting st endpoint) (up.held ++ packet ∷ [])) (none_filled up.held))) None) old new client_old client_new host host notes_old notes_new
+    by true r cl nt = does-hold st sound endpoint packet up up_new old between mid new client_old client_new host notes_old notes_new h k at between-is r is cl nt
+    by false r cl nt =
+        let same : new ≡ old =
+        is ∙ ap (λ (t : Kept). record t { streams = slice_set t.streams (endpoint_index endpoint) (Some up_new) }) (r.same ∙ between-is)
+        ∙ ap (λ (ups : List (Option Up)). record old { streams = ups })
+        (set-twice old.streams (endpoint_index endpoint) None (Some up_new) ∙ ap (slice_set old.streams (endpoint_index endpoint)) (ap (λ (u : Up). Some u) r.up_same ∙ sym at)
+        ∙ set-back old.streams (endpoint_index endpoint) None) in
+        subst (λ (bs : List ℕ). Does st (mark_as st (Arrives endpoint (none_filled up.held)) None) old new client_old bs host host notes_old notes_new) (sym (cl ∙ append-nil client_old))
+        (does-lose st endpoint up (ap (λ (ups : List (Option Up)). stream_at ups endpoint) (sym h.streams) ∙ at) old new client_old host notes_old notes_new h k same nt)
+
+pub on-err : {T E : Type 0} {P Q R U S : Type 0} (r : Result T E) → (P → Q → R → U → S) → OnErr r P → OnErr r Q → OnErr r R → OnErr r U → OnErr r S
+on-err (Ok v) f p q r u = tt
+on-err (Err e) f p q r u = f p q r u

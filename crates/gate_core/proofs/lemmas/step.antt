@@ -1,0 +1,11 @@
+-- One item, one event, and all of them.
+pub mod NextPacket
+pub mod Steady
+pub mod Take
+pub mod Translator
+pub mod Sides
+pub mod Pieces
+pub mod Streams
+pub mod Event
+pub mod Ends
+pub mod Rests

@@ -1,0 +1,152 @@
+-- The ends of both sides, and the gate to which nothing has happened.
+use Rattle.std.proofs.Common.{◌≡◌, ℕ, true, false, List, [], ◌∷◌, None, inr, refl, sym, ap, subst, ◌∙◌, arith}
+use Rattle.std.proofs.lemmas.Bool.{true≢false}
+use Rattle.usb_base.specs.declared.reason.Reason.{Reason}
+use Rattle.packet_stream.specs.Format.{Format, IsSound, wrong_at}
+use Rattle.packet_stream.specs.Split.{Position, Splitting, reads}
+use Rattle.packet_stream.specs.Streams.{Kept, ended, capped}
+use Rattle.redir_wire.specs.declared.packet.Way.TheVariants.{ToGuest}
+use Rattle.redir_data.specs.declared.state.RedirState.{RedirState}
+use Rattle.redir_data.specs.Streams.{start, after}
+use Rattle.redir_data.specs.sound.Joined.{stream_sound}
+use Rattle.usbip_urb.specs.Sound.ClientPackets.{client_packets_sound}
+use Rattle.gate_history.specs.declared.note.Note.{Note}
+use Rattle.gate_history.specs.declared.item.Item.TheVariants as raw
+use Rattle.gate_core.specs.declared.step.inner.Inner.{Inner}
+use Rattle.gate_core.specs.declared.state.kept.Kept.{Kept as Translator}
+use Rattle.gate_history.specs.step.Items.{ClientLeft, HostLeft}
+use Rattle.gate_history.specs.step.Events.{Event, ClientEnd, HostEnd, client_bytes, host_bytes}
+use Rattle.gate_history.specs.state.Sides.{client_over, host_over}
+use Rattle.gate_history.specs.step.Streams.{client_format, client_next, client_reader, client_start, host_format, host_reader, host_start}
+use Rattle.gate_history.specs.state.State.{state_of}
+use Rattle.gate_history.specs.step.Past.{is_left_out, past}
+use Rattle.gate_history.specs.step.History.{brought, arrivals}
+use Rattle.gate_history.specs.step.Came.{asked, told}
+use Rattle.gate_core.specs.step.Stands.{HasAll, Stands, Stops}
+use Rattle.gate_history.specs.step.Wants.{FirstWants}
+use Rattle.gate_core.specs.inner.Holds.{IsFirst, DoesNothing}
+use Rattle.gate_core.specs.inner.Steps.{kept_of, TakesOn}
+use Rattle.gate_history.proofs.lemmas.state.Sound.{state-sound}
+use Rattle.gate_history.proofs.lemmas.step.Apart.{left-host, left-client}
+use Rattle.gate_history.proofs.lemmas.step.Capabilities.{left-over}
+use Rattle.gate_core.proofs.lemmas.step.Translator.{sends-none, translates-past, sends-past, past-skipped, translates-item, sends-item}
+use Rattle.gate_core.proofs.lemmas.step.Pieces.{TakesItem}
+use Rattle.gate_core.proofs.lemmas.step.Event.{all-same, stops-before, stands-for}
+use Rattle.gate_history.proofs.lemmas.step.Empty.{split-empty}
+
+-- ---- a stream of which nothing has come
+
+abbrev first-kept : {S : Type 0} → S → Kept S
+first-kept s = record { state = s; rest = []; place = 0; held = []; at = 0; over = false }
+
+all-first : {S P : Type 0} (format : S → Format P Reason) (next : S → P → S) → ((s : S) → IsSound (format s)) → (s : S) (kept : Kept S) → wrong_at (format s).checks [] ≡ None → kept ≡ first-kept s →
+    HasAll (reads format next) (record { state = s; place = 0 }) kept [] [] false
+all-first {S = S} {P = P} format next sound s kept none is =
+    let a : Position S = record { state = s; place = 0 } in
+    let r = reads format next in
+    let parts = split-empty format next sound a none in
+    let first : HasAll r a (first-kept s) [] [] false = record {
+      over_is = refl;
+      none = λ _. refl;
+      empty = λ _. refl;
+      drained = λ _. record {
+        packets = ap (λ (x : Splitting S P Reason). x.packets) parts;
+        right = ap (λ (x : Splitting S P Reason). x.wrong) parts;
+        rest = sym (ap (λ (x : Splitting S P Reason). x.rest) parts);
+        place = sym (ap (λ (x : Splitting S P Reason). capped x.position.place) parts);
+        state = sym (ap (λ (x : Splitting S P Reason). x.position.state) parts);
+      };
+      whole = λ _. refl;
+      place = λ _. refl;
+      fits = λ i. omega arith;
+    } in
+    subst (λ (k : Kept S). HasAll r a k [] [] false) (sym is) first
+
+pub client-first : (kept : Kept (Unit {0})) → kept ≡ record { state = tt; rest = []; place = 0; held = []; at = 0; over = false } → HasAll client_reader client_start kept [] [] false
+client-first kept is = all-first client_format client_next (λ s. client_packets_sound) tt kept refl is
+
+host-first : (kept : Kept RedirState) → kept ≡ record { state = start; rest = []; place = 0; held = []; at = 0; over = false } → HasAll host_reader host_start kept [] [] false
+host-first kept is = all-first host_format after (stream_sound ToGuest) start kept refl is
+
+pub stands-first : (first : ℕ) (g : Inner) → g.failed ≡ false → IsFirst g.translator first → g.client ≡ record { state = tt; rest = []; place = 0; held = []; at = 0; over = false } →
+    g.host ≡ record { state = start; rest = []; place = 0; held = []; at = 0; over = false } → Stands first (kept_of g) []
+stands-first first g works translator client host = record {
+  works = works;
+  translates = record { state = translator.holds; answered = translator.answered; unlinked = translator.unlinked; dropped = translator.dropped };
+  client = client-first g.client client;
+  host = host-first g.host host;
+}
+
+-- ---- a client's end
+
+pub ends-client : (first : ℕ) (old : Inner) (t : Translator) (kept : Kept (Unit {0})) (events : List Event) (client_old client_new host_old host_new : List ℕ) (notes_old notes_new : List Note) → Stands first (kept_of old) events →
+    TakesItem old.translator t raw.ClientLeft client_old client_new host_old host_new notes_old notes_new → kept ≡ record { state = tt; rest = []; place = 0; held = []; at = 0; over = false } →
+    TakesOn first (record old { client = kept; translator = t }) events ClientEnd client_old client_new host_old host_new notes_old notes_new
+ends-client first old t kept events client_old client_new host_old host_new notes_old notes_new stands takes is =
+    let xs = arrivals events in
+    let does = takes (state_of first (past first xs)) ClientLeft refl stands.translates.state (state-sound first xs) refl in
+    record {
+      stands = record {
+        works = stands.works;
+        translates = translates-item first old.translator t xs ClientLeft client_old client_new host_old host_new notes_old notes_new stands.translates refl does;
+        client = client-first kept is;
+        host = all-same host_reader host_start old.host old.host (host_bytes events) (told xs) (told xs) (host_over (past first xs)) (host_over (past first (ClientLeft ∷ xs))) refl refl (left-host first xs) stands.host;
+      };
+      sends = sends-item first old.translator t xs xs ClientLeft client_old client_old client_new host_old host_old host_new notes_old notes_old notes_new
+          (sends-none first client_old host_old notes_old xs) refl does;
+    }
+
+-- ---- the host's end
+
+-- it was over before
+pub ends-again : (first : ℕ) (g : Inner) (events : List Event) (client host : List ℕ) (notes : List Note) → Stands first (kept_of g) events → g.host.over ≡ true → TakesOn first g events HostEnd client client host host notes notes
+ends-again first g events client host notes stands over =
+    let xs = arrivals events in
+    let ended : host_over (past first xs) ≡ true = sym stands.host.over_is ∙ over in
+    let same : past first (HostLeft ∷ xs) ≡ past first xs = past-skipped first xs HostLeft ended in
+    record {
+      stands = record {
+        works = stands.works;
+        translates = translates-past first g.translator xs (HostLeft ∷ xs) same stands.translates;
+        client = all-same client_reader client_start g.client g.client (client_bytes events) (asked xs) (asked xs) (client_over (past first xs)) (client_over (past first (HostLeft ∷ xs))) refl refl (ap client_over same) stands.client;
+        host = all-same host_reader host_start g.host g.host (host_bytes events) (told xs) (told xs) (host_over (past first xs)) (host_over (past first (HostLeft ∷ xs))) refl refl (ap host_over same) stands.host;
+      };
+      sends = sends-past first client client host host notes notes xs xs (HostLeft ∷ xs) same (sends-none first client host notes xs);
+    }
+
+pub ends-host : (first : ℕ) (old : Inner) (t : Translator) (kept : Kept RedirState) (events : List Event) (client_old client_new host_old host_new : List ℕ) (notes_old notes_new : List Note) → Stands first (kept_of old) events →
+    old.host.over ≡ false → TakesItem old.translator t raw.HostLeft client_old client_new host_old host_new notes_old notes_new → kept ≡ ended old.host →
+    TakesOn first (record old { host = kept; translator = t }) events HostEnd client_old client_new host_old host_new notes_old notes_new
+ends-host first old t kept events client_old client_new host_old host_new notes_old notes_new stands runs takes is =
+    let xs = arrivals events in
+    let taken : is_left_out (state_of first (past first xs)) HostLeft ≡ false = sym stands.host.over_is ∙ runs in
+    let does = takes (state_of first (past first xs)) HostLeft refl stands.translates.state (state-sound first xs) taken in
+    let over = left-over first xs in
+    record {
+      stands = record {
+        works = stands.works;
+        translates = translates-item first old.translator t xs HostLeft client_old client_new host_old host_new notes_old notes_new stands.translates taken does;
+        client = all-same client_reader client_start old.client old.client (client_bytes events) (asked xs) (asked xs) (client_over (past first xs)) (client_over (past first (HostLeft ∷ xs))) refl refl (left-client first xs) stands.client;
+        host = record {
+          over_is = ap (λ (k : Kept RedirState). k.over) is ∙ sym over;
+          none = λ _. ap (λ (k : Kept RedirState). k.held) is;
+          empty = λ _. ap (λ (k : Kept RedirState). k.rest) is;
+          drained = λ going. absurd (true≢false (sym over ∙ going));
+          whole = λ going. absurd (true≢false (sym over ∙ going));
+          place = λ going. absurd (true≢false (sym over ∙ going));
+          fits = stands.host.fits;
+        };
+      };
+      sends = sends-item first old.translator t xs xs HostLeft client_old client_old client_new host_old host_old host_new notes_old notes_old notes_new
+          (sends-none first client_old host_old notes_old xs) taken does;
+    }
+
+-- ---- memory ran out for an end
+
+pub stops-end : (first : ℕ) (old : Inner) (t : Translator) (events : List Event) (e : Event) (client_old client_new host_old host_new : List ℕ) (notes_old notes_new : List Note) → Stands first (kept_of old) events →
+    DoesNothing old.translator t client_old client_new host_old host_new notes_old notes_new → FirstWants first (arrivals events) (brought events e) → Stops first (kept_of (record old { translator = t })) events e client_old client_new host_old host_new
+stops-end first old t events e client_old client_new host_old host_new notes_old notes_new stands nothing wants =
+    subst (λ (x : Translator). Stops first (kept_of (record old { translator = x })) events e client_old client_new host_old host_new) (sym nothing.same)
+    (subst (λ (x : List ℕ). Stops first (kept_of old) events e client_old x host_old host_new) (sym nothing.client)
+    (subst (λ (x : List ℕ). Stops first (kept_of old) events e client_old client_old host_old x) (sym nothing.host)
+    (stops-before first old events e client_old host_old (stands-for first old events stands) (inr wants))))

@@ -1,0 +1,67 @@
+-- Packets that are sent one after another, with ids in turn.
+use Rattle.std.proofs.Common.{◌≡◌, ℕ, ◌+◌, ◌<◌, Bool, List, [], ◌∷◌, ◌++◌, length, take, get_or, Option, ap, ◌∙◌, append_assoc}
+use Rattle.std.specs.Prelude.{Result, Ok, Err, OnErr}
+use Rattle.std.specs.List.{flat_map}
+use Rattle.std.proofs.lemmas.List.{append-nil, take_more}
+use Rattle.std.proofs.lemmas.Grind.{flat_map-append}
+use Rattle.redir_data.specs.declared.packet.RedirPacket.{RedirPacket}
+use Rattle.gate_core.specs.declared.state.kept.Kept.{Kept}
+use Rattle.gate_history.specs.state.Ups.{Up}
+use Rattle.gate_parts.specs.declared.state.calls.Called.{Called}
+use Rattle.gate_history.specs.state.Ids.{greatest, last_of}
+use Rattle.gate_history.specs.state.Flight.{wide_ids}
+use Rattle.gate_history.specs.state.Calls.{called, last_or}
+use Rattle.gate_history.specs.write.Packets.{stop_of, stops}
+use Rattle.gate_history.specs.write.Bytes.{host_packet_bytes}
+use Rattle.gate_parts.specs.write.Extends.{Extends}
+use Rattle.gate_core.specs.inner.Calls.{flying_in, ids_after, with_ids, after_stops, bytes_of}
+use Rattle.gate_history.proofs.lemmas.Lists.{Each}
+use Rattle.gate_history.proofs.lemmas.state.Calls.{IsSilent, draws-append, zip-append, last-append, last_or-append, called-append, called-silent}
+
+module _ (t : Kept) where
+  pub last-more : (last : ℕ) (ps qs : List RedirPacket) →
+      last_of last (ids_after t last (length (ps ++ qs))) ≡ last_of (last_of last (ids_after t last (length ps))) (ids_after t (last_of last (ids_after t last (length ps))) (length qs))
+  last-more last ps qs =
+      ap (last_of last) (draws-append (greatest (wide_ids t.caps)) (flying_in t) last ps qs)
+      ∙ last-append last (ids_after t last (length ps)) (ids_after t (last_of last (ids_after t last (length ps))) (length qs))
+
+  pub with-more : (last : ℕ) (ps qs : List RedirPacket) → with_ids t last (ps ++ qs) ≡ with_ids t last ps ++ with_ids t (last_of last (ids_after t last (length ps))) qs
+  with-more last ps qs = zip-append (greatest (wide_ids t.caps)) (flying_in t) last ps qs
+
+  pub bytes-more : (last : ℕ) (ps qs : List RedirPacket) → bytes_of t last (ps ++ qs) ≡ bytes_of t last ps ++ bytes_of t (last_of last (ids_after t last (length ps))) qs
+  bytes-more last ps qs =
+      ap (flat_map (host_packet_bytes t.caps)) (with-more last ps qs)
+      ∙ flat_map-append (host_packet_bytes t.caps) (with_ids t last ps) (with_ids t (last_of last (ids_after t last (length ps))) qs)
+
+  pub stops-more : (c : Called) (ps qs : List RedirPacket) → after_stops t c (ps ++ qs) ≡ after_stops t (after_stops t c ps) qs
+  stops-more c ps qs =
+      let later : ℕ = last_of c.last (ids_after t c.last (length ps)) in
+      λ i. record {
+        calls = (ap (λ l. called l c.calls) (with-more c.last ps qs) ∙ called-append (with_ids t c.last ps) (with_ids t later qs) c.calls) i;
+        last = last-more c.last ps qs i;
+        fence = (ap (last_or c.fence) (draws-append (greatest (wide_ids t.caps)) (flying_in t) c.last ps qs) ∙ last_or-append c.fence (ids_after t c.last (length ps)) (ids_after t later (length qs))) i;
+      }
+
+  -- those that neither start nor stop a stream are noted nowhere
+  pub calls-silent : (ps qs : List RedirPacket) → Each IsSilent qs → called (with_ids t t.last (ps ++ qs)) t.calls ≡ called (with_ids t t.last ps) t.calls
+  calls-silent ps qs silent =
+      let later : ℕ = last_of t.last (ids_after t t.last (length ps)) in
+      ap (λ l. called l t.calls) (with-more t.last ps qs) ∙ called-append (with_ids t t.last ps) (with_ids t later qs) t.calls
+      ∙ called-silent (ids_after t later (length qs)) qs (called (with_ids t t.last ps) t.calls) silent
+
+-- the stops of one place more
+pub next-stops : (test : Up → Bool) (ups : List (Option Up)) (k : ℕ) (o : Option Up) → k < length ups → o ≡ get_or ups k o → stops test (take (k + 1) ups) ≡ stops test (take k ups) ++ stop_of test (get_or ups k o)
+next-stops test ups k o here is =
+    ap (stops test) (take_more ups k o here)
+    ∙ flat_map-append (stop_of test) (take k ups) (get_or ups k o ∷ [])
+    ∙ ap (λ (l : List RedirPacket). stops test (take k ups) ++ l) (append-nil (stop_of test (get_or ups k o)))
+
+-- ---- bytes that were put behind others
+
+pub extends-after : {A : Type 0} (old mid new more : List A) → mid ≡ old ++ more → Extends mid new → Extends old new
+extends-after {A = A} old mid new more is e = record { more = more ++ e.more; is = e.is ∙ ap (λ (l : List A). l ++ e.more) is ∙ append_assoc old more e.more }
+
+-- what holds holds of a failure
+pub on-err : {A E : Type 0} (r : Result A E) (P : Type 0) → P → OnErr r P
+on-err (Ok v) P h = tt
+on-err (Err e) P h = h

@@ -1,0 +1,45 @@
+use Rattle.std.proofs.Common.{◌≡◌, ◌+◌, not, length, refl, sym, ap, subst, arith}
+use Rattle.std.specs.Prelude.{filter}
+use Rattle.std.proofs.lemmas.List.Filters.{length-filter_both}
+use Rattle.unlink_race.specs.declared.live.Live.{Live}
+use Rattle.unlink_race.specs.Requests.{Requests}
+use Rattle.unlink_race.specs.Searches.{ended_by}
+use Rattle.gate_history.specs.step.Items.{capped}
+use Rattle.gate_parts.specs.state.Rows.{IsFine}
+use Rattle.gate_core.specs.inner.Holds.{IsKept}
+use Rattle.gate_history.proofs.lemmas.Lists.{Each-filter, length-filter}
+use Rattle.gate_core.proofs.state.kept.Kept.drop_ended.Goals as goal
+
+pub overflow_sub-ended : goal.overflow_sub-ended
+overflow_sub-ended c =
+    let fewer = length-filter (λ (l : Live). not (ended_by c.args.end.now l)) c.args.self.now.lives.live in
+    let left = ap (λ (r : Requests). length r.live) c.drop_ended.ensures in
+    omega (arith, fewer, left, c.len.ensures.len, c.len-before.ensures.len)
+
+pub returns-clause-kept : goal.returns-clause-kept
+returns-clause-kept c =
+    let old = c.args.self.now in
+    let stays = λ (l : Live). not (ended_by c.args.end.now l) in
+    let fewer = length-filter stays old.lives.live in
+    subst (λ (r : Requests). IsKept (record old { lives = r; answered = c.saturating_add-self.result })) (sym c.drop_ended.ensures) (record {
+      fine = Each-filter (IsFine old.caps) stays old.lives.live c.requires.kept.fine;
+      apart = c.requires.kept.apart;
+      few = omega (arith, c.requires.kept.few, fewer);
+      left = c.requires.kept.left;
+      places = c.requires.kept.places;
+      started = c.requires.kept.started;
+      stopped = c.requires.kept.stopped;
+      answered_fits = omega (arith, c.saturating_add-self.ensures);
+      unlinked_fits = c.requires.kept.unlinked_fits;
+      dropped_fits = c.requires.kept.dropped_fits;
+    })
+
+pub returns-clause-dropped : goal.returns-clause-dropped
+returns-clause-dropped c =
+    let old = c.args.self.now in
+    let end = c.args.end.now in
+    let both = length-filter_both (ended_by end) (λ (l : Live). not (ended_by end l)) (λ l. refl) old.lives.live in
+    let left = ap (λ (r : Requests). length r.live) c.drop_ended.ensures in
+    let answered : c.saturating_add-self.result ≡ capped (old.answered + length (filter (ended_by end) old.lives.live)) =
+    omega (arith, both, left, c.len.ensures.len, c.len-before.ensures.len, c.saturating_add-self.ensures) in
+    record { is = λ i. record old { lives = c.drop_ended.ensures i; answered = answered i } }

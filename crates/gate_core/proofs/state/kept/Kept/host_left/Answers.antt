@@ -1,0 +1,28 @@
+use Rattle.std.proofs.Common.{◌&&◌, not, true, None, List, ◌++◌, length, refl, sym, ap, ◌∙◌, arith}
+use Rattle.std.proofs.lemmas.List.{append-nil, length-map}
+use Rattle.gate_core.specs.declared.state.kept.Kept.{Kept}
+use Rattle.gate_history.specs.declared.note.Note.{Note}
+use Rattle.gate_history.specs.declared.note.Note.TheVariants as note
+use Rattle.gate_history.specs.write.Notes.{when}
+use Rattle.gate_core.proofs.lemmas.host.Loss.{end-loses, lost-is, does-loss}
+use Rattle.usb_base.specs.declared.side.Side.TheVariants.{Host}
+use Rattle.gate_history.specs.step.Marks.{Ends}
+use Rattle.gate_parts.specs.state.Rows.{row}
+use Rattle.gate_core.proofs.lemmas.write.Gives.{by-lives, by-loss}
+use Rattle.gate_core.proofs.lemmas.write.InTurn.{on-err}
+use Rattle.gate_core.proofs.state.kept.Kept.host_left.Goals as goal
+
+pub returns-clause-ok : goal.returns-clause-ok
+returns-clause-ok c st host h =
+    let old = c.args.self.now in
+    let lost = lost-is c.in_ok-unlinked.unlinked old c.lose.new.self c.lose.ensures.lost c.in_ok-unlinked.ensures.count in
+    does-loss st _ _ (end-loses st) old _ _ _ _ _ _ _ h c.requires.kept.dropped_fits (ap (λ (k : Kept). record k { host_over = true }) lost) c.in_ok-unlinked.ensures.ok (sym (append-nil host))
+    (c.in_ok-tell_loss.ensures.ok ∙ ap (λ (ns : List Note). c.args.notes.now ++ ns) (sym (append-nil (when (old.imported && not old.lost) note.DeviceGone))))
+
+pub returns-in_err-unlinked-clause-wants : goal.returns-in_err-unlinked-clause-wants
+returns-in_err-unlinked-clause-wants c st h =
+    on-err c.from_residual.result _ (by-lives st (Ends Host) None refl (omega (arith, c.in_err-unlinked.ensures.wants, ap length h.live, length-map st.live row)))
+
+pub returns-in_err-tell_loss-clause-wants : goal.returns-in_err-tell_loss-clause-wants
+returns-in_err-tell_loss-clause-wants c st h =
+    on-err c.from_residual-in_err-tell_loss.result _ (by-loss st (Ends Host) None refl ((λ i. sym h.imported i && not (sym h.lost i)) ∙ c.in_err-tell_loss.ensures.wants))

@@ -1,0 +1,18 @@
+use Rattle.std.proofs.Common.{◌++◌, refl, ap, ◌∙◌}
+use Rattle.usbip_op.specs.declared.packet.OpPacket.{OpPacket}
+use Rattle.usbip_urb.specs.declared.client.ClientPacket.TheVariants.{Op}
+use Rattle.usbip_urb.specs.ClientPackets.{client_spelling}
+use Rattle.gate_history.specs.declared.facts.Facts.{Facts}
+use Rattle.gate_history.specs.client.Replies.{import_reply}
+use Rattle.gate_history.specs.step.Marks.{Imports}
+use Rattle.gate_core.proofs.lemmas.step.Steady.{imports-steady, does-steady, rows-same, host-same, one-reply}
+use Rattle.gate_history.proofs.lemmas.step.NoCancel.{stays-uncancelled}
+use Rattle.gate_core.proofs.state.kept.Kept.import.Goals as goal
+
+pub returns-clause-ok : goal.returns-clause-ok
+returns-clause-ok c st host h =
+    let old = c.args.self.now in
+    let e = Imports (import_reply st.facts c.args.connect.now) in
+    does-steady st _ (imports-steady st _) old _ old.lives.live _ _ host host _ _ h c.requires.kept.answered_fits c.requires.kept.unlinked_fits c.requires.kept.dropped_fits
+    (rows-same e old.lives.live st.live (λ s. refl) h.live) refl (one-reply c.args.to_client.now c.write_op.new.out (Op (import_reply st.facts c.args.connect.now)) (c.in_ok-write_op.ensures ∙ ap (λ (r : OpPacket). c.args.to_client.now ++ client_spelling (Op r)) (c.import_reply.ensures.value ∙ ap (λ (f : Facts). import_reply f c.args.connect.now) h.facts)))
+    (host-same st.agreed e host st.live stays-uncancelled) c.in_ok-push.ensures.ok

@@ -1,0 +1,33 @@
+use Rattle.std.proofs.Common.{◌≡◌, not, cond, Bool, true, List, [], ◌∷◌, ◌++◌, refl, sym, ap, ◌∙◌, append_assoc}
+use Rattle.gate_history.specs.declared.note.Note.{Note}
+use Rattle.gate_history.specs.declared.note.Note.TheVariants as note
+use Rattle.usb_base.specs.declared.side.Side.{Side}
+use Rattle.gate_history.specs.state.Sides.{is_client}
+use Rattle.gate_history.specs.step.Marks.{Refuses}
+use Rattle.gate_history.specs.write.Notes.{when}
+use Rattle.gate_core.proofs.lemmas.client.Leave.{refusal-leaves, left-none, does-leave}
+use Rattle.gate_core.proofs.lemmas.state.Ids.{parts-are, leaving-sent}
+use Rattle.std.proofs.lemmas.List.{append-nil}
+use Rattle.gate_core.proofs.lemmas.write.InTurn.{extends-after, on-err}
+use Rattle.gate_core.proofs.state.kept.Kept.refuse_client.Goals as goal
+
+pub returns-clause-ok : goal.returns-clause-ok
+returns-clause-ok c st client h going =
+    let old = c.args.self.now in
+    let over : true ≡ cond (is_client c.args.refusal.side) true old.client_over = ap (λ (s : Side). cond (is_client s) true old.client_over) (sym c.requires.side) in
+    let leaves = refusal-leaves st c.args.refusal c.requires.side in
+    let first : when (not old.client_over) note.ClientGone ≡ note.ClientGone ∷ [] = ap (λ (b : Bool). when (not b) note.ClientGone) (h.client_over ∙ going) in
+    does-leave st _ [] leaves c.in_ok-called.called old _ client _ _ _ _ h c.requires.kept.answered_fits c.requires.kept.unlinked_fits
+    (parts-are old st h (Refuses c.args.refusal) c.in_ok-called.called leaves.asked c.in_ok-called.ensures.called)
+    (λ i. record (left-none c.in_ok-called.called old c.leave.new.self c.leave.ensures.left i) { client_over = over i })
+    (leaving-sent old st h (Refuses c.args.refusal) leaves.asked c.args.to_host.now _ _ c.in_ok-write_cancels.ensures.ok c.in_ok-called.ensures.sent)
+    (c.in_ok-push-2.ensures.ok ∙ ap (λ (ns : List Note). ns ++ note.Refused c.args.refusal ∷ []) c.in_ok-push.ensures.ok ∙ append_assoc c.args.notes.now (note.ClientGone ∷ []) (note.Refused c.args.refusal ∷ [])
+    ∙ ap (λ (ns : List Note). c.args.notes.now ++ (ns ++ note.Refused c.args.refusal ∷ [])) (sym first))
+
+pub returns-in_err-called-clause-err : goal.returns-in_err-called-clause-err
+returns-in_err-called-clause-err c client = on-err c.from_residual-in_err-called.result _ (record {
+  same = refl;
+  client = record { more = []; is = sym (append-nil client) };
+  host = extends-after c.args.to_host.now c.write_cancels.new.to_host c.write_stops.new.to_host _ c.in_ok-write_cancels.ensures.ok c.in_err-called.ensures.err;
+  notes = record { more = []; is = sym (append-nil c.args.notes.now) };
+})

@@ -1,0 +1,66 @@
+use Rattle.std.proofs.Common.{◌≡◌, false, None, OnOk, OnErr, sym, ap, subst}
+use Rattle.gate_history.specs.declared.item.Item.{Item as RawItem}
+use Rattle.gate_history.specs.declared.item.Item.TheVariants as raw
+use Rattle.usb_base.specs.declared.side.Side.TheVariants.{Client, Host}
+use Rattle.gate_history.specs.step.Items.{Item}
+use Rattle.gate_history.specs.state.Sides.{refusal}
+use Rattle.gate_history.specs.step.Marks.{Effect, Refuses}
+use Rattle.gate_history.specs.step.Meaning.{mark_as, mark_of}
+use Rattle.gate_history.specs.step.Past.{is_left_out}
+use Rattle.gate_history.specs.step.Fits.{IsItem, ItemFits}
+use Rattle.gate_core.specs.inner.Holds.{Does}
+use Rattle.gate_history.specs.step.Wants.{GivesSome}
+use Rattle.gate_core.proofs.lemmas.write.Gives.{asked-gives, refusal-gives}
+use Rattle.gate_core.proofs.lemmas.write.InTurn.{on-err}
+use Rattle.gate_core.proofs.state.kept.Kept.take.Goals as goal
+
+pub returns-in-ClientWrong-clause-ok : goal.returns-in-ClientWrong-clause-ok
+returns-in-ClientWrong-clause-ok c st x is h sound comes =
+    let w : IsItem (raw.ClientWrong c.in-ClientWrong.place c.in-ClientWrong.reason) x = subst (λ (r : RawItem). IsItem r x) c.in-ClientWrong.is is in
+    subst (λ (y : Item). OnOk c.refuse_client.result (Does st (mark_of st y) c.args.self.now c.refuse_client.new.self c.args.to_client.now c.args.to_client.now c.args.to_host.now c.refuse_client.new.to_host c.args.notes.now c.refuse_client.new.notes)) (sym w.2)
+    (subst (λ (e : Effect). OnOk c.refuse_client.result (Does st (mark_as st e None) c.args.self.now c.refuse_client.new.self c.args.to_client.now c.args.to_client.now c.args.to_host.now c.refuse_client.new.to_host c.args.notes.now c.refuse_client.new.notes))
+    (ap (λ r. Refuses r) (c.client_refusal.ensures.value w.0 w.1))
+    (c.refuse_client.ensures.ok st c.args.to_client.now h (subst (λ (y : Item). is_left_out st y ≡ false) w.2 comes)))
+
+pub returns-in-ClientLeft-clause-ok : goal.returns-in-ClientLeft-clause-ok
+returns-in-ClientLeft-clause-ok c st x is h sound comes =
+    subst (λ (y : Item). OnOk c.client_left.result (Does st (mark_of st y) c.args.self.now c.client_left.new.self c.args.to_client.now c.args.to_client.now c.args.to_host.now c.client_left.new.to_host c.args.notes.now c.client_left.new.notes))
+    (sym (subst (λ (r : RawItem). IsItem r x) c.in-ClientLeft.is is))
+    (c.client_left.ensures.ok st c.args.to_client.now h)
+
+pub returns-in-HostWrong-clause-ok : goal.returns-in-HostWrong-clause-ok
+returns-in-HostWrong-clause-ok c st x is h sound comes =
+    let w : IsItem (raw.HostWrong c.in-HostWrong.place c.in-HostWrong.reason) x = subst (λ (r : RawItem). IsItem r x) c.in-HostWrong.is is in
+    subst (λ (y : Item). OnOk c.refuse_host.result (Does st (mark_of st y) c.args.self.now c.refuse_host.new.self c.args.to_client.now c.refuse_host.new.to_client c.args.to_host.now c.args.to_host.now c.args.notes.now c.refuse_host.new.notes)) (sym w.2)
+    (subst (λ (e : Effect). OnOk c.refuse_host.result (Does st (mark_as st e None) c.args.self.now c.refuse_host.new.self c.args.to_client.now c.refuse_host.new.to_client c.args.to_host.now c.args.to_host.now c.args.notes.now c.refuse_host.new.notes))
+    (ap (λ r. Refuses r) (c.host_refusal.ensures.value w.0 w.1))
+    (c.refuse_host.ensures.ok st c.args.to_host.now h))
+
+pub returns-in-Asked-clause-wants : goal.returns-in-Asked-clause-wants
+returns-in-Asked-clause-wants c st x is h sound =
+    let w : IsItem (raw.Asked c.in-Asked.place c.in-Asked.packet) x = subst (λ (r : RawItem). IsItem r x) c.in-Asked.is is in
+    on-err c.take_client.result _
+    (subst (λ (y : Item). GivesSome st (mark_of st y)) (sym w.2) (asked-gives st w.0 c.in-Asked.packet (subst (λ (r : RawItem). ItemFits c.args.self.now.caps r) c.in-Asked.is c.requires.fits)))
+
+pub returns-in-ClientWrong-clause-wants : goal.returns-in-ClientWrong-clause-wants
+returns-in-ClientWrong-clause-wants c st x is h sound =
+    let w : IsItem (raw.ClientWrong c.in-ClientWrong.place c.in-ClientWrong.reason) x = subst (λ (r : RawItem). IsItem r x) c.in-ClientWrong.is is in
+    on-err c.refuse_client.result _ (subst (λ (y : Item). GivesSome st (mark_of st y)) (sym w.2) (refusal-gives st (refusal Client w.0 c.in-ClientWrong.reason) None))
+
+pub returns-in-ClientLeft-clause-wants : goal.returns-in-ClientLeft-clause-wants
+returns-in-ClientLeft-clause-wants c st x is h sound =
+    subst (λ (y : Item). OnErr c.client_left.result (GivesSome st (mark_of st y))) (sym (subst (λ (r : RawItem). IsItem r x) c.in-ClientLeft.is is)) (c.client_left.ensures.wants st h)
+
+pub returns-in-Told-clause-wants : goal.returns-in-Told-clause-wants
+returns-in-Told-clause-wants c st x is h sound =
+    let w : IsItem (raw.Told c.in-Told.place c.in-Told.header c.in-Told.packet) x = subst (λ (r : RawItem). IsItem r x) c.in-Told.is is in
+    subst (λ (y : Item). OnErr c.told.result (GivesSome st (mark_of st y))) (sym w.2) (c.told.ensures.wants st w.0 w.1 h sound)
+
+pub returns-in-HostWrong-clause-wants : goal.returns-in-HostWrong-clause-wants
+returns-in-HostWrong-clause-wants c st x is h sound =
+    let w : IsItem (raw.HostWrong c.in-HostWrong.place c.in-HostWrong.reason) x = subst (λ (r : RawItem). IsItem r x) c.in-HostWrong.is is in
+    on-err c.refuse_host.result _ (subst (λ (y : Item). GivesSome st (mark_of st y)) (sym w.2) (refusal-gives st (refusal Host w.0 c.in-HostWrong.reason) None))
+
+pub returns-in-HostLeft-clause-wants : goal.returns-in-HostLeft-clause-wants
+returns-in-HostLeft-clause-wants c st x is h sound =
+    subst (λ (y : Item). OnErr c.host_left.result (GivesSome st (mark_of st y))) (sym (subst (λ (r : RawItem). IsItem r x) c.in-HostLeft.is is)) (c.host_left.ensures.wants st h)

@@ -1,0 +1,61 @@
+use Rattle.std.proofs.Common.{◌≡◌, ◌∙◌, [], ℕ, List, Option, Some, None, OnOk, ap, sym, subst}
+use Rattle.std.specs.Prelude.{slice_set}
+use Rattle.std.proofs.lemmas.List.{append-nil}
+use Rattle.usb_base.specs.Endpoint.{endpoint_index}
+use Rattle.gate_history.specs.declared.note.Note.TheVariants as note
+use Rattle.gate_core.specs.declared.state.kept.Kept.{Kept}
+use Rattle.gate_history.specs.state.Ups.{Up, stream_at}
+use Rattle.gate_history.specs.client.Verdict.{Stream}
+use Rattle.gate_history.specs.step.Meaning.{mark_as, accepts}
+use Rattle.gate_history.specs.client.Views.{request_view}
+use Rattle.gate_core.specs.inner.Holds.{Holds, Does}
+use Rattle.gate_parts.proofs.lemmas.state.Places.{set-back, set-twice}
+use Rattle.gate_core.proofs.lemmas.host.Arrive.{on-ok, on-err}
+use Rattle.gate_core.proofs.lemmas.client.Wait.{does-join}
+use Rattle.gate_core.proofs.state.kept.Kept.wait.Goals as goal
+
+pub returns-in_default-clause-ok : goal.returns-in_default-clause-ok
+returns-in_default-clause-ok c st h sound =
+    let old = c.args.self.now in
+    let r = request_view c.args.request in
+    let at : stream_at old.streams r.transfer.ep ≡ None = ap (stream_at old.streams) (sym c.ep-ep.ensures) ∙ sym c.in_default.ensures.up in
+    let same : c.take.new.self ≡ old.streams =
+    c.in_default.ensures.rest ∙ (λ i. slice_set old.streams (endpoint_index (c.ep-ep.ensures i)) (sym at i)) ∙ set-back old.streams (endpoint_index r.transfer.ep) None in
+    subst
+    (λ (ups : List (Option Up)). Holds (record old { streams = ups }) st → OnOk c.start.result (Does st (mark_as st (accepts st r (Stream c.args.row)) None) (record old { streams = ups }) c.start.new.self c.args.to_client.now c.args.to_client.now c.args.to_host.now c.start.new.to_host c.args.notes.now c.start.new.notes))
+    same (λ k. c.start.ensures.ok st c.args.to_client.now k sound) h
+
+pub returns-clause-ok : goal.returns-clause-ok
+returns-clause-ok c st h sound =
+    let old = c.args.self.now in
+    let r = request_view c.args.request in
+    let ep = c.ep-ep.ensures in
+    let emptied : Kept = record old { streams = c.take.new.self } in
+    let up = c.in-Some.up in
+    let at : stream_at old.streams r.transfer.ep ≡ Some up = ap (stream_at old.streams) (sym ep) ∙ sym c.in-Some.ensures.up in
+    on-ok c.join-joined.result
+    (λ j s t.
+    does-join st sound r c.args.row up c.join-joined.new.up old emptied c.join-joined.new.self _ c.args.to_client.now c.join-joined.new.to_client c.args.to_host.now c.args.notes.now c.join-joined.new.notes h c.requires.kept
+    c.requires.free.number_free at
+    (ap (λ (ups : List (Option Up)). record old { streams = ups }) (c.in-Some.ensures.rest ∙ ap (λ (n : ℕ). slice_set old.streams (endpoint_index n) None) ep))
+    j
+    (ap (λ (ups : List (Option Up)). record c.join-joined.new.self { streams = ups }) (c.put.ensures ∙ ap (λ (n : ℕ). slice_set c.join-joined.new.self.streams (endpoint_index n) (Some c.join-joined.new.up)) ep))
+    s t)
+    c.join-joined.ensures.joined c.join-joined.ensures.sent c.join-joined.ensures.told
+
+pub returns-clause-err : goal.returns-clause-err
+returns-clause-err c =
+    let old = c.args.self.now in
+    let i = endpoint_index c.ep-ep.result in
+    on-err c.join-joined.result
+    (λ same up client notes. record {
+      same = ap (λ (t : Kept). record t { streams = c.put.new.self }) same
+          ∙ ap (λ (ups : List (Option Up)). record old { streams = ups })
+          (c.put.ensures ∙ ap (λ (t : Kept). slice_set t.streams i (Some c.join-joined.new.up)) same
+          ∙ (λ j. slice_set (c.in-Some.ensures.rest j) i (Some (up j)))
+          ∙ set-twice old.streams i None (Some c.in-Some.up) ∙ ap (slice_set old.streams i) c.in-Some.ensures.up ∙ set-back old.streams i None);
+      client = client;
+      host = record { more = []; is = sym (append-nil c.args.to_host.now) };
+      notes = notes;
+    })
+    c.join-joined.ensures.same c.join-joined.ensures.same_up c.join-joined.ensures.err c.join-joined.ensures.err_notes

@@ -1,0 +1,2 @@
+-- One item, one event, and all of them.
+pub mod Stands

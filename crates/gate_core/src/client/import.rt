@@ -1,0 +1,146 @@
+//! What becomes of the client's list and import requests.
+
+ghost use Rattle.std.specs.Prelude.{◌≡◌, ℕ, List, IfSome, [], None, false, OnOk, OnErr};
+ghost use Rattle.usbip_op.specs.declared.packet.OpPacket.TheVariants.{ReqDevlist, ReqImport};
+ghost use Rattle.usbip_op.specs.Ranges.{IsWritable};
+ghost use Rattle.gate_history.specs.declared.note.Note.{Note as Told};
+ghost use Rattle.gate_history.specs.step.Items.{capped};
+ghost use Rattle.gate_history.specs.step.Marks.{Replies, Imports};
+ghost use Rattle.gate_history.specs.state.State.{State};
+ghost use Rattle.gate_history.specs.client.Replies.{list_reply as list_of, import_reply as import_of};
+ghost use Rattle.gate_history.specs.step.Meaning.{mark_as, op_meaning, importable as importable_in, import_meaning};
+ghost use Rattle.gate_core.specs.inner.Holds.{IsKept, Holds, Does, Leaves};
+
+use crate::state::kept::Kept;
+use gate_history::{Note, Notes};
+use gate_parts::{client_refusal, failed_import, import_reply, is_exported, list_reply};
+use redir_wire::Connect;
+use usb_base::{Bytes, Memory, Reason};
+use usbip_op::{OpPacket, write_op};
+
+impl Kept {
+    /// Answers a list or an import request.
+    pub fn answer_op(
+        &mut self,
+        place: u64,
+        packet: &OpPacket,
+        to_client: &mut Bytes,
+        to_host: &mut Bytes,
+        notes: &mut Notes,
+    ) -> Result<(), Memory>
+        requires kept { IsKept self.old }
+        ensures kept { IsKept self.new }
+        ensures ok { (st : State) (at : ℕ) → place ≡ capped at → Holds self.old st → st.client_over ≡ false
+            → OnOk result (Does st (mark_as st (op_meaning st at packet.now) None) self.old self.new to_client.old to_client.new to_host.old to_host.new notes.old notes.new) }
+        ensures err { OnErr result (Leaves self.old self.new to_client.old to_client.new to_host.old to_host.new notes.old notes.new) }
+    {
+        match packet {
+            OpPacket::ReqDevlist { .. } => self.answer_list(place, to_client, to_host, notes),
+            OpPacket::ReqImport { busid, .. } => {
+                self.answer_import(place, busid, to_client, to_host, notes)
+            }
+            // No client sends these.
+            OpPacket::RepDevlist { .. } => Ok(()),
+            OpPacket::RepImport { .. } => Ok(()),
+        }
+    }
+
+    /// Answers a list request. A client that has imported the device can't ask.
+    fn answer_list(
+        &mut self,
+        place: u64,
+        to_client: &mut Bytes,
+        to_host: &mut Bytes,
+        notes: &mut Notes,
+    ) -> Result<(), Memory>
+        requires kept { IsKept self.old }
+        ensures kept { IsKept self.new }
+        ensures ok { (st : State) (at : ℕ) (status : ℕ) → place ≡ capped at → Holds self.old st → st.client_over ≡ false
+            → OnOk result (Does st (mark_as st (op_meaning st at (ReqDevlist status)) None) self.old self.new to_client.old to_client.new to_host.old to_host.new notes.old notes.new) }
+        ensures err { OnErr result (Leaves self.old self.new to_client.old to_client.new to_host.old to_host.new notes.old notes.new) }
+    {
+        if self.imported {
+            return self.refuse_client(
+                client_refusal(place, Reason::AlreadyImported),
+                to_host,
+                notes,
+            );
+        }
+        let reply = list_reply(self.alloc, &self.facts)?;
+        self.reply(&reply, to_client)
+    }
+
+    /// Answers an import request. A client that has imported the device can't ask again.
+    fn answer_import(
+        &mut self,
+        place: u64,
+        busid: &[u8; 32],
+        to_client: &mut Bytes,
+        to_host: &mut Bytes,
+        notes: &mut Notes,
+    ) -> Result<(), Memory>
+        requires kept { IsKept self.old }
+        ensures kept { IsKept self.new }
+        ensures ok { (st : State) (at : ℕ) (status : ℕ) → place ≡ capped at → Holds self.old st → st.client_over ≡ false
+            → OnOk result (Does st (mark_as st (op_meaning st at (ReqImport status busid.now)) None) self.old self.new to_client.old to_client.new to_host.old to_host.new notes.old notes.new) }
+        ensures err { OnErr result (Leaves self.old self.new to_client.old to_client.new to_host.old to_host.new notes.old notes.new) }
+    {
+        if self.imported {
+            return self.refuse_client(
+                client_refusal(place, Reason::AlreadyImported),
+                to_host,
+                notes,
+            );
+        }
+        match self.importable(busid) {
+            Some(connect) => self.import(&connect, to_client, notes),
+            None => self.reply(&failed_import(), to_client),
+        }
+    }
+
+    /// The device that an import of this bus id gets: it is there, and the host has answered all that an earlier client
+    /// left, and the last stop of its streams.
+    fn importable(&self, busid: &[u8; 32]) -> Option<Connect>
+        ensures value { (st : State) → Holds self.now st → result ≡ importable_in st busid.now }
+        ensures free { IfSome result (λ connect. self.now.lives.abandoned ≡ []) }
+    {
+        if is_exported(busid) && self.lives.abandoned() == 0 && self.fence.is_none() {
+            self.facts.connect
+        } else {
+            None
+        }
+    }
+
+    /// The client imports the device.
+    fn import(
+        &mut self,
+        connect: &Connect,
+        to_client: &mut Bytes,
+        notes: &mut Notes,
+    ) -> Result<(), Memory>
+        requires kept { IsKept self.old }
+        requires free { self.old.lives.abandoned ≡ [] }
+        ensures kept { IsKept self.new }
+        ensures ok { (st : State) (host : List ℕ) → Holds self.old st
+            → OnOk result (Does st (mark_as st (Imports (import_of st.facts connect.now)) None) self.old self.new to_client.old to_client.new host host notes.old notes.new) }
+        ensures err { (host : List ℕ) → OnErr result (Leaves self.old self.new to_client.old to_client.new host host notes.old notes.new) }
+    {
+        notes.push(Note::Imported)?;
+        write_op(&import_reply(&self.facts, connect), to_client)?;
+        self.imported = true;
+        self.lost = false;
+        Ok(())
+    }
+
+    /// Appends a reply that changes nothing.
+    fn reply(&self, reply: &OpPacket, to_client: &mut Bytes) -> Result<(), Memory>
+        requires kept { IsKept self.now }
+        requires writable { IsWritable reply.now }
+        ensures ok { (st : State) (host : List ℕ) (notes : List Told) → Holds self.now st
+            → OnOk result (Does st (mark_as st (Replies reply.now) None) self.now self.now to_client.old to_client.new host host notes notes) }
+        ensures err { OnErr result (to_client.new ≡ to_client.old) }
+    {
+        write_op(reply, to_client)?;
+        Ok(())
+    }
+}

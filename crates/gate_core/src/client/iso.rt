@@ -1,0 +1,102 @@
+//! Isochronous transfers to the device: their packets go to the host by a stream, and are answered at once.
+
+ghost use Rattle.std.specs.Prelude.{◌≡◌, ◌≤◌, ◌++◌, ℕ, None, false, [], length, OnOk, OnErr, IfOk};
+ghost use Rattle.usbip_urb.specs.declared.code.TheConstants.{MAX_LENGTH};
+ghost use Rattle.gate_history.specs.state.Ids.{last_of};
+ghost use Rattle.gate_history.specs.client.Verdict.{IsoOut};
+ghost use Rattle.gate_history.specs.step.Marks.{Opens};
+ghost use Rattle.gate_history.specs.state.State.{State};
+ghost use Rattle.gate_history.specs.write.Packets.{iso_packets};
+ghost use Rattle.gate_history.specs.step.Meaning.{mark_as, submission};
+ghost use Rattle.gate_history.specs.state.Sound.{IsSound};
+ghost use Rattle.gate_history.specs.write.Asked.{HasItsPackets};
+ghost use Rattle.gate_history.specs.client.Views.{request_view};
+ghost use Rattle.gate_history.specs.client.Carried.{IsLaid};
+ghost use Rattle.gate_core.specs.inner.Calls.{ids_after, starts_of, called_of, after_starts, bytes_of};
+ghost use Rattle.gate_core.specs.inner.Holds.{IsKept, Holds, Does, Leaves};
+ghost use Rattle.gate_parts.specs.write.Extends.{Extends};
+
+use crate::state::kept::Kept;
+use gate_history::{Note, Notes, Request};
+use gate_parts::{Called, write_all_sent, write_iso, write_start};
+use usb_base::{Bytes, EpAddr, EpRow, Memory};
+use usbip_urb::part;
+
+impl Kept {
+    /// An isochronous transfer goes to the host, a packet for each of its descriptors, and is answered.
+    pub fn send_iso(
+        &mut self,
+        row: EpRow,
+        request: &Request,
+        to_client: &mut Bytes,
+        to_host: &mut Bytes,
+        notes: &mut Notes,
+    ) -> Result<(), Memory>
+        requires kept { IsKept self.old }
+        requires laid { IsLaid (request_view request.now) }
+        requires packets { HasItsPackets request.now.packets request.now.descs }
+        requires few_bytes { request.now.transfer.wanted ≤ MAX_LENGTH }
+        ensures kept { IsKept self.new }
+        ensures ok { (st : State) → Holds self.old st → IsSound st
+            → OnOk result (Does st (mark_as st (Opens (submission st (request_view request.now) (IsoOut row) [])) None) self.old self.new to_client.old to_client.new to_host.old to_host.new notes.old notes.new) }
+        ensures err { OnErr result (Leaves self.old self.new to_client.old to_client.new to_host.old to_host.new notes.old notes.new) }
+    {
+        notes.push(Note::Submitted {
+            seqnum: request.number,
+            id: 0,
+        })?;
+        let ep = request.transfer.ep;
+        let called = self.write_start(ep, row, to_host)?;
+        let last = self.write_packets(request, called.last, to_host)?;
+        write_all_sent(self.alloc, &request.asked(), to_client)?;
+        self.streams.raise(self.alloc, ep, row);
+        self.calls = called.calls;
+        self.last = last;
+        self.answered = self.answered.saturating_add(1);
+        Ok(())
+    }
+
+    /// Appends the start of an endpoint's stream, unless it is up. It gives what is to be kept of it.
+    pub fn write_start(&self, ep: EpAddr, row: EpRow, to_host: &mut Bytes) -> Result<Called, Memory>
+        requires { IsKept self.now }
+        ensures sent { OnOk result (to_host.new ≡ to_host.old ++ bytes_of self.now self.now.last (starts_of self.now ep row)) }
+        ensures called { IfOk result (λ called. called ≡ after_starts self.now (called_of self.now) (starts_of self.now ep row)) }
+        ensures err { OnErr result (to_host.new ≡ to_host.old) }
+    {
+        let mut called = self.called();
+        match self.streams.at(ep) {
+            Some(_) => Ok(called),
+            None => {
+                let id = self.draw(self.last);
+                write_start(ep, row, id, self.caps, to_host)?;
+                called.calls.start(ep, id);
+                called.last = id;
+                Ok(called)
+            }
+        }
+    }
+
+    /// Appends the packets of an isochronous transfer, whose ids come after this one. It gives the id of the last.
+    fn write_packets(
+        &self,
+        request: &Request,
+        last: u64,
+        to_host: &mut Bytes,
+    ) -> Result<u64, Memory>
+        requires kept { IsKept self.now }
+        requires laid { IsLaid (request_view request.now) }
+        ensures sent { OnOk result (to_host.new ≡ to_host.old ++ bytes_of self.now last (iso_packets (request_view request.now))) }
+        ensures last { IfOk result (λ id. id ≡ last_of last (ids_after self.now last (length (iso_packets (request_view request.now))))) }
+        ensures err { OnErr result (Extends to_host.old to_host.new) }
+    {
+        let body = request.transfer.body.as_slice();
+        let mut last = last;
+        for place in 0..request.descs.len() {
+            let data = part(&request.descs, body, place);
+            let id = self.draw(last);
+            write_iso(request.transfer.ep, data, id, self.caps, to_host)?;
+            last = id;
+        }
+        Ok(last)
+    }
+}

@@ -1,0 +1,124 @@
+//! How submits end with their client.
+
+ghost use Rattle.std.specs.Prelude.{◌≡◌, ◌<◌, ◌++◌, not, ℕ, List, [], None, true, false, OnOk, OnErr, length, filter};
+ghost use Rattle.std.specs.List.{flat_map};
+ghost use Rattle.usb_base.specs.declared.side.Side.TheVariants.{Client};
+ghost use Rattle.unlink_race.specs.Searches.{goes_by_id};
+ghost use Rattle.gate_history.specs.declared.note.Note.TheVariants.{ClientGone};
+ghost use Rattle.gate_history.specs.step.Marks.{Ends, Refuses};
+ghost use Rattle.gate_history.specs.state.Sides.{refusal};
+ghost use Rattle.gate_history.specs.state.Ups.{no_streams};
+ghost use Rattle.gate_history.specs.state.State.{State};
+ghost use Rattle.gate_history.specs.step.Meaning.{mark_as};
+ghost use Rattle.gate_history.specs.write.Notes.{when};
+ghost use Rattle.gate_history.specs.step.Wants.{GivesSome};
+ghost use Rattle.gate_core.specs.inner.Holds.{IsKept, Holds, Does, Leaves, HasLeft};
+ghost use Rattle.gate_parts.specs.write.Extends.{Extends};
+ghost use Rattle.gate_parts.specs.state.Rows.{cancel_bytes, is_cancelled_row};
+
+use crate::state::kept::Kept;
+use gate_history::{Note, Notes};
+use gate_parts::{Called, write_cancel_of};
+use usb_base::{Bytes, Memory, Refusal};
+
+impl Kept {
+    /// Appends the cancels of the transfers on the wire that weren't asked back, whose client is gone.
+    pub fn write_cancels(&self, to_host: &mut Bytes) -> Result<(), Memory>
+        requires { IsKept self.now }
+        ensures ok { OnOk result (to_host.new ≡ to_host.old ++ flat_map (cancel_bytes self.now.caps) self.now.lives.live) }
+        ensures err { OnErr result (Extends to_host.old to_host.new) }
+        ensures wants { OnErr result (0 < length (filter is_cancelled_row self.now.lives.live)) }
+    {
+        for place in 0..self.lives.len() {
+            let live = self.lives.at(place).unwrap();
+            write_cancel_of(live, self.caps, to_host)?;
+        }
+        Ok(())
+    }
+
+    /// The client has left.
+    pub fn client_left(&mut self, to_host: &mut Bytes, notes: &mut Notes) -> Result<(), Memory>
+        requires kept { IsKept self.old }
+        ensures kept { IsKept self.new }
+        ensures ok { (st : State) (client : List ℕ) → Holds self.old st → OnOk result (Does st (mark_as st (Ends Client) None) self.old self.new client client to_host.old to_host.new notes.old notes.new) }
+        ensures err { (client : List ℕ) → OnErr result (Leaves self.old self.new client client to_host.old to_host.new notes.old notes.new) }
+        ensures wants { (st : State) → Holds self.old st → OnErr result (GivesSome st (mark_as st (Ends Client) None)) }
+    {
+        self.write_cancels(to_host)?;
+        let called = self.write_stops(None, to_host)?;
+        self.tell_gone(notes)?;
+        self.leave(called);
+        self.client_over = false;
+        Ok(())
+    }
+
+    /// The client is refused.
+    pub fn refuse_client(
+        &mut self,
+        refusal: Refusal,
+        to_host: &mut Bytes,
+        notes: &mut Notes,
+    ) -> Result<(), Memory>
+        requires kept { IsKept self.old }
+        requires side { refusal.side ≡ Client }
+        ensures kept { IsKept self.new }
+        ensures ok { (st : State) (client : List ℕ) → Holds self.old st → st.client_over ≡ false → OnOk result (Does st (mark_as st (Refuses refusal) None) self.old self.new client client to_host.old to_host.new notes.old notes.new) }
+        ensures err { (client : List ℕ) → OnErr result (Leaves self.old self.new client client to_host.old to_host.new notes.old notes.new) }
+    {
+        self.write_cancels(to_host)?;
+        let called = self.write_stops(None, to_host)?;
+        notes.push(Note::ClientGone)?;
+        notes.push(Note::Refused(refusal))?;
+        self.leave(called);
+        self.client_over = true;
+        Ok(())
+    }
+
+    /// Tells that the client is gone; one that was refused was gone before its end.
+    fn tell_gone(&self, notes: &mut Notes) -> Result<(), Memory>
+        ensures ok { OnOk result (notes.new ≡ notes.old ++ when (not self.now.client_over) ClientGone) }
+        ensures err { OnErr result (notes.new ≡ notes.old) }
+        ensures wants { OnErr result (not self.now.client_over ≡ true) }
+    {
+        if !self.client_over {
+            notes.push(Note::ClientGone)?;
+        }
+        Ok(())
+    }
+
+    /// The client is gone: the host still has its transfers, which are abandoned, and its streams were stopped.
+    pub fn leave(&mut self, called: Called)
+        requires kept { IsKept self.old }
+        ensures kept { IsKept self.new }
+        ensures left { HasLeft called self.old self.new }
+    {
+        self.dropped = self.dropped.saturating_add(self.lives.len() as u64);
+        self.imported = false;
+        self.abandon();
+        self.forget_streams(called);
+    }
+
+    /// What the client has at the host is abandoned.
+    fn abandon(&mut self)
+        requires kept { IsKept self.old }
+        requires gone { self.old.imported ≡ false }
+        ensures kept { IsKept self.new }
+        ensures abandoned { self.new ≡ record self.old { lives = record { live = []; abandoned = self.old.lives.abandoned ++ filter goes_by_id self.old.lives.live } } }
+    {
+        if self.lives.abandoned() == 0 {
+            self.lives.abandon();
+        }
+    }
+
+    /// The streams were stopped.
+    fn forget_streams(&mut self, called: Called)
+        requires kept { IsKept self.old }
+        ensures kept { IsKept self.new }
+        ensures forgot { self.new ≡ record self.old { streams = no_streams; calls = called.calls; fence = called.fence; last = called.last } }
+    {
+        self.streams.clear();
+        self.calls = called.calls;
+        self.fence = called.fence;
+        self.last = called.last;
+    }
+}

@@ -1,0 +1,268 @@
+//! What becomes of a client's submits.
+
+ghost use Rattle.std.specs.Prelude.{◌≡◌, ◌≤◌, ◌++◌, length, ℕ, List, [], None, Some, true, false, OnOk, OnErr, IfOk};
+ghost use Rattle.gate_history.specs.step.Marks.{Opens};
+ghost use Rattle.gate_history.specs.client.Verdict.{Now, Wire};
+ghost use Rattle.gate_history.specs.client.Verdict as verdict;
+ghost use Rattle.gate_history.specs.state.Ups.{lower, is_ended};
+ghost use Rattle.gate_history.specs.state.Ids.{draw, greatest, last_of};
+ghost use Rattle.gate_history.specs.state.Flight.{wide_ids, wide_bulk};
+ghost use Rattle.gate_history.specs.write.Packets.{route_packets};
+ghost use Rattle.redir_wire.specs.Header.{IdFits};
+ghost use Rattle.std.specs.List.{list_any};
+ghost use Rattle.usbip_urb.specs.declared.packet.UrbPacket.TheVariants.{Submit as SubmitPacket};
+ghost use Rattle.usbip_urb.specs.Ranges.{IsSubmit};
+ghost use Rattle.unlink_race.specs.Searches.{has_number};
+ghost use Rattle.gate_history.specs.step.Items.{capped};
+ghost use Rattle.unlink_race.specs.declared.live.LiveKind.TheVariants.{Routed};
+ghost use Rattle.gate_history.specs.state.State.{State, next_ids};
+ghost use Rattle.gate_history.specs.step.Meaning.{mark_as, submission, drawn_for, accepts, verdict_of, urb_meaning};
+ghost use Rattle.gate_history.specs.state.Sound.{IsSound};
+ghost use Rattle.gate_history.specs.write.Asked.{HasItsPackets};
+ghost use Rattle.gate_core.specs.inner.Calls.{flying_in, ids_after, bytes_of};
+ghost use Rattle.gate_history.specs.client.Views.{request_view, pipe_view, verdict_view};
+ghost use Rattle.gate_history.specs.client.Carried.{IsRequest, IsSent, IsCarried};
+ghost use Rattle.gate_parts.specs.state.Rows.{kind_of, IsFine};
+ghost use Rattle.gate_core.specs.inner.Holds.{IsKept, Holds, Does, Leaves, IsFree, CanAnswer, CanGo, HasOpened};
+
+use crate::state::kept::Kept;
+use control_route::Route;
+use gate_history::{Note, Notes, Pipe, Request, Verdict};
+use gate_parts::{
+    Calls, ESHUTDOWN, client_refusal, decide, draw, packet_count, row_of, write_route, write_wire,
+    write_without_packets,
+};
+use redir_wire::{WIDE_BULK_LENGTH, WIDE_IDS};
+use unlink_race::{Live, LiveKind, StreamEnd};
+use usb_base::{Bytes, Memory, Reason};
+use usbip_urb::Submit;
+
+impl Kept {
+    /// A submit: a client that hasn't imported the device can't send one, nor one with a number that is live.
+    pub fn submit(
+        &mut self,
+        place: u64,
+        submit: Submit,
+        to_client: &mut Bytes,
+        to_host: &mut Bytes,
+        notes: &mut Notes,
+    ) -> Result<(), Memory>
+        requires kept { IsKept self.old }
+        requires fits { IsSubmit submit }
+        ensures kept { IsKept self.new }
+        ensures ok { (st : State) (at : ℕ) → place ≡ capped at → Holds self.old st → IsSound st → st.client_over ≡ false
+            → OnOk result (Does st (mark_as st (urb_meaning st at (SubmitPacket submit)) None) self.old self.new to_client.old to_client.new to_host.old to_host.new notes.old notes.new) }
+        ensures err { OnErr result (Leaves self.old self.new to_client.old to_client.new to_host.old to_host.new notes.old notes.new) }
+    {
+        if !self.imported {
+            return self.refuse_client(client_refusal(place, Reason::NotImported), to_host, notes);
+        }
+        if self.lives.has(submit.head.seqnum) {
+            let place = place.saturating_add(4);
+            return self.refuse_client(client_refusal(place, Reason::DuplicateSeq), to_host, notes);
+        }
+        self.accept(Request::of(submit), to_client, to_host, notes)
+    }
+
+    /// A submit is accepted, and goes on by its verdict.
+    fn accept(
+        &mut self,
+        request: Request,
+        to_client: &mut Bytes,
+        to_host: &mut Bytes,
+        notes: &mut Notes,
+    ) -> Result<(), Memory>
+        requires kept { IsKept self.old }
+        requires imported { self.old.imported ≡ true }
+        requires number_free { list_any (has_number request.number) self.old.lives.live ≡ false }
+        requires whole { IsRequest (request_view request) }
+        ensures kept { IsKept self.new }
+        ensures ok { (st : State) → Holds self.old st → IsSound st
+            → OnOk result (Does st (mark_as st (accepts st (request_view request) (verdict_of st (request_view request))) None) self.old self.new to_client.old to_client.new to_host.old to_host.new notes.old notes.new) }
+        ensures err { OnErr result (Leaves self.old self.new to_client.old to_client.new to_host.old to_host.new notes.old notes.new) }
+    {
+        match self.verdict(&request) {
+            Verdict::Now(status) => self.answer_now(&request, status, to_client, notes),
+            Verdict::Wire(pipe) => self.send(pipe, request, to_host, notes),
+            Verdict::Routed(route) => { self.send_route(route, request, to_client, to_host, notes) }
+            Verdict::IsoOut(row) => self.send_iso(row, &request, to_client, to_host, notes),
+            Verdict::Stream(row) => self.wait(row, request, to_client, to_host, notes),
+        }
+    }
+
+    /// What is made of a request here.
+    fn verdict(&self, request: &Request) -> Verdict
+        requires whole { IsRequest (request_view request.now) }
+        ensures value { (st : State) → Holds self.now st → verdict_view result ≡ verdict_of st (request_view request.now) }
+        ensures carried { IsCarried (wide_bulk self.now.caps) (verdict_view result) (request_view request.now) }
+        ensures answered { CanGo self.now (request_view request.now) (verdict_view result) }
+    {
+        let changing = self.lives.change_waits();
+        let wide = self.caps.has(WIDE_BULK_LENGTH);
+        decide(
+            self.lost,
+            self.lives.len(),
+            changing,
+            &self.facts.table,
+            wide,
+            request,
+        )
+    }
+
+    /// A submit is answered at once.
+    fn answer_now(
+        &mut self,
+        request: &Request,
+        status: i32,
+        to_client: &mut Bytes,
+        notes: &mut Notes,
+    ) -> Result<(), Memory>
+        requires kept { IsKept self.old }
+        requires packets { HasItsPackets request.now.packets request.now.descs }
+        ensures kept { IsKept self.new }
+        ensures ok { (st : State) (host : List ℕ) → Holds self.old st → IsSound st
+            → OnOk result (Does st (mark_as st (Opens (submission st (request_view request.now) (Now status) [])) None) self.old self.new to_client.old to_client.new host host notes.old notes.new) }
+        ensures err { (host : List ℕ) → OnErr result (Leaves self.old self.new to_client.old to_client.new host host notes.old notes.new) }
+    {
+        notes.push(Note::Submitted {
+            seqnum: request.number,
+            id: 0,
+        })?;
+        write_without_packets(self.alloc, &request.asked(), status, to_client)?;
+        self.answered = self.answered.saturating_add(1);
+        Ok(())
+    }
+
+    /// A transfer goes to the host as a packet of its own kind.
+    fn send(
+        &mut self,
+        pipe: Pipe,
+        request: Request,
+        to_host: &mut Bytes,
+        notes: &mut Notes,
+    ) -> Result<(), Memory>
+        requires kept { IsKept self.old }
+        requires free { IsFree self.old request.number }
+        requires sent { IsSent (wide_bulk self.old.caps) (pipe_view pipe) request.transfer }
+        requires answered { CanAnswer (request_view request) (kind_of (Wire (pipe_view pipe)) request.transfer.ep) }
+        ensures kept { IsKept self.new }
+        ensures ok { (st : State) (client : List ℕ) → Holds self.old st → IsSound st
+            → OnOk result (Does st (mark_as st (Opens (submission st (request_view request) (Wire (pipe_view pipe)) (next_ids st 1))) None) self.old self.new client client to_host.old to_host.new notes.old notes.new) }
+        ensures err { (client : List ℕ) → OnErr result (Leaves self.old self.new client client to_host.old to_host.new notes.old notes.new) }
+    {
+        let id = self.draw(self.last);
+        notes.push(Note::Submitted {
+            seqnum: request.number,
+            id,
+        })?;
+        let Request {
+            number,
+            is_in,
+            flags,
+            packets,
+            descs,
+            transfer,
+        } = request;
+        let wanted = transfer.wanted;
+        let kind = LiveKind::Wire {
+            ep: transfer.ep,
+            kind: pipe.kind(),
+        };
+        write_wire(pipe, transfer, id, self.caps, to_host)?;
+        let live = Live {
+            seqnum: number,
+            id,
+            kind,
+            is_in,
+            wanted,
+            flags,
+            packets,
+            descs,
+            unlinker: None,
+        };
+        self.open(live, id);
+        Ok(())
+    }
+
+    /// A transfer goes to the host by the packets of its route, once the streams that end with it are stopped, and the
+    /// requests that wait for their packets answered.
+    fn send_route(
+        &mut self,
+        route: Route,
+        request: Request,
+        to_client: &mut Bytes,
+        to_host: &mut Bytes,
+        notes: &mut Notes,
+    ) -> Result<(), Memory>
+        requires kept { IsKept self.old }
+        requires free { IsFree self.old request.number }
+        requires answered { CanAnswer (request_view request) (Routed route) }
+        requires some { 1 ≤ length (route_packets route) }
+        ensures kept { IsKept self.new }
+        ensures ok { (st : State) → Holds self.old st → IsSound st
+            → OnOk result (Does st (mark_as st (Opens (submission st (request_view request) (verdict.Routed route) (drawn_for st (request_view request) (verdict.Routed route)))) None) self.old self.new to_client.old to_client.new to_host.old to_host.new notes.old notes.new) }
+        ensures err { OnErr result (Leaves self.old self.new to_client.old to_client.new to_host.old to_host.new notes.old notes.new) }
+    {
+        let end = StreamEnd::Change(route);
+        self.write_ends(&end, ESHUTDOWN, to_client)?;
+        let called = self.write_stops(Some(route), to_host)?;
+        let id = self.ask_route(&route, called.last, to_host)?;
+        notes.push(Note::Submitted {
+            seqnum: request.number,
+            id,
+        })?;
+        let live = row_of(request, LiveKind::Routed(route), id);
+        self.open(live, id);
+        self.drop_ended(&end);
+        self.end_streams(route, called.calls);
+        Ok(())
+    }
+
+    /// Appends the packets of a route, and gives the id of the last.
+    fn ask_route(&self, route: &Route, last: u64, to_host: &mut Bytes) -> Result<u64, Memory>
+        requires kept { IsKept self.now }
+        requires some { 1 ≤ length (route_packets route.now) }
+        ensures sent { OnOk result (to_host.new ≡ to_host.old ++ bytes_of self.now last (route_packets route.now)) }
+        ensures id { IfOk result (λ id. id ≡ last_of last (ids_after self.now last (length (route_packets route.now)))) }
+        ensures fits { IfOk result (λ id. IdFits (wide_ids self.now.caps) id) }
+        ensures err { OnErr result (to_host.new ≡ to_host.old) }
+    {
+        let first = self.draw(last);
+        let second = self.draw(first);
+        let ids = [first, second];
+        let count = packet_count(route);
+        write_route(route, &ids[..count], self.caps, to_host)?;
+        Ok(ids[count - 1])
+    }
+
+    /// The streams that end with a route go down, and were stopped.
+    fn end_streams(&mut self, route: Route, calls: Calls)
+        requires kept { IsKept self.old }
+        ensures kept { IsKept self.new }
+        ensures ended { self.new ≡ record self.old { streams = lower (is_ended (Some route)) self.old.streams; calls = calls } }
+    {
+        self.streams.lower(Some(route));
+        self.calls = calls;
+    }
+
+    /// The first id after this one that is in flight nowhere.
+    pub fn draw(&self, last: u64) -> u64
+        requires { IsKept self.now }
+        ensures value { result ≡ draw (greatest (wide_ids self.now.caps)) (flying_in self.now) last }
+        ensures fits { IdFits (wide_ids self.now.caps) result }
+    {
+        draw(&self.lives, &self.calls, self.caps.has(WIDE_IDS), last)
+    }
+
+    /// Takes a request in, the last of those in flight, for which this id was drawn last.
+    pub fn open(&mut self, live: Live, last: u64)
+        requires kept { IsKept self.old }
+        requires free { IsFree self.old live.seqnum }
+        requires fine { IsFine self.old.caps live }
+        ensures kept { IsKept self.new }
+        ensures opened { HasOpened live last self.old self.new }
+    {
+        self.lives.accept(live).unwrap();
+        self.last = last;
+    }
+}

@@ -1,0 +1,123 @@
+//! The requests that wait for packets of a stream.
+
+ghost use Rattle.std.specs.Prelude.{◌≡◌, ◌++◌, ◌∷◌, [], ℕ, List, None, OnOk, OnErr};
+ghost use Rattle.gate_history.specs.state.Ups.{stream_at};
+ghost use Rattle.gate_history.specs.declared.note.Note.TheVariants.{Submitted};
+ghost use Rattle.gate_history.specs.client.Verdict.{Stream};
+ghost use Rattle.gate_history.specs.step.Meaning.{mark_as, accepts};
+ghost use Rattle.gate_history.specs.state.State.{State};
+ghost use Rattle.gate_history.specs.state.Sound.{IsSound};
+ghost use Rattle.gate_history.specs.client.Views.{request_view};
+ghost use Rattle.gate_parts.specs.host.Fill.{up_fill, up_bytes, filled_notes};
+ghost use Rattle.gate_core.specs.inner.Fill.{HasJoined, joined_rows};
+ghost use Rattle.gate_core.specs.inner.Holds.{IsKept, Holds, Does, Leaves, IsFree, CanWait};
+ghost use Rattle.gate_parts.specs.write.Extends.{Extends};
+
+use crate::state::kept::Kept;
+use gate_history::{Note, Notes, Request};
+use gate_parts::{Up, row_of};
+use unlink_race::LiveKind;
+use usb_base::{Bytes, EpRow, Memory};
+
+impl Kept {
+    /// A request waits for packets of its endpoint's stream. It is started where it isn't up; one that is up keeps its
+    /// row, and may hold packets that fill the request.
+    pub fn wait(
+        &mut self,
+        row: EpRow,
+        request: Request,
+        to_client: &mut Bytes,
+        to_host: &mut Bytes,
+        notes: &mut Notes,
+    ) -> Result<(), Memory>
+        requires kept { IsKept self.old }
+        requires free { IsFree self.old request.number }
+        requires waits { CanWait (request_view request) }
+        ensures kept { IsKept self.new }
+        ensures ok { (st : State) → Holds self.old st → IsSound st
+            → OnOk result (Does st (mark_as st (accepts st (request_view request) (Stream row)) None) self.old self.new to_client.old to_client.new to_host.old to_host.new notes.old notes.new) }
+        ensures err { OnErr result (Leaves self.old self.new to_client.old to_client.new to_host.old to_host.new notes.old notes.new) }
+    {
+        let ep = request.ep();
+        let Some(mut up) = self.streams.take(ep) else {
+            return self.start(row, request, to_host, notes);
+        };
+        let joined = self.join(&mut up, request, to_client, notes);
+        self.streams.put(ep, up);
+        joined
+    }
+
+    /// A request waits for a stream that is up.
+    fn join(
+        &mut self,
+        up: &mut Up,
+        request: Request,
+        to_client: &mut Bytes,
+        notes: &mut Notes,
+    ) -> Result<(), Memory>
+        requires kept { IsKept self.old }
+        requires free { IsFree self.old request.number }
+        requires waits { CanWait (request_view request) }
+        ensures kept { IsKept self.new }
+        ensures joined { OnOk result (HasJoined up.old up.new (request_view request) self.old self.new) }
+        ensures sent { OnOk result (to_client.new ≡ to_client.old ++ up_bytes request.transfer.ep up.old (joined_rows up.old (request_view request) self.old)) }
+        ensures told { OnOk result (notes.new ≡ notes.old ++ Submitted request.number 0 ∷ filled_notes (up_fill request.transfer.ep up.old (joined_rows up.old (request_view request) self.old))) }
+        ensures same { OnErr result (self.new ≡ self.old) }
+        ensures same_up { OnErr result (up.new ≡ up.old) }
+        ensures err { OnErr result (Extends to_client.old to_client.new) }
+        ensures err_notes { OnErr result (Extends notes.old notes.new) }
+    {
+        notes.push(Note::Submitted {
+            seqnum: request.number,
+            id: 0,
+        })?;
+        let ep = request.ep();
+        let kind = LiveKind::Stream {
+            ep,
+            interface: up.row().interface,
+        };
+        let live = row_of(request, kind, 0);
+        self.lives.accept(live).unwrap();
+        match self.fill(ep, up, to_client, notes) {
+            Ok(()) => Ok(()),
+            Err(memory) => {
+                self.lives.take_last();
+                Err(memory)
+            }
+        }
+    }
+
+    /// A request waits for a stream that it starts.
+    fn start(
+        &mut self,
+        row: EpRow,
+        request: Request,
+        to_host: &mut Bytes,
+        notes: &mut Notes,
+    ) -> Result<(), Memory>
+        requires kept { IsKept self.old }
+        requires free { IsFree self.old request.number }
+        requires waits { CanWait (request_view request) }
+        requires down { stream_at self.old.streams request.transfer.ep ≡ None }
+        ensures kept { IsKept self.new }
+        ensures ok { (st : State) (client : List ℕ) → Holds self.old st → IsSound st
+            → OnOk result (Does st (mark_as st (accepts st (request_view request) (Stream row)) None) self.old self.new client client to_host.old to_host.new notes.old notes.new) }
+        ensures err { (client : List ℕ) → OnErr result (Leaves self.old self.new client client to_host.old to_host.new notes.old notes.new) }
+    {
+        notes.push(Note::Submitted {
+            seqnum: request.number,
+            id: 0,
+        })?;
+        let ep = request.ep();
+        let called = self.write_start(ep, row, to_host)?;
+        let kind = LiveKind::Stream {
+            ep,
+            interface: row.interface,
+        };
+        self.streams.raise(self.alloc, ep, row);
+        self.calls = called.calls;
+        let live = row_of(request, kind, 0);
+        self.open(live, called.last);
+        Ok(())
+    }
+}

@@ -1,0 +1,6 @@
+//! What the host says.
+
+pub mod arrive;
+pub mod loss;
+pub mod stream_end;
+pub mod told;

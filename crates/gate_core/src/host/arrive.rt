@@ -1,0 +1,105 @@
+//! The packets of receiving streams: they are held, and fill the requests that wait for them.
+
+ghost use Rattle.std.specs.Prelude.{◌≡◌, ◌++◌, ◌∷◌, [], ℕ, List, OnOk, OnErr, if◌then◌else◌, not, ◌&&◌};
+ghost use Rattle.gate_history.specs.declared.note.Note.TheVariants.{Arrived};
+ghost use Rattle.gate_history.specs.state.Ups.{stream_of};
+ghost use Rattle.gate_history.specs.step.Meaning.{mark_as, arrives};
+ghost use Rattle.gate_history.specs.state.State.{State};
+ghost use Rattle.gate_history.specs.state.Sound.{IsSound};
+ghost use Rattle.gate_history.specs.step.Wants.{GivesSome};
+ghost use Rattle.gate_parts.specs.host.Fill.{up_fill, up_bytes, filled_notes};
+ghost use Rattle.gate_core.specs.inner.Fill.{HasEnded, HasReceived, received_bytes, received_notes};
+ghost use Rattle.gate_core.specs.inner.Holds.{IsKept, Holds, Does, Leaves};
+ghost use Rattle.gate_parts.specs.write.Extends.{Extends};
+
+use crate::state::kept::Kept;
+use gate_history::{Note, Notes};
+use gate_parts::{Up, finish_fronts, write_fillings};
+use usb_base::{Bytes, EpAddr, Memory, StreamPacket};
+
+impl Kept {
+    /// A packet comes from the endpoint with this address. It means nothing where no stream of it is up.
+    pub fn arrive(
+        &mut self,
+        endpoint: u8,
+        iso: bool,
+        packet: StreamPacket,
+        to_client: &mut Bytes,
+        notes: &mut Notes,
+    ) -> Result<(), Memory>
+        requires kept { IsKept self.old }
+        ensures kept { IsKept self.new }
+        ensures ok { (st : State) (host : List ℕ) → Holds self.old st → IsSound st
+            → OnOk result (Does st (mark_as st (arrives st endpoint iso packet (stream_of st.streams endpoint)) None) self.old self.new to_client.old to_client.new host host notes.old notes.new) }
+        ensures err { (host : List ℕ) → OnErr result (Leaves self.old self.new to_client.old to_client.new host host notes.old notes.new) }
+        ensures wants { (st : State) → Holds self.old st → OnErr result (GivesSome st (mark_as st (arrives st endpoint iso packet (stream_of st.streams endpoint)) None)) }
+    {
+        let Some(ep) = EpAddr::new(endpoint) else {
+            return Ok(());
+        };
+        let Some(mut up) = self.streams.take(ep) else {
+            return Ok(());
+        };
+        let received = self.receive(ep, &mut up, iso, packet, to_client, notes);
+        self.streams.put(ep, up);
+        received
+    }
+
+    /// A packet of a stream came. It is held where it is of the stream's type and there is room; any other is lost.
+    fn receive(
+        &mut self,
+        ep: EpAddr,
+        up: &mut Up,
+        iso: bool,
+        packet: StreamPacket,
+        to_client: &mut Bytes,
+        notes: &mut Notes,
+    ) -> Result<(), Memory>
+        requires kept { IsKept self.old }
+        ensures kept { IsKept self.new }
+        ensures received { OnOk result (HasReceived ep iso packet up.old up.new self.old self.new) }
+        ensures sent { OnOk result (to_client.new ≡ to_client.old ++ received_bytes ep iso packet up.old self.old.lives.live) }
+        ensures told { OnOk result (notes.new ≡ notes.old ++ Arrived ep ∷ received_notes ep iso packet up.old self.old.lives.live) }
+        ensures same { OnErr result (self.new ≡ self.old) }
+        ensures same_up { OnErr result (up.new ≡ up.old) }
+        ensures err { OnErr result (Extends to_client.old to_client.new) }
+        ensures err_notes { OnErr result (Extends notes.old notes.new) }
+    {
+        notes.push(Note::Arrived { ep })?;
+        if up.is_iso() != iso || !up.receive(packet)? {
+            return Ok(());
+        }
+        match self.fill(ep, up, to_client, notes) {
+            Ok(()) => Ok(()),
+            Err(memory) => {
+                up.withdraw();
+                Err(memory)
+            }
+        }
+    }
+
+    /// The requests that the packets of a stream fill are answered, and gone with those packets.
+    pub fn fill(
+        &mut self,
+        ep: EpAddr,
+        up: &mut Up,
+        to_client: &mut Bytes,
+        notes: &mut Notes,
+    ) -> Result<(), Memory>
+        requires kept { IsKept self.old }
+        ensures kept { IsKept self.new }
+        ensures ended { OnOk result (HasEnded ep up.old up.new self.old self.new) }
+        ensures sent { OnOk result (to_client.new ≡ to_client.old ++ up_bytes ep up.old self.old.lives.live) }
+        ensures told { OnOk result (notes.new ≡ notes.old ++ filled_notes (up_fill ep up.old self.old.lives.live)) }
+        ensures same { OnErr result (self.new ≡ self.old) }
+        ensures same_up { OnErr result (up.new ≡ up.old) }
+        ensures err { OnErr result (Extends to_client.old to_client.new) }
+        ensures err_notes { OnErr result (Extends notes.old notes.new) }
+    {
+        let filled = write_fillings(self.alloc, &self.lives, ep, up, to_client, notes)?;
+        finish_fronts(&mut self.lives, ep, filled.requests);
+        up.skip(filled.packets);
+        self.answered = self.answered.saturating_add(filled.requests as u64);
+        Ok(())
+    }
+}

@@ -1,0 +1,279 @@
+//! What becomes of the host's packets.
+
+ghost use Rattle.std.specs.Prelude.{◌≡◌, ◌⊎◌, ◌++◌, ℕ, List, Some, None, ◌∷◌, false, if◌then◌else◌, option_map, option_copied, IfSome, OnOk, OnErr};
+ghost use Rattle.std.specs.List.{find};
+ghost use Rattle.std.specs.Option.{option_and_then, option_or};
+ghost use Rattle.usb_base.specs.declared.side.Side.TheVariants.{Host};
+ghost use Rattle.redir_wire.specs.Capability.{announced, caps_of, agreed};
+ghost use Rattle.redir_wire.specs.Header.{head_size};
+ghost use Rattle.redir_data.specs.declared.packet.RedirPacket.TheVariants.{Plain, Carrying};
+ghost use Rattle.unlink_race.specs.Searches.{has_id};
+ghost use Rattle.gate_history.specs.step.Items.{capped};
+ghost use Rattle.gate_history.specs.step.Marks.{StreamTold};
+ghost use Rattle.gate_history.specs.state.Facts.{tell};
+ghost use Rattle.usb_base.specs.Status.{status_of};
+ghost use Rattle.gate_history.specs.state.Calls.{lifted};
+ghost use Rattle.gate_history.specs.state.Flight.{wide_ids};
+ghost use Rattle.gate_history.specs.client.Submits.{has_id as submit_has_id};
+ghost use Rattle.gate_history.specs.state.State.{State, submits};
+ghost use Rattle.gate_history.specs.host.Responses.{response_of};
+ghost use Rattle.gate_history.specs.step.Meaning.{mark_as, fact_of, by_response, data_meaning, told_meaning};
+ghost use Rattle.gate_history.specs.state.Sound.{IsSound};
+ghost use Rattle.gate_history.specs.step.Wants.{GivesSome};
+ghost use Rattle.gate_parts.specs.host.Responses.{response_view, stream_in, row_mismatch, IsAnswer, completes};
+ghost use Rattle.gate_core.specs.inner.Holds.{IsKept, Holds, Does, Leaves};
+ghost use Rattle.gate_history.specs.step.Fits.{ResponseFits, ToldFits};
+
+use crate::state::kept::Kept;
+use gate_history::{Note, Notes};
+use gate_parts::{
+    Response, data_of, head_size, lifted, mismatch, status_of, stream_in, stream_packet,
+    write_completed,
+};
+use redir_data::{RedirData, RedirPacket};
+use redir_wire::{ANNOUNCED, Caps, Header, Hello, RedirControl};
+use unlink_race::Live;
+use usb_base::{Bytes, Memory, Refusal, UsbStatus};
+
+impl Kept {
+    /// Takes a packet of the host, which begins at `place` of its stream.
+    pub fn told(
+        &mut self,
+        place: u64,
+        header: Header,
+        packet: RedirPacket,
+        to_client: &mut Bytes,
+        to_host: &mut Bytes,
+        notes: &mut Notes,
+    ) -> Result<(), Memory>
+        requires kept { IsKept self.old }
+        requires fits { ToldFits self.old.caps header packet }
+        ensures kept { IsKept self.new }
+        ensures ok { (st : State) (at : ℕ) → place ≡ capped at → Holds self.old st → IsSound st → st.host_over ≡ false
+            → OnOk result (Does st (mark_as st (told_meaning st at header packet) (fact_of packet)) self.old self.new to_client.old to_client.new to_host.old to_host.new notes.old notes.new) }
+        ensures err { OnErr result (Leaves self.old self.new to_client.old to_client.new to_host.old to_host.new notes.old notes.new) }
+        ensures wants { (st : State) (at : ℕ) → place ≡ capped at → Holds self.old st → IsSound st → OnErr result (GivesSome st (mark_as st (told_meaning st at header packet) (fact_of packet))) }
+    {
+        match packet {
+            RedirPacket::Plain(packet) => {
+                self.told_control(place, &header, &packet, to_client, to_host, notes)
+            }
+            RedirPacket::Carrying(packet) => {
+                self.told_data(place, &header, packet, to_client, notes)
+            }
+        }
+    }
+
+    /// Takes a packet that moves data. Those of the streams of IN endpoints go by no id.
+    fn told_data(
+        &mut self,
+        place: u64,
+        header: &Header,
+        packet: RedirData,
+        to_client: &mut Bytes,
+        notes: &mut Notes,
+    ) -> Result<(), Memory>
+        requires kept { IsKept self.old }
+        requires fits { ResponseFits header.now.kind (response_of (Carrying packet)) }
+        ensures kept { IsKept self.new }
+        ensures ok { (st : State) (at : ℕ) (host : List ℕ) → place ≡ capped at → Holds self.old st → IsSound st
+            → OnOk result (Does st (mark_as st (data_meaning st at header.now packet) None) self.old self.new to_client.old to_client.new host host notes.old notes.new) }
+        ensures err { (host : List ℕ) → OnErr result (Leaves self.old self.new to_client.old to_client.new host host notes.old notes.new) }
+        ensures wants { (st : State) (at : ℕ) → place ≡ capped at → Holds self.old st → IsSound st → OnErr result (GivesSome st (mark_as st (data_meaning st at header.now packet) None)) }
+    {
+        let Some((endpoint, iso)) = stream_in(&packet) else {
+            return self.respond(place, header, data_of(packet), to_client, notes);
+        };
+        self.arrive(endpoint, iso, stream_packet(packet), to_client, notes)
+    }
+
+    /// Takes a packet that moves no data.
+    fn told_control(
+        &mut self,
+        place: u64,
+        header: &Header,
+        packet: &RedirControl,
+        to_client: &mut Bytes,
+        to_host: &mut Bytes,
+        notes: &mut Notes,
+    ) -> Result<(), Memory>
+        requires kept { IsKept self.old }
+        requires fits { ToldFits self.old.caps header.now (Plain packet.now) }
+        ensures kept { IsKept self.new }
+        ensures ok { (st : State) (at : ℕ) → place ≡ capped at → Holds self.old st → IsSound st → st.host_over ≡ false
+            → OnOk result (Does st (mark_as st (told_meaning st at header.now (Plain packet.now)) (fact_of (Plain packet.now))) self.old self.new to_client.old to_client.new to_host.old to_host.new notes.old notes.new) }
+        ensures err { OnErr result (Leaves self.old self.new to_client.old to_client.new to_host.old to_host.new notes.old notes.new) }
+        ensures wants { (st : State) (at : ℕ) → place ≡ capped at → Holds self.old st → IsSound st → OnErr result (GivesSome st (mark_as st (told_meaning st at header.now (Plain packet.now)) (fact_of (Plain packet.now)))) }
+    {
+        match packet {
+            RedirControl::Hello(hello) => {
+                self.agree(hello);
+                Ok(())
+            }
+            RedirControl::Disconnect => self.disconnect(header.id, to_client, to_host, notes),
+            RedirControl::IsoStatus { status, endpoint } => {
+                self.told_stream(header.id, *endpoint, *status, to_client)
+            }
+            RedirControl::InterruptStatus { status, endpoint } => {
+                self.told_stream(header.id, *endpoint, *status, to_client)
+            }
+            _ => self.told_fact(place, header, packet, to_client, notes),
+        }
+    }
+
+    /// The host's hello: what both sides have is agreed. Ids had 32 bits until then.
+    fn agree(&mut self, hello: &Hello)
+        requires kept { IsKept self.old }
+        requires narrow { wide_ids self.old.caps ≡ false }
+        ensures kept { IsKept self.new }
+        ensures agreed { self.new ≡ record self.old { caps = agreed (caps_of hello.now) announced } }
+    {
+        self.caps = hello.caps().agreed(Caps { bits: ANNOUNCED });
+    }
+
+    /// The host tells of an endpoint's stream, by the id of what started or stopped it.
+    fn told_stream(
+        &mut self,
+        id: u64,
+        endpoint: u8,
+        status: u8,
+        to_client: &mut Bytes,
+    ) -> Result<(), Memory>
+        requires kept { IsKept self.old }
+        ensures kept { IsKept self.new }
+        ensures ok { (st : State) (host : List ℕ) (notes : List Note) → Holds self.old st → IsSound st
+            → OnOk result (Does st (mark_as st (StreamTold id endpoint (status_of status)) None) self.old self.new to_client.old to_client.new host host notes notes) }
+        ensures err { (host : List ℕ) (notes : List Note) → OnErr result (Leaves self.old self.new to_client.old to_client.new host host notes notes) }
+        ensures wants { (st : State) → Holds self.old st → IsSound st → OnErr result (GivesSome st (mark_as st (StreamTold id endpoint (status_of status)) None)) }
+    {
+        self.end_stream(endpoint, UsbStatus::from_byte(status), to_client)?;
+        self.fence = lifted(id, self.fence);
+        Ok(())
+    }
+
+    /// Takes a packet that may answer a request, and may tell a fact of the device.
+    fn told_fact(
+        &mut self,
+        place: u64,
+        header: &Header,
+        packet: &RedirControl,
+        to_client: &mut Bytes,
+        notes: &mut Notes,
+    ) -> Result<(), Memory>
+        requires kept { IsKept self.old }
+        requires fits { ResponseFits header.now.kind (response_of (Plain packet.now)) }
+        ensures kept { IsKept self.new }
+        ensures ok { (st : State) (at : ℕ) (host : List ℕ) → place ≡ capped at → Holds self.old st → IsSound st → st.host_over ≡ false
+            → OnOk result (Does st (mark_as st (by_response st at header.now (response_of (Plain packet.now))) (fact_of (Plain packet.now))) self.old self.new to_client.old to_client.new host host notes.old notes.new) }
+        ensures err { (host : List ℕ) → OnErr result (Leaves self.old self.new to_client.old to_client.new host host notes.old notes.new) }
+        ensures wants { (st : State) (at : ℕ) → place ≡ capped at → Holds self.old st → IsSound st → OnErr result (GivesSome st (mark_as st (by_response st at header.now (response_of (Plain packet.now))) (fact_of (Plain packet.now)))) }
+    {
+        self.respond(place, header, status_of(packet), to_client, notes)?;
+        self.learn(packet);
+        Ok(())
+    }
+
+    /// Takes in the fact that a packet tells. A host that was refused for it has no device any more.
+    fn learn(&mut self, packet: &RedirControl)
+        requires kept { IsKept self.old }
+        ensures kept { IsKept self.new }
+        ensures learned { self.new ≡ record self.old { facts = if self.old.host_over then self.old.facts else tell self.old.facts (fact_of (Plain packet.now)) } }
+    {
+        if !self.host_over {
+            self.facts.tell(packet);
+        }
+    }
+
+    /// Takes what a packet is as an answer, if it is one.
+    fn respond(
+        &mut self,
+        place: u64,
+        header: &Header,
+        response: Option<Response>,
+        to_client: &mut Bytes,
+        notes: &mut Notes,
+    ) -> Result<(), Memory>
+        requires kept { IsKept self.old }
+        requires fits { ResponseFits header.now.kind (option_map response_view response) }
+        ensures kept { IsKept self.new }
+        ensures ok { (st : State) (at : ℕ) (host : List ℕ) → place ≡ capped at → Holds self.old st → IsSound st
+            → OnOk result (Does st (mark_as st (by_response st at header.now (option_map response_view response)) None) self.old self.new to_client.old to_client.new host host notes.old notes.new) }
+        ensures err { (host : List ℕ) → OnErr result (Leaves self.old self.new to_client.old to_client.new host host notes.old notes.new) }
+        ensures wants { (st : State) (at : ℕ) → place ≡ capped at → Holds self.old st → IsSound st → OnErr result (GivesSome st (mark_as st (by_response st at header.now (option_map response_view response)) None)) }
+    {
+        match response {
+            Some(response) => self.answer(place, header, response, to_client, notes),
+            None => Ok(()),
+        }
+    }
+
+    /// The host answers the request that has the packet's id. It is refused where the answer isn't that of the request;
+    /// an answer to nobody means nothing.
+    fn answer(
+        &mut self,
+        place: u64,
+        header: &Header,
+        response: Response,
+        to_client: &mut Bytes,
+        notes: &mut Notes,
+    ) -> Result<(), Memory>
+        requires kept { IsKept self.old }
+        requires fits { ResponseFits header.now.kind (Some (response_view response)) }
+        ensures kept { IsKept self.new }
+        ensures ok { (st : State) (at : ℕ) (host : List ℕ) → place ≡ capped at → Holds self.old st → IsSound st
+            → OnOk result (Does st (mark_as st (by_response st at header.now (Some (response_view response))) None) self.old self.new to_client.old to_client.new host host notes.old notes.new) }
+        ensures err { (host : List ℕ) → OnErr result (Leaves self.old self.new to_client.old to_client.new host host notes.old notes.new) }
+        ensures wants { (st : State) (at : ℕ) → place ≡ capped at → Holds self.old st → IsSound st → OnErr result (GivesSome st (mark_as st (by_response st at header.now (Some (response_view response))) None)) }
+    {
+        if let Some(refusal) = self.mismatch_of(place, header, &response) {
+            return self.refuse_host(refusal, to_client, notes);
+        }
+        self.complete(header.id, response, to_client, notes)
+    }
+
+    /// What is wrong of an answer, if a request waits for it.
+    fn mismatch_of(&self, place: u64, header: &Header, response: &Response) -> Option<Refusal>
+        ensures value { result ≡ option_and_then (λ l. row_mismatch place (head_size (wide_ids self.now.caps)) l header.now.kind (response_view response.now)) (option_or (find (has_id header.now.id) self.now.lives.live) (find (has_id header.now.id) self.now.lives.abandoned)) }
+        ensures side { IfSome result (λ refusal. refusal.side ≡ Host) }
+    {
+        let live = self.waiting(header.id)?;
+        mismatch(place, head_size(self.caps), live, header.kind, response)
+    }
+
+    /// The request that waits for the answer with this id, whether its client is there or gone.
+    fn waiting(&self, id: u64) -> Option<&Live>
+        ensures { option_copied result ≡ option_or (find (has_id id) self.now.lives.live) (find (has_id id) self.now.lives.abandoned) }
+    {
+        match self.lives.find(id) {
+            Some(live) => Some(live),
+            None => self.lives.find_abandoned(id),
+        }
+    }
+
+    /// The request that has this id ends by its answer. Of one whose client is gone nothing is sent.
+    fn complete(
+        &mut self,
+        id: u64,
+        response: Response,
+        to_client: &mut Bytes,
+        notes: &mut Notes,
+    ) -> Result<(), Memory>
+        requires kept { IsKept self.old }
+        requires fits { IfSome (find (has_id id) self.old.lives.live) (λ l. IsAnswer l (response_view response)) }
+        ensures kept { IsKept self.new }
+        ensures ok { (st : State) (host : List ℕ) → Holds self.old st → IsSound st
+            → OnOk result (Does st (mark_as st (completes id (response_view response) (find (submit_has_id id) (submits st ++ st.abandoned))) None) self.old self.new to_client.old to_client.new host host notes.old notes.new) }
+        ensures err { (host : List ℕ) → OnErr result (Leaves self.old self.new to_client.old to_client.new host host notes.old notes.new) }
+        ensures wants { (st : State) → Holds self.old st → IsSound st → OnErr result (GivesSome st (mark_as st (completes id (response_view response) (find (submit_has_id id) (submits st ++ st.abandoned))) None)) }
+    {
+        let Some(live) = self.lives.find(id) else {
+            self.lives.finish_abandoned(id);
+            return Ok(());
+        };
+        let won = write_completed(self.alloc, live, response, to_client, notes)?;
+        self.lives.finish(id);
+        self.answered = self.answered.saturating_add(u64::from(!won));
+        self.unlinked = self.unlinked.saturating_add(u64::from(won));
+        Ok(())
+    }
+}

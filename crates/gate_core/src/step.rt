@@ -1,0 +1,5 @@
+//! One item, one event, and all of them.
+
+pub mod inner;
+pub mod take;
+pub mod translator;

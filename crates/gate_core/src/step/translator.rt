@@ -1,0 +1,80 @@
+//! What becomes of the items of both streams: what each sends, and what is kept of it.
+
+ghost use Rattle.std.specs.Prelude.{◌≡◌, ◌≤◌, OnOk, OnErr, IfOk, false};
+ghost use Rattle.gate_history.specs.step.Items.{Item as PastItem};
+ghost use Rattle.gate_history.specs.state.State.{State};
+ghost use Rattle.gate_history.specs.step.Meaning.{mark_of};
+ghost use Rattle.gate_history.specs.step.Past.{is_left_out};
+ghost use Rattle.gate_history.specs.state.Sound.{IsSound};
+ghost use Rattle.gate_history.specs.step.Wants.{GivesSome};
+ghost use Rattle.gate_core.specs.inner.Holds.{Holds, IsFirst, IsKept, Does, DoesNothing};
+ghost use Rattle.gate_history.specs.step.Fits.{IsItem, ItemFits};
+
+use crate::state::kept::Kept;
+use gate_history::{Item, Notes};
+use std::alloc::Global;
+use std::marker::Model;
+use usb_base::{Bytes, Memory};
+
+/// What becomes of the items of both streams.
+#[derive(Drop)]
+pub struct Translator {
+    kept: Kept,
+}
+
+impl Model for Translator {
+    ghost use Rattle.gate_core.specs.declared.state.kept.Kept.{Kept};
+    ghost use Rattle.gate_core.specs.inner.Holds.{IsKept};
+
+    ghost Value = { Kept };
+
+    ghost view = { λ translator. translator.kept };
+
+    ghost invariant = { λ translator. IsKept translator.kept };
+}
+
+impl Translator {
+    /// Nothing has come yet. The first packet to the host gets the first id.
+    pub fn make(alloc: Global, first_id: u64) -> Result<Translator, Memory>
+        requires { 1 ≤ first_id }
+        ensures { IfOk result (λ translator. IsFirst translator first_id) }
+    {
+        Ok(Translator {
+            kept: Kept::make(alloc, first_id)?,
+        })
+    }
+
+    /// What is kept of the items.
+    pub fn kept(&self) -> &Kept
+        ensures { result.now ≡ self.now }
+    {
+        &self.kept
+    }
+
+    /// Takes the next item of a side that isn't over: it appends what that sends to each side, and what it tells. For
+    /// want of memory nothing has changed.
+    pub fn take(
+        &mut self,
+        item: Item,
+        to_client: &mut Bytes,
+        to_host: &mut Bytes,
+        notes: &mut Notes,
+    ) -> Result<(), Memory>
+        requires { ItemFits self.old.caps item }
+        ensures ok { OnOk result ((st : State) (x : PastItem) → IsItem item x → Holds self.old st → IsSound st → is_left_out st x ≡ false
+            → Does st (mark_of st x) self.old self.new to_client.old to_client.new to_host.old to_host.new notes.old notes.new) }
+        ensures err { OnErr result (DoesNothing self.old self.new to_client.old to_client.new to_host.old to_host.new notes.old notes.new) }
+        ensures wants { OnErr result ((st : State) (x : PastItem) → IsItem item x → Holds self.old st → IsSound st → GivesSome st (mark_of st x)) }
+    {
+        let before = (to_client.len(), to_host.len(), notes.len());
+        match self.kept.take(item, to_client, to_host, notes) {
+            Ok(()) => Ok(()),
+            Err(memory) => {
+                to_client.cut(before.0);
+                to_host.cut(before.1);
+                notes.cut(before.2);
+                Err(memory)
+            }
+        }
+    }
+}

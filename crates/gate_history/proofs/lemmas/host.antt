@@ -1,0 +1,3 @@
+-- What the host says.
+pub mod Losses
+pub mod NoHello

@@ -1,0 +1,8 @@
+-- What a client asks for.
+pub mod Requests
+pub mod Verdict
+pub mod Carried
+pub mod Submits
+pub mod Replies
+pub mod Views
+pub mod Turns

@@ -1,0 +1,156 @@
+-- What is made of a submit: the first of these rules that applies. It takes what it needs to know as plain arguments,
+-- and is read without the rest of the gate.
+use Rattle.std.specs.Prelude.{ℕ, ◌==◌, ◌&&◌, nat_lt, nat_le, not, Bool, true, false, if◌then◌else◌, List, [], ◌∷◌, Option, Some, None, ℤ, pos}
+use Rattle.usb_base.specs.declared.setup.Setup.{Setup}
+use Rattle.usb_base.specs.declared.endpoint.EpKind.{EpKind}
+use Rattle.usb_base.specs.declared.endpoint.EpKind.TheVariants as kind
+use Rattle.usb_base.specs.declared.endpoint.EpRow.{EpRow}
+use Rattle.usb_base.specs.declared.endpoint.EpTable.{EpTable}
+use Rattle.usb_base.specs.Endpoint.{row_of}
+use Rattle.usbip_urb.specs.Buffers.{laid}
+use Rattle.usbip_urb.specs.declared.code.TheConstants.{MAX_LIVE}
+use Rattle.control_route.specs.declared.route.Route.{Route}
+use Rattle.control_route.specs.declared.route.Route.TheVariants as route
+use Rattle.control_route.specs.Routes.{route_of}
+use Rattle.control_route.specs.Changes.{is_change}
+use Rattle.gate_history.specs.write.Errno.{enoent, ebusy, einval, emsgsize, eshutdown}
+use Rattle.gate_history.specs.client.Requests.{Request, is_in_setup}
+
+-- the kinds of transfers of which each is one packet to the host and one back
+pub data Pipe : Type 0 where
+  Control : Pipe
+  Bulk : Pipe
+  InterruptOut : Pipe
+
+pub data Verdict : Type 0 where
+  -- it is answered at once with this status
+  Now : (status : ℤ) → Verdict
+  -- it goes to the host as a packet of its own kind
+  Wire : Pipe → Verdict
+  -- it goes to the host by the packets of its route
+  Routed : Route → Verdict
+  -- it goes to the host as isochronous packets by the stream of an endpoint that has this row, and is answered at once
+  IsoOut : EpRow → Verdict
+  -- it waits for the packets of its endpoint's stream, which keeps this row
+  Stream : EpRow → Verdict
+
+-- the longest transfer where a packet has 16 bits for its length
+abbrev pub max_narrow : ℕ
+max_narrow = 65535
+
+abbrev pub none_of : {A : Type 0} → List A → Bool
+none_of [] = true
+none_of (x ∷ xs) = false
+
+-- ---- endpoint 0
+
+abbrev pub by_route : Route → Verdict
+by_route route.Local = Now (pos 0)
+by_route (route.SetConfig configuration) = Routed (route.SetConfig configuration)
+by_route route.GetConfig = Routed route.GetConfig
+by_route (route.SetAlt interface alt) = Routed (route.SetAlt interface alt)
+by_route (route.GetAlt interface) = Routed (route.GetAlt interface)
+by_route route.Reset = Routed route.Reset
+by_route route.Plain = Wire Control
+by_route route.Bad = Now einval
+
+abbrev pub bool_eq : Bool → Bool → Bool
+bool_eq a b = if a then b else not b
+
+abbrev pub by_setup : Request → Setup → Verdict
+by_setup r s =
+    if not (none_of r.descs) then Now einval
+    else if not (s.length == 0) && not (bool_eq (is_in_setup s) r.is_in) then Now einval
+    else if not (s.length == r.transfer.wanted) then Now einval
+    else by_route (route_of s)
+
+-- ---- the other endpoints
+
+abbrev pub by_kind : Request → EpRow → EpKind → Verdict
+by_kind r row kind.Control = Now einval
+by_kind r row kind.Iso = if r.is_in then Stream row else IsoOut row
+by_kind r row kind.Bulk = Wire Bulk
+by_kind r row kind.Interrupt = if r.is_in then Stream row else Wire InterruptOut
+by_kind r row kind.Invalid = Now enoent
+
+abbrev pub is_control : EpKind → Bool
+is_control kind.Control = true
+is_control kind.Iso = false
+is_control kind.Bulk = false
+is_control kind.Interrupt = false
+is_control kind.Invalid = false
+
+abbrev pub is_iso : EpKind → Bool
+is_iso kind.Control = false
+is_iso kind.Iso = true
+is_iso kind.Bulk = false
+is_iso kind.Interrupt = false
+is_iso kind.Invalid = false
+
+abbrev pub is_invalid : EpKind → Bool
+is_invalid kind.Control = false
+is_invalid kind.Iso = false
+is_invalid kind.Bulk = false
+is_invalid kind.Interrupt = false
+is_invalid kind.Invalid = true
+
+-- the packet of this transfer has 16 bits for its length
+abbrev pub is_narrow : Bool → Bool → EpKind → Bool
+is_narrow wide is_in kind.Control = false
+is_narrow wide is_in kind.Iso = false
+is_narrow wide is_in kind.Bulk = not wide
+is_narrow wide is_in kind.Interrupt = not is_in
+is_narrow wide is_in kind.Invalid = false
+
+abbrev pub by_endpoint : Bool → Request → EpRow → Verdict
+by_endpoint wide r row =
+    if is_invalid row.kind then Now enoent
+    else if is_control row.kind then Now einval
+    else if bool_eq (is_iso row.kind) (none_of r.descs) then Now einval
+    else if not (laid r.descs r.transfer.wanted) then Now einval
+    else if is_narrow wide r.is_in row.kind && nat_lt max_narrow r.transfer.wanted then Now emsgsize
+    else by_kind r row row.kind
+
+-- ---- both
+
+abbrev pub by_transfer : Bool → EpTable → Bool → Request → Option Setup → Verdict
+by_transfer changing table wide r (Some setup) = by_setup r setup
+by_transfer changing table wide r None = if changing then Now enoent else by_endpoint wide r (row_of table r.transfer.ep)
+
+-- the device was lost since the import, so many submits are live, one of them is a change, the endpoints are these,
+-- and bulk packets have 32 bits for their lengths
+abbrev pub verdict : Bool → ℕ → Bool → EpTable → Bool → Request → Verdict
+verdict lost live changing table wide r =
+    if lost then Now eshutdown
+    else if nat_le MAX_LIVE live then Now ebusy
+    else by_transfer changing table wide r r.transfer.setup
+
+-- ---- what a verdict says of a submit
+
+-- the host's answer ends it, by an id
+abbrev pub goes_by_id : Verdict → Bool
+goes_by_id (Now status) = false
+goes_by_id (Wire pipe) = true
+goes_by_id (Routed r) = true
+goes_by_id (IsoOut row) = false
+goes_by_id (Stream row) = false
+
+abbrev pub is_wire : Verdict → Bool
+is_wire (Now status) = false
+is_wire (Wire pipe) = true
+is_wire (Routed r) = false
+is_wire (IsoOut row) = false
+is_wire (Stream row) = false
+
+-- the device's interfaces may be others once it ends
+abbrev pub changes : Verdict → Bool
+changes (Now status) = false
+changes (Wire pipe) = false
+changes (Routed r) = is_change r
+changes (IsoOut row) = false
+changes (Stream row) = false
+
+abbrev pub pipe_kind : Pipe → EpKind
+pipe_kind Control = kind.Control
+pipe_kind Bulk = kind.Bulk
+pipe_kind InterruptOut = kind.Interrupt

@@ -1,0 +1,88 @@
+-- The packets of the host that answer a request by its id: how far each must be that of its request, and what came of
+-- the transfer.
+use Rattle.std.specs.Prelude.{ℕ, ◌+◌, ◌==◌, ◌&&◌, nat_lt, not, Bool, true, false, if◌then◌else◌, List, [], ◌∷◌, length, take, Option, Some, None}
+use Rattle.usb_base.specs.declared.side.Side.TheVariants.{Host}
+use Rattle.usb_base.specs.declared.reason.Reason.TheVariants.{Mismatch}
+use Rattle.usb_base.specs.declared.refusal.Refusal.{Refusal}
+use Rattle.usb_base.specs.declared.status.UsbStatus.{UsbStatus}
+use Rattle.usb_base.specs.declared.transfer.Outcome.{Outcome}
+use Rattle.usb_base.specs.Status.{status_of}
+use Rattle.usb_base.specs.Endpoint.{is_in_endpoint}
+use Rattle.redir_wire.specs.declared.packet.RedirControl.TheVariants as plain
+use Rattle.redir_data.specs.declared.packet.RedirData.TheVariants as data_packet
+use Rattle.redir_data.specs.declared.packet.RedirPacket.{RedirPacket}
+use Rattle.redir_data.specs.declared.packet.RedirPacket.TheVariants.{Plain, Carrying}
+use Rattle.control_route.specs.declared.route.Route.{Route}
+use Rattle.control_route.specs.declared.route.Route.TheVariants as route
+use Rattle.gate_history.specs.step.Items.{capped}
+use Rattle.gate_history.specs.client.Requests.{Request}
+use Rattle.gate_history.specs.client.Verdict.{Control, Bulk, InterruptOut, Verdict, Now, Wire, Routed, IsoOut, Stream}
+use Rattle.gate_history.specs.step.Marks.{Submission}
+
+pub data Response : Type 0 where
+  -- a data packet, whose length stands so many bytes behind its header
+  Data : (endpoint length_place : ℕ) → Outcome → Response
+  -- the status of a configuration or an alternate setting, which tells its value
+  Status : (status value : ℕ) → Response
+
+abbrev pub outcome : ℕ → ℕ → List ℕ → Outcome
+outcome status done body = record { status = status_of status; done = done; body = body }
+
+-- an interrupt or isochronous packet of an IN endpoint is one of a stream, and goes by no id
+abbrev pub response_of : RedirPacket → Option Response
+response_of (Plain (plain.ConfigurationStatus status configuration)) = Some (Status status configuration)
+response_of (Plain (plain.AltStatus status interface alt)) = Some (Status status alt)
+response_of (Plain _) = None
+response_of (Carrying (data_packet.Control endpoint request kind status value index length body)) = Some (Data endpoint 8 (outcome status length body))
+response_of (Carrying (data_packet.Bulk endpoint status length stream body)) = Some (Data endpoint 2 (outcome status length body))
+response_of (Carrying (data_packet.Interrupt endpoint status length body)) = if is_in_endpoint endpoint then None else Some (Data endpoint 2 (outcome status length body))
+response_of (Carrying (data_packet.Iso endpoint status length body)) = None
+
+-- ---- whether it is the answer of the request that has its id
+
+abbrev pub route_answer : Route → ℕ
+route_answer (route.SetAlt interface alt) = 11
+route_answer (route.GetAlt interface) = 11
+route_answer _ = 8
+
+-- the type of the answer's packet; those that go by no id have none
+abbrev pub answer_kind : Verdict → ℕ
+answer_kind (Wire Control) = 100
+answer_kind (Wire Bulk) = 101
+answer_kind (Wire InterruptOut) = 103
+answer_kind (Routed r) = route_answer r
+answer_kind (Now status) = 0
+answer_kind (IsoOut row) = 0
+answer_kind (Stream row) = 0
+
+abbrev pub mismatched : ℕ → ℕ → ℕ → Refusal
+mismatched place expected came = record { side = Host; place = capped place; reason = Mismatch; kept = Some (expected, came) }
+
+-- the first that is wrong of its type, its endpoint and its length; the packet begins at `place`, and its header has
+-- `head` bytes
+abbrev pub mismatch : ℕ → ℕ → Submission → ℕ → Response → Option Refusal
+mismatch place head s kind (Status status value) = if kind == answer_kind s.verdict then None else Some (mismatched place (answer_kind s.verdict) kind)
+mismatch place head s kind (Data endpoint length_place o) =
+    if not (kind == answer_kind s.verdict) then Some (mismatched place (answer_kind s.verdict) kind)
+    else if not (endpoint == s.request.transfer.ep) then Some (mismatched (place + head) s.request.transfer.ep endpoint)
+    else if nat_lt s.request.transfer.wanted o.done then Some (mismatched (place + head + length_place) s.request.transfer.wanted o.done)
+    else None
+
+-- ---- what came of the transfer
+
+abbrev pub route_gets : Route → Bool
+route_gets route.GetConfig = true
+route_gets (route.GetAlt interface) = true
+route_gets _ = false
+
+-- the request asks for a value of one byte
+abbrev pub gets : Verdict → Bool
+gets (Routed r) = route_gets r
+gets _ = false
+
+abbrev pub got : UsbStatus → List ℕ → Outcome
+got status body = record { status = status; done = length body; body = body }
+
+abbrev pub seen : Request → Verdict → Response → Outcome
+seen r v (Data endpoint length_place o) = o
+seen r v (Status status value) = got (status_of status) (if (status == 0) && gets v then take r.transfer.wanted (value ∷ []) else [])

@@ -1,0 +1,9 @@
+-- What is kept.
+pub mod State
+pub mod Facts
+pub mod Sides
+pub mod Ups
+pub mod Calls
+pub mod Ids
+pub mod Flight
+pub mod Sound

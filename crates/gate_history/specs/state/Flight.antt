@@ -1,0 +1,28 @@
+-- The ids in flight, and those that an item draws.
+use Rattle.std.specs.Prelude.{ℕ, ◌-◌, Bool, List, [], ◌∷◌, ◌++◌, map, filter}
+use Rattle.redir_wire.specs.declared.packet.Caps.{Caps}
+use Rattle.redir_wire.specs.Capability.{has}
+use Rattle.gate_history.specs.state.Ids.{last_of}
+use Rattle.gate_history.specs.client.Verdict.{goes_by_id}
+use Rattle.gate_history.specs.step.Marks.{Submission, Mark}
+use Rattle.gate_history.specs.client.Submits.{live, abandoned}
+use Rattle.gate_history.specs.state.Calls.{calls, call_ids}
+
+-- capability 5: ids have 64 bits
+abbrev pub wide_ids : Caps → Bool
+wide_ids caps = has caps 5
+
+-- capability 6: bulk packets have 32 bits for their lengths
+abbrev pub wide_bulk : Caps → Bool
+wide_bulk caps = has caps 6
+
+abbrev pub ids_of : List Submission → List ℕ
+ids_of ss = map (λ s. s.id) (filter (λ s. goes_by_id s.verdict) ss)
+
+abbrev pub in_flight : List Mark → List ℕ
+in_flight ms = ids_of (live ms) ++ ids_of (abandoned ms) ++ call_ids (calls ms)
+
+-- the last id that was drawn; the first of all is the first id, which stands after `first - 1`
+abbrev pub last_drawn : ℕ → List Mark → ℕ
+last_drawn first [] = first - 1
+last_drawn first (m ∷ ms) = last_of (last_drawn first ms) m.drawn

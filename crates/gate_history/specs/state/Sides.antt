@@ -1,0 +1,106 @@
+-- Which sides are refused, over, gone, imported and lost. Only this file says which effects these are.
+use Rattle.std.specs.Prelude.{ℕ, Bool, true, false, not, ◌||◌, if◌then◌else◌, List, [], ◌∷◌, Option, Some, None, unwrap_or}
+use Rattle.usb_base.specs.declared.side.Side.{Side}
+use Rattle.usb_base.specs.declared.side.Side.TheVariants.{Client, Host}
+use Rattle.usb_base.specs.declared.reason.Reason.{Reason}
+use Rattle.usb_base.specs.declared.refusal.Refusal.{Refusal}
+use Rattle.redir_wire.specs.declared.packet.Caps.{Caps}
+use Rattle.redir_wire.specs.Capability.{no_caps}
+use Rattle.gate_history.specs.step.Items.{capped}
+use Rattle.gate_history.specs.step.Marks.{Effect, Imports, Agrees, Disconnects, Ends, Refuses, Mark}
+
+-- ---- of one effect
+
+abbrev pub refusal : Side → ℕ → Reason → Refusal
+refusal side place reason = record { side = side; place = capped place; reason = reason; kept = None }
+
+-- where it refuses a side
+abbrev pub refused_at : Effect → Option Refusal
+refused_at (Refuses r) = Some r
+refused_at _ = None
+
+abbrev pub is_client : Side → Bool
+is_client Client = true
+is_client Host = false
+
+abbrev pub is_of : Bool → Option Refusal → Bool
+is_of client None = false
+is_of client (Some r) = if client then is_client r.side else not (is_client r.side)
+
+abbrev pub refuses_client : Effect → Bool
+refuses_client e = is_of true (refused_at e)
+
+abbrev pub refuses_host : Effect → Bool
+refuses_host e = is_of false (refused_at e)
+
+abbrev pub ends_client : Effect → Bool
+ends_client (Ends side) = is_client side
+ends_client _ = false
+
+abbrev pub ends_host : Effect → Bool
+ends_host (Ends side) = not (is_client side)
+ends_host _ = false
+
+abbrev pub disconnects : Effect → Bool
+disconnects (Disconnects id) = true
+disconnects _ = false
+
+abbrev pub imports : Effect → Bool
+imports (Imports reply) = true
+imports _ = false
+
+-- the client is gone from here on
+abbrev pub leaves : Effect → Bool
+leaves e = ends_client e || refuses_client e
+
+-- nothing more is read of the host
+abbrev pub closes_host : Effect → Bool
+closes_host e = ends_host e || refuses_host e
+
+-- the device is lost
+abbrev pub is_loss : Effect → Bool
+is_loss e = disconnects e || closes_host e
+
+abbrev pub never : Effect → Bool
+never e = false
+
+abbrev pub agrees : Effect → Option Caps
+agrees (Agrees caps) = Some caps
+agrees _ = None
+
+-- ---- of a past
+
+-- the last of the two that came is of the first kind
+abbrev pub turned : (Effect → Bool) → (Effect → Bool) → Effect → Bool → Bool
+turned starts stops e before = if starts e then true else (if stops e then false else before)
+
+abbrev pub since : (Effect → Bool) → (Effect → Bool) → List Mark → Bool
+since starts stops [] = false
+since starts stops (m ∷ ms) = turned starts stops m.what (since starts stops ms)
+
+-- the present client's import succeeded, and it isn't gone
+abbrev pub imported : List Mark → Bool
+imported ms = since imports leaves ms
+
+-- the device was lost after the last import
+abbrev pub lost : List Mark → Bool
+lost ms = since is_loss imports ms
+
+-- a client is over from its refusal until its end, after which the next one may come
+abbrev pub client_over : List Mark → Bool
+client_over ms = since refuses_client ends_client ms
+
+abbrev pub host_over : List Mark → Bool
+host_over ms = since closes_host never ms
+
+abbrev pub or_else : {A : Type 0} → Option A → Option A → Option A
+or_else (Some a) b = Some a
+or_else None b = b
+
+abbrev pub agreed_after : Effect → Caps → Caps
+agreed_after e caps = unwrap_or (agrees e) caps
+
+-- the capabilities that are agreed, which are none before the host's hello
+abbrev pub agreed : List Mark → Caps
+agreed [] = no_caps
+agreed (m ∷ ms) = agreed_after m.what (agreed ms)

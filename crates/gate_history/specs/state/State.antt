@@ -1,0 +1,71 @@
+-- What a past says, as one value: the results of all searches. What an item means depends on nothing else.
+use Rattle.std.specs.Prelude.{ℕ, ◌==◌, Bool, List, ◌++◌, length, map, Option}
+use Rattle.std.specs.List.{list_any}
+use Rattle.redir_wire.specs.declared.packet.Caps.{Caps}
+use Rattle.gate_history.specs.declared.facts.Facts.{Facts}
+use Rattle.gate_history.specs.state.Ids.{draws, greatest}
+use Rattle.gate_history.specs.client.Verdict.{changes}
+use Rattle.gate_history.specs.step.Marks.{Submission, Mark}
+use Rattle.gate_history.specs.state.Sides.{imported, lost, client_over, host_over, agreed}
+use Rattle.gate_history.specs.state.Facts.{facts}
+use Rattle.gate_history.specs.client.Submits.{Pending, pendings, abandoned}
+use Rattle.gate_history.specs.state.Ups.{Up, streams}
+use Rattle.gate_history.specs.state.Calls.{Calls, calls, call_ids, fence}
+use Rattle.gate_history.specs.state.Flight.{wide_ids, ids_of, last_drawn}
+
+pub record State : Type 0 where
+  -- how many items came, which is the place of the next
+  pub items : ℕ
+  pub facts : Facts
+  pub agreed : Caps
+  pub imported : Bool
+  pub lost : Bool
+  pub client_over : Bool
+  pub host_over : Bool
+  -- the live submits in order, and those that a client left at the host
+  pub live : List Pending
+  pub abandoned : List Submission
+  -- the streams that are up, the ids of what started and stopped them, and the one that no import passes
+  pub streams : List (Option Up)
+  pub calls : Calls
+  pub fence : Option ℕ
+  -- the id that was drawn last
+  pub last : ℕ
+
+abbrev pub state_of : ℕ → List Mark → State
+state_of first ms = record {
+  items = length ms;
+  facts = facts ms;
+  agreed = agreed ms;
+  imported = imported ms;
+  lost = lost ms;
+  client_over = client_over ms;
+  host_over = host_over ms;
+  live = pendings ms;
+  abandoned = abandoned ms;
+  streams = streams ms;
+  calls = calls ms;
+  fence = fence ms;
+  last = last_drawn first ms;
+}
+
+-- ---- what is read of it
+
+abbrev pub submits : State → List Submission
+submits st = map (λ p. p.submit) st.live
+
+abbrev pub flying : State → List ℕ
+flying st = ids_of (submits st) ++ ids_of st.abandoned ++ call_ids st.calls
+
+-- the ids of an item's first n packets
+abbrev pub next_ids : State → ℕ → List ℕ
+next_ids st n = draws (greatest (wide_ids st.agreed)) (flying st) st.last n
+
+abbrev pub is_number : ℕ → Submission → Bool
+is_number number s = s.request.number == number
+
+abbrev pub has_number : State → ℕ → Bool
+has_number st number = list_any (is_number number) (submits st)
+
+abbrev pub change_waits : State → Bool
+change_waits st = list_any (λ s. changes s.verdict) (submits st)

@@ -1,0 +1,91 @@
+-- The streams of a device's endpoints that are up, by the endpoints' places in its table. A stream keeps the row that its
+-- endpoint had when it went up, and holds packets.
+use Rattle.std.specs.Prelude.{ℕ, ◌%◌, nat_lt, Bool, true, if◌then◌else◌, List, [], ◌∷◌, ◌||◌, map, replicate, get_or, slice_set, Option, Some, None}
+use Rattle.std.specs.Option.{option_map}
+use Rattle.usb_base.specs.declared.endpoint.EpRow.{EpRow}
+use Rattle.usb_base.specs.declared.transfer.StreamPacket.{StreamPacket}
+use Rattle.usb_base.specs.Endpoint.{endpoint_index}
+use Rattle.usb_base.specs.Status.{is_success}
+use Rattle.control_route.specs.declared.route.Route.{Route}
+use Rattle.control_route.specs.Changes.{touches}
+use Rattle.gate_history.specs.client.Verdict.{Verdict, Now, Wire, Routed, IsoOut, Stream}
+use Rattle.gate_history.specs.step.Marks.{Effect, Opens, Waits, Arrives, StreamTold, Mark}
+use Rattle.gate_history.specs.state.Sides.{leaves, is_loss}
+
+pub record Up : Type 0 where
+  pub ep : ℕ
+  pub row : EpRow
+  -- the packets that came and that no request took, the first that came first
+  pub held : List StreamPacket
+
+-- none is up
+abbrev pub no_streams : List (Option Up)
+no_streams = replicate 32 None
+
+-- that of an endpoint
+abbrev pub stream_at : List (Option Up) → ℕ → Option Up
+stream_at ups ep = get_or ups (endpoint_index ep) None
+
+-- that of the endpoint with this address; a byte that is no address is that of no endpoint
+abbrev pub stream_of : List (Option Up) → ℕ → Option Up
+stream_of ups byte = if nat_lt (byte % 128) 16 then stream_at ups byte else None
+
+abbrev pub held_of : Option Up → List StreamPacket
+held_of None = []
+held_of (Some up) = up.held
+
+-- ---- they go up and down
+
+abbrev pub raised : List (Option Up) → Up → Option Up → List (Option Up)
+raised ups up None = slice_set ups (endpoint_index up.ep) (Some up)
+raised ups up (Some before) = ups
+
+-- one that is up stays as it is
+abbrev pub raise : Up → List (Option Up) → List (Option Up)
+raise up ups = raised ups up (stream_at ups up.ep)
+
+abbrev pub unless : (Up → Bool) → Option Up → Option Up
+unless test None = None
+unless test (Some up) = if test up then None else Some up
+
+-- those that pass the test go down
+abbrev pub lower : (Up → Bool) → List (Option Up) → List (Option Up)
+lower test ups = map (unless test) ups
+
+-- that of this endpoint goes down; a byte that is no address is that of no endpoint
+abbrev pub lower_at : ℕ → List (Option Up) → List (Option Up)
+lower_at byte ups = if nat_lt (byte % 128) 16 then slice_set ups (endpoint_index byte) None else ups
+
+-- that of this endpoint holds these packets
+abbrev pub hold : ℕ → List StreamPacket → List (Option Up) → List (Option Up)
+hold ep packets ups = slice_set ups (endpoint_index ep) (option_map (λ (up : Up). record up { held = packets }) (stream_at ups ep))
+
+-- one of an interface whose transfers end with the route, which no route is where the client is gone
+abbrev pub is_ended : Option Route → Up → Bool
+is_ended None up = true
+is_ended (Some r) up = touches r up.row.interface
+
+-- ---- by what an item means
+
+-- a change ends those that it touches, and a transfer by a stream needs one
+abbrev pub opened_streams : Verdict → ℕ → List (Option Up) → List (Option Up)
+opened_streams (Now status) ep ups = ups
+opened_streams (Wire pipe) ep ups = ups
+opened_streams (Routed r) ep ups = lower (is_ended (Some r)) ups
+opened_streams (IsoOut row) ep ups = raise (record { ep = ep; row = row; held = [] }) ups
+opened_streams (Stream row) ep ups = raise (record { ep = ep; row = row; held = [] }) ups
+
+-- where the client stays and the device isn't lost
+abbrev pub moved_streams : Effect → List (Option Up) → List (Option Up)
+moved_streams (Opens s) ups = opened_streams s.verdict s.request.transfer.ep ups
+moved_streams (Waits s fill) ups = hold s.request.transfer.ep fill.left (opened_streams s.verdict s.request.transfer.ep ups)
+moved_streams (Arrives ep fill) ups = hold ep fill.left ups
+moved_streams (StreamTold id ep status) ups = if is_success status then ups else lower_at ep ups
+moved_streams _ ups = ups
+
+abbrev pub streams_after : Effect → List (Option Up) → List (Option Up)
+streams_after e ups = if leaves e || is_loss e then no_streams else moved_streams e ups
+
+abbrev pub streams : List Mark → List (Option Up)
+streams [] = no_streams
+streams (m ∷ ms) = streams_after m.what (streams ms)

@@ -1,0 +1,46 @@
+-- An item as the code has it, and what the reader of its packet has made sure of.
+use Rattle.std.specs.Prelude.{◌≡◌, ◌≤◌, ℕ, false, length, Option, Some, None}
+use Rattle.usbip_urb.specs.ClientPackets.{IsClientPacket}
+use Rattle.redir_wire.specs.declared.packet.Caps.{Caps}
+use Rattle.redir_wire.specs.declared.packet.Header.{Header}
+use Rattle.redir_wire.specs.declared.packet.Way.TheVariants.{ToGuest}
+use Rattle.redir_wire.specs.declared.packet.RedirControl.TheVariants as plain
+use Rattle.redir_wire.specs.Header.{IdFits}
+use Rattle.redir_data.specs.declared.packet.RedirPacket.{RedirPacket}
+use Rattle.redir_data.specs.declared.packet.RedirPacket.TheVariants.{Plain}
+use Rattle.redir_data.specs.Spelling.{data_count}
+use Rattle.gate_history.specs.declared.item.Item.{Item as RawItem}
+use Rattle.gate_history.specs.declared.item.Item.TheVariants as raw
+use Rattle.gate_history.specs.step.Items.{Item, Asked, ClientWrong, ClientLeft, Told, HostWrong, HostLeft, capped}
+use Rattle.gate_history.specs.state.Flight.{wide_ids}
+use Rattle.gate_history.specs.host.Responses.{Response, Data, Status, response_of}
+
+abbrev pub IsItem : RawItem → Item → Type 0
+IsItem (raw.Asked place packet) x = (at : ℕ) × (place ≡ capped at) × (x ≡ Asked at packet)
+IsItem (raw.ClientWrong place reason) x = (at : ℕ) × (place ≡ capped at) × (x ≡ ClientWrong at reason)
+IsItem raw.ClientLeft x = x ≡ ClientLeft
+IsItem (raw.Told place header packet) x = (at : ℕ) × (place ≡ capped at) × (x ≡ Told at header packet)
+IsItem (raw.HostWrong place reason) x = (at : ℕ) × (place ≡ capped at) × (x ≡ HostWrong at reason)
+IsItem raw.HostLeft x = x ≡ HostLeft
+
+-- an answer's type is that of its form, and its data are there
+abbrev pub ResponseFits : ℕ → Option Response → Type 0
+ResponseFits kind None = Unit {0}
+ResponseFits kind (Some (Status status value)) = kind ≤ 99
+ResponseFits kind (Some (Data endpoint length_place o)) = (100 ≤ kind) × (length o.body ≡ data_count ToGuest endpoint o.done)
+
+-- ids have 32 bits before the hello
+abbrev pub HelloFits : Caps → RedirPacket → Type 0
+HelloFits caps (Plain (plain.Hello hello)) = wide_ids caps ≡ false
+HelloFits caps _ = Unit {0}
+
+pub record ToldFits (caps : Caps) (h : Header) (p : RedirPacket) : Type 0 where
+  pub id_fits : IdFits (wide_ids caps) h.id
+  pub response : ResponseFits h.kind (response_of p)
+  pub hello : HelloFits caps p
+
+-- as its reader gives it
+abbrev pub ItemFits : Caps → RawItem → Type 0
+ItemFits caps (raw.Asked place packet) = IsClientPacket packet
+ItemFits caps (raw.Told place header packet) = ToldFits caps header packet
+ItemFits caps _ = Unit {0}

@@ -1,0 +1,71 @@
+-- The history of a list of events: the items in the order in which packets become whole, with what each means.
+use Rattle.std.specs.Prelude.{ℕ, ◌+◌, if◌then◌else◌, List, [], ◌∷◌, ◌++◌, length, map, drop, Option, Some, None}
+use Rattle.usb_base.specs.declared.reason.Reason.{Reason}
+use Rattle.packet_stream.specs.Split.{Splitting, split}
+use Rattle.redir_wire.specs.declared.packet.Header.{Header}
+use Rattle.redir_data.specs.declared.packet.RedirPacket.{RedirPacket}
+use Rattle.redir_data.specs.declared.state.RedirState.{RedirState}
+use Rattle.usbip_urb.specs.declared.client.ClientPacket.{ClientPacket}
+use Rattle.gate_history.specs.step.Events.{Event, ClientPiece, ClientEnd, HostPiece, HostEnd, client_bytes, host_bytes}
+use Rattle.gate_history.specs.step.Items.{Item, Asked, ClientWrong, ClientLeft, Told, HostWrong, HostLeft}
+use Rattle.gate_history.specs.step.Streams.{client_reader, client_start, host_reader, host_start}
+use Rattle.gate_history.specs.step.Marks.{Mark}
+use Rattle.gate_history.specs.state.Sides.{client_over, host_over}
+use Rattle.gate_history.specs.step.Past.{past}
+
+-- ---- the streams of both sides, split into their packets
+
+abbrev pub client_split : List ℕ → Splitting (Unit {0}) ClientPacket Reason
+client_split bytes = split client_reader client_start bytes
+
+abbrev pub host_split : List ℕ → Splitting RedirState (Header × RedirPacket) Reason
+host_split bytes = split host_reader host_start bytes
+
+abbrev pub client_wrong : Option (ℕ × Reason) → List Item
+client_wrong None = []
+client_wrong (Some w) = ClientWrong w.0 w.1 ∷ []
+
+abbrev pub host_wrong : Option (ℕ × Reason) → List Item
+host_wrong None = []
+host_wrong (Some w) = HostWrong w.0 w.1 ∷ []
+
+-- the items of a client's bytes, and of the host's
+abbrev pub client_items : List ℕ → List Item
+client_items bytes = map (λ p. Asked p.0 p.1) (client_split bytes).packets ++ client_wrong (client_split bytes).wrong
+
+abbrev pub host_items : List ℕ → List Item
+host_items bytes = map (λ p. Told p.0 p.1.0 p.1.1) (host_split bytes).packets ++ host_wrong (host_split bytes).wrong
+
+-- ---- the items of events
+
+-- those that a stream has with a piece, and without it hasn't
+abbrev pub added : (List ℕ → List Item) → List ℕ → List ℕ → List Item
+added items bytes piece = drop (length (items bytes)) (items (bytes ++ piece))
+
+abbrev pub brought : List Event → Event → List Item
+brought events (ClientPiece b) = added client_items (client_bytes events) b
+brought events ClientEnd = ClientLeft ∷ []
+brought events (HostPiece b) = added host_items (host_bytes events) b
+brought events HostEnd = HostLeft ∷ []
+
+-- items that came one after another, put on those before them
+abbrev pub onto : List Item → List Item → List Item
+onto [] before = before
+onto (x ∷ xs) before = onto xs (x ∷ before)
+
+-- all that came, the latest first
+abbrev pub arrivals : List Event → List Item
+arrivals [] = []
+arrivals (e ∷ events) = onto (brought events e) (arrivals events)
+
+-- the ids of its packets begin with the first id
+abbrev pub history : ℕ → List Event → List Mark
+history first events = past first (arrivals events)
+
+-- ---- what is there of packets that aren't whole
+
+-- the bytes of the present client and of the host, where they aren't over
+abbrev pub rest_length : ℕ → List Event → ℕ
+rest_length first events =
+    (if client_over (history first events) then 0 else length (client_split (client_bytes events)).rest)
+    + (if host_over (history first events) then 0 else length (host_split (host_bytes events)).rest)

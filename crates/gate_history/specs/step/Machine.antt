@@ -1,0 +1,106 @@
+-- The same as a machine: a state that steps with each item, and keeps no past. First what the item means, by the whole
+-- state; then each part steps by itself.
+use Rattle.std.specs.Prelude.{◌≡◌, ℕ, suc, ◌-◌, false, if◌then◌else◌, List, [], ◌∷◌, ◌++◌, map, filter, is_none, None}
+use Rattle.redir_wire.specs.Capability.{no_caps}
+use Rattle.gate_history.specs.declared.note.Counts.{Counts}
+use Rattle.gate_history.specs.step.Events.{Event}
+use Rattle.gate_history.specs.step.Items.{Item}
+use Rattle.gate_history.specs.step.Marks.{Effect, Mark}
+use Rattle.gate_history.specs.state.Sides.{turned, imports, leaves, is_loss, refuses_client, ends_client, closes_host, never, or_else, agreed_after}
+use Rattle.gate_history.specs.state.Facts.{no_facts, facts_after}
+use Rattle.gate_history.specs.client.Submits.{Pending, ends, asks, abandoned_after}
+use Rattle.gate_history.specs.state.Ids.{last_of}
+use Rattle.gate_history.specs.state.Ups.{no_streams, streams_after}
+use Rattle.gate_history.specs.state.Calls.{no_calls, called, asking, fence_after}
+use Rattle.gate_history.specs.state.State.{State, state_of, submits}
+use Rattle.gate_history.specs.step.Meaning.{mark_of}
+use Rattle.gate_history.specs.step.Past.{is_left_out, past}
+use Rattle.gate_history.specs.step.History.{brought, history}
+use Rattle.gate_history.specs.write.Output.{present, to_client}
+use Rattle.gate_history.specs.write.Notes.{dropped}
+use Rattle.gate_history.specs.write.All.{all_of, counted}
+
+-- nothing came yet
+abbrev pub start : ℕ → State
+start first = record {
+  items = 0;
+  facts = no_facts;
+  agreed = no_caps;
+  imported = false;
+  lost = false;
+  client_over = false;
+  host_over = false;
+  live = [];
+  abandoned = [];
+  streams = no_streams;
+  calls = no_calls;
+  fence = None;
+  last = first - 1;
+}
+
+abbrev pub ask : Effect → Pending → Pending
+ask e p = record p { unlinker = or_else p.unlinker (asks e p.submit) }
+
+-- those that it ends go, and those that it asks back are marked
+abbrev pub live_after : State → Effect → List Pending
+live_after st e = map (ask e) (filter (λ p. is_none (ends e p.submit)) (present st e))
+
+abbrev pub after : State → Mark → State
+after st m = record {
+  items = suc st.items;
+  facts = facts_after m.what m.told st.facts;
+  agreed = agreed_after m.what st.agreed;
+  imported = turned imports leaves m.what st.imported;
+  lost = turned is_loss imports m.what st.lost;
+  client_over = turned refuses_client ends_client m.what st.client_over;
+  host_over = turned closes_host never m.what st.host_over;
+  live = live_after st m.what;
+  abandoned = abandoned_after m.what (submits st) st.abandoned;
+  streams = streams_after m.what st.streams;
+  calls = called (asking st.streams m) st.calls;
+  fence = fence_after m.what m.drawn st.fence;
+  last = last_of st.last m.drawn;
+}
+
+abbrev pub step : State → Item → State
+step st x = if is_left_out st x then st else after st (mark_of st x)
+
+-- lists of items have the latest first
+abbrev pub run : ℕ → List Item → State
+run first [] = start first
+run first (x ∷ xs) = step (run first xs) x
+
+-- ---- what it gives
+
+-- of an item, in the state before it
+abbrev pub given : {A : Type 0} → (State → Mark → List A) → State → Item → List A
+given gives st x = if is_left_out st x then [] else gives st (mark_of st x)
+
+abbrev pub all_given : {A : Type 0} → (State → Mark → List A) → ℕ → List Item → List A
+all_given gives first [] = []
+all_given gives first (x ∷ xs) = all_given gives first xs ++ given gives (run first xs) x
+
+abbrev pub run_counts : ℕ → List Item → Counts
+run_counts first xs = counted (all_given to_client first xs) (run first xs).live (all_given dropped first xs)
+
+-- ---- several items, the first that came first
+
+abbrev pub steps : State → List Item → State
+steps st [] = st
+steps st (x ∷ xs) = steps (step st x) xs
+
+abbrev pub given_by : {A : Type 0} → (State → Mark → List A) → State → List Item → List A
+given_by gives st [] = []
+given_by gives st (x ∷ xs) = given gives st x ++ given_by gives (step st x) xs
+
+-- ---- what is to be shown of it
+
+-- it gives what the past gave
+abbrev pub GivesPast : {A : Type 0} → (State → Mark → List A) → Type 0
+GivesPast gives = (first : ℕ) (items : List Item) → all_of gives first (past first items) ≡ all_given gives first items
+
+-- one event more gives what its items give, one after another
+abbrev pub AddsItems : {A : Type 0} → (State → Mark → List A) → Type 0
+AddsItems gives =
+    (first : ℕ) (events : List Event) (e : Event) →
+    all_of gives first (history first (e ∷ events)) ≡ all_of gives first (history first events) ++ given_by gives (state_of first (history first events)) (brought events e)

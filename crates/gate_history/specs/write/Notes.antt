@@ -1,0 +1,76 @@
+-- What an item tells, and what is counted of it, by what the past says.
+use Rattle.std.specs.Prelude.{◌&&◌, not, Bool, true, false, if◌then◌else◌, List, [], ◌∷◌, ◌++◌, map, filter, Option, Some, None}
+use Rattle.usb_base.specs.declared.refusal.Refusal.{Refusal}
+use Rattle.gate_history.specs.declared.note.Note.{Note}
+use Rattle.gate_history.specs.declared.note.Note.TheVariants as note
+use Rattle.gate_history.specs.step.Marks.{Submission, Effect, Imports, Unlinks, Arrives, Mark}
+use Rattle.gate_history.specs.state.Sides.{refused_at, leaves, is_loss}
+use Rattle.gate_history.specs.client.Submits.{End, AtOnce, Sent, ByClient, ByLoss, ByAnswer, ByUnlink, ByChange, ByStatus, ByPackets, opened, ends}
+use Rattle.gate_history.specs.state.State.{State}
+use Rattle.gate_history.specs.write.Output.{present}
+
+-- ---- notes
+
+abbrev pub when : Bool → Note → List Note
+when b n = if b then n ∷ [] else []
+
+abbrev pub import_notes : Effect → List Note
+import_notes (Imports reply) = note.Imported ∷ []
+import_notes _ = []
+
+abbrev pub submit_notes : Effect → List Note
+submit_notes e = map (λ s. note.Submitted s.request.number s.id) (opened e)
+
+abbrev pub unlink_notes : Effect → List Note
+unlink_notes (Unlinks by target) = note.UnlinkAsked by target ∷ []
+unlink_notes _ = []
+
+abbrev pub arrival_notes : Effect → List Note
+arrival_notes (Arrives ep fill) = note.Arrived ep ∷ []
+arrival_notes _ = []
+
+-- by its answer, or by packets of its stream
+abbrev pub is_by_answer : Option End → Bool
+is_by_answer None = false
+is_by_answer (Some (AtOnce status)) = false
+is_by_answer (Some Sent) = false
+is_by_answer (Some ByClient) = false
+is_by_answer (Some ByLoss) = false
+is_by_answer (Some (ByAnswer outcome)) = true
+is_by_answer (Some (ByUnlink by)) = false
+is_by_answer (Some ByChange) = false
+is_by_answer (Some (ByStatus status)) = false
+is_by_answer (Some (ByPackets given)) = true
+
+abbrev pub answer_notes : State → Effect → List Note
+answer_notes st e = map (λ p. note.Answered p.submit.request.number) (filter (λ p. is_by_answer (ends e p.submit)) (present st e))
+
+abbrev pub refusal_notes : Option Refusal → List Note
+refusal_notes None = []
+refusal_notes (Some r) = note.Refused r ∷ []
+
+-- an import stands until the device is lost; a client that was refused is gone before its end
+abbrev pub notes_of : State → Mark → List Note
+notes_of st m =
+    import_notes m.what ++ submit_notes m.what ++ unlink_notes m.what ++ arrival_notes m.what ++ answer_notes st m.what
+    ++ when (is_loss m.what && st.imported && not st.lost) note.DeviceGone
+    ++ when (leaves m.what && not st.client_over) note.ClientGone
+    ++ refusal_notes (refused_at m.what)
+
+-- ---- counted
+
+abbrev pub is_by_client : Option End → Bool
+is_by_client None = false
+is_by_client (Some (AtOnce status)) = false
+is_by_client (Some Sent) = false
+is_by_client (Some ByClient) = true
+is_by_client (Some ByLoss) = false
+is_by_client (Some (ByAnswer outcome)) = false
+is_by_client (Some (ByUnlink by)) = false
+is_by_client (Some ByChange) = false
+is_by_client (Some (ByStatus status)) = false
+is_by_client (Some (ByPackets given)) = false
+
+-- the submits that end with their client
+abbrev pub dropped : State → Mark → List Submission
+dropped st m = map (λ p. p.submit) (filter (λ p. is_by_client (ends m.what p.submit)) (present st m.what))

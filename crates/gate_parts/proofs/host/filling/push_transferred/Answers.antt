@@ -1,0 +1,23 @@
+use Rattle.std.proofs.Common.{◌++◌, ◌∙◌, ℕ, List, drop, sym, ap, append_assoc}
+use Rattle.std.specs.Prelude.{ℤ}
+use Rattle.std.specs.Int.{w32, cast_signed, cast_unsigned}
+use Rattle.stream_buffers.specs.Fillings.{cut_by, filling_body}
+use Rattle.gate_parts.specs.host.FillAnswer.{front_bytes}
+use Rattle.gate_parts.specs.state.Rows.{row_request}
+use Rattle.gate_parts.proofs.lemmas.host.FillAnswer.{errno_back, transferred}
+use Rattle.gate_parts.proofs.host.filling.push_transferred.Goals as goal
+
+pub returns : goal.returns
+returns c =
+    let l = c.args.live.now in
+    let f = c.args.filling in
+    let before = c.args.out.now in
+    let ps = drop c.args.from c.args.up.now.held in
+    let body = filling_body ps f in
+    let sent = cast_signed w32 (cast_unsigned w32 c.errno.result) in
+    let status = ap (λ (z : ℤ). cast_signed w32 (cast_unsigned w32 z)) c.errno.ensures ∙ errno_back f.status in
+    c.in_ok-append_bodies.ensures
+    ∙ ap (λ (x : List ℕ). x ++ body) c.in_ok-push_front.ensures
+    ∙ append_assoc before (front_bytes (row_request l) sent f.done 0) body
+    ∙ ap (λ (z : ℤ). before ++ (front_bytes (row_request l) z f.done 0 ++ body)) status
+    ∙ ap (λ (x : List ℕ). before ++ x) (sym (transferred l (cut_by ps f).gives c.requires.none))

@@ -1,0 +1,3 @@
+-- What a client asks for.
+pub mod Interfaces
+pub mod Directions

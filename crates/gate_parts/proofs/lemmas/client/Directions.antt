@@ -1,0 +1,209 @@
+-- Which way the data of a transfer that goes by an id may move.
+use Rattle.std.proofs.Common.{rules, w32, ◌≡◌, ◌⊎◌, ◌&&◌, ◌==◌, ℕ, ◌<◌, Bool, true, false, cond, not, Option, Some, None, refl, sym, ap, ◌∙◌, inl, inr, List, [], ◌∷◌, arith}
+use Rattle.std.specs.Prelude.{nat_lt, nat_le, FitsSigned}
+use Rattle.unlink_race.specs.Searches.{is_stream}
+use Rattle.std.specs.List.{find}
+use Rattle.std.proofs.lemmas.Bool.{false≢true, true≢false, eqb-true, leb-false}
+use Rattle.std.proofs.lemmas.Bool.Decides.{eqb_tells}
+use Rattle.usb_base.specs.declared.setup.Setup.{Setup}
+use Rattle.usb_base.specs.declared.endpoint.EpKind.{EpKind}
+use Rattle.usb_base.specs.declared.endpoint.EpKind.TheVariants as kind
+use Rattle.usb_base.specs.declared.endpoint.EpRow.{EpRow}
+use Rattle.usb_base.specs.declared.endpoint.EpTable.{EpTable}
+use Rattle.usb_base.specs.Endpoint.{row_of, is_in_endpoint}
+use Rattle.usbip_urb.specs.Buffers.{laid}
+use Rattle.usbip_urb.specs.declared.code.TheConstants.{MAX_LIVE}
+use Rattle.control_route.specs.declared.route.Route.{Route}
+use Rattle.control_route.specs.declared.route.Route.TheVariants as route
+use Rattle.control_route.specs.Routes.{Row, has_no_data, is_byte, by_row, is_for, rows, route_of}
+use Rattle.gate_history.specs.write.Errno.{enoent, ebusy, einval, emsgsize, eshutdown}
+use Rattle.gate_history.specs.client.Requests.{Request, address, is_in_setup}
+use Rattle.gate_history.specs.client.Verdict.{InterruptOut, Verdict, Now, Wire, Routed, IsoOut, Stream, max_narrow, none_of, bool_eq, is_invalid, is_control, is_iso, is_narrow, by_route, by_setup, by_kind, by_endpoint, by_transfer, verdict, goes_by_id}
+use Rattle.gate_history.specs.host.Responses.{route_gets}
+use Rattle.gate_history.specs.client.Carried.{IsDirected, IsRequest}
+use Rattle.gate_parts.specs.state.Rows.{kind_of, IsRead}
+use Rattle.gate_history.proofs.lemmas.Lists.{Each}
+use Rattle.gate_history.proofs.lemmas.client.Carried.{address-way, not-false}
+
+-- it moves no data, or reads only where the submit says so
+abbrev pub Reads : Bool → ℕ → ℕ → Verdict → Type 0
+Reads is_in ep wanted v = goes_by_id v ≡ true → (wanted ≡ 0) ⊎ IsRead is_in (kind_of v ep)
+
+unless : (is_in b : Bool) (ep wanted : ℕ) (status : _) (v : Verdict) → (b ≡ false → Reads is_in ep wanted v) → Reads is_in ep wanted (cond b (Now status) v)
+unless is_in true ep wanted status v h k = absurd (false≢true k)
+unless is_in false ep wanted status v h k = h refl k
+
+-- ---- endpoint 0
+
+both-left : (a b : Bool) → (a && b) ≡ true → a ≡ true
+both-left true b e = refl
+both-left false b e = e
+
+-- the row that it has says so
+reads-among : (s : Setup) (rs : List Row) → Each (λ row. is_for s row ≡ true → route_gets (by_row s (Some row)) ≡ true → is_in_setup s ≡ true) rs →
+    route_gets (by_row s (find (is_for s) rs)) ≡ true → is_in_setup s ≡ true
+reads-among s [] h k = absurd (false≢true k)
+reads-among s (row ∷ rs) h k = go (is_for s row) refl (λ g. reads-among s rs h.1 g) k
+  where
+    go : (b : Bool) → is_for s row ≡ b → (route_gets (by_row s (find (is_for s) rs)) ≡ true → is_in_setup s ≡ true) → route_gets (by_row s (cond b (Some row) (find (is_for s) rs))) ≡ true → is_in_setup s ≡ true
+    go true e later g = h.0 e g
+    go false e later g = later g
+
+-- a row whose route asks for no value
+asks-none : (s : Setup) (b : Bool) (x y : Route) → route_gets x ≡ false → route_gets y ≡ false → route_gets (cond b x y) ≡ true → is_in_setup s ≡ true
+asks-none s true x y e f h = absurd (false≢true (sym e ∙ h))
+asks-none s false x y e f h = absurd (false≢true (sym f ∙ h))
+
+from-device : (s : Setup) (kind : ℕ) (b c : Bool) → not (nat_lt kind 128) ≡ true → ((s.kind == kind) && b && c) ≡ true → is_in_setup s ≡ true
+from-device s kind b c high h = ap (λ (k : ℕ). not (nat_lt k 128)) (eqb-true s.kind kind (both-left _ _ (both-left _ _ h))) ∙ high
+
+-- a route that asks for a value reads
+route-reads : (s : Setup) → route_gets (route_of s) ≡ true → is_in_setup s ≡ true
+unfolding route_of
+route-reads s h =
+    reads-among s rows (
+      (λ b. asks-none s (has_no_data s) route.Local route.Bad refl refl),
+      (
+        (λ b. asks-none s (has_no_data s && is_byte s.value) (route.SetConfig s.value) route.Bad refl refl),
+        (
+          (λ b g. from-device s 128 (s.request == 8) true refl b),
+          (
+            (λ b. asks-none s (has_no_data s && is_byte s.index && is_byte s.value) (route.SetAlt s.index s.value) route.Bad refl refl),
+            (
+              (λ b g. from-device s 129 (s.request == 10) true refl b),
+              ((λ b. asks-none s (has_no_data s) route.Reset route.Bad refl refl), tt),
+            ),
+          ),
+        ),
+      ),
+    ) h
+
+no-length : (n : ℕ) → (not (n == 0) && true) ≡ false → n ≡ 0
+no-length n e = elim (eqb_tells n 0) [ inl h ↦ h.1 | inr h ↦ absurd (true≢false (rw h.0 at e)) ]
+
+-- its directions are one, or it moves no data
+one-way : (way is_in : Bool) (length : ℕ) → (not (length == 0) && not (bool_eq way is_in)) ≡ false → (length ≡ 0) ⊎ (way ≡ is_in)
+one-way true true length e = inr refl
+one-way false false length e = inr refl
+one-way true false length e = inl (no-length length e)
+one-way false true length e = inl (no-length length e)
+
+by_route-reads : (rt : Route) (way is_in : Bool) (ep wanted : ℕ) → (route_gets rt ≡ true → way ≡ true) → ep ≡ address way 0 → (wanted ≡ 0) ⊎ (way ≡ is_in) → Reads is_in ep wanted (by_route rt)
+by_route-reads rt way is_in ep wanted gets at (inl none) k = inl none
+by_route-reads route.Local way is_in ep wanted gets at (inr same) k = absurd (false≢true k)
+by_route-reads (route.SetConfig configuration) way is_in ep wanted gets at (inr same) k = inr (λ e. absurd (false≢true e))
+by_route-reads route.GetConfig way is_in ep wanted gets at (inr same) k = inr (λ e. sym same ∙ gets e)
+by_route-reads (route.SetAlt interface alt) way is_in ep wanted gets at (inr same) k = inr (λ e. absurd (false≢true e))
+by_route-reads (route.GetAlt interface) way is_in ep wanted gets at (inr same) k = inr (λ e. sym same ∙ gets e)
+by_route-reads route.Reset way is_in ep wanted gets at (inr same) k = inr (λ e. absurd (false≢true e))
+by_route-reads route.Plain way is_in ep wanted gets at (inr same) k = inr (ap is_in_endpoint at ∙ address-way way 0 (omega arith) ∙ same)
+by_route-reads route.Bad way is_in ep wanted gets at (inr same) k = absurd (false≢true k)
+
+pub by_setup-reads : (r : Request) (s : Setup) → r.transfer.ep ≡ address (is_in_setup s) 0 → Reads r.is_in r.transfer.ep r.transfer.wanted (by_setup r s)
+by_setup-reads r s at =
+    unless r.is_in (not (none_of r.descs)) r.transfer.ep r.transfer.wanted einval _ (λ none.
+    unless r.is_in (not (s.length == 0) && not (bool_eq (is_in_setup s) r.is_in)) r.transfer.ep r.transfer.wanted einval _ (λ one.
+    unless r.is_in (not (s.length == r.transfer.wanted)) r.transfer.ep r.transfer.wanted einval _ (λ same.
+    by_route-reads (route_of s) (is_in_setup s) r.is_in r.transfer.ep r.transfer.wanted (route-reads s) at
+    (elim (one-way (is_in_setup s) r.is_in s.length one) [ inl zero ↦ inl (sym (eqb-true s.length r.transfer.wanted (not-false _ same)) ∙ zero) | inr way ↦ inr way ]))))
+
+-- ---- the other endpoints
+
+by_kind-reads : (r : Request) (row : EpRow) (k : EpKind) → is_in_endpoint r.transfer.ep ≡ r.is_in → Reads r.is_in r.transfer.ep r.transfer.wanted (by_kind r row k)
+by_kind-reads r row kind.Control way = λ k. absurd (false≢true k)
+by_kind-reads r row kind.Iso way = elim r.is_in as (λ b. goes_by_id (cond b (Stream row) (IsoOut row)) ≡ true → (r.transfer.wanted ≡ 0) ⊎ IsRead r.is_in (kind_of (cond b (Stream row) (IsoOut row)) r.transfer.ep)) [ true ↦ (λ k. absurd (false≢true k)) | false ↦ (λ k. absurd (false≢true k)) ]
+by_kind-reads r row kind.Bulk way = λ k. inr way
+by_kind-reads r row kind.Interrupt way = elim r.is_in as (λ b. goes_by_id (cond b (Stream row) (Wire InterruptOut)) ≡ true → (r.transfer.wanted ≡ 0) ⊎ IsRead r.is_in (kind_of (cond b (Stream row) (Wire InterruptOut)) r.transfer.ep)) [ true ↦ (λ k. absurd (false≢true k)) | false ↦ (λ k. inr way) ]
+by_kind-reads r row kind.Invalid way = λ k. absurd (false≢true k)
+
+by_endpoint-reads : (wide : Bool) (r : Request) (row : EpRow) → is_in_endpoint r.transfer.ep ≡ r.is_in → Reads r.is_in r.transfer.ep r.transfer.wanted (by_endpoint wide r row)
+by_endpoint-reads wide r row way =
+    unless r.is_in (is_invalid row.kind) r.transfer.ep r.transfer.wanted enoent _ (λ valid.
+    unless r.is_in (is_control row.kind) r.transfer.ep r.transfer.wanted einval _ (λ other.
+    unless r.is_in (bool_eq (is_iso row.kind) (none_of r.descs)) r.transfer.ep r.transfer.wanted einval _ (λ iso.
+    unless r.is_in (not (laid r.descs r.transfer.wanted)) r.transfer.ep r.transfer.wanted einval _ (λ lies.
+    unless r.is_in (is_narrow wide r.is_in row.kind && nat_lt max_narrow r.transfer.wanted) r.transfer.ep r.transfer.wanted emsgsize _ (λ fits.
+    by_kind-reads r row row.kind way)))))
+
+-- ---- both
+
+by_transfer-reads : (changing : Bool) (table : EpTable) (wide : Bool) (r : Request) (o : Option Setup) → IsDirected r.is_in o r.transfer.ep → Reads r.is_in r.transfer.ep r.transfer.wanted (by_transfer changing table wide r o)
+by_transfer-reads changing table wide r None way = unless r.is_in changing r.transfer.ep r.transfer.wanted enoent _ (λ still. by_endpoint-reads wide r (row_of table r.transfer.ep) way)
+by_transfer-reads changing table wide r (Some s) way = by_setup-reads r s way
+
+pub verdict-reads : (lost : Bool) (live : ℕ) (changing : Bool) (table : EpTable) (wide : Bool) (r : Request) → IsRequest r → Reads r.is_in r.transfer.ep r.transfer.wanted (verdict lost live changing table wide r)
+verdict-reads lost live changing table wide r is =
+    unless r.is_in lost r.transfer.ep r.transfer.wanted eshutdown _ (λ there.
+    unless r.is_in (nat_le MAX_LIVE live) r.transfer.ep r.transfer.wanted ebusy _ (λ room.
+    by_transfer-reads changing table wide r r.transfer.setup is.directed))
+
+-- ---- one that goes by an id finds room
+
+pub by_id-room : (lost : Bool) (n : ℕ) (changing : Bool) (table : EpTable) (wide : Bool) (r : Request) → goes_by_id (verdict lost n changing table wide r) ≡ true → n < MAX_LIVE
+by_id-room lost n changing table wide r h = go lost (nat_le MAX_LIVE n) refl h
+  where
+    go : (l b : Bool) → nat_le MAX_LIVE n ≡ b → goes_by_id (cond l (Now eshutdown) (cond b (Now ebusy) (by_transfer changing table wide r r.transfer.setup))) ≡ true → n < MAX_LIVE
+    go true b e k = absurd (false≢true k)
+    go false true e k = absurd (false≢true k)
+    go false false e k = leb-false MAX_LIVE n e
+
+-- ---- its status is one of 32 bits
+
+abbrev pub StatusFits : Verdict → Type 0
+StatusFits (Now status) = FitsSigned w32 status
+StatusFits (Wire pipe) = Unit {0}
+StatusFits (Routed r) = Unit {0}
+StatusFits (IsoOut row) = Unit {0}
+StatusFits (Stream row) = Unit {0}
+
+either-fits : (b : Bool) (v w : Verdict) → StatusFits v → StatusFits w → StatusFits (cond b v w)
+either-fits true v w h k = h
+either-fits false v w h k = k
+
+by_route-fits : (r : Route) → StatusFits (by_route r)
+by_route-fits route.Local = (search rules)
+by_route-fits (route.SetConfig configuration) = tt
+by_route-fits route.GetConfig = tt
+by_route-fits (route.SetAlt interface alt) = tt
+by_route-fits (route.GetAlt interface) = tt
+by_route-fits route.Reset = tt
+by_route-fits route.Plain = tt
+by_route-fits route.Bad = (search rules)
+
+by_kind-fits : (r : Request) (row : EpRow) (k : EpKind) → StatusFits (by_kind r row k)
+by_kind-fits r row kind.Control = (search rules)
+by_kind-fits r row kind.Iso = either-fits r.is_in (Stream row) (IsoOut row) tt tt
+by_kind-fits r row kind.Bulk = tt
+by_kind-fits r row kind.Interrupt = either-fits r.is_in (Stream row) (Wire InterruptOut) tt tt
+by_kind-fits r row kind.Invalid = (search rules)
+
+by_endpoint-fits : (wide : Bool) (r : Request) (row : EpRow) → StatusFits (by_endpoint wide r row)
+by_endpoint-fits wide r row =
+    either-fits (is_invalid row.kind) (Now enoent) _ (search rules)
+    (either-fits (is_control row.kind) (Now einval) _ (search rules)
+    (either-fits (bool_eq (is_iso row.kind) (none_of r.descs)) (Now einval) _ (search rules)
+    (either-fits (not (laid r.descs r.transfer.wanted)) (Now einval) _ (search rules)
+    (either-fits (is_narrow wide r.is_in row.kind && nat_lt max_narrow r.transfer.wanted) (Now emsgsize) _ (search rules) (by_kind-fits r row row.kind)))))
+
+by_setup-fits : (r : Request) (s : Setup) → StatusFits (by_setup r s)
+by_setup-fits r s =
+    either-fits (not (none_of r.descs)) (Now einval) _ (search rules)
+    (either-fits (not (s.length == 0) && not (bool_eq (is_in_setup s) r.is_in)) (Now einval) _ (search rules)
+    (either-fits (not (s.length == r.transfer.wanted)) (Now einval) _ (search rules) (by_route-fits (route_of s))))
+
+by_transfer-fits : (changing : Bool) (table : EpTable) (wide : Bool) (r : Request) (o : Option Setup) → StatusFits (by_transfer changing table wide r o)
+by_transfer-fits changing table wide r None = either-fits changing (Now enoent) _ (search rules) (by_endpoint-fits wide r (row_of table r.transfer.ep))
+by_transfer-fits changing table wide r (Some s) = by_setup-fits r s
+
+pub verdict-fits : (lost : Bool) (live : ℕ) (changing : Bool) (table : EpTable) (wide : Bool) (r : Request) → StatusFits (verdict lost live changing table wide r)
+verdict-fits lost live changing table wide r =
+    either-fits lost (Now eshutdown) _ (search rules) (either-fits (nat_le MAX_LIVE live) (Now ebusy) _ (search rules) (by_transfer-fits changing table wide r r.transfer.setup))
+
+-- ---- and it goes as some packets, or waits for none
+
+pub not-stream : (v : Verdict) (ep : ℕ) → goes_by_id v ≡ true → not (is_stream (kind_of v ep)) ≡ true
+not-stream (Now status) ep h = absurd (false≢true h)
+not-stream (Wire pipe) ep h = refl
+not-stream (Routed r) ep h = refl
+not-stream (IsoOut row) ep h = absurd (false≢true h)
+not-stream (Stream row) ep h = absurd (false≢true h)

@@ -1,0 +1,4 @@
+-- What the host says.
+pub mod Responses
+pub mod FillLoop
+pub mod FillAnswer

@@ -1,0 +1,227 @@
+-- The loop that answers the requests which a stream's packets fill: what is so far, and one row more.
+use Rattle.std.proofs.Common.{◌≡◌, ◌≤◌, ◌+◌, ℕ, zero, suc, Bool, true, false, cond, List, [], ◌∷◌, ◌++◌, length, map, drop, Option, Some, None, refl, sym, ap, ◌∙◌, subst, append_assoc, arith}
+use Rattle.std.specs.Prelude.{slice_get}
+use Rattle.std.specs.Option.{option_map}
+use Rattle.std.proofs.lemmas.List.{append-nil, drop-drop, length-drop}
+use Rattle.std.proofs.lemmas.Option.{none-some, same_Some}
+use Rattle.usb_base.specs.declared.transfer.StreamPacket.{StreamPacket}
+use Rattle.usbip_urb.specs.Spelling.{spelling}
+use Rattle.usbip_urb.specs.declared.packet.IsoDesc.{IsoDesc}
+use Rattle.stream_buffers.specs.Cuts.{Cut}
+use Rattle.stream_buffers.specs.Interrupt.{interrupt_cut}
+use Rattle.stream_buffers.specs.Iso.{iso_outcome, iso_cut}
+use Rattle.std.proofs.lemmas.Bool.{lt-ltb, false≢true}
+use Rattle.std.specs.List.{AllByRecursion}
+use Rattle.std.proofs.Math.Seq.{drop-length}
+use Rattle.unlink_race.specs.declared.live.Live.{Live}
+use Rattle.unlink_race.specs.declared.live.LiveKind.{LiveKind}
+use Rattle.unlink_race.specs.declared.live.LiveKind.TheVariants as live_kind
+use Rattle.unlink_race.specs.Searches.{waits_for, waits_at, is_stream}
+use Rattle.gate_history.specs.declared.note.Note.{Note}
+use Rattle.gate_history.specs.declared.note.Note.TheVariants as note
+use Rattle.gate_parts.specs.declared.host.fill.Filled.{Filled}
+use Rattle.gate_history.specs.write.Answers.{with_given}
+use Rattle.gate_history.specs.client.Requests.{Request}
+use Rattle.gate_history.specs.client.Verdict.{none_of}
+use Rattle.gate_history.specs.host.Fillings.{Given, Transferred, Isochronous, Fill, cut_as, cut_of, none_filled, filled_by, fill}
+use Rattle.gate_parts.specs.state.Rows.{row_request}
+use Rattle.gate_parts.specs.host.Fill.{row_cut, cut_bytes, HasTaken, rows_fill, bytes_by, filled_bytes, filled_notes, waiting_rows}
+use Rattle.gate_parts.specs.write.Extends.{Extends}
+
+-- ---- the rows that are left at a place
+
+drop-next : {X : Type 0} (xs : List X) (n : ℕ) (x : X) → slice_get xs n ≡ Some x → drop n xs ≡ x ∷ drop (suc n) xs
+drop-next [] n x e = absurd (none-some x e)
+drop-next {X = X} (y ∷ ys) zero x e = ap (λ (z : X). z ∷ ys) (same_Some y x e)
+drop-next (y ∷ ys) (suc n) x e = drop-next ys n x e
+
+plus-one : (n : ℕ) → suc n ≡ n + 1
+plus-one n = omega arith
+
+left-as : (ep : ℕ) (ls : List Live) (n : ℕ) (l : Live) → slice_get ls n ≡ Some l → waiting_rows ep (drop n ls) ≡ cond (waits_for ep l) (l ∷ waiting_rows ep (drop (n + 1) ls)) (waiting_rows ep (drop (n + 1) ls))
+left-as ep ls n l e = ap (waiting_rows ep) (drop-next ls n l e ∙ ap (λ (k : ℕ). l ∷ drop k ls) (plus-one n))
+
+-- one that waits is the first of them
+pub left-next : (ep : ℕ) (ls : List Live) (n : ℕ) (l : Live) → slice_get ls n ≡ Some l → waits_for ep l ≡ true → waiting_rows ep (drop n ls) ≡ l ∷ waiting_rows ep (drop (n + 1) ls)
+left-next ep ls n l e w = left-as ep ls n l e ∙ ap (λ (b : Bool). cond b (l ∷ waiting_rows ep (drop (n + 1) ls)) (waiting_rows ep (drop (n + 1) ls))) w
+
+pub left-skip : (ep : ℕ) (ls : List Live) (n : ℕ) (l : Live) → slice_get ls n ≡ Some l → waits_for ep l ≡ false → waiting_rows ep (drop n ls) ≡ waiting_rows ep (drop (n + 1) ls)
+left-skip ep ls n l e w = left-as ep ls n l e ∙ ap (λ (b : Bool). cond b (l ∷ waiting_rows ep (drop (n + 1) ls)) (waiting_rows ep (drop (n + 1) ls))) w
+
+-- ---- one row
+
+pub each-at : {X : Type 0} (P : X → Type 0) (xs : List X) (n : ℕ) (x : X) → AllByRecursion P xs → slice_get xs n ≡ Some x → P x
+each-at P [] n x h e = absurd (none-some x e)
+each-at P (y ∷ ys) zero x h e = subst P (same_Some y x e) h.0
+each-at P (y ∷ ys) (suc n) x h e = each-at P ys n x h.1 e
+
+-- a row that waits is one of a stream's
+pub waits-stream : (ep : ℕ) (kind : LiveKind) → waits_at ep kind ≡ true → is_stream kind ≡ true
+waits-stream ep (live_kind.Wire at kind) h = absurd (false≢true h)
+waits-stream ep (live_kind.Routed route) h = absurd (false≢true h)
+waits-stream ep (live_kind.Stream at interface) h = refl
+
+-- ---- what is so far
+
+-- so many requests were filled with so many packets, which was sent and told; the packets that are left fill of these rows
+-- what is missing of it all
+pub record SoFar (max_packet : ℕ) (held : List StreamPacket) (all : Fill) (sent_all : List ℕ) (told_all : List Note) (rows : List Live) (f : Filled) (client : List ℕ) (notes : List Note) : Type 0 where
+  pub few : f.packets ≤ length held
+  pub requests : f.requests + length (rows_fill max_packet rows (drop f.packets held)).fillings ≡ length all.fillings
+  pub left : (rows_fill max_packet rows (drop f.packets held)).left ≡ all.left
+  pub sent : client ++ filled_bytes max_packet rows (drop f.packets held) ≡ sent_all
+  pub told : notes ++ filled_notes (rows_fill max_packet rows (drop f.packets held)) ≡ told_all
+
+-- all was filled
+pub record AllFilled (held : List StreamPacket) (all : Fill) (sent_all : List ℕ) (told_all : List Note) (f : Filled) (client : List ℕ) (notes : List Note) : Type 0 where
+  pub few : f.packets ≤ length held
+  pub requests : f.requests ≡ length all.fillings
+  pub left : drop f.packets held ≡ all.left
+  pub sent : client ≡ sent_all
+  pub told : notes ≡ told_all
+
+pub none-yet : (max_packet : ℕ) (held : List StreamPacket) (rows : List Live) (client : List ℕ) (notes : List Note) (f : Filled) → f.requests ≡ 0 → f.packets ≡ 0
+    → SoFar max_packet held (rows_fill max_packet rows held) (client ++ filled_bytes max_packet rows held) (notes ++ filled_notes (rows_fill max_packet rows held)) rows f client notes
+none-yet max_packet held rows client notes f r p =
+    let same = ap (λ (n : ℕ). drop n held) p in
+    record {
+      few = omega (arith, p);
+      requests = (λ i. r i + length (rows_fill max_packet rows (same i)).fillings) ∙ zero-plus _;
+      left = ap (λ (ps : List StreamPacket). (rows_fill max_packet rows ps).left) same;
+      sent = ap (λ (ps : List StreamPacket). client ++ filled_bytes max_packet rows ps) same;
+      told = ap (λ (ps : List StreamPacket). notes ++ filled_notes (rows_fill max_packet rows ps)) same;
+    }
+  where
+    zero-plus : (n : ℕ) → 0 + n ≡ n
+    zero-plus n = omega arith
+
+-- no row is left
+pub none-left : {max_packet : ℕ} {held : List StreamPacket} {all : Fill} {sent_all : List ℕ} {told_all : List Note} {rows : List Live} {f : Filled} {client : List ℕ} {notes : List Note}
+    → SoFar max_packet held all sent_all told_all rows f client notes → rows ≡ [] → AllFilled held all sent_all told_all f client notes
+none-left {max_packet = max_packet} {held = held} {f = f} {client = client} {notes = notes} s e = record {
+  few = s.few;
+  requests = sym (plus-zero f.requests) ∙ ap (λ (ls : List Live). f.requests + length (rows_fill max_packet ls (drop f.packets held)).fillings) (sym e) ∙ s.requests;
+  left = ap (λ (ls : List Live). (rows_fill max_packet ls (drop f.packets held)).left) (sym e) ∙ s.left;
+  sent = sym (append-nil client) ∙ ap (λ (ls : List Live). client ++ filled_bytes max_packet ls (drop f.packets held)) (sym e) ∙ s.sent;
+  told = sym (append-nil notes) ∙ ap (λ (ls : List Live). notes ++ filled_notes (rows_fill max_packet ls (drop f.packets held))) (sym e) ∙ s.told;
+}
+  where
+    plus-zero : (n : ℕ) → n + 0 ≡ n
+    plus-zero n = omega arith
+
+-- no packet is left
+pub nothing-cut : (max_packet : ℕ) (r : Request) → cut_of max_packet r [] ≡ None
+nothing-cut max_packet r = by-descs r.descs
+  where
+    by-descs : (descs : List IsoDesc) → cond (none_of descs) (option_map (cut_as Transferred) (interrupt_cut max_packet r.transfer.wanted [])) (option_map (cut_as Isochronous) (iso_cut descs [])) ≡ None
+    by-descs [] = refl
+    by-descs (d ∷ ds) =
+        ap (λ (b : Bool). option_map (cut_as Isochronous) (cond b None (Some (record { gives = iso_outcome (d ∷ ds) []; leaves = drop (length (d ∷ ds)) [] })))) (lt-ltb 0 (suc (length ds)) (omega arith))
+
+nothing-filled : (max_packet : ℕ) (rows : List Live) → rows_fill max_packet rows [] ≡ none_filled []
+nothing-filled max_packet [] = refl
+nothing-filled max_packet (l ∷ ls) = ap (λ cut. filled_by l.seqnum [] cut (fill max_packet (map row_request ls))) (nothing-cut max_packet (row_request l))
+
+pub nothing-sent : (max_packet : ℕ) (rows : List Live) → filled_bytes max_packet rows [] ≡ []
+nothing-sent max_packet [] = refl
+nothing-sent max_packet (l ∷ ls) = ap (λ cut. bytes_by l cut (filled_bytes max_packet ls)) (nothing-cut max_packet (row_request l))
+
+pub none-held : {max_packet : ℕ} {held : List StreamPacket} {all : Fill} {sent_all : List ℕ} {told_all : List Note} {rows : List Live} {f : Filled} {client : List ℕ} {notes : List Note}
+    → SoFar max_packet held all sent_all told_all rows f client notes → f.packets ≡ length held → AllFilled held all sent_all told_all f client notes
+none-held {max_packet = max_packet} {held = held} {rows = rows} {f = f} {client = client} {notes = notes} s e =
+    let gone : drop f.packets held ≡ [] = ap (λ (n : ℕ). drop n held) e ∙ drop-length held in
+    let fill-is = ap (rows_fill max_packet rows) gone ∙ nothing-filled max_packet rows in
+    record {
+      few = s.few;
+      requests = sym (plus-zero f.requests) ∙ ap (λ (x : Fill). f.requests + length x.fillings) (sym fill-is) ∙ s.requests;
+      left = gone ∙ ap (λ (x : Fill). x.left) (sym fill-is) ∙ s.left;
+      sent = sym (append-nil client) ∙ ap (λ (bs : List ℕ). client ++ bs) (sym (ap (filled_bytes max_packet rows) gone ∙ nothing-sent max_packet rows)) ∙ s.sent;
+      told = sym (append-nil notes) ∙ ap (λ (x : Fill). notes ++ filled_notes x) (sym fill-is) ∙ s.told;
+    }
+  where
+    plus-zero : (n : ℕ) → n + 0 ≡ n
+    plus-zero n = omega arith
+
+-- ---- the next row
+
+-- what a row gets, by its cut
+abbrev by-cut : (max_packet : ℕ) (l : Live) (rows : List Live) (packets : List StreamPacket) (cut : Option (Cut Given)) → Fill
+by-cut max_packet l rows packets cut = filled_by l.seqnum packets cut (fill max_packet (map row_request rows))
+
+-- it isn't filled, and so none behind it
+pub stopped : {max_packet : ℕ} {held : List StreamPacket} {all : Fill} {sent_all : List ℕ} {told_all : List Note} {rows rest : List Live} {f : Filled} {client client_new : List ℕ} {notes : List Note}
+    → SoFar max_packet held all sent_all told_all rows f client notes → (l : Live) → rows ≡ l ∷ rest
+    → row_cut max_packet l (drop f.packets held) ≡ None → client_new ≡ client ++ cut_bytes l (row_cut max_packet l (drop f.packets held))
+    → AllFilled held all sent_all told_all f client_new notes
+stopped {max_packet = max_packet} {held = held} {rest = rest} {f = f} {client = client} {notes = notes} s l e cut more =
+    let packets = drop f.packets held in
+    let fill-is = ap (λ (ls : List Live). rows_fill max_packet ls packets) e ∙ ap (by-cut max_packet l rest packets) cut in
+    record {
+      few = s.few;
+      requests = sym (plus-zero f.requests) ∙ ap (λ (x : Fill). f.requests + length x.fillings) (sym fill-is) ∙ s.requests;
+      left = ap (λ (x : Fill). x.left) (sym fill-is) ∙ s.left;
+      sent = more ∙ ap (λ c. client ++ cut_bytes l c) cut
+          ∙ ap (λ c. client ++ bytes_by l c (filled_bytes max_packet rest)) (sym cut) ∙ ap (λ (ls : List Live). client ++ filled_bytes max_packet ls packets) (sym e) ∙ s.sent;
+      told = sym (append-nil notes) ∙ ap (λ (x : Fill). notes ++ filled_notes x) (sym fill-is) ∙ s.told;
+    }
+  where
+    plus-zero : (n : ℕ) → n + 0 ≡ n
+    plus-zero n = omega arith
+
+-- it is filled with so many packets
+abbrev taken-by : (max_packet : ℕ) (held : List StreamPacket) (all : Fill) (sent_all : List ℕ) (told_all : List Note) (l : Live) (rest : List Live) (requests packets count : ℕ) (client : List ℕ) (notes : List Note) → Option (Cut Given) → Type 0
+taken-by max_packet held all sent_all told_all l rest requests packets count client notes cut =
+    option_map (λ (c : Cut Given). c.leaves) cut ≡ Some (drop count (drop packets held))
+    → requests + length (by-cut max_packet l rest (drop packets held) cut).fillings ≡ length all.fillings
+    → (by-cut max_packet l rest (drop packets held) cut).left ≡ all.left
+    → client ++ bytes_by l cut (filled_bytes max_packet rest) ≡ sent_all
+    → notes ++ filled_notes (by-cut max_packet l rest (drop packets held) cut) ≡ told_all
+    → packets + count ≤ length held
+    → SoFar max_packet held all sent_all told_all rest (record { requests = requests + 1; packets = packets + count }) (client ++ cut_bytes l cut) (notes ++ note.Answered l.seqnum ∷ [])
+
+taken-as : (max_packet : ℕ) (held : List StreamPacket) (all : Fill) (sent_all : List ℕ) (told_all : List Note) (l : Live) (rest : List Live) (requests packets count : ℕ) (client : List ℕ) (notes : List Note) (cut : Option (Cut Given))
+    → taken-by max_packet held all sent_all told_all l rest requests packets count client notes cut
+taken-as max_packet held all sent_all told_all l rest requests packets count client notes None h r lf sn td few = absurd (none-some _ h)
+taken-as max_packet held all sent_all told_all l rest requests packets count client notes (Some c) h r lf sn td few =
+    let at = same_Some c.leaves _ h ∙ drop-drop count packets held in
+    let many = ap (λ (ps : List StreamPacket). length (rows_fill max_packet rest ps).fillings) at in
+    record {
+      few = few;
+      requests = omega (arith, r, many);
+      left = ap (λ (ps : List StreamPacket). (rows_fill max_packet rest ps).left) (sym at) ∙ lf;
+      sent = ap (λ (ps : List StreamPacket). client ++ spelling (with_given (row_request l) c.gives) ++ filled_bytes max_packet rest ps) (sym at)
+          ∙ append_assoc client (spelling (with_given (row_request l) c.gives)) (filled_bytes max_packet rest c.leaves) ∙ sn;
+      told = ap (λ (ps : List StreamPacket). notes ++ note.Answered l.seqnum ∷ [] ++ filled_notes (rows_fill max_packet rest ps)) (sym at)
+          ∙ append_assoc notes (note.Answered l.seqnum ∷ []) (filled_notes (rows_fill max_packet rest c.leaves)) ∙ td;
+    }
+
+pub taken : {max_packet : ℕ} {held : List StreamPacket} {all : Fill} {sent_all : List ℕ} {told_all : List Note} {rows rest : List Live} {f : Filled} {client : List ℕ} {notes : List Note}
+    → SoFar max_packet held all sent_all told_all rows f client notes → (l : Live) → rows ≡ l ∷ rest → (count : ℕ)
+    → HasTaken (Some count) (drop f.packets held) (row_cut max_packet l (drop f.packets held))
+    → SoFar max_packet held all sent_all told_all rest (record { requests = f.requests + 1; packets = f.packets + count }) (client ++ cut_bytes l (row_cut max_packet l (drop f.packets held))) (notes ++ note.Answered l.seqnum ∷ [])
+taken {max_packet = max_packet} {held = held} {all = all} {sent_all = sent_all} {told_all = told_all} {rest = rest} {f = f} {client = client} {notes = notes} s l e count h =
+    let packets = drop f.packets held in
+    let long = length-drop f.packets held in
+    taken-as max_packet held all sent_all told_all l rest f.requests f.packets count client notes (row_cut max_packet l packets) h.1
+    (ap (λ (ls : List Live). f.requests + length (rows_fill max_packet ls packets).fillings) (sym e) ∙ s.requests)
+    (ap (λ (ls : List Live). (rows_fill max_packet ls packets).left) (sym e) ∙ s.left)
+    (ap (λ (ls : List Live). client ++ filled_bytes max_packet ls packets) (sym e) ∙ s.sent)
+    (ap (λ (ls : List Live). notes ++ filled_notes (rows_fill max_packet ls packets)) (sym e) ∙ s.told)
+    (omega (arith, h.0, long, s.few))
+
+-- one that doesn't wait changes nothing
+pub skipped : {max_packet : ℕ} {held : List StreamPacket} {all : Fill} {sent_all : List ℕ} {told_all : List Note} {rows rest : List Live} {f : Filled} {client : List ℕ} {notes : List Note}
+    → SoFar max_packet held all sent_all told_all rows f client notes → rows ≡ rest → SoFar max_packet held all sent_all told_all rest f client notes
+skipped {max_packet = max_packet} {held = held} {all = all} {sent_all = sent_all} {told_all = told_all} {f = f} {client = client} {notes = notes} s e =
+    subst (λ (ls : List Live). SoFar max_packet held all sent_all told_all ls f client notes) e s
+
+pub moved : {max_packet : ℕ} {held : List StreamPacket} {all : Fill} {sent_all : List ℕ} {told_all : List Note} {rows : List Live} {f f_new : Filled} {client client_new : List ℕ} {notes notes_new : List Note}
+    → SoFar max_packet held all sent_all told_all rows f client notes → f_new ≡ f → client_new ≡ client → notes_new ≡ notes → SoFar max_packet held all sent_all told_all rows f_new client_new notes_new
+moved {max_packet = max_packet} {held = held} {all = all} {sent_all = sent_all} {told_all = told_all} {rows = rows} {f_new = f_new} {client = client} {client_new = client_new} {notes = notes} s f c n =
+    subst (λ (x : List Note). SoFar max_packet held all sent_all told_all rows f_new client_new x) (sym n)
+    (subst (λ (x : List ℕ). SoFar max_packet held all sent_all told_all rows f_new x notes) (sym c)
+    (subst (λ (x : Filled). SoFar max_packet held all sent_all told_all rows x client notes) (sym f) s))
+
+-- what was extended is extended once more
+pub extended : {A : Type 0} {old now new : List A} → Extends old now → (more : List A) → new ≡ now ++ more → Extends old new
+extended {old = old} e more is = record { more = e.more ++ more; is = is ∙ ap (λ l. l ++ more) e.is ∙ append_assoc old e.more more }

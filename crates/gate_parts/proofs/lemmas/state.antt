@@ -1,0 +1,4 @@
+-- What is kept.
+pub mod Rows
+pub mod Ids
+pub mod Places

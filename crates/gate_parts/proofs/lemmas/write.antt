@@ -1,0 +1,2 @@
+-- What is sent and told.
+pub mod Answers

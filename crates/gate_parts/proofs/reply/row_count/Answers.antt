@@ -1,8 +1,0 @@
-use Rattle.std.proofs.Common.{rules, ◌∙◌}
-use Rattle.gate_parts.proofs.Interfaces.{count-rows}
-use Rattle.gate_parts.proofs.reply.row_count.Goals as goal
-
-pub returns : goal.returns
-returns c =
-    let info = c.args.info.now in
-    c.min.ensures ∙ count-rows info.count info.class info.subclass info.protocol (search rules) (search rules) (search rules)

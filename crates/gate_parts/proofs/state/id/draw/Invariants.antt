@@ -1,0 +1,17 @@
+use Rattle.std.proofs.Common.{◌≡◌, ◌++◌, length}
+use Rattle.gate_history.specs.state.Ids.{free_from, draw, greatest, Fits}
+use Rattle.gate_history.specs.state.Calls.{call_ids}
+use Rattle.gate_parts.specs.state.Ids.{ids_in}
+use Rattle.gate_history.proofs.lemmas.state.Search.{passes}
+use Rattle.gate_parts.proofs.state.id.draw.Given as goal
+
+-- the rest of the search finds what the whole does
+abbrev pub invariant-loop-id : goal.invariant-loop-id
+invariant-loop-id l = record {
+  most : l.greatest ≡ greatest l.wide;
+  fits : Fits l.greatest l.id;
+  same : free_from l.greatest (ids_in l.lives ++ call_ids l.calls) (length (ids_in l.lives ++ call_ids l.calls)) l.id ≡ draw (greatest l.wide) (ids_in l.lives ++ call_ids l.calls) l.last;
+}
+
+abbrev pub decreases-loop-id : goal.decreases-loop-id
+decreases-loop-id l = passes l.greatest (ids_in l.lives ++ call_ids l.calls) (length (ids_in l.lives ++ call_ids l.calls)) l.id

@@ -1,0 +1,24 @@
+use Rattle.std.proofs.Common.{◌∙◌, get_or, set, length, sym, ap, arith}
+use Rattle.gate_history.specs.state.Ups.{unless, is_ended}
+use Rattle.gate_parts.proofs.lemmas.Fronts.{mapped-none, mapped-next, mapped-all}
+use Rattle.gate_parts.proofs.lemmas.state.Places.{set-twice}
+use Rattle.gate_parts.proofs.state.streams.Streams.lower.Goals as goal
+
+pub loop-place-init : goal.loop-place-init
+loop-place-init c = c.self.view_is ∙ sym (mapped-none (unless (is_ended c.args.by)) c.args.self.now)
+
+pub loop-place-preserved : goal.loop-place-preserved
+loop-place-preserved c =
+    let f = unless (is_ended c.args.by) in
+    let items = c.loop-place.self-inside.ups.items in
+    let place = c.loop-place.place in
+    let before = c.index_mut.result.now in
+    set-twice items place c.take-up.new.self c.unless_ended.result
+    ∙ ap (set items place) (c.unless_ended.ensures ∙ ap f (c.take-up.ensures.value ∙ c.index_mut.ensures.value))
+    ∙ (λ i. set (c.loop-place.invariant i) place (f (get_or (c.loop-place.invariant i) place before)))
+    ∙ mapped-next f place c.args.self.now before (omega (arith, ap length c.self.view_is, c.len-place-end.ensures, c.loop-place-test.true))
+
+pub returns-clause-lowered : goal.returns-clause-lowered
+returns-clause-lowered c =
+    c.loop-place.invariant
+    ∙ mapped-all (unless (is_ended c.args.by)) c.loop-place.place c.args.self.now (omega (arith, ap length c.self.view_is, c.len-place-end.ensures, c.loop-place-test.false))

@@ -1,7 +1,0 @@
-use Rattle.std.proofs.Common.{◌≡◌}
-use Rattle.gate_history.specs.Ups.{unless, is_ended}
-use Rattle.gate_parts.proofs.Mapped.{mapped}
-use Rattle.gate_parts.proofs.streams.Streams.lower.Given as goal
-
-abbrev pub invariant-loop-place : goal.invariant-loop-place
-invariant-loop-place l = l.self-inside.ups.items ≡ mapped (unless (is_ended l.by)) l.place l.fn.self

@@ -1,0 +1,102 @@
+-- Answers as the code has them, and what a request in flight makes of them by its row.
+use Rattle.std.specs.Prelude.{ℕ, ◌+◌, ◌==◌, nat_lt, not, Bool, true, false, if◌then◌else◌, List, [], ◌∷◌, length, filter, Option, Some, None, ◌≡◌}
+use Rattle.usb_base.specs.declared.refusal.Refusal.{Refusal}
+use Rattle.usb_base.specs.declared.endpoint.EpKind.{EpKind}
+use Rattle.usb_base.specs.declared.endpoint.EpKind.TheVariants as kind
+use Rattle.usb_base.specs.declared.transfer.Outcome.{Outcome}
+use Rattle.usb_base.specs.declared.transfer.StreamPacket.{StreamPacket}
+use Rattle.usb_base.specs.Endpoint.{is_in_endpoint}
+use Rattle.usb_base.specs.Status.{status_of}
+use Rattle.usbip_urb.specs.declared.client.ClientPacket.{ClientPacket}
+use Rattle.redir_data.specs.declared.packet.RedirData.{RedirData}
+use Rattle.redir_data.specs.declared.packet.RedirData.TheVariants as data_packet
+use Rattle.unlink_race.specs.declared.live.Live.{Live}
+use Rattle.unlink_race.specs.declared.live.LiveKind.{LiveKind}
+use Rattle.unlink_race.specs.declared.live.LiveKind.TheVariants as live_kind
+use Rattle.unlink_race.specs.declared.ending.Ending.{Ending}
+use Rattle.unlink_race.specs.declared.ending.Ending.TheVariants.{Completed, Unlinked, CompletedThenLate}
+use Rattle.gate_parts.specs.declared.host.response.Response.{Response as RawResponse}
+use Rattle.gate_parts.specs.declared.host.response.Response.TheVariants as raw
+use Rattle.gate_history.specs.step.Marks.{Submission, Effect, Idle, Answers}
+use Rattle.gate_history.specs.host.Responses.{Response, Data, Status, route_answer, route_gets, mismatched, got, seen}
+use Rattle.gate_history.specs.write.All.{is_ret_submit, is_won_unlink}
+use Rattle.gate_history.specs.write.Asked.{IsMoved}
+
+abbrev pub response_view : RawResponse → Response
+response_view (raw.Data endpoint length_place o) = Data endpoint length_place o
+response_view (raw.Status status value) = Status status value
+
+-- what a status gives, with its value or without
+abbrev pub status_outcome : ℕ → Bool → ℕ → Outcome
+status_outcome status tells value = got (status_of status) (if tells then value ∷ [] else [])
+
+-- ---- packets of streams
+
+-- the IN endpoint of whose stream a packet is, and whether it is an isochronous one
+abbrev pub stream_in : RedirData → Option (ℕ × Bool)
+stream_in (data_packet.Control endpoint request kind status value index length body) = None
+stream_in (data_packet.Bulk endpoint status length stream body) = None
+stream_in (data_packet.Interrupt endpoint status length body) = if is_in_endpoint endpoint then Some (endpoint, false) else None
+stream_in (data_packet.Iso endpoint status length body) = if is_in_endpoint endpoint then Some (endpoint, true) else None
+
+abbrev pub packet_in : RedirData → StreamPacket
+packet_in (data_packet.Control endpoint request kind status value index length body) = record { status = status_of status; body = body }
+packet_in (data_packet.Bulk endpoint status length stream body) = record { status = status_of status; body = body }
+packet_in (data_packet.Interrupt endpoint status length body) = record { status = status_of status; body = body }
+packet_in (data_packet.Iso endpoint status length body) = record { status = status_of status; body = body }
+
+-- ---- by a row
+
+-- the type of the packet that answers a transfer on the wire
+abbrev pub wire_answer : EpKind → ℕ
+wire_answer kind.Control = 100
+wire_answer kind.Interrupt = 103
+wire_answer kind.Bulk = 101
+wire_answer kind.Iso = 101
+wire_answer kind.Invalid = 101
+
+abbrev pub row_answer : LiveKind → ℕ
+row_answer (live_kind.Wire ep kind) = wire_answer kind
+row_answer (live_kind.Routed route) = route_answer route
+row_answer (live_kind.Stream ep interface) = 0
+
+-- a route is a request of endpoint 0
+abbrev pub row_ep : LiveKind → ℕ
+row_ep (live_kind.Wire ep kind) = ep
+row_ep (live_kind.Routed route) = 0
+row_ep (live_kind.Stream ep interface) = ep
+
+abbrev pub row_gets : LiveKind → Bool
+row_gets (live_kind.Wire ep kind) = false
+row_gets (live_kind.Routed route) = route_gets route
+row_gets (live_kind.Stream ep interface) = false
+
+abbrev pub row_mismatch : ℕ → ℕ → Live → ℕ → Response → Option Refusal
+row_mismatch place head l kind (Status status value) = if kind == row_answer l.kind then None else Some (mismatched place (row_answer l.kind) kind)
+row_mismatch place head l kind (Data endpoint length_place o) =
+    if not (kind == row_answer l.kind) then Some (mismatched place (row_answer l.kind) kind)
+    else if not (endpoint == row_ep l.kind) then Some (mismatched (place + head) (row_ep l.kind) endpoint)
+    else if nat_lt l.wanted o.done then Some (mismatched (place + head + length_place) l.wanted o.done)
+    else None
+
+-- its data are those of the request
+abbrev pub IsAnswer : Live → Response → Type 0
+IsAnswer l (Data endpoint length_place o) = IsMoved l.is_in o
+IsAnswer l (Status status value) = Unit {0}
+
+-- ---- what it does
+
+-- an answer that is that of the request which waits for it, if one does
+abbrev pub completes : ℕ → Response → Option Submission → Effect
+completes id response None = Idle
+completes id response (Some s) = Answers id (seen s.request s.verdict response)
+
+abbrev pub has_won : Ending → Bool
+has_won Completed = false
+has_won (Unlinked by) = true
+has_won (CompletedThenLate by) = false
+
+-- the answers of one request: its unlink has won, or it is answered itself
+pub record IsCounted (packets : List ClientPacket) (won : Bool) : Type 0 where
+  pub answered : length (filter is_ret_submit packets) ≡ (if won then 0 else 1)
+  pub unlinked : length (filter is_won_unlink packets) ≡ (if won then 1 else 0)

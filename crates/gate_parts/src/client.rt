@@ -1,0 +1,4 @@
+//! What a client asks for.
+
+pub mod reply;
+pub mod verdict;

@@ -1,0 +1,125 @@
+//! What is made of a submit: the first rule that applies.
+
+ghost use Rattle.std.specs.Prelude.{◌≡◌, ◌⊎◌, ◌<◌, true, IsTrue};
+ghost use Rattle.usbip_urb.specs.Buffers.{laid};
+ghost use Rattle.gate_history.specs.client.Verdict.{verdict, goes_by_id, by_setup, by_endpoint, by_route, by_kind, is_narrow};
+ghost use Rattle.gate_history.specs.client.Submits.{is_waiting};
+ghost use Rattle.gate_history.specs.client.Views.{request_view, verdict_view};
+ghost use Rattle.gate_parts.specs.state.Rows.{kind_of, IsRead};
+ghost use Rattle.gate_history.specs.client.Carried.{IsRequest, IsCarried};
+
+use crate::write::errno::{EBUSY, EINVAL, EMSGSIZE, ENOENT, ESHUTDOWN};
+use control_route::{Route, route_of};
+use gate_history::{Pipe, Request, Verdict, is_in_setup};
+use usb_base::{EpKind, EpRow, EpTable, Setup};
+use usbip_urb::{MAX_LIVE, laid};
+
+/// The longest transfer where a packet has 16 bits for its length.
+const MAX_NARROW: u32 = 65_535;
+
+/// The first rule that applies to a submit. The device was `lost` since the import, so many submits are `live`, one
+/// of them is a `changing` of the device's interfaces, these are its endpoints, and bulk packets are `wide`: they have
+/// 32 bits for their lengths. Answers by the errors of Linux: ESHUTDOWN, EBUSY, ENOENT, EINVAL and EMSGSIZE.
+pub fn decide(
+    lost: bool,
+    live: usize,
+    changing: bool,
+    table: &EpTable,
+    wide: bool,
+    request: &Request,
+) -> Verdict
+    ensures value { verdict_view result ≡ verdict lost live changing table.now wide (request_view request.now) }
+    ensures carried { IsRequest (request_view request.now) → IsCarried wide (verdict_view result) (request_view request.now) }
+    ensures reads { IsRequest (request_view request.now) → goes_by_id (verdict_view result) ≡ true
+        → (request.now.transfer.wanted ≡ 0) ⊎ IsRead request.now.is_in (kind_of (verdict_view result) request.now.transfer.ep) }
+    ensures room { goes_by_id (verdict_view result) ≡ true → live < MAX_LIVE }
+    ensures waits { is_waiting (verdict_view result) ≡ true → live < MAX_LIVE }
+    ensures lies { is_waiting (verdict_view result) ≡ true → IsTrue (laid request.now.descs request.now.transfer.wanted) }
+{
+    if lost {
+        return Verdict::Now(ESHUTDOWN);
+    }
+    if live >= MAX_LIVE {
+        return Verdict::Now(EBUSY);
+    }
+    match &request.transfer.setup {
+        Some(setup) => by_setup(request, setup),
+        None if changing => Verdict::Now(ENOENT),
+        None => by_endpoint(wide, request, table.row(request.transfer.ep)),
+    }
+}
+
+/// A transfer of endpoint 0, whose setup tells its direction and its length once more.
+pub fn by_setup(request: &Request, setup: &Setup) -> Verdict
+    ensures { verdict_view result ≡ by_setup (request_view request.now) setup.now }
+{
+    if !request.descs.is_empty() {
+        return Verdict::Now(EINVAL);
+    }
+    if setup.length != 0 && is_in_setup(setup) != request.is_in {
+        return Verdict::Now(EINVAL);
+    }
+    if u32::from(setup.length) != request.transfer.wanted {
+        return Verdict::Now(EINVAL);
+    }
+    by_route(route_of(setup))
+}
+
+/// A transfer of endpoint 0 that is well asked for, by its route.
+pub fn by_route(route: Route) -> Verdict
+    ensures { verdict_view result ≡ by_route route }
+{
+    match route {
+        Route::Local => Verdict::Now(0),
+        Route::Plain => Verdict::Wire(Pipe::Control),
+        Route::Bad => Verdict::Now(EINVAL),
+        _ => Verdict::Routed(route),
+    }
+}
+
+/// A transfer of another endpoint, by what was told of it.
+pub fn by_endpoint(wide: bool, request: &Request, row: EpRow) -> Verdict
+    ensures { verdict_view result ≡ by_endpoint wide (request_view request.now) row }
+{
+    if row.kind == EpKind::Invalid {
+        return Verdict::Now(ENOENT);
+    }
+    if row.kind == EpKind::Control {
+        return Verdict::Now(EINVAL);
+    }
+    if (row.kind == EpKind::Iso) == request.descs.is_empty() {
+        return Verdict::Now(EINVAL);
+    }
+    if !laid(&request.descs, request.transfer.wanted) {
+        return Verdict::Now(EINVAL);
+    }
+    if is_narrow(wide, request.is_in, row.kind) && request.transfer.wanted > MAX_NARROW {
+        return Verdict::Now(EMSGSIZE);
+    }
+    by_kind(request, row)
+}
+
+/// Whether the packet of such a transfer has 16 bits for its length.
+pub fn is_narrow(wide: bool, is_in: bool, kind: EpKind) -> bool
+    ensures { result ≡ is_narrow wide is_in kind }
+{
+    match kind {
+        EpKind::Bulk => !wide,
+        EpKind::Interrupt => !is_in,
+        EpKind::Control | EpKind::Iso | EpKind::Invalid => false,
+    }
+}
+
+/// A transfer of an endpoint that can carry it, by what its endpoint's transfers are.
+pub fn by_kind(request: &Request, row: EpRow) -> Verdict
+    ensures { verdict_view result ≡ by_kind (request_view request.now) row row.kind }
+{
+    match row.kind {
+        EpKind::Bulk => Verdict::Wire(Pipe::Bulk),
+        EpKind::Iso if !request.is_in => Verdict::IsoOut(row),
+        EpKind::Interrupt if !request.is_in => Verdict::Wire(Pipe::InterruptOut),
+        EpKind::Iso | EpKind::Interrupt => Verdict::Stream(row),
+        EpKind::Control => Verdict::Now(EINVAL),
+        EpKind::Invalid => Verdict::Now(ENOENT),
+    }
+}

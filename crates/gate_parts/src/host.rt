@@ -1,0 +1,5 @@
+//! What the host says.
+
+pub mod fill;
+pub mod filling;
+pub mod response;

@@ -1,0 +1,171 @@
+//! The answer of a request that the packets of its stream fill: its bytes go straight from those packets to the client.
+
+ghost use Rattle.std.specs.Prelude.{◌≡◌, ◌++◌, ◌+◌, ◌≤◌, [], drop, IsTrue, length, OnOk, OnErr, IfOk};
+ghost use Rattle.packet_stream.specs.Writes.{AppendsSome};
+ghost use Rattle.usbip_urb.specs.declared.code.TheConstants.{MAX_LENGTH};
+ghost use Rattle.usbip_urb.specs.Buffers.{laid};
+ghost use Rattle.usbip_urb.specs.Spelling.{spelling};
+ghost use Rattle.stream_buffers.specs.Iso.{iso_outcome};
+ghost use Rattle.stream_buffers.specs.Fillings.{cut_by, FillsIso};
+ghost use Rattle.gate_history.specs.host.Fillings.{Transferred, Isochronous};
+ghost use Rattle.gate_history.specs.write.Answers.{with_given};
+ghost use Rattle.gate_history.specs.write.Asked.{HasItsPackets};
+ghost use Rattle.gate_parts.specs.state.Rows.{row_request};
+ghost use Rattle.gate_parts.specs.host.Fill.{row_cut, cut_bytes, HasTaken};
+ghost use Rattle.gate_parts.specs.host.FillAnswer.{front_bytes, interrupt_given, iso_given};
+
+use crate::state::streams::Up;
+use crate::write::answer::ret_submit;
+use crate::write::finish::asked_by;
+use std::alloc::Global;
+use stream_buffers::{Filling, IsoFilling};
+use unlink_race::Live;
+use usb_base::{Bytes, Memory};
+use usbip_urb::{Descs, push_ret_fields};
+
+/// Appends the answer of a request that the packets of its stream behind the first `from` fill, and gives how many it
+/// takes. None where they don't fill it; then, and for want of memory, nothing is appended.
+pub fn write_filling(
+    alloc: Global,
+    live: &Live,
+    up: &mut Up,
+    from: usize,
+    out: &mut Bytes,
+) -> Result<Option<usize>, Memory>
+    requires from { from ≤ length up.old.held }
+    requires packets { HasItsPackets live.now.packets live.now.descs }
+    requires few_bytes { live.now.wanted ≤ MAX_LENGTH }
+    requires lies { IsTrue (laid live.now.descs live.now.wanted) }
+    ensures same { up.new ≡ up.old }
+    ensures taken { IfOk result (λ taken. HasTaken taken (drop from up.old.held) (row_cut up.old.row.max_packet live.now (drop from up.old.held))) }
+    ensures sent { OnOk result (out.new ≡ out.old ++ cut_bytes live.now (row_cut up.old.row.max_packet live.now (drop from up.old.held))) }
+    ensures err { OnErr result (out.new ≡ out.old) }
+{
+    let before = out.len();
+    match push_filling(alloc, live, up, from, out) {
+        Ok(taken) => Ok(taken),
+        Err(memory) => {
+            out.cut(before);
+            Err(memory)
+        }
+    }
+}
+
+// For want of memory some of the bytes may be there.
+fn push_filling(
+    alloc: Global,
+    live: &Live,
+    up: &mut Up,
+    from: usize,
+    out: &mut Bytes,
+) -> Result<Option<usize>, Memory>
+    requires from { from ≤ length up.old.held }
+    requires few_bytes { live.now.wanted ≤ MAX_LENGTH }
+    requires lies { IsTrue (laid live.now.descs live.now.wanted) }
+    ensures same { up.new ≡ up.old }
+    ensures taken { IfOk result (λ taken. HasTaken taken (drop from up.old.held) (row_cut up.old.row.max_packet live.now (drop from up.old.held))) }
+    ensures sent { AppendsSome result out.old out.new (cut_bytes live.now (row_cut up.old.row.max_packet live.now (drop from up.old.held))) }
+{
+    if live.descs.is_empty() {
+        push_interrupt(alloc, live, up, from, out)
+    } else {
+        push_iso(alloc, live, up, from, out)
+    }
+}
+
+// That of an interrupt request.
+fn push_interrupt(
+    alloc: Global,
+    live: &Live,
+    up: &mut Up,
+    from: usize,
+    out: &mut Bytes,
+) -> Result<Option<usize>, Memory>
+    requires from { from ≤ length up.old.held }
+    requires none { live.now.descs ≡ [] }
+    ensures same { up.new ≡ up.old }
+    ensures taken { IfOk result (λ taken. HasTaken taken (drop from up.old.held) (interrupt_given up.old.row.max_packet live.now (drop from up.old.held))) }
+    ensures sent { AppendsSome result out.old out.new (cut_bytes live.now (interrupt_given up.old.row.max_packet live.now (drop from up.old.held))) }
+{
+    let Some(filling) = up.filling(from, live.wanted) else {
+        return Ok(None);
+    };
+    push_transferred(alloc, live, up, from, filling, out)?;
+    Ok(Some(filling.count))
+}
+
+// The bytes of these packets fill it.
+fn push_transferred(
+    alloc: Global,
+    live: &Live,
+    up: &Up,
+    from: usize,
+    filling: Filling,
+    out: &mut Bytes,
+) -> Result<(), Memory>
+    requires there { from + filling.count ≤ length up.now.held }
+    requires none { live.now.descs ≡ [] }
+    ensures { AppendsSome result out.old out.new (spelling (with_given (row_request live.now) (Transferred (cut_by (drop from up.now.held) filling).gives))) }
+{
+    push_front(alloc, live, filling.status.errno(), filling.done, 0, out)?;
+    up.append_bodies(from, filling, out)?;
+    Ok(())
+}
+
+// That of an isochronous request.
+fn push_iso(
+    alloc: Global,
+    live: &Live,
+    up: &Up,
+    from: usize,
+    out: &mut Bytes,
+) -> Result<Option<usize>, Memory>
+    requires from { from ≤ length up.now.held }
+    requires few_bytes { live.now.wanted ≤ MAX_LENGTH }
+    requires lies { IsTrue (laid live.now.descs live.now.wanted) }
+    ensures taken { IfOk result (λ taken. HasTaken taken (drop from up.now.held) (iso_given live.now (drop from up.now.held))) }
+    ensures sent { AppendsSome result out.old out.new (cut_bytes live.now (iso_given live.now (drop from up.now.held))) }
+{
+    let Some(filling) = up.iso_filling(from, &live.descs) else {
+        return Ok(None);
+    };
+    push_pieces(alloc, live, up, from, filling, out)?;
+    Ok(Some(live.descs.len()))
+}
+
+// These packets fill it, one for each descriptor.
+fn push_pieces(
+    alloc: Global,
+    live: &Live,
+    up: &Up,
+    from: usize,
+    filling: IsoFilling,
+    out: &mut Bytes,
+) -> Result<(), Memory>
+    requires from { from ≤ length up.now.held }
+    requires fills { FillsIso live.now.descs (drop from up.now.held) filling }
+    requires fits { filling.done ≤ MAX_LENGTH }
+    ensures { AppendsSome result out.old out.new (spelling (with_given (row_request live.now) (Isochronous (iso_outcome live.now.descs (drop from up.now.held))))) }
+{
+    push_front(alloc, live, 0, filling.done as u32, filling.errors, out)?;
+    up.append_pieces(from, &live.descs, out)?;
+    up.append_filled(from, &live.descs, out)?;
+    Ok(())
+}
+
+// The fields of its answer in front of the body.
+fn push_front(
+    alloc: Global,
+    live: &Live,
+    status: i32,
+    actual: u32,
+    errors: u32,
+    out: &mut Bytes,
+) -> Result<(), Memory>
+    ensures { AppendsSome result out.old out.new (front_bytes (row_request live.now) status actual errors) }
+{
+    let asked = asked_by(live);
+    let mut answer = ret_submit(&asked, status, actual, Bytes::new(alloc), Descs::new(alloc));
+    answer.errors = errors;
+    push_ret_fields(&answer, out)
+}

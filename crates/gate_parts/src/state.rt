@@ -1,0 +1,5 @@
+//! What is kept.
+
+pub mod calls;
+pub mod id;
+pub mod streams;

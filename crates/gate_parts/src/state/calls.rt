@@ -1,0 +1,96 @@
+//! The ids of the packets that start and stop the streams of endpoints.
+
+ghost use Rattle.std.specs.Prelude.{◌≡◌, Some, None};
+ghost use Rattle.std.specs.List.{list_any};
+ghost use Rattle.gate_history.specs.state.Ids.{holds};
+ghost use Rattle.gate_history.specs.state.Calls.{no_calls, started, stopped, call_ids, lifted};
+ghost use Rattle.gate_parts.specs.state.Ids.{is_id};
+
+use std::marker::Model;
+use usb_base::EpAddr;
+
+/// Of each endpoint's place in the table the id of its last start, and that of the last stop after it.
+#[derive(Clone, Copy)]
+pub struct Calls {
+    started: [Option<u64>; 32],
+    stopped: [Option<u64>; 32],
+}
+
+impl Model for Calls {
+    ghost use Rattle.gate_history.specs.state.Calls.{Calls as Seen};
+
+    ghost Value = { Seen };
+
+    ghost view = { λ calls. record { started = calls.started; stopped = calls.stopped } };
+
+    ghost inverse = { λ calls. record { started = calls.started; stopped = calls.stopped } };
+}
+
+impl Calls {
+    /// None was started.
+    pub fn none() -> Calls
+        ensures { result ≡ no_calls }
+    {
+        Calls {
+            started: [None; 32],
+            stopped: [None; 32],
+        }
+    }
+
+    /// An endpoint's stream is started with this id.
+    pub fn start(&mut self, ep: EpAddr, id: u64)
+        ensures { self.new ≡ started ep id self.old }
+    {
+        self.started[ep.index()] = Some(id);
+        self.stopped[ep.index()] = None;
+    }
+
+    /// An endpoint's stream is stopped with this id.
+    pub fn stop(&mut self, ep: EpAddr, id: u64)
+        ensures { self.new ≡ stopped ep id self.old }
+    {
+        self.stopped[ep.index()] = Some(id);
+    }
+
+    /// Whether an id is one of these.
+    pub fn holds(&self, id: u64) -> bool
+        ensures { result ≡ holds (call_ids self.now) id }
+    {
+        any_is(&self.started, id) || any_is(&self.stopped, id)
+    }
+}
+
+fn any_is(ids: &[Option<u64>], id: u64) -> bool
+    ensures { result ≡ list_any (is_id id) ids.now }
+{
+    ids.iter().any(|held| is_id(held, id))
+}
+
+fn is_id(held: &Option<u64>, id: u64) -> bool
+    ensures { result ≡ is_id id held.now }
+{
+    match held {
+        Some(held) => *held == id,
+        None => false,
+    }
+}
+
+/// What is kept once the packets that start or stop streams are sent.
+#[derive(Clone, Copy)]
+pub struct Called {
+    pub calls: Calls,
+    /// The id that was drawn last.
+    pub last: u64,
+    /// The id of the last stop, where the client is gone.
+    pub fence: Option<u64>,
+}
+
+/// The id that no import passes, once the host has told of this one.
+pub fn lifted(id: u64, fence: Option<u64>) -> Option<u64>
+    ensures { result ≡ lifted id fence }
+{
+    match fence {
+        Some(fence) if fence != id => Some(fence),
+        _ => None,
+    }
+}

@@ -1,0 +1,47 @@
+//! How ids are drawn: in turn from 1 to the greatest, past those that are in flight.
+
+ghost use Rattle.std.specs.Prelude.{◌≡◌, ◌+◌, ◌++◌, ◌<◌, length, false};
+ghost use Rattle.redir_wire.specs.Header.{IdFits};
+ghost use Rattle.gate_history.specs.state.Ids.{after, greatest, holds, draw};
+ghost use Rattle.gate_history.specs.state.Calls.{call_ids};
+ghost use Rattle.gate_parts.specs.state.Ids.{ids_in};
+
+use crate::state::calls::Calls;
+use unlink_race::Lives;
+
+/// The greatest id, without 64-bit ids and with them.
+fn greatest(wide: bool) -> u64
+    ensures { result ≡ greatest wide }
+{
+    if wide { u64::MAX } else { u64::from(u32::MAX) }
+}
+
+// The id after this one; 1 comes after the greatest.
+fn after(greatest: u64, id: u64) -> u64
+    ensures { result ≡ after greatest id }
+{
+    if id < greatest { id + 1 } else { 1 }
+}
+
+/// The first id after the last drawn that no request in flight has, and none of the starts and stops of streams. The
+/// loop ends: it passes over no more ids than are in flight, and there are more ids than that.
+pub fn draw(lives: &Lives, calls: &Calls, wide: bool, last: u64) -> u64
+    requires few { length lives.now.live + length lives.now.abandoned + length (call_ids calls.now) < 4294967295 }
+    ensures value { result ≡ draw (greatest wide) (ids_in lives.now ++ call_ids calls.now) last }
+    ensures free { holds (ids_in lives.now ++ call_ids calls.now) result ≡ false }
+    ensures fits { IdFits wide result }
+{
+    let greatest = greatest(wide);
+    let mut id = after(greatest, last);
+    while is_held(lives, calls, id) {
+        id = after(greatest, id);
+    }
+    id
+}
+
+// Whether an id is in flight.
+fn is_held(lives: &Lives, calls: &Calls, id: u64) -> bool
+    ensures { result ≡ holds (ids_in lives.now ++ call_ids calls.now) id }
+{
+    lives.holds_id(id) || calls.holds(id)
+}

@@ -1,0 +1,8 @@
+//! What is sent and told.
+
+pub mod answer;
+pub mod ask;
+pub mod errno;
+pub mod field;
+pub mod finish;
+pub mod refusal;

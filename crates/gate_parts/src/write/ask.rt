@@ -1,0 +1,270 @@
+//! The packets to the host: the gateway's hello, those that ask for a transfer, starts and stops of streams, cancels and
+//! acknowledgements.
+
+ghost use Rattle.std.specs.Prelude.{◌≡◌, ◌≤◌, ◌++◌, ◌∷◌, [], true, false, length, zip, All, OnOk, OnErr, None, ◌<◌};
+ghost use Rattle.std.specs.List.{flat_map};
+ghost use Rattle.redir_wire.specs.Header.{IdFits};
+ghost use Rattle.redir_wire.specs.Capability.{has, no_caps};
+ghost use Rattle.redir_wire.specs.declared.packet.RedirControl.TheVariants.{Cancel, DisconnectAck, Reset as ResetPacket, GetConfiguration as GetConfigurationPacket};
+ghost use Rattle.redir_data.specs.declared.packet.RedirPacket.TheVariants.{Plain, Carrying};
+ghost use Rattle.redir_data.specs.declared.packet.RedirData.TheVariants as data_packet;
+ghost use Rattle.gate_history.specs.write.Packets.{wire_packet, route_packets, start_packet, stop_packet};
+ghost use Rattle.gate_history.specs.write.Bytes.{host_packet_bytes, gateway_hello};
+ghost use Rattle.gate_history.specs.state.Flight.{wide_ids, wide_bulk};
+ghost use Rattle.gate_history.specs.client.Views.{pipe_view};
+ghost use Rattle.gate_history.specs.client.Carried.{HasItsSetup, LengthFits, IsSent};
+ghost use Rattle.gate_parts.specs.state.Rows.{cancel_bytes, is_cancelled_row};
+ghost use Rattle.gate_history.specs.step.Marks.{Disconnects};
+ghost use Rattle.gate_history.specs.write.Output.{acknowledgements};
+
+use crate::state::streams::Up;
+use crate::write::field::field;
+use control_route::Route;
+use gate_history::Pipe;
+use redir_data::{RedirData, move_data, write_iso_out};
+use redir_wire::{ANNOUNCED, Caps, DISCONNECT_ACK, Hello, RedirControl, Way, Words, write_control};
+use std::alloc::Global;
+use unlink_race::{Live, LiveKind};
+use usb_base::{Bytes, EpAddr, EpKind, EpRow, Memory, Transfer};
+
+/// Appends the packet that carries a transfer to the host, with this id. The transfer's body is moved into the packet, and
+/// to `out`, by one copy where it is short; `out` stands for want of memory.
+pub fn write_wire(
+    pipe: Pipe,
+    transfer: Transfer,
+    id: u64,
+    caps: Caps,
+    out: &mut Bytes,
+) -> Result<(), Memory>
+    requires sent { IsSent (wide_bulk caps) (pipe_view pipe) transfer }
+    requires id_fits { IdFits (wide_ids caps) id }
+    ensures ok { OnOk result (out.new ≡ out.old ++ host_packet_bytes caps (id, wire_packet (pipe_view pipe) transfer)) }
+    ensures err { OnErr result (out.new ≡ out.old) }
+{
+    let packet = wire_packet(pipe, transfer);
+    move_data(packet, id, Way::ToHost, caps, out)
+}
+
+// The packet that carries a transfer to the host.
+fn wire_packet(pipe: Pipe, transfer: Transfer) -> RedirData
+    requires setup { HasItsSetup (pipe_view pipe) transfer.setup transfer.wanted }
+    requires length_fits { LengthFits true (pipe_view pipe) transfer.wanted }
+    ensures { Carrying result ≡ wire_packet (pipe_view pipe) transfer }
+{
+    let Transfer {
+        ep,
+        setup,
+        wanted,
+        body,
+    } = transfer;
+    let endpoint = ep.byte();
+    match pipe {
+        Pipe::Control => {
+            let setup = setup.unwrap();
+            RedirData::Control {
+                endpoint,
+                request: setup.request,
+                kind: setup.kind,
+                status: 0,
+                value: setup.value,
+                index: setup.index,
+                length: setup.length,
+                body,
+            }
+        }
+        Pipe::Bulk => RedirData::Bulk {
+            endpoint,
+            status: 0,
+            length: wanted,
+            stream: 0,
+            body,
+        },
+        Pipe::InterruptOut => RedirData::Interrupt {
+            endpoint,
+            status: 0,
+            length: wanted as u16,
+            body,
+        },
+    }
+}
+
+/// How many packets ask for a route.
+pub fn packet_count(route: &Route) -> usize
+    ensures count { result ≡ length (route_packets route.now) }
+    ensures few { result ≤ 2 }
+{
+    match route {
+        Route::Local | Route::Plain | Route::Bad => 0,
+        Route::Reset => 2,
+        _ => 1,
+    }
+}
+
+/// Appends the packets that ask for a route, each with an id of its own: two for a reset, and one for any other. For
+/// want of memory `out` stands.
+pub fn write_route(route: &Route, ids: &[u64], caps: Caps, out: &mut Bytes) -> Result<(), Memory>
+    requires count { length ids.now ≡ length (route_packets route.now) }
+    requires ids_fit { All (IdFits (wide_ids caps)) ids.now }
+    ensures ok { OnOk result (out.new ≡ out.old ++ flat_map (host_packet_bytes caps) (zip ids.now (route_packets route.now))) }
+    ensures err { OnErr result (out.new ≡ out.old) }
+{
+    match (route, ids) {
+        (Route::SetConfig(configuration), [id]) => {
+            let packet = RedirControl::SetConfiguration {
+                configuration: *configuration,
+            };
+            write_control(&packet, *id, caps, out)
+        }
+        (Route::GetConfig, [id]) => {
+            write_control(&RedirControl::GetConfiguration, *id, caps, out)
+        }
+        (Route::SetAlt { interface, alt }, [id]) => {
+            let packet = RedirControl::SetAlt {
+                interface: *interface,
+                alt: *alt,
+            };
+            write_control(&packet, *id, caps, out)
+        }
+        (Route::GetAlt(interface), [id]) => {
+            let packet = RedirControl::GetAlt {
+                interface: *interface,
+            };
+            write_control(&packet, *id, caps, out)
+        }
+        (Route::Reset, [first, second]) => write_reset(*first, *second, caps, out),
+        _ => Ok(()),
+    }
+}
+
+// A reset has no answer: what the configuration is after it is asked for.
+fn write_reset(first: u64, second: u64, caps: Caps, out: &mut Bytes) -> Result<(), Memory>
+    requires first_fits { IdFits (wide_ids caps) first }
+    requires second_fits { IdFits (wide_ids caps) second }
+    ensures ok { OnOk result (out.new ≡ out.old ++ host_packet_bytes caps (first, Plain ResetPacket) ++ host_packet_bytes caps (second, Plain GetConfigurationPacket)) }
+    ensures err { OnErr result (out.new ≡ out.old) }
+{
+    let before = out.len();
+    write_control(&RedirControl::Reset, first, caps, out)?;
+    match write_control(&RedirControl::GetConfiguration, second, caps, out) {
+        Ok(()) => Ok(()),
+        Err(memory) => {
+            out.cut(before);
+            Err(memory)
+        }
+    }
+}
+
+/// Appends the start of an endpoint's stream. For want of memory `out` stands.
+pub fn write_start(
+    ep: EpAddr,
+    row: EpRow,
+    id: u64,
+    caps: Caps,
+    out: &mut Bytes,
+) -> Result<(), Memory>
+    requires { IdFits (wide_ids caps) id }
+    ensures ok { OnOk result (out.new ≡ out.old ++ host_packet_bytes caps (id, start_packet ep row)) }
+    ensures err { OnErr result (out.new ≡ out.old) }
+{
+    let endpoint = ep.byte();
+    if row.kind == EpKind::Iso {
+        let start = RedirControl::StartIso {
+            endpoint,
+            pkts_per_urb: 8,
+            no_urbs: 4,
+        };
+        write_control(&start, id, caps, out)
+    } else {
+        write_control(&RedirControl::StartInterrupt { endpoint }, id, caps, out)
+    }
+}
+
+/// Appends the stop of a stream. For want of memory `out` stands.
+pub fn write_stop(up: &Up, id: u64, caps: Caps, out: &mut Bytes) -> Result<(), Memory>
+    requires { IdFits (wide_ids caps) id }
+    ensures ok { OnOk result (out.new ≡ out.old ++ host_packet_bytes caps (id, stop_packet up.now)) }
+    ensures err { OnErr result (out.new ≡ out.old) }
+{
+    let endpoint = up.ep().byte();
+    if up.row().kind == EpKind::Iso {
+        write_control(&RedirControl::StopIso { endpoint }, id, caps, out)
+    } else {
+        write_control(&RedirControl::StopInterrupt { endpoint }, id, caps, out)
+    }
+}
+
+/// Appends an isochronous packet to the device with these data. For want of memory `out` stands.
+pub fn write_iso(
+    ep: EpAddr,
+    body: &[u8],
+    id: u64,
+    caps: Caps,
+    out: &mut Bytes,
+) -> Result<(), Memory>
+    requires few { length body.now ≤ 65535 }
+    requires id_fits { IdFits (wide_ids caps) id }
+    ensures ok { OnOk result (out.new ≡ out.old ++ host_packet_bytes caps (id, Carrying (data_packet.Iso ep 0 (length body.now) body.now))) }
+    ensures err { OnErr result (out.new ≡ out.old) }
+{
+    write_iso_out(ep.byte(), body, id, caps, out)
+}
+
+/// Appends the cancel of the packet that has this id. For want of memory `out` stands.
+pub fn write_cancel(id: u64, caps: Caps, out: &mut Bytes) -> Result<(), Memory>
+    requires { IdFits (wide_ids caps) id }
+    ensures ok { OnOk result (out.new ≡ out.old ++ host_packet_bytes caps (id, Plain Cancel)) }
+    ensures err { OnErr result (out.new ≡ out.old) }
+{
+    write_control(&RedirControl::Cancel, id, caps, out)
+}
+
+/// Appends the acknowledgement of the disconnect that has this id, which is sent where capability 3 is agreed. For want
+/// of memory `out` stands.
+pub fn write_disconnect_ack(id: u64, caps: Caps, out: &mut Bytes) -> Result<(), Memory>
+    requires agreed { has caps 3 ≡ true }
+    requires id_fits { IdFits (wide_ids caps) id }
+    ensures ok { OnOk result (out.new ≡ out.old ++ host_packet_bytes caps (id, Plain DisconnectAck)) }
+    ensures err { OnErr result (out.new ≡ out.old) }
+{
+    write_control(&RedirControl::DisconnectAck, id, caps, out)
+}
+
+/// Appends the gateway's hello: its name, and the capabilities that it announces. For want of memory `out` stands.
+pub fn write_hello(alloc: Global, out: &mut Bytes) -> Result<(), Memory>
+    ensures ok { OnOk result (out.new ≡ out.old ++ host_packet_bytes no_caps (0, gateway_hello)) }
+    ensures err { OnErr result (out.new ≡ out.old) }
+{
+    let mut words = Words::new(alloc);
+    words.push(ANNOUNCED)?;
+    let hello = Hello {
+        version: field(b"usbgate 1"),
+        words,
+    };
+    write_control(&RedirControl::Hello(hello), 0, Caps { bits: 0 }, out)
+}
+
+/// Appends the cancel of a transfer on the wire, and nothing for any other request.
+pub fn write_cancel_of(live: &Live, caps: Caps, to_host: &mut Bytes) -> Result<(), Memory>
+    requires { IdFits (wide_ids caps) live.now.id }
+    ensures ok { OnOk result (to_host.new ≡ to_host.old ++ cancel_bytes caps live.now) }
+    ensures err { OnErr result (to_host.new ≡ to_host.old) }
+    ensures wants { OnErr result (is_cancelled_row live.now ≡ true) }
+{
+    match (live.kind, live.unlinker) {
+        (LiveKind::Wire { .. }, None) => write_cancel(live.id, caps, to_host),
+        _ => Ok(()),
+    }
+}
+
+/// A disconnect is acknowledged where that is agreed.
+pub fn acknowledge(id: u64, caps: Caps, to_host: &mut Bytes) -> Result<(), Memory>
+    requires { IdFits (wide_ids caps) id }
+    ensures ok { OnOk result (to_host.new ≡ to_host.old ++ flat_map (host_packet_bytes caps) (acknowledgements caps (Disconnects id))) }
+    ensures err { OnErr result (to_host.new ≡ to_host.old) }
+    ensures wants { OnErr result (0 < length (acknowledgements caps (Disconnects id))) }
+{
+    if caps.has(DISCONNECT_ACK) {
+        write_disconnect_ack(id, caps, to_host)?;
+    }
+    Ok(())
+}

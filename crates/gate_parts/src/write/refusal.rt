@@ -1,0 +1,34 @@
+//! The refusals of both sides.
+
+ghost use Rattle.std.specs.Prelude.{◌≡◌, ℕ, None};
+ghost use Rattle.usb_base.specs.declared.side.Side.TheVariants.{Client, Host};
+ghost use Rattle.gate_history.specs.step.Items.{capped};
+ghost use Rattle.gate_history.specs.state.Sides.{refusal};
+
+use usb_base::{Reason, Refusal, Side};
+
+/// A client is refused at this place of its stream.
+pub fn client_refusal(place: u64, reason: Reason) -> Refusal
+    ensures value { (at : ℕ) → place ≡ capped at → result ≡ refusal Client at reason }
+    ensures side { result.side ≡ Client }
+{
+    Refusal {
+        side: Side::Client,
+        place,
+        reason,
+        kept: None,
+    }
+}
+
+/// The host is refused at this place of its stream.
+pub fn host_refusal(place: u64, reason: Reason) -> Refusal
+    ensures value { (at : ℕ) → place ≡ capped at → result ≡ refusal Host at reason }
+    ensures side { result.side ≡ Host }
+{
+    Refusal {
+        side: Side::Host,
+        place,
+        reason,
+        kept: None,
+    }
+}

@@ -1,0 +1,3 @@
+-- What the device does, and is.
+pub mod Columns
+pub mod Silent

@@ -1,0 +1,7 @@
+-- What the guest asks for.
+pub mod Arrivals
+pub mod Pieces
+pub mod PieceEnds
+pub mod Lines
+pub mod Queues
+pub mod Sound

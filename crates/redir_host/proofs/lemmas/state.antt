@@ -1,0 +1,4 @@
+-- What is kept.
+pub mod Sound
+pub mod Firsts
+pub mod Each

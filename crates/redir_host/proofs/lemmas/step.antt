@@ -1,0 +1,5 @@
+-- One item, one event, and all of them.
+pub mod Examples
+pub mod Acts
+pub mod Makes
+pub mod Stands

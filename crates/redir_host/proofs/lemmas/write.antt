@@ -1,0 +1,6 @@
+-- What is sent and told.
+pub mod Flushes
+pub mod Answers
+pub mod Facts
+pub mod Replies
+pub mod Readable

@@ -1,0 +1,60 @@
+-- What an offer of an endpoint's stream makes, and the end of the device.
+use Rattle.std.specs.Prelude.{ℕ, true, false, if◌then◌else◌, [], ◌∷◌, length, Option, Some, None}
+use Rattle.std.specs.List.{find}
+use Rattle.usb_base.specs.Status.{status_byte}
+use Rattle.usb_base.specs.declared.transfer.StreamPacket.{StreamPacket}
+use Rattle.redir_wire.specs.declared.packet.RedirControl.TheVariants as plain
+use Rattle.redir_data.specs.declared.packet.RedirData.TheVariants as moving
+use Rattle.redir_data.specs.declared.packet.RedirPacket.{RedirPacket}
+use Rattle.redir_data.specs.declared.packet.RedirPacket.TheVariants.{Plain, Carrying}
+use Rattle.model_device.specs.Meaning.{Meaning}
+use Rattle.redir_host.specs.declared.host.Host.{Host}
+use Rattle.redir_host.specs.declared.note.Offered.{Offered}
+use Rattle.redir_host.specs.declared.note.Offered.TheVariants.{Sent, Nothing, Closed, Unplugged}
+use Rattle.redir_host.specs.declared.running.Running.{Running}
+use Rattle.redir_host.specs.declared.running.StreamKind.{StreamKind}
+use Rattle.redir_host.specs.declared.running.StreamKind.TheVariants.{Iso, Interrupt}
+use Rattle.redir_host.specs.step.Moves.{Move, quiet, replies}
+use Rattle.redir_host.specs.guest.Packets.{runs_at}
+
+-- ---- offers
+
+-- a packet that the device sends by itself has id 0
+abbrev pub stream_packet : StreamKind → ℕ → StreamPacket → ℕ × RedirPacket
+stream_packet Iso ep p = (0, Carrying (moving.Iso ep (status_byte p.status) (length p.body) p.body))
+stream_packet Interrupt ep p = (0, Carrying (moving.Interrupt ep (status_byte p.status) (length p.body) p.body))
+
+abbrev pub offered_by : {S : Type 0} → Host S → ℕ → StreamKind → Option (S × StreamPacket) → Move S
+offered_by h ep k None = quiet h
+offered_by h ep k (Some sent) = replies (record h { gadget = sent.0 }) (stream_packet k ep sent.1)
+
+abbrev pub offered_on : {S : Type 0} → Meaning S → Host S → ℕ → Option Running → Move S
+offered_on m h ep None = quiet h
+offered_on m h ep (Some s) = offered_by h ep s.kind (m.offer h.gadget ep)
+
+-- a host that is unplugged runs no stream
+abbrev pub offer_move : {S : Type 0} → Meaning S → Host S → ℕ → Move S
+offer_move m h ep = if h.unplugged then quiet h else offered_on m h ep (find (runs_at ep) h.running)
+
+abbrev pub told_given : {A : Type 0} → Option A → Offered
+told_given None = Nothing
+told_given (Some sent) = Sent
+
+abbrev pub told_offered_by : {S : Type 0} → Meaning S → Host S → ℕ → Option Running → Offered
+told_offered_by m h ep None = Closed
+told_offered_by m h ep (Some s) = told_given (m.offer h.gadget ep)
+
+abbrev pub told_offered : {S : Type 0} → Meaning S → Host S → ℕ → Offered
+told_offered m h ep = if h.unplugged then Unplugged else told_offered_by m h ep (find (runs_at ep) h.running)
+
+-- ---- the end
+
+-- the guest is told, where it has sent its hello
+abbrev pub unplug_move : {S : Type 0} → Host S → Move S
+unplug_move h =
+    if h.unplugged then quiet h
+    else record {
+      host = record h { queue = []; resets_next = false; running = []; unplugged = true };
+      sent = if h.guest.first then [] else (0, Plain plain.Disconnect) ∷ [];
+      notes = [];
+    }

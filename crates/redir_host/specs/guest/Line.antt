@@ -1,0 +1,142 @@
+-- What a guest waits for, in line: its requests and its resets, in order of arrival. A reset is performed with the first
+-- request of endpoint 0 behind it. What a host keeps of its requests and of their marks is read off this line.
+use Rattle.std.specs.Prelude.{ℕ, ◌==◌, ◌&&◌, not, Bool, true, if◌then◌else◌, List, [], ◌∷◌, ◌++◌, filter, Option, Some, None}
+use Rattle.std.specs.List.{find}
+use Rattle.usb_base.specs.declared.endpoint.EpTable.{EpTable}
+use Rattle.usb_base.specs.declared.status.UsbStatus.{UsbStatus}
+use Rattle.usb_base.specs.declared.transfer.Outcome.{Outcome}
+use Rattle.usb_base.specs.declared.transfer.Transfer.{Transfer}
+use Rattle.redir_wire.specs.declared.packet.RedirControl.{RedirControl}
+use Rattle.redir_wire.specs.declared.packet.RedirControl.TheVariants as plain
+use Rattle.redir_data.specs.declared.packet.RedirPacket.{RedirPacket}
+use Rattle.redir_data.specs.declared.packet.RedirPacket.TheVariants.{Plain, Carrying}
+use Rattle.control_route.specs.declared.route.Route.{Route}
+use Rattle.control_route.specs.declared.route.Route.TheVariants as route
+use Rattle.model_device.specs.Device.{is_success}
+use Rattle.model_device.specs.Meaning.{Meaning}
+use Rattle.model_device.specs.Transfer.{is_control}
+use Rattle.redir_host.specs.declared.host.Host.{Host}
+use Rattle.redir_host.specs.declared.request.Asking.{Asking}
+use Rattle.redir_host.specs.declared.request.Asking.TheVariants.{Nothing, Refuses, Asks}
+use Rattle.redir_host.specs.declared.request.Form.{Form}
+use Rattle.redir_host.specs.declared.request.Form.TheVariants as form
+use Rattle.redir_host.specs.declared.request.Request.{Request}
+use Rattle.redir_host.specs.guest.Asking.{asking_of, routed}
+use Rattle.redir_host.specs.device.Changes.{change_of, is_touched}
+use Rattle.redir_host.specs.step.Items.{Item, Asked, Wrong, Performs, Offers, Unplugs}
+use Rattle.redir_host.specs.step.Machine.{run}
+use Rattle.redir_host.specs.step.Moves.{Move}
+use Rattle.redir_host.specs.guest.Packets.{request}
+use Rattle.redir_host.specs.device.Performing.{performs_any}
+use Rattle.redir_host.specs.state.Queues.{is_at, is_data, queue_of, without_first}
+
+pub data Waiting : Type 0 where
+  Reset : Waiting
+  Waits : (id : ℕ) → (form : Form) → (transfer : Transfer) → Waiting
+
+-- ---- what is read off it
+
+-- its requests; one of endpoint 0 is marked where a reset stands before it, behind the one of endpoint 0 before it
+abbrev pub queue_in : Bool → List Waiting → List Request
+queue_in reset [] = []
+queue_in reset (Reset ∷ line) = queue_in true line
+queue_in reset (Waits id f t ∷ line) = request (is_control t.ep && reset) id f t ∷ queue_in (not (is_control t.ep) && reset) line
+
+-- a reset stands behind all of endpoint 0
+abbrev pub reset_in : Bool → List Waiting → Bool
+reset_in reset [] = reset
+reset_in reset (Reset ∷ line) = reset_in true line
+reset_in reset (Waits id f t ∷ line) = reset_in (not (is_control t.ep) && reset) line
+
+-- ---- who leaves
+
+-- the first request that moves data and has this id is cancelled
+abbrev pub without_cancelled : ℕ → List Waiting → List Waiting
+without_cancelled id [] = []
+without_cancelled id (Reset ∷ line) = Reset ∷ without_cancelled id line
+without_cancelled id (Waits i f t ∷ line) = if is_data f && (i == id) then line else Waits i f t ∷ without_cancelled id line
+
+-- the first request of an endpoint is performed, that of endpoint 0 with the resets before it
+abbrev pub without_performed : ℕ → List Waiting → List Waiting
+without_performed ep [] = []
+without_performed ep (Reset ∷ line) = if is_control ep then without_performed ep line else Reset ∷ without_performed ep line
+without_performed ep (Waits i f t ∷ line) = if queue_of t.ep == queue_of ep then line else Waits i f t ∷ without_performed ep line
+
+-- a change flushes the requests of the endpoints that it touches, by the table before it
+abbrev pub stays_in : Route → EpTable → Waiting → Bool
+stays_in r table Reset = true
+stays_in r table (Waits i f t) = not (is_touched r table t.ep)
+
+abbrev pub flushed_in : List (Route × EpTable) → List Waiting → List Waiting
+flushed_in [] line = line
+flushed_in (c ∷ cs) line = flushed_in cs (filter (stays_in c.0 c.1) line)
+
+-- ---- the changes that the device carried out as it performed a request, with the tables before them
+
+abbrev pub changes_by : EpTable → Option Route → UsbStatus → List (Route × EpTable)
+changes_by table None status = []
+changes_by table (Some r) status = if is_success status then (r, table) ∷ [] else []
+
+abbrev pub changes_of : {S : Type 0} → Meaning S → S → Option Route → Option (S × Outcome) → List (Route × EpTable)
+changes_of m s r None = []
+changes_of m s r (Some done) = changes_by (m.table s) r done.1.status
+
+abbrev pub request_changes : {S : Type 0} → Meaning S → S → Request → List (Route × EpTable)
+request_changes m s q = changes_of m s (change_of q.form) (m.perform s q.transfer)
+
+-- the reset, and then the request
+abbrev pub reset_changes : {S : Type 0} → Meaning S → S → Request → Option (S × Outcome) → List (Route × EpTable)
+reset_changes m s q None = []
+reset_changes m s q (Some done) = changes_by (m.table s) (Some route.Reset) done.1.status ++ request_changes m done.0 q
+
+abbrev pub marked_changes : {S : Type 0} → Meaning S → S → Request → Form → List (Route × EpTable)
+marked_changes m s q form.GetConfiguration = changes_of m s (Some route.Reset) (m.perform s (routed route.Reset))
+marked_changes m s q _ = reset_changes m s q (m.perform s (routed route.Reset))
+
+abbrev pub all_changes : {S : Type 0} → Meaning S → S → Request → List (Route × EpTable)
+all_changes m s q = if q.reset then marked_changes m s q q.form else request_changes m s q
+
+-- ---- the line after an item that came to a host
+
+abbrev pub joined : List Waiting → ℕ → Form → Transfer → List Waiting
+joined line id f t = line ++ Waits id f t ∷ []
+
+abbrev pub data_line : List Waiting → ℕ → Asking → List Waiting
+data_line line id Nothing = line
+data_line line id (Refuses f ep) = line
+data_line line id (Asks f t) = joined line id f t
+
+abbrev pub plain_line : List Waiting → ℕ → RedirControl → List Waiting
+plain_line line id plain.Reset = line ++ Reset ∷ []
+plain_line line id (plain.SetConfiguration configuration) = joined line id (form.SetConfiguration configuration) (routed (route.SetConfig configuration))
+plain_line line id plain.GetConfiguration = joined line id form.GetConfiguration (routed route.GetConfig)
+plain_line line id (plain.SetAlt interface alt) = joined line id (form.SetAlt interface alt) (routed (route.SetAlt interface alt))
+plain_line line id (plain.GetAlt interface) = joined line id (form.GetAlt interface) (routed (route.GetAlt interface))
+plain_line line id plain.Cancel = without_cancelled id line
+plain_line line id _ = line
+
+abbrev pub packet_line : List Waiting → ℕ → RedirPacket → List Waiting
+packet_line line id (Plain p) = plain_line line id p
+packet_line line id (Carrying d) = data_line line id (asking_of d)
+
+-- the device did it, or wasn't ready for it
+abbrev pub line_if : {S : Type 0} → Option (Move S) → List Waiting → List Waiting → List Waiting
+line_if None before after = before
+line_if (Some v) before after = after
+
+abbrev pub line_first : {S : Type 0} → Meaning S → Host S → ℕ → List Waiting → Option Request → List Waiting
+line_first m h ep line None = line
+line_first m h ep line (Some q) = line_if (performs_any m (record h { queue = without_first (is_at ep) h.queue }) q) line (flushed_in (all_changes m h.gadget q) (without_performed ep line))
+
+-- an unplugged host has none, and takes none
+abbrev pub line_after : {S : Type 0} → Meaning S → Host S → Item → List Waiting → List Waiting
+line_after m h (Asked id p) line = if h.unplugged then line else packet_line line id p
+line_after m h (Wrong place reason) line = line
+line_after m h (Performs ep) line = if h.unplugged then line else line_first m h ep line (find (is_at ep) h.queue)
+line_after m h (Offers ep) line = line
+line_after m h Unplugs line = if h.unplugged then line else []
+
+-- lists of items have the latest first
+abbrev pub line : {S : Type 0} → Meaning S → S → List Item → List Waiting
+line m s [] = []
+line m s (x ∷ xs) = line_after m (run m s xs) x (line m s xs)

@@ -1,0 +1,45 @@
+-- What the packets of a piece make of a host, one after another.
+use Rattle.std.specs.Prelude.{◌≡◌, ℕ, List, ◌++◌, map, Result, Ok, Err}
+use Rattle.packet_stream.specs.Streams.{Kept as Stream, Follows}
+use Rattle.packet_stream.specs.declared.read.ReadError.{ReadError}
+use Rattle.packet_stream.specs.declared.read.ReadError.TheVariants.{Refused, Memory}
+use Rattle.redir_wire.specs.declared.packet.Header.{Header}
+use Rattle.redir_data.specs.declared.packet.RedirPacket.{RedirPacket}
+use Rattle.redir_data.specs.declared.state.RedirState.{RedirState}
+use Rattle.redir_data.specs.Streams.{start}
+use Rattle.model_device.specs.Meaning.{Meaning}
+use Rattle.redir_host.specs.declared.host.Host.{Host}
+use Rattle.redir_host.specs.declared.note.HostNote.{HostNote}
+use Rattle.redir_host.specs.guest.Guest.{guest_reader, guest_start, asked}
+use Rattle.redir_host.specs.step.Machine.{bytes_of, notes_of, steps, given_by}
+use Rattle.redir_host.specs.write.Readable.{AreRead}
+use Rattle.redir_host.specs.state.Sound.{IsSound}
+use Rattle.redir_host.specs.step.Stands.{told_state}
+
+-- these packets of the stream were given, and the host reads as they tell
+pub record IsGiven (kept : Stream RedirState) (guest : RedirState) (bytes : List ℕ) (given : List (ℕ × (Header × RedirPacket))) : Type 0 where
+  pub follows : Follows guest_reader guest_start kept bytes given
+  pub state : guest ≡ told_state start given
+
+abbrev pub HasRead : Stream RedirState → RedirState → Type 0
+HasRead kept guest = (bytes : List ℕ) × ((given : List (ℕ × (Header × RedirPacket))) × IsGiven kept guest bytes given)
+
+-- the host has taken these packets
+pub record Took {S : Type 0} (m : Meaning S) (old new : Host S) (old_notes new_notes : List HostNote) (more : List (ℕ × (Header × RedirPacket))) : Type 0 where
+  pub host : new ≡ steps m old (map asked more)
+  pub sound : IsSound new
+  pub state : new.guest ≡ told_state old.guest more
+  -- where its guest could read all that was sent, it still can
+  pub reads : (sent : List (ℕ × RedirPacket)) → AreRead old.guest sent → AreRead new.guest (sent ++ given_by (λ v. v.sent) m old (map asked more))
+  pub told : new_notes ≡ old_notes ++ given_by notes_of m old (map asked more)
+
+-- unless memory ran out
+abbrev pub OnRead : {T : Type 0} → Result T ReadError → Type 0 → Type 0
+OnRead (Ok v) P = P
+OnRead (Err (Refused place reason)) P = P
+OnRead (Err Memory) P = Unit {0}
+
+-- the host was given these packets, and what they send was sent
+pub record TookPackets {T S : Type 0} (result : Result T ReadError) (m : Meaning S) (old new : Host S) (old_out new_out : List ℕ) (old_notes new_notes : List HostNote) (more : List (ℕ × (Header × RedirPacket))) : Type 0 where
+  pub sent : new_out ≡ old_out ++ given_by bytes_of m old (map asked more)
+  pub took : OnRead result (Took m old new old_notes new_notes more)

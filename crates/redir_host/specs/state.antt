@@ -1,0 +1,4 @@
+-- What is kept.
+pub mod Kept
+pub mod Queues
+pub mod Sound

@@ -1,0 +1,30 @@
+-- The history of a host: the items that its acts bring, in the order in which packets become whole.
+use Rattle.std.specs.Prelude.{List, [], ◌∷◌, ◌++◌}
+use Rattle.redir_host.specs.step.Acts.{Act, Piece, Perform, Offer, Unplug, guest_bytes}
+use Rattle.redir_host.specs.step.Items.{Item, Asked, Wrong, Performs, Offers, Unplugs}
+use Rattle.redir_host.specs.guest.Guest.{added}
+
+abbrev pub brought : List Act → Act → List Item
+brought acts (Piece b) = added (guest_bytes acts) b
+brought acts (Perform ep) = Performs ep ∷ []
+brought acts (Offer ep) = Offers ep ∷ []
+brought acts Unplug = Unplugs ∷ []
+
+-- items that came one after another, put on those before them
+abbrev pub onto : List Item → List Item → List Item
+onto [] before = before
+onto (x ∷ xs) before = onto xs (x ∷ before)
+
+-- all that came, the latest first
+abbrev pub history : List Act → List Item
+history [] = []
+history (a ∷ acts) = onto (brought acts a) (history acts)
+
+-- what the guest brought, the earliest first
+abbrev pub of_guest : List Item → List Item
+of_guest [] = []
+of_guest (Asked id packet ∷ xs) = of_guest xs ++ Asked id packet ∷ []
+of_guest (Wrong place reason ∷ xs) = of_guest xs ++ Wrong place reason ∷ []
+of_guest (Performs ep ∷ xs) = of_guest xs
+of_guest (Offers ep ∷ xs) = of_guest xs
+of_guest (Unplugs ∷ xs) = of_guest xs

@@ -1,0 +1,9 @@
+pub mod CommandLine
+pub mod Serving
+pub mod Lending
+pub mod Words
+pub mod Recording
+pub mod Serves
+pub mod Logs
+pub mod Interval
+pub mod inner

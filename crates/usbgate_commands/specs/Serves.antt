@@ -1,0 +1,95 @@
+-- What a run of `serve` or `host` leaves, and how it ends.
+use Rattle.std.specs.Prelude.{◌≡◌, ◌⊎◌, ℕ, List, Option, Some, None, IfSome}
+use Rattle.bridge_run.specs.declared.serve_end.ServeEnd.{ServeEnd}
+use Rattle.bridge_run.specs.declared.serve_end.ServeEnd.TheVariants as end
+use Rattle.bridge_run.specs.Course.{Setting, Course, Next, Making, AtDoor}
+use Rattle.bridge_run.specs.Calls.{Goes}
+use Rattle.bridge_run.specs.Gate.{gate_sends}
+use Rattle.bridge_run.specs.Lent.{lent_sends}
+use Rattle.session_tape.specs.Tapes.{counts}
+use Rattle.session_tape.specs.Lines.{first_comment}
+use Rattle.bridge_run.specs.Outside.{Outside, Written, Faults, written, faults, Tells, HasCause, HasReason}
+use Rattle.bridge_run.specs.Prescribed.{Prescribed as Sends}
+use Rattle.bridge_run.specs.Serves.{Begins, Leaves}
+use Rattle.model_device.specs.Device.{first_state, meaning_of}
+use Rattle.model_device.specs.Keyboard.{keyboard}
+use Rattle.model_device.specs.Loopback.{loopback}
+use Rattle.model_device.specs.Tone.{tone}
+use Rattle.disk_gadget.specs.DiskStep.{disk, first_disk}
+use Rattle.usbgate_tapes.specs.declared.device.Device.{Device}
+use Rattle.usbgate_tapes.specs.declared.device.Device.TheVariants.{Keyboard, Loopback, Tone, Disk}
+use Rattle.usbgate_tapes.specs.declared.status.Status.{Status}
+use Rattle.usbgate_tapes.specs.declared.status.Status.TheVariants.{Done, Refused, WriteFault, LinkFault, OutOfMemory, Idle, Spent}
+use Rattle.usbgate_commands.specs.Serving.{Asked}
+use Rattle.usbgate_commands.specs.Lending.{AskedLent}
+use Rattle.usbgate_commands.specs.Recording.{IsUnmade}
+
+-- so many bytes and clients may come: 2 ^ 62
+abbrev pub budget : ℕ
+budget = 4611686018427387904
+
+-- the gateway between sockets
+abbrev pub setting_of : Asked → Setting
+setting_of asked = record { served = gate_sends asked.after_loss asked.first_id; idle = asked.idle }
+
+-- a modelled device, which begins as it was plugged in
+abbrev pub device_sends : Device → Sends
+device_sends Keyboard = lent_sends (meaning_of keyboard) (first_state keyboard)
+device_sends Loopback = lent_sends (meaning_of loopback) (first_state loopback)
+device_sends Tone = lent_sends (meaning_of tone) (first_state tone)
+device_sends Disk = lent_sends disk (first_disk 64)
+
+abbrev pub setting_lent : AskedLent → Setting
+setting_lent asked = record { served = device_sends asked.device; idle = asked.idle }
+
+abbrev pub ended_as : ServeEnd → Status
+ended_as (end.Ended None) = Done
+ended_as (end.Ended (Some refusal)) = Refused
+ended_as (end.LinkFault side) = LinkFault side
+ended_as end.WriteFault = WriteFault
+ended_as end.Idle = Idle
+ended_as end.Spent = Spent
+ended_as end.Memory = OutOfMemory
+
+-- it ends with the status of its end, which has its cause and its reason; and over doors and a sink that tell, and a tape that may,
+-- these are left as that end leaves them
+pub record EndsOf (setting : Setting) (first : Next) (status : Status) (old new : Outside) (faults_old faults_new : Faults) (written_old written_new : Written) : Type 0 where
+  pub end : ServeEnd
+  pub status-is : status ≡ ended_as end
+  pub cause : HasCause end old new faults_old faults_new
+  pub reason : HasReason end setting.idle old new
+  pub leaves : (c : Course) → Begins setting.idle budget c → Tells old written_old c → Leaves end setting (Goes first c) new written_new
+
+-- ---- serving, where the host is dialled first
+
+-- nothing was done, since no file was made, or its first line wasn't written
+pub record IsUnrecorded (status : Status) (old new : Outside) (faults_old faults_new : Faults) (written_old written_new : Written) : Type 0 where
+  pub outside-is : new ≡ old
+  pub sink : faults_new.sink ≡ faults_old.sink
+  pub told : written_new.told ≡ written_old.told
+  pub cause : IsUnmade status faults_old.tape faults_new.tape
+
+-- behind the first line, where the tape tells its bytes
+pub record IsRecorded (asked : Asked) (status : Status) (old new : Outside) (faults_old faults_new : Faults) (written_old written_new : Written) : Type 0 where
+  pub known : Option (List ℕ)
+  pub first_line : IfSome known (λ held. held ≡ first_comment asked.first_id)
+  pub ends : EndsOf (setting_of asked) Making status old new faults_old faults_new (written written_old.told known) written_new
+
+-- with no tape the outside's one is as it was
+pub record HasNoTape (asked : Asked) (status : Status) (old new : Outside) (faults_old faults_new : Faults) (written_old written_new : Written) : Type 0 where
+  pub tape-is : written_new.tape ≡ written_old.tape
+  pub counts-are : faults_new.tape ≡ faults_old.tape
+  pub ends : EndsOf (setting_of asked) Making status old new (faults faults_old.sink (counts 0 0)) (faults faults_new.sink (counts 0 0)) (written written_old.told None) (written written_new.told None)
+
+abbrev pub ServesBy : Option (List ℕ) → Asked → Status → (old new : Outside) → (faults_old faults_new : Faults) → (written_old written_new : Written) → Type 0
+ServesBy None asked status old new faults_old faults_new written_old written_new = HasNoTape asked status old new faults_old faults_new written_old written_new
+ServesBy (Some name) asked status old new faults_old faults_new written_old written_new =
+    IsUnrecorded status old new faults_old faults_new written_old written_new ⊎ IsRecorded asked status old new faults_old faults_new written_old written_new
+
+abbrev pub Serves : Status → Asked → (old new : Outside) → (faults_old faults_new : Faults) → (written_old written_new : Written) → Type 0
+Serves status asked old new faults_old faults_new written_old written_new = ServesBy asked.recording asked status old new faults_old faults_new written_old written_new
+
+-- the guest is asked for first
+abbrev pub Lends : Status → AskedLent → (old new : Outside) → (faults_old faults_new : ℕ) → (contents_old contents_new : Option (List ℕ)) → Type 0
+Lends status asked old new faults_old faults_new contents_old contents_new =
+    EndsOf (setting_lent asked) AtDoor status old new (faults faults_old (counts 0 0)) (faults faults_new (counts 0 0)) (written contents_old None) (written contents_new None)

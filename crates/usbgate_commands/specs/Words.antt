@@ -1,0 +1,135 @@
+-- What the words ask for.
+use Rattle.std.specs.Prelude.{ℕ, nat_le, ◌≤◌, ◌<◌, ◌^◌, not, Bool, true, if◌then◌else◌, List, [], ◌∷◌, map, codes, find, Option, Some, None, is_some, option_map, option_and_then}
+use Rattle.std.specs.Borrow.{Bor}
+use Rattle.std.specs.List.{list_all}
+use Rattle.std.specs.Str.{bytes_eq}
+use Rattle.clap.specs.Words.{Row as Found, Text, first_of}
+use Rattle.packet_show.specs.Number.{number_of}
+use Rattle.usb_base.specs.declared.side.Side.{Side}
+use Rattle.usb_base.specs.declared.side.Side.TheVariants.{Client, Host}
+use Rattle.usbgate_commands.specs.declared.words.Command.{Command}
+use Rattle.usbgate_commands.specs.declared.words.Command.TheVariants.{Replay, Model, Show, Serve, Host as HostLent, Make, Load, Unknown}
+use Rattle.usbgate_commands.specs.declared.command_table.Need.{Need}
+use Rattle.usbgate_commands.specs.declared.command_table.Need.TheVariants.{Must, May, MustNot}
+use Rattle.usbgate_commands.specs.declared.command_table.Verb.{Verb}
+use Rattle.usbgate_commands.specs.declared.command_table.Verb.TheVariants as verb
+use Rattle.usbgate_commands.specs.declared.command_table.Row.{Row}
+use Rattle.usbgate_commands.specs.declared.command_table.TheConstants.{ROWS}
+use Rattle.usbgate_commands.specs.CommandLine.{found}
+use Rattle.usbgate_tapes.specs.declared.device.Device.{Device}
+use Rattle.usbgate_tapes.specs.Device.{device_of}
+use Rattle.bridge_run.specs.declared.after_loss.AfterLoss.{AfterLoss}
+use Rattle.bridge_run.specs.declared.after_loss.AfterLoss.TheVariants.{Keep, Close}
+use Rattle.usbgate_commands.specs.Serving.{Asked}
+use Rattle.usbgate_commands.specs.Lending.{AskedLent}
+
+-- the words as texts
+abbrev pub texts : List (Bor (List ℕ)) → List (List ℕ)
+texts words = map (λ (word : Bor (List ℕ)). word.now) words
+
+-- ---- a command's row is met
+
+abbrev pub admits : Need → Bool → Bool
+admits Must given = given
+admits May given = true
+admits MustNot given = not given
+
+-- the value that the words give an argument
+abbrev pub given_by : List Found → Text → Option Text
+given_by rows name = first_of name rows
+
+abbrev pub is_met : Row → (Text → Option Text) → Bool
+is_met row given =
+    list_all (λ (word : Need × Option Text). admits word.0 (is_some word.1))
+    ((row.number, given (codes "number"))
+    ∷ (row.device, given (codes "device"))
+    ∷ (row.side, given (codes "side"))
+    ∷ (row.host, given (codes "host"))
+    ∷ (row.listen, given (codes "listen"))
+    ∷ (row.idle, given (codes "idle"))
+    ∷ (row.first_id, given (codes "first-id"))
+    ∷ (row.after_loss, given (codes "after-loss"))
+    ∷ (row.recording, given (codes "record"))
+    ∷ [])
+
+abbrev pub name_of : Verb → Text
+name_of verb.Replay = codes "replay"
+name_of verb.Model = codes "model"
+name_of verb.Show = codes "show"
+name_of verb.Serve = codes "serve"
+name_of verb.Host = codes "host"
+name_of verb.Make = codes "make"
+name_of verb.Load = codes "load"
+
+abbrev pub row_named : Text → Option Row
+row_named name = find (λ row. bytes_eq (name_of row.verb) name) ROWS
+
+-- ---- what the values say
+
+-- without it the first id is 1
+abbrev pub first_id_of : Option Text → Option ℕ
+first_id_of None = Some 1
+first_id_of (Some text) = number_of text
+
+-- without it the client is kept
+abbrev pub after_loss_of : Option Text → Option AfterLoss
+after_loss_of None = Some Keep
+after_loss_of (Some text) = if bytes_eq text (codes "keep") then Some Keep else if bytes_eq text (codes "close") then Some Close else None
+
+abbrev pub side_of : Text → Option Side
+side_of text = if bytes_eq text (codes "client") then Some Client else if bytes_eq text (codes "host") then Some Host else None
+
+abbrev pub serving_of : (host listen : Option Text) → (idle first_id : Option ℕ) → Option AfterLoss → (recording : Option Text) → Option Asked
+serving_of (Some host) (Some listen) (Some idle) (Some first_id) (Some after_loss) recording =
+    Some (record { host = host; listen = listen; idle = idle; first_id = first_id; after_loss = after_loss; recording = recording })
+serving_of _ _ _ _ _ recording = None
+
+abbrev pub lending_of : Option Device → (listen : Option Text) → (idle : Option ℕ) → Option AskedLent
+lending_of (Some device) (Some listen) (Some idle) = Some (record { device = device; listen = listen; idle = idle })
+lending_of _ _ _ = None
+
+-- how many rounds a made tape has, 1,000 at most
+abbrev pub few_of : Option ℕ → Option ℕ
+few_of None = None
+few_of (Some n) = if nat_le n 1000 then Some n else None
+
+abbrev pub count_of : Option Text → Option ℕ
+count_of text = few_of (option_and_then number_of text)
+
+abbrev pub asked_by : Verb → (Text → Option Text) → Option Command
+asked_by verb.Replay given = option_map Replay (first_id_of (given (codes "first-id")))
+asked_by verb.Model given = option_map Model (option_and_then device_of (given (codes "device")))
+asked_by verb.Show given = option_map Show (option_and_then side_of (given (codes "side")))
+asked_by verb.Serve given = option_map Serve (serving_of (given (codes "host")) (given (codes "listen")) (option_and_then number_of (given (codes "idle"))) (first_id_of (given (codes "first-id"))) (after_loss_of (given (codes "after-loss"))) (given (codes "record")))
+asked_by verb.Host given = option_map HostLent (lending_of (option_and_then device_of (given (codes "device"))) (given (codes "listen")) (option_and_then number_of (given (codes "idle"))))
+asked_by verb.Make given = option_map Make (count_of (given (codes "number")))
+asked_by verb.Load given = option_map Load (count_of (given (codes "number")))
+
+abbrev pub by_row : Option Row → (Text → Option Text) → Option Command
+by_row None given = None
+by_row (Some row) given = if is_met row given then asked_by row.verb given else None
+
+abbrev pub command_in : (Text → Option Text) → Option Command
+command_in given = by_row (option_and_then row_named (given (codes "command"))) given
+
+abbrev pub or_unknown : Option Command → Command
+or_unknown None = Unknown
+or_unknown (Some command) = command
+
+abbrev pub command_by : Option (List Found) → Command
+command_by None = Unknown
+command_by (Some rows) = or_unknown (command_in (given_by rows))
+
+abbrev pub command_of : List Text → Command
+command_of words = command_by (found words)
+
+-- its numbers are from 1 to 4294967295, and those of made tapes at most 1,000
+abbrev pub HasNumbers : Command → Type 0
+HasNumbers (Replay first) = (1 ≤ first) × (first < 2 ^ 32)
+HasNumbers (Model device) = Unit {0}
+HasNumbers (Show side) = Unit {0}
+HasNumbers (Serve asked) = (1 ≤ asked.idle) × ((1 ≤ asked.first_id) × (asked.first_id < 2 ^ 32))
+HasNumbers (HostLent asked) = 1 ≤ asked.idle
+HasNumbers (Make count) = count ≤ 1000
+HasNumbers (Load count) = count ≤ 1000
+HasNumbers Unknown = Unit {0}

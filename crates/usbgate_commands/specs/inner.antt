@@ -1,0 +1,2 @@
+-- What the code keeps, tied to the definitions.
+pub mod Given

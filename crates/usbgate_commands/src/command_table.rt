@@ -1,0 +1,187 @@
+//! The commands, and which words stand with each.
+
+ghost use Rattle.std.specs.Prelude.{◌≡◌, ℕ, List, Option};
+ghost use Rattle.usbgate_commands.specs.Words.{admits, is_met, name_of, row_named};
+ghost use Rattle.usbgate_commands.specs.inner.Given.{IsGiven};
+
+use crate::given::Given;
+
+/// Whether a word stands with a command.
+#[derive(Clone, Copy, PartialEq, Eq)]
+pub enum Need {
+    Must,
+    May,
+    MustNot,
+}
+
+/// What a command does.
+#[derive(Clone, Copy, PartialEq, Eq)]
+pub enum Verb {
+    Replay,
+    Model,
+    Show,
+    Serve,
+    Host,
+    Make,
+    Load,
+}
+
+/// A command, and which words stand with it.
+#[derive(Clone, Copy)]
+pub struct Row {
+    pub verb: Verb,
+    pub number: Need,
+    pub device: Need,
+    pub side: Need,
+    pub host: Need,
+    pub listen: Need,
+    pub idle: Need,
+    pub first_id: Need,
+    pub after_loss: Need,
+    pub recording: Need,
+}
+
+/// The commands that are built.
+pub const ROWS: [Row; 7] = [
+    Row {
+        verb: Verb::Replay,
+        number: Need::MustNot,
+        device: Need::MustNot,
+        side: Need::MustNot,
+        host: Need::MustNot,
+        listen: Need::MustNot,
+        idle: Need::MustNot,
+        first_id: Need::May,
+        after_loss: Need::MustNot,
+        recording: Need::MustNot,
+    },
+    Row {
+        verb: Verb::Model,
+        number: Need::MustNot,
+        device: Need::Must,
+        side: Need::MustNot,
+        host: Need::MustNot,
+        listen: Need::MustNot,
+        idle: Need::MustNot,
+        first_id: Need::MustNot,
+        after_loss: Need::MustNot,
+        recording: Need::MustNot,
+    },
+    Row {
+        verb: Verb::Show,
+        number: Need::MustNot,
+        device: Need::MustNot,
+        side: Need::Must,
+        host: Need::MustNot,
+        listen: Need::MustNot,
+        idle: Need::MustNot,
+        first_id: Need::MustNot,
+        after_loss: Need::MustNot,
+        recording: Need::MustNot,
+    },
+    Row {
+        verb: Verb::Serve,
+        number: Need::MustNot,
+        device: Need::MustNot,
+        side: Need::MustNot,
+        host: Need::Must,
+        listen: Need::Must,
+        idle: Need::Must,
+        first_id: Need::May,
+        after_loss: Need::May,
+        recording: Need::May,
+    },
+    Row {
+        verb: Verb::Host,
+        number: Need::MustNot,
+        device: Need::Must,
+        side: Need::MustNot,
+        host: Need::MustNot,
+        listen: Need::Must,
+        idle: Need::Must,
+        first_id: Need::MustNot,
+        after_loss: Need::MustNot,
+        recording: Need::MustNot,
+    },
+    Row {
+        verb: Verb::Make,
+        number: Need::Must,
+        device: Need::MustNot,
+        side: Need::MustNot,
+        host: Need::MustNot,
+        listen: Need::MustNot,
+        idle: Need::MustNot,
+        first_id: Need::MustNot,
+        after_loss: Need::MustNot,
+        recording: Need::MustNot,
+    },
+    Row {
+        verb: Verb::Load,
+        number: Need::Must,
+        device: Need::MustNot,
+        side: Need::MustNot,
+        host: Need::MustNot,
+        listen: Need::MustNot,
+        idle: Need::MustNot,
+        first_id: Need::MustNot,
+        after_loss: Need::MustNot,
+        recording: Need::MustNot,
+    },
+];
+
+impl Need {
+    /// Whether a word may be given, or may be missing.
+    fn admits(self, is_given: bool) -> bool
+        ensures { result ≡ admits self is_given }
+    {
+        match self {
+            Need::Must => is_given,
+            Need::May => true,
+            Need::MustNot => !is_given,
+        }
+    }
+}
+
+impl Verb {
+    /// The command's name.
+    fn name(self) -> &'static str
+        ensures { result.now ≡ name_of self }
+    {
+        match self {
+            Verb::Replay => "replay",
+            Verb::Model => "model",
+            Verb::Show => "show",
+            Verb::Serve => "serve",
+            Verb::Host => "host",
+            Verb::Make => "make",
+            Verb::Load => "load",
+        }
+    }
+}
+
+impl Row {
+    /// The row of the command with this name.
+    pub fn named(name: &str) -> Option<Row>
+        ensures { result ≡ row_named name.now }
+    {
+        ROWS.iter().find(|row| row.verb.name() == name).copied()
+    }
+
+    /// Whether just those words are given that stand with the command.
+    pub fn is_met(&self, given: &Given<'_>) -> bool
+        ensures { (words : List ℕ → Option (List ℕ)) → IsGiven given.now words → result ≡ is_met self.now words }
+    {
+        let words = [
+            (self.number, given.number),
+            (self.device, given.device),
+            (self.side, given.side),
+            (self.host, given.host),
+            (self.listen, given.listen),
+            (self.idle, given.idle),
+            (self.first_id, given.first_id),
+            (self.after_loss, given.after_loss),
+            (self.recording, given.recording),
+        ];
+        words.iter().all(|(need, word)| need.admits(word.is_some()))
+    }
+}

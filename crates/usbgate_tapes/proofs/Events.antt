@@ -1,0 +1,156 @@
+-- What an event adds to a replay's text, and to what it keeps.
+use Rattle.std.proofs.Common.{◌≡◌, ℕ, Bool, true, false, ◌||◌, ◌&&◌, not, List, [], ◌∷◌, ◌++◌, length, drop, map, filter, Option, Some, None, is_some, refl, sym, ap, ◌∙◌}
+use Rattle.std.specs.List.{list_any}
+use Rattle.std.proofs.Math.Bool.{or-false}
+use Rattle.std.proofs.lemmas.List.{drop_at}
+use Rattle.std.proofs.lemmas.List.Folds.{list_any-append}
+use Rattle.usb_base.specs.declared.refusal.Refusal.{Refusal}
+use Rattle.gate_history.specs.declared.note.Note.{Note}
+use Rattle.gate_history.specs.declared.note.Note.TheVariants as note
+use Rattle.gate_history.specs.step.Events.{Event}
+use Rattle.gate_history.specs.step.Marks.{Submission, Effect, Idle, Replies, Imports, Opens, Waits, Arrives, Unlinks, Agrees, Answers, StreamTold, Disconnects, Ends, Refuses, Mark}
+use Rattle.gate_history.specs.state.Sides.{refused_at, leaves, is_loss}
+use Rattle.gate_history.specs.client.Submits.{Pending, opened, ends}
+use Rattle.gate_history.specs.state.State.{State, state_of}
+use Rattle.gate_history.specs.step.History.{history}
+use Rattle.gate_history.specs.write.Notes.{is_by_answer, when, import_notes, submit_notes, unlink_notes, arrival_notes, answer_notes, refusal_notes, notes_of}
+use Rattle.gate_history.specs.write.Output.{present}
+use Rattle.gate_history.specs.write.Bytes.{out_client, out_host}
+use Rattle.gate_history.specs.Headline.{Gains}
+use Rattle.gate_core.specs.step.Stands.{Takes}
+use Rattle.usbgate_tapes.specs.declared.replay.Replay.{Replay}
+use Rattle.usbgate_tapes.specs.Text.{told_notes, gained, sent_text}
+use Rattle.usbgate_tapes.specs.Replay.{has_refusal}
+use Rattle.usbgate_tapes.specs.inner.Replay.{is_refusal, HasSeen, Sees}
+
+-- ---- a side was refused where a note tells it
+
+-- none of these notes does
+abbrev IsQuiet : List Note → Type 0
+IsQuiet notes = list_any is_refusal notes ≡ false
+
+quiet-then : (xs ys : List Note) → IsQuiet xs → list_any is_refusal (xs ++ ys) ≡ list_any is_refusal ys
+quiet-then xs ys quiet = list_any-append is_refusal xs ys ∙ ap (λ (b : Bool). b || list_any is_refusal ys) quiet
+
+quiet-three : (xs ys zs : List Note) → IsQuiet xs → IsQuiet ys → IsQuiet zs → IsQuiet (xs ++ ys ++ zs)
+quiet-three xs ys zs p q r = quiet-then (xs ++ ys) zs (quiet-then xs ys p ∙ q) ∙ r
+
+quiet-when : (b : Bool) (n : Note) → is_refusal n ≡ false → IsQuiet (when b n)
+quiet-when true n quiet = ap (λ (t : Bool). t || false) quiet
+quiet-when false n quiet = refl
+
+quiet-import : (e : Effect) → IsQuiet (import_notes e)
+quiet-import (Imports reply) = refl
+quiet-import Idle = refl
+quiet-import (Replies reply) = refl
+quiet-import (Opens s) = refl
+quiet-import (Waits s fill) = refl
+quiet-import (Arrives ep fill) = refl
+quiet-import (StreamTold id ep status) = refl
+quiet-import (Unlinks by target) = refl
+quiet-import (Agrees caps) = refl
+quiet-import (Answers id outcome) = refl
+quiet-import (Disconnects id) = refl
+quiet-import (Ends side) = refl
+quiet-import (Refuses r) = refl
+
+quiet-submit : (ss : List Submission) → IsQuiet (map (λ s. note.Submitted s.request.number s.id) ss)
+quiet-submit [] = refl
+quiet-submit (s ∷ ss) = quiet-submit ss
+
+quiet-unlink : (e : Effect) → IsQuiet (unlink_notes e)
+quiet-unlink (Unlinks by target) = refl
+quiet-unlink Idle = refl
+quiet-unlink (Replies reply) = refl
+quiet-unlink (Imports reply) = refl
+quiet-unlink (Opens s) = refl
+quiet-unlink (Waits s fill) = refl
+quiet-unlink (Arrives ep fill) = refl
+quiet-unlink (StreamTold id ep status) = refl
+quiet-unlink (Agrees caps) = refl
+quiet-unlink (Answers id outcome) = refl
+quiet-unlink (Disconnects id) = refl
+quiet-unlink (Ends side) = refl
+quiet-unlink (Refuses r) = refl
+
+quiet-arrival : (e : Effect) → IsQuiet (arrival_notes e)
+quiet-arrival (Arrives ep fill) = refl
+quiet-arrival Idle = refl
+quiet-arrival (Replies reply) = refl
+quiet-arrival (Imports reply) = refl
+quiet-arrival (Opens s) = refl
+quiet-arrival (Waits s fill) = refl
+quiet-arrival (Unlinks by target) = refl
+quiet-arrival (StreamTold id ep status) = refl
+quiet-arrival (Agrees caps) = refl
+quiet-arrival (Answers id outcome) = refl
+quiet-arrival (Disconnects id) = refl
+quiet-arrival (Ends side) = refl
+quiet-arrival (Refuses r) = refl
+
+quiet-answer : (ps : List Pending) → IsQuiet (map (λ p. note.Answered p.submit.request.number) ps)
+quiet-answer [] = refl
+quiet-answer (p ∷ ps) = quiet-answer ps
+
+told-refusal : (r : Option Refusal) → list_any is_refusal (refusal_notes r) ≡ is_some r
+told-refusal None = refl
+told-refusal (Some r) = refl
+
+told-mark : (st : State) (m : Mark) → list_any is_refusal (notes_of st m) ≡ is_some (refused_at m.what)
+told-mark st m =
+    let by_client = import_notes m.what ++ submit_notes m.what ++ unlink_notes m.what in
+    let came = by_client ++ arrival_notes m.what in
+    let gone = when (is_loss m.what && st.imported && not st.lost) note.DeviceGone in
+    let left = when (leaves m.what && not st.client_over) note.ClientGone in
+    let first_three : IsQuiet by_client =
+    quiet-three (import_notes m.what) (submit_notes m.what) (unlink_notes m.what) (quiet-import m.what) (quiet-submit (opened m.what)) (quiet-unlink m.what) in
+    let first_four : IsQuiet came = quiet-then by_client (arrival_notes m.what) first_three ∙ quiet-arrival m.what in
+    let next_three : IsQuiet (came ++ answer_notes st m.what ++ gone) =
+    quiet-three came (answer_notes st m.what) gone first_four (quiet-answer (filter (λ p. is_by_answer (ends m.what p.submit)) (present st m.what))) (quiet-when (is_loss m.what && st.imported && not st.lost) note.DeviceGone refl) in
+    let all_seven : IsQuiet (came ++ answer_notes st m.what ++ gone ++ left) =
+    quiet-then (came ++ answer_notes st m.what ++ gone) left next_three ∙ quiet-when (leaves m.what && not st.client_over) note.ClientGone refl in
+    quiet-then (came ++ answer_notes st m.what ++ gone ++ left) (refusal_notes (refused_at m.what)) all_seven ∙ told-refusal (refused_at m.what)
+
+or-comm : (a b : Bool) → (a || b) ≡ (b || a)
+or-comm true true = refl
+or-comm true false = refl
+or-comm false b = sym (or-false b)
+
+told-past : (first : ℕ) (ms : List Mark) → list_any is_refusal (told_notes first ms) ≡ has_refusal ms
+told-past first [] = refl
+told-past first (m ∷ ms) =
+    list_any-append is_refusal (told_notes first ms) (notes_of (state_of first ms) m) ∙ ap (λ (b : Bool). b || list_any is_refusal (notes_of (state_of first ms) m)) (told-past first ms)
+    ∙ ap (λ (b : Bool). has_refusal ms || b) (told-mark (state_of first ms) m) ∙ or-comm (has_refusal ms) (is_some (refused_at m.what))
+
+-- with the notes that an event told
+pub refused-more : (first : ℕ) (before after : List Mark) (notes : List Note) → told_notes first after ≡ told_notes first before ++ notes → (has_refusal before || list_any is_refusal notes) ≡ has_refusal after
+refused-more first before after notes told =
+    ap (λ (b : Bool). b || list_any is_refusal notes) (sym (told-past first before)) ∙ sym (list_any-append is_refusal (told_notes first before) notes) ∙ ap (list_any is_refusal) (sym told) ∙ told-past first after
+
+-- ---- what is printed
+
+-- what an empty buffer gained is what the output gained
+more-is : (old new before after more : List ℕ) → old ≡ [] → new ≡ old ++ more → after ≡ before ++ more → new ≡ drop (length before) after
+more-is old new before after more none new_is after_is = new_is ∙ ap (λ (l : List ℕ). l ++ more) none ∙ sym (drop_at before more (length before) refl) ∙ ap (drop (length before)) (sym after_is)
+
+gains-is : (old new before after : List ℕ) → old ≡ [] → Gains old new before after → new ≡ drop (length before) after
+gains-is old new before after none g = more-is old new before after _ none g.new-is g.after-is
+
+pub sees : (first : ℕ) (old new : Replay) (events : List Event) (e : Event) (client host text_old text_new : List ℕ) (notes : List Note) → HasSeen first old events
+    → Takes first new.gate events e old.to_client client old.to_host host notes → text_new ≡ text_old ++ sent_text client host notes → new.to_client ≡ [] → new.to_host ≡ []
+    → new.refused ≡ (old.refused || list_any is_refusal notes) → Sees first new events e text_old text_new
+sees first old new events e client host text_old text_new notes h t text no_client no_host refused =
+    let to_client : client ≡ gained out_client first events e = gains-is old.to_client client _ _ h.to_client t.client in
+    let to_host : host ≡ gained out_host first events e = gains-is old.to_host host _ _ h.to_host t.host in
+    let told : notes ≡ gained told_notes first events e =
+    sym (drop_at (told_notes first (history first events)) notes _ refl) ∙ ap (drop (length (told_notes first (history first events)))) (sym t.told) in
+    record {
+      text = text ∙ ap (λ (l : List ℕ). text_old ++ l) (ap (λ (l : List ℕ). sent_text l host notes) to_client ∙ ap (λ (l : List ℕ). sent_text (gained out_client first events e) l notes) to_host
+          ∙ ap (λ (l : List Note). sent_text (gained out_client first events e) (gained out_host first events e) l) told);
+      seen = record {
+        gate = t.stands;
+        to_client = no_client;
+        to_host = no_host;
+        refused = refused ∙ ap (λ (b : Bool). b || list_any is_refusal notes) h.refused ∙ refused-more first (history first events) (history first (e ∷ events)) notes t.told;
+      };
+    }

@@ -1,0 +1,10 @@
+pub mod Lines
+pub mod Stages
+pub mod Going
+pub mod Events
+pub mod Modelled
+pub mod Loaded
+pub mod Doing
+pub mod Simulated
+pub mod Showing
+mod LineEnds

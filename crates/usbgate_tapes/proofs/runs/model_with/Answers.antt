@@ -1,0 +1,15 @@
+use Rattle.std.proofs.Common.{ℕ, List, ◌++◌, ap, ◌∙◌}
+use Rattle.usbgate_tapes.specs.Model.{model}
+use Rattle.usbgate_tapes.proofs.Simulated.{are-simulated}
+use Rattle.usbgate_tapes.proofs.runs.model_with.Goals as goal
+
+pub over_tape-requires : goal.over_tape-requires
+over_tape-requires g c =
+    let opening = (model g.G.Gadget.meaning c.args.gadget).opening in
+    (c.args.gadget, c.in-Ok.ensures.start, c.in-Ok.ensures.text ∙ ap (λ (l : List ℕ). l ++ opening) c.new-text.ensures)
+
+pub returns-in-Ok-clause-simulates : goal.returns-in-Ok-clause-simulates
+returns-in-Ok-clause-simulates g c =
+    let opening = (model g.G.Gadget.meaning c.args.gadget).opening in
+    are-simulated g.G.Gadget.meaning c.args.gadget c.over_tape.result (g.S.Source.remaining c.args.tape.now) c.systems_are_direct.ensures.simulates
+    (c.over_tape.ensures.kept c.args.gadget c.in-Ok.ensures.start (c.in-Ok.ensures.text ∙ ap (λ (l : List ℕ). l ++ opening) c.new-text.ensures))

@@ -1,0 +1,16 @@
+use Rattle.std.proofs.Common.{◌≡◌, ◌<◌, [], length}
+use Rattle.usbgate_tapes.specs.inner.TapeReader.{Stage}
+use Rattle.usbgate_tapes.proofs.Stages.{room_of}
+use Rattle.usbgate_tapes.proofs.Going.{Goes}
+use Rattle.usbgate_tapes.proofs.runs.read_pieces.Given as goal
+
+abbrev pub invariant-loop-reader : goal.invariant-loop-reader
+invariant-loop-reader g l = record {
+  room : 0 < length l.buf;
+  goes : (task : g.C.TapeCommand.Task) → Stage (g.C.TapeCommand.means task) (g.C.TapeCommand.Keeps task) l.initial.reader [] [] → Goes (g.C.TapeCommand.means task) (g.C.TapeCommand.Keeps task) (g.S.Source.remaining l.initial.tape) (g.S.Source.remaining l.tape) (g.K.Sink.contents l.initial.out) (g.K.Sink.contents l.out) l.reader;
+  tape : g.S.Source.faults l.tape ≡ g.S.Source.faults l.initial.tape;
+  out : g.K.Sink.faults l.out ≡ g.K.Sink.faults l.initial.out;
+}
+
+abbrev pub decreases-loop-reader : goal.decreases-loop-reader
+decreases-loop-reader g l = room_of l.reader

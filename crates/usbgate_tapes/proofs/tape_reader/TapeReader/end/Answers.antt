@@ -1,0 +1,13 @@
+use Rattle.std.proofs.Common.{Option, subst}
+use Rattle.std.proofs.lemmas.Result.{IfOk-weaker}
+use Rattle.usbgate_tapes.specs.declared.status.Status.{Status}
+use Rattle.usbgate_tapes.specs.inner.TapeReader.{TookLast}
+use Rattle.usbgate_tapes.proofs.tape_reader.TapeReader.end.Goals as goal
+
+pub returns-in-Some : goal.returns-in-Some
+returns-in-Some g c = λ task read written s. subst (λ (o : Option Status). TookLast (g.C.TapeCommand.means task) (g.C.TapeCommand.Keeps task) o c.last_line.new.self read written) c.in-Some.is (c.in_ok-status.ensures task read written s)
+
+pub returns : goal.returns
+returns g c = IfOk-weaker c.close.result _ _
+    (λ status finished task read written s. finished task read written (subst (λ (o : Option Status). TookLast (g.C.TapeCommand.means task) (g.C.TapeCommand.Keeps task) o c.last_line.new.self read written) c.in_default.is (c.in_ok-status.ensures task read written s)))
+    c.close.ensures

@@ -1,0 +1,10 @@
+use Rattle.std.proofs.Common.{rules}
+use Rattle.std.proofs.lemmas.Result.{IfOk-weaker}
+use Rattle.usbgate_tapes.proofs.Stages.{last-none, took-last}
+use Rattle.usbgate_tapes.proofs.tape_reader.TapeReader.last_line.Goals as goal
+
+pub returns-then-is_empty : goal.returns-then-is_empty
+returns-then-is_empty g c = λ task read written s. last-none (g.C.TapeCommand.means task) (g.C.TapeCommand.Keeps task) s (search rules)
+
+pub returns : goal.returns
+returns g c = IfOk-weaker c.end_line.result _ _ (λ status took task read written s. took-last (g.C.TapeCommand.means task) (g.C.TapeCommand.Keeps task) c.end_line.new.self status s (λ none. search rules) (took task s.at s.has_read)) c.end_line.ensures

@@ -1,0 +1,14 @@
+-- Why a command ended so.
+use Rattle.std.specs.Prelude.{◌≡◌, ◌≢◌, ℕ}
+use Rattle.gate_outside.specs.Faults.{Rose}
+use Rattle.usbgate_tapes.specs.declared.status.Status.{Status}
+use Rattle.usbgate_tapes.specs.declared.status.Status.TheVariants.{ReadFault, WriteFault}
+use Rattle.usbgate_tapes.specs.Run.{OpensNoLink}
+
+-- it ends in a fault of its tape or its sink exactly where the count of its faults rose
+pub record HasCauses (status : Status) (tape_old tape_new out_old out_new : ℕ) : Type 0 where
+  pub read_fault : status ≡ ReadFault → Rose tape_old tape_new
+  pub write_fault : status ≡ WriteFault → Rose out_old out_new
+  pub reads_stand : status ≢ ReadFault → tape_new ≡ tape_old
+  pub writes_stand : status ≢ WriteFault → out_new ≡ out_old
+  pub no_links : OpensNoLink status

@@ -1,0 +1,15 @@
+pub mod Device
+pub mod Tape
+pub mod Text
+pub mod TapeCommand
+pub mod EventCommand
+pub mod Replay
+pub mod Model
+pub mod Show
+pub mod Made
+pub mod Prescribed
+pub mod Run
+pub mod Simulated
+pub mod Causes
+pub mod Code
+pub mod inner

@@ -1,0 +1,28 @@
+-- What a command is to print that goes over a tape or over nothing, and how it is to end, where it meets no fault and has memory.
+use Rattle.std.specs.Prelude.{List, [], ℕ, Option, Some, None}
+use Rattle.usbgate_tapes.specs.declared.status.Status.{Status}
+use Rattle.usbgate_tapes.specs.declared.status.Status.TheVariants.{Done, Usage}
+use Rattle.usbgate_tapes.specs.Text.{usage_line}
+use Rattle.usbgate_tapes.specs.TapeCommand.{TapeCommand, tape_text, tape_status, front_text}
+
+pub record Prescribed : Type 0 where
+  -- the whole text of a tape
+  pub text : List ℕ → List ℕ
+  pub status : List ℕ → Status
+  -- the text of whole lines, the first of a tape, without a last text; none where one is bad, and where no tape is read
+  pub front : List ℕ → Option (List ℕ)
+  -- what it leaves of a tape, where it comes to its end
+  pub rest : List ℕ → List ℕ
+
+abbrev pub over_tape : {S : Type 0} → TapeCommand S → Prescribed
+over_tape command = record { text = λ tape. tape_text command tape; status = λ tape. tape_status command tape; front = λ whole. front_text command whole; rest = λ tape. [] }
+
+-- a text for which no tape is read
+abbrev pub untaped : Status → List ℕ → Prescribed
+untaped status text = record { text = λ tape. text; status = λ tape. status; front = λ whole. None; rest = λ tape. tape }
+
+abbrev pub usage : Prescribed
+usage = untaped Usage usage_line
+
+abbrev pub printed : List ℕ → Prescribed
+printed text = untaped Done text

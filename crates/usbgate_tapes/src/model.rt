@@ -1,0 +1,109 @@
+//! The command `model`: the steps of a tape are done with a gateway and a modelled device.
+
+ghost use Rattle.std.specs.Prelude.{◌≡◌, ◌++◌, ◌||◌, [], List, IfOk, OnOk, OnErr, IsSome};
+ghost use Rattle.packet_show.specs.Tape.{tape_line};
+ghost use Rattle.packet_show.specs.declared.tape.TapeKind.TheVariants as kind;
+ghost use Rattle.direct_run.specs.Stands.{Stands};
+ghost use Rattle.direct_run.specs.Steps.{Step as PastStep};
+ghost use Rattle.direct_run.specs.Trace.{told_first};
+ghost use Rattle.usbgate_tapes.specs.Model.{IsSaid, model, step_said};
+ghost use Rattle.usbgate_tapes.specs.Text.{told_text};
+ghost use Rattle.usbgate_tapes.specs.inner.Model.{HasDone, TakesSaid, has_some};
+
+use crate::tape_command::TapeCommand;
+use crate::text::{push_counts, push_told};
+use direct_run::{Step, System, Told};
+use model_device::Gadget;
+use packet_show::{LineError, TapeKind, TapeLine, read_line};
+use std::alloc::Global;
+use usb_base::{Bytes, Memory};
+
+/// A gateway and a modelled device, with which the steps of a tape are done.
+#[derive(Drop)]
+pub struct ModelRun<G: Gadget> {
+    system: System<G>,
+    /// The gateway has refused a side.
+    refused: bool,
+}
+
+impl<G: Gadget> ModelRun<G> {
+    /// The run with which nothing has been done. It appends the lines of the hellos.
+    pub fn start(alloc: Global, gadget: G, text: &mut Bytes) -> Result<ModelRun<G>, Memory>
+        ensures start { IfOk result (λ made. HasDone G.meaning gadget made []) }
+        ensures text { OnOk result (text.new ≡ text.old ++ told_text (told_first G.meaning gadget)) }
+    {
+        let (system, told) = System::make(alloc, gadget)?;
+        match push_first(alloc, told, text) {
+            Ok(()) => Ok(ModelRun {
+                system,
+                refused: false,
+            }),
+            Err(memory) => Err(memory),
+        }
+    }
+
+    /// Appends what the step tells that was just done.
+    fn print(&mut self, alloc: Global, told: &Told, text: &mut Bytes) -> Result<(), Memory>
+        ensures text { OnOk result (text.new ≡ text.old ++ told_text told.now) }
+        ensures system { self.new.system ≡ self.old.system }
+        ensures refused { OnOk result (self.new.refused ≡ (self.old.refused || has_some told.now.refusals)) }
+    {
+        push_told(alloc, told, text)?;
+        self.refused |= !told.refusals.is_empty();
+        Ok(())
+    }
+}
+
+/// Appends what is told first, which is told once.
+fn push_first(alloc: Global, told: Told, text: &mut Bytes) -> Result<(), Memory>
+    ensures { OnOk result (text.new ≡ text.old ++ told_text told) }
+{
+    push_told(alloc, &told, text)
+}
+
+/// Does the step that a line says, if there is one.
+pub fn do_line<G: Gadget>(system: &mut System<G>, line: &TapeLine) -> Result<Option<Told>, Memory>
+    ensures takes { IfOk result (λ told. (first : G) (past : List PastStep) → Stands G.meaning first system.old past → TakesSaid G.meaning first system.new past (step_said line.now) told) }
+    ensures told { IfOk result (λ told. IsSome told → IsSome (step_said line.now)) }
+    ensures err { OnErr result (IsSome (step_said line.now)) }
+{
+    match line {
+        TapeLine::Client(piece) => Ok(Some(system.step(Step::Client(piece.as_slice()))?)),
+        TapeLine::ClientEnd => Ok(Some(system.step(Step::ClientEnd)?)),
+        TapeLine::ToHost(count) => Ok(Some(system.step(Step::ToHost(*count))?)),
+        TapeLine::ToGate(count) => Ok(Some(system.step(Step::ToGate(*count))?)),
+        TapeLine::Perform(ep) => Ok(Some(system.step(Step::Perform(*ep))?)),
+        TapeLine::Offer(ep) => Ok(Some(system.step(Step::Offer(*ep))?)),
+        TapeLine::Unplug => Ok(Some(system.step(Step::Unplug)?)),
+        TapeLine::Skip | TapeLine::Host(_) | TapeLine::HostEnd => Ok(None),
+    }
+}
+
+impl<G: Gadget> TapeCommand for ModelRun<G> {
+    ghost Kept = { List PastStep };
+
+    ghost Task = { G };
+
+    ghost means = { model G.meaning };
+
+    ghost Keeps = { HasDone G.meaning };
+
+    ghost Wants = { λ line. IsSaid (tape_line kind.Model line) };
+
+    fn take_line(&mut self, alloc: Global, line: &[u8], text: &mut Bytes) -> Result<(), LineError> {
+        let said = read_line(alloc, TapeKind::Model, line)?;
+        let Some(told) = do_line(&mut self.system, &said)? else {
+            return Ok(());
+        };
+        self.print(alloc, &told, text)?;
+        Ok(())
+    }
+
+    fn close(&self, alloc: Global, text: &mut Bytes) -> Result<(), Memory> {
+        push_counts(alloc, &self.system.counts(), text)
+    }
+
+    fn has_refused(&self) -> bool {
+        self.refused
+    }
+}

@@ -1,0 +1,34 @@
+//! Texts for which no tape is read.
+
+ghost use Rattle.std.specs.Prelude.{ℕ, List, Option};
+ghost use Rattle.usbgate_tapes.specs.Prescribed.{printed, usage as usage_prescribed};
+ghost use Rattle.usbgate_tapes.specs.Run.{Leaves, IsOfNoCommand, IsOfNoTape};
+ghost use Rattle.usbgate_tapes.specs.Causes.{HasCauses};
+
+use crate::status::Status;
+use crate::text::USAGE;
+use gate_outside::{Sink, write_all};
+
+/// Writes the text.
+pub fn print<K: Sink>(text: &[u8], out: &mut K) -> Status
+    ensures leaves { (remaining : Option (List ℕ)) → Leaves result (printed text.now) remaining remaining (K.contents out.old) (K.contents out.new) }
+    ensures causes { (faults : ℕ) → HasCauses result faults faults (K.faults out.old) (K.faults out.new) }
+    ensures ends { IsOfNoTape result }
+{
+    match write_all(out, text) {
+        Ok(()) => Status::Done,
+        Err(_) => Status::WriteFault,
+    }
+}
+
+/// Prints how the words should be.
+pub fn print_usage<K: Sink>(out: &mut K) -> Status
+    ensures leaves { (remaining : Option (List ℕ)) → Leaves result usage_prescribed remaining remaining (K.contents out.old) (K.contents out.new) }
+    ensures causes { (faults : ℕ) → HasCauses result faults faults (K.faults out.old) (K.faults out.new) }
+    ensures usage { IsOfNoCommand result }
+{
+    match write_all(out, USAGE) {
+        Ok(()) => Status::Usage,
+        Err(_) => Status::WriteFault,
+    }
+}

@@ -1,0 +1,184 @@
+//! The commands over a tape, each from its start to its end.
+
+ghost use Rattle.std.specs.Prelude.{◌≡◌, ◌≢◌, ◌<◌, ◌≤◌, [], length};
+ghost use Rattle.usbgate_tapes.specs.Run.{Leaves};
+ghost use Rattle.usbgate_tapes.specs.Prescribed.{over_tape as tape_prescribed};
+ghost use Rattle.usbgate_tapes.specs.EventCommand.{over_events};
+ghost use Rattle.usbgate_tapes.specs.Replay.{replay as replaying};
+ghost use Rattle.usbgate_tapes.specs.Model.{model as modelling, model_of};
+ghost use Rattle.usbgate_tapes.specs.Simulated.{AreSimulated, SimulatesTape};
+ghost use Rattle.usbgate_tapes.specs.Show.{show as showing, show_side};
+ghost use Rattle.usbgate_tapes.specs.inner.Show.{shown_by};
+ghost use Rattle.usbgate_tapes.specs.Causes.{HasCauses};
+ghost use Rattle.usbgate_tapes.specs.inner.TapeReader.{Stage, ReadsTo};
+
+use crate::device::{BLOCKS, Device};
+use crate::event_tape::EventTape;
+use crate::model::ModelRun;
+use crate::replay::Replay;
+use crate::show::Show;
+use crate::shown_format::ShownFormat;
+use crate::status::Status;
+use crate::tape_command::TapeCommand;
+use crate::tape_reader::TapeReader;
+use direct_proof::systems_are_direct;
+use disk_gadget::Disk;
+use gate_outside::{Sink, Source, write_all};
+use model_device::{Gadget, Keyboard, Loopback, Tone};
+use redir_data::FromHost;
+use std::alloc::Global;
+use usb_base::{Bytes, Side};
+use usbip_urb::ClientFormat;
+
+/// How many bytes of a tape are read at a time.
+const CHUNK: usize = 65_536;
+
+/// Puts the events of a tape to a gate, and prints what that sends and which sides it refuses.
+pub fn replay<S: Source, K: Sink>(alloc: Global, first_id: u32, tape: &mut S, out: &mut K) -> Status
+    requires { 1 ≤ first_id }
+    ensures leaves { Leaves result (tape_prescribed (over_events (replaying first_id))) (S.remaining tape.old) (S.remaining tape.new) (K.contents out.old) (K.contents out.new) }
+    ensures causes { HasCauses result (S.faults tape.old) (S.faults tape.new) (K.faults out.old) (K.faults out.new) }
+    ensures command { result ≢ Status.Usage }
+{
+    let mut text = Bytes::new(alloc);
+    match Replay::start(alloc, first_id, &mut text) {
+        Ok(replay) => over_tape(alloc, EventTape::start(replay), text, tape, out),
+        Err(_) => Status::OutOfMemory,
+    }
+}
+
+/// Does the steps of a tape with a gateway and a modelled device, and prints what each tells.
+pub fn model<S: Source, K: Sink>(alloc: Global, device: Device, tape: &mut S, out: &mut K) -> Status
+    ensures leaves { Leaves result (tape_prescribed (model_of device)) (S.remaining tape.old) (S.remaining tape.new) (K.contents out.old) (K.contents out.new) }
+    ensures simulates { SimulatesTape result device (S.remaining tape.old) }
+    ensures causes { HasCauses result (S.faults tape.old) (S.faults tape.new) (K.faults out.old) (K.faults out.new) }
+    ensures command { result ≢ Status.Usage }
+{
+    match device {
+        Device::Keyboard => match Keyboard::make(alloc) {
+            Ok(keyboard) => model_with(alloc, keyboard, tape, out),
+            Err(_) => Status::OutOfMemory,
+        },
+        Device::Loopback => match Loopback::make(alloc) {
+            Ok(loopback) => model_with(alloc, loopback, tape, out),
+            Err(_) => Status::OutOfMemory,
+        },
+        Device::Tone => match Tone::make(alloc) {
+            Ok(tone) => model_with(alloc, tone, tape, out),
+            Err(_) => Status::OutOfMemory,
+        },
+        Device::Disk => match Disk::make(alloc, BLOCKS) {
+            Ok(disk) => model_with(alloc, disk, tape, out),
+            Err(_) => Status::OutOfMemory,
+        },
+    }
+}
+
+fn model_with<G: Gadget, S: Source, K: Sink>(
+    alloc: Global,
+    gadget: G,
+    tape: &mut S,
+    out: &mut K,
+) -> Status
+    ensures leaves { Leaves result (tape_prescribed (modelling G.meaning gadget)) (S.remaining tape.old) (S.remaining tape.new) (K.contents out.old) (K.contents out.new) }
+    ensures simulates { AreSimulated result G.meaning gadget (S.remaining tape.old) }
+    ensures causes { HasCauses result (S.faults tape.old) (S.faults tape.new) (K.faults out.old) (K.faults out.new) }
+    ensures command { result ≢ Status.Usage }
+{
+    systems_are_direct::<G>();
+    let mut text = Bytes::new(alloc);
+    match ModelRun::start(alloc, gadget, &mut text) {
+        Ok(run) => over_tape(alloc, run, text, tape, out),
+        Err(_) => Status::OutOfMemory,
+    }
+}
+
+/// Prints the packets of one side's stream in a tape.
+pub fn show<S: Source, K: Sink>(alloc: Global, side: Side, tape: &mut S, out: &mut K) -> Status
+    ensures leaves { Leaves result (tape_prescribed (over_events (showing side))) (S.remaining tape.old) (S.remaining tape.new) (K.contents out.old) (K.contents out.new) }
+    ensures causes { HasCauses result (S.faults tape.old) (S.faults tape.new) (K.faults out.old) (K.faults out.new) }
+    ensures command { result ≢ Status.Usage }
+{
+    match side {
+        Side::Client => show_stream::<ClientFormat, S, K>(alloc, tape, out),
+        Side::Host => show_stream::<FromHost, S, K>(alloc, tape, out),
+    }
+}
+
+fn show_stream<F: ShownFormat, S: Source, K: Sink>(
+    alloc: Global,
+    tape: &mut S,
+    out: &mut K,
+) -> Status
+    ensures leaves { Leaves result (tape_prescribed (over_events (show_side (shown_by F.the_side F.format F.after F.first_state F.bytes F.line)))) (S.remaining tape.old) (S.remaining tape.new) (K.contents out.old) (K.contents out.new) }
+    ensures causes { HasCauses result (S.faults tape.old) (S.faults tape.new) (K.faults out.old) (K.faults out.new) }
+    ensures command { result ≢ Status.Usage }
+{
+    let show = Show::<F>::start(alloc);
+    over_tape(alloc, EventTape::start(show), Bytes::new(alloc), tape, out)
+}
+
+/// Reads the tape to its end, and writes its text as it goes, behind the text with which the command starts.
+fn over_tape<C: TapeCommand + Drop, S: Source, K: Sink>(
+    alloc: Global,
+    command: C,
+    text: Bytes,
+    tape: &mut S,
+    out: &mut K,
+) -> Status
+    requires { (task : C.Task) × C.Keeps task command (C.means task).start × (text ≡ (C.means task).opening) }
+    ensures leaves { (task : C.Task) → C.Keeps task command (C.means task).start → text ≡ (C.means task).opening
+        → Leaves result (tape_prescribed (C.means task)) (S.remaining tape.old) (S.remaining tape.new) (K.contents out.old) (K.contents out.new) }
+    ensures kept { (task : C.Task) → C.Keeps task command (C.means task).start → text ≡ (C.means task).opening → ReadsTo result (C.Keeps task) (C.means task) (S.remaining tape.old) }
+    ensures causes { HasCauses result (S.faults tape.old) (S.faults tape.new) (K.faults out.old) (K.faults out.new) }
+    ensures command { result ≢ Status.Usage }
+{
+    let mut buf = match vec![in alloc; 0; CHUNK] {
+        Ok(buf) => buf,
+        Err(_) => return Status::OutOfMemory,
+    };
+    read_pieces(
+        alloc,
+        TapeReader::start(alloc, command, text),
+        &mut buf,
+        tape,
+        out,
+    )
+}
+
+/// Reads the tape a buffer at a time. What text there is is written before each read.
+fn read_pieces<C: TapeCommand + Drop, S: Source, K: Sink>(
+    alloc: Global,
+    mut reader: TapeReader<C>,
+    buf: &mut [u8],
+    tape: &mut S,
+    out: &mut K,
+) -> Status
+    requires start { (task : C.Task) × Stage (C.means task) (C.Keeps task) reader [] [] }
+    requires room { 0 < length buf.old }
+    ensures leaves { (task : C.Task) → Stage (C.means task) (C.Keeps task) reader [] [] → Leaves result (tape_prescribed (C.means task)) (S.remaining tape.old) (S.remaining tape.new) (K.contents out.old) (K.contents out.new) }
+    ensures kept { (task : C.Task) → Stage (C.means task) (C.Keeps task) reader [] [] → ReadsTo result (C.Keeps task) (C.means task) (S.remaining tape.old) }
+    ensures causes { HasCauses result (S.faults tape.old) (S.faults tape.new) (K.faults out.old) (K.faults out.new) }
+    ensures command { result ≢ Status.Usage }
+{
+    loop {
+        if let Err(_) = write_all(out, reader.text.as_slice()) {
+            return Status::WriteFault;
+        }
+        reader.text.clear();
+        let n = match tape.read(buf) {
+            Ok(n) => n,
+            Err(_) => return Status::ReadFault,
+        };
+        let ended = match reader.step(alloc, &buf[..n]) {
+            Ok(ended) => ended,
+            Err(_) => return Status::OutOfMemory,
+        };
+        if let Some(status) = ended {
+            if let Err(_) = write_all(out, reader.text.as_slice()) {
+                return Status::WriteFault;
+            }
+            return status;
+        }
+    }
+}

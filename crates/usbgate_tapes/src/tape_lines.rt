@@ -1,0 +1,98 @@
+//! A tape's lines, put to a command one by one.
+
+ghost use Rattle.std.specs.Prelude.{◌≡◌, ◌++◌, ◌+◌, ◌<◌, ◌≤◌, ◌↔◌, ℕ, List, length, IfOk, OnOk, IsTrue, None};
+ghost use Rattle.usbgate_tapes.specs.Tape.{content as content_of};
+ghost use Rattle.usbgate_tapes.specs.TapeCommand.{Progress, begin, next_line, tape_limit};
+ghost use Rattle.usbgate_tapes.specs.inner.TapeReader.{HasRead, GoesOn};
+
+use crate::tape_command::TapeCommand;
+use packet_show::LineError;
+use std::alloc::Global;
+use usb_base::{Bytes, Memory};
+
+/// How many bytes a tape may have.
+const TAPE_LIMIT: u64 = 67_108_864;
+
+/// A command, and what has been read of its tape.
+#[derive(Drop)]
+pub struct TapeLines<C> {
+    command: C,
+    /// How many lines have been read.
+    lines: u64,
+    /// How many bytes the tape may still have.
+    room: u64,
+}
+
+impl<C: TapeCommand> TapeLines<C> {
+    /// No line has been read.
+    pub fn start(command: C) -> TapeLines<C>
+        ensures { (task : C.Task) → C.Keeps task command (C.means task).start → HasRead (C.Keeps task) result (begin (C.means task)) }
+    {
+        TapeLines {
+            command,
+            lines: 0,
+            room: TAPE_LIMIT,
+        }
+    }
+
+    /// Reads the next line, which may have its LF, and appends its text. A bad line changes nothing.
+    pub fn take_line(
+        &mut self,
+        alloc: Global,
+        line: &[u8],
+        text: &mut Bytes,
+    ) -> Result<(), LineError>
+        requires { 0 < length line.now }
+        ensures goes { OnOk result ((task : C.Task) (s : Progress C.Kept) → HasRead (C.Keeps task) self.old s → GoesOn (C.Keeps task) (next_line (C.means task) s line.now) self.new text.old text.new) }
+        ensures bad { result ≡ Err LineError.Bad → (task : C.Task) (s : Progress C.Kept) → HasRead (C.Keeps task) self.old s → next_line (C.means task) s line.now ≡ None }
+        ensures same { result ≡ Err LineError.Bad → (self.new ≡ self.old) × (text.new ≡ text.old) }
+        ensures memory { result ≡ Err LineError.Memory → C.Wants (content_of line.now) }
+    {
+        let len = line.len() as u64;
+        if len > self.room {
+            return Err(LineError::Bad);
+        }
+        self.command.take_line(alloc, content(line), text)?;
+        self.room -= len;
+        self.lines = self.lines.saturating_add(1);
+        Ok(())
+    }
+
+    /// How many lines have been read.
+    pub fn lines(&self) -> u64
+        ensures { (task : C.Task) (s : Progress C.Kept) → HasRead (C.Keeps task) self.now s → result ≡ s.lines }
+    {
+        self.lines
+    }
+
+    /// Whether the tape may still have so many bytes.
+    pub fn has_room(&self, len: usize) -> bool
+        ensures { (task : C.Task) (s : Progress C.Kept) → HasRead (C.Keeps task) self.now s → IsTrue result ↔ (s.bytes + len ≤ tape_limit) }
+    {
+        len as u64 <= self.room
+    }
+
+    /// Whether the run ends in a refusal.
+    pub fn has_refused(&self) -> bool
+        ensures { (task : C.Task) (s : Progress C.Kept) → HasRead (C.Keeps task) self.now s → result ≡ (C.means task).refused s.kept }
+    {
+        self.command.has_refused()
+    }
+
+    /// Appends the text behind the last line.
+    pub fn close(&self, alloc: Global, text: &mut Bytes) -> Result<(), Memory>
+        ensures { OnOk result ((task : C.Task) (s : Progress C.Kept) → HasRead (C.Keeps task) self.now s → text.new ≡ text.old ++ (C.means task).closing s.kept) }
+    {
+        self.command.close(alloc, text)
+    }
+}
+
+/// A line without its LF.
+fn content(line: &[u8]) -> &[u8]
+    ensures { result.now ≡ content_of line.now }
+{
+    if line.ends_with(b"\n") {
+        return &line[..line.len() - 1];
+    }
+    line
+}
