@@ -10,10 +10,12 @@ use Rattle.urb_arena.specs.Lanes.{replaced, count}
 use Rattle.unlink_race.specs.declared.live.Live.{Live}
 use Rattle.unlink_race.specs.declared.table.Row.{Row}
 use Rattle.unlink_race.specs.Inner.Listed.{Kept}
+use Rattle.unlink_race.specs.Inner.Placed.{keys_of}
 use Rattle.unlink_race.specs.Inner.Sound.{entry_of, in_order, numbers_of, HasDealt, IsSound, Rises}
 use Rattle.unlink_race.proofs.Columns.{map-set, map_unchanged}
 use Rattle.unlink_race.proofs.Ids.{no_live}
 use Rattle.unlink_race.proofs.Lanes.{found_replaced, others_replaced, count_replaced}
+use Rattle.unlink_race.proofs.Placing.{keys_replaced}
 use Rattle.unlink_race.proofs.Rising.{rises_dealt}
 use Rattle.unlink_race.proofs.Rows.{SameBut, length-listed, took_at, changed_at}
 
@@ -34,7 +36,7 @@ pub long_numbers : (arena : Seen (ℕ × Live)) (rows : List Row) → Kept key_o
 long_numbers arena rows kept = length-map (in_order arena rows) number_of ∙ length-listed key_of (entry_of arena) rows kept
 
 pub none_dealt : (arena : Seen (ℕ × Live)) (rows : List Row) → Kept key_of (entry_of arena) rows → HasDealt arena arena rows
-none_dealt arena rows kept = record { kept = kept; lives = refl; count = refl; capacity = refl; lanes = refl }
+none_dealt arena rows kept = record { kept = kept; lives = refl; count = refl; capacity = refl; lanes = refl; keys = refl }
 
 pub all_dealt : (arena : Seen (ℕ × Live)) (rows : List Row) (n : ℕ) → Kept key_of (entry_of arena) rows → length rows ≤ n → Dealt arena rows n → Rises 0 (numbers_of arena rows) (length rows)
 all_dealt arena rows n kept all dealt =
@@ -72,6 +74,7 @@ module _ {old arena : Seen (ℕ × Live)} {rows : List Row} (d : HasDealt old ar
           count = ap (λ (a : Seen (ℕ × Live)). count a.lanes) made ∙ count_replaced r.key (i, entry.1) arena.lanes ∙ d.count;
           capacity = ap (λ (a : Seen (ℕ × Live)). a.capacity) made ∙ d.capacity;
           lanes = ap (λ (a : Seen (ℕ × Live)). length a.lanes) made ∙ length-map arena.lanes (replaced r.key (i, entry.1)) ∙ d.lanes;
+          keys = ap keys_of made ∙ keys_replaced r.key (i, entry.1) arena.lanes ∙ d.keys;
         }
 
     pub more_dealt : Dealt arena rows i → Dealt arena' rows (i + 1)
@@ -101,4 +104,5 @@ sound_dealt d s =
       columns = rw d.lives s.columns;
       capacity = d.capacity ∙ s.capacity;
       lanes = d.lanes ∙ s.lanes;
+      placed = rw d.keys s.placed;
     }

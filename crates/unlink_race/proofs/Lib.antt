@@ -6,6 +6,7 @@ pub mod Ids
 pub mod Indexes
 pub mod Lanes
 pub mod Passing
+pub mod Placing
 pub mod Rising
 pub mod Rows
 pub mod Tables

@@ -5,7 +5,7 @@ use Rattle.std.proofs.lemmas.Bool.{false≢true}
 use Rattle.unlink_race.specs.Inner.Listed.{Absent, Kept, listed}
 
 module _ {R : Type 0} (key : R → ℕ) where
-  absent_at : (k : ℕ) (rs : List R) (i : ℕ) (r : R) → i < length rs → r ≡ get_or rs i r → Absent key k rs → key r ≢ k
+  pub absent_at : (k : ℕ) (rs : List R) (i : ℕ) (r : R) → i < length rs → r ≡ get_or rs i r → Absent key k rs → key r ≢ k
   absent_at k [] i r within read absent = absurd (omega arith)
   absent_at k (s ∷ rs) zero r within read absent = rw read absent.0
   absent_at k (s ∷ rs) (suc i) r within read absent = absent_at k rs i r (omega arith) read absent.1

@@ -1,5 +1,5 @@
 -- A sound table, and what a change makes of its list.
-use Rattle.std.proofs.Common.{◌≡◌, ℕ, ◌+◌, ◌<◌, Bool, List, [], ◌∷◌, ◌++◌, length, map, get_or, set, Some, None, refl, ap, sym, subst, ◌∙◌, arith}
+use Rattle.std.proofs.Common.{◌≡◌, ℕ, ◌+◌, ◌<◌, Bool, List, [], ◌∷◌, ◌++◌, length, map, get_or, set, Some, None, refl, ap, sym, subst, ◌∙◌, zero-add, arith}
 use lib.ListN.{length-set}
 use Rattle.std.specs.List.{position, remove, slice_get}
 use Rattle.std.specs.Option.{option_map}
@@ -14,10 +14,13 @@ use Rattle.unlink_race.specs.declared.live.LiveKind.{LiveKind}
 use Rattle.unlink_race.specs.declared.table.Row.{Row}
 use Rattle.unlink_race.specs.declared.index.Index.{Index}
 use Rattle.unlink_race.specs.Inner.Indexed.{IsIndexed}
+use Rattle.unlink_race.specs.Inner.Lane.{lane_of}
+use Rattle.unlink_race.specs.Inner.Placed.{keys_of, ArePlaced}
 use Rattle.unlink_race.specs.Inner.Sound.{entry_of, in_order, lives_of, numbers_of, Rises, IsSound, AreColumns, HasRoom}
 use Rattle.unlink_race.proofs.Columns.{map-remove, map-set, position-map, map_unchanged}
 use Rattle.unlink_race.proofs.Ids.{no_live}
 use Rattle.unlink_race.proofs.Lanes.{found_pushed, others_pushed, count_pushed, others_removed, found_replaced, others_replaced, count_replaced}
+use Rattle.unlink_race.proofs.Placing.{placed_pushed, placed_removed, keys_replaced}
 use Rattle.unlink_race.proofs.Rows.{SameBut, length-listed, took_at, put_last, changed_at}
 
 abbrev key_of : Row → ℕ
@@ -34,6 +37,10 @@ same_room room rows seqnums ids =
 -- the index is that of the list by each name
 pub indexed : {xs ys : List Live} {index : Index} → xs ≡ ys → IsIndexed xs index → IsIndexed ys index
 indexed {index = index} same is = let P : List Live → Type 0 = λ zs. IsIndexed zs index in subst P same is
+
+-- they are placed by each name of the keys
+by_keys : {kss kss' : List (List ℕ)} (rows : List Row) → kss' ≡ kss → ArePlaced 0 kss rows → ArePlaced 0 kss' rows
+by_keys rows same placed = let P : List (List ℕ) → Type 0 = λ ks. ArePlaced 0 ks rows in subst P (sym same) placed
 
 -- and the numbers rise by each name
 pub rising : {ns ms : List ℕ} (high : ℕ) → ms ≡ ns → Rises 0 ns high → Rises 0 ms high
@@ -108,13 +115,14 @@ module _ {arena : Seen (ℕ × Live)} {rows : List Row} {seqnums ids : List ℕ}
           columns = rw rest (columns_removed xs rows seqnums ids i columns);
           capacity = ap (λ (a : Seen (ℕ × Live)). a.capacity) made ∙ s.capacity;
           lanes = ap (λ (a : Seen (ℕ × Live)). length a.lanes) made ∙ length-map arena.lanes (without r.key) ∙ s.lanes;
+          placed = by_keys (remove rows i) (ap keys_of made) (placed_removed (entry_of arena) 0 arena.lanes rows i r at read s.kept s.placed);
         },
         rest,
         ap (map (λ (e : ℕ × Live). e.0)) took.rest ∙ sym (map-remove (λ (e : ℕ × Live). e.0) (in_order arena rows) i),
       )
 
-  pub pushed : (arena' : Seen (ℕ × Live)) (rows' : List Row) (seqnums' ids' : List ℕ) (lane number : ℕ) (r : Row) (x : Live) → length xs < MAX_LIVE → lane < 32 → entry_of arena r.key ≡ None → r.kind ≡ x.kind → arena' ≡ seen (set arena.lanes lane (get_or arena.lanes lane [] ++ (r.key, (number, x)) ∷ [])) arena.capacity → rows' ≡ rows ++ r ∷ [] → seqnums' ≡ seqnums ++ x.seqnum ∷ [] → ids' ≡ ids ++ x.id ∷ [] → IsSound arena' rows' seqnums' ids' × (lives_of arena' rows' ≡ xs ++ x ∷ []) × (numbers_of arena' rows' ≡ numbers_of arena rows ++ number ∷ [])
-  pushed arena' rows' seqnums' ids' lane number r x free in_lane vacant kind made whole seqnums_whole ids_whole =
+  pub pushed : (arena' : Seen (ℕ × Live)) (rows' : List Row) (seqnums' ids' : List ℕ) (lane number : ℕ) (r : Row) (x : Live) → length xs < MAX_LIVE → lane < 32 → lane ≡ lane_of x.kind → entry_of arena r.key ≡ None → r.kind ≡ x.kind → arena' ≡ seen (set arena.lanes lane (get_or arena.lanes lane [] ++ (r.key, (number, x)) ∷ [])) arena.capacity → rows' ≡ rows ++ r ∷ [] → seqnums' ≡ seqnums ++ x.seqnum ∷ [] → ids' ≡ ids ++ x.id ∷ [] → IsSound arena' rows' seqnums' ids' × (lives_of arena' rows' ≡ xs ++ x ∷ []) × (numbers_of arena' rows' ≡ numbers_of arena rows ++ number ∷ [])
+  pushed arena' rows' seqnums' ids' lane number r x free in_lane its_lane vacant kind made whole seqnums_whole ids_whole =
       let within : lane < length arena.lanes = omega (arith, in_lane, s.lanes) in
       let there : entry_of arena' r.key ≡ Some (number, x) = ap (λ (a : Seen (ℕ × Live)). entry_of a r.key) made ∙ found_pushed r.key (number, x) arena.lanes lane within vacant in
       let others : SameBut key_of r.key (entry_of arena) (entry_of arena') = λ j other. ap (λ (a : Seen (ℕ × Live)). entry_of a j) made ∙ others_pushed j r.key (number, x) other arena.lanes lane in
@@ -130,6 +138,7 @@ module _ {arena : Seen (ℕ × Live)} {rows : List Row} {seqnums ids : List ℕ}
           columns = rw all_in (columns_pushed xs rows seqnums ids x r kind columns);
           capacity = ap (λ (a : Seen (ℕ × Live)). a.capacity) made ∙ s.capacity;
           lanes = ap (λ (a : Seen (ℕ × Live)). length a.lanes) made ∙ length-set arena.lanes lane _ ∙ s.lanes;
+          placed = by_keys (rows ++ r ∷ []) (ap keys_of made) (placed_pushed 0 arena.lanes lane rows r (number, x) within (ap lane_of kind ∙ sym its_lane ∙ sym (zero-add lane)) s.placed);
         },
         all_in,
         ap (map (λ (e : ℕ × Live). e.0)) put.whole ∙ map-append (λ (e : ℕ × Live). e.0) (in_order arena rows) ((number, x) ∷ []),
@@ -155,6 +164,7 @@ module _ {arena : Seen (ℕ × Live)} {rows : List Row} {seqnums ids : List ℕ}
           };
           capacity = ap (λ (a : Seen (ℕ × Live)). a.capacity) made ∙ s.capacity;
           lanes = ap (λ (a : Seen (ℕ × Live)). length a.lanes) made ∙ length-map arena.lanes (replaced r.key (entry.0, y)) ∙ s.lanes;
+          placed = by_keys rows (ap keys_of made ∙ keys_replaced r.key (entry.0, y) arena.lanes) s.placed;
         },
         set_in,
         ap (map (λ (e : ℕ × Live). e.0)) turned.whole ∙ map_unchanged (λ (e : ℕ × Live). e.0) (in_order arena rows) i entry (entry.0, y) here refl,

@@ -2,4 +2,5 @@
 pub mod Indexed
 pub mod Lane
 pub mod Listed
+pub mod Placed
 pub mod Sound

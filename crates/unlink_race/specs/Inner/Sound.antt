@@ -7,6 +7,7 @@ use Rattle.unlink_race.specs.declared.live.Live.{Live}
 use Rattle.unlink_race.specs.declared.table.Row.{Row}
 use Rattle.unlink_race.specs.Requests.{Requests}
 use Rattle.unlink_race.specs.Inner.Listed.{Kept, listed}
+use Rattle.unlink_race.specs.Inner.Placed.{keys_of, ArePlaced}
 
 -- the request of a key, with its number, in whichever lane it stands
 abbrev pub entry_of : Seen (ℕ × Live) → ℕ → Option (ℕ × Live)
@@ -34,6 +35,7 @@ pub record HasDealt (old new : Seen (ℕ × Live)) (rows : List Row) : Type 0 wh
   pub count : count new.lanes ≡ count old.lanes
   pub capacity : new.capacity ≡ old.capacity
   pub lanes : length new.lanes ≡ length old.lanes
+  pub keys : keys_of new ≡ keys_of old
 
 -- what the columns have of the requests, in the same order
 pub record AreColumns (lives : List Live) (rows : List Row) (seqnums ids : List ℕ) : Type 0 where
@@ -55,6 +57,7 @@ pub record IsSound (arena : Seen (ℕ × Live)) (rows : List Row) (seqnums ids :
   pub columns : AreColumns (lives_of arena rows) rows seqnums ids
   pub capacity : arena.capacity ≡ MAX_LIVE
   pub lanes : length arena.lanes ≡ 32
+  pub placed : ArePlaced 0 (keys_of arena) rows
 
 -- the one list is the live or the abandoned requests
 abbrev pub requests_of : Bool → List Live → Requests

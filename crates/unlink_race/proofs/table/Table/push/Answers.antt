@@ -26,7 +26,7 @@ invariant_of-self c =
     let row = c.push_reserved-3.ensures in
     let number = c.next_number-number.ensures in
     let dealt = dealt_by c.deref.ensures.value number.dealt in
-    let whole = pushed (sound_dealt dealt c.self.invariant.0) (dealt.lives ∙ c.self.view_is) _ _ _ _ _ _ _ c.args.live c.requires c.lane.ensures.bound told.1 refl told.2 row.items c.push_reserved.ensures.items c.push_reserved-2.ensures.items in (
+    let whole = pushed (sound_dealt dealt c.self.invariant.0) (dealt.lives ∙ c.self.view_is) _ _ _ _ _ _ _ c.args.live c.requires c.lane.ensures.bound c.lane.ensures.value told.1 refl told.2 row.items c.push_reserved.ensures.items c.push_reserved-2.ensures.items in (
       whole.0,
       same_room c.self.invariant.1 row.capacity c.push_reserved.ensures.capacity c.push_reserved-2.ensures.capacity,
       indexed (sym whole.1) (c.note.ensures c.args.self.now (indexed c.self.view_is c.self.invariant.2)),
@@ -39,4 +39,4 @@ returns c =
     let row = c.push_reserved-3.ensures in
     let number = c.next_number-number.ensures in
     let dealt = dealt_by c.deref.ensures.value number.dealt in
-    (pushed (sound_dealt dealt c.self.invariant.0) (dealt.lives ∙ c.self.view_is) _ _ _ _ _ _ _ c.args.live c.requires c.lane.ensures.bound told.1 refl told.2 row.items c.push_reserved.ensures.items c.push_reserved-2.ensures.items).1
+    (pushed (sound_dealt dealt c.self.invariant.0) (dealt.lives ∙ c.self.view_is) _ _ _ _ _ _ _ c.args.live c.requires c.lane.ensures.bound c.lane.ensures.value told.1 refl told.2 row.items c.push_reserved.ensures.items c.push_reserved-2.ensures.items).1
