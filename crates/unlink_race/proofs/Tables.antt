@@ -10,7 +10,6 @@ use Rattle.usbip_urb.specs.declared.code.TheConstants.{MAX_LIVE}
 use Rattle.urb_arena.specs.Seen.{Seen, seen}
 use Rattle.urb_arena.specs.Lanes.{without, replaced, count}
 use Rattle.unlink_race.specs.declared.live.Live.{Live}
-use Rattle.unlink_race.specs.declared.live.LiveKind.{LiveKind}
 use Rattle.unlink_race.specs.declared.table.Row.{Row}
 use Rattle.unlink_race.specs.declared.index.Index.{Index}
 use Rattle.unlink_race.specs.Inner.Indexed.{IsIndexed}
@@ -85,9 +84,6 @@ module _ {arena : Seen (ℕ × Live)} {rows : List Row} {seqnums ids : List ℕ}
 
   pub placed_number : (p : ℕ → Bool) → position p seqnums ≡ position (λ live. p live.seqnum) xs
   placed_number p = ap (position p) columns.are_seqnums ∙ position-map (λ live. live.seqnum) p xs
-
-  pub placed_kind : (p : LiveKind → Bool) → position (λ r. p r.kind) rows ≡ position (λ live. p live.kind) xs
-  placed_kind p = sym (position-map (λ r. r.kind) p rows) ∙ ap (position p) columns.are_kinds ∙ position-map (λ live. live.kind) p xs
 
   -- the key of the row at a place leads to the request there
   pub read_at : (i : ℕ) (r : Row) (entry : ℕ × Live) → i < length xs → r ≡ get_or rows i r → entry_of arena r.key ≡ Some entry → slice_get xs i ≡ Some entry.1

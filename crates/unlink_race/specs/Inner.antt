@@ -1,4 +1,5 @@
 -- What only private functions cite: how the table holds its list.
+pub mod Earliest
 pub mod Indexed
 pub mod Lane
 pub mod Listed

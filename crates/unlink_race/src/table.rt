@@ -1,8 +1,8 @@
-//! The table behind `Lives`: the requests in an arena, each in the lane of its endpoint, and beside it, in order of
-//! acceptance, their keys and kinds and a column each of their numbers and ids, for the searches that want a place;
-//! whether there is one at all an index says.
+//! The table behind `Lives`: the requests in an arena, each in the lane of its endpoint, where those that wait for a
+//! stream are looked for, and beside it, in order of acceptance, their keys and kinds and a column each of their
+//! numbers and ids, for the searches that want a place; whether there is one at all an index says.
 
-ghost use Rattle.std.specs.Prelude.{◌≡◌, ◌==◌, ◌<◌, ◌≤◌, ◌+◌, ◌^◌, not, true, List, [], ◌∷◌, ◌++◌, length, filter, map, remove, replicate, slice_get, slice_set, option_copied, IfOk, Some};
+ghost use Rattle.std.specs.Prelude.{◌≡◌, ◌==◌, ◌<◌, ◌≤◌, ◌+◌, ◌^◌, ℕ, not, true, List, [], ◌∷◌, ◌++◌, length, get_or, filter, map, remove, replicate, slice_get, slice_set, option_copied, IfOk, Some};
 ghost use Rattle.std.specs.List.{find, position, list_any};
 ghost use Rattle.urb_arena.specs.Seen.{seen};
 ghost use Rattle.unlink_race.specs.declared.live.Live.{Live};
@@ -10,11 +10,12 @@ ghost use Rattle.unlink_race.specs.Firsts.{without_first};
 ghost use Rattle.unlink_race.specs.Inner.Listed.{Kept};
 ghost use Rattle.unlink_race.specs.Inner.Sound.{entry_of, numbers_of, Rises, HasDealt};
 ghost use Rattle.unlink_race.specs.Unlinking.{unlinked_by};
-ghost use Rattle.unlink_race.specs.Searches.{has_number, has_id, waits_for, touched_by, ended_by, changes, waits_at, is_touched_by, ends_with};
+ghost use Rattle.unlink_race.specs.Searches.{has_number, has_id, waits_for, touched_by, ended_by, changes, ends_with};
 
 use crate::index::Index;
 use crate::live::{Live, LiveKind, StreamEnd};
 use crate::numbered::{mark, renumber};
+use crate::search::{earliest_in_lane, earliest_of_all, number_of};
 use control_route::Route;
 use std::alloc::Global;
 use std::marker::Model;
@@ -99,16 +100,12 @@ fn flies_with(live: &Live, id: u64) -> bool
     !live.kind.is_stream() && live.id == id
 }
 
-fn first_waiting(rows: &[Row], ep: EpAddr) -> Option<usize>
-    ensures { result ≡ position (λ r. waits_at ep r.kind) rows.now }
+// The place of the request with this number: the numbers rise with the rows.
+fn place_numbered(arena: &Arena<(u64, Live)>, rows: &[Row], number: u64) -> Option<usize>
+    ensures { (place : ℕ) (high : ℕ) → Kept (λ r. r.key) (entry_of arena.now) rows.now → Rises 0 (numbers_of arena.now rows.now) high → place < length rows.now → get_or (numbers_of arena.now rows.now) place 0 ≡ number → result ≡ Some place }
 {
-    rows.iter().position(|row| row.kind.waits_at(ep))
-}
-
-fn first_touched(rows: &[Row], route: &Route) -> Option<usize>
-    ensures { result ≡ position (λ r. is_touched_by route.now r.kind) rows.now }
-{
-    rows.iter().position(|row| row.kind.is_touched_by(route))
+    let found = rows.binary_search_by_key(&Some(number), |row| number_of(arena, row.key));
+    found.ok()
 }
 
 // Numbers the requests anew from 0, in their order.
@@ -233,14 +230,18 @@ impl Table {
     pub fn place_waiting(&self, ep: EpAddr) -> Option<usize>
         ensures { result ≡ position (waits_for ep) self.now }
     {
-        first_waiting(&self.rows, ep)
+        let end = StreamEnd::Told(ep.byte());
+        let number = earliest_in_lane(&self.arena, ep.index(), &end)?;
+        place_numbered(&self.arena, &self.rows, number)
     }
 
     /// Where the first request stands that waits for packets of an interface that the route touches.
     pub fn place_touched(&self, route: &Route) -> Option<usize>
         ensures { result ≡ position (touched_by route.now) self.now }
     {
-        first_touched(&self.rows, route)
+        let end = StreamEnd::Change(*route);
+        let number = earliest_of_all(&self.arena, &end)?;
+        place_numbered(&self.arena, &self.rows, number)
     }
 
     /// Whether a request changes the configuration or an interface.

@@ -1,8 +1,17 @@
-use Rattle.std.proofs.Common.{◌∙◌}
-use Rattle.unlink_race.proofs.Tables.{placed_kind}
-use Rattle.unlink_race.specs.Searches.{waits_at}
+use Rattle.std.proofs.Common.{sym, ◌∙◌}
+use Rattle.unlink_race.specs.Searches.{waits_for}
+use Rattle.unlink_race.proofs.Searching.{keyed, waiting_is, search_gives, unplaced}
 use Rattle.unlink_race.proofs.table.Table.place_waiting.Goals as goal
+
+pub earliest_in_lane-requires-clause-keys : goal.earliest_in_lane-requires-clause-keys
+earliest_in_lane-requires-clause-keys c = keyed c.self.invariant.0
+
+pub returns-in_err-number : goal.returns-in_err-number
+returns-in_err-number c =
+    let earliest_is = waiting_is c.self.invariant.0 c.args.ep c.byte.result c.index.result c.byte.ensures.value c.index.ensures.value c.index.ensures.in_range in
+    c.from_residual.ensures ∙ sym (unplaced c.self.invariant.0 c.self.view_is (waits_for c.args.ep) (sym earliest_is ∙ sym c.earliest_in_lane.ensures ∙ c.in_err-number.was))
 
 pub returns : goal.returns
 returns c =
-    c.first_waiting.ensures ∙ rw c.deref.ensures.value (placed_kind c.self.invariant.0 c.self.view_is (waits_at c.args.ep))
+    let earliest_is = waiting_is c.self.invariant.0 c.args.ep c.byte.result c.index.result c.byte.ensures.value c.index.ensures.value c.index.ensures.in_range in
+    search_gives c.self.invariant.0 c.self.view_is (waits_for c.args.ep) c.deref.result.now c.place_numbered.result c.in_ok-number.number c.self.inside.next c.deref.ensures.value (sym earliest_is ∙ sym c.earliest_in_lane.ensures ∙ c.in_ok-number.was) c.self.invariant.3 c.place_numbered.ensures

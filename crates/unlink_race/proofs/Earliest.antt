@@ -1,0 +1,195 @@
+-- The earliest of all requests that pass a test is the earliest of their lanes.
+use Rattle.std.proofs.Common.{◌≡◌, ◌==◌, ◌&&◌, ◌||◌, ℕ, zero, suc, ◌+◌, ◌<◌, ◌≤◌, min, Bool, true, false, cond, ltb, List, [], ◌∷◌, ◌++◌, length, map, get_or, Option, Some, None, refl, ap, sym, subst, ◌∙◌, arith, inl, inr}
+use Rattle.std.specs.Bool.{⊤}
+use Rattle.std.specs.List.{position_or_len}
+use Rattle.std.proofs.lemmas.Bool.{lt-ltb, eq-eqb, ne_eqb, cases_eq, cases_Bool}
+use Rattle.std.proofs.lemmas.Bool.Decides.{nat_tests}
+use Rattle.urb_arena.specs.Lanes.{find_in, ByKey}
+use Rattle.unlink_race.specs.declared.live.Live.{Live}
+use Rattle.unlink_race.specs.declared.table.Row.{Row}
+use Rattle.unlink_race.specs.Inner.Earliest.{earliest, lesser, least}
+use Rattle.unlink_race.specs.Inner.Lane.{lane_of}
+use Rattle.unlink_race.specs.Inner.Listed.{Kept, listed}
+use Rattle.unlink_race.specs.Inner.Placed.{keys_in, AreBelow, ArePlaced}
+use Rattle.unlink_race.specs.Inner.Sound.{Rises}
+use Rattle.unlink_race.proofs.Placing.{keys}
+use Rattle.unlink_race.proofs.Rows.{entry_of}
+use Rattle.unlink_race.proofs.Walks.{Entries, values, onward}
+
+abbrev key_of : Row → ℕ
+key_of r = r.key
+
+abbrev pub lives : List (ℕ × Live) → List Live
+lives es = map (λ e. e.1) es
+
+abbrev pub numbers : List (ℕ × Live) → List ℕ
+numbers es = map (λ e. e.0) es
+
+-- ---- by its number it is found at its place
+
+pub record At (test : Live → Bool) (es : List (ℕ × Live)) (number : ℕ) : Type 0 where
+  pub place : ℕ
+  pub within : place < length es
+  pub is : get_or (numbers es) place 0 ≡ number
+  pub first : position_or_len test (lives es) ≡ place
+
+pub number_placed : (test : Live → Bool) (es : List (ℕ × Live)) (number : ℕ) → earliest test es ≡ Some number → At test es number
+number_placed test [] number is = let e : None ≡ Some number = is in absurd (cc)
+number_placed test (e ∷ es) number is =
+    elim (cases_Bool (test e.1)) [
+      | inl here ↦ (
+          let same : Some e.0 ≡ Some number = rw here at is in
+          record { place = 0; within = omega arith; is = cc; first = rw here refl })
+      | inr away ↦ (
+          let later = number_placed test es number (rw away at is) in
+          let next : 1 + later.place ≡ suc later.place = omega arith in
+          let inside = later.within in
+          record { place = suc later.place; within = omega (arith, inside); is = later.is; first = rw away (ap (λ n. 1 + n) later.first ∙ next) })
+    ]
+
+pub none_placed : (test : Live → Bool) (es : List (ℕ × Live)) → earliest test es ≡ None → length es ≤ position_or_len test (lives es)
+none_placed test [] is = omega arith
+none_placed test (e ∷ es) is =
+    elim (cases_Bool (test e.1)) [
+      | inl here ↦ (let same : Some e.0 ≡ None = rw here at is in absurd (cc))
+      | inr away ↦ (let later = none_placed test es (rw away at is) in rw away (omega (arith, later)))
+    ]
+
+-- ---- tests that say the same, or together what one says
+
+pub same_earliest : (p q : Live → Bool) → ((x : Live) → p x ≡ q x) → (es : List (ℕ × Live)) → earliest p es ≡ earliest q es
+same_earliest p q same [] = refl
+same_earliest p q same (e ∷ es) = rw (same e.1) (ap (cond (q e.1) (Some e.0)) (same_earliest p q same es))
+
+pub never : (p : Live → Bool) → ((x : Live) → p x ≡ false) → (es : List (ℕ × Live)) → earliest p es ≡ None
+never p none [] = refl
+never p none (e ∷ es) = rw (none e.1) (never p none es)
+
+not_below : (p : Live → Bool) (low : ℕ) (es : List (ℕ × Live)) (high number : ℕ) → Rises low (numbers es) high → earliest p es ≡ Some number → low ≤ number
+not_below p low [] high number rises is = let e : None ≡ Some number = is in absurd (cc)
+not_below p low (e ∷ es) high number rises is =
+    elim (cases_Bool (p e.1)) [
+      | inl here ↦ (
+          let same : Some e.0 ≡ Some number = rw here at is in
+          let this : e.0 ≡ number = cc in
+          let first = rises.0 in
+          omega (arith, first, this))
+      | inr away ↦ (let later = not_below p (e.0 + 1) es high number rises.1 (rw away at is) in let first = rises.0 in omega (arith, first, later))
+    ]
+
+-- a number is the lesser of it and of one behind it
+before : (n : ℕ) (o : Option ℕ) → ((m : ℕ) → o ≡ Some m → n ≤ m) → lesser (Some n) o ≡ Some n
+before n None behind = refl
+before n (Some m) behind = let le = behind m refl in ap Some (smaller n m le)
+  where
+    smaller : (a b : ℕ) → a ≤ b → min a b ≡ a
+    smaller a b le = omega (arith, le)
+
+behind : (n : ℕ) (o : Option ℕ) → ((m : ℕ) → o ≡ Some m → n ≤ m) → lesser o (Some n) ≡ Some n
+behind n None later = refl
+behind n (Some m) later = let le = later m refl in ap Some (smaller m n le)
+  where
+    smaller : (a b : ℕ) → b ≤ a → min a b ≡ b
+    smaller a b le = omega (arith, le)
+
+pub either : (p q r : Live → Bool) → ((x : Live) → r x ≡ (p x || q x)) → (low : ℕ) (es : List (ℕ × Live)) (high : ℕ) → Rises low (numbers es) high → lesser (earliest p es) (earliest q es) ≡ earliest r es
+either p q r both low [] high rises = refl
+either p q r both low (e ∷ es) high rises =
+    let up : (t : Live → Bool) (m : ℕ) → earliest t es ≡ Some m → e.0 ≤ m = λ t m is. (let above = not_below t (e.0 + 1) es high m rises.1 is in omega (arith, above)) in
+    elim (cases_Bool (p e.1)) [
+      | inl in_p ↦
+          elim (cases_Bool (q e.1)) [
+            | inl in_q ↦ rw (both e.1, in_p, in_q) (before e.0 (Some e.0) (λ m is. (let same : e.0 ≡ m = cc in omega (arith, same))))
+            | inr not_q ↦ rw (both e.1, in_p, not_q) (before e.0 (earliest q es) (up q))
+          ]
+      | inr not_p ↦
+          elim (cases_Bool (q e.1)) [
+            | inl in_q ↦ rw (both e.1, not_p, in_q) (behind e.0 (earliest p es) (up p))
+            | inr not_q ↦ rw (both e.1, not_p, not_q) (either p q r both (e.0 + 1) es high rises.1)
+          ]
+    ]
+
+-- ---- the requests of a lane are those of the rows that belong there
+
+abbrev pub Backed : (ℕ → Option (ℕ × Live)) → Entries → Type 0
+Backed g [] = ⊤
+Backed g (p ∷ ps) = (g p.0 ≡ Some p.1) × Backed g ps
+
+-- where each key leads to its pair
+pub all_backed : (pss : List Entries) → ByKey pss → (l : ℕ) (xs ps : Entries) → get_or pss l [] ≡ xs ++ ps → Backed (λ k. find_in k pss) ps
+all_backed pss by_key l xs [] is = tt
+all_backed pss by_key l xs (p ∷ ps) is = ((by_key l xs p ps is).0, all_backed pss by_key l (xs ++ p ∷ []) ps (is ∙ onward xs p ps))
+
+pub keys_home : (lane : ℕ) (pss : List Entries) (l : ℕ) (rows : List Row) → l < length pss → ArePlaced lane (map keys pss) rows → keys (get_or pss l []) ≡ keys_in (lane + l) rows
+keys_home lane [] l rows within placed = absurd (omega (arith, within))
+keys_home lane (ps ∷ pss) zero rows within placed = let e : lane + 0 ≡ lane = omega arith in placed.0 ∙ ap (λ n. keys_in n rows) (sym e)
+keys_home lane (ps ∷ pss) (suc l) rows within placed = let e : lane + suc l ≡ lane + 1 + l = omega arith in keys_home (lane + 1) pss l rows (omega (arith, within)) placed.1 ∙ ap (λ n. keys_in n rows) (sym e)
+
+-- what passes and belongs in this lane
+abbrev pub and_in : (Live → Bool) → ℕ → Live → Bool
+and_in test lane x = (lane_of x.kind == lane) && test x
+
+-- and in one before it
+abbrev pub and_below : (Live → Bool) → ℕ → Live → Bool
+and_below test lane x = ltb (lane_of x.kind) lane && test x
+
+-- the rows have the requests' kinds
+abbrev pub Alike : List Row → List (ℕ × Live) → Type 0
+Alike rows es = map (λ r. r.kind) rows ≡ map (λ e. e.1.kind) es
+
+module _ (test : Live → Bool) (g : ℕ → Option (ℕ × Live)) (lane : ℕ) where
+  abbrev Later : List Row → Type 0
+  Later rows = (ps : Entries) → Alike rows (listed key_of g rows) → Backed g ps → keys ps ≡ keys_in lane rows → earliest test (values ps) ≡ earliest (and_in test lane) (listed key_of g rows)
+
+  pub lane_earliest : (rows : List Row) (ps : Entries) → Kept key_of g rows → Alike rows (listed key_of g rows) → Backed g ps → keys ps ≡ keys_in lane rows → earliest test (values ps) ≡ earliest (and_in test lane) (listed key_of g rows)
+  lane_earliest [] [] kept alike backed same = refl
+  lane_earliest [] (p ∷ ps) kept alike backed same = absurd (cc)
+  lane_earliest (r ∷ rows) ps kept alike backed same =
+      let e = entry_of key_of g r kept.0 in
+      by_entry (λ qs rest behind tail. lane_earliest rows qs kept.2 rest behind tail) e.0 e.1
+    where
+      here : Later rows → (x : ℕ × Live) → g r.key ≡ Some x → x.1.kind ≡ r.kind → Alike rows (listed key_of g rows) → lane_of r.kind ≡ lane → (qs : Entries) → Backed g qs → keys qs ≡ r.key ∷ keys_in lane rows → earliest test (values qs) ≡ earliest (and_in test lane) (x ∷ listed key_of g rows)
+      here later x is kind rest at [] backed same = absurd (cc)
+      here later x is kind rest at (q ∷ qs) backed same =
+          let head : q.0 ≡ r.key = cc in
+          let tail : keys qs ≡ keys_in lane rows = cc in
+          let both : Some q.1 ≡ Some x = sym backed.0 ∙ ap g head ∙ is in
+          let this : q.1 ≡ x = cc in
+          rw (this, eq-eqb (lane_of x.1.kind) lane (ap lane_of kind ∙ at)) (ap (cond (test x.1) (Some x.0)) (later qs rest backed.1 tail))
+
+      by_entry : Later rows → (x : ℕ × Live) → g r.key ≡ Some x → earliest test (values ps) ≡ earliest (and_in test lane) (listed key_of g (r ∷ rows))
+      by_entry later x is =
+          let all : Alike (r ∷ rows) (x ∷ listed key_of g rows) = rw is at alike in
+          let kind : r.kind ≡ x.1.kind = cc in
+          let rest : Alike rows (listed key_of g rows) = cc in
+          rw is (
+          elim (cases_eq (lane_of r.kind) lane) [
+            | inl at ↦ here later x is (sym kind) rest at ps backed (rw (eq-eqb (lane_of r.kind) lane at) at same)
+            | inr away ↦ (
+                let other : (lane_of x.1.kind == lane) ≡ false = ap (λ k. lane_of k == lane) (sym kind) ∙ ne_eqb (lane_of r.kind) lane away in
+                rw other (later ps rest backed (rw (ne_eqb (lane_of r.kind) lane away) at same)))
+          ])
+
+  -- where each belongs before this lane, one in a lane before it is one of all
+  all_below : (rows : List Row) (es : List (ℕ × Live)) → Alike rows es → AreBelow lane rows → earliest (and_below test lane) es ≡ earliest test es
+  all_below [] [] alike below = refl
+  all_below [] (e ∷ es) alike below = absurd (cc)
+  all_below (r ∷ rows) [] alike below = absurd (cc)
+  all_below (r ∷ rows) (e ∷ es) alike below =
+      let kind : r.kind ≡ e.1.kind = cc in
+      let rest : Alike rows es = cc in
+      let low : lane_of e.1.kind < lane = subst (λ k. lane_of k < lane) kind below.0 in
+      rw (lt-ltb (lane_of e.1.kind) lane low) (ap (cond (test e.1) (Some e.0)) (all_below rows es rest below.1))
+
+widen : (a m : ℕ) (b : Bool) → (ltb a (m + 1) && b) ≡ ((ltb a m && b) || ((a == m) && b))
+widen a m true = grind (arith, nat_tests)
+widen a m false = grind (arith, nat_tests)
+
+-- so the least of the lanes' numbers is that of the earliest of all
+pub least_is : (test : Live → Bool) (g : ℕ → Option (ℕ × Live)) (rows : List Row) (high : ℕ) → Kept key_of g rows → Alike rows (listed key_of g rows) → Rises 0 (numbers (listed key_of g rows)) high → (lane : ℕ) (pss : List Entries) (so_far : Option ℕ) → ((l : ℕ) → Backed g (get_or pss l [])) → ArePlaced lane (map keys pss) rows → so_far ≡ earliest (and_below test lane) (listed key_of g rows) → least test so_far pss ≡ earliest test (listed key_of g rows)
+least_is test g rows high kept alike rises lane [] so_far backed placed is = is ∙ all_below test g lane rows (listed key_of g rows) alike placed
+least_is test g rows high kept alike rises lane (ps ∷ pss) so_far backed placed is =
+    let this = lane_earliest test g lane rows ps kept alike (backed 0) placed.0 in
+    let both : lesser so_far (earliest test (values ps)) ≡ earliest (and_below test (lane + 1)) (listed key_of g rows) =
+    (λ i. lesser (is i) (this i)) ∙ either (and_below test lane) (and_in test lane) (and_below test (lane + 1)) (λ x. widen (lane_of x.kind) lane (test x)) 0 (listed key_of g rows) high rises in
+    least_is test g rows high kept alike rises (lane + 1) pss (lesser so_far (earliest test (values ps))) (λ l. backed (suc l)) placed.1 both

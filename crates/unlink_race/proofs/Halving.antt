@@ -1,0 +1,99 @@
+-- A binary search of the rows by the numbers of their requests.
+use Rattle.std.proofs.Common.{◌≡◌, ℕ, zero, suc, ◌+◌, ◌<◌, ◌≤◌, List, [], ◌∷◌, length, get_or, Option, Some, Result, Ok, Err, refl, ap, sym, ◌∙◌, arith, inl, inr}
+use Rattle.std.specs.List.Sorted.{IsSearchInRange, IsBinarySearchResult, IsNonDecreasingBy}
+use Rattle.std.specs.Option.{option_map, option_cmp}
+use Rattle.std.specs.Ordering.{nat_cmp, ordering_index}
+use Rattle.std.specs.declared.cmp.Ordering.{Ordering}
+use Rattle.std.specs.Result.{result_ok}
+use Rattle.std.proofs.lemmas.Bool.{cases_lt, cases_eq}
+use Rattle.std.proofs.lemmas.Bool.Decides.{nat_tests}
+use Rattle.std.proofs.lemmas.Cmp.{ranked}
+use Rattle.std.proofs.lemmas.List.{get_or-map, get_or_default}
+use Rattle.std.proofs.lemmas.List.Sorted.{IsNonDecreasingBy-from_default}
+use Rattle.std.proofs.lemmas.Option.{slice_get-get_or}
+use Rattle.urb_arena.specs.Seen.{Seen}
+use Rattle.unlink_race.specs.declared.live.Live.{Live}
+use Rattle.unlink_race.specs.declared.table.Row.{Row}
+use Rattle.unlink_race.specs.Inner.Listed.{Kept}
+use Rattle.unlink_race.specs.Inner.Sound.{entry_of, in_order, numbers_of, Rises}
+use Rattle.unlink_race.proofs.Dealing.{long_numbers}
+use Rattle.unlink_race.proofs.Ids.{no_live, no_row}
+use Rattle.unlink_race.proofs.Rows.{length-listed, took_at}
+
+abbrev key_of : Row → ℕ
+key_of r = r.key
+
+-- each rising number is below those behind it
+pub rises_at : (low : ℕ) (ns : List ℕ) (high i j : ℕ) → Rises low ns high → i < j → j < length ns → get_or ns i 0 < get_or ns j 0
+rises_at low [] high i j rises before within = absurd (omega (arith, within))
+rises_at low (n ∷ ns) high zero zero rises before within = absurd (omega (arith, before))
+rises_at low (n ∷ ns) high zero (suc j) rises before within = let above = at_least (n + 1) ns high j rises.1 (omega (arith, within)) in omega (arith, above)
+  where
+    at_least : (low : ℕ) (ns : List ℕ) (high j : ℕ) → Rises low ns high → j < length ns → low ≤ get_or ns j 0
+    at_least low [] high j rises within = absurd (omega (arith, within))
+    at_least low (n ∷ ns) high zero rises within = rises.0
+    at_least low (n ∷ ns) high (suc j) rises within = let first = rises.0 in let later = at_least (n + 1) ns high j rises.1 (omega (arith, within)) in omega (arith, first, later)
+rises_at low (n ∷ ns) high (suc i) zero rises before within = absurd (omega (arith, before))
+rises_at low (n ∷ ns) high (suc i) (suc j) rises before within = rises_at (n + 1) ns high i j rises.1 (omega (arith, before)) (omega (arith, within))
+
+-- the number that a row leads to
+abbrev pub number_at : Seen (ℕ × Live) → Row → Option ℕ
+number_at arena r = option_map (λ (e : ℕ × Live). e.0) (entry_of arena r.key)
+
+module _ (arena : Seen (ℕ × Live)) (rows : List Row) (kept : Kept key_of (entry_of arena) rows) where
+  abbrev numbers : List ℕ
+  numbers = numbers_of arena rows
+
+  long : length (numbers_of arena rows) ≡ length rows
+  long = long_numbers arena rows kept
+
+  leads : (i : ℕ) → i < length rows → number_at arena (get_or rows i no_row) ≡ Some (get_or (numbers_of arena rows) i 0)
+  leads i within =
+      let all = length-listed key_of (entry_of arena) rows kept in
+      let inside : i < length (in_order arena rows) = omega (arith, all, within) in
+      let row = get_or rows i no_row in
+      let took = took_at key_of (entry_of arena) (entry_of arena) rows i row within (get_or_default rows i no_row row within) (λ _ _. refl) kept in
+      ap (option_map (λ (e : ℕ × Live). e.0)) (took.entry ∙ slice_get-get_or (in_order arena rows) i (0, no_live) inside)
+      ∙ ap Some (sym (get_or-map (λ (e : ℕ × Live). e.0) (in_order arena rows) i (0, no_live) 0 inside))
+
+  module _ (high : ℕ) (rises : Rises 0 (numbers_of arena rows) high) (number place : ℕ) (there : place < length rows) (is : get_or (numbers_of arena rows) place 0 ≡ number) where
+    up : (i j : ℕ) → i < j → j < length rows → get_or (numbers_of arena rows) i 0 < get_or (numbers_of arena rows) j 0
+    up i j before within = rises_at 0 (numbers_of arena rows) high i j rises before (let e = long in omega (arith, within, e))
+
+    abbrev compared : Row → Ordering
+    compared r = option_cmp nat_cmp (number_at arena r) (Some number)
+
+    compared_at : (i : ℕ) → i < length rows → compared (get_or rows i no_row) ≡ nat_cmp (get_or (numbers_of arena rows) i 0) number
+    compared_at i within = ap (λ o. option_cmp nat_cmp o (Some number)) (leads i within)
+
+    only : (i : ℕ) → i < length rows → get_or (numbers_of arena rows) i 0 ≡ number → i ≡ place
+    only i within same =
+        elim (cases_lt i place) [
+          | inl before ↦ (let less = up i place before there in absurd (omega (arith, less, same, is)))
+          | inr after ↦
+              elim (cases_eq i place) [
+                | inl here ↦ here
+                | inr other ↦ (let less = up place i (omega (arith, after, other)) within in absurd (omega (arith, less, same, is)))
+              ]
+        ]
+
+    ordered : (a b : ℕ) → a ≤ b → ordering_index (nat_cmp a number) ≤ ordering_index (nat_cmp b number)
+    ordered a b le = grind (arith, nat_tests)
+
+    rise : IsNonDecreasingBy (λ r. ordering_index (compared r)) rows
+    rise = IsNonDecreasingBy-from_default (λ r. ordering_index (compared r)) rows no_row (λ i j le within.
+        elim (cases_eq i j) [
+          | inl same ↦ (let e : ordering_index (compared (get_or rows i no_row)) ≡ ordering_index (compared (get_or rows j no_row)) = ap (λ k. ordering_index (compared (get_or rows k no_row))) same in omega (arith, e))
+          | inr other ↦ (
+              let less = up i j (omega (arith, le, other)) within in
+              rw (compared_at i (omega (arith, le, within)), compared_at j within) (ordered _ _ (omega (arith, less))))
+        ])
+
+    pub halved : (r : Result ℕ ℕ) → IsSearchInRange r (length rows) → IsBinarySearchResult compared rows r → result_ok r ≡ Some place
+    halved (Ok i) within equal =
+        ap Some (only i within (ranked _ number _ (sym (sym (compared_at i within) ∙ equal no_row))))
+    halved (Err i) within parted =
+        elim (cases_lt place i) [
+          | inl before ↦ (let less : get_or (numbers_of arena rows) place 0 < number = ranked _ number _ (sym (sym (compared_at place there) ∙ (parted rise).0 place no_row (omega arith) before)) in absurd (omega (arith, less, is)))
+          | inr after ↦ (let more : number < get_or (numbers_of arena rows) place 0 = ranked _ number _ (sym (sym (compared_at place there) ∙ (parted rise).1 place no_row after there)) in absurd (omega (arith, more, is)))
+        ]

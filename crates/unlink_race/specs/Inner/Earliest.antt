@@ -1,0 +1,19 @@
+-- The earliest of the requests that pass a test, by its number.
+use Rattle.std.specs.Prelude.{ℕ, Bool, List, [], ◌∷◌, Option, Some, None, map, min, if◌then◌else◌}
+use Rattle.unlink_race.specs.declared.live.Live.{Live}
+
+-- the number of the first that passes
+abbrev pub earliest : (Live → Bool) → List (ℕ × Live) → Option ℕ
+earliest test [] = None
+earliest test (entry ∷ entries) = if test entry.1 then Some entry.0 else earliest test entries
+
+-- the lesser of two numbers, where there are two
+abbrev pub lesser : Option ℕ → Option ℕ → Option ℕ
+lesser None other = other
+lesser (Some one) None = Some one
+lesser (Some one) (Some other) = Some (min one other)
+
+-- the least of one number and of those that the lanes' first have that pass
+abbrev pub least : (Live → Bool) → Option ℕ → List (List (ℕ × (ℕ × Live))) → Option ℕ
+least test so_far [] = so_far
+least test so_far (ps ∷ pss) = least test (lesser so_far (earliest test (map (λ p. p.1) ps))) pss
