@@ -1,52 +1,38 @@
 -- In the middle of a run, and how it ends.
-use Rattle.std.proofs.Common.{◌≡◌, ◌⊎◌, inl, inr, ℕ, ◌+◌, ◌<◌, ◌≤◌, Bool, true, false, cond, if◌then◌else◌, List, [], ◌∷◌, ◌++◌, length, take, Option, Some, None, refl, sym, ap, subst, ◌∙◌, append_assoc}
+use Rattle.std.proofs.Common.{◌≡◌, ◌⊎◌, inl, inr, ℕ, ◌+◌, ◌<◌, ◌≤◌, Bool, true, false, cond, if◌then◌else◌, List, [], ◌∷◌, ◌++◌, length, take, Option, Some, None, Result, Ok, Err, refl, sym, ap, subst, ◌∙◌, append_assoc}
 use Rattle.std.proofs.lemmas.List.{append-nil, length-take-le}
-use Rattle.std.proofs.lemmas.Option.{none-some, same_Some}
 use Rattle.std.specs.Io.KnownBytes.{Appends, Consumes, Keeps as KeepsBytes, IsAtEnd}
 use Rattle.std.proofs.KnownBytes.{Appends-nil, Appends-trans, Consumes-nil, Consumes-trans, Consumes-kept}
 use Rattle.gate_outside.specs.Faults.{Rose}
+use Rattle.gate_outside.specs.declared.fault.Failed.{Failed}
 use Rattle.gate_outside.specs.Front.{AppendsFront}
+use Rattle.gate_outside.specs.Moved.{Move, Moved, moved, Moves, MovesFront}
 use Rattle.usbgate_tapes.specs.declared.tape_reader.TapeReader.{TapeReader}
 use Rattle.usbgate_tapes.specs.declared.status.Status.{Status}
 use Rattle.usbgate_tapes.specs.declared.status.Status.TheVariants.{Done, Usage, Refused, ReadFault, WriteFault, LinkFault, OutOfMemory, BadTape, Idle, Spent}
 use Rattle.usbgate_tapes.specs.Tape.{lines_of}
-use Rattle.usbgate_tapes.specs.Text.{usage_line}
-use Rattle.usbgate_tapes.specs.TapeCommand.{TapeCommand, tape_limit, begin, Reading, read_lines, read_tape, tape_text, tape_status}
-use Rattle.usbgate_tapes.specs.Prescribed.{Prescribed, over_tape, usage}
+use Rattle.usbgate_tapes.specs.TapeCommand.{TapeCommand, tape_limit, begin, Reading, read_lines, read_tape, tape_text}
+use Rattle.usbgate_tapes.specs.Prescribed.{Prescribed, over_tape}
 use Rattle.usbgate_tapes.specs.Causes.{HasCauses}
-use Rattle.usbgate_tapes.specs.Run.{WrittenInPart, WrittenWhole, LeavesTold, Leaves, OpensNoLink, ComesToEnd}
-use Rattle.usbgate_tapes.specs.inner.TapeReader.{IsKept, Stage, Closes, ReadsTo}
+use Rattle.usbgate_tapes.specs.Run.{ReadInPart, WrittenInPart, WrittenWhole, LeavesTold, Leaves, OpensNoLink, ComesToEnd}
+use Rattle.usbgate_tapes.specs.Logs.{LeavesByLog}
+use Rattle.usbgate_tapes.specs.inner.TapeReader.{IsKept, Stage, Closes, ReadsTo, ReadsToByLog}
 use Rattle.usbgate_tapes.proofs.Stages.{text_begins}
-
--- ---- what is told
-
--- the tape, where it is told, is what was read and what is remaining
-remaining_told : (old new : Option (List ℕ)) (read tape : List ℕ) → Consumes old new read → old ≡ Some tape → (rest : List ℕ) × (new ≡ Some rest) × (tape ≡ read ++ rest)
-remaining_told None new read tape c e = absurd (none-some tape e)
-remaining_told (Some x) None read tape c e = absurd c
-remaining_told (Some x) (Some rest) read tape c e = (rest, refl, same_Some tape x (sym e) ∙ c)
-
-contents_told : (old new : Option (List ℕ)) (bytes text : List ℕ) → Appends old new bytes → old ≡ Some text → new ≡ Some (text ++ bytes)
-contents_told None new bytes text a e = absurd (none-some text e)
-contents_told (Some x) None bytes text a e = absurd a
-contents_told (Some x) (Some y) bytes text a e = ap (λ (l : List ℕ). Some l) (a ∙ ap (λ (l : List ℕ). l ++ bytes) (same_Some x text e))
-
-at_end_told : (new : Option (List ℕ)) (rest : List ℕ) → IsAtEnd new → new ≡ Some rest → rest ≡ []
-at_end_told None rest end e = absurd (none-some rest e)
-at_end_told (Some x) rest end e = same_Some rest x (sym e) ∙ end
+use Rattle.usbgate_tapes.proofs.Moving.{moves-none, moves-append, at_end}
+use Rattle.usbgate_tapes.proofs.Told.{remaining_told, at_end_told, leaves-told}
 
 -- ---- in the middle
 
-pub record Goes {C S : Type 0} (command : TapeCommand S) (Keeps : C → S → Type 0) (remaining_old remaining contents_old contents : Option (List ℕ)) (p : TapeReader C) : Type 0 where
-  pub read : List ℕ
+-- these reads were made, and these bytes were written; the tape and the sink tell the same, where they tell anything
+pub record Goes {C T S K : Type 0} (command : TapeCommand T) (Keeps : C → T → Type 0) (read_gives : S → List ℕ → Result ℕ Failed → S → Type 0) (write_gives : K → List ℕ → Result ℕ Failed → K → Type 0) (remaining : S → Option (List ℕ)) (contents : K → Option (List ℕ))
+    (tape_old tape : S) (out_old out : K) (p : TapeReader C) : Type 0 where
+  pub reads : List Move
   pub written : List ℕ
-  pub consumed : Consumes remaining_old remaining read
-  pub wrote : Appends contents_old contents written
-  pub stage : Stage command Keeps p read written
-
--- nothing is written
-pub in_part-none : (p : Prescribed) (contents : Option (List ℕ)) (tape text : List ℕ) → contents ≡ Some text → WrittenInPart p tape text contents
-in_part-none p contents tape text e = record { front = []; back = p.text tape; parts = refl; contents-is = e ∙ ap (λ (l : List ℕ). Some l) (sym (append-nil text)) }
+  pub read : Moved read_gives reads tape_old tape
+  pub writes : Moves write_gives written out_old out
+  pub consumed : Consumes (remaining tape_old) (remaining tape) (moved reads)
+  pub wrote : Appends (contents out_old) (contents out) written
+  pub stage : Stage command Keeps p (moved reads) written
 
 -- ---- the end
 
@@ -124,18 +110,34 @@ closed (b ∷ bs) rest status remaining bad none e = inl (bad (λ (e : b ∷ bs 
 
 -- ---- of a command, which keeps what Keeps says
 
-module _ {C S : Type 0} (command : TapeCommand S) (Keeps : C → S → Type 0) where
-  pub goes-none : (remaining contents : Option (List ℕ)) (p : TapeReader C) → Stage command Keeps p [] [] → Goes command Keeps remaining remaining contents contents p
-  goes-none remaining contents p s = record { read = []; written = []; consumed = Consumes-nil remaining; wrote = Appends-nil contents; stage = s }
+pub closes-is_quiet : {C T : Type 0} (command : TapeCommand T) (Keeps : C → T → Type 0) {status : Status} {p : TapeReader C} {piece written : List ℕ} (read : List ℕ) → Closes command Keeps status p piece read written → is_quiet status ≡ true
+closes-is_quiet {T = T} command Keeps {piece = piece} read c =
+    let x = read_lines command (begin command) (lines_of ((read ++ piece) ++ [])) in
+    ap is_quiet (sym (c.outcome [] (λ _. refl))) ∙ end_by x.bad (command.refused x.after.kept) (x.after.lines + 1)
+
+module _ {C T S K : Type 0} (command : TapeCommand T) (Keeps : C → T → Type 0) (read_gives : S → List ℕ → Result ℕ Failed → S → Type 0) (write_gives : K → List ℕ → Result ℕ Failed → K → Type 0) (remaining : S → Option (List ℕ)) (contents : K → Option (List ℕ)) where
+  abbrev Going : S → S → K → K → TapeReader C → Type 0
+  Going tape_old tape out_old out p = Goes command Keeps read_gives write_gives remaining contents tape_old tape out_old out p
+
+  abbrev LeavesBytes : Status → S → S → K → K → Type 0
+  LeavesBytes status tape_old tape out_old out = Leaves status (over_tape command) (remaining tape_old) (remaining tape) (contents out_old) (contents out)
+
+  abbrev LeavesLog : Status → S → S → K → K → Type 0
+  LeavesLog status tape_old tape out_old out = LeavesByLog read_gives write_gives status (over_tape command) tape_old tape out_old out
+
+  pub goes-none : (tape : S) (out : K) (p : TapeReader C) → Stage command Keeps p [] [] → Going tape tape out out p
+  goes-none tape out p s = record { reads = []; written = []; read = refl; writes = moves-none write_gives out; consumed = Consumes-nil (remaining tape); wrote = Appends-nil (contents out); stage = s }
 
   -- all text is written
-  pub goes-written : (remaining_old remaining contents_old contents new : Option (List ℕ)) (p : TapeReader C) (text none : List ℕ) → Goes command Keeps remaining_old remaining contents_old contents p → text ≡ p.text → Appends contents new text → none ≡ []
-      → Goes command Keeps remaining_old remaining contents_old new (record p { text = none })
-  goes-written remaining_old remaining contents_old contents new p text none g is a e = record {
-    read = g.read;
+  pub goes-written : (tape_old tape : S) (out_old out new : K) (p : TapeReader C) (text none : List ℕ) → Going tape_old tape out_old out p → text ≡ p.text → Appends (contents out) (contents new) text → Moves write_gives text out new → none ≡ []
+      → Going tape_old tape out_old new (record p { text = none })
+  goes-written tape_old tape out_old out new p text none g is a m e = record {
+    reads = g.reads;
     written = g.written ++ p.text;
+    read = g.read;
+    writes = moves-append write_gives g.written p.text out_old out new g.writes (subst (λ (l : List ℕ). Moves write_gives l out new) is m);
     consumed = g.consumed;
-    wrote = Appends-trans contents_old contents new g.written p.text g.wrote (subst (Appends contents new) is a);
+    wrote = Appends-trans (contents out_old) (contents out) (contents new) g.written p.text g.wrote (subst (Appends (contents out) (contents new)) is a);
     stage = record {
       whole = g.stage.whole;
       text = g.stage.text;
@@ -152,48 +154,74 @@ module _ {C S : Type 0} (command : TapeCommand S) (Keeps : C → S → Type 0) w
   }
 
   -- a piece more was read
-  pub goes-read : (remaining_old remaining new contents_old contents : Option (List ℕ)) (p q : TapeReader C) (piece : List ℕ) (g : Goes command Keeps remaining_old remaining contents_old contents p) → Consumes remaining new piece
-      → Stage command Keeps q (g.read ++ piece) g.written → Goes command Keeps remaining_old new contents_old contents q
-  goes-read remaining_old remaining new contents_old contents p q piece g read s = record {
-    read = g.read ++ piece;
+  pub goes-read : (tape_old tape new : S) (out_old out : K) (p q : TapeReader C) (n : ℕ) (buf : List ℕ) (g : Going tape_old tape out_old out p) → read_gives tape buf (Ok n) new → Consumes (remaining tape) (remaining new) (take n buf)
+      → Stage command Keeps q (moved g.reads ++ take n buf) g.written → Going tape_old new out_old out q
+  goes-read tape_old tape new out_old out p q n buf g gives read s = record {
+    reads = record { bytes = buf; answer = Ok n } ∷ g.reads;
     written = g.written;
-    consumed = Consumes-trans remaining_old remaining new g.read piece g.consumed read;
+    read = (tape, (g.read, gives));
+    writes = g.writes;
+    consumed = Consumes-trans (remaining tape_old) (remaining tape) (remaining new) (moved g.reads) (take n buf) g.consumed read;
     wrote = g.wrote;
     stage = s;
   }
 
   -- ---- ends in the middle
 
-  in_part : (remaining_old remaining contents_old contents : Option (List ℕ)) (p : TapeReader C) (g : Goes command Keeps remaining_old remaining contents_old contents p) (new : Option (List ℕ)) (front back : List ℕ)
-      → p.text ≡ front ++ back → Appends contents new front → (tape text : List ℕ) → remaining_old ≡ Some tape → contents_old ≡ Some text → WrittenInPart (over_tape command) tape text new
-  in_part remaining_old remaining contents_old contents p g new front back parts a tape text tape_told text_told =
-      let t = remaining_told remaining_old remaining g.read tape g.consumed tape_told in
-      let begins = text_begins command Keeps g.stage t.0 in
+  -- a front of the text is written
+  in_part : (tape_old tape : S) (out_old out : K) (p : TapeReader C) (g : Going tape_old tape out_old out p) (front back : List ℕ) → p.text ≡ front ++ back → (later : List ℕ) → WrittenInPart (over_tape command) (moved g.reads ++ later) [] (Some (g.written ++ front))
+  in_part tape_old tape out_old out p g front back parts later =
+      let begins = text_begins command Keeps g.stage later in
       record {
         front = g.written ++ front;
         back = back ++ begins.0;
-        parts = ap (tape_text command) t.2 ∙ begins.1
-            ∙ ap (λ (l : List ℕ). l ++ begins.0) (ap (λ (l : List ℕ). g.written ++ l) parts ∙ sym (append_assoc g.written front back)) ∙ append_assoc (g.written ++ front) back begins.0;
-        contents-is = contents_told contents_old new (g.written ++ front) text (Appends-trans contents_old contents new g.written front g.wrote a) text_told;
+        parts = begins.1 ∙ ap (λ (l : List ℕ). l ++ begins.0) (ap (λ (l : List ℕ). g.written ++ l) parts ∙ sym (append_assoc g.written front back)) ∙ append_assoc (g.written ++ front) back begins.0;
+        contents-is = refl;
       }
 
   -- the write of the text fails
-  pub ran-write : (remaining_old remaining contents_old contents new : Option (List ℕ)) (p : TapeReader C) (bytes : List ℕ) → Goes command Keeps remaining_old remaining contents_old contents p → bytes ≡ p.text → AppendsFront contents new bytes
-      → Leaves WriteFault (over_tape command) remaining_old remaining contents_old new
-  ran-write remaining_old remaining contents_old contents new p bytes g bytes-is f = λ tape text tape_told text_told.
-      in_part remaining_old remaining contents_old contents p g new f.front f.back (sym bytes-is ∙ f.parts) f.appends tape text tape_told text_told
+  pub ran-write : (tape_old tape : S) (out_old out new : K) (p : TapeReader C) (bytes : List ℕ) → Going tape_old tape out_old out p → bytes ≡ p.text → AppendsFront (contents out) (contents new) bytes → LeavesBytes WriteFault tape_old tape out_old new
+  ran-write tape_old tape out_old out new p bytes g bytes-is f =
+      leaves-told WriteFault (over_tape command) (remaining tape_old) (remaining tape) (contents out_old) (contents new) (moved g.reads) (g.written ++ f.front) g.consumed
+      (Appends-trans (contents out_old) (contents out) (contents new) g.written f.front g.wrote f.appends) (λ later told. in_part tape_old tape out_old out p g f.front f.back (sym bytes-is ∙ f.parts) later)
+
+  pub logs-write : (tape_old tape : S) (out_old out new : K) (p : TapeReader C) (bytes : List ℕ) → Going tape_old tape out_old out p → bytes ≡ p.text → MovesFront write_gives bytes out new → LeavesLog WriteFault tape_old tape out_old new
+  logs-write tape_old tape out_old out new p bytes g bytes-is f = record {
+    reads = g.reads;
+    read = g.read;
+    written = g.written ++ f.front;
+    writes = moves-append write_gives g.written f.front out_old out new g.writes f.moves;
+    leaves = λ later follows. in_part tape_old tape out_old out p g f.front f.back (sym bytes-is ∙ f.parts) later;
+  }
 
   -- memory runs out after a piece was read
-  pub ran-memory : (remaining_old remaining new contents_old contents : Option (List ℕ)) (p : TapeReader C) → Goes command Keeps remaining_old remaining contents_old contents p
-      → Leaves OutOfMemory (over_tape command) remaining_old new contents_old contents
-  ran-memory remaining_old remaining new contents_old contents p g = λ tape text tape_told text_told.
-      in_part remaining_old remaining contents_old contents p g contents [] p.text refl (Appends-nil contents) tape text tape_told text_told
+  memory-part : (tape_old tape : S) (out_old out : K) (p : TapeReader C) (g : Going tape_old tape out_old out p) (piece later : List ℕ) → WrittenInPart (over_tape command) ((moved g.reads ++ piece) ++ later) [] (Some g.written)
+  memory-part tape_old tape out_old out p g piece later =
+      let begins = text_begins command Keeps g.stage (piece ++ later) in
+      record {
+        front = g.written;
+        back = p.text ++ begins.0;
+        parts = ap (tape_text command) (append_assoc (moved g.reads) piece later) ∙ begins.1 ∙ append_assoc g.written p.text begins.0;
+        contents-is = refl;
+      }
+
+  pub ran-memory : (tape_old tape new : S) (out_old out : K) (p : TapeReader C) (piece : List ℕ) → Going tape_old tape out_old out p → Consumes (remaining tape) (remaining new) piece → LeavesBytes OutOfMemory tape_old new out_old out
+  ran-memory tape_old tape new out_old out p piece g read =
+      leaves-told OutOfMemory (over_tape command) (remaining tape_old) (remaining new) (contents out_old) (contents out) (moved g.reads ++ piece) g.written
+      (Consumes-trans (remaining tape_old) (remaining tape) (remaining new) (moved g.reads) piece g.consumed read) g.wrote (λ later told. memory-part tape_old tape out_old out p g piece later)
+
+  pub logs-memory : (tape_old tape new : S) (out_old out : K) (p : TapeReader C) (n : ℕ) (buf : List ℕ) → Going tape_old tape out_old out p → read_gives tape buf (Ok n) new → LeavesLog OutOfMemory tape_old new out_old out
+  logs-memory tape_old tape new out_old out p n buf g gives = record {
+    reads = record { bytes = buf; answer = Ok n } ∷ g.reads;
+    read = (tape, (g.read, gives));
+    written = g.written;
+    writes = g.writes;
+    leaves = λ later follows. memory-part tape_old tape out_old out p g (take n buf) later;
+  }
 
   -- a read fails, and all text is written
-  pub ran-read : (remaining_old remaining new contents_old contents : Option (List ℕ)) (p : TapeReader C) → Goes command Keeps remaining_old remaining contents_old contents p → p.text ≡ [] → KeepsBytes remaining new
-      → Leaves ReadFault (over_tape command) remaining_old new contents_old contents
-  ran-read remaining_old remaining new contents_old contents p g none kept = λ tape text tape_told text_told.
-      let t = remaining_told remaining_old new g.read tape (Consumes-kept remaining_old remaining new g.read g.consumed kept) tape_told in
+  read-part : (tape_old tape : S) (out_old out : K) (p : TapeReader C) (g : Going tape_old tape out_old out p) → p.text ≡ [] → (later : List ℕ) → ReadInPart (over_tape command) (moved g.reads ++ later) [] (Some later) (Some g.written)
+  read-part tape_old tape out_old out p g none later =
       let s = g.stage in
       let plays : read_lines command (begin command) (lines_of s.whole) ≡ record { text = s.text; after = s.at; bad = false } =
       ap (λ (l : List ℕ). read_lines command (begin command) (lines_of l)) (sym (append-nil s.whole)) ∙ s.reads [] ∙ ap (λ (l : List ℕ). record { text = l; after = s.at; bad = false }) (append-nil s.text) in
@@ -201,57 +229,102 @@ module _ {C S : Type 0} (command : TapeCommand S) (Keeps : C → S → Type 0) w
       record {
         whole = s.whole;
         part = p.pending;
-        rest = t.0;
+        rest = later;
         front = command.opening ++ s.text;
-        tape-is = t.2 ∙ ap (λ (l : List ℕ). l ++ t.0) s.read-is;
+        tape-is = ap (λ (l : List ℕ). l ++ later) s.read-is;
         whole_lines = s.whole_lines;
         part_of_line = s.part_of_line;
-        good = ap (λ (x : Reading S). if x.bad then None else Some (command.opening ++ x.text)) plays;
+        good = ap (λ (x : Reading T). if x.bad then None else Some (command.opening ++ x.text)) plays;
         within = subst (λ (n : ℕ). n + length p.pending ≤ tape_limit) s.bytes-is s.within;
-        remaining-is = t.1;
-        contents-is = contents_told contents_old contents g.written text g.wrote text_told ∙ ap (λ (l : List ℕ). Some (text ++ l)) written;
+        remaining-is = refl;
+        contents-is = ap (λ (l : List ℕ). Some l) written;
       }
+
+  pub ran-read : (tape_old tape new : S) (out_old out : K) (p : TapeReader C) → Going tape_old tape out_old out p → p.text ≡ [] → KeepsBytes (remaining tape) (remaining new) → LeavesBytes ReadFault tape_old new out_old out
+  ran-read tape_old tape new out_old out p g none kept =
+      leaves-told ReadFault (over_tape command) (remaining tape_old) (remaining new) (contents out_old) (contents out) (moved g.reads) g.written
+      (Consumes-kept (remaining tape_old) (remaining tape) (remaining new) (moved g.reads) g.consumed kept) g.wrote (λ later told. read-part tape_old tape out_old out p g none later)
+
+  pub logs-read : (tape_old tape new : S) (out_old out : K) (p : TapeReader C) (buf : List ℕ) (failed : Failed) → Going tape_old tape out_old out p → p.text ≡ [] → read_gives tape buf (Err failed) new → LeavesLog ReadFault tape_old new out_old out
+  logs-read tape_old tape new out_old out p buf failed g none gives = record {
+    reads = record { bytes = buf; answer = Err failed } ∷ g.reads;
+    read = (tape, (g.read, gives));
+    written = g.written;
+    writes = g.writes;
+    leaves = λ later follows. subst (λ (l : List ℕ). ReadInPart (over_tape command) (l ++ later) [] (Some later) (Some g.written)) (sym (append-nil (moved g.reads))) (read-part tape_old tape out_old out p g none later);
+  }
 
   -- ---- the end
 
-  pub closes-is_quiet : {status : Status} {p : TapeReader C} {piece written : List ℕ} (read : List ℕ) → Closes command Keeps status p piece read written → is_quiet status ≡ true
-  closes-is_quiet {piece = piece} read c =
-      let x = read_lines command (begin command) (lines_of ((read ++ piece) ++ [])) in
-      ap is_quiet (sym (c.outcome [] (λ _. refl))) ∙ end_by x.bad (command.refused x.after.kept) (x.after.lines + 1)
+  -- all text is written
+  end-whole : (status : Status) (q : TapeReader C) (piece bytes read written : List ℕ) → Closes command Keeps status q piece read written → bytes ≡ q.text → (later : List ℕ) → (piece ≡ [] → later ≡ [])
+      → LeavesTold status (over_tape command) ((read ++ piece) ++ later) [] (Some later) (Some (written ++ bytes))
+  end-whole status q piece bytes read written c bytes-is later none =
+      ends_by status (over_tape command) ((read ++ piece) ++ later) [] (Some later) (Some (written ++ bytes)) (closes-is_quiet command Keeps read c) (record {
+        contents-is = ap (λ (l : List ℕ). Some l) (ap (λ (l : List ℕ). written ++ l) bytes-is ∙ sym (c.text later none));
+        status-is = sym (c.outcome later none);
+      }) (closed piece later status (Some later) c.bad none refl)
 
   -- all text is written, and the run ends
-  pub ran-end : (remaining_old remaining new contents_old contents last : Option (List ℕ)) (p q : TapeReader C) (status : Status) (piece bytes : List ℕ) (g : Goes command Keeps remaining_old remaining contents_old contents p) → Consumes remaining new piece
-      → (piece ≡ [] → IsAtEnd new) → Closes command Keeps status q piece g.read g.written → bytes ≡ q.text → Appends contents last bytes
-      → Leaves status (over_tape command) remaining_old new contents_old last
-  ran-end remaining_old remaining new contents_old contents last p q status piece bytes g read at_end c bytes-is a = λ tape text tape_told text_told.
-      let t = remaining_told remaining_old new (g.read ++ piece) tape (Consumes-trans remaining_old remaining new g.read piece g.consumed read) tape_told in
-      let none : piece ≡ [] → t.0 ≡ [] = λ e. at_end_told new t.0 (at_end e) t.1 in
-      ends_by status (over_tape command) tape text new last (closes-is_quiet g.read c) (record {
-        contents-is = contents_told contents_old last (g.written ++ bytes) text (Appends-trans contents_old contents last g.written bytes g.wrote a) text_told
-            ∙ ap (λ (l : List ℕ). Some (text ++ l)) (ap (λ (l : List ℕ). g.written ++ l) bytes-is ∙ sym (c.text t.0 none) ∙ ap (tape_text command) (sym t.2));
-        status-is = sym (c.outcome t.0 none) ∙ ap (tape_status command) (sym t.2);
-      }) (closed piece t.0 status new c.bad none t.1)
+  pub ran-end : (tape_old tape new : S) (out_old out last : K) (p q : TapeReader C) (status : Status) (piece bytes : List ℕ) (g : Going tape_old tape out_old out p) → Consumes (remaining tape) (remaining new) piece → (piece ≡ [] → IsAtEnd (remaining new))
+      → Closes command Keeps status q piece (moved g.reads) g.written → bytes ≡ q.text → Appends (contents out) (contents last) bytes → LeavesBytes status tape_old new out_old last
+  ran-end tape_old tape new out_old out last p q status piece bytes g read end c bytes-is a =
+      leaves-told status (over_tape command) (remaining tape_old) (remaining new) (contents out_old) (contents last) (moved g.reads ++ piece) (g.written ++ bytes)
+      (Consumes-trans (remaining tape_old) (remaining tape) (remaining new) (moved g.reads) piece g.consumed read) (Appends-trans (contents out_old) (contents out) (contents last) g.written bytes g.wrote a)
+      (λ later told. end-whole status q piece bytes (moved g.reads) g.written c bytes-is later (λ e. at_end_told (remaining new) later (end e) told))
 
-  -- what is then kept
-  pub ran-kept : (remaining_old remaining new contents_old contents : Option (List ℕ)) (p q : TapeReader C) (status : Status) (piece : List ℕ) (g : Goes command Keeps remaining_old remaining contents_old contents p) → Consumes remaining new piece
-      → (piece ≡ [] → IsAtEnd new) → Closes command Keeps status q piece g.read g.written → ReadsTo status Keeps command remaining_old
-  ran-kept remaining_old remaining new contents_old contents p q status piece g read at_end c = comes-to status (λ tape tape_told.
-      let t = remaining_told remaining_old new (g.read ++ piece) tape (Consumes-trans remaining_old remaining new g.read piece g.consumed read) tape_told in
-      subst (λ (l : List ℕ). IsKept Keeps (read_tape command l).after.kept) (sym t.2) (c.kept t.0 (λ e. at_end_told new t.0 (at_end e) t.1)))
+  pub logs-end : (tape_old tape new : S) (out_old out last : K) (p q : TapeReader C) (status : Status) (n : ℕ) (buf bytes : List ℕ) (g : Going tape_old tape out_old out p) → read_gives tape buf (Ok n) new → n ≤ length buf
+      → Closes command Keeps status q (take n buf) (moved g.reads) g.written → bytes ≡ q.text → Moves write_gives bytes out last → LeavesLog status tape_old new out_old last
+  logs-end tape_old tape new out_old out last p q status n buf bytes g gives bound c bytes-is m = record {
+    reads = record { bytes = buf; answer = Ok n } ∷ g.reads;
+    read = (tape, (g.read, gives));
+    written = g.written ++ bytes;
+    writes = moves-append write_gives g.written bytes out_old out last g.writes m;
+    leaves = λ later follows. end-whole status q (take n buf) bytes (moved g.reads) g.written c bytes-is later (at_end n buf g.reads later bound follows);
+  }
 
   -- the last write fails
-  pub ran-last : (remaining_old remaining new contents_old contents last : Option (List ℕ)) (p q : TapeReader C) (status : Status) (piece bytes : List ℕ) (g : Goes command Keeps remaining_old remaining contents_old contents p) → Consumes remaining new piece
-      → (piece ≡ [] → IsAtEnd new) → Closes command Keeps status q piece g.read g.written → bytes ≡ q.text → AppendsFront contents last bytes
-      → Leaves WriteFault (over_tape command) remaining_old new contents_old last
-  ran-last remaining_old remaining new contents_old contents last p q status piece bytes g read at_end c bytes-is f = λ tape text tape_told text_told.
-      let t = remaining_told remaining_old new (g.read ++ piece) tape (Consumes-trans remaining_old remaining new g.read piece g.consumed read) tape_told in
-      let none : piece ≡ [] → t.0 ≡ [] = λ e. at_end_told new t.0 (at_end e) t.1 in
-      record {
-        front = g.written ++ f.front;
-        back = f.back;
-        parts = ap (tape_text command) t.2 ∙ c.text t.0 none ∙ ap (λ (l : List ℕ). g.written ++ l) (sym bytes-is ∙ f.parts) ∙ sym (append_assoc g.written f.front f.back);
-        contents-is = contents_told contents_old last (g.written ++ f.front) text (Appends-trans contents_old contents last g.written f.front g.wrote f.appends) text_told;
-      }
+  last-part : (status : Status) (q : TapeReader C) (piece read written front back : List ℕ) → Closes command Keeps status q piece read written → q.text ≡ front ++ back → (later : List ℕ) → (piece ≡ [] → later ≡ [])
+      → WrittenInPart (over_tape command) ((read ++ piece) ++ later) [] (Some (written ++ front))
+  last-part status q piece read written front back c parts later none = record {
+    front = written ++ front;
+    back = back;
+    parts = c.text later none ∙ ap (λ (l : List ℕ). written ++ l) parts ∙ sym (append_assoc written front back);
+    contents-is = refl;
+  }
+
+  pub ran-last : (tape_old tape new : S) (out_old out last : K) (p q : TapeReader C) (status : Status) (piece bytes : List ℕ) (g : Going tape_old tape out_old out p) → Consumes (remaining tape) (remaining new) piece → (piece ≡ [] → IsAtEnd (remaining new))
+      → Closes command Keeps status q piece (moved g.reads) g.written → bytes ≡ q.text → AppendsFront (contents out) (contents last) bytes → LeavesBytes WriteFault tape_old new out_old last
+  ran-last tape_old tape new out_old out last p q status piece bytes g read end c bytes-is f =
+      leaves-told WriteFault (over_tape command) (remaining tape_old) (remaining new) (contents out_old) (contents last) (moved g.reads ++ piece) (g.written ++ f.front)
+      (Consumes-trans (remaining tape_old) (remaining tape) (remaining new) (moved g.reads) piece g.consumed read) (Appends-trans (contents out_old) (contents out) (contents last) g.written f.front g.wrote f.appends)
+      (λ later told. last-part status q piece (moved g.reads) g.written f.front f.back c (sym bytes-is ∙ f.parts) later (λ e. at_end_told (remaining new) later (end e) told))
+
+  pub logs-last : (tape_old tape new : S) (out_old out last : K) (p q : TapeReader C) (status : Status) (n : ℕ) (buf bytes : List ℕ) (g : Going tape_old tape out_old out p) → read_gives tape buf (Ok n) new → n ≤ length buf
+      → Closes command Keeps status q (take n buf) (moved g.reads) g.written → bytes ≡ q.text → MovesFront write_gives bytes out last → LeavesLog WriteFault tape_old new out_old last
+  logs-last tape_old tape new out_old out last p q status n buf bytes g gives bound c bytes-is f = record {
+    reads = record { bytes = buf; answer = Ok n } ∷ g.reads;
+    read = (tape, (g.read, gives));
+    written = g.written ++ f.front;
+    writes = moves-append write_gives g.written f.front out_old out last g.writes f.moves;
+    leaves = λ later follows. last-part status q (take n buf) (moved g.reads) g.written f.front f.back c (sym bytes-is ∙ f.parts) later (at_end n buf g.reads later bound follows);
+  }
+
+  -- ---- what is then kept
+
+  pub ran-kept : (tape_old tape new : S) (out_old out : K) (p q : TapeReader C) (status : Status) (piece : List ℕ) (g : Going tape_old tape out_old out p) → Consumes (remaining tape) (remaining new) piece → (piece ≡ [] → IsAtEnd (remaining new))
+      → Closes command Keeps status q piece (moved g.reads) g.written → ReadsTo status Keeps command (remaining tape_old)
+  ran-kept tape_old tape new out_old out p q status piece g read end c = comes-to status (λ whole told.
+      let t = remaining_told (remaining tape_old) (remaining new) (moved g.reads ++ piece) whole (Consumes-trans (remaining tape_old) (remaining tape) (remaining new) (moved g.reads) piece g.consumed read) told in
+      subst (λ (l : List ℕ). IsKept Keeps (read_tape command l).after.kept) (sym t.2) (c.kept t.0 (λ e. at_end_told (remaining new) t.0 (end e) t.1)))
+
+  pub logs-kept : (tape_old tape new : S) (out_old out : K) (p q : TapeReader C) (status : Status) (n : ℕ) (buf : List ℕ) (g : Going tape_old tape out_old out p) → read_gives tape buf (Ok n) new → n ≤ length buf
+      → Closes command Keeps status q (take n buf) (moved g.reads) g.written → ReadsToByLog read_gives status Keeps command tape_old new
+  logs-kept tape_old tape new out_old out p q status n buf g gives bound c = comes-to status (record {
+    reads = record { bytes = buf; answer = Ok n } ∷ g.reads;
+    read = (tape, (g.read, gives));
+    each = λ later follows. c.kept later (at_end n buf g.reads later bound follows);
+  })
 
 -- ---- a read
 
@@ -324,13 +397,3 @@ causes-usage a x y out = record {
   writes_stand = λ ne. out;
   no_links = tt;
 }
-
--- ---- words that are no command
-
--- how they should be is written
-pub ran-usage : (remaining contents_old contents : Option (List ℕ)) → Appends contents_old contents usage_line → Leaves Usage usage remaining remaining contents_old contents
-ran-usage remaining contents_old contents a = λ tape text tape_told text_told. (tape_told, record { contents-is = contents_told contents_old contents usage_line text a text_told; status-is = refl })
-
--- a front of it is written
-pub ran-usage_failed : (remaining contents_old contents : Option (List ℕ)) → AppendsFront contents_old contents usage_line → Leaves WriteFault usage remaining remaining contents_old contents
-ran-usage_failed remaining contents_old contents f = λ tape text tape_told text_told. record { front = f.front; back = f.back; parts = f.parts; contents-is = contents_told contents_old contents f.front text f.appends text_told }

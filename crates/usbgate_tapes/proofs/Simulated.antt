@@ -1,5 +1,7 @@
 -- A run of a modelled device, against the device attached directly.
-use Rattle.std.proofs.Common.{◌≡◌, ℕ, List, [], Option, sym, subst}
+use Rattle.std.proofs.Common.{◌≡◌, ℕ, List, [], ◌++◌, Option, Result, sym, subst}
+use Rattle.gate_outside.specs.declared.fault.Failed.{Failed}
+use Rattle.gate_outside.specs.Moved.{moved}
 use Rattle.model_device.specs.Device.{State, first_state, meaning_of}
 use Rattle.model_device.specs.Loopback.{loopback}
 use Rattle.model_device.specs.Meaning.{Meaning}
@@ -14,10 +16,10 @@ use Rattle.usbgate_tapes.specs.declared.device.Device.TheVariants.{Keyboard, Loo
 use Rattle.usbgate_tapes.specs.declared.status.Status.{Status}
 use Rattle.usbgate_tapes.specs.declared.status.Status.TheVariants.{OutOfMemory}
 use Rattle.usbgate_tapes.specs.Model.{model}
-use Rattle.usbgate_tapes.specs.Simulated.{steps_of, AreSimulated, SimulatesTape, MadeSimulates}
+use Rattle.usbgate_tapes.specs.Simulated.{steps_of, AreSimulated, SimulatesTape, AreSimulatedByLog, SimulatesByLog, MadeSimulates}
 use Rattle.usbgate_tapes.specs.inner.Loaded.{steps_after}
 use Rattle.usbgate_tapes.specs.inner.Model.{HasDone}
-use Rattle.usbgate_tapes.specs.inner.TapeReader.{ReadsTo}
+use Rattle.usbgate_tapes.specs.inner.TapeReader.{ReadsTo, ReadsToByLog}
 use Rattle.usbgate_tapes.proofs.Going.{comes-too}
 use Rattle.usbgate_tapes.proofs.Loaded.{kept-made}
 
@@ -28,12 +30,25 @@ SystemsAreDirect {S = S} m = (first : S) (kept : SystemKept S) (steps : List Ste
 pub are-simulated : {S : Type 0} (m : Meaning S) (s : S) (status : Status) (remaining : Option (List ℕ)) → SystemsAreDirect m → ReadsTo status (HasDone m s) (model m s) remaining → AreSimulated status m s remaining
 are-simulated m s status remaining law reads = comes-too status (λ kept tape told. let k = kept tape told in law s k.0.system (steps_of m s tape) k.1.system) reads
 
+pub are-simulated_log : {S T : Type 0} (m : Meaning S) (s : S) (read_gives : T → List ℕ → Result ℕ Failed → T → Type 0) (status : Status) (old new : T) → SystemsAreDirect m → ReadsToByLog read_gives status (HasDone m s) (model m s) old new → AreSimulatedByLog read_gives status m s old new
+are-simulated_log m s read_gives status old new law reads = comes-too status (λ kept. record {
+  reads = kept.reads;
+  read = kept.read;
+  each = λ later follows. let k = kept.each later follows in law s k.0.system (steps_of m s (moved kept.reads ++ later)) k.1.system;
+}) reads
+
 -- nothing is said of a run that memory was wanting for
 pub unsimulated : (device : Device) (remaining : Option (List ℕ)) → SimulatesTape OutOfMemory device remaining
 unsimulated Keyboard remaining = tt
 unsimulated Loopback remaining = tt
 unsimulated Tone remaining = tt
 unsimulated Disk remaining = tt
+
+pub unsimulated_log : {T : Type 0} (read_gives : T → List ℕ → Result ℕ Failed → T → Type 0) (device : Device) (old new : T) → SimulatesByLog read_gives OutOfMemory device old new
+unsimulated_log read_gives Keyboard old new = tt
+unsimulated_log read_gives Loopback old new = tt
+unsimulated_log read_gives Tone old new = tt
+unsimulated_log read_gives Disk old new = tt
 
 -- a made tape
 pub made-simulates : (count : ℕ) (gadget : State (List ℕ)) (k : SystemKept (State (List ℕ))) → gadget ≡ first_state loopback → TapeAgain (made_lines count) → SystemsAreDirect (meaning_of loopback)

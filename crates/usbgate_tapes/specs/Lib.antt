@@ -9,6 +9,7 @@ pub mod Show
 pub mod Made
 pub mod Prescribed
 pub mod Run
+pub mod Logs
 pub mod Simulated
 pub mod Causes
 pub mod Code

@@ -1,5 +1,6 @@
 -- The command `model` against the device attached directly.
-use Rattle.std.specs.Prelude.{◌≡◌, ℕ, List, Option, Some}
+use Rattle.std.specs.Prelude.{◌≡◌, ℕ, List, Option, Some, Result}
+use Rattle.gate_outside.specs.declared.fault.Failed.{Failed}
 use Rattle.model_device.specs.Device.{first_state, meaning_of}
 use Rattle.model_device.specs.Keyboard.{keyboard}
 use Rattle.model_device.specs.Loopback.{loopback}
@@ -11,6 +12,7 @@ use Rattle.direct_proof.specs.Simulates.{Simulates}
 use Rattle.usbgate_tapes.specs.declared.device.Device.{Device}
 use Rattle.usbgate_tapes.specs.declared.device.Device.TheVariants.{Keyboard, Loopback, Tone, Disk}
 use Rattle.usbgate_tapes.specs.declared.status.Status.{Status}
+use Rattle.usbgate_tapes.specs.Logs.{HoldsOfRead}
 use Rattle.usbgate_tapes.specs.Made.{made}
 use Rattle.usbgate_tapes.specs.Model.{model}
 use Rattle.usbgate_tapes.specs.Run.{ComesToEnd}
@@ -31,6 +33,17 @@ SimulatesTape status Keyboard remaining = AreSimulated status (meaning_of keyboa
 SimulatesTape status Loopback remaining = AreSimulated status (meaning_of loopback) (first_state loopback) remaining
 SimulatesTape status Tone remaining = AreSimulated status (meaning_of tone) (first_state tone) remaining
 SimulatesTape status Disk remaining = AreSimulated status disk (first_disk 64) remaining
+
+-- the same by the log of the reads, over any tape: it is so of each tape that may stand behind what was read
+abbrev pub AreSimulatedByLog : {S T : Type 0} → (T → List ℕ → Result ℕ Failed → T → Type 0) → Status → Meaning S → S → T → T → Type 0
+AreSimulatedByLog read_gives status m s old new = ComesToEnd status (HoldsOfRead read_gives (λ tape. Simulates m s (steps_of m s tape)) old new)
+
+-- of each device, as it is plugged in
+abbrev pub SimulatesByLog : {T : Type 0} → (T → List ℕ → Result ℕ Failed → T → Type 0) → Status → Device → T → T → Type 0
+SimulatesByLog read_gives status Keyboard old new = AreSimulatedByLog read_gives status (meaning_of keyboard) (first_state keyboard) old new
+SimulatesByLog read_gives status Loopback old new = AreSimulatedByLog read_gives status (meaning_of loopback) (first_state loopback) old new
+SimulatesByLog read_gives status Tone old new = AreSimulatedByLog read_gives status (meaning_of tone) (first_state tone) old new
+SimulatesByLog read_gives status Disk old new = AreSimulatedByLog read_gives status disk (first_disk 64) old new
 
 -- of the loop, by the steps of the tape that a number stands for
 abbrev pub MadeSimulates : ℕ → Type 0

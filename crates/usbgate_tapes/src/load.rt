@@ -6,6 +6,7 @@ ghost use Rattle.made_tape.specs.Rounds.{made_lines};
 ghost use Rattle.usbgate_tapes.specs.Made.{loaded};
 ghost use Rattle.usbgate_tapes.specs.Prescribed.{printed};
 ghost use Rattle.usbgate_tapes.specs.Run.{Leaves, IsOfNoTape};
+ghost use Rattle.usbgate_tapes.specs.Logs.{WritesByLog};
 ghost use Rattle.usbgate_tapes.specs.Simulated.{MadeSimulates};
 ghost use Rattle.usbgate_tapes.specs.Causes.{HasCauses};
 ghost use Rattle.usbgate_tapes.specs.inner.Loaded.{steps_after};
@@ -26,6 +27,7 @@ use usb_base::{Bytes, Memory};
 pub fn load<K: Sink>(alloc: Global, count: u16, out: &mut K) -> Status
     requires { count ≤ 1000 }
     ensures leaves { (remaining : Option (List ℕ)) → Leaves result (printed (loaded count)) remaining remaining (K.contents out.old) (K.contents out.new) }
+    ensures writes_log { WritesByLog K.write_gives result (printed (loaded count)) out.old out.new }
     ensures causes { (faults : ℕ) → HasCauses result faults faults (K.faults out.old) (K.faults out.new) }
     ensures ends { IsOfNoTape result }
     ensures simulates { result ≡ Status.Done → MadeSimulates count }

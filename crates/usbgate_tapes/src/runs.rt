@@ -2,15 +2,16 @@
 
 ghost use Rattle.std.specs.Prelude.{◌≡◌, ◌≢◌, ◌<◌, ◌≤◌, [], length};
 ghost use Rattle.usbgate_tapes.specs.Run.{Leaves};
+ghost use Rattle.usbgate_tapes.specs.Logs.{LeavesByLog};
 ghost use Rattle.usbgate_tapes.specs.Prescribed.{over_tape as tape_prescribed};
 ghost use Rattle.usbgate_tapes.specs.EventCommand.{over_events};
 ghost use Rattle.usbgate_tapes.specs.Replay.{replay as replaying};
 ghost use Rattle.usbgate_tapes.specs.Model.{model as modelling, model_of};
-ghost use Rattle.usbgate_tapes.specs.Simulated.{AreSimulated, SimulatesTape};
+ghost use Rattle.usbgate_tapes.specs.Simulated.{AreSimulated, SimulatesTape, AreSimulatedByLog, SimulatesByLog};
 ghost use Rattle.usbgate_tapes.specs.Show.{show as showing, show_side};
 ghost use Rattle.usbgate_tapes.specs.inner.Show.{shown_by};
 ghost use Rattle.usbgate_tapes.specs.Causes.{HasCauses};
-ghost use Rattle.usbgate_tapes.specs.inner.TapeReader.{Stage, ReadsTo};
+ghost use Rattle.usbgate_tapes.specs.inner.TapeReader.{Stage, ReadsTo, ReadsToByLog};
 
 use crate::device::{BLOCKS, Device};
 use crate::event_tape::EventTape;
@@ -37,6 +38,7 @@ const CHUNK: usize = 65_536;
 pub fn replay<S: Source, K: Sink>(alloc: Global, first_id: u32, tape: &mut S, out: &mut K) -> Status
     requires { 1 ≤ first_id }
     ensures leaves { Leaves result (tape_prescribed (over_events (replaying first_id))) (S.remaining tape.old) (S.remaining tape.new) (K.contents out.old) (K.contents out.new) }
+    ensures leaves_log { LeavesByLog S.read_gives K.write_gives result (tape_prescribed (over_events (replaying first_id))) tape.old tape.new out.old out.new }
     ensures causes { HasCauses result (S.faults tape.old) (S.faults tape.new) (K.faults out.old) (K.faults out.new) }
     ensures command { result ≢ Status.Usage }
 {
@@ -50,7 +52,9 @@ pub fn replay<S: Source, K: Sink>(alloc: Global, first_id: u32, tape: &mut S, ou
 /// Does the steps of a tape with a gateway and a modelled device, and prints what each tells.
 pub fn model<S: Source, K: Sink>(alloc: Global, device: Device, tape: &mut S, out: &mut K) -> Status
     ensures leaves { Leaves result (tape_prescribed (model_of device)) (S.remaining tape.old) (S.remaining tape.new) (K.contents out.old) (K.contents out.new) }
+    ensures leaves_log { LeavesByLog S.read_gives K.write_gives result (tape_prescribed (model_of device)) tape.old tape.new out.old out.new }
     ensures simulates { SimulatesTape result device (S.remaining tape.old) }
+    ensures simulates_log { SimulatesByLog S.read_gives result device tape.old tape.new }
     ensures causes { HasCauses result (S.faults tape.old) (S.faults tape.new) (K.faults out.old) (K.faults out.new) }
     ensures command { result ≢ Status.Usage }
 {
@@ -81,7 +85,9 @@ fn model_with<G: Gadget, S: Source, K: Sink>(
     out: &mut K,
 ) -> Status
     ensures leaves { Leaves result (tape_prescribed (modelling G.meaning gadget)) (S.remaining tape.old) (S.remaining tape.new) (K.contents out.old) (K.contents out.new) }
+    ensures leaves_log { LeavesByLog S.read_gives K.write_gives result (tape_prescribed (modelling G.meaning gadget)) tape.old tape.new out.old out.new }
     ensures simulates { AreSimulated result G.meaning gadget (S.remaining tape.old) }
+    ensures simulates_log { AreSimulatedByLog S.read_gives result G.meaning gadget tape.old tape.new }
     ensures causes { HasCauses result (S.faults tape.old) (S.faults tape.new) (K.faults out.old) (K.faults out.new) }
     ensures command { result ≢ Status.Usage }
 {
@@ -96,6 +102,7 @@ fn model_with<G: Gadget, S: Source, K: Sink>(
 /// Prints the packets of one side's stream in a tape.
 pub fn show<S: Source, K: Sink>(alloc: Global, side: Side, tape: &mut S, out: &mut K) -> Status
     ensures leaves { Leaves result (tape_prescribed (over_events (showing side))) (S.remaining tape.old) (S.remaining tape.new) (K.contents out.old) (K.contents out.new) }
+    ensures leaves_log { LeavesByLog S.read_gives K.write_gives result (tape_prescribed (over_events (showing side))) tape.old tape.new out.old out.new }
     ensures causes { HasCauses result (S.faults tape.old) (S.faults tape.new) (K.faults out.old) (K.faults out.new) }
     ensures command { result ≢ Status.Usage }
 {
@@ -111,6 +118,7 @@ fn show_stream<F: ShownFormat, S: Source, K: Sink>(
     out: &mut K,
 ) -> Status
     ensures leaves { Leaves result (tape_prescribed (over_events (show_side (shown_by F.the_side F.format F.after F.first_state F.bytes F.line)))) (S.remaining tape.old) (S.remaining tape.new) (K.contents out.old) (K.contents out.new) }
+    ensures leaves_log { LeavesByLog S.read_gives K.write_gives result (tape_prescribed (over_events (show_side (shown_by F.the_side F.format F.after F.first_state F.bytes F.line)))) tape.old tape.new out.old out.new }
     ensures causes { HasCauses result (S.faults tape.old) (S.faults tape.new) (K.faults out.old) (K.faults out.new) }
     ensures command { result ≢ Status.Usage }
 {
@@ -129,7 +137,10 @@ fn over_tape<C: TapeCommand + Drop, S: Source, K: Sink>(
     requires { (task : C.Task) × C.Keeps task command (C.means task).start × (text ≡ (C.means task).opening) }
     ensures leaves { (task : C.Task) → C.Keeps task command (C.means task).start → text ≡ (C.means task).opening
         → Leaves result (tape_prescribed (C.means task)) (S.remaining tape.old) (S.remaining tape.new) (K.contents out.old) (K.contents out.new) }
+    ensures leaves_log { (task : C.Task) → C.Keeps task command (C.means task).start → text ≡ (C.means task).opening
+        → LeavesByLog S.read_gives K.write_gives result (tape_prescribed (C.means task)) tape.old tape.new out.old out.new }
     ensures kept { (task : C.Task) → C.Keeps task command (C.means task).start → text ≡ (C.means task).opening → ReadsTo result (C.Keeps task) (C.means task) (S.remaining tape.old) }
+    ensures kept_log { (task : C.Task) → C.Keeps task command (C.means task).start → text ≡ (C.means task).opening → ReadsToByLog S.read_gives result (C.Keeps task) (C.means task) tape.old tape.new }
     ensures causes { HasCauses result (S.faults tape.old) (S.faults tape.new) (K.faults out.old) (K.faults out.new) }
     ensures command { result ≢ Status.Usage }
 {
@@ -157,7 +168,9 @@ fn read_pieces<C: TapeCommand + Drop, S: Source, K: Sink>(
     requires start { (task : C.Task) × Stage (C.means task) (C.Keeps task) reader [] [] }
     requires room { 0 < length buf.old }
     ensures leaves { (task : C.Task) → Stage (C.means task) (C.Keeps task) reader [] [] → Leaves result (tape_prescribed (C.means task)) (S.remaining tape.old) (S.remaining tape.new) (K.contents out.old) (K.contents out.new) }
+    ensures leaves_log { (task : C.Task) → Stage (C.means task) (C.Keeps task) reader [] [] → LeavesByLog S.read_gives K.write_gives result (tape_prescribed (C.means task)) tape.old tape.new out.old out.new }
     ensures kept { (task : C.Task) → Stage (C.means task) (C.Keeps task) reader [] [] → ReadsTo result (C.Keeps task) (C.means task) (S.remaining tape.old) }
+    ensures kept_log { (task : C.Task) → Stage (C.means task) (C.Keeps task) reader [] [] → ReadsToByLog S.read_gives result (C.Keeps task) (C.means task) tape.old tape.new }
     ensures causes { HasCauses result (S.faults tape.old) (S.faults tape.new) (K.faults out.old) (K.faults out.new) }
     ensures command { result ≢ Status.Usage }
 {

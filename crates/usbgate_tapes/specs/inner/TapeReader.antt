@@ -1,6 +1,7 @@
 -- Where a reader stands in a tape, of which a part has been read, and a part of whose text has been written. What the
 -- command keeps is said by Keeps.
-use Rattle.std.specs.Prelude.{◌≡◌, ◌≢◌, ℕ, ◌+◌, ◌<◌, ◌≤◌, false, List, [], ◌++◌, length, Option, Some, None}
+use Rattle.std.specs.Prelude.{◌≡◌, ◌≢◌, ℕ, ◌+◌, ◌<◌, ◌≤◌, false, List, [], ◌++◌, length, Option, Some, None, Result}
+use Rattle.gate_outside.specs.declared.fault.Failed.{Failed}
 use Rattle.usbgate_tapes.specs.declared.tape_lines.TapeLines.{TapeLines}
 use Rattle.usbgate_tapes.specs.declared.tape_reader.TapeReader.{TapeReader}
 use Rattle.usbgate_tapes.specs.declared.status.Status.{Status}
@@ -9,6 +10,7 @@ use Rattle.usbgate_tapes.specs.Tape.{lines_of}
 use Rattle.usbgate_tapes.specs.Text.{bad_line}
 use Rattle.usbgate_tapes.specs.TapeCommand.{TapeCommand, tape_limit, Progress, begin, next_line, Reading, read_lines, read_tape, tape_text, tape_status}
 use Rattle.usbgate_tapes.specs.Run.{EndsALine, HasNoLF, ComesToEnd}
+use Rattle.usbgate_tapes.specs.Logs.{HoldsOfRead}
 
 -- some command keeps this
 abbrev pub IsKept : {C S : Type 0} → (C → S → Type 0) → S → Type 0
@@ -115,3 +117,7 @@ Kept (Some status) s part old new = (tape_limit < s.bytes + length part) × Spoi
 -- where it comes to the end of a tape that tells its bytes, or to a bad line, some command keeps what the lines before say
 abbrev pub ReadsTo : {C S : Type 0} → Status → (C → S → Type 0) → TapeCommand S → Option (List ℕ) → Type 0
 ReadsTo status Keeps command remaining = ComesToEnd status ((tape : List ℕ) → remaining ≡ Some tape → IsKept Keeps (read_tape command tape).after.kept)
+
+-- the same by the log of the reads, over any tape
+abbrev pub ReadsToByLog : {C S T : Type 0} → (T → List ℕ → Result ℕ Failed → T → Type 0) → Status → (C → S → Type 0) → TapeCommand S → T → T → Type 0
+ReadsToByLog read_gives status Keeps command old new = ComesToEnd status (HoldsOfRead read_gives (λ tape. IsKept Keeps (read_tape command tape).after.kept) old new)

@@ -1,5 +1,8 @@
 use Rattle.std.proofs.Common.{ℕ, List, ◌++◌, ap, ◌∙◌}
 use Rattle.usbgate_tapes.specs.Replay.{replay}
+use Rattle.usbgate_tapes.specs.EventCommand.{over_events}
+use Rattle.usbgate_tapes.specs.Prescribed.{over_tape}
+use Rattle.usbgate_tapes.proofs.Unread.{logs-none}
 use Rattle.usbgate_tapes.proofs.runs.replay.Goals as goal
 
 pub over_tape-requires : goal.over_tape-requires
@@ -11,3 +14,11 @@ pub returns-in-Ok-clause-leaves : goal.returns-in-Ok-clause-leaves
 returns-in-Ok-clause-leaves g c =
     let command = replay c.args.first_id in
     c.over_tape.ensures.leaves command (c.start-in-Ok.ensures command c.in-Ok.ensures.start) (c.in-Ok.ensures.text ∙ ap (λ (l : List ℕ). l ++ command.opening) c.new-text.ensures)
+
+pub returns-in-Ok-clause-leaves_log : goal.returns-in-Ok-clause-leaves_log
+returns-in-Ok-clause-leaves_log g c =
+    let command = replay c.args.first_id in
+    c.over_tape.ensures.leaves_log command (c.start-in-Ok.ensures command c.in-Ok.ensures.start) (c.in-Ok.ensures.text ∙ ap (λ (l : List ℕ). l ++ command.opening) c.new-text.ensures)
+
+pub returns-in-Err-clause-leaves_log : goal.returns-in-Err-clause-leaves_log
+returns-in-Err-clause-leaves_log g c = logs-none g.S.Source.read_gives g.K.Sink.write_gives (over_tape (over_events (replay c.args.first_id))) c.args.tape.now c.args.out.now
