@@ -25,9 +25,9 @@ pub fn earliest_in_lane(arena: &Arena<(u64, Live)>, lane: usize, end: &StreamEnd
 {
     let mut next = arena.front(lane);
     while let Some(key) = next {
-        let entry = arena.get(key).unwrap();
-        if entry.1.kind.ends_with(end) {
-            return Some(entry.0);
+        let (number, live) = arena.get(key).unwrap();
+        if live.kind.ends_with(end) {
+            return Some(*number);
         }
         next = arena.next(key);
     }

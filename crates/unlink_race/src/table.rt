@@ -230,6 +230,7 @@ impl Table {
     pub fn place_waiting(&self, ep: EpAddr) -> Option<usize>
         ensures { result ≡ position (waits_for ep) self.now }
     {
+        // This endpoint's stream ends so, and no other.
         let end = StreamEnd::Told(ep.byte());
         let number = earliest_in_lane(&self.arena, ep.index(), &end)?;
         place_numbered(&self.arena, &self.rows, number)
