@@ -8,9 +8,10 @@ ghost use Rattle.session_tape.specs.Tapes.{WasThere};
 ghost use Rattle.bridge_run.specs.Outside.{outside, written, faults, OneRose};
 ghost use Rattle.usbgate_tapes.specs.declared.device.Device.{Device as ADevice};
 ghost use Rattle.usbgate_tapes.specs.Run.{Leaves, OpensNoLink, IsOfNoCommand, IsOfNoTape};
+ghost use Rattle.usbgate_tapes.specs.Logs.{LeavesByLog};
 ghost use Rattle.usbgate_tapes.specs.Prescribed.{Prescribed};
 ghost use Rattle.usbgate.specs.Prescribed.{prescribed};
-ghost use Rattle.usbgate_tapes.specs.Simulated.{SimulatesTape, MadeSimulates};
+ghost use Rattle.usbgate_tapes.specs.Simulated.{SimulatesTape, SimulatesByLog, MadeSimulates};
 ghost use Rattle.usbgate_commands.specs.Serving.{Asked};
 ghost use Rattle.usbgate_commands.specs.Lending.{AskedLent};
 ghost use Rattle.usbgate_commands.specs.Logs.{ServesByLog, LendsByLog};
@@ -48,7 +49,9 @@ pub fn run<S: Source, K: Sink, D: Doors, T: MakeTape>(
     requires host_down { (D.link doors.old Host).up ≡ false }
     ensures leaves { (p : Prescribed) → prescribed (command_of (texts words.now)) ≡ Some p
         → Leaves result p (S.remaining tape.old) (S.remaining tape.new) (K.contents out.old) (K.contents out.new) }
+    ensures leaves_log { (p : Prescribed) → prescribed (command_of (texts words.now)) ≡ Some p → LeavesByLog S.read_gives K.write_gives result p tape.old tape.new out.old out.new }
     ensures simulates { (device : ADevice) → command_of (texts words.now) ≡ Command.Model device → SimulatesTape result device (S.remaining tape.old) }
+    ensures simulates_log { (device : ADevice) → command_of (texts words.now) ≡ Command.Model device → SimulatesByLog S.read_gives result device tape.old tape.new }
     ensures load_simulates { (count : ℕ) → command_of (texts words.now) ≡ Command.Load count → result ≡ Status.Done → MadeSimulates count }
     ensures serves { (asked : Asked) → command_of (texts words.now) ≡ Command.Serve asked
         → Serves result asked (outside (D.link doors.old) (D.door doors.old)) (outside (D.link doors.new) (D.door doors.new))

@@ -4,14 +4,17 @@ use Rattle.bridge_run.specs.Outside.{outside, written, faults}
 use Rattle.usbgate_tapes.specs.EventCommand.{over_events}
 use Rattle.usbgate_tapes.specs.Replay.{replay}
 use Rattle.usbgate_tapes.specs.Model.{model_of}
+use Rattle.usbgate_tapes.specs.Show.{show}
 use Rattle.usbgate_tapes.specs.Made.{made, loaded}
-use Rattle.usbgate_tapes.specs.Prescribed.{Prescribed, over_tape, printed}
+use Rattle.usbgate_tapes.specs.Prescribed.{Prescribed, over_tape, printed, usage}
 use Rattle.usbgate.specs.Prescribed.{prescribed}
 use Rattle.usbgate_commands.specs.Recording.{records}
 use Rattle.usbgate_tapes.specs.Run.{Leaves}
+use Rattle.usbgate_tapes.specs.Logs.{LeavesByLog}
 use Rattle.usbgate_commands.proofs.Served.{unserved, unlent, links-stand, link-fault-of, link-stands}
-use Rattle.usbgate_tapes.proofs.Simulated.{unsimulated}
-use Rattle.usbgate.proofs.Simulated.{simulates-device, simulates-count}
+use Rattle.usbgate_tapes.proofs.Simulated.{unsimulated, unsimulated_log}
+use Rattle.usbgate_tapes.proofs.Unread.{logs-none, logs-unread}
+use Rattle.usbgate.proofs.Simulated.{simulates-device, simulates-device_log, simulates-count}
 use Rattle.bridge_run.specs.Gate.{gate_sends}
 use Rattle.usbgate_commands.specs.Serves.{device_sends}
 use Rattle.usbgate_commands.proofs.Logs.{unlogged}
@@ -90,3 +93,43 @@ returns-in_default-clause-serves_log g c = λ asked is. inr (unlogged g.D.Doors.
 
 pub returns-in_default-clause-lends_log : goal.returns-in_default-clause-lends_log
 returns-in_default-clause-lends_log g c = λ asked is. unlogged g.D.Doors.call_gives (record { host = None; door = asked.listen }) (device_sends asked.device) c.args.doors.now
+
+pub returns-in_default-clause-leaves_log : goal.returns-in_default-clause-leaves_log
+returns-in_default-clause-leaves_log g c = λ p is. logs-none g.S.Source.read_gives g.K.Sink.write_gives p c.args.tape.now c.args.out.now
+
+pub returns-in_default-clause-simulates_log : goal.returns-in_default-clause-simulates_log
+returns-in_default-clause-simulates_log g c = λ device is. unsimulated_log g.S.Source.read_gives device c.args.tape.now c.args.tape.now
+
+pub returns-in-Replay-clause-leaves_log : goal.returns-in-Replay-clause-leaves_log
+returns-in-Replay-clause-leaves_log g c = λ p is.
+    subst (λ (q : Prescribed). LeavesByLog g.S.Source.read_gives g.K.Sink.write_gives c.replay.result q c.args.tape.now c.replay.new.tape c.args.out.now c.replay.new.out)
+    (same_Some (over_tape (over_events (replay c.in-Replay.first_id))) p (ap prescribed (sym c.in-Replay.is ∙ c.in-Ok.ensures.value) ∙ is)) c.replay.ensures.leaves_log
+
+pub returns-in-Model-clause-leaves_log : goal.returns-in-Model-clause-leaves_log
+returns-in-Model-clause-leaves_log g c = λ p is.
+    subst (λ (q : Prescribed). LeavesByLog g.S.Source.read_gives g.K.Sink.write_gives c.model.result q c.args.tape.now c.model.new.tape c.args.out.now c.model.new.out)
+    (same_Some (over_tape (model_of c.in-Model.device)) p (ap prescribed (sym c.in-Model.is ∙ c.in-Ok.ensures.value) ∙ is)) c.model.ensures.leaves_log
+
+pub returns-in-Show-clause-leaves_log : goal.returns-in-Show-clause-leaves_log
+returns-in-Show-clause-leaves_log g c = λ p is.
+    subst (λ (q : Prescribed). LeavesByLog g.S.Source.read_gives g.K.Sink.write_gives c.show.result q c.args.tape.now c.show.new.tape c.args.out.now c.show.new.out)
+    (same_Some (over_tape (over_events (show c.in-Show.side))) p (ap prescribed (sym c.in-Show.is ∙ c.in-Ok.ensures.value) ∙ is)) c.show.ensures.leaves_log
+
+pub returns-in-Make-clause-leaves_log : goal.returns-in-Make-clause-leaves_log
+returns-in-Make-clause-leaves_log g c = λ p is.
+    subst (λ (q : Prescribed). LeavesByLog g.S.Source.read_gives g.K.Sink.write_gives c.make.result q c.args.tape.now c.args.tape.now c.args.out.now c.make.new.out)
+    (same_Some (printed (made c.in-Make.count)) p (ap prescribed (sym c.in-Make.is ∙ c.in-Ok.ensures.value) ∙ is)) (logs-unread g.S.Source.read_gives g.K.Sink.write_gives c.make.result (printed (made c.in-Make.count)) c.args.tape.now c.args.out.now c.make.new.out c.make.ensures.writes_log)
+
+pub returns-in-Load-clause-leaves_log : goal.returns-in-Load-clause-leaves_log
+returns-in-Load-clause-leaves_log g c = λ p is.
+    subst (λ (q : Prescribed). LeavesByLog g.S.Source.read_gives g.K.Sink.write_gives c.load.result q c.args.tape.now c.args.tape.now c.args.out.now c.load.new.out)
+    (same_Some (printed (loaded c.in-Load.count)) p (ap prescribed (sym c.in-Load.is ∙ c.in-Ok.ensures.value) ∙ is)) (logs-unread g.S.Source.read_gives g.K.Sink.write_gives c.load.result (printed (loaded c.in-Load.count)) c.args.tape.now c.args.out.now c.load.new.out c.load.ensures.writes_log)
+
+pub returns-in-Unknown-clause-leaves_log : goal.returns-in-Unknown-clause-leaves_log
+returns-in-Unknown-clause-leaves_log g c = λ p is.
+    subst (λ (q : Prescribed). LeavesByLog g.S.Source.read_gives g.K.Sink.write_gives c.print_usage.result q c.args.tape.now c.args.tape.now c.args.out.now c.print_usage.new.out)
+    (same_Some (usage) p (ap prescribed (sym c.in-Unknown.is ∙ c.in-Ok.ensures.value) ∙ is)) (logs-unread g.S.Source.read_gives g.K.Sink.write_gives c.print_usage.result (usage) c.args.tape.now c.args.out.now c.print_usage.new.out c.print_usage.ensures.writes_log)
+
+pub returns-in-Model-clause-simulates_log : goal.returns-in-Model-clause-simulates_log
+returns-in-Model-clause-simulates_log g c = λ device is.
+    simulates-device_log g.S.Source.read_gives c.in-Model.device device c.model.result c.args.tape.now c.model.new.tape (sym c.in-Model.is ∙ c.in-Ok.ensures.value ∙ is) c.model.ensures.simulates_log
