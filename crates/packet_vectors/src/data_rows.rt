@@ -1,8 +1,9 @@
 //! Rows of the fixed fields of packets with data, against every front of packets with right and wrong numbers of data.
 
 use crate::fronts::push_answer;
+use crate::output::Output;
 use crate::reader::{Told, told_by};
-use crate::texts::{push_string, push_text};
+use crate::type_rows::{has, longer_of};
 use crate::wrong::Wrong;
 use packet_stream::ReadError;
 use redir_data::read_redir;
@@ -15,9 +16,9 @@ use usb_base::{Bytes, Memory, Reason};
 #[derive(Clone, Copy)]
 struct Form {
     number: u32,
-    fixed: u8,
-    place: u8,
-    longer: Option<(u32, u8)>,
+    fixed: u32,
+    place: u32,
+    longer: Option<(u32, u32)>,
 }
 
 /// No capability, each one that makes a difference alone, and all that are announced.
@@ -26,6 +27,11 @@ const CAPS: [u32; 7] = [0, 1 << 1, 1 << 3, 1 << 4, 1 << 5, 1 << 6, 0x7a];
 const WAYS: [Way; 2] = [Way::ToGuest, Way::ToHost];
 
 const ENDPOINTS: [u8; 4] = [0x00, 0x01, 0x80, 0x81];
+
+/// An id of 7, with 32 bits and with 64.
+const ID: [u8; 4] = [7, 0, 0, 0];
+
+const WIDE_ID: [u8; 8] = [7, 0, 0, 0, 0, 0, 0, 0];
 
 /// Lengths that are told, and how many data are there.
 const COUNTS: [(u8, u8); 6] = [(0, 0), (0, 1), (5, 0), (5, 4), (5, 5), (5, 6)];
@@ -40,38 +46,34 @@ struct Case {
     count: u8,
 }
 
+/// A case in which so many bytes of the packet are read as the row doesn't say.
+type Other = (Case, usize);
+
 /// Appends `as told` where packets of this type are read as the row says, and else the first that isn't. The row is how
 /// many bytes its fixed fields have, the place of the length, and what lengthens them, as `6:10`.
-pub fn push_data_row(alloc: Global, number: &str, row: &str, out: &mut Bytes) -> Result<(), Wrong> {
+pub fn push_data_row(number: &str, row: &str, out: &mut Output) -> Result<(), Wrong> {
     let form = form_of(number, row)?;
-    match other_of(alloc, form)? {
-        Some((case, count)) => push_other(alloc, form, case, count, out),
-        None => { push_text("as told\n", out) }
+    match other_of(out.alloc, form)? {
+        Some(other) => push_other(other, form, out)?,
+        None => out.text("as told\n"),
     }
+    Ok(())
 }
 
 fn form_of(number: &str, row: &str) -> Result<Form, Wrong> {
     let mut words = row.split_whitespace();
+    let fixed = words.next().unwrap_or("");
+    let place = words.next().unwrap_or("");
     Ok(Form {
         number: number.parse()?,
-        fixed: words.next().unwrap_or("").parse()?,
-        place: words.next().unwrap_or("").parse()?,
-        longer: match words.next() {
-            Some(word) => Some(longer_of(word)?),
-            None => None,
-        },
+        fixed: fixed.parse()?,
+        place: place.parse()?,
+        longer: longer_of(words.next())?,
     })
 }
 
-fn longer_of(word: &str) -> Result<(u32, u8), Wrong> {
-    match word.split_once(':') {
-        Some((bit, size)) => Ok((bit.parse()?, size.parse()?)),
-        None => Err(Wrong::Words),
-    }
-}
-
 /// The first front of a packet that is read as the row doesn't say.
-fn other_of(alloc: Global, form: Form) -> Result<Option<(Case, usize)>, Wrong> {
+fn other_of(alloc: Global, form: Form) -> Result<Option<Other>, Memory> {
     for bits in CAPS {
         for way in WAYS {
             for endpoint in ENDPOINTS {
@@ -93,10 +95,10 @@ fn other_of(alloc: Global, form: Form) -> Result<Option<(Case, usize)>, Wrong> {
     Ok(None)
 }
 
-fn other_front(alloc: Global, form: Form, case: Case) -> Result<Option<usize>, Wrong> {
-    let bytes = packet(alloc, form, case)?;
-    for count in 0..=bytes.len() {
-        if read(alloc, case, &bytes.as_slice()[..count]) != said(form, case, bytes.len(), count) {
+fn other_front(alloc: Global, form: Form, case: Case) -> Result<Option<usize>, Memory> {
+    let packet = packet(alloc, form, case)?;
+    for count in 0..=packet.len() {
+        if read(alloc, case, &packet.as_slice()[..count]) != said(form, case, packet.len(), count) {
             return Ok(Some(count));
         }
     }
@@ -107,11 +109,7 @@ fn read(alloc: Global, case: Case, front: &[u8]) -> Told {
     told_by(read_redir(alloc, false, Caps { bits: case.bits }, case.way, front))
 }
 
-fn has(bits: u32, bit: u32) -> bool {
-    bit < 32 && bits >> bit & 1 == 1
-}
-
-fn fixed_of(form: Form, case: Case) -> u8 {
+fn fixed_of(form: Form, case: Case) -> u32 {
     match form.longer {
         Some((bit, size)) if has(case.bits, bit) => size,
         _ => form.fixed,
@@ -121,23 +119,26 @@ fn fixed_of(form: Form, case: Case) -> u8 {
 /// A packet with id 7 and data of zeros, whose header announces its fixed fields and the data that are there.
 fn packet(alloc: Global, form: Form, case: Case) -> Result<Bytes, Memory> {
     let fixed = fixed_of(form, case);
-    let mut bytes = Bytes::new(alloc);
-    bytes.append(&form.number.to_le_bytes())?;
-    bytes.append(&[fixed.saturating_add(case.count), 0, 0, 0, 7, 0, 0, 0])?;
+    let length = fixed.saturating_add(u32::from(case.count));
+    let mut packet = Output::new(alloc);
+    packet.append(&form.number.to_le_bytes());
+    packet.append(&length.to_le_bytes());
     if has(case.bits, 5) {
-        bytes.append(&[0, 0, 0, 0])?;
+        packet.append(&WIDE_ID);
+    } else {
+        packet.append(&ID);
     }
     for place in 0..fixed {
-        bytes.push(field_at(form, case, place))?;
+        packet.append(&[field_at(form, case, place)]);
     }
     for _ in 0..case.count {
-        bytes.push(0)?;
+        packet.append(&[0]);
     }
-    Ok(bytes)
+    packet.taken()
 }
 
 /// The byte of the fixed fields at a place: the endpoint, the length's lower half, and else 0.
-fn field_at(form: Form, case: Case, place: u8) -> u8 {
+fn field_at(form: Form, case: Case, place: u32) -> u8 {
     if place == 0 {
         case.endpoint
     } else if place == form.place {
@@ -166,30 +167,18 @@ fn said(form: Form, case: Case, size: usize, count: usize) -> Told {
     }
 }
 
-fn push_other(
-    alloc: Global,
-    form: Form,
-    case: Case,
-    count: usize,
-    out: &mut Bytes,
-) -> Result<(), Wrong> {
-    push_case(alloc, form, case, count, out)?;
-    let bytes = packet(alloc, form, case)?;
-    let front = bytes.as_slice().get(..count).unwrap_or(&[]);
-    push_answer(alloc, read(alloc, case, front), out)?;
-    push_text(", not ", out)?;
-    push_answer(alloc, said(form, case, bytes.len(), count), out)?;
-    push_text("\n", out)
+fn push_other((case, count): Other, form: Form, out: &mut Output) -> Result<(), Memory> {
+    push_case(case, count, form.number, out);
+    let packet = packet(out.alloc, form, case)?;
+    let front = packet.as_slice().get(..count).unwrap_or(&[]);
+    push_answer(read(out.alloc, case, front), out);
+    out.text(", not ");
+    push_answer(said(form, case, packet.len(), count), out);
+    out.text("\n");
+    Ok(())
 }
 
-fn push_case(
-    alloc: Global,
-    form: Form,
-    case: Case,
-    count: usize,
-    out: &mut Bytes,
-) -> Result<(), Wrong> {
-    let number = form.number;
+fn push_case(case: Case, count: usize, number: u32, out: &mut Output) {
     let Case {
         bits,
         endpoint,
@@ -197,10 +186,7 @@ fn push_case(
         count: there,
         ..
     } = case;
-    push_string(
-        format!(in alloc;
-            "type {number}, endpoint {endpoint:02x}, length {told}, {there} data, capabilities {bits:x}, {count} bytes: "
-        )?,
-        out,
-    )
+    out.made(format!(in out.alloc;
+        "type {number}, endpoint {endpoint:02x}, length {told}, {there} data, capabilities {bits:x}, {count} bytes: "
+    ));
 }

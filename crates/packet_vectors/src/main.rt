@@ -8,6 +8,7 @@ mod data_rows;
 mod fronts;
 mod lines;
 mod next;
+mod output;
 mod packets;
 mod reader;
 mod replies;
@@ -20,10 +21,11 @@ mod usb_words;
 mod written;
 mod wrong;
 
+use crate::output::Output;
 use crate::wrong::Wrong;
 use rows::Rows;
 use std::alloc::Global;
-use usb_base::Bytes;
+use usb_base::{Bytes, Memory};
 
 fn main(rt: HostRuntime) -> Result<(), Wrong> {
     let mut rows = Rows::new(rt.alloc());
@@ -39,8 +41,8 @@ fn take(rt: &(impl Print + AllocGlobal), rows: &mut Rows, line: &str) -> Result<
     Ok(rt.print(String::from_utf8_lossy(rt.alloc(), told.as_slice())?)?)
 }
 
-fn told_of(alloc: Global, rows: &mut Rows, line: &str) -> Result<Bytes, Wrong> {
-    let mut told = Bytes::new(alloc);
-    rows.take(alloc, line, &mut told)?;
-    Ok(told)
+fn told_of(alloc: Global, rows: &mut Rows, line: &str) -> Result<Bytes, Memory> {
+    let mut told = Output::new(alloc);
+    rows.take(line, &mut told)?;
+    told.taken()
 }

@@ -1,28 +1,31 @@
 //! How many bytes packets await, front by front.
 
 use crate::fronts::push_found;
+use crate::output::Output;
 use crate::reader::{Reader, Setting, Told, told_by};
 use crate::wrong::Wrong;
 use redir_data::{next_redir, read_redir};
 use std::alloc::Global;
-use usb_base::Bytes;
 use usbip_op::{OpWay, next_op, read_op};
 use usbip_urb::{next_client, next_urb, read_client, read_urb};
 
 /// Appends a line for each front of the bytes that is less than a packet and awaits another number of bytes than the
 /// front before: how many bytes it has, and that number.
-pub fn push_awaited(alloc: Global, call: &str, bytes: &[u8], out: &mut Bytes) -> Result<(), Wrong> {
+pub fn push_awaited(call: &str, bytes: &[u8], out: &mut Output) -> Result<(), Wrong> {
     let (name, setting) = call.split_once(' ').unwrap_or((call, ""));
-    let reader = Reader::named(name, setting)?;
+    push_awaited_by(Reader::named(name, setting)?, bytes, out);
+    Ok(())
+}
+
+fn push_awaited_by(reader: Reader, bytes: &[u8], out: &mut Output) {
     let mut last = None;
     for count in 0..=bytes.len() {
-        let awaited = awaited_by(alloc, reader, &bytes[..count]);
+        let awaited = awaited_by(out.alloc, reader, &bytes[..count]);
         if last != awaited {
-            push_found(alloc, count, awaited, out)?;
+            push_found(count, awaited, out);
             last = awaited;
         }
     }
-    Ok(())
 }
 
 /// How many bytes are awaited, or none where a packet is whole or wrong.

@@ -1,126 +1,80 @@
 //! A packet that is read: its line, and that it is written again as the bytes that it was read from.
 
 use crate::lines::{push_op, push_redir, push_urb};
+use crate::output::Output;
 use crate::reader::{Reader, Setting};
-use crate::texts::push_number;
 use crate::written::{push_op_again, push_redir_again, push_ret_again, push_urb_again};
-use crate::wrong::Wrong;
 use packet_stream::Read;
 use redir_data::{control_writes_back, data_writes_back, read_redir};
 use redir_wire::read_header;
-use std::alloc::Global;
-use usb_base::Bytes;
 use usbip_op::{OpWay, read_op};
 use usbip_urb::{ClientPacket, read_client, read_ret, read_urb};
 
 /// Appends the line of the packet at the front of the bytes, whose first stands at `place` of its stream, and a line
 /// more where it isn't written again as it was read.
-pub fn push_packet(
-    alloc: Global,
-    reader: Reader,
-    place: u64,
-    bytes: &[u8],
-    out: &mut Bytes,
-) -> Result<(), Wrong> {
+pub fn push_packet(reader: Reader, place: u64, bytes: &[u8], out: &mut Output) {
     match reader {
-        Reader::Client => client_packet(alloc, place, bytes, out),
-        Reader::Urb => urb_packet(alloc, place, bytes, out),
-        Reader::Ret(is_in) => ret_packet(alloc, is_in, place, bytes, out),
-        Reader::Request => op_packet(alloc, OpWay::Request, place, bytes, out),
-        Reader::Op(way) => op_packet(alloc, way, place, bytes, out),
-        Reader::Header(setting) => header(alloc, setting, bytes, out),
-        Reader::Redir(setting) => redir_packet(alloc, setting, place, bytes, out),
+        Reader::Client => client_packet(place, bytes, out),
+        Reader::Urb => urb_packet(place, bytes, out),
+        Reader::Ret(is_in) => ret_packet(is_in, place, bytes, out),
+        Reader::Request => op_packet(OpWay::Request, place, bytes, out),
+        Reader::Op(way) => op_packet(way, place, bytes, out),
+        Reader::Header(setting) => header(setting, bytes, out),
+        Reader::Redir(setting) => redir_packet(setting, place, bytes, out),
     }
 }
 
-fn client_packet(alloc: Global, place: u64, bytes: &[u8], out: &mut Bytes) -> Result<(), Wrong> {
-    match read_client(alloc, bytes) {
-        Ok(Read::Whole(packet, _)) => push_client(alloc, place, &packet, out),
-        _ => Ok(()),
+fn client_packet(place: u64, bytes: &[u8], out: &mut Output) {
+    if let Ok(Read::Whole(packet, _)) = read_client(out.alloc, bytes) {
+        push_client(place, &packet, out);
     }
 }
 
 /// Appends the line of what a client sent.
-pub fn push_client(
-    alloc: Global,
-    place: u64,
-    packet: &ClientPacket,
-    out: &mut Bytes,
-) -> Result<(), Wrong> {
+pub fn push_client(place: u64, packet: &ClientPacket, out: &mut Output) {
     match packet {
-        ClientPacket::Op(packet) => push_op(alloc, place, packet, out),
-        ClientPacket::Urb(packet) => push_urb(alloc, place, packet, out),
+        ClientPacket::Op(packet) => push_op(place, packet, out),
+        ClientPacket::Urb(packet) => push_urb(place, packet, out),
     }
 }
 
-fn urb_packet(alloc: Global, place: u64, bytes: &[u8], out: &mut Bytes) -> Result<(), Wrong> {
-    match read_urb(alloc, bytes) {
-        Ok(Read::Whole(packet, size)) => {
-            push_urb(alloc, place, &packet, out)?;
-            push_urb_again(alloc, &packet, &bytes[..size], out)
-        }
-        _ => Ok(()),
+fn urb_packet(place: u64, bytes: &[u8], out: &mut Output) {
+    if let Ok(Read::Whole(packet, size)) = read_urb(out.alloc, bytes) {
+        push_urb(place, &packet, out);
+        push_urb_again(&packet, &bytes[..size], out);
     }
 }
 
-fn ret_packet(
-    alloc: Global,
-    is_in: bool,
-    place: u64,
-    bytes: &[u8],
-    out: &mut Bytes,
-) -> Result<(), Wrong> {
-    match read_ret(alloc, is_in, bytes) {
-        Ok(Read::Whole(packet, size)) => {
-            push_urb(alloc, place, &packet, out)?;
-            push_ret_again(alloc, is_in, &packet, &bytes[..size], out)
-        }
-        _ => Ok(()),
+fn ret_packet(is_in: bool, place: u64, bytes: &[u8], out: &mut Output) {
+    if let Ok(Read::Whole(packet, size)) = read_ret(out.alloc, is_in, bytes) {
+        push_urb(place, &packet, out);
+        push_ret_again(is_in, &packet, &bytes[..size], out);
     }
 }
 
-fn op_packet(
-    alloc: Global,
-    way: OpWay,
-    place: u64,
-    bytes: &[u8],
-    out: &mut Bytes,
-) -> Result<(), Wrong> {
-    match read_op(alloc, way, bytes) {
-        Ok(Read::Whole(packet, size)) => {
-            push_op(alloc, place, &packet, out)?;
-            push_op_again(alloc, &packet, &bytes[..size], out)
-        }
-        _ => Ok(()),
+fn op_packet(way: OpWay, place: u64, bytes: &[u8], out: &mut Output) {
+    if let Ok(Read::Whole(packet, size)) = read_op(out.alloc, way, bytes) {
+        push_op(place, &packet, out);
+        push_op_again(&packet, &bytes[..size], out);
     }
 }
 
 /// Appends the fields of a header.
-fn header(alloc: Global, setting: Setting, bytes: &[u8], out: &mut Bytes) -> Result<(), Wrong> {
+fn header(setting: Setting, bytes: &[u8], out: &mut Output) {
     let Setting { first, caps, way } = setting;
     if let Ok(Read::Whole(head, _)) = read_header(first, caps, way, bytes) {
-        push_number(alloc, "HEADER ", u64::from(head.kind), " ", out)?;
-        push_number(alloc, "", u64::from(head.length), " ", out)?;
-        push_number(alloc, "", head.id, "\n", out)?;
+        out.number("HEADER ", u64::from(head.kind), " ");
+        out.number("", u64::from(head.length), " ");
+        out.number("", head.id, "\n");
     }
-    Ok(())
 }
 
-fn redir_packet(
-    alloc: Global,
-    setting: Setting,
-    place: u64,
-    bytes: &[u8],
-    out: &mut Bytes,
-) -> Result<(), Wrong> {
+fn redir_packet(setting: Setting, place: u64, bytes: &[u8], out: &mut Output) {
     let Setting { first, caps, way } = setting;
     control_writes_back();
     data_writes_back();
-    match read_redir(alloc, first, caps, way, bytes) {
-        Ok(Read::Whole(found, size)) => {
-            push_redir(alloc, place, &found.0, &found.1, out)?;
-            push_redir_again(alloc, setting, found.0.id, &found.1, &bytes[..size], out)
-        }
-        _ => Ok(()),
+    if let Ok(Read::Whole(found, size)) = read_redir(out.alloc, first, caps, way, bytes) {
+        push_redir(place, &found.0, &found.1, out);
+        push_redir_again(setting, found.0.id, &found.1, &bytes[..size], out);
     }
 }

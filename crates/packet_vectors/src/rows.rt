@@ -1,7 +1,8 @@
 //! A row: a call, what it is put to, and what it has to give.
 
 use crate::answer::push_answer;
-use crate::texts::{Texts, push_number, push_text};
+use crate::output::Output;
+use crate::texts::Texts;
 use crate::wrong::Wrong;
 use std::alloc::Global;
 use usb_base::{Bytes, Memory};
@@ -25,14 +26,13 @@ impl Rows {
     }
 
     /// Takes a line, and appends what is told of it.
-    pub fn take(&mut self, alloc: Global, line: &str, told: &mut Bytes) -> Result<(), Wrong> {
+    pub fn take(&mut self, line: &str, told: &mut Output) -> Result<(), Memory> {
         match line.split_once(' ') {
-            Some(("@", text)) => self.texts.add(alloc, text)?,
-            Some(("=", group)) => self.begin(alloc, group)?,
-            Some(("#", _)) | None => {}
-            Some(_) => self.check(alloc, line, told)?,
+            Some(("@", text)) => self.texts.add(told.alloc, text),
+            Some(("=", group)) => self.begin(told.alloc, group),
+            Some(("#", _)) | None => Ok(()),
+            Some(_) => self.check(line, told),
         }
-        Ok(())
     }
 
     fn begin(&mut self, alloc: Global, group: &str) -> Result<(), Memory> {
@@ -42,57 +42,51 @@ impl Rows {
     }
 
     /// Puts a row to its call, and appends the verdict.
-    fn check(&mut self, alloc: Global, row: &str, told: &mut Bytes) -> Result<(), Wrong> {
+    fn check(&mut self, row: &str, told: &mut Output) -> Result<(), Memory> {
         self.count = self.count.saturating_add(1);
-        push_name(alloc, self.group.as_str(), self.count, told)?;
+        told.text(self.group.as_str());
+        told.number(" ", u64::from(self.count), ": ");
         let (call, rest) = row.split_once(" | ").unwrap_or((row, ""));
         let (input, wanted) = rest.split_once(" | ").unwrap_or((rest, ""));
-        let wanted = self.texts.lines_of(alloc, wanted)?;
-        let came = answer_of(alloc, &self.texts, call, input)?;
-        push_verdict(alloc, came.as_slice(), wanted.as_slice(), told)
+        let came = answer_of(told.alloc, &self.texts, call, input)?;
+        let wanted = self.texts.lines_of(told.alloc, wanted)?;
+        push_verdict(came.as_slice(), wanted.as_slice(), told);
+        Ok(())
     }
 }
 
-fn answer_of(alloc: Global, texts: &Texts, call: &str, input: &str) -> Result<Bytes, Wrong> {
-    let mut came = Bytes::new(alloc);
-    match push_answer(alloc, texts, call.trim(), input.trim(), &mut came) {
+fn answer_of(alloc: Global, texts: &Texts, call: &str, input: &str) -> Result<Bytes, Memory> {
+    let mut came = Output::new(alloc);
+    match push_answer(texts, call.trim(), input.trim(), &mut came) {
         Ok(()) => {}
-        Err(Wrong::Words) => push_text("the row can't be read\n", &mut came)?,
-        Err(Wrong::Memory) => return Err(Wrong::Memory),
+        Err(Wrong::Words) => came.text("the row can't be read\n"),
+        Err(Wrong::Memory) => return Err(Memory),
     }
-    Ok(came)
-}
-
-fn push_name(alloc: Global, group: &str, count: u32, told: &mut Bytes) -> Result<(), Wrong> {
-    push_text(group, told)?;
-    push_number(alloc, " ", u64::from(count), ": ", told)
+    came.taken()
 }
 
 /// Appends `ok`, or where the text that came parts from the wanted one, and both from a little before that on.
-fn push_verdict(alloc: Global, came: &[u8], wanted: &[u8], told: &mut Bytes) -> Result<(), Wrong> {
+fn push_verdict(came: &[u8], wanted: &[u8], told: &mut Output) {
     if came == wanted {
-        return push_text("ok\n", told);
+        told.text("ok\n");
+        return;
     }
     let place = common(came, wanted);
-    push_number(
-        alloc,
-        "another text from byte ",
-        place as u64,
-        " on\n",
-        told,
-    )?;
-    push_text("    came:   ", told)?;
-    push_around(came, place, told)?;
-    push_text("    wanted: ", told)?;
-    push_around(wanted, place, told)
+    told.number("another text from byte ", place as u64, " on\n");
+    told.text("    came:   ");
+    push_around(came, place, told);
+    told.text("    wanted: ");
+    push_around(wanted, place, told);
 }
 
 /// How many bytes both begin with.
 fn common(one: &[u8], other: &[u8]) -> usize {
-    one.iter()
-        .zip(other)
-        .take_while(|(left, right)| left == right)
-        .count()
+    for (place, (left, right)) in one.iter().zip(other).enumerate() {
+        if left != right {
+            return place;
+        }
+    }
+    one.len().min(other.len())
 }
 
 /// How many bytes are shown in front of the place where texts part, and how many behind it.
@@ -101,13 +95,11 @@ const BEFORE: usize = 80;
 const BEHIND: usize = 120;
 
 /// Appends what stands around a place as one line, with a semicolon for the end of each line.
-fn push_around(text: &[u8], place: usize, told: &mut Bytes) -> Result<(), Wrong> {
+fn push_around(text: &[u8], place: usize, told: &mut Output) {
     let first = place.saturating_sub(BEFORE);
     for byte in text.iter().skip(first).take(BEFORE + BEHIND) {
-        match byte {
-            b'\n' => push_text(";", told)?,
-            _ => told.push(*byte)?,
-        }
+        let shown = if *byte == b'\n' { b';' } else { *byte };
+        told.append(&[shown]);
     }
-    push_text("\n", told)
+    told.text("\n");
 }

@@ -1,62 +1,48 @@
 //! Lines of tapes, and the numbers in them.
 
-use crate::texts::{push_hex, push_number, push_text};
-use crate::wrong::Wrong;
+use crate::output::Output;
 use packet_show::{LineError, TapeKind, TapeLine, read_line, read_number};
-use std::alloc::Global;
-use usb_base::Bytes;
 
 /// Appends what a line says in a tape to replay, and what it says in one of a model's steps.
-pub fn push_tape_line(alloc: Global, line: &[u8], out: &mut Bytes) -> Result<(), Wrong> {
-    push_text("replay: ", out)?;
-    push_read(alloc, read_line(alloc, TapeKind::Replay, line), out)?;
-    push_text("model: ", out)?;
-    push_read(alloc, read_line(alloc, TapeKind::Model, line), out)
+pub fn push_tape_line(line: &[u8], out: &mut Output) {
+    push_line_of("replay: ", TapeKind::Replay, line, out);
+    push_line_of("model: ", TapeKind::Model, line, out);
 }
 
-fn push_read(
-    alloc: Global,
-    read: Result<TapeLine, LineError>,
-    out: &mut Bytes,
-) -> Result<(), Wrong> {
-    match read {
-        Ok(line) => push_said(alloc, &line, out)?,
-        Err(LineError::Bad) => push_text("bad", out)?,
-        Err(LineError::Memory) => push_text("out of memory", out)?,
+fn push_line_of(name: &str, kind: TapeKind, line: &[u8], out: &mut Output) {
+    out.text(name);
+    match read_line(out.alloc, kind, line) {
+        Ok(line) => push_said(&line, out),
+        Err(LineError::Bad) => out.text("bad"),
+        Err(LineError::Memory) => out.text("out of memory"),
     }
-    push_text("\n", out)
+    out.text("\n");
 }
 
-fn push_said(alloc: Global, line: &TapeLine, out: &mut Bytes) -> Result<(), Wrong> {
+fn push_said(line: &TapeLine, out: &mut Output) {
     match line {
-        TapeLine::Skip => push_text("nothing", out)?,
-        TapeLine::Client(bytes) => push_piece(alloc, "client ", bytes, out)?,
-        TapeLine::ClientEnd => push_text("the client's end", out)?,
-        TapeLine::Host(bytes) => push_piece(alloc, "host ", bytes, out)?,
-        TapeLine::HostEnd => push_text("the host's end", out)?,
-        TapeLine::ToHost(count) => push_number(alloc, "to the host ", u64::from(*count), "", out)?,
-        TapeLine::ToGate(count) => push_number(alloc, "to the gate ", u64::from(*count), "", out)?,
-        TapeLine::Perform(ep) => push_byte(alloc, "perform ", ep.byte(), out)?,
-        TapeLine::Offer(ep) => push_byte(alloc, "offer ", ep.byte(), out)?,
-        TapeLine::Unplug => push_text("unplug", out)?,
+        TapeLine::Skip => out.text("nothing"),
+        TapeLine::Client(bytes) => push_piece("client ", bytes.as_slice(), out),
+        TapeLine::ClientEnd => out.text("the client's end"),
+        TapeLine::Host(bytes) => push_piece("host ", bytes.as_slice(), out),
+        TapeLine::HostEnd => out.text("the host's end"),
+        TapeLine::ToHost(count) => out.number("to the host ", u64::from(*count), ""),
+        TapeLine::ToGate(count) => out.number("to the gate ", u64::from(*count), ""),
+        TapeLine::Perform(ep) => push_piece("perform ", &[ep.byte()], out),
+        TapeLine::Offer(ep) => push_piece("offer ", &[ep.byte()], out),
+        TapeLine::Unplug => out.text("unplug"),
     }
-    Ok(())
 }
 
-fn push_piece(alloc: Global, name: &str, piece: &Bytes, out: &mut Bytes) -> Result<(), Wrong> {
-    push_text(name, out)?;
-    push_hex(alloc, piece.as_slice(), out)
-}
-
-fn push_byte(alloc: Global, name: &str, byte: u8, out: &mut Bytes) -> Result<(), Wrong> {
-    push_text(name, out)?;
-    push_hex(alloc, &[byte], out)
+fn push_piece(name: &str, piece: &[u8], out: &mut Output) {
+    out.text(name);
+    out.hex(piece);
 }
 
 /// Appends the number of a text.
-pub fn push_read_number(alloc: Global, text: &[u8], out: &mut Bytes) -> Result<(), Wrong> {
+pub fn push_read_number(text: &[u8], out: &mut Output) {
     match read_number(text) {
-        Some(number) => push_number(alloc, "", u64::from(number), "\n", out),
-        None => push_text("none\n", out),
+        Some(number) => out.number("", u64::from(number), "\n"),
+        None => out.text("none\n"),
     }
 }

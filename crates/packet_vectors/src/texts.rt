@@ -1,5 +1,6 @@
 //! Texts by name, texts with repetitions, and the bytes that hexadecimal digits stand for.
 
+use crate::output::Output;
 use crate::wrong::Wrong;
 use std::alloc::Global;
 use usb_base::{Bytes, Memory};
@@ -21,10 +22,9 @@ impl Texts {
 
     /// Adds a text: its name, and its words, which are joined.
     pub fn add(&mut self, alloc: Global, line: &str) -> Result<(), Memory> {
-        if let Some((name, words)) = line.split_once(' ') {
-            let joined = self.joined(alloc, words)?;
-            self.named.push((name.to_string(alloc)?, joined))?;
-        }
+        let (name, words) = line.split_once(' ').unwrap_or((line, ""));
+        let joined = self.joined(alloc, words)?;
+        self.named.push((name.to_string(alloc)?, joined))?;
         Ok(())
     }
 
@@ -39,57 +39,58 @@ impl Texts {
     }
 
     /// Appends a word.
-    fn push_word(&self, word: &str, text: &mut Bytes) -> Result<(), Memory> {
+    fn push_word(&self, word: &str, out: &mut Output) {
         for piece in word.split('+') {
             let (name, times) = piece.split_once('*').unwrap_or((piece, "1"));
             let (gap, name) = match name.strip_prefix('~') {
-                Some(name) => (b" ".as_slice(), name),
-                None => (b"".as_slice(), name),
+                Some(name) => (" ", name),
+                None => ("", name),
             };
             let repeated = self.text_of(name);
             for _ in 0..times.parse().unwrap_or(0_u32) {
-                text.append(gap)?;
-                text.append(repeated)?;
+                out.text(gap);
+                out.append(repeated);
             }
         }
-        Ok(())
     }
 
     fn joined(&self, alloc: Global, words: &str) -> Result<Bytes, Memory> {
-        let mut text = Bytes::new(alloc);
+        let mut text = Output::new(alloc);
         for word in words.split_whitespace() {
-            self.push_word(word, &mut text)?;
+            self.push_word(word, &mut text);
         }
-        Ok(text)
+        text.taken()
     }
 
     /// The lines of a text that has a semicolon between two of them. `*8` in front of one stands for eight such lines.
     pub fn lines_of(&self, alloc: Global, lines: &str) -> Result<Bytes, Memory> {
-        let mut text = Bytes::new(alloc);
+        let mut text = Output::new(alloc);
         for line in lines.trim().split(';') {
-            match line.trim().strip_prefix('*') {
-                Some(counted) => self.push_counted(counted, &mut text)?,
-                None => self.push_line(line.trim(), &mut text)?,
-            }
+            self.push_lines(line.trim(), &mut text);
         }
-        Ok(text)
+        text.taken()
     }
 
-    fn push_counted(&self, counted: &str, text: &mut Bytes) -> Result<(), Memory> {
-        let (times, line) = counted.split_once(' ').unwrap_or((counted, ""));
+    fn push_lines(&self, line: &str, out: &mut Output) {
+        let (times, line) = match line.strip_prefix('*') {
+            Some(counted) => counted.split_once(' ').unwrap_or((counted, "")),
+            None => ("1", line),
+        };
         for _ in 0..times.parse().unwrap_or(0_u32) {
-            self.push_line(line, text)?;
+            self.push_line(line, out);
         }
-        Ok(())
     }
 
-    fn push_line(&self, line: &str, text: &mut Bytes) -> Result<(), Memory> {
+    fn push_line(&self, line: &str, out: &mut Output) {
+        let mut is_first = true;
         for word in line.split(' ') {
-            self.push_word(word, text)?;
-            text.append(b" ")?;
+            if !is_first {
+                out.text(" ");
+            }
+            self.push_word(word, out);
+            is_first = false;
         }
-        text.cut(text.len().saturating_sub(1));
-        text.append(b"\n")
+        out.text("\n");
     }
 
     /// The bytes of words, or those of a text in quotation marks. A word `PLACE=WORD` puts other bytes at a place.
@@ -132,53 +133,4 @@ fn replace(bytes: &mut Vec<u8>, place: usize, field: &[u8]) {
 /// A number in decimal.
 pub fn number_of(digits: &str) -> Result<usize, Wrong> {
     Ok(digits.parse()?)
-}
-
-/// Appends a text.
-pub fn push_text(text: &str, out: &mut Bytes) -> Result<(), Wrong> {
-    out.append(text.as_bytes())?;
-    Ok(())
-}
-
-/// Appends a text, and drops it.
-pub fn push_string(text: String, out: &mut Bytes) -> Result<(), Wrong> {
-    push_text(text.as_str(), out)
-}
-
-/// Appends bytes in hexadecimal, or `-` where there are none.
-pub fn push_hex(alloc: Global, bytes: &[u8], out: &mut Bytes) -> Result<(), Wrong> {
-    if bytes.is_empty() {
-        return push_text("-", out);
-    }
-    push_string(hex::encode(alloc, bytes)?, out)
-}
-
-/// Appends a number in decimal between two texts.
-pub fn push_number(
-    alloc: Global,
-    before: &str,
-    number: u64,
-    behind: &str,
-    out: &mut Bytes,
-) -> Result<(), Wrong> {
-    push_string(format!(in alloc; "{before}{number}{behind}")?, out)
-}
-
-/// Appends numbers in decimal, each with a space in front.
-pub fn push_numbers(alloc: Global, numbers: &[i64], out: &mut Bytes) -> Result<(), Wrong> {
-    push_joined(alloc, " ", numbers, out)
-}
-
-/// Appends a space, and four numbers in decimal with colons between them.
-pub fn push_four(alloc: Global, numbers: &[i64; 4], out: &mut Bytes) -> Result<(), Wrong> {
-    push_joined(alloc, " ", &numbers[..1], out)?;
-    push_joined(alloc, ":", &numbers[1..], out)
-}
-
-/// Appends numbers in decimal, each behind a mark.
-fn push_joined(alloc: Global, mark: &str, numbers: &[i64], out: &mut Bytes) -> Result<(), Wrong> {
-    for number in numbers {
-        push_string(format!(in alloc; "{mark}{number}")?, out)?;
-    }
-    Ok(())
 }

@@ -1,13 +1,12 @@
 //! Rows of the protocol description's table of types, against every front of every header that tells them apart.
 
 use crate::fronts::push_answer;
+use crate::output::Output;
 use crate::reader::{Told, redir_way, told_by};
-use crate::texts::{push_string, push_text};
 use crate::wrong::Wrong;
 use packet_stream::ReadError;
 use redir_wire::{Caps, Way, read_header};
-use std::alloc::Global;
-use usb_base::{Bytes, Reason};
+use usb_base::Reason;
 
 /// What a row says of a type.
 #[derive(Clone, Copy)]
@@ -50,23 +49,20 @@ struct Case {
     length: u32,
 }
 
+/// A case in which so many bytes of the header are read as the row doesn't say.
+type Other = (Case, usize);
+
 /// Appends `as told` where headers of these types are read as the row says, and else the first that isn't. The
 /// numbers are one, or two with a hyphen between them; the row is `unknown`, `left out`, or a way or `-`, the
 /// capability that is wanted or `-`, a length, and what lengthens it, as `4:160`.
-pub fn push_type_row(
-    alloc: Global,
-    numbers: &str,
-    row: &str,
-    out: &mut Bytes,
-) -> Result<(), Wrong> {
+pub fn push_type_row(numbers: &str, row: &str, out: &mut Output) -> Result<(), Wrong> {
     let (from, to) = numbers.split_once('-').unwrap_or((numbers, numbers));
     let listed = listed_of(row)?;
-    for number in from.parse()?..=to.parse::<u32>()? {
-        if let Some((case, count)) = other_of(number, listed) {
-            return push_other(alloc, case, count, listed, out);
-        }
+    match other_among(from.parse()?, to.parse()?, listed) {
+        Some(other) => push_other(other, listed, out),
+        None => out.text("as told\n"),
     }
-    push_text("as told\n", out)
+    Ok(())
 }
 
 fn listed_of(row: &str) -> Result<Listed, Wrong> {
@@ -79,52 +75,61 @@ fn listed_of(row: &str) -> Result<Listed, Wrong> {
 
 fn form_of(row: &str) -> Result<Form, Wrong> {
     let mut words = row.split_whitespace();
-    let only = match words.next() {
-        Some("-") => None,
-        word => Some(redir_way(word.unwrap_or(""))?),
-    };
-    let wanted = match words.next() {
-        Some("-") => None,
-        word => Some(word.unwrap_or("").parse()?),
-    };
-    let short = words.next().unwrap_or("").parse()?;
-    let longer = match words.next() {
-        Some(word) => Some(longer_of(word)?),
-        None => None,
-    };
+    let only = words.next().unwrap_or("");
+    let wanted = words.next().unwrap_or("");
+    let short = words.next().unwrap_or("");
     Ok(Form {
-        only,
-        wanted,
-        short,
-        longer,
+        only: only_of(only)?,
+        wanted: wanted_of(wanted)?,
+        short: short.parse()?,
+        longer: longer_of(words.next())?,
     })
 }
 
-fn longer_of(word: &str) -> Result<(u32, u32), Wrong> {
-    match word.split_once(':') {
-        Some((bit, length)) => Ok((bit.parse()?, length.parse()?)),
-        None => Err(Wrong::Words),
+fn only_of(word: &str) -> Result<Option<Way>, Wrong> {
+    match word {
+        "-" => Ok(None),
+        way => Ok(Some(redir_way(way)?)),
     }
 }
 
-fn has(bits: u32, bit: u32) -> bool {
+fn wanted_of(word: &str) -> Result<Option<u32>, Wrong> {
+    match word {
+        "-" => Ok(None),
+        bit => Ok(Some(bit.parse()?)),
+    }
+}
+
+/// The capability that lengthens a type, and its length with it, of words as `4:160`.
+pub fn longer_of(word: Option<&str>) -> Result<Option<(u32, u32)>, Wrong> {
+    let Some(word) = word else {
+        return Ok(None);
+    };
+    let (bit, length) = word.split_once(':').unwrap_or((word, ""));
+    Ok(Some((bit.parse()?, length.parse()?)))
+}
+
+/// Whether this bit is set.
+pub fn has(bits: u32, bit: u32) -> bool {
     bit < 32 && bits >> bit & 1 == 1
 }
 
-/// The first front of a header of this type that is read as the row doesn't say.
-fn other_of(number: u32, listed: Listed) -> Option<(Case, usize)> {
-    for bits in CAPS {
-        for way in WAYS {
-            for first in [true, false] {
-                let case = Case {
-                    first,
-                    bits,
-                    way,
-                    number,
-                    length: 0,
-                };
-                if let Some(other) = other_at(case, listed) {
-                    return Some(other);
+/// The first front of a header of these types that is read as the row doesn't say.
+fn other_among(from: u32, to: u32, listed: Listed) -> Option<Other> {
+    for number in from..=to {
+        for bits in CAPS {
+            for way in WAYS {
+                for first in [true, false] {
+                    let case = Case {
+                        first,
+                        bits,
+                        way,
+                        number,
+                        length: 0,
+                    };
+                    if let Some(other) = other_at(case, listed) {
+                        return Some(other);
+                    }
                 }
             }
         }
@@ -133,31 +138,36 @@ fn other_of(number: u32, listed: Listed) -> Option<(Case, usize)> {
 }
 
 /// The length tells something only where the type may come.
-fn other_at(case: Case, listed: Listed) -> Option<(Case, usize)> {
+fn other_at(case: Case, listed: Listed) -> Option<Other> {
     match listed {
         Listed::Sent(_) if case.first == (case.number == 0) => other_length(case, listed),
-        _ => other_front(case, listed).map(|count| (case, count)),
+        _ => other_front(case, listed),
     }
 }
 
-fn other_length(case: Case, listed: Listed) -> Option<(Case, usize)> {
+fn other_length(case: Case, listed: Listed) -> Option<Other> {
     for length in 0..200 {
-        if let Some(count) = other_front(Case { length, ..case }, listed) {
-            return Some((Case { length, ..case }, count));
+        if let Some(other) = other_front(Case { length, ..case }, listed) {
+            return Some(other);
         }
     }
     for length in LONG {
-        if let Some(count) = other_front(Case { length, ..case }, listed) {
-            return Some((Case { length, ..case }, count));
+        if let Some(other) = other_front(Case { length, ..case }, listed) {
+            return Some(other);
         }
     }
     None
 }
 
-fn other_front(case: Case, listed: Listed) -> Option<usize> {
+fn other_front(case: Case, listed: Listed) -> Option<Other> {
     let bytes = header_bytes(case.number, case.length);
     let size = size_of(case);
-    (0..=size).find(|count| read(case, &bytes, *count) != said(case, listed, size, *count))
+    for count in 0..=size {
+        if read(case, &bytes, count) != said(case, listed, size, count) {
+            return Some((case, count));
+        }
+    }
+    None
 }
 
 fn read(case: Case, bytes: &[u8; 16], count: usize) -> Told {
@@ -238,13 +248,18 @@ fn is_length(case: Case, form: Form) -> bool {
     }
 }
 
-fn push_other(
-    alloc: Global,
-    case: Case,
-    count: usize,
-    listed: Listed,
-    out: &mut Bytes,
-) -> Result<(), Wrong> {
+fn push_other((case, count): Other, listed: Listed, out: &mut Output) {
+    push_case(case, count, out);
+    push_answer(
+        read(case, &header_bytes(case.number, case.length), count),
+        out,
+    );
+    out.text(", not ");
+    push_answer(said(case, listed, size_of(case), count), out);
+    out.text("\n");
+}
+
+fn push_case(case: Case, count: usize, out: &mut Output) {
     let Case {
         first,
         bits,
@@ -252,15 +267,7 @@ fn push_other(
         length,
         ..
     } = case;
-    push_string(
-        format!(in alloc;
-            "type {number}, length {length}, first {first}, capabilities {bits:x}, {count} bytes: "
-        )?,
-        out,
-    )?;
-    let bytes = header_bytes(number, length);
-    push_answer(alloc, read(case, &bytes, count), out)?;
-    push_text(", not ", out)?;
-    push_answer(alloc, said(case, listed, size_of(case), count), out)?;
-    push_text("\n", out)
+    out.made(format!(in out.alloc;
+        "type {number}, length {length}, first {first}, capabilities {bits:x}, {count} bytes: "
+    ));
 }
