@@ -4,127 +4,84 @@ ghost use Rattle.std.specs.Prelude.{◌≡◌, ◌<◌, ◌^◌, length, IfOk};
 ghost use Rattle.usb_base.specs.Endpoint.{IsEndpoint};
 ghost use Rattle.model_device.specs.Transfer.{IsTransfer};
 
+use crate::laid_out::{bytes, is_row, none_is_wrong, setup};
 use model_device::{Gadget, Keyboard, Loopback, Tone};
 use std::alloc::Global;
 use std::test::Fail;
 use usb_base::{Bytes, EpAddr, Memory, Outcome, Setup, StreamPacket, Transfer, UsbStatus};
 
-// Setups, each as one number whose first byte is the highest.
-const SET_CONFIGURATION: u64 = 0x0009_0100_0000_0000;
+// What is done with a device, and what comes of it. `ask` puts a request to it, `offer` takes an offer of IN endpoint 1,
+// `send` sends bytes to OUT endpoint 1, and `want` wants so many bytes of IN endpoint 1. There come a status, how many
+// bytes went or came, and those that came; or nothing.
 
-const CLEAR_CONFIGURATION: u64 = 0x0009_0000_0000_0000;
+// Its reports are of the key A, and of B.
+const KEYBOARD: &str = "
+    offer | nothing
+    ask SET_CONFIGURATION | ok 0
+    offer | ok 8 0000040000000000
+    ask HALT_IN | ok 0
+    offer | nothing
+    ask CLEAR_HALT_IN | ok 0
+    offer | ok 8 0000050000000000
+    ask HALT_IN | ok 0
+    offer | nothing
+    ask SET_CONFIGURATION | ok 0
+    offer | ok 8 0000040000000000
+    ask SETTING_1 | stall 0
+    offer | ok 8 0000050000000000
+    ask SETTING_0 | ok 0
+    offer | ok 8 0000040000000000
+    ask GET_CONFIGURATION | ok 1 01
+    offer | ok 8 0000050000000000
+    want 8 | stall 0
+    ask PORT_RESET | ok 0
+    offer | nothing
+    ask SET_CONFIGURATION | ok 0
+    ask CLEAR_CONFIGURATION | ok 0
+    offer | nothing
+";
 
-const GET_CONFIGURATION: u64 = 0x8008_0000_0000_0100;
+const TONE: &str = "
+    ask SET_CONFIGURATION | ok 0
+    offer | nothing
+    ask SETTING_1 | ok 0
+    offer | ok 192 00*192
+    offer | ok 192 01*192
+    ask SETTING_0 | ok 0
+    offer | nothing
+    ask SETTING_1 | ok 0
+    offer | ok 192 00*192
+";
 
-const PORT_RESET: u64 = 0x2303_0400_0100_0000;
-
-const HALT_IN: u64 = 0x0203_0000_8100_0000;
-
-const CLEAR_HALT_IN: u64 = 0x0201_0000_8100_0000;
-
-const HALT_OUT: u64 = 0x0203_0000_0100_0000;
-
-const SETTING_0: u64 = 0x010B_0000_0000_0000;
-
-const SETTING_1: u64 = 0x010B_0100_0000_0000;
-
-/// What is done with a device: a request, an offer of IN endpoint 1, bytes to OUT endpoint 1, and so many bytes wanted
-/// of IN endpoint 1.
-#[derive(Clone, Copy)]
-enum Act {
-    Asks(u64),
-    Offers,
-    Sends(&'static [u8]),
-    Wants(u32),
-}
-
-/// The status, how many bytes went or came, and those that came.
-type Came = (UsbStatus, u32, &'static [u8]);
-
-/// What is done, and what comes of it, or None where nothing does.
-type Row = (Act, Option<Came>);
-
-const DONE: Option<Came> = Some((UsbStatus::Success, 0, &[]));
-
-const CONFIGURED: Option<Came> = Some((UsbStatus::Success, 1, &[1]));
-
-const STALL: Option<Came> = Some((UsbStatus::Stall, 0, &[]));
-
-// A report of the key A, and of B.
-const A: Option<Came> = Some((UsbStatus::Success, 8, &[0, 0, 4, 0, 0, 0, 0, 0]));
-
-const B: Option<Came> = Some((UsbStatus::Success, 8, &[0, 0, 5, 0, 0, 0, 0, 0]));
-
-const KEYBOARD: [Row; 23] = [
-    (Act::Offers, None),
-    (Act::Asks(SET_CONFIGURATION), DONE),
-    (Act::Offers, A),
-    (Act::Asks(HALT_IN), DONE),
-    (Act::Offers, None),
-    (Act::Asks(CLEAR_HALT_IN), DONE),
-    (Act::Offers, B),
-    (Act::Asks(HALT_IN), DONE),
-    (Act::Offers, None),
-    (Act::Asks(SET_CONFIGURATION), DONE),
-    (Act::Offers, A),
-    (Act::Asks(SETTING_1), STALL),
-    (Act::Offers, B),
-    (Act::Asks(SETTING_0), DONE),
-    (Act::Offers, A),
-    (Act::Asks(GET_CONFIGURATION), CONFIGURED),
-    (Act::Offers, B),
-    (Act::Wants(8), STALL),
-    (Act::Asks(PORT_RESET), DONE),
-    (Act::Offers, None),
-    (Act::Asks(SET_CONFIGURATION), DONE),
-    (Act::Asks(CLEAR_CONFIGURATION), DONE),
-    (Act::Offers, None),
-];
-
-const TONE: [Row; 9] = [
-    (Act::Asks(SET_CONFIGURATION), DONE),
-    (Act::Offers, None),
-    (Act::Asks(SETTING_1), DONE),
-    (Act::Offers, Some((UsbStatus::Success, 192, &[0; 192]))),
-    (Act::Offers, Some((UsbStatus::Success, 192, &[1; 192]))),
-    (Act::Asks(SETTING_0), DONE),
-    (Act::Offers, None),
-    (Act::Asks(SETTING_1), DONE),
-    (Act::Offers, Some((UsbStatus::Success, 192, &[0; 192]))),
-];
-
-const LOOP: [Row; 26] = [
-    (Act::Wants(8), STALL),
-    (Act::Asks(SET_CONFIGURATION), DONE),
-    (
-        Act::Sends(&[1, 2, 3, 4]),
-        Some((UsbStatus::Success, 4, &[])),
-    ),
-    (Act::Sends(&[5, 6]), Some((UsbStatus::Success, 2, &[]))),
-    (Act::Wants(3), Some((UsbStatus::Success, 3, &[1, 2, 3]))),
-    (Act::Wants(0), DONE),
-    (Act::Wants(64), Some((UsbStatus::Success, 3, &[4, 5, 6]))),
-    (Act::Wants(0), DONE),
-    (Act::Wants(1), None),
-    (Act::Offers, None),
-    // what came before a change is gone, and before any other request it isn't
-    (Act::Sends(&[7]), Some((UsbStatus::Success, 1, &[]))),
-    (Act::Asks(GET_CONFIGURATION), CONFIGURED),
-    (Act::Asks(SETTING_1), STALL),
-    (Act::Wants(1), Some((UsbStatus::Success, 1, &[7]))),
-    (Act::Sends(&[8]), Some((UsbStatus::Success, 1, &[]))),
-    (Act::Asks(SET_CONFIGURATION), DONE),
-    (Act::Wants(1), None),
-    (Act::Sends(&[9]), Some((UsbStatus::Success, 1, &[]))),
-    (Act::Asks(SETTING_0), DONE),
-    (Act::Wants(1), None),
-    (Act::Sends(&[10]), Some((UsbStatus::Success, 1, &[]))),
-    (Act::Asks(HALT_OUT), DONE),
-    (Act::Sends(&[11]), STALL),
-    (Act::Wants(1), Some((UsbStatus::Success, 1, &[10]))),
-    (Act::Asks(PORT_RESET), DONE),
-    (Act::Wants(1), STALL),
-];
+const LOOP: &str = "
+    want 8 | stall 0
+    ask SET_CONFIGURATION | ok 0
+    send 01020304 | ok 4
+    send 0506 | ok 2
+    want 3 | ok 3 010203
+    want 0 | ok 0
+    want 64 | ok 3 040506
+    want 0 | ok 0
+    want 1 | nothing
+    offer | nothing
+    # what came before a change is gone, and before any other request it isn't
+    send 07 | ok 1
+    ask GET_CONFIGURATION | ok 1 01
+    ask SETTING_1 | stall 0
+    want 1 | ok 1 07
+    send 08 | ok 1
+    ask SET_CONFIGURATION | ok 0
+    want 1 | nothing
+    send 09 | ok 1
+    ask SETTING_0 | ok 0
+    want 1 | nothing
+    send 0a | ok 1
+    ask HALT_OUT | ok 0
+    send 0b | stall 0
+    want 1 | ok 1 0a
+    ask PORT_RESET | ok 0
+    want 1 | stall 0
+";
 
 fn address(byte: u8) -> Result<EpAddr, Fail>
     ensures { IfOk result (λ ep. ep ≡ byte) }
@@ -132,10 +89,9 @@ fn address(byte: u8) -> Result<EpAddr, Fail>
     Ok(EpAddr::new(byte).ok_or("no address")?)
 }
 
-fn control(alloc: Global, setup: u64) -> Result<Transfer, Fail>
+fn control(alloc: Global, setup: Setup) -> Result<Transfer, Fail>
     ensures { IfOk result IsTransfer }
 {
-    let setup = Setup::read(setup.to_be_bytes());
     let body = Bytes::new(alloc);
     if setup.kind < 0x80 {
         let ep = address(0x00)?;
@@ -166,15 +122,12 @@ fn wanted(alloc: Global, wanted: u32) -> Result<Transfer, Fail>
     })
 }
 
-fn sent(alloc: Global, bytes: &[u8]) -> Result<Transfer, Fail>
+fn sent(body: Bytes) -> Result<Transfer, Fail>
     ensures { IfOk result IsTransfer }
 {
-    let wanted = u32::try_from(bytes.len())?;
-    let ep = address(0x01)?;
-    let mut body = Bytes::new(alloc);
-    body.append(bytes)?;
+    let wanted = u32::try_from(body.len())?;
     Ok(Transfer {
-        ep,
+        ep: address(0x01)?,
         setup: None,
         wanted,
         body,
@@ -188,61 +141,89 @@ fn of_packet(packet: Option<StreamPacket>) -> Option<Outcome> {
     Some(Outcome { status, done, body })
 }
 
-fn done<G: Gadget>(alloc: Global, gadget: &mut G, act: Act) -> Result<Option<Outcome>, Fail> {
-    let transfer = match act {
-        Act::Offers => return Ok(of_packet(gadget.offer(alloc, address(0x81)?)?)),
-        Act::Asks(setup) => control(alloc, setup)?,
-        Act::Sends(bytes) => sent(alloc, bytes)?,
-        Act::Wants(count) => wanted(alloc, count)?,
-    };
-    Ok(gadget.perform(alloc, &transfer)?)
+// The transfer that an act is.
+fn transfer(alloc: Global, act: &str) -> Result<Transfer, Fail>
+    ensures { IfOk result IsTransfer }
+{
+    let (name, words) = act.split_once(' ').unwrap_or((act, ""));
+    match name {
+        "ask" => control(alloc, setup(alloc, words)?),
+        "send" => sent(bytes(alloc, words)?),
+        _ => wanted(alloc, words.parse()?),
+    }
+}
+
+fn done<G: Gadget>(alloc: Global, gadget: &mut G, act: &str) -> Result<Option<Outcome>, Fail> {
+    if act == "offer" {
+        return Ok(of_packet(gadget.offer(alloc, address(0x81)?)?));
+    }
+    Ok(gadget.perform(alloc, &transfer(alloc, act)?)?)
+}
+
+fn status_name(status: UsbStatus) -> &'static str {
+    match status {
+        UsbStatus::Success => "ok",
+        UsbStatus::Stall => "stall",
+        _ => "another",
+    }
 }
 
 /// Whether this came of an act.
-fn is_so(outcome: &Option<Outcome>, came: Option<Came>) -> bool {
-    match (outcome, came) {
-        (Some(outcome), Some((status, done, bytes))) => {
-            (outcome.status, outcome.done) == (status, done) && outcome.body.as_slice() == bytes
-        }
-        (outcome, came) => outcome.is_none() && came.is_none(),
-    }
+fn is_so(alloc: Global, outcome: &Option<Outcome>, came: &str) -> Result<bool, Memory> {
+    let Some(outcome) = outcome else {
+        return Ok(came == "nothing");
+    };
+    let (status, rest) = came.split_once(' ').unwrap_or((came, ""));
+    let (done, given) = rest.split_once(' ').unwrap_or((rest, ""));
+    Ok(
+        status_name(outcome.status) == status
+            && done.parse() == Ok(outcome.done)
+            && outcome.body.as_slice() == bytes(alloc, given)?.as_slice(),
+    )
 }
 
-/// The place of the first row that the device doesn't do.
-fn goes_on<G: Gadget>(alloc: Global, gadget: &mut G, rows: &[Row]) -> Result<Option<usize>, Fail> {
-    for (place, (act, came)) in rows.iter().enumerate() {
-        if !is_so(&done(alloc, gadget, *act)?, *came) {
-            return Ok(Some(place));
-        }
-    }
-    Ok(None)
+fn goes<G: Gadget>(alloc: Global, gadget: &mut G, row: &str) -> Result<bool, Fail> {
+    let (act, came) = row.split_once(" | ").unwrap_or((row, ""));
+    Ok(is_so(alloc, &done(alloc, gadget, act)?, came)?)
 }
 
-fn lives<G: Gadget>(alloc: Global, gadget: G, rows: &[Row]) -> Result<Option<usize>, Fail> {
+/// The first row that the device doesn't do.
+fn wrong_row<G: Gadget>(
+    alloc: Global,
+    gadget: &mut G,
+    life: &'static str,
+) -> Result<&'static str, Fail> {
+    for line in life.lines() {
+        let row = line.trim();
+        if is_row(row) && !goes(alloc, gadget, row)? {
+            return Ok(row);
+        }
+    }
+    Ok("")
+}
+
+fn lives<G: Gadget>(alloc: Global, gadget: G, life: &'static str) -> Result<&'static str, Fail> {
     let mut gadget = gadget;
-    goes_on(alloc, &mut gadget, rows)
+    wrong_row(alloc, &mut gadget, life)
 }
 
 #[test]
 fn a_keyboard_presses_the_keys_in_turn(rt: HostRuntime) -> Result<(), Fail> {
-    assert_eq!(rt;
-        lives(rt.alloc(), Keyboard::make(rt.alloc())?, &KEYBOARD)?,
-        None
+    none_is_wrong(
+        &rt,
+        lives(rt.alloc(), Keyboard::make(rt.alloc())?, KEYBOARD)?,
     );
     Ok(())
 }
 
 #[test]
 fn a_tone_sounds_in_its_second_setting(rt: HostRuntime) -> Result<(), Fail> {
-    assert_eq!(rt; lives(rt.alloc(), Tone::make(rt.alloc())?, &TONE)?, None);
+    none_is_wrong(&rt, lives(rt.alloc(), Tone::make(rt.alloc())?, TONE)?);
     Ok(())
 }
 
 #[test]
 fn a_loop_gives_back_what_came(rt: HostRuntime) -> Result<(), Fail> {
-    assert_eq!(rt;
-        lives(rt.alloc(), Loopback::make(rt.alloc())?, &LOOP)?,
-        None
-    );
+    none_is_wrong(&rt, lives(rt.alloc(), Loopback::make(rt.alloc())?, LOOP)?);
     Ok(())
 }

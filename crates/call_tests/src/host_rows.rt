@@ -1,336 +1,176 @@
 //! Lives of hosts: in each row a call, what it sends, and what it tells. What is sent was laid out by hand.
-
-/// What a call tells: a word and its number, an id or a place.
-pub type Told = (&'static str, u64);
-
-/// A call, what it sends, and what it tells. A call is `g` and bytes of the guest, `b` and such bytes one by one, `p` or
-/// `o` and an endpoint, or `x`.
-pub type Row = (&'static str, &'static str, Told);
-
-pub const QUIET: Told = ("", 0);
+//!
+//! A call is `g` and bytes of the guest, `b` and such bytes one by one, `p` or `o` and an endpoint, or `x`. What it tells
+//! is a word and its number, an id or a place, or nothing. A line behind `#` is a comment.
 
 /// The guest's hello, and a configuration of the loop.
-pub const CONFIGURED: &[Row] = &[
-    ("g GH", "EPU IIU DCL", QUIET),
-    ("g SET @1 01", "", QUIET),
-    ("p 00", "EPL II8 STATUS @1 0001", ("done", 1)),
-];
+pub const CONFIGURED: &str = "
+    g GH | EPU IIU DCL |
+    g SET @1 01 | |
+    p 00 | EPL II8 STATUS @1 0001 | done 1
+";
 
-pub const ASKS_NOTHING: &[Row] = &[
-    ("p 00", "", ("not ready", 0)),
-    ("o 81", "", ("closed", 0)),
-    ("g GH", "EPU IIU DCL", QUIET),
-    ("p 00", "", ("not ready", 0)),
-    ("p 01", "", ("not ready", 0)),
-    ("p 81", "", ("not ready", 0)),
-    ("o 81", "", ("closed", 0)),
-];
+pub const ASKS_NOTHING: &str = "
+    p 00 | | not ready 0
+    o 81 | | closed 0
+    g GH | EPU IIU DCL |
+    p 00 | | not ready 0
+    p 01 | | not ready 0
+    p 81 | | not ready 0
+    o 81 | | closed 0
+";
 
-pub const READS_AND_WRITES: &[Row] = &[
-    (
-        "g 65000000 0e000000 @2 01000400000000000000 a1a2a3a4",
-        "",
-        QUIET,
-    ),
-    ("p 01", "BULK @2 01000400000000000000", ("done", 2)),
-    ("g CANCEL @2", "", QUIET),
-    ("p 01", "", ("not ready", 0)),
-    ("g BULK @3 81000200000000000000", "", QUIET),
-    (
-        "p 81",
-        "65000000 0c000000 @3 81000200000000000000 a1a2",
-        ("done", 3),
-    ),
-    ("g BULK @4 81000900000000000000", "", QUIET),
-    ("x", "02000000 00000000 00*8", ("gone", 0)),
-    ("g 18000000 00000000 00*8 SET @5 00", "", QUIET),
-    ("p 81", "", ("unplugged", 0)),
-    ("o 81", "", ("unplugged", 0)),
-    ("x", "", ("gone before", 0)),
-];
+pub const READS_AND_WRITES: &str = "
+    g 65000000 0e000000 @2 01000400000000000000 a1a2a3a4 | |
+    p 01 | BULK @2 01000400000000000000 | done 2
+    g CANCEL @2 | |
+    p 01 | | not ready 0
+    g BULK @3 81000200000000000000 | |
+    p 81 | 65000000 0c000000 @3 81000200000000000000 a1a2 | done 3
+    g BULK @4 81000900000000000000 | |
+    x | 02000000 00000000 00*8 | gone 0
+    g 18000000 00000000 00*8 SET @5 00 | |
+    p 81 | | unplugged 0
+    o 81 | | unplugged 0
+    x | | gone before 0
+";
 
-pub const STREAMS: &[Row] = &[
-    ("g GH", "EPU IIU DCK", QUIET),
-    ("o 81", "", ("closed", 0)),
-    (
-        "g 0f000000 01000000 @9 81",
-        "11000000 02000000 @9 0281",
-        QUIET,
-    ),
-    ("g SET @1 01", "", QUIET),
-    ("p 80", "EPK II8 STATUS @1 0001", ("done", 1)),
-    (
-        "g 0f000000 01000000 @2 81",
-        "11000000 02000000 @2 0081",
-        QUIET,
-    ),
-    (
-        "o 81",
-        "67000000 0c000000 00*8 81000800 0000040000000000",
-        ("sent", 0),
-    ),
-    (
-        "o 81",
-        "67000000 0c000000 00*8 81000800 0000050000000000",
-        ("sent", 0),
-    ),
-    // starts that can't be, of an endpoint that isn't there, of OUT, of another type, and of no address
-    (
-        "g 0f000000 01000000 @3 82",
-        "11000000 02000000 @3 0282",
-        QUIET,
-    ),
-    (
-        "g 0f000000 01000000 @3 01",
-        "11000000 02000000 @3 0201",
-        QUIET,
-    ),
-    (
-        "g 0c000000 03000000 @3 810101",
-        "0e000000 02000000 @3 0281",
-        QUIET,
-    ),
-    (
-        "g 0f000000 01000000 @3 91",
-        "11000000 02000000 @3 0291",
-        QUIET,
-    ),
-    (
-        "o 81",
-        "67000000 0c000000 00*8 81000800 0000060000000000",
-        ("sent", 0),
-    ),
-    // a stop of either type ends it, and a second one succeeds
-    (
-        "g 0d000000 01000000 @4 81",
-        "0e000000 02000000 @4 0081",
-        QUIET,
-    ),
-    ("o 81", "", ("closed", 0)),
-    (
-        "g 10000000 01000000 @5 81",
-        "11000000 02000000 @5 0081",
-        QUIET,
-    ),
-];
+pub const STREAMS: &str = "
+    g GH | EPU IIU DCK |
+    o 81 | | closed 0
+    g 0f000000 01000000 @9 81 | 11000000 02000000 @9 0281 |
+    g SET @1 01 | |
+    p 80 | EPK II8 STATUS @1 0001 | done 1
+    g 0f000000 01000000 @2 81 | 11000000 02000000 @2 0081 |
+    o 81 | 67000000 0c000000 00*8 81000800 0000040000000000 | sent 0
+    o 81 | 67000000 0c000000 00*8 81000800 0000050000000000 | sent 0
+    # starts that can't be, of an endpoint that isn't there, of OUT, of another type, and of no address
+    g 0f000000 01000000 @3 82 | 11000000 02000000 @3 0282 |
+    g 0f000000 01000000 @3 01 | 11000000 02000000 @3 0201 |
+    g 0c000000 03000000 @3 810101 | 0e000000 02000000 @3 0281 |
+    g 0f000000 01000000 @3 91 | 11000000 02000000 @3 0291 |
+    o 81 | 67000000 0c000000 00*8 81000800 0000060000000000 | sent 0
+    # a stop of either type ends it, and a second one succeeds
+    g 0d000000 01000000 @4 81 | 0e000000 02000000 @4 0081 |
+    o 81 | | closed 0
+    g 10000000 01000000 @5 81 | 11000000 02000000 @5 0081 |
+";
 
-pub const CHANGES: &[Row] = &[
-    ("g GH", "EPU IIU DCT", QUIET),
-    ("g SET @1 01", "", QUIET),
-    ("p 00", "EPU II8 STATUS @1 0001", ("done", 1)),
-    ("g 09000000 02000000 @2 0001", "", QUIET),
-    ("p 00", "EPT II8 0b000000 03000000 @2 000001", ("done", 2)),
-    (
-        "g 0c000000 03000000 @3 810101",
-        "0e000000 02000000 @3 0081",
-        QUIET,
-    ),
-    (
-        "o 81",
-        "66000000 c4000000 00*8 8100c000 00*192",
-        ("sent", 0),
-    ),
-    (
-        "o 81",
-        "66000000 c4000000 00*8 8100c000 01*192",
-        ("sent", 0),
-    ),
-    // a change that the device refuses ends none
-    ("g 09000000 02000000 @4 0007", "", QUIET),
-    ("p 00", "EPT II8 0b000000 03000000 @4 040007", ("done", 4)),
-    (
-        "o 81",
-        "66000000 c4000000 00*8 8100c000 02*192",
-        ("sent", 0),
-    ),
-    ("g 0a000000 01000000 @5 00", "", QUIET),
-    ("p 00", "0b000000 03000000 @5 000001", ("done", 5)),
-    ("g 09000000 02000000 @6 0000", "", QUIET),
-    ("p 00", "EPU II8 0b000000 03000000 @6 000000", ("done", 6)),
-    ("o 81", "", ("closed", 0)),
-];
+pub const CHANGES: &str = "
+    g GH | EPU IIU DCT |
+    g SET @1 01 | |
+    p 00 | EPU II8 STATUS @1 0001 | done 1
+    g 09000000 02000000 @2 0001 | |
+    p 00 | EPT II8 0b000000 03000000 @2 000001 | done 2
+    g 0c000000 03000000 @3 810101 | 0e000000 02000000 @3 0081 |
+    o 81 | 66000000 c4000000 00*8 8100c000 00*192 | sent 0
+    o 81 | 66000000 c4000000 00*8 8100c000 01*192 | sent 0
+    # a change that the device refuses ends none
+    g 09000000 02000000 @4 0007 | |
+    p 00 | EPT II8 0b000000 03000000 @4 040007 | done 4
+    o 81 | 66000000 c4000000 00*8 8100c000 02*192 | sent 0
+    g 0a000000 01000000 @5 00 | |
+    p 00 | 0b000000 03000000 @5 000001 | done 5
+    g 09000000 02000000 @6 0000 | |
+    p 00 | EPU II8 0b000000 03000000 @6 000000 | done 6
+    o 81 | | closed 0
+";
 
-pub const FLUSHES: &[Row] = &[
-    (
-        "g BULK @3 81000200000000000000 CONTROL @4 8006800000010000 1200",
-        "",
-        QUIET,
-    ),
-    ("g SET @6 00 BULK @7 8200020000000000 0000", "", QUIET),
-    // endpoint 0 keeps its order, and what waits there is never flushed
-    (
-        "p 00",
-        "64000000 1c000000 @4 8006800000010000 1200 12010002 00000040 f0ff0200 00010001 0001",
-        ("done", 4),
-    ),
-    (
-        "p 80",
-        "BULK @3 8101 00*8 BULK @7 8201 00*8 EPU IIU STATUS @6 0000",
-        ("done", 6),
-    ),
-    ("p 81", "", ("not ready", 0)),
-    ("g SET @8 05", "", QUIET),
-    ("p 00", "EPU IIU STATUS @8 0400", ("done", 8)),
-    ("g GET @9", "", QUIET),
-    ("p 00", "STATUS @9 0000", ("done", 9)),
-];
+pub const FLUSHES: &str = "
+    g BULK @3 81000200000000000000 CONTROL @4 8006800000010000 1200 | |
+    g SET @6 00 BULK @7 8200020000000000 0000 | |
+    # endpoint 0 keeps its order, and what waits there is never flushed
+    p 00 | 64000000 1c000000 @4 8006800000010000 1200 12010002 00000040 f0ff0200 00010001 0001 | done 4
+    p 80 | BULK @3 8101 00*8 BULK @7 8201 00*8 EPU IIU STATUS @6 0000 | done 6
+    p 81 | | not ready 0
+    g SET @8 05 | |
+    p 00 | EPU IIU STATUS @8 0400 | done 8
+    g GET @9 | |
+    p 00 | STATUS @9 0000 | done 9
+";
 
-pub const RESETS: &[Row] = &[
-    // two resets before it are one mark; another endpoint takes none
-    (
-        "g RESET @2 BULK @3 8100020000000000 0000 RESET @4 SET @5 01",
-        "",
-        QUIET,
-    ),
-    ("p 81", "", ("not ready", 0)),
-    (
-        "p 00",
-        "BULK @3 8101 00*8 EPU IIU EPL II8 STATUS @5 0001",
-        ("done", 5),
-    ),
-    // a get_configuration is performed by the reset alone
-    ("g RESET @6 GET @7 GET @8", "", QUIET),
-    ("p 00", "EPU IIU STATUS @7 0000", ("done", 7)),
-    ("p 00", "STATUS @8 0000", ("done", 8)),
-    ("p 00", "", ("not ready", 0)),
-];
+pub const RESETS: &str = "
+    # two resets before it are one mark; another endpoint takes none
+    g RESET @2 BULK @3 8100020000000000 0000 RESET @4 SET @5 01 | |
+    p 81 | | not ready 0
+    p 00 | BULK @3 8101 00*8 EPU IIU EPL II8 STATUS @5 0001 | done 5
+    # a get_configuration is performed by the reset alone
+    g RESET @6 GET @7 GET @8 | |
+    p 00 | EPU IIU STATUS @7 0000 | done 7
+    p 00 | STATUS @8 0000 | done 8
+    p 00 | | not ready 0
+";
 
-pub const CANCELS_BEHIND_RESETS: &[Row] = &[
-    // to the packet behind it
-    (
-        "g RESET @2 CONTROL @3 8006800000010000 1200 BULK @4 8100020000000000 0000 GET @5",
-        "",
-        QUIET,
-    ),
-    (
-        "g CANCEL @3",
-        "CONTROL @3 80068001 00010000 0000",
-        ("cancelled", 3),
-    ),
-    (
-        "p 00",
-        "BULK @4 8101 00*8 EPU IIU STATUS @5 0000",
-        ("done", 5),
-    ),
-    // or to the next that comes
-    (
-        "g RESET @6 CONTROL @7 8006800000010000 1200 CANCEL @7",
-        "CONTROL @7 80068001 00010000 0000",
-        ("cancelled", 7),
-    ),
-    ("g GET @8 GET @9", "", QUIET),
-    ("p 00", "EPU IIU STATUS @8 0000", ("done", 8)),
-    ("p 00", "STATUS @9 0000", ("done", 9)),
-];
+pub const CANCELS_BEHIND_RESETS: &str = "
+    # to the packet behind it
+    g RESET @2 CONTROL @3 8006800000010000 1200 BULK @4 8100020000000000 0000 GET @5 | |
+    g CANCEL @3 | CONTROL @3 80068001 00010000 0000 | cancelled 3
+    p 00 | BULK @4 8101 00*8 EPU IIU STATUS @5 0000 | done 5
+    # or to the next that comes
+    g RESET @6 CONTROL @7 8006800000010000 1200 CANCEL @7 | CONTROL @7 80068001 00010000 0000 | cancelled 7
+    g GET @8 GET @9 | |
+    p 00 | EPU IIU STATUS @8 0000 | done 8
+    p 00 | STATUS @9 0000 | done 9
+";
 
-pub const CANCELS: &[Row] = &[
-    ("g CANCEL @9", "", QUIET),
-    (
-        "g GET @3 BULK @3 8100020000000000 0000 BULK @3 8200030000000000 0000",
-        "",
-        QUIET,
-    ),
-    ("g CANCEL @3", "BULK @3 8101 00*8", ("cancelled", 3)),
-    (
-        "g CANCEL @3 CANCEL @3",
-        "BULK @3 8201 00*8",
-        ("cancelled", 3),
-    ),
-    ("p 00", "STATUS @3 0001", ("done", 3)),
-    ("g CANCEL @3", "", QUIET),
-];
+pub const CANCELS: &str = "
+    g CANCEL @9 | |
+    g GET @3 BULK @3 8100020000000000 0000 BULK @3 8200030000000000 0000 | |
+    g CANCEL @3 | BULK @3 8101 00*8 | cancelled 3
+    g CANCEL @3 CANCEL @3 | BULK @3 8201 00*8 | cancelled 3
+    p 00 | STATUS @3 0001 | done 3
+    g CANCEL @3 | |
+";
 
-pub const CANNOT_BE_ASKED: &[Row] = &[
-    // bulk of endpoint 0, of no address, and of more than 16 MiB
-    (
-        "g BULK @2 8000020000000000 0000",
-        "BULK @2 8002 00*8",
-        QUIET,
-    ),
-    (
-        "g BULK @2 9100020000000000 0000",
-        "BULK @2 9102 00*8",
-        QUIET,
-    ),
-    (
-        "g BULK @2 8100010000000000 0001",
-        "BULK @2 8102 00*8",
-        QUIET,
-    ),
-    // control of another endpoint, and of the other direction
-    (
-        "g CONTROL @3 8106800000010000 1200",
-        "CONTROL @3 81068002 00010000 0000",
-        QUIET,
-    ),
-    (
-        "g CONTROL @3 8005000000000000 0000",
-        "CONTROL @3 80050002 00000000 0000",
-        QUIET,
-    ),
-    // interrupt of endpoint 0
-    (
-        "g 67000000 04000000 @4 00000000",
-        "67000000 04000000 @4 00020000",
-        QUIET,
-    ),
-    // of other endpoints nothing is asked by interrupt packets that want data, and by isochronous ones
-    (
-        "g 67000000 04000000 @4 81000800 66000000 04000000 @4 81000800 66000000 04000000 @4 31000000",
-        "",
-        QUIET,
-    ),
-    // 16 MiB
-    ("g BULK @5 8100000000000000 0001", "", QUIET),
-    ("p 81", "", ("not ready", 0)),
-    ("g CANCEL @5", "BULK @5 8101 00*8", ("cancelled", 5)),
-];
+pub const CANNOT_BE_ASKED: &str = "
+    # bulk of endpoint 0, of no address, and of more than 16 MiB
+    g BULK @2 8000020000000000 0000 | BULK @2 8002 00*8 |
+    g BULK @2 9100020000000000 0000 | BULK @2 9102 00*8 |
+    g BULK @2 8100010000000000 0001 | BULK @2 8102 00*8 |
+    # control of another endpoint, and of the other direction
+    g CONTROL @3 8106800000010000 1200 | CONTROL @3 81068002 00010000 0000 |
+    g CONTROL @3 8005000000000000 0000 | CONTROL @3 80050002 00000000 0000 |
+    # interrupt of endpoint 0
+    g 67000000 04000000 @4 00000000 | 67000000 04000000 @4 00020000 |
+    # of other endpoints nothing is asked by interrupt packets that want data, and by isochronous ones
+    g 67000000 04000000 @4 81000800 66000000 04000000 @4 81000800 66000000 04000000 @4 31000000 | |
+    # 16 MiB
+    g BULK @5 8100000000000000 0001 | |
+    p 81 | | not ready 0
+    g CANCEL @5 | BULK @5 8101 00*8 | cancelled 5
+";
 
-pub const WRONG_TYPE: &[Row] = &[
-    ("g SET @2 00 1e000000", "", ("UnknownType", 114)),
-    ("g SET @3 01", "", QUIET),
-    ("p 00", "EPU IIU STATUS @2 0000", ("done", 2)),
-    ("p 00", "", ("not ready", 0)),
-    ("x", "02000000 00000000 00*8", ("gone", 0)),
-];
+pub const WRONG_TYPE: &str = "
+    g SET @2 00 1e000000 | | UnknownType 114
+    g SET @3 01 | |
+    p 00 | EPU IIU STATUS @2 0000 | done 2
+    p 00 | | not ready 0
+    x | 02000000 00000000 00*8 | gone 0
+";
 
-pub const NO_HELLO: &[Row] = &[
-    ("o 81", "", ("closed", 0)),
-    ("g 03", "", QUIET),
-    ("g 000000", "", ("HelloFirst", 0)),
-    ("g GH", "", QUIET),
-    ("x", "", ("gone", 0)),
-];
+pub const NO_HELLO: &str = "
+    o 81 | | closed 0
+    g 03 | |
+    g 000000 | | HelloFirst 0
+    g GH | |
+    x | | gone 0
+";
 
-pub const UNPLUGGED: &[Row] = &[
-    ("x", "02000000 00000000 00*8", ("gone", 0)),
-    ("g BULK @2 8100020000000000 0000 CANCEL @2 0f", "", QUIET),
-    ("g 00000001000000 @3 81 1e000000", "", ("UnknownType", 156)),
-];
+pub const UNPLUGGED: &str = "
+    x | 02000000 00000000 00*8 | gone 0
+    g BULK @2 8100020000000000 0000 CANCEL @2 0f | |
+    g 00000001000000 @3 81 1e000000 | | UnknownType 156
+";
 
-pub const ANNOUNCES_NOTHING: &[Row] = &[
-    (
-        "g GH0",
-        "05000000 60000000 00000000 00 ff*15 00 ff*15 00*64 04000000 84000000 00000000 00*132 01000000 08000000 00000000 02000000f0ff0200",
-        QUIET,
-    ),
-    ("g 06000000 01000000 01000000 01", "", QUIET),
-    (
-        "p 00",
-        "05000000 60000000 00000000 0002 ff*14 0002 ff*14 00*64 04000000 84000000 00000000 01000000 00*32 ff 00*31 00*64 08000000 02000000 01000000 0001",
-        ("done", 1),
-    ),
-    ("g 65000000 08000000 02000000 8100ffff00000000", "", QUIET),
-    (
-        "g 15000000 00000000 02000000",
-        "65000000 08000000 02000000 8101000000000000",
-        ("cancelled", 2),
-    ),
-];
+pub const ANNOUNCES_NOTHING: &str = "
+    g GH0 | 05000000 60000000 00000000 00 ff*15 00 ff*15 00*64 04000000 84000000 00000000 00*132 01000000 08000000 00000000 02000000f0ff0200 |
+    g 06000000 01000000 01000000 01 | |
+    p 00 | 05000000 60000000 00000000 0002 ff*14 0002 ff*14 00*64 04000000 84000000 00000000 01000000 00*32 ff 00*31 00*64 08000000 02000000 01000000 0001 | done 1
+    g 65000000 08000000 02000000 8100ffff00000000 | |
+    g 15000000 00000000 02000000 | 65000000 08000000 02000000 8101000000000000 | cancelled 2
+";
 
 /// A guest whose bytes come one by one.
-pub const BYTE_BY_BYTE: &[Row] = &[(
-    "b GH BULK @2 8000020000000000 0000 65000000 0e000000 @3 1100040000000000 0000 a1a2a3a4",
-    "EPU IIU DCL BULK @2 8002 00*8 BULK @3 1102 00*8",
-    QUIET,
-)];
+pub const BYTE_BY_BYTE: &str = "
+    b GH BULK @2 8000020000000000 0000 65000000 0e000000 @3 1100040000000000 0000 a1a2a3a4 | EPU IIU DCL BULK @2 8002 00*8 BULK @3 1102 00*8 |
+";

@@ -3,8 +3,8 @@
 use std::alloc::Global;
 use std::process::Abort;
 use std::test::Fail;
-use stream_buffers::{Inbox, IsoFilling};
-use usb_base::{Bytes, List, Memory, StreamPacket, UsbStatus};
+use stream_buffers::{Inbox, IsoFilling, IsoOutcome};
+use usb_base::{Bytes, List, Memory, Outcome, StreamPacket, UsbStatus};
 use usbip_urb::{Descs, IsoDesc};
 
 const OK: UsbStatus = UsbStatus::Success;
@@ -55,25 +55,28 @@ fn two(alloc: Global) -> Result<Descs, Memory> {
     Ok(descs)
 }
 
-fn cut(rt: &impl Abort, inbox: &mut Inbox) -> Result<(), Fail> {
-    let outcome = inbox.cut_interrupt(4)?.ok_or("it is filled")?;
-    assert!(rt; (outcome.status, outcome.done) == (OK, 3));
-    assert!(rt; outcome.body.as_slice() == [1, 1, 2].as_slice());
-    Ok(())
+// Whether a request was given these bytes.
+fn is_given(outcome: &Option<Outcome>, bytes: &[u8]) -> bool {
+    match outcome {
+        Some(outcome) => {
+            (outcome.status, outcome.done as usize) == (OK, bytes.len())
+                && outcome.body.as_slice() == bytes
+        }
+        None => false,
+    }
 }
 
-fn cut_iso(rt: &impl Abort, inbox: &mut Inbox, descs: &Descs) -> Result<(), Fail> {
-    let outcome = inbox.cut_iso(descs)?.ok_or("it is filled")?;
-    assert!(rt; outcome.body.as_slice() == [3, 3, 4, 4].as_slice());
-    assert!(rt; outcome.descs.len() == 2);
-    Ok(())
+// Whether a request of two descriptors was given these bytes.
+fn is_given_iso(outcome: &Option<IsoOutcome>, bytes: &[u8]) -> bool {
+    match outcome {
+        Some(outcome) => outcome.body.as_slice() == bytes && outcome.descs.len() == 2,
+        None => false,
+    }
 }
 
-#[test]
-fn requests_take_packets(rt: HostRuntime) -> Result<(), Fail> {
-    let mut inbox = holding(rt.alloc())?;
-    cut(&rt, &mut inbox)?;
-    cut_iso(&rt, &mut inbox, &two(rt.alloc())?)?;
+fn take(rt: &impl Abort, inbox: &mut Inbox, descs: &Descs) -> Result<(), Fail> {
+    assert!(rt; is_given(&inbox.cut_interrupt(4)?, &[1, 1, 2]));
+    assert!(rt; is_given_iso(&inbox.cut_iso(descs)?, &[3, 3, 4, 4]));
     assert!(rt; inbox.len() == 2);
     inbox.withdraw();
     assert!(rt; inbox.len() == 1);
@@ -84,14 +87,27 @@ fn requests_take_packets(rt: HostRuntime) -> Result<(), Fail> {
 }
 
 #[test]
-fn no_more_than_1024_packets_are_held(rt: HostRuntime) -> Result<(), Fail> {
-    let mut inbox = Inbox::make(rt.alloc(), 8);
+fn requests_take_packets(rt: HostRuntime) -> Result<(), Fail> {
+    take(&rt, &mut holding(rt.alloc())?, &two(rt.alloc())?)
+}
+
+// Whether one more packet is held.
+fn holds_one_more(alloc: Global, inbox: &mut Inbox) -> Result<bool, Memory> {
+    inbox.offer(packet(alloc, OK, 7, 8)?)
+}
+
+fn fill(rt: &(impl Abort + AllocGlobal), inbox: &mut Inbox) -> Result<(), Fail> {
     for _ in 0..1024 {
-        assert!(rt; inbox.offer(packet(rt.alloc(), OK, 7, 8)?)?);
+        assert!(rt; holds_one_more(rt.alloc(), inbox)?);
     }
-    assert!(rt; !inbox.offer(packet(rt.alloc(), OK, 7, 8)?)?);
+    assert!(rt; !holds_one_more(rt.alloc(), inbox)?);
     assert!(rt; inbox.len() == 1024);
     Ok(())
+}
+
+#[test]
+fn no_more_than_1024_packets_are_held(rt: HostRuntime) -> Result<(), Fail> {
+    fill(&rt, &mut Inbox::make(rt.alloc(), 8))
 }
 
 fn bodies_behind_one(rt: &impl Abort, inbox: &mut Inbox, out: &mut Bytes) -> Result<(), Fail> {
@@ -124,12 +140,25 @@ const FILLED: [u8; 36] = [
     0, 0, 0, 8, 0, 0, 0, 2, 0, 0, 0, 1, 0xFF, 0xFF, 0xFF, 0xE0,
 ];
 
-#[test]
-fn packets_behind_others_are_appended(rt: HostRuntime) -> Result<(), Fail> {
-    let mut inbox = holding(rt.alloc())?;
-    let mut out = Bytes::new(rt.alloc());
-    bodies_behind_one(&rt, &mut inbox, &mut out)?;
-    pieces_behind_three(&rt, &inbox, &two(rt.alloc())?, &mut out)?;
+fn append_behind_others(
+    rt: &impl Abort,
+    inbox: &mut Inbox,
+    descs: &Descs,
+    out: &mut Bytes,
+) -> Result<(), Fail> {
+    bodies_behind_one(rt, inbox, out)?;
+    pieces_behind_three(rt, inbox, descs, out)?;
     assert!(rt; out.as_slice() == FILLED.as_slice());
     Ok(())
+}
+
+#[test]
+fn packets_behind_others_are_appended(rt: HostRuntime) -> Result<(), Fail> {
+    let descs = two(rt.alloc())?;
+    append_behind_others(
+        &rt,
+        &mut holding(rt.alloc())?,
+        &descs,
+        &mut Bytes::new(rt.alloc()),
+    )
 }

@@ -1,62 +1,69 @@
-//! Bytes by the words that lay them out: packets by name, and their fields in wire order.
+//! Bytes by the words that lay them out: packets, descriptors and setups by name, and their fields in wire order. And
+//! rows of text, each of which is a line.
 
 use std::alloc::Global;
-use usb_base::{Bytes, Memory};
+use std::process::Abort;
+use std::test::Fail;
+use usb_base::{Bytes, Memory, Setup};
 
-/// Packets by name, in hexadecimal; `00*8` stands for eight times 00, and ids have eight bytes behind the hellos.
-const PACKETS: [(&str, &str); 19] = [
-    // The hellos of a guest and of the host, which announce the same.
-    (
-        "GH",
-        "00000000 44000000 00000000 757362676174652031 00*55 7a000000",
-    ),
-    (
-        "HG",
-        "00000000 44000000 00000000 7573626761746520686f73742031 00*50 7a000000",
-    ),
-    // A guest that announces nothing, as its host reads it: ids have four bytes, and a bulk length two.
-    ("GH0", "00000000 40000000 00000000 00*64"),
-    // The endpoints of a device without a configuration, of the loop, of the keyboard, and of the tone in its setting 1.
-    (
-        "EPU",
-        "05000000 a0000000 00*8 00 ff*15 00 ff*15 00*64 4000 00*30 4000 00*30",
-    ),
-    (
-        "EPL",
-        "05000000 a0000000 00*8 0002 ff*14 0002 ff*14 00*64 40000002 00*28 40000002 00*28",
-    ),
-    (
-        "EPK",
-        "05000000 a0000000 00*8 00 ff*15 0003 ff*14 00*17 0a 00*46 4000 00*30 40000800 00*28",
-    ),
-    (
-        "EPT",
-        "05000000 a0000000 00*8 00 ff*15 0001 ff*14 00*17 01 00*46 4000 00*30 4000c000 00*28",
-    ),
-    // No interface, and one of class ff.
-    ("IIU", "04000000 84000000 00*8 00*132"),
-    (
-        "II8",
-        "04000000 84000000 00*8 01000000 00*32 ff 00*31 00*64",
-    ),
-    // The loop, the keyboard and the tone.
-    ("DCL", "01000000 0a000000 00*8 02000000f0ff02000001"),
-    ("DCK", "01000000 0a000000 00*8 01000000f0ff01000001"),
-    ("DCT", "01000000 0a000000 00*8 01000000f0ff03000001"),
-    // Heads of packets, whose id and fields come behind.
-    ("RESET", "03000000 00000000"),
-    ("SET", "06000000 01000000"),
-    ("GET", "07000000 00000000"),
-    ("STATUS", "08000000 02000000"),
-    ("CANCEL", "15000000 00000000"),
-    ("BULK", "65000000 0a000000"),
-    ("CONTROL", "64000000 0a000000"),
-];
+/// What has a name, in hexadecimal; `00*8` stands for eight times 00, and ids have eight bytes behind the hellos.
+const PACKETS: &str = "
+    # The hellos of a guest and of the host, which announce the same.
+    GH 00000000 44000000 00000000 757362676174652031 00*55 7a000000
+    HG 00000000 44000000 00000000 7573626761746520686f73742031 00*50 7a000000
+    # A guest that announces nothing, as its host reads it: ids have four bytes, and a bulk length two.
+    GH0 00000000 40000000 00000000 00*64
+    # The endpoints of a device without a configuration, of the loop, of the keyboard, and of the tone in its setting 1.
+    EPU 05000000 a0000000 00*8 00 ff*15 00 ff*15 00*64 4000 00*30 4000 00*30
+    EPL 05000000 a0000000 00*8 0002 ff*14 0002 ff*14 00*64 40000002 00*28 40000002 00*28
+    EPK 05000000 a0000000 00*8 00 ff*15 0003 ff*14 00*17 0a 00*46 4000 00*30 40000800 00*28
+    EPT 05000000 a0000000 00*8 00 ff*15 0001 ff*14 00*17 01 00*46 4000 00*30 4000c000 00*28
+    # No interface, and one of class ff.
+    IIU 04000000 84000000 00*8 00*132
+    II8 04000000 84000000 00*8 01000000 00*32 ff 00*31 00*64
+    # The loop, the keyboard and the tone.
+    DCL 01000000 0a000000 00*8 02000000f0ff02000001
+    DCK 01000000 0a000000 00*8 01000000f0ff01000001
+    DCT 01000000 0a000000 00*8 01000000f0ff03000001
+    # Heads of packets, whose id and fields come behind.
+    RESET 03000000 00000000
+    SET 06000000 01000000
+    GET 07000000 00000000
+    STATUS 08000000 02000000
+    CANCEL 15000000 00000000
+    BULK 65000000 0a000000
+    CONTROL 64000000 0a000000
+    # The descriptors of a device, of its configuration, and of its name.
+    DEVICE 12010002 00000040 f0ff0200 00010001 0001
+    CONFIGURATION 0902200001010080 32 0904000002ff000000 07050102000200 07058102000200
+    NAME 0a03 6c00 6f00 6f00 7000
+    # Setups.
+    SET_CONFIGURATION 0009010000000000
+    CLEAR_CONFIGURATION 0009000000000000
+    GET_CONFIGURATION 8008000000000100
+    PORT_RESET 2303040001000000
+    HALT_IN 0203000081000000
+    CLEAR_HALT_IN 0201000081000000
+    HALT_OUT 0203000001000000
+    SETTING_0 010b000000000000
+    SETTING_1 010b010000000000
+";
 
-/// The bytes of a packet with this name. Other words are bytes themselves.
+/// Whether a line is a row, and not empty or a comment.
+pub fn is_row(line: &str) -> bool {
+    !line.is_empty() && !line.starts_with('#')
+}
+
+/// No row is wrong. One that is is told.
+pub fn none_is_wrong(rt: &impl Abort, row: &str) {
+    assert_eq!(rt; row, "");
+}
+
+/// The bytes of what has this name. Other words are bytes themselves.
 fn bytes_of(word: &str) -> &str {
-    for (name, bytes) in &PACKETS {
-        if *name == word {
+    for line in PACKETS.lines() {
+        let (name, bytes) = line.trim().split_once(' ').unwrap_or((line, ""));
+        if name == word {
             return bytes;
         }
     }
@@ -114,4 +121,9 @@ pub fn bytes(alloc: Global, words: &str) -> Result<Bytes, Memory> {
         }
     }
     Ok(out)
+}
+
+/// The setup of such words.
+pub fn setup(alloc: Global, words: &str) -> Result<Setup, Fail> {
+    Ok(Setup::read(bytes(alloc, words)?.as_slice().try_into()?))
 }

@@ -53,13 +53,16 @@ fn doors_of_one_client(alloc: Global) -> Result<ScriptDoors, Memory> {
     ScriptDoors::make(alloc, 3, host, script(alloc, &["f"])?, &[3], &[])
 }
 
-#[test]
-fn a_script_is_given_poll_by_poll(rt: HostRuntime) -> Result<(), Fail> {
-    let mut doors = doors_of_one_client(rt.alloc())?;
+fn play(rt: &impl Abort, doors: &mut ScriptDoors) -> Result<(), Fail> {
     doors.dial("a:1")?;
     let answers = ["abc", "d", "!", "-", "!", "e", "."];
-    polls(&rt, &mut doors, Side::Host, &answers);
-    writes(&rt, &mut doors);
+    polls(rt, doors, Side::Host, &answers);
+    writes(rt, doors);
     assert!(rt; doors.written(Side::Host) == b"ghi".as_slice());
     Ok(())
+}
+
+#[test]
+fn a_script_is_given_poll_by_poll(rt: HostRuntime) -> Result<(), Fail> {
+    play(&rt, &mut doors_of_one_client(rt.alloc())?)
 }

@@ -1,138 +1,92 @@
-//! Requests on endpoint 0, laid out from the standard (USB 2.0, 9.4). A setup is written as one number, its first byte
-//! the highest.
+//! Requests on endpoint 0, laid out from the standard (USB 2.0, 9.4).
 
+use crate::laid_out::{bytes, is_row, none_is_wrong, setup};
 use chapter9::{DescriptorSet, DevState, Parts, standard, walk};
 use std::alloc::Global;
-use std::process::Abort;
 use std::test::Fail;
 use usb_base::{Bytes, EpAddr, Memory, Outcome, Setup, Transfer, UsbStatus};
 
-const DEVICE: [u8; 18] = [
-    0x12, 1, 0, 2, 0, 0, 0, 0x40, 0xF0, 0xFF, 2, 0, 0, 1, 0, 1, 0, 1,
-];
+/// The state before, the setup, the state after, and what is given; or the state and a setup that is refused there. A
+/// device is reset, or configured and ready, or so with its IN endpoint 1 halted.
+const ROWS: &str = "
+    # what is read
+    reset 8006000100001200 reset DEVICE
+    reset 8006000100000800 reset 12 01 00 02 00 00 00 40
+    ready 8006000100000000 ready
+    ready 800600020000ff00 ready CONFIGURATION
+    ready 8006000200000900 ready 09 02 20 00 01 01 00 80 32
+    ready 800600030000ff00 ready 04 03 09 04
+    ready 800601030904ff00 ready NAME
+    reset 8000000000000200 reset 00 00
+    reset 8000000000000100 reset 00
+    ready 8100000000000200 ready 00 00
+    ready 8200000081000200 ready 00 00
+    halted 8200000081000200 halted 01 00
+    halted 8200000001000200 halted 00 00
+    halted 8200000080000100 halted 00
+    reset 8200000000000200 reset 00 00
+    reset 8008000000000100 reset 00
+    ready 8008000000000200 ready 01
+    ready 8008000000000000 ready
+    ready 810a000000000100 ready 00
+    # what is changed
+    ready 0203000081000000 halted
+    halted 0203000081000000 halted
+    ready 0203000080000000 ready
+    halted 0201000081000000 ready
+    halted 0201000001000000 halted
+    ready 0201000081000000 ready
+    reset 0005070000000000 reset
+    reset 0009010000000000 ready
+    halted 0009010000000000 ready
+    halted 0009000000000000 reset
+    halted 010b000000000000 ready
+    halted 2303040001000000 reset
+    # what is refused, and changes nothing
+    ready 800602030904ff00 refused
+    ready 8006010100001200 refused
+    ready 8006000600000a00 refused
+    ready 8106002200003f00 refused
+    reset 8100000000000200 refused
+    ready 8100000001000200 refused
+    reset 8200000081000200 refused
+    ready 8200000082000200 refused
+    ready 8200000091000200 refused
+    ready 8200000081010200 refused
+    ready 0203010081000000 refused
+    ready 0203000002000000 refused
+    reset 0203000081000000 refused
+    halted 0201010081000000 refused
+    halted 0003010000000000 refused
+    reset 0005070000000100 refused
+    halted 0009020000000000 refused
+    halted 0009010100000000 refused
+    halted 0009010000000100 refused
+    halted 010b010000000000 refused
+    halted 010b000100000000 refused
+    halted 010b000001000000 refused
+    halted 010b000000000100 refused
+    reset 010b000000000000 refused
+    ready 810a000001000100 refused
+    reset 810a000000000100 refused
+    halted 2303080001000000 refused
+    halted 2303040001000100 refused
+    ready c001000000000400 refused
+";
 
-const CONFIGURATION: [u8; 32] = [
-    9, 2, 32, 0, 1, 1, 0, 0x80, 50, //
-    9, 4, 0, 0, 2, 0xFF, 0, 0, 0, //
-    7, 5, 0x01, 2, 0, 2, 0, //
-    7, 5, 0x81, 2, 0, 2, 0,
-];
-
-const NAME: [u8; 10] = [10, 3, 0x6C, 0, 0x6F, 0, 0x6F, 0, 0x70, 0];
-
-const RESET: DevState = DevState {
-    configuration: 0,
-    alt: 0,
-    halted: 0,
-};
-
-const READY: DevState = DevState {
-    configuration: 1,
-    alt: 0,
-    halted: 0,
-};
-
-/// IN endpoint 1 is halted.
-const HALTED: DevState = DevState {
-    configuration: 1,
-    alt: 0,
-    halted: 0x2_0000,
-};
-
-/// The state before, the setup, what is given, and the state after.
-type Row = (DevState, u64, &'static [u8], DevState);
-
-const READS: [Row; 19] = [
-    (RESET, 0x8006_0001_0000_1200, &DEVICE, RESET),
-    (
-        RESET,
-        0x8006_0001_0000_0800,
-        &[0x12, 1, 0, 2, 0, 0, 0, 0x40],
-        RESET,
-    ),
-    (READY, 0x8006_0001_0000_0000, &[], READY),
-    (READY, 0x8006_0002_0000_FF00, &CONFIGURATION, READY),
-    (
-        READY,
-        0x8006_0002_0000_0900,
-        &[9, 2, 32, 0, 1, 1, 0, 0x80, 50],
-        READY,
-    ),
-    (READY, 0x8006_0003_0000_FF00, &[4, 3, 9, 4], READY),
-    (READY, 0x8006_0103_0904_FF00, &NAME, READY),
-    (RESET, 0x8000_0000_0000_0200, &[0, 0], RESET),
-    (RESET, 0x8000_0000_0000_0100, &[0], RESET),
-    (READY, 0x8100_0000_0000_0200, &[0, 0], READY),
-    (READY, 0x8200_0000_8100_0200, &[0, 0], READY),
-    (HALTED, 0x8200_0000_8100_0200, &[1, 0], HALTED),
-    (HALTED, 0x8200_0000_0100_0200, &[0, 0], HALTED),
-    (HALTED, 0x8200_0000_8000_0100, &[0], HALTED),
-    (RESET, 0x8200_0000_0000_0200, &[0, 0], RESET),
-    (RESET, 0x8008_0000_0000_0100, &[0], RESET),
-    (READY, 0x8008_0000_0000_0200, &[1], READY),
-    (READY, 0x8008_0000_0000_0000, &[], READY),
-    (READY, 0x810A_0000_0000_0100, &[0], READY),
-];
-
-const CHANGES: [Row; 12] = [
-    (READY, 0x0203_0000_8100_0000, &[], HALTED),
-    (HALTED, 0x0203_0000_8100_0000, &[], HALTED),
-    (READY, 0x0203_0000_8000_0000, &[], READY),
-    (HALTED, 0x0201_0000_8100_0000, &[], READY),
-    (HALTED, 0x0201_0000_0100_0000, &[], HALTED),
-    (READY, 0x0201_0000_8100_0000, &[], READY),
-    (RESET, 0x0005_0700_0000_0000, &[], RESET),
-    (RESET, 0x0009_0100_0000_0000, &[], READY),
-    (HALTED, 0x0009_0100_0000_0000, &[], READY),
-    (HALTED, 0x0009_0000_0000_0000, &[], RESET),
-    (HALTED, 0x010B_0000_0000_0000, &[], READY),
-    (HALTED, 0x2303_0400_0100_0000, &[], RESET),
-];
-
-/// The state, and a setup that is refused there.
-const REFUSED: [(DevState, u64); 29] = [
-    (READY, 0x8006_0203_0904_FF00),
-    (READY, 0x8006_0101_0000_1200),
-    (READY, 0x8006_0006_0000_0A00),
-    (READY, 0x8106_0022_0000_3F00),
-    (RESET, 0x8100_0000_0000_0200),
-    (READY, 0x8100_0000_0100_0200),
-    (RESET, 0x8200_0000_8100_0200),
-    (READY, 0x8200_0000_8200_0200),
-    (READY, 0x8200_0000_9100_0200),
-    (READY, 0x8200_0000_8101_0200),
-    (READY, 0x0203_0100_8100_0000),
-    (READY, 0x0203_0000_0200_0000),
-    (RESET, 0x0203_0000_8100_0000),
-    (HALTED, 0x0201_0100_8100_0000),
-    (HALTED, 0x0003_0100_0000_0000),
-    (RESET, 0x0005_0700_0000_0100),
-    (HALTED, 0x0009_0200_0000_0000),
-    (HALTED, 0x0009_0101_0000_0000),
-    (HALTED, 0x0009_0100_0000_0100),
-    (HALTED, 0x010B_0100_0000_0000),
-    (HALTED, 0x010B_0001_0000_0000),
-    (HALTED, 0x010B_0000_0100_0000),
-    (HALTED, 0x010B_0000_0000_0100),
-    (RESET, 0x010B_0000_0000_0000),
-    (READY, 0x810A_0000_0100_0100),
-    (RESET, 0x810A_0000_0000_0100),
-    (HALTED, 0x2303_0800_0100_0000),
-    (HALTED, 0x2303_0400_0100_0100),
-    (READY, 0xC001_0000_0000_0400),
-];
-
-fn copied(alloc: Global, bytes: &[u8]) -> Result<Bytes, Memory> {
-    let mut copy = Bytes::new(alloc);
-    copy.append(bytes)?;
-    Ok(copy)
+fn state_of(name: &str) -> DevState {
+    DevState {
+        configuration: if name == "reset" { 0 } else { 1 },
+        alt: 0,
+        halted: if name == "halted" { 0x2_0000 } else { 0 },
+    }
 }
 
-fn descriptors(alloc: Global) -> Result<DescriptorSet, Memory> {
+fn descriptors(alloc: Global) -> Result<DescriptorSet, Fail> {
     Ok(DescriptorSet {
-        device: DEVICE,
-        config: copied(alloc, &CONFIGURATION)?,
-        name: copied(alloc, &NAME)?,
+        device: bytes(alloc, "DEVICE")?.as_slice().try_into()?,
+        config: bytes(alloc, "CONFIGURATION")?,
+        name: bytes(alloc, "NAME")?,
     })
 }
 
@@ -142,9 +96,8 @@ fn answer(
     set: &DescriptorSet,
     parts: &Parts,
     state: &mut DevState,
-    setup: u64,
+    setup: Setup,
 ) -> Result<Outcome, Fail> {
-    let setup = Setup::read(setup.to_be_bytes());
     let ep = EpAddr::new(setup.kind / 0x80 * 0x80).ok_or("no address")?;
     let transfer = Transfer {
         ep,
@@ -155,47 +108,47 @@ fn answer(
     Ok(standard(alloc, set, parts, state, &transfer)?)
 }
 
-// What a request gives, and the state after it.
-fn answers(
-    rt: &(impl Abort + AllocGlobal),
-    set: &DescriptorSet,
-    parts: &Parts,
-    (before, setup, given, after): Row,
-    status: UsbStatus,
-) -> Result<(), Fail> {
-    let mut state = before;
-    let Outcome {
-        status: told,
-        done,
-        body,
-    } = answer(rt.alloc(), set, parts, &mut state, setup)?;
-    assert!(rt; body.as_slice() == given);
-    assert!(rt; (told, done as usize, state) == (status, given.len(), after));
-    Ok(())
+fn is_so(outcome: &Outcome, status: UsbStatus, given: &[u8]) -> bool {
+    (outcome.status, outcome.done as usize) == (status, given.len())
+        && outcome.body.as_slice() == given
 }
 
-fn all_answer(
-    rt: &(impl Abort + AllocGlobal),
-    set: &DescriptorSet,
-    parts: &Parts,
-) -> Result<(), Fail> {
-    for row in READS {
-        answers(rt, set, parts, row, UsbStatus::Success)?;
+// Whether an outcome is what a row says.
+fn is_told(alloc: Global, outcome: &Outcome, after: &str, given: &str) -> Result<bool, Memory> {
+    if after == "refused" {
+        return Ok(is_so(outcome, UsbStatus::Stall, &[]));
     }
-    for row in CHANGES {
-        answers(rt, set, parts, row, UsbStatus::Success)?;
-    }
-    for (state, setup) in REFUSED {
-        answers(rt, set, parts, (state, setup, &[], state), UsbStatus::Stall)?;
-    }
-    Ok(())
+    Ok(is_so(outcome, UsbStatus::Success, bytes(alloc, given)?.as_slice()))
 }
 
-fn answers_of(rt: &(impl Abort + AllocGlobal), set: &DescriptorSet) -> Result<(), Fail> {
-    all_answer(rt, set, &walk(rt.alloc(), &CONFIGURATION)?)
+// Whether a request gives what its row says, and leaves the state that it says.
+fn goes(alloc: Global, set: &DescriptorSet, parts: &Parts, row: &str) -> Result<bool, Fail> {
+    let (before, rest) = row.split_once(' ').unwrap_or((row, ""));
+    let (asked, rest) = rest.split_once(' ').unwrap_or((rest, ""));
+    let (after, given) = rest.split_once(' ').unwrap_or((rest, ""));
+    let mut state = state_of(before);
+    let outcome = answer(alloc, set, parts, &mut state, setup(alloc, asked)?)?;
+    let left = if after == "refused" { before } else { after };
+    Ok(state == state_of(left) && is_told(alloc, &outcome, after, given)?)
+}
+
+// The first row that a request doesn't go by.
+fn wrong_row(alloc: Global, set: &DescriptorSet, parts: &Parts) -> Result<&'static str, Fail> {
+    for line in ROWS.lines() {
+        let row = line.trim();
+        if is_row(row) && !goes(alloc, set, parts, row)? {
+            return Ok(row);
+        }
+    }
+    Ok("")
+}
+
+fn wrong_row_of(alloc: Global, set: &DescriptorSet) -> Result<&'static str, Fail> {
+    wrong_row(alloc, set, &walk(alloc, set.config.as_slice())?)
 }
 
 #[test]
 fn what_requests_give_and_change_and_what_is_refused(rt: HostRuntime) -> Result<(), Fail> {
-    answers_of(&rt, &descriptors(rt.alloc())?)
+    none_is_wrong(&rt, wrong_row_of(rt.alloc(), &descriptors(rt.alloc())?)?);
+    Ok(())
 }
