@@ -1,5 +1,5 @@
 -- The simulation: what a gateway and a modelled device do between two wires of bytes is what the device attached directly does.
-use Rattle.std.specs.Prelude.{◌≡◌, not, Bool, true, false, if◌then◌else◌, List, [], ◌∷◌, ◌++◌, map, Option, Some, None}
+use Rattle.std.specs.Prelude.{◌≡◌, not, Bool, true, false, if◌then◌else◌, List, [], ◌∷◌, ◌++◌, map, Some, None}
 use Rattle.std.specs.List.{flat_map, list_any}
 use Rattle.usb_base.specs.declared.refusal.Refusal.{Refusal}
 use Rattle.usbip_op.specs.declared.packet.OpPacket.{OpPacket}

@@ -1,5 +1,5 @@
 -- A made tape read again: it says what was written.
-use Rattle.std.specs.Prelude.{◌≡◌, ◌==◌, ◌≤◌, ℕ, false, List, [], ◌∷◌, length, Some}
+use Rattle.std.specs.Prelude.{◌≡◌, ◌==◌, ◌≤◌, false, List, [], ◌∷◌, length, Some}
 use Rattle.std.specs.List.{list_any}
 use Rattle.packet_show.specs.declared.tape.TapeKind.TheVariants.{Model}
 use Rattle.packet_show.specs.declared.tape.TapeLine.{TapeLine}

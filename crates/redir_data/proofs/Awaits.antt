@@ -1,12 +1,12 @@
 -- What a packet of any type awaits is what the one of both formats awaits.
-use Rattle.std.proofs.Common.{◌≡◌, ℕ, ◌+◌, ◌<◌, ◌≤◌, ◌==◌, inl, inr, Bool, true, false, cond, List, ◌++◌, length, Option, Some, None, refl, sym, ap, ◌∙◌, arith}
+use Rattle.std.proofs.Common.{◌≡◌, ℕ, ◌+◌, ◌<◌, ◌≤◌, ◌==◌, inl, inr, Bool, true, false, cond, List, ◌++◌, length, None, refl, sym, ap, ◌∙◌, arith}
 use Rattle.std.specs.Prelude.{nat_lt, not, ◌||◌}
 use Rattle.std.specs.Int.{w32}
 use Rattle.std.proofs.lemmas.Bool.{eqb-true, le-ltb, lt-ltb}
 use Rattle.usb_base.specs.Number.{le_at, byte_at}
 use Rattle.usb_base.specs.declared.reason.Reason.{Reason}
 use Rattle.usb_base.proofs.Numbers.{le_at-append_32}
-use Rattle.packet_stream.specs.Format.{Found, Whole, Short, Wrong, wrong_at, reading}
+use Rattle.packet_stream.specs.Format.{Found, Whole, Short, Wrong, reading}
 use Rattle.packet_stream.specs.Joined.{joined}
 use Rattle.packet_stream.specs.Awaited.{IsAwaited, StaysShort, awaited}
 use Rattle.packet_stream.proofs.Formats.{none_before}
@@ -15,12 +15,10 @@ use Rattle.packet_stream.proofs.Awaiting.{IsPatient, short_parts, short_from, aw
 use Rattle.redir_wire.specs.declared.packet.Caps.{Caps}
 use Rattle.redir_wire.specs.declared.packet.Way.{Way}
 use Rattle.redir_wire.specs.declared.packet.Header.{Header}
-use Rattle.redir_wire.specs.declared.packet.RedirControl.{RedirControl}
 use Rattle.redir_wire.specs.declared.kind.DataKind.{DataKind}
 use Rattle.redir_wire.specs.declared.kind.DataKind.TheVariants.{Control, Bulk, Iso, Interrupt}
-use Rattle.redir_wire.specs.declared.kind.Kind.TheVariants.{Carrying}
-use Rattle.redir_wire.specs.Table.{data_row, data_numbered, has_length}
-use Rattle.redir_wire.specs.Header.{is_wide, head_size, header_at, is_its_length}
+use Rattle.redir_wire.specs.Table.{data_row, data_numbered}
+use Rattle.redir_wire.specs.Header.{is_wide, head_size, is_its_length}
 use Rattle.redir_wire.specs.Bodies.{behind_head}
 use Rattle.redir_wire.specs.Plain.{is_plain, controls, plain}
 use Rattle.redir_wire.proofs.Checks.{passed}
@@ -28,7 +26,6 @@ use Rattle.redir_wire.proofs.Numbers.{data_again}
 use Rattle.redir_wire.proofs.Packets.{headed, packets_steady}
 use Rattle.redir_wire.proofs.Plain.{plain_bodies}
 use Rattle.redir_wire.proofs.Awaits.{AreOwn, size_long, packets_patient, plain_patient}
-use Rattle.redir_data.specs.declared.packet.RedirData.{RedirData}
 use Rattle.redir_data.specs.Spelling.{data_count}
 use Rattle.redir_data.specs.Places.{fixed, told_length}
 use Rattle.redir_data.specs.Carrying.{data_check, transfers, carrying}

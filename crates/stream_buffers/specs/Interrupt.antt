@@ -1,6 +1,6 @@
 -- Interrupt requests over the packets that are held: which packets fill one, and what it gets (USB 2.0, 5.7.3: a
 -- packet that is shorter than the largest ends a transfer).
-use Rattle.std.specs.Prelude.{ℕ, ◌+◌, ◌==◌, ◌||◌, not, nat_le, nat_lt, Bool, true, false, if◌then◌else◌, List, [], length, take, drop, get_or, Option}
+use Rattle.std.specs.Prelude.{ℕ, ◌+◌, ◌==◌, ◌||◌, not, nat_le, nat_lt, Bool, if◌then◌else◌, List, [], length, take, drop, get_or, Option}
 use Rattle.std.specs.Option.{option_map}
 use Rattle.std.specs.List.{flat_map}
 use Rattle.usb_base.specs.declared.status.UsbStatus.{UsbStatus}

@@ -41,7 +41,7 @@ use Rattle.gate_history.specs.step.Meaning.{mark_as, answered_as, answer_to, by_
 use Rattle.gate_history.specs.state.Sound.{IsSound}
 use Rattle.gate_history.specs.write.Answers.{answers_by}
 use Rattle.gate_history.specs.write.Output.{cancels, cancel, to_client}
-use Rattle.gate_history.specs.write.Notes.{answer_notes, dropped}
+use Rattle.gate_history.specs.write.Notes.{answer_notes}
 use Rattle.gate_history.specs.write.All.{is_ret_submit, is_won_unlink}
 use Rattle.gate_history.specs.write.Bytes.{host_packet_bytes}
 use Rattle.gate_parts.specs.state.Rows.{row_of, row, unmarked, left_row, IsFine}

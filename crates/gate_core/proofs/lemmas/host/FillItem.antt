@@ -1,7 +1,7 @@
 -- Items by which the packets of a stream may fill requests: what they make of what is kept, and what they send and
 -- tell.
 use Rattle.std.proofs.Common.{◌≡◌, ℕ, ◌+◌, ◌^◌, ◌-◌, ◌≤◌, ◌&&◌, ◌||◌, Bool, true, false, cond, not, List, [], ◌++◌, length, map, Option, Some, None, sym, ap, ◌∙◌}
-use Rattle.std.specs.Prelude.{is_none, unwrap_or, filter, zip, slice_set}
+use Rattle.std.specs.Prelude.{unwrap_or, filter, zip, slice_set}
 use Rattle.std.specs.Option.{option_map}
 use Rattle.usb_base.specs.Endpoint.{endpoint_index}
 use Rattle.std.specs.List.{flat_map}
@@ -31,8 +31,8 @@ use Rattle.gate_history.specs.state.State.{State, submits}
 use Rattle.gate_history.specs.client.Verdict.{goes_by_id}
 use Rattle.gate_history.specs.step.Meaning.{mark_as, drawn_by}
 use Rattle.gate_history.specs.write.Answers.{answers_at}
-use Rattle.gate_history.specs.write.Output.{present, answered, replies, cancels, acknowledgements, to_client}
-use Rattle.gate_history.specs.write.Notes.{when, import_notes, submit_notes, unlink_notes, arrival_notes, answer_notes, is_by_answer, refusal_notes, is_by_client, dropped}
+use Rattle.gate_history.specs.write.Output.{present, replies, cancels, acknowledgements, to_client}
+use Rattle.gate_history.specs.write.Notes.{when, import_notes, submit_notes, unlink_notes, arrival_notes, answer_notes, refusal_notes, dropped}
 use Rattle.gate_history.specs.write.All.{is_ret_submit, is_won_unlink}
 use Rattle.gate_history.specs.write.Bytes.{host_packet_bytes}
 use Rattle.gate_history.specs.step.Machine.{live_after}

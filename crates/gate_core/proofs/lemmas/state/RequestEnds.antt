@@ -29,8 +29,8 @@ use Rattle.gate_history.specs.state.State.{State, submits}
 use Rattle.gate_history.specs.client.Verdict.{goes_by_id}
 use Rattle.gate_history.specs.step.Meaning.{mark_as, drawn_by}
 use Rattle.gate_history.specs.write.Answers.{answers, answers_at}
-use Rattle.gate_history.specs.write.Output.{fresh, present, answered, replies, cancels, cancel, acknowledgements, to_client}
-use Rattle.gate_history.specs.write.Notes.{when, import_notes, submit_notes, unlink_notes, arrival_notes, answer_notes, is_by_answer, refusal_notes, is_by_client, dropped}
+use Rattle.gate_history.specs.write.Output.{fresh, present, replies, cancels, cancel, acknowledgements, to_client}
+use Rattle.gate_history.specs.write.Notes.{when, import_notes, submit_notes, unlink_notes, arrival_notes, answer_notes, is_by_answer, refusal_notes, is_by_client}
 use Rattle.gate_history.specs.write.All.{is_ret_submit, is_won_unlink}
 use Rattle.gate_history.specs.write.Bytes.{host_packet_bytes}
 use Rattle.gate_history.specs.step.Machine.{ask}

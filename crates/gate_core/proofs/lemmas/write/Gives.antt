@@ -1,32 +1,28 @@
 -- What an item gives: where a part of what it sends and tells is there, it gives some.
-use Rattle.std.proofs.Common.{◌≡◌, ℕ, zero, suc, ◌+◌, ◌<◌, ◌&&◌, get_or, Bool, true, false, cond, not, List, [], ◌∷◌, ◌++◌, length, map, Option, Some, None, Result, Ok, Err, OnErr, refl, sym, ap, subst, ◌∙◌, arith}
+use Rattle.std.proofs.Common.{◌≡◌, ℕ, zero, suc, ◌+◌, ◌<◌, ◌&&◌, get_or, Bool, true, false, cond, not, List, [], ◌∷◌, ◌++◌, length, map, Option, Some, None, refl, sym, ap, subst, ◌∙◌, arith}
 use Rattle.std.specs.Prelude.{is_none, filter, zip, slice_get}
 use Rattle.std.specs.List.{flat_map}
 use Rattle.std.proofs.lemmas.Option.{none-some, same_Some}
-use Rattle.std.proofs.lemmas.List.{append-nil, length-append, length-map}
+use Rattle.std.proofs.lemmas.List.{length-append, length-map}
 use Rattle.usbip_op.specs.declared.packet.OpPacket.TheVariants as op
 use Rattle.usbip_op.specs.declared.packet.OpWay.TheVariants as way
-use Rattle.usbip_urb.specs.declared.packet.UrbPacket.{UrbPacket}
 use Rattle.usbip_urb.specs.declared.packet.UrbPacket.TheVariants as urb
 use Rattle.usbip_urb.specs.declared.client.ClientPacket.{ClientPacket}
 use Rattle.usbip_urb.specs.declared.client.ClientPacket.TheVariants.{Op, Urb}
 use Rattle.usbip_urb.specs.ClientPackets.{IsClientPacket}
 use Rattle.redir_wire.specs.declared.packet.Connect.{Connect}
-use Rattle.redir_data.specs.declared.packet.RedirPacket.{RedirPacket}
 use Rattle.usb_base.specs.declared.reason.Reason.TheVariants.{AlreadyImported, NotImported, DuplicateSeq}
 use Rattle.usb_base.specs.declared.refusal.Refusal.{Refusal}
 use Rattle.usb_base.specs.declared.side.Side.TheVariants.{Client}
-use Rattle.unlink_race.specs.declared.live.Live.{Live}
 use Rattle.gate_history.specs.declared.note.Note.TheVariants as note
 use Rattle.gate_history.specs.client.Verdict.{Verdict, Now, Wire, Routed, IsoOut, Stream, is_wire}
-use Rattle.gate_history.specs.step.Marks.{Submission, Fact, Effect, Replies, Imports, Opens, Waits, Unlinks, Arrives, Ends, Refuses, Mark}
+use Rattle.gate_history.specs.step.Marks.{Submission, Fact, Effect, Replies, Opens, Unlinks, Refuses, Mark}
 use Rattle.gate_history.specs.client.Replies.{list_reply}
 use Rattle.gate_history.specs.state.Sides.{refusal, refused_at, leaves, is_loss}
-use Rattle.gate_history.specs.client.Submits.{Pending, ends}
-use Rattle.gate_history.specs.state.Ups.{is_ended}
+use Rattle.gate_history.specs.client.Submits.{Pending}
 use Rattle.gate_history.specs.state.Ids.{greatest}
 use Rattle.gate_history.specs.state.Flight.{wide_ids}
-use Rattle.gate_history.specs.write.Packets.{asked_packets, stops}
+use Rattle.gate_history.specs.write.Packets.{asked_packets}
 use Rattle.gate_history.specs.state.Calls.{asking}
 use Rattle.gate_history.specs.state.State.{State, flying, has_number}
 use Rattle.gate_history.specs.step.Meaning.{mark_as, drawn_by, refused, importable, imported_as, asked_meaning, accepted_as}

@@ -1,5 +1,5 @@
 -- The items that events bring have few descriptors, and so each draws fresh ids.
-use Rattle.std.proofs.Common.{ℕ, ◌≤◌, List, [], ◌∷◌, length, sym, subst}
+use Rattle.std.proofs.Common.{ℕ, ◌≤◌, List, [], ◌∷◌, sym, subst}
 use Rattle.usbip_urb.specs.declared.packet.UrbPacket.TheVariants as urb
 use Rattle.usbip_urb.specs.declared.client.ClientPacket.TheVariants.{Op, Urb}
 use Rattle.usbip_urb.specs.declared.code.TheConstants.{MAX_PACKETS}

@@ -1,11 +1,10 @@
 -- Each refusal has its cause, and each cause its refusal.
-use Rattle.std.proofs.Common.{◌≡◌, ℕ, ◌+◌, Bool, true, false, cond, not, ◌&&◌, List, [], ◌∷◌, ◌++◌, length, map, Option, Some, None, refl, sym, ap, ◌∙◌}
+use Rattle.std.proofs.Common.{◌≡◌, ℕ, ◌+◌, Bool, true, false, cond, not, ◌&&◌, List, [], ◌∷◌, ◌++◌, map, Option, Some, None, refl, sym, ap, ◌∙◌}
 use Rattle.std.specs.Prelude.{filter}
 use Rattle.std.specs.List.{find}
 use Rattle.std.specs.Option.{option_and_then, option_to_list}
 use Rattle.std.proofs.lemmas.List.{append-nil}
 use Rattle.std.proofs.lemmas.List.Elements.{filter-append}
-use Rattle.usb_base.specs.declared.reason.Reason.{Reason}
 use Rattle.usb_base.specs.declared.side.Side.TheVariants.{Client}
 use Rattle.usb_base.specs.declared.reason.Reason.TheVariants.{NotImported, AlreadyImported, DuplicateSeq}
 use Rattle.usb_base.specs.declared.refusal.Refusal.{Refusal}
@@ -25,15 +24,14 @@ use Rattle.redir_data.specs.declared.packet.RedirPacket.TheVariants.{Plain, Carr
 use Rattle.gate_history.specs.declared.note.Note.{Note}
 use Rattle.gate_history.specs.declared.note.Note.TheVariants as note
 use Rattle.gate_history.specs.step.Items.{Item, Asked, ClientWrong, ClientLeft, Told, HostWrong, HostLeft}
-use Rattle.gate_history.specs.client.Requests.{request_of}
 use Rattle.gate_history.specs.client.Verdict.{Verdict, Now, Wire, Routed, IsoOut, Stream}
 use Rattle.gate_history.specs.step.Marks.{Submission, Effect, Idle, Replies, Imports, Opens, Waits, Unlinks, Agrees, Answers, Arrives, StreamTold, Disconnects, Ends, Refuses, Mark}
 use Rattle.gate_history.specs.state.Sides.{refusal, refused_at, leaves, is_loss}
 use Rattle.gate_history.specs.client.Submits.{Pending, has_id, ends}
-use Rattle.gate_history.specs.state.Ups.{Up, stream_of}
+use Rattle.gate_history.specs.state.Ups.{stream_of}
 use Rattle.gate_history.specs.state.Flight.{wide_ids}
 use Rattle.gate_history.specs.state.State.{State, state_of, submits, has_number}
-use Rattle.gate_history.specs.step.Meaning.{importable, imported_as, accepted_as, accepts, verdict_of, submission, by_stream, drawn_for, answered_as, answer_to, by_response, arrives, by_arrival, meaning, mark_of}
+use Rattle.gate_history.specs.step.Meaning.{importable, imported_as, accepted_as, answered_as, answer_to, by_response, arrives, by_arrival, meaning, mark_of}
 use Rattle.gate_history.specs.host.Responses.{Response, Data, outcome, response_of, mismatch, seen}
 use Rattle.gate_history.specs.step.Past.{is_left_out, past}
 use Rattle.gate_history.specs.step.History.{client_split, host_split, client_wrong, host_wrong, client_items, host_items}

@@ -21,7 +21,6 @@ use Rattle.gate_history.specs.step.Marks.{Effect, Agrees, Fact}
 use Rattle.gate_history.specs.step.Meaning.{told_meaning, meaning, mark_as, told_by}
 use Rattle.gate_history.specs.write.Output.{to_host}
 use Rattle.gate_history.specs.step.Past.{past}
-use Rattle.gate_history.specs.state.Sides.{host_over}
 use Rattle.gate_history.specs.step.Came.{told}
 use Rattle.gate_history.specs.state.State.{State, state_of}
 use Rattle.gate_history.specs.step.Streams.{host_format}

@@ -1,7 +1,7 @@
 use Rattle.std.proofs.Common.{◌≡◌, Some, None, ap, sym, ◌∙◌, arith}
 use Rattle.std.specs.Int.{w32}
 use Rattle.usb_base.specs.Number.{le_at}
-use Rattle.redir_wire.specs.Table.{data_row, data_numbered, fixed_length}
+use Rattle.redir_wire.specs.Table.{data_numbered, fixed_length}
 use Rattle.redir_wire.proofs.Numbers.{data_number}
 use Rattle.redir_data.specs.Places.{fixed}
 use Rattle.redir_data.proofs.Awaits.{is_data, fields_awaited, all_awaited}

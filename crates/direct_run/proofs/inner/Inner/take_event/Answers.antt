@@ -1,7 +1,6 @@
 use Rattle.std.proofs.Common.{ap, ◌∙◌, ◌++◌, ℕ, List}
 use Rattle.std.proofs.lemmas.Result.{on_ok_weaker}
 use Rattle.gate_history.specs.step.Events.{event_of}
-use Rattle.direct_run.specs.declared.inner.Inner.{Inner}
 use Rattle.direct_run.specs.inner.Views.{kept_of}
 use Rattle.direct_run.proofs.Wires.{event-told}
 use Rattle.direct_run.proofs.inner.Inner.take_event.Goals as goal

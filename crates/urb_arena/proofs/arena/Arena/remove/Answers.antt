@@ -1,4 +1,4 @@
-use Rattle.std.proofs.Common.{◌≡◌, ◌+◌, Option, Some, None, MatchOption, OnSome, arith}
+use Rattle.std.proofs.Common.{Option, Some, None, MatchOption, OnSome, arith}
 use Rattle.urb_arena.proofs.Views.{table_len}
 use Rattle.urb_arena.proofs.arena.Arena.remove.Goals as goal
 

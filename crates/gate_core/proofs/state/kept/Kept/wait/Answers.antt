@@ -2,7 +2,6 @@ use Rattle.std.proofs.Common.{◌≡◌, ◌∙◌, [], ℕ, List, Option, Some,
 use Rattle.std.specs.Prelude.{slice_set}
 use Rattle.std.proofs.lemmas.List.{append-nil}
 use Rattle.usb_base.specs.Endpoint.{endpoint_index}
-use Rattle.gate_history.specs.declared.note.Note.TheVariants as note
 use Rattle.gate_core.specs.declared.state.kept.Kept.{Kept}
 use Rattle.gate_history.specs.state.Ups.{Up, stream_at}
 use Rattle.gate_history.specs.client.Verdict.{Stream}
