@@ -3,7 +3,6 @@ use Rattle.std.proofs.Common.{◌≡◌, ℕ, List, Option, Result, subst}
 use Rattle.gate_outside.specs.declared.fault.Failed.{Failed}
 use Rattle.usbgate_tapes.specs.declared.device.Device.{Device}
 use Rattle.usbgate_tapes.specs.declared.status.Status.{Status}
-use Rattle.usbgate_commands.specs.declared.words.Command.{Command}
 use Rattle.usbgate_commands.specs.declared.words.Command.TheVariants.{Model, Load}
 use Rattle.usbgate_tapes.specs.Simulated.{SimulatesTape, SimulatesByLog, MadeSimulates}
 

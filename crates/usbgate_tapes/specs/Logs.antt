@@ -7,9 +7,9 @@ use Rattle.usbgate_tapes.specs.declared.status.Status.{Status}
 use Rattle.usbgate_tapes.specs.Prescribed.{Prescribed}
 use Rattle.usbgate_tapes.specs.Run.{LeavesTold}
 
--- These reads were made, one after the other, and these bytes were written. Of each tape that may stand behind what was
--- read (its first bytes are those that the reads gave, and no more come where the last read found the end), that is what a
--- run leaves over a tape and a sink that tell their bytes.
+-- These reads were made, one after the other, and these bytes were written. For each tape that begins with what the reads
+-- gave, and ends there where the last of them found the end, what follows of it and what was written is what a run leaves
+-- over a tape and a sink that tell their bytes.
 pub record LeavesByLog {S K : Type 0} (read_gives : S → List ℕ → Result ℕ Failed → S → Type 0) (write_gives : K → List ℕ → Result ℕ Failed → K → Type 0) (status : Status) (p : Prescribed) (tape_old tape_new : S) (out_old out_new : K) : Type 0 where
   pub reads : List Move
   pub read : Moved read_gives reads tape_old tape_new
@@ -23,7 +23,8 @@ pub record WritesByLog {K : Type 0} (write_gives : K → List ℕ → Result ℕ
   pub writes : Moves write_gives written out_old out_new
   pub leaves : (tape : List ℕ) → LeavesTold status p tape [] (Some tape) (Some written)
 
--- these reads were made, one after the other, and this holds of each tape that may stand behind what was read
+-- these reads were made, one after the other, and this holds of each tape that begins with what they gave, and ends there
+-- where the last of them found the end
 pub record HoldsOfRead {S : Type 0} (read_gives : S → List ℕ → Result ℕ Failed → S → Type 0) (Holds : List ℕ → Type 0) (tape_old tape_new : S) : Type 0 where
   pub reads : List Move
   pub read : Moved read_gives reads tape_old tape_new

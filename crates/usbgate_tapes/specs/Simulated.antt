@@ -34,7 +34,7 @@ SimulatesTape status Loopback remaining = AreSimulated status (meaning_of loopba
 SimulatesTape status Tone remaining = AreSimulated status (meaning_of tone) (first_state tone) remaining
 SimulatesTape status Disk remaining = AreSimulated status disk (first_disk 64) remaining
 
--- the same by the log of the reads, over any tape: it is so of each tape that may stand behind what was read
+-- the same by the log of the reads, over any tape: of each that begins with what they gave
 abbrev pub AreSimulatedByLog : {S T : Type 0} → (T → List ℕ → Result ℕ Failed → T → Type 0) → Status → Meaning S → S → T → T → Type 0
 AreSimulatedByLog read_gives status m s old new = ComesToEnd status (HoldsOfRead read_gives (λ tape. Simulates m s (steps_of m s tape)) old new)
 

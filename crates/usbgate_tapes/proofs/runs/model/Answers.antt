@@ -10,7 +10,6 @@ use Rattle.usbgate_tapes.specs.Prescribed.{Prescribed, over_tape}
 use Rattle.usbgate_tapes.specs.Run.{LeavesTold}
 use Rattle.usbgate_tapes.specs.Logs.{LeavesByLog}
 use Rattle.usbgate_tapes.specs.Simulated.{AreSimulated, SimulatesTape, AreSimulatedByLog, SimulatesByLog}
-use Rattle.usbgate_tapes.proofs.Simulated.{unsimulated_log}
 use Rattle.usbgate_tapes.proofs.Unread.{logs-none}
 use Rattle.usbgate_tapes.proofs.runs.model.Goals as goal
 
@@ -44,11 +43,6 @@ returns-in-Ok-make-2-clause-simulates g c =
     subst (λ (d : Device). SimulatesTape c.model_with-in-Ok-make-2.result d remaining) (sym c.in-Tone.is)
     (subst (λ (s : State ℕ). AreSimulated c.model_with-in-Ok-make-2.result (meaning_of tone) s remaining) c.in-Ok-make-2.ensures c.model_with-in-Ok-make-2.ensures.simulates)
 
-pub returns-in-Ok-clause-leaves_log : goal.returns-in-Ok-clause-leaves_log
-returns-in-Ok-clause-leaves_log g c =
-    subst (λ (p : Prescribed). LeavesByLog g.S.Source.read_gives g.K.Sink.write_gives c.model_with.result p c.args.tape.now c.model_with.new.tape c.args.out.now c.model_with.new.out)
-    (ap (λ (s : State ℕ). over_tape (model (meaning_of keyboard) s)) c.in-Ok.ensures ∙ ap (λ (d : Device). over_tape (model_of d)) (sym c.in-Keyboard.is)) c.model_with.ensures.leaves_log
-
 pub returns-in-Ok-clause-simulates_log : goal.returns-in-Ok-clause-simulates_log
 returns-in-Ok-clause-simulates_log g c =
     let read_gives = g.S.Source.read_gives in
@@ -70,11 +64,6 @@ returns-in-Ok-make-clause-simulates_log g c =
     subst (λ (d : Device). SimulatesByLog read_gives c.model_with-in-Ok-make.result d old new) (sym c.in-Loopback.is)
     (subst (λ (s : State (List ℕ)). AreSimulatedByLog read_gives c.model_with-in-Ok-make.result (meaning_of loopback) s old new) c.in-Ok-make.ensures c.model_with-in-Ok-make.ensures.simulates_log)
 
-pub returns-in-Ok-make-2-clause-leaves_log : goal.returns-in-Ok-make-2-clause-leaves_log
-returns-in-Ok-make-2-clause-leaves_log g c =
-    subst (λ (p : Prescribed). LeavesByLog g.S.Source.read_gives g.K.Sink.write_gives c.model_with-in-Ok-make-2.result p c.args.tape.now c.model_with-in-Ok-make-2.new.tape c.args.out.now c.model_with-in-Ok-make-2.new.out)
-    (ap (λ (s : State ℕ). over_tape (model (meaning_of tone) s)) c.in-Ok-make-2.ensures ∙ ap (λ (d : Device). over_tape (model_of d)) (sym c.in-Tone.is)) c.model_with-in-Ok-make-2.ensures.leaves_log
-
 pub returns-in-Ok-make-2-clause-simulates_log : goal.returns-in-Ok-make-2-clause-simulates_log
 returns-in-Ok-make-2-clause-simulates_log g c =
     let read_gives = g.S.Source.read_gives in
@@ -82,11 +71,6 @@ returns-in-Ok-make-2-clause-simulates_log g c =
     let new = c.model_with-in-Ok-make-2.new.tape in
     subst (λ (d : Device). SimulatesByLog read_gives c.model_with-in-Ok-make-2.result d old new) (sym c.in-Tone.is)
     (subst (λ (s : State ℕ). AreSimulatedByLog read_gives c.model_with-in-Ok-make-2.result (meaning_of tone) s old new) c.in-Ok-make-2.ensures c.model_with-in-Ok-make-2.ensures.simulates_log)
-
-pub returns-in-Ok-make-3-clause-leaves_log : goal.returns-in-Ok-make-3-clause-leaves_log
-returns-in-Ok-make-3-clause-leaves_log g c =
-    subst (λ (p : Prescribed). LeavesByLog g.S.Source.read_gives g.K.Sink.write_gives c.model_with-in-Ok-make-3.result p c.args.tape.now c.model_with-in-Ok-make-3.new.tape c.args.out.now c.model_with-in-Ok-make-3.new.out)
-    (ap (λ (s : DiskState). over_tape (model (disk) s)) c.in-Ok-make-3.ensures ∙ ap (λ (d : Device). over_tape (model_of d)) (sym c.in-Disk.is)) c.model_with-in-Ok-make-3.ensures.leaves_log
 
 pub returns-in-Ok-make-3-clause-simulates_log : goal.returns-in-Ok-make-3-clause-simulates_log
 returns-in-Ok-make-3-clause-simulates_log g c =
@@ -99,23 +83,11 @@ returns-in-Ok-make-3-clause-simulates_log g c =
 pub returns-in-Err-clause-leaves_log : goal.returns-in-Err-clause-leaves_log
 returns-in-Err-clause-leaves_log g c = logs-none g.S.Source.read_gives g.K.Sink.write_gives (over_tape (model_of c.args.device)) c.args.tape.now c.args.out.now
 
-pub returns-in-Err-clause-simulates_log : goal.returns-in-Err-clause-simulates_log
-returns-in-Err-clause-simulates_log g c = unsimulated_log g.S.Source.read_gives c.args.device c.args.tape.now c.args.tape.now
-
 pub returns-in-Err-make-clause-leaves_log : goal.returns-in-Err-make-clause-leaves_log
 returns-in-Err-make-clause-leaves_log g c = logs-none g.S.Source.read_gives g.K.Sink.write_gives (over_tape (model_of c.args.device)) c.args.tape.now c.args.out.now
-
-pub returns-in-Err-make-clause-simulates_log : goal.returns-in-Err-make-clause-simulates_log
-returns-in-Err-make-clause-simulates_log g c = unsimulated_log g.S.Source.read_gives c.args.device c.args.tape.now c.args.tape.now
 
 pub returns-in-Err-make-2-clause-leaves_log : goal.returns-in-Err-make-2-clause-leaves_log
 returns-in-Err-make-2-clause-leaves_log g c = logs-none g.S.Source.read_gives g.K.Sink.write_gives (over_tape (model_of c.args.device)) c.args.tape.now c.args.out.now
 
-pub returns-in-Err-make-2-clause-simulates_log : goal.returns-in-Err-make-2-clause-simulates_log
-returns-in-Err-make-2-clause-simulates_log g c = unsimulated_log g.S.Source.read_gives c.args.device c.args.tape.now c.args.tape.now
-
 pub returns-in-Err-make-3-clause-leaves_log : goal.returns-in-Err-make-3-clause-leaves_log
 returns-in-Err-make-3-clause-leaves_log g c = logs-none g.S.Source.read_gives g.K.Sink.write_gives (over_tape (model_of c.args.device)) c.args.tape.now c.args.out.now
-
-pub returns-in-Err-make-3-clause-simulates_log : goal.returns-in-Err-make-3-clause-simulates_log
-returns-in-Err-make-3-clause-simulates_log g c = unsimulated_log g.S.Source.read_gives c.args.device c.args.tape.now c.args.tape.now
