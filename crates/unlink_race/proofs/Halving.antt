@@ -1,15 +1,17 @@
 -- A binary search of the rows by the numbers of their requests.
-use Rattle.std.proofs.Common.{◌≡◌, ℕ, zero, suc, ◌+◌, ◌<◌, ◌≤◌, List, [], ◌∷◌, length, get_or, Option, Some, Result, Ok, Err, refl, ap, sym, ◌∙◌, arith, inl, inr}
+use Rattle.std.proofs.Common.{◌≡◌, ◌≢◌, ◌==◌, ℕ, zero, suc, ◌+◌, ◌<◌, ◌≤◌, List, [], ◌∷◌, length, get_or, Option, Some, None, Result, Ok, Err, refl, ap, sym, ◌∙◌, arith, inl, inr}
+use Rattle.std.specs.List.{position}
 use Rattle.std.specs.List.Sorted.{IsSearchInRange, IsBinarySearchResult, IsNonDecreasingBy}
 use Rattle.std.specs.Option.{option_map, option_cmp}
 use Rattle.std.specs.Ordering.{nat_cmp, ordering_index}
 use Rattle.std.specs.declared.cmp.Ordering.{Ordering}
 use Rattle.std.specs.Result.{result_ok}
-use Rattle.std.proofs.lemmas.Bool.{cases_lt, cases_eq}
+use Rattle.std.proofs.lemmas.Bool.{lt-ltb, le-ltb, eq-eqb, ne_eqb, cases_lt, cases_eq}
 use Rattle.std.proofs.lemmas.Bool.Decides.{nat_tests}
 use Rattle.std.proofs.lemmas.Cmp.{ranked}
 use Rattle.std.proofs.lemmas.List.{get_or-map, get_or_default}
 use Rattle.std.proofs.lemmas.List.Sorted.{IsNonDecreasingBy-from_default}
+use Rattle.std.proofs.lemmas.List.Sums.{position_or_len_is}
 use Rattle.std.proofs.lemmas.Option.{slice_get-get_or}
 use Rattle.urb_arena.specs.Seen.{Seen}
 use Rattle.unlink_race.specs.declared.live.Live.{Live}
@@ -56,26 +58,30 @@ module _ (arena : Seen (ℕ × Live)) (rows : List Row) (kept : Kept key_of (ent
       ap (option_map (λ (e : ℕ × Live). e.0)) (took.entry ∙ slice_get-get_or (in_order arena rows) i (0, no_live) inside)
       ∙ ap Some (sym (get_or-map (λ (e : ℕ × Live). e.0) (in_order arena rows) i (0, no_live) 0 inside))
 
-  module _ (high : ℕ) (rises : Rises 0 (numbers_of arena rows) high) (number place : ℕ) (there : place < length rows) (is : get_or (numbers_of arena rows) place 0 ≡ number) where
+  module _ (high : ℕ) (rises : Rises 0 (numbers_of arena rows) high) (number : ℕ) where
     up : (i j : ℕ) → i < j → j < length rows → get_or (numbers_of arena rows) i 0 < get_or (numbers_of arena rows) j 0
     up i j before within = rises_at 0 (numbers_of arena rows) high i j rises before (let e = long in omega (arith, within, e))
+
+    -- the number stands at one place, or at none
+    pub number_at_place : (i : ℕ) → i < length rows → get_or (numbers_of arena rows) i 0 ≡ number → Some i ≡ position (λ n. n == number) (numbers_of arena rows)
+    number_at_place i within is =
+        let e = long in
+        let inside : i < length (numbers_of arena rows) = omega (arith, within, e) in
+        let at = position_or_len_is (λ n. n == number) (numbers_of arena rows) i 0 (omega (arith, inside)) (λ k before. ne_eqb _ number (λ same. (let less = up k i before within in omega (arith, less, same, is)))) (λ _. eq-eqb _ number is) in
+        rw (at, lt-ltb i (length (numbers_of arena rows)) inside) refl
+
+    number_nowhere : ((k : ℕ) → k < length rows → get_or (numbers_of arena rows) k 0 ≢ number) → None ≡ position (λ n. n == number) (numbers_of arena rows)
+    number_nowhere none =
+        let e = long in
+        let n = length (numbers_of arena rows) in
+        let at = position_or_len_is (λ n. n == number) (numbers_of arena rows) n 0 (omega arith) (λ k before. ne_eqb _ number (none k (omega (arith, before, e)))) (λ past. absurd (omega (arith, past))) in
+        rw (at, le-ltb n n (omega arith)) refl
 
     abbrev compared : Row → Ordering
     compared r = option_cmp nat_cmp (number_at arena r) (Some number)
 
     compared_at : (i : ℕ) → i < length rows → compared (get_or rows i no_row) ≡ nat_cmp (get_or (numbers_of arena rows) i 0) number
     compared_at i within = ap (λ o. option_cmp nat_cmp o (Some number)) (leads i within)
-
-    only : (i : ℕ) → i < length rows → get_or (numbers_of arena rows) i 0 ≡ number → i ≡ place
-    only i within same =
-        elim (cases_lt i place) [
-          | inl before ↦ (let less = up i place before there in absurd (omega (arith, less, same, is)))
-          | inr after ↦
-              elim (cases_eq i place) [
-                | inl here ↦ here
-                | inr other ↦ (let less = up place i (omega (arith, after, other)) within in absurd (omega (arith, less, same, is)))
-              ]
-        ]
 
     ordered : (a b : ℕ) → a ≤ b → ordering_index (nat_cmp a number) ≤ ordering_index (nat_cmp b number)
     ordered a b le = grind (arith, nat_tests)
@@ -89,11 +95,10 @@ module _ (arena : Seen (ℕ × Live)) (rows : List Row) (kept : Kept key_of (ent
               rw (compared_at i (omega (arith, le, within)), compared_at j within) (ordered _ _ (omega (arith, less))))
         ])
 
-    pub halved : (r : Result ℕ ℕ) → IsSearchInRange r (length rows) → IsBinarySearchResult compared rows r → result_ok r ≡ Some place
-    halved (Ok i) within equal =
-        ap Some (only i within (ranked _ number _ (sym (sym (compared_at i within) ∙ equal no_row))))
-    halved (Err i) within parted =
-        elim (cases_lt place i) [
-          | inl before ↦ (let less : get_or (numbers_of arena rows) place 0 < number = ranked _ number _ (sym (sym (compared_at place there) ∙ (parted rise).0 place no_row (omega arith) before)) in absurd (omega (arith, less, is)))
-          | inr after ↦ (let more : number < get_or (numbers_of arena rows) place 0 = ranked _ number _ (sym (sym (compared_at place there) ∙ (parted rise).1 place no_row after there)) in absurd (omega (arith, more, is)))
-        ]
+    pub halved : (r : Result ℕ ℕ) → IsSearchInRange r (length rows) → IsBinarySearchResult compared rows r → result_ok r ≡ position (λ n. n == number) (numbers_of arena rows)
+    halved (Ok i) within equal = number_at_place i within (ranked _ number _ (sym (sym (compared_at i within) ∙ equal no_row)))
+    halved (Err i) within parted = number_nowhere (λ k inside same.
+        elim (cases_lt k i) [
+          | inl before ↦ (let less : get_or (numbers_of arena rows) k 0 < number = ranked _ number _ (sym (sym (compared_at k inside) ∙ (parted rise).0 k no_row (omega arith) before)) in omega (arith, less, same))
+          | inr after ↦ (let more : number < get_or (numbers_of arena rows) k 0 = ranked _ number _ (sym (sym (compared_at k inside) ∙ (parted rise).1 k no_row after inside)) in omega (arith, more, same))
+        ])

@@ -20,6 +20,7 @@ use Rattle.unlink_race.specs.Inner.Lane.{lane_of}
 use Rattle.unlink_race.specs.Inner.Listed.{Kept}
 use Rattle.unlink_race.specs.Inner.Sound.{entry_of, in_order, lives_of, numbers_of, Rises, IsSound}
 use Rattle.unlink_race.proofs.Earliest.{number_placed, none_placed, same_earliest, never, Alike, all_backed, keys_home, and_in, and_below, lane_earliest, least_is}
+use Rattle.unlink_race.proofs.Halving.{number_at_place}
 use Rattle.unlink_race.proofs.Leading.{by_key}
 use Rattle.unlink_race.proofs.Rows.{length-listed}
 use Rattle.unlink_race.proofs.Walks.{values}
@@ -78,11 +79,11 @@ module _ {arena : Seen (ℕ × Live)} {rows : List Row} {seqnums ids : List ℕ}
         record { place = at.place; within = inside; is = at.is; first = rw (first, there) refl }
 
     -- what a search of these rows by the number gives
-    pub search_gives : (rows' : List Row) (result : Option ℕ) (number high : ℕ) → rows' ≡ rows → earliest test (in_order arena rows) ≡ Some number → Rises 0 (numbers_of arena rows) high → ((place high : ℕ) → Kept key_of (entry_of arena) rows' → Rises 0 (numbers_of arena rows') high → place < length rows' → get_or (numbers_of arena rows') place 0 ≡ number → result ≡ Some place) → result ≡ position test xs
+    pub search_gives : (rows' : List Row) (result : Option ℕ) (number high : ℕ) → rows' ≡ rows → earliest test (in_order arena rows) ≡ Some number → Rises 0 (numbers_of arena rows) high → ((high : ℕ) → Kept key_of (entry_of arena) rows' → Rises 0 (numbers_of arena rows') high → result ≡ position (λ n. n == number) (numbers_of arena rows')) → result ≡ position test xs
     search_gives rows' result number high same is rises told =
         let at = placed number is in
-        let P : List Row → Type 0 = λ rs. (place high : ℕ) → Kept key_of (entry_of arena) rs → Rises 0 (numbers_of arena rs) high → place < length rs → get_or (numbers_of arena rs) place 0 ≡ number → result ≡ Some place in
-        subst P same told at.place high s.kept rises at.within at.is ∙ sym at.first
+        let P : List Row → Type 0 = λ rs. (high : ℕ) → Kept key_of (entry_of arena) rs → Rises 0 (numbers_of arena rs) high → result ≡ position (λ n. n == number) (numbers_of arena rs) in
+        subst P same told high s.kept rises ∙ sym (number_at_place arena rows s.kept high rises number at.place at.within at.is) ∙ sym at.first
 
     pub unplaced : earliest test (in_order arena rows) ≡ None → position test xs ≡ None
     unplaced is =

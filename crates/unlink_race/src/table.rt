@@ -100,9 +100,9 @@ fn flies_with(live: &Live, id: u64) -> bool
     !live.kind.is_stream() && live.id == id
 }
 
-// The place of the request with this number: the numbers rise with the rows.
+// The place of the row whose request has this number: the numbers rise with the rows.
 fn place_numbered(arena: &Arena<(u64, Live)>, rows: &[Row], number: u64) -> Option<usize>
-    ensures { (place : ℕ) (high : ℕ) → Kept (λ r. r.key) (entry_of arena.now) rows.now → Rises 0 (numbers_of arena.now rows.now) high → place < length rows.now → get_or (numbers_of arena.now rows.now) place 0 ≡ number → result ≡ Some place }
+    ensures { (high : ℕ) → Kept (λ r. r.key) (entry_of arena.now) rows.now → Rises 0 (numbers_of arena.now rows.now) high → result ≡ position (λ n. n == number) (numbers_of arena.now rows.now) }
 {
     let found = rows.binary_search_by_key(&Some(number), |row| number_of(arena, row.key));
     found.ok()
