@@ -1,9 +1,9 @@
 -- How often the endpoints of a device have something to give, in microseconds (USB 2.0, table 9-13).
 use Rattle.std.specs.Prelude.{◌-◌, ◌*◌, ◌^◌, ◌&&◌, nat_lt, if◌then◌else◌, ℕ, min, List, [], ◌∷◌, Option, None, Some}
 use Rattle.usb_base.specs.declared.speed.Speed.{Speed}
-use Rattle.usb_base.specs.declared.speed.Speed.TheVariants.{Unknown, Low, Full, High, Super}
+use Rattle.usb_base.specs.declared.speed.Speed.TheVariants.{High, Super}
 use Rattle.usb_base.specs.declared.endpoint.EpKind.{EpKind}
-use Rattle.usb_base.specs.declared.endpoint.EpKind.TheVariants.{Control, Iso, Bulk, Interrupt, Invalid}
+use Rattle.usb_base.specs.declared.endpoint.EpKind.TheVariants.{Iso, Interrupt}
 use Rattle.usb_base.specs.Endpoint.{is_in_endpoint}
 use Rattle.chapter9.specs.declared.part.Part.{Part}
 use Rattle.chapter9.specs.declared.part.Part.TheVariants.{Config, Interface, Endpoint, Other}

@@ -5,22 +5,20 @@ use Rattle.usb_base.specs.declared.side.Side.{Side}
 use Rattle.usb_base.specs.declared.side.Side.TheVariants.{Client, Host}
 use Rattle.usb_base.specs.declared.refusal.Refusal.{Refusal}
 use Rattle.gate_outside.specs.declared.fault.Failed.{Failed as Fault}
-use Rattle.gate_outside.specs.declared.turn.Polled.{Polled}
 use Rattle.gate_outside.specs.declared.turn.Polled.TheVariants.{Took, NotYet, Ended, Failed}
 use Rattle.gate_outside.specs.Calls.{Call, Dial, Listen, Accept, Poll, Write, Close, Called, front_of, written_by, went}
-use Rattle.gate_outside.specs.Link.{other}
 use Rattle.bridge_run.specs.Events.{Event, ClientComes, ClientPiece, ClientQuiet, ClientEnd, HostPiece, HostEnd}
 use Rattle.bridge_run.specs.declared.kept.Kept.{Kept}
 use Rattle.bridge_run.specs.declared.sent.Sent.{Sent}
 use Rattle.bridge_run.specs.declared.serve_end.ServeEnd.{ServeEnd}
 use Rattle.bridge_run.specs.declared.serve_end.ServeEnd.TheVariants as end
-use Rattle.bridge_run.specs.Prescribed.{Prescribed, gained, refuses, drops}
+use Rattle.bridge_run.specs.Prescribed.{Prescribed, gained, refuses}
 use Rattle.bridge_run.specs.Calls.{piece, end_of, ends_next}
 use Rattle.bridge_run.specs.Ups.{client_at, client_behind, host_at, host_since, to_clients, sent_to_host}
 use Rattle.bridge_run.specs.Log.{Opening, events_of, behind_close, IsWritten, IsFront, IsWrittenInPart, IsWrittenBefore, Settled, Wrote, WroteInPart, WroteBefore, Logged}
 use Rattle.bridge_run.specs.inner.Follows.{Prepared, IsCutEnd}
 use Rattle.bridge_run.specs.inner.Keeping.{begun as fresh, with_up, refusing, Settles, Rests}
-use Rattle.bridge_run.specs.inner.Logging.{IsAt, IsTaking, IsBehind, PutLogs, Logs, IsResting, WroteMore, LogsAll, all_if, closing, HasOpened, OpenLogs}
+use Rattle.bridge_run.specs.inner.Logging.{IsAt, IsTaking, IsBehind, PutLogs, Logs, IsResting, WroteMore, all_if, closing, HasOpened, OpenLogs}
 use Rattle.bridge_run.proofs.lemmas.events.Put.{dropped-is}
 
 -- ---- writes to a link

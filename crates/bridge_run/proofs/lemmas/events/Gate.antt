@@ -1,5 +1,5 @@
 -- What an event of a gate sends, by what its gate has gained.
-use Rattle.std.proofs.Common.{◌≡◌, ℕ, ◌||◌, Bool, List, [], ◌∷◌, ◌++◌, length, Option, Some, sym, ap, ◌∙◌}
+use Rattle.std.proofs.Common.{◌≡◌, ℕ, ◌||◌, Bool, List, ◌∷◌, ◌++◌, Option, Some, sym, ap, ◌∙◌}
 use Rattle.std.specs.List.{flat_map}
 use Rattle.std.proofs.lemmas.Grind.{flat_map-append}
 use Rattle.usb_base.specs.declared.refusal.Refusal.{Refusal}

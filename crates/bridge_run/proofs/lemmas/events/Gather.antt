@@ -15,7 +15,7 @@ use Rattle.bridge_run.specs.Prescribed.{Prescribed, gained, refuses, drops, firs
 use Rattle.bridge_run.specs.Recorded.{has_any, sends_any, is_last, piece, is_full, waiting_if}
 use Rattle.bridge_run.specs.Course.{Setting, Course, Next, Making, AtDoor, AtClient, AtHost, AtEnd, Takes}
 use Rattle.bridge_run.specs.Calls.{Outcome, Goes, Stops, course_of, room, sends_now, is_due, lines_with, put, settle, ends_next, take_event, come, turned, heard, poll, gathered, rest, call, and_then, calls}
-use Rattle.bridge_run.specs.Outside.{Outside, Written, gathering, written, Tells, IsRecordedInPart, Cut}
+use Rattle.bridge_run.specs.Outside.{Outside, gathering, written, IsRecordedInPart}
 use Rattle.bridge_run.specs.Serves.{Reaches, NoneWaits, EndsSo, CutShort, Leaves}
 
 -- ---- an event behind which it ends

@@ -15,8 +15,6 @@ use Rattle.bridge_run.proofs.lemmas.calls.Course.{reaches-none, reaches-call, le
 use Rattle.bridge_run.proofs.lemmas.events.Rest.{faults-then}
 use Rattle.bridge_run.proofs.lemmas.calls.Idle.{cut-reason, reason-from}
 use Rattle.bridge_run.proofs.lemmas.calls.Open.{making-short, begun-follows}
-use Rattle.bridge_run.specs.Log.{Logged}
-use Rattle.bridge_run.specs.inner.Logging.{IsAt}
 use Rattle.bridge_run.proofs.lemmas.calls.Log.{with_host, nothing-before, opened-at}
 use Rattle.bridge_run.proofs.serving.serve.Goals as goal
 

@@ -8,7 +8,6 @@ use Rattle.bridge_run.specs.Outside.{outside, gathering}
 use Rattle.bridge_run.specs.inner.Follows.{Runs, setting}
 use Rattle.bridge_run.proofs.lemmas.calls.Course.{reaches-none, reaches-call, cut-leaves, cut-next, is-err}
 use Rattle.bridge_run.proofs.lemmas.events.Settle.{settled, take-course, take-settles, take-ends, quiet-on, on-all}
-use Rattle.bridge_run.specs.Calls.{ends_next}
 use Rattle.bridge_run.specs.inner.Logging.{IsBehind, Logs}
 use Rattle.bridge_run.proofs.lemmas.calls.Log.{settled-logs}
 use Rattle.bridge_run.proofs.session.Session.happen.Goals as goal
