@@ -3,13 +3,7 @@
 //! A call is `g` and bytes of the guest, `b` and such bytes one by one, `p` or `o` and an endpoint, or `x`. What it tells
 //! is a word and its number, an id or a place, or nothing. A line behind `#` is a comment.
 
-/// The guest's hello, and a configuration of the loop.
-pub const CONFIGURED: &str = "
-    g GH | EPU IIU DCL |
-    g SET @1 01 | |
-    p 00 | EPL II8 STATUS @1 0001 | done 1
-";
-
+/// A guest that asks nothing.
 pub const ASKS_NOTHING: &str = "
     p 00 | | not ready 0
     o 81 | | closed 0
@@ -20,7 +14,11 @@ pub const ASKS_NOTHING: &str = "
     o 81 | | closed 0
 ";
 
+/// A guest reads and writes the loop until it is unplugged.
 pub const READS_AND_WRITES: &str = "
+    g GH | EPU IIU DCL |
+    g SET @1 01 | |
+    p 00 | EPL II8 STATUS @1 0001 | done 1
     g 65000000 0e000000 @2 01000400000000000000 a1a2a3a4 | |
     p 01 | BULK @2 01000400000000000000 | done 2
     g CANCEL @2 | |
@@ -35,6 +33,7 @@ pub const READS_AND_WRITES: &str = "
     x | | gone before 0
 ";
 
+/// A guest streams the keyboard.
 pub const STREAMS: &str = "
     g GH | EPU IIU DCK |
     o 81 | | closed 0
@@ -56,6 +55,7 @@ pub const STREAMS: &str = "
     g 10000000 01000000 @5 81 | 11000000 02000000 @5 0081 |
 ";
 
+/// A change ends the streams that it touches.
 pub const CHANGES: &str = "
     g GH | EPU IIU DCT |
     g SET @1 01 | |
@@ -76,7 +76,11 @@ pub const CHANGES: &str = "
     o 81 | | closed 0
 ";
 
+/// A change flushes by the table before it.
 pub const FLUSHES: &str = "
+    g GH | EPU IIU DCL |
+    g SET @1 01 | |
+    p 00 | EPL II8 STATUS @1 0001 | done 1
     g BULK @3 81000200000000000000 CONTROL @4 8006800000010000 1200 | |
     g SET @6 00 BULK @7 8200020000000000 0000 | |
     # endpoint 0 keeps its order, and what waits there is never flushed
@@ -89,7 +93,11 @@ pub const FLUSHES: &str = "
     p 00 | STATUS @9 0000 | done 9
 ";
 
+/// A reset marks the next request of endpoint 0.
 pub const RESETS: &str = "
+    g GH | EPU IIU DCL |
+    g SET @1 01 | |
+    p 00 | EPL II8 STATUS @1 0001 | done 1
     # two resets before it are one mark; another endpoint takes none
     g RESET @2 BULK @3 8100020000000000 0000 RESET @4 SET @5 01 | |
     p 81 | | not ready 0
@@ -101,7 +109,11 @@ pub const RESETS: &str = "
     p 00 | | not ready 0
 ";
 
+/// A mark moves when its packet is cancelled.
 pub const CANCELS_BEHIND_RESETS: &str = "
+    g GH | EPU IIU DCL |
+    g SET @1 01 | |
+    p 00 | EPL II8 STATUS @1 0001 | done 1
     # to the packet behind it
     g RESET @2 CONTROL @3 8006800000010000 1200 BULK @4 8100020000000000 0000 GET @5 | |
     g CANCEL @3 | CONTROL @3 80068001 00010000 0000 | cancelled 3
@@ -113,7 +125,11 @@ pub const CANCELS_BEHIND_RESETS: &str = "
     p 00 | STATUS @9 0000 | done 9
 ";
 
+/// A cancel takes the first packet of its id.
 pub const CANCELS: &str = "
+    g GH | EPU IIU DCL |
+    g SET @1 01 | |
+    p 00 | EPL II8 STATUS @1 0001 | done 1
     g CANCEL @9 | |
     g GET @3 BULK @3 8100020000000000 0000 BULK @3 8200030000000000 0000 | |
     g CANCEL @3 | BULK @3 8101 00*8 | cancelled 3
@@ -122,7 +138,11 @@ pub const CANCELS: &str = "
     g CANCEL @3 | |
 ";
 
+/// What can't be asked is answered inval.
 pub const CANNOT_BE_ASKED: &str = "
+    g GH | EPU IIU DCL |
+    g SET @1 01 | |
+    p 00 | EPL II8 STATUS @1 0001 | done 1
     # bulk of endpoint 0, of no address, and of more than 16 MiB
     g BULK @2 8000020000000000 0000 | BULK @2 8002 00*8 |
     g BULK @2 9100020000000000 0000 | BULK @2 9102 00*8 |
@@ -140,7 +160,11 @@ pub const CANNOT_BE_ASKED: &str = "
     g CANCEL @5 | BULK @5 8101 00*8 | cancelled 5
 ";
 
+/// Bytes behind a wrong place are dropped.
 pub const WRONG_TYPE: &str = "
+    g GH | EPU IIU DCL |
+    g SET @1 01 | |
+    p 00 | EPL II8 STATUS @1 0001 | done 1
     g SET @2 00 1e000000 | | UnknownType 114
     g SET @3 01 | |
     p 00 | EPU IIU STATUS @2 0000 | done 2
@@ -148,6 +172,7 @@ pub const WRONG_TYPE: &str = "
     x | 02000000 00000000 00*8 | gone 0
 ";
 
+/// A guest that says no hello first.
 pub const NO_HELLO: &str = "
     o 81 | | closed 0
     g 03 | |
@@ -156,12 +181,17 @@ pub const NO_HELLO: &str = "
     x | | gone 0
 ";
 
+/// An unplugged host reads on.
 pub const UNPLUGGED: &str = "
+    g GH | EPU IIU DCL |
+    g SET @1 01 | |
+    p 00 | EPL II8 STATUS @1 0001 | done 1
     x | 02000000 00000000 00*8 | gone 0
     g BULK @2 8100020000000000 0000 CANCEL @2 0f | |
     g 00000001000000 @3 81 1e000000 | | UnknownType 156
 ";
 
+/// A guest that announces no capability.
 pub const ANNOUNCES_NOTHING: &str = "
     g GH0 | 05000000 60000000 00000000 00 ff*15 00 ff*15 00*64 04000000 84000000 00000000 00*132 01000000 08000000 00000000 02000000f0ff0200 |
     g 06000000 01000000 01000000 01 | |

@@ -161,26 +161,6 @@ fn lives<G: Gadget>(alloc: Global, gadget: G, rows: &'static str) -> Result<&'st
     wrong_row(alloc, &mut made(alloc, gadget)?, rows)
 }
 
-/// The first row that the host of a loop doesn't go by, first to be configured, and then.
-fn configured<G: Gadget>(
-    alloc: Global,
-    core: &mut HostCore<G>,
-    rows: &'static str,
-) -> Result<&'static str, Memory> {
-    match wrong_row(alloc, core, CONFIGURED)? {
-        "" => wrong_row(alloc, core, rows),
-        row => Ok(row),
-    }
-}
-
-fn lives_configured<G: Gadget>(
-    alloc: Global,
-    gadget: G,
-    rows: &'static str,
-) -> Result<&'static str, Memory> {
-    configured(alloc, &mut made(alloc, gadget)?, rows)
-}
-
 #[test]
 fn a_host_says_hello(rt: HostRuntime) -> Result<(), Fail> {
     let sent = hello(rt.alloc(), Loopback::make(rt.alloc())?)?;
@@ -188,8 +168,21 @@ fn a_host_says_hello(rt: HostRuntime) -> Result<(), Fail> {
     Ok(())
 }
 
-/// Lives of the host of a loop that isn't configured.
-const OF_A_LOOP: [&str; 4] = [ASKS_NOTHING, NO_HELLO, BYTE_BY_BYTE, ANNOUNCES_NOTHING];
+/// Lives of the host of a loop.
+const OF_A_LOOP: [&str; 12] = [
+    ASKS_NOTHING,
+    NO_HELLO,
+    BYTE_BY_BYTE,
+    ANNOUNCES_NOTHING,
+    READS_AND_WRITES,
+    FLUSHES,
+    RESETS,
+    CANCELS_BEHIND_RESETS,
+    CANCELS,
+    CANNOT_BE_ASKED,
+    WRONG_TYPE,
+    UNPLUGGED,
+];
 
 #[test]
 fn a_loop_is_lent(rt: HostRuntime) -> Result<(), Fail> {
@@ -211,31 +204,5 @@ fn a_guest_streams_the_keyboard(rt: HostRuntime) -> Result<(), Fail> {
 #[test]
 fn a_change_ends_the_streams_that_it_touches(rt: HostRuntime) -> Result<(), Fail> {
     none_is_wrong(&rt, lives(rt.alloc(), Tone::make(rt.alloc())?, CHANGES)?);
-    Ok(())
-}
-
-/// Lives of the host of a configured loop: a guest reads and writes it until it is unplugged; a change flushes by the
-/// table before it; a reset marks the next request of endpoint 0; a mark moves when its packet is cancelled; a cancel
-/// takes the first packet of its id; what can't be asked is answered inval; bytes behind a wrong place are dropped; an
-/// unplugged host reads on.
-const OF_A_CONFIGURED_LOOP: [&str; 8] = [
-    READS_AND_WRITES,
-    FLUSHES,
-    RESETS,
-    CANCELS_BEHIND_RESETS,
-    CANCELS,
-    CANNOT_BE_ASKED,
-    WRONG_TYPE,
-    UNPLUGGED,
-];
-
-#[test]
-fn a_configured_loop_is_lent(rt: HostRuntime) -> Result<(), Fail> {
-    for rows in OF_A_CONFIGURED_LOOP {
-        none_is_wrong(
-            &rt,
-            lives_configured(rt.alloc(), Loopback::make(rt.alloc())?, rows)?,
-        );
-    }
     Ok(())
 }

@@ -13,12 +13,10 @@ fn fill_twice(rt: &impl Abort, arena: &mut Arena<i32>) -> Result<(), Fail>
 {
     assert!(rt; arena.push_back(0, 1).is_ok());
     let middle = arena.push_back(0, 2).ok().ok_or("full")?;
-    assert!(rt; arena.push_back(0, 3).is_ok());
-    assert!(rt; arena.push_back(1, 4).is_ok());
+    assert!(rt; arena.push_back(0, 3).is_ok() && arena.push_back(1, 4).is_ok());
     assert!(rt; arena.push_back(1, 5).err() == Some(5));
     assert!(rt; arena.remove(middle) == Some(2));
-    assert!(rt; arena.push_back(1, 5).is_ok());
-    assert!(rt; arena.push_back(0, 6).err() == Some(6));
+    assert!(rt; arena.push_back(1, 5).is_ok() && arena.push_back(0, 6).err() == Some(6));
     assert!(rt; arena.len() == 4);
     Ok(())
 }
