@@ -1,7 +1,6 @@
 -- A made tape read by a model: its lines are all good, and what is kept are the steps that they say.
-use Rattle.std.proofs.Common.{◌≡◌, ℕ, ◌+◌, ◌-◌, ◌<◌, ◌≤◌, Bool, true, false, cond, ◌&&◌, ◌||◌, List, [], ◌∷◌, ◌++◌, length, get_or, take, nat_eq, nat_lt, option_map, Option, Some, None, refl, sym, ap, ◌∙◌, append_assoc, arith}
+use Rattle.std.proofs.Common.{◌≡◌, ℕ, ◌+◌, ◌-◌, ◌≤◌, Bool, true, false, cond, ◌&&◌, ◌||◌, List, [], ◌∷◌, ◌++◌, length, get_or, take, nat_eq, nat_lt, option_map, Option, Some, None, refl, ap, ◌∙◌, append_assoc, arith}
 use Rattle.std.specs.List.{list_any}
-use Rattle.std.specs.Io.BufRead.{ends_with_byte, strip_last}
 use Rattle.std.proofs.lemmas.Bool.{le-ltb}
 use Rattle.std.proofs.lemmas.List.{length-append}
 use Rattle.std.proofs.Math.Seq.{take-append_seam, get_or-append_seam}
@@ -15,7 +14,7 @@ use Rattle.made_tape.specs.Again.{IsReadAgain, AreReadAgain, TapeAgain}
 use Rattle.usbgate_tapes.specs.Tape.{lines_of, content}
 use Rattle.usbgate_tapes.specs.Run.{HasNoLF}
 use Rattle.usbgate_tapes.specs.Model.{on_line as on_said, on_step, step_said, model}
-use Rattle.usbgate_tapes.specs.TapeCommand.{TapeCommand, tape_limit, Progress, begin, one_further, next_line, Reading, on_line, read_lines, read_tape, last_text}
+use Rattle.usbgate_tapes.specs.TapeCommand.{tape_limit, Progress, begin, one_further, next_line, Reading, on_line, read_lines, read_tape, last_text}
 use Rattle.usbgate_tapes.specs.Text.{bad_line}
 use Rattle.usbgate_tapes.specs.inner.Loaded.{with_step, steps_after}
 use Rattle.usbgate_tapes.proofs.Lines.{lines_of-line}

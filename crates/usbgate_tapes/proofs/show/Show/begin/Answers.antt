@@ -1,4 +1,4 @@
-use Rattle.std.proofs.Common.{[], ap, subst, ◌∙◌}
+use Rattle.std.proofs.Common.{[], ap, subst}
 use Rattle.packet_stream.specs.Split.{reads}
 use Rattle.packet_stream.specs.Streams.{Kept, Follows}
 use Rattle.usbgate_tapes.specs.inner.Show.{shown_by}
