@@ -4,7 +4,6 @@ use crate::fronts::push_answer;
 use crate::output::Output;
 use crate::reader::{Told, told_by};
 use crate::type_rows::{has, longer_of};
-use crate::wrong::Wrong;
 use packet_stream::ReadError;
 use redir_data::read_redir;
 use redir_wire::{Caps, Way};
@@ -51,25 +50,23 @@ type Other = (Case, usize);
 
 /// Appends `as told` where packets of this type are read as the row says, and else the first that isn't. The row is how
 /// many bytes its fixed fields have, the place of the length, and what lengthens them, as `6:10`.
-pub fn push_data_row(number: &str, row: &str, out: &mut Output) -> Result<(), Wrong> {
-    let form = form_of(number, row)?;
-    match other_of(out.alloc, form)? {
-        Some(other) => push_other(other, form, out)?,
-        None => out.text("as told\n"),
+pub fn push_data_row(number: &str, row: &str, out: &mut Output) {
+    let form = form_of(number, row, out);
+    match other_of(out.alloc, form) {
+        Ok(Some(other)) => push_other(other, form, out),
+        Ok(None) => out.text("as told\n"),
+        Err(memory) => out.note(Err(memory)),
     }
-    Ok(())
 }
 
-fn form_of(number: &str, row: &str) -> Result<Form, Wrong> {
+fn form_of(number: &str, row: &str, out: &mut Output) -> Form {
     let mut words = row.split_whitespace();
-    let fixed = words.next().unwrap_or("");
-    let place = words.next().unwrap_or("");
-    Ok(Form {
-        number: number.parse()?,
-        fixed: fixed.parse()?,
-        place: place.parse()?,
-        longer: longer_of(words.next())?,
-    })
+    Form {
+        number: out.read(number.parse()),
+        fixed: out.read(words.next().unwrap_or("").parse()),
+        place: out.read(words.next().unwrap_or("").parse()),
+        longer: longer_of(words.next(), out),
+    }
 }
 
 /// The first front of a packet that is read as the row doesn't say.
@@ -167,15 +164,20 @@ fn said(form: Form, case: Case, size: usize, count: usize) -> Told {
     }
 }
 
-fn push_other((case, count): Other, form: Form, out: &mut Output) -> Result<(), Memory> {
+fn push_other((case, count): Other, form: Form, out: &mut Output) {
     push_case(case, count, form.number, out);
-    let packet = packet(out.alloc, form, case)?;
-    let front = packet.as_slice().get(..count).unwrap_or(&[]);
+    match packet(out.alloc, form, case) {
+        Ok(packet) => push_answers(case, form, count, packet.as_slice(), out),
+        Err(memory) => out.note(Err(memory)),
+    }
+}
+
+fn push_answers(case: Case, form: Form, count: usize, packet: &[u8], out: &mut Output) {
+    let front = packet.get(..count).unwrap_or(&[]);
     push_answer(read(out.alloc, case, front), out);
     out.text(", not ");
     push_answer(said(form, case, packet.len(), count), out);
     out.text("\n");
-    Ok(())
 }
 
 fn push_case(case: Case, count: usize, number: u32, out: &mut Output) {

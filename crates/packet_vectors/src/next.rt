@@ -3,7 +3,6 @@
 use crate::fronts::push_found;
 use crate::output::Output;
 use crate::reader::{Reader, Setting, Told, told_by};
-use crate::wrong::Wrong;
 use redir_data::{next_redir, read_redir};
 use std::alloc::Global;
 use usbip_op::{OpWay, next_op, read_op};
@@ -11,10 +10,10 @@ use usbip_urb::{next_client, next_urb, read_client, read_urb};
 
 /// Appends a line for each front of the bytes that is less than a packet and awaits another number of bytes than the
 /// front before: how many bytes it has, and that number.
-pub fn push_awaited(call: &str, bytes: &[u8], out: &mut Output) -> Result<(), Wrong> {
+pub fn push_awaited(call: &str, bytes: &[u8], out: &mut Output) {
     let (name, setting) = call.split_once(' ').unwrap_or((call, ""));
-    push_awaited_by(Reader::named(name, setting)?, bytes, out);
-    Ok(())
+    let reader = Reader::named(name, setting, out);
+    push_awaited_by(reader, bytes, out);
 }
 
 fn push_awaited_by(reader: Reader, bytes: &[u8], out: &mut Output) {

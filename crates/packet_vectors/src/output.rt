@@ -3,7 +3,8 @@
 use std::alloc::{AllocError, Global};
 use usb_base::{Bytes, Memory};
 
-/// A text that grows. What appends to it doesn't ask whether memory was left: who takes the text does.
+/// A text that grows. What appends to it doesn't ask whether memory was left, nor whether the words of the row could be
+/// read: who takes the text does.
 #[derive(Drop)]
 pub struct Output {
     /// What appends to it allocates from this.
@@ -12,6 +13,8 @@ pub struct Output {
     pub bytes: Bytes,
     /// Whether memory was left for all of it.
     is_whole: bool,
+    /// Whether all words could be read.
+    is_read: bool,
 }
 
 impl Output {
@@ -21,17 +24,44 @@ impl Output {
             alloc,
             bytes: Bytes::new(alloc),
             is_whole: true,
+            is_read: true,
         }
     }
 
-    /// The text, where memory was left for all of it.
+    /// The text, where memory was left for all of it. Where words couldn't be read it says so, and no more.
     pub fn taken(self) -> Result<Bytes, Memory> {
         let Output {
+            alloc,
             bytes,
             is_whole,
-            ..
+            is_read,
         } = self;
-        if is_whole { Ok(bytes) } else { Err(Memory) }
+        match (is_whole, is_read) {
+            (true, true) => Ok(bytes),
+            (true, false) => Bytes::copied(alloc, b"the row can't be read\n"),
+            (false, _) => Err(Memory),
+        }
+    }
+
+    /// Whether memory was left for all of it.
+    pub fn whole(&self) -> Result<(), Memory> {
+        if self.is_whole { Ok(()) } else { Err(Memory) }
+    }
+
+    /// Notes that words can't be read.
+    pub fn refuse(&mut self) {
+        self.is_read = false;
+    }
+
+    /// What was read of words. Where they can't be read that is noted, and a default goes on.
+    pub fn read<T: Default, E: Drop>(&mut self, read: Result<T, E>) -> T {
+        match read {
+            Ok(value) => value,
+            Err(_) => {
+                self.refuse();
+                T::default()
+            }
+        }
     }
 
     /// Notes whether memory was left for a part.

@@ -2,7 +2,7 @@
 
 ghost use Rattle.std.specs.Prelude.{◌≡◌, Ok};
 
-use crate::wrong::Wrong;
+use crate::output::Output;
 use packet_stream::{Read, ReadError};
 use redir_data::read_redir;
 use redir_wire::{Caps, Way, read_header};
@@ -44,16 +44,19 @@ pub enum Told {
 
 impl Reader {
     /// The reader of this name, with this setting.
-    pub fn named(name: &str, setting: &str) -> Result<Reader, Wrong> {
+    pub fn named(name: &str, setting: &str, out: &mut Output) -> Reader {
         match name {
-            "client" => Ok(Reader::Client),
-            "urb" => Ok(Reader::Urb),
-            "ret" => Ok(Reader::Ret(is_in(setting)?)),
-            "request" => Ok(Reader::Request),
-            "op" => Ok(Reader::Op(op_way(setting)?)),
-            "header" => Ok(Reader::Header(Setting::of(setting)?)),
-            "redir" => Ok(Reader::Redir(Setting::of(setting)?)),
-            _ => Err(Wrong::Words),
+            "client" => Reader::Client,
+            "urb" => Reader::Urb,
+            "ret" => Reader::Ret(is_in(setting, out)),
+            "request" => Reader::Request,
+            "op" => Reader::Op(op_way(setting, out)),
+            "header" => Reader::Header(Setting::of(setting, out)),
+            "redir" => Reader::Redir(Setting::of(setting, out)),
+            _ => {
+                out.refuse();
+                Reader::Request
+            }
         }
     }
 
@@ -87,45 +90,50 @@ pub fn told_by<P: Drop>(read: Result<Read<P>, ReadError>) -> Told
 }
 
 /// Whether a direction is IN.
-pub fn is_in(direction: &str) -> Result<bool, Wrong> {
-    match direction {
-        "in" => Ok(true),
-        "out" => Ok(false),
-        _ => Err(Wrong::Words),
+pub fn is_in(direction: &str, out: &mut Output) -> bool {
+    if direction != "in" && direction != "out" {
+        out.refuse();
     }
+    direction == "in"
 }
 
-fn op_way(way: &str) -> Result<OpWay, Wrong> {
+fn op_way(way: &str, out: &mut Output) -> OpWay {
     match way {
-        "request" => Ok(OpWay::Request),
-        "reply" => Ok(OpWay::Reply),
-        _ => Err(Wrong::Words),
+        "request" => OpWay::Request,
+        "reply" => OpWay::Reply,
+        _ => {
+            out.refuse();
+            OpWay::Request
+        }
     }
 }
 
 impl Setting {
     /// The setting of words: the way, the agreed capabilities in hexadecimal, and `first` where the hello is to come.
-    pub fn of(words: &str) -> Result<Setting, Wrong> {
+    pub fn of(words: &str, out: &mut Output) -> Setting {
         let mut parts = words.split_whitespace();
-        let way = redir_way(parts.next().unwrap_or(""))?;
-        let caps = caps_of(parts.next().unwrap_or(""))?;
+        let way = redir_way(parts.next().unwrap_or(""), out);
+        let caps = caps_of(parts.next().unwrap_or(""), out);
         let first = parts.next() == Some("first");
-        Ok(Setting { first, caps, way })
+        Setting { first, caps, way }
     }
 }
 
 /// The way of this name.
-pub fn redir_way(way: &str) -> Result<Way, Wrong> {
+pub fn redir_way(way: &str, out: &mut Output) -> Way {
     match way {
-        "guest" => Ok(Way::ToGuest),
-        "host" => Ok(Way::ToHost),
-        _ => Err(Wrong::Words),
+        "guest" => Way::ToGuest,
+        "host" => Way::ToHost,
+        _ => {
+            out.refuse();
+            Way::ToGuest
+        }
     }
 }
 
 /// Capabilities, of which bit n says that capability n is there, in hexadecimal.
-pub fn caps_of(digits: &str) -> Result<Caps, Wrong> {
-    Ok(Caps {
-        bits: u32::from_str_radix(digits, 16)?,
-    })
+pub fn caps_of(digits: &str, out: &mut Output) -> Caps {
+    Caps {
+        bits: out.read(u32::from_str_radix(digits, 16)),
+    }
 }

@@ -3,7 +3,6 @@
 use crate::answer::push_answer;
 use crate::output::Output;
 use crate::texts::Texts;
-use crate::wrong::Wrong;
 use std::alloc::Global;
 use usb_base::{Bytes, Memory};
 
@@ -57,11 +56,7 @@ impl Rows {
 
 fn answer_of(alloc: Global, texts: &Texts, call: &str, input: &str) -> Result<Bytes, Memory> {
     let mut came = Output::new(alloc);
-    match push_answer(texts, call.trim(), input.trim(), &mut came) {
-        Ok(()) => {}
-        Err(Wrong::Words) => came.text("the row can't be read\n"),
-        Err(Wrong::Memory) => return Err(Memory),
-    }
+    push_answer(texts, call.trim(), input.trim(), &mut came);
     came.taken()
 }
 

@@ -6,7 +6,6 @@ use crate::output::Output;
 use crate::packets::push_client;
 use crate::reader::Told;
 use crate::texts::Texts;
-use crate::wrong::Wrong;
 use packet_stream::{PacketFormat, ReadError, Stream};
 use redir_data::{FromGuest, FromHost, RedirPacket, RedirState};
 use redir_wire::Header;
@@ -58,36 +57,25 @@ fn push_redir_state(state: &RedirState, out: &mut Output) {
 }
 
 /// Takes the steps of a stream of this side, and appends what comes of each.
-pub fn push_stream(texts: &Texts, side: &str, steps: &str, out: &mut Output) -> Result<(), Wrong> {
+pub fn push_stream(texts: &Texts, side: &str, steps: &str, out: &mut Output) {
     match side {
         "client" => push_steps::<ClientFormat>(texts, (), steps, out),
         "host" => push_steps::<FromHost>(texts, RedirState::start(), steps, out),
         "guest" => push_steps::<FromGuest>(texts, RedirState::start(), steps, out),
-        _ => Err(Wrong::Words),
+        _ => out.refuse(),
     }
 }
 
-fn push_steps<F: Lined>(
-    texts: &Texts,
-    state: F::State,
-    steps: &str,
-    out: &mut Output,
-) -> Result<(), Wrong> {
+fn push_steps<F: Lined>(texts: &Texts, state: F::State, steps: &str, out: &mut Output) {
     let mut stream = Stream::<F>::new(out.alloc, state);
     for step in steps.split_whitespace() {
-        push_step(texts, &mut stream, step, out)?;
+        push_step(texts, &mut stream, step, out);
         push_held(&stream, out);
     }
-    Ok(())
 }
 
 /// Takes a step, which is a word or the bytes of a piece, and appends what comes of it.
-fn push_step<F: Lined>(
-    texts: &Texts,
-    stream: &mut Stream<F>,
-    step: &str,
-    out: &mut Output,
-) -> Result<(), Wrong> {
+fn push_step<F: Lined>(texts: &Texts, stream: &mut Stream<F>, step: &str, out: &mut Output) {
     match step {
         "next" => push_next(stream, out),
         "all" => push_all(stream, out),
@@ -95,29 +83,19 @@ fn push_step<F: Lined>(
         "end" => stream.end(),
         "state" => F::push_state(stream.state(), out),
         "none" => out.note(stream.put(&[])),
-        _ => return put_piece(texts, stream, step, out),
+        _ => put_piece(texts, stream, step, out),
     }
-    Ok(())
 }
 
 /// Puts a piece, whole or, behind `each:`, byte by byte.
-fn put_piece<F: Lined>(
-    texts: &Texts,
-    stream: &mut Stream<F>,
-    step: &str,
-    out: &mut Output,
-) -> Result<(), Wrong> {
-    let (is_each, words) = match step.strip_prefix("each:") {
-        Some(words) => (true, words),
-        None => (false, step),
-    };
-    let piece = texts.bytes_of(out.alloc, words)?;
-    if is_each {
-        push_each(stream, &piece, out);
-    } else {
-        out.note(stream.put(&piece));
+fn put_piece<F: Lined>(texts: &Texts, stream: &mut Stream<F>, step: &str, out: &mut Output) {
+    match step.strip_prefix("each:") {
+        Some(words) => push_each(stream, &texts.bytes_of(words, out), out),
+        None => {
+            let put = stream.put(&texts.bytes_of(step, out));
+            out.note(put);
+        }
     }
-    Ok(())
 }
 
 /// Takes the next packet.

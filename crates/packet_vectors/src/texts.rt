@@ -1,7 +1,7 @@
 //! Texts by name, texts with repetitions, and the bytes that hexadecimal digits stand for.
 
 use crate::output::Output;
-use crate::wrong::Wrong;
+use hex::FromHexError;
 use std::alloc::Global;
 use usb_base::{Bytes, Memory};
 
@@ -94,32 +94,50 @@ impl Texts {
     }
 
     /// The bytes of words, or those of a text in quotation marks. A word `PLACE=WORD` puts other bytes at a place.
-    pub fn bytes_of(&self, alloc: Global, words: &str) -> Result<Vec<u8>, Wrong> {
-        if let Some(text) = words.strip_prefix('"') {
-            let text = text.strip_suffix('"').unwrap_or(text);
-            return Ok(text.as_bytes().to_vec(alloc)?);
+    pub fn bytes_of(&self, words: &str, out: &mut Output) -> Vec<u8> {
+        let mut bytes = Vec::new(out.alloc);
+        match words.strip_prefix('"') {
+            Some(text) => add_to(
+                &mut bytes,
+                text.strip_suffix('"').unwrap_or(text).as_bytes(),
+                out,
+            ),
+            None => {
+                for word in words.split_whitespace() {
+                    self.put_word(word, &mut bytes, out);
+                }
+            }
         }
-        let mut bytes = Vec::new(alloc);
-        for word in words.split_whitespace() {
-            self.put_word(alloc, word, &mut bytes)?;
-        }
-        Ok(bytes)
+        bytes
     }
 
-    fn put_word(&self, alloc: Global, word: &str, bytes: &mut Vec<u8>) -> Result<(), Wrong> {
+    fn put_word(&self, word: &str, bytes: &mut Vec<u8>, out: &mut Output) {
         match word.split_once('=') {
             Some((place, field)) => {
-                let place = number_of(place)?;
-                replace(bytes, place, &self.decoded(alloc, field)?);
+                let place = out.read(place.parse());
+                replace(bytes, place, &self.decoded(field, out));
             }
-            None => bytes.extend_from_slice(&self.decoded(alloc, word)?)?,
+            None => add_to(bytes, &self.decoded(word, out), out),
         }
-        Ok(())
     }
 
-    fn decoded(&self, alloc: Global, word: &str) -> Result<Vec<u8>, Wrong> {
-        let digits = self.joined(alloc, word)?;
-        Ok(hex::decode(alloc, digits.as_slice())?)
+    fn decoded(&self, word: &str, out: &mut Output) -> Vec<u8> {
+        let mut digits = Output::new(out.alloc);
+        self.push_word(word, &mut digits);
+        out.note(digits.whole());
+        match hex::decode(out.alloc, digits.bytes.as_slice()) {
+            Ok(bytes) => return bytes,
+            Err(FromHexError::OutOfMemory) => out.note(Err(Memory)),
+            Err(_) => out.refuse(),
+        }
+        Vec::new(out.alloc)
+    }
+}
+
+/// Adds bytes at the end.
+fn add_to(bytes: &mut Vec<u8>, piece: &[u8], out: &mut Output) {
+    if bytes.extend_from_slice(piece).is_err() {
+        out.note(Err(Memory));
     }
 }
 
@@ -128,9 +146,4 @@ fn replace(bytes: &mut Vec<u8>, place: usize, field: &[u8]) {
     for (byte, new) in bytes.iter_mut().skip(place).zip(field) {
         *byte = *new;
     }
-}
-
-/// A number in decimal.
-pub fn number_of(digits: &str) -> Result<usize, Wrong> {
-    Ok(digits.parse()?)
 }

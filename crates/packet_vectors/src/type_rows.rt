@@ -3,7 +3,6 @@
 use crate::fronts::push_answer;
 use crate::output::Output;
 use crate::reader::{Told, redir_way, told_by};
-use crate::wrong::Wrong;
 use packet_stream::ReadError;
 use redir_wire::{Caps, Way, read_header};
 use usb_base::Reason;
@@ -55,58 +54,53 @@ type Other = (Case, usize);
 /// Appends `as told` where headers of these types are read as the row says, and else the first that isn't. The
 /// numbers are one, or two with a hyphen between them; the row is `unknown`, `left out`, or a way or `-`, the
 /// capability that is wanted or `-`, a length, and what lengthens it, as `4:160`.
-pub fn push_type_row(numbers: &str, row: &str, out: &mut Output) -> Result<(), Wrong> {
+pub fn push_type_row(numbers: &str, row: &str, out: &mut Output) {
     let (from, to) = numbers.split_once('-').unwrap_or((numbers, numbers));
-    let listed = listed_of(row)?;
-    match other_among(from.parse()?, to.parse()?, listed) {
+    let from = out.read(from.parse());
+    let to = out.read(to.parse());
+    let listed = listed_of(row, out);
+    match other_among(from, to, listed) {
         Some(other) => push_other(other, listed, out),
         None => out.text("as told\n"),
     }
-    Ok(())
 }
 
-fn listed_of(row: &str) -> Result<Listed, Wrong> {
+fn listed_of(row: &str, out: &mut Output) -> Listed {
     match row {
-        "unknown" => Ok(Listed::Unknown),
-        "left out" => Ok(Listed::LeftOut),
-        _ => Ok(Listed::Sent(form_of(row)?)),
+        "unknown" => Listed::Unknown,
+        "left out" => Listed::LeftOut,
+        _ => Listed::Sent(form_of(row, out)),
     }
 }
 
-fn form_of(row: &str) -> Result<Form, Wrong> {
+fn form_of(row: &str, out: &mut Output) -> Form {
     let mut words = row.split_whitespace();
-    let only = words.next().unwrap_or("");
-    let wanted = words.next().unwrap_or("");
-    let short = words.next().unwrap_or("");
-    Ok(Form {
-        only: only_of(only)?,
-        wanted: wanted_of(wanted)?,
-        short: short.parse()?,
-        longer: longer_of(words.next())?,
-    })
-}
-
-fn only_of(word: &str) -> Result<Option<Way>, Wrong> {
-    match word {
-        "-" => Ok(None),
-        way => Ok(Some(redir_way(way)?)),
+    Form {
+        only: only_of(words.next().unwrap_or(""), out),
+        wanted: wanted_of(words.next().unwrap_or(""), out),
+        short: out.read(words.next().unwrap_or("").parse()),
+        longer: longer_of(words.next(), out),
     }
 }
 
-fn wanted_of(word: &str) -> Result<Option<u32>, Wrong> {
+fn only_of(word: &str, out: &mut Output) -> Option<Way> {
     match word {
-        "-" => Ok(None),
-        bit => Ok(Some(bit.parse()?)),
+        "-" => None,
+        way => Some(redir_way(way, out)),
+    }
+}
+
+fn wanted_of(word: &str, out: &mut Output) -> Option<u32> {
+    match word {
+        "-" => None,
+        bit => Some(out.read(bit.parse())),
     }
 }
 
 /// The capability that lengthens a type, and its length with it, of words as `4:160`.
-pub fn longer_of(word: Option<&str>) -> Result<Option<(u32, u32)>, Wrong> {
-    let Some(word) = word else {
-        return Ok(None);
-    };
-    let (bit, length) = word.split_once(':').unwrap_or((word, ""));
-    Ok(Some((bit.parse()?, length.parse()?)))
+pub fn longer_of(word: Option<&str>, out: &mut Output) -> Option<(u32, u32)> {
+    let (bit, length) = word?.split_once(':').unwrap_or(("", ""));
+    Some((out.read(bit.parse()), out.read(length.parse())))
 }
 
 /// Whether this bit is set.

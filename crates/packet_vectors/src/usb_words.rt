@@ -2,7 +2,6 @@
 
 use crate::output::Output;
 use crate::reader::caps_of;
-use crate::wrong::Wrong;
 use control_route::{Route, is_change, route_of, touches};
 use redir_wire::{ANNOUNCED, Caps};
 use usb_base::{EpAddr, EpKind, EpTable, Reason, Refusal, Setup, Side, Speed, UsbStatus};
@@ -32,68 +31,66 @@ const REASONS: [Reason; 22] = [
     Reason::Length,
 ];
 
-fn reason_named(name: &str) -> Result<Reason, Wrong> {
+fn reason_named(name: &str, out: &mut Output) -> Reason {
     for reason in REASONS {
         if reason.name() == name {
-            return Ok(reason);
+            return reason;
         }
     }
-    Err(Wrong::Words)
+    out.refuse();
+    Reason::Version
 }
 
-fn side_named(name: &str) -> Result<Side, Wrong> {
+fn side_named(name: &str, out: &mut Output) -> Side {
     match name {
-        "client" => Ok(Side::Client),
-        "host" => Ok(Side::Host),
-        _ => Err(Wrong::Words),
+        "client" => Side::Client,
+        "host" => Side::Host,
+        _ => {
+            out.refuse();
+            Side::Client
+        }
     }
 }
 
 /// Appends the line of a refusal, of which the words are the side, the place, the reason and any two values.
-pub fn push_refusal(words: &str, out: &mut Output) -> Result<(), Wrong> {
-    let shown = refusal_of(words)?.line(out.alloc, &mut out.bytes);
+pub fn push_refusal(words: &str, out: &mut Output) {
+    let shown = refusal_of(words, out).line(out.alloc, &mut out.bytes);
     out.note(shown);
-    Ok(())
 }
 
-fn refusal_of(words: &str) -> Result<Refusal, Wrong> {
+fn refusal_of(words: &str, out: &mut Output) -> Refusal {
     let mut words = words.split_whitespace();
-    let side = words.next().unwrap_or("");
-    let place = words.next().unwrap_or("");
-    let reason = words.next().unwrap_or("");
-    Ok(Refusal {
-        side: side_named(side)?,
-        place: place.parse()?,
-        reason: reason_named(reason)?,
-        kept: kept_of(words.next(), words.next())?,
-    })
+    Refusal {
+        side: side_named(words.next().unwrap_or(""), out),
+        place: out.read(words.next().unwrap_or("").parse()),
+        reason: reason_named(words.next().unwrap_or(""), out),
+        kept: kept_of(words.next(), words.next(), out),
+    }
 }
 
-fn kept_of(first: Option<&str>, second: Option<&str>) -> Result<Option<(u64, u64)>, Wrong> {
+fn kept_of(first: Option<&str>, second: Option<&str>, out: &mut Output) -> Option<(u64, u64)> {
     match (first, second) {
-        (Some(first), Some(second)) => Ok(Some((first.parse()?, second.parse()?))),
-        _ => Ok(None),
+        (Some(first), Some(second)) => Some((out.read(first.parse()), out.read(second.parse()))),
+        _ => None,
     }
 }
 
 /// Appends the number of a speed's byte in USB/IP, and its byte in usbredir again.
-pub fn push_speed(byte: &str, out: &mut Output) -> Result<(), Wrong> {
-    let speed = Speed::from_redir(byte.parse()?);
+pub fn push_speed(byte: &str, out: &mut Output) {
+    let speed = Speed::from_redir(out.read(byte.parse()));
     out.line(
         "speed",
         &[i64::from(speed.usbip()), i64::from(speed.to_redir())],
     );
-    Ok(())
 }
 
 /// Appends the error number of a status, and its byte again.
-pub fn push_status(byte: &str, out: &mut Output) -> Result<(), Wrong> {
-    let status = UsbStatus::from_byte(byte.parse()?);
+pub fn push_status(byte: &str, out: &mut Output) {
+    let status = UsbStatus::from_byte(out.read(byte.parse()));
     out.line(
         "status",
         &[i64::from(status.errno()), i64::from(status.to_byte())],
     );
-    Ok(())
 }
 
 /// The name of what an endpoint's transfers are.
@@ -108,18 +105,17 @@ pub fn kind_name(kind: EpKind) -> &'static str {
 }
 
 /// Appends the name of the kind that a byte of an ep_info tells.
-pub fn push_kind(byte: &str, out: &mut Output) -> Result<(), Wrong> {
-    out.line(kind_name(EpKind::from_byte(byte.parse()?)), &[]);
-    Ok(())
+pub fn push_kind(byte: &str, out: &mut Output) {
+    let kind = EpKind::from_byte(out.read(byte.parse()));
+    out.line(kind_name(kind), &[]);
 }
 
 /// Appends an endpoint's place among 32 and its direction, and its byte and its kind in a table without endpoints.
-pub fn push_address(byte: &str, out: &mut Output) -> Result<(), Wrong> {
-    match EpAddr::new(u8::from_str_radix(byte, 16)?) {
+pub fn push_address(byte: &str, out: &mut Output) {
+    match EpAddr::new(out.read(u8::from_str_radix(byte, 16))) {
         Some(ep) => push_ep(ep, out),
         None => out.text("no address\n"),
     }
-    Ok(())
 }
 
 fn push_ep(ep: EpAddr, out: &mut Output) {
@@ -133,9 +129,16 @@ fn push_ep(ep: EpAddr, out: &mut Output) {
     out.line(kind_name(EpTable::none().row(ep).kind), &[]);
 }
 
+fn setup_of(bytes: &[u8], out: &mut Output) -> Setup {
+    if bytes.len() != 8 {
+        out.refuse();
+    }
+    Setup::read(bytes.try_into().unwrap_or([0; 8]))
+}
+
 /// Appends the fields of a setup, and the bytes that spell it.
-pub fn push_setup(bytes: [u8; 8], out: &mut Output) {
-    let setup = Setup::read(bytes);
+pub fn push_setup(bytes: &[u8], out: &mut Output) {
+    let setup = setup_of(bytes, out);
     let numbers = [
         i64::from(setup.kind),
         i64::from(setup.request),
@@ -149,8 +152,8 @@ pub fn push_setup(bytes: [u8; 8], out: &mut Output) {
 }
 
 /// Appends the route of a setup, whether it is a change, and which of the interfaces 1 and 2 it touches.
-pub fn push_route(bytes: [u8; 8], out: &mut Output) {
-    let route = route_of(&Setup::read(bytes));
+pub fn push_route(bytes: &[u8], out: &mut Output) {
+    let route = route_of(&setup_of(bytes, out));
     push_route_name(&route, out);
     if is_change(&route) {
         out.text(", a change");
@@ -180,8 +183,8 @@ fn push_route_name(route: &Route, out: &mut Output) {
 }
 
 /// Appends the capabilities that the gateway announces and that are among these, which are given in hexadecimal.
-pub fn push_agreed(digits: &str, out: &mut Output) -> Result<(), Wrong> {
-    let agreed = Caps { bits: ANNOUNCED }.agreed(caps_of(digits)?);
+pub fn push_agreed(digits: &str, out: &mut Output) {
+    let agreed = Caps { bits: ANNOUNCED }.agreed(caps_of(digits, out));
     out.text("agreed");
     for bit in 0..32 {
         if agreed.has(bit) {
@@ -189,5 +192,4 @@ pub fn push_agreed(digits: &str, out: &mut Output) -> Result<(), Wrong> {
         }
     }
     out.text("\n");
-    Ok(())
 }

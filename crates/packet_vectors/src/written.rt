@@ -8,8 +8,7 @@ ghost use Rattle.redir_data.specs.Written.{CanWrite as CanWriteData};
 ghost use Rattle.packet_vectors.specs.Writable.{CanWrite};
 
 use crate::output::Output;
-use crate::reader::Setting;
-use crate::wrong::Wrong;
+use crate::reader::{Setting, is_in};
 use packet_stream::Read;
 use redir_data::{RedirData, RedirPacket, write_data, write_iso_out};
 use redir_wire::{Caps, RedirControl, WIDE_IDS, Way, write_control};
@@ -112,15 +111,14 @@ fn push_moved_again(
 }
 
 /// Appends the submit at the front of the bytes as it is written to another device.
-pub fn push_to_device(devid: u32, bytes: &[u8], out: &mut Output) -> Result<(), Wrong> {
+pub fn push_to_device(number: &str, bytes: &[u8], out: &mut Output) {
     match read_urb(out.alloc, bytes) {
         Ok(Read::Whole(UrbPacket::Submit(submit), _)) => {
             let mut submit = submit;
-            submit.head.devid = devid;
+            submit.head.devid = out.read(number.parse());
             push_written(&UrbPacket::Submit(submit), out);
-            Ok(())
         }
-        _ => Err(Wrong::Words),
+        _ => out.refuse(),
     }
 }
 
@@ -135,13 +133,10 @@ fn push_written(packet: &UrbPacket, out: &mut Output)
 
 /// Appends the answer at the front of the bytes as it is written around its body: its fields, the body, and then each
 /// descriptor.
-pub fn push_around_body(is_in: bool, bytes: &[u8], out: &mut Output) -> Result<(), Wrong> {
-    match read_ret(out.alloc, is_in, bytes) {
-        Ok(Read::Whole(UrbPacket::RetSubmit(answer), _)) => {
-            push_parts(&answer, out);
-            Ok(())
-        }
-        _ => Err(Wrong::Words),
+pub fn push_around_body(direction: &str, bytes: &[u8], out: &mut Output) {
+    match read_ret(out.alloc, is_in(direction, out), bytes) {
+        Ok(Read::Whole(UrbPacket::RetSubmit(answer), _)) => push_parts(&answer, out),
+        _ => out.refuse(),
     }
 }
 
@@ -156,18 +151,11 @@ fn push_parts(answer: &RetSubmit, out: &mut Output) {
 }
 
 /// Appends an isochronous packet to the device with these data, as it is written behind what stands in front.
-pub fn push_iso_out(
-    endpoint: u8,
-    id: u64,
-    caps: Caps,
-    body: &[u8],
-    out: &mut Output,
-) -> Result<(), Wrong> {
+pub fn push_iso_out(endpoint: u8, id: u64, caps: Caps, body: &[u8], out: &mut Output) {
     if body.len() > 65_535 || !caps.has(WIDE_IDS) && id > u64::from(u32::MAX) {
-        return Err(Wrong::Words);
+        return out.refuse();
     }
     let mut written = started(out);
     out.note(write_iso_out(endpoint, body, id, caps, &mut written));
     push_hex_line(written.as_slice(), out);
-    Ok(())
 }
