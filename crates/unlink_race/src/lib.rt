@@ -15,4 +15,5 @@ mod unlink;
 pub use ending::{Ending, ending_of};
 pub use live::{Live, LiveKind, StreamEnd};
 pub use lives::{Lives, NotAccepted};
+pub use table::Room;
 pub use unlink::UnlinkTold;

@@ -11,7 +11,7 @@ ghost use Rattle.unlink_race.specs.Accepting.{refusal_of};
 ghost use Rattle.unlink_race.specs.Unlinking.{told_of, left_by};
 
 use crate::live::{Live, StreamEnd};
-use crate::table::{LANES, Table};
+use crate::table::{LANES, Room, Table};
 use crate::unlink::{UnlinkTold, unlink};
 use control_route::Route;
 use std::alloc::Global;
@@ -30,7 +30,7 @@ pub enum NotAccepted {
 }
 
 /// A client's requests in flight, or those that a former client left with the host; contracts see both lists, in
-/// order of acceptance, of which one is always empty. All memory is taken by `make` and `over`.
+/// order of acceptance, of which one is always empty. All memory is taken by `make`, its own and that of `Room`.
 #[derive(Drop)]
 pub struct Lives {
     table: Table,
@@ -53,19 +53,20 @@ impl Lives {
         ensures { IfOk result (λ lives. lives ≡ no_requests) }
     {
         let arena = Arena::new(alloc, MAX_LIVE, LANES)?;
-        Lives::over(alloc, arena)
+        let room = Room::make(alloc)?;
+        Ok(Lives::over(arena, room))
     }
 
-    /// No request, in an arena that is handed over: 4,096 requests fit, in a lane for each endpoint. The memory that it
-    /// takes is for what finds a request beside the arena, and no request is kept there.
-    pub fn over(alloc: Global, arena: Arena<(u64, Live)>) -> Result<Self, Memory>
+    /// No request, in an arena that is handed over: 4,096 requests fit, in a lane for each endpoint. The room is for what
+    /// finds a request beside the arena, and no request is kept there.
+    pub fn over(arena: Arena<(u64, Live)>, room: Room) -> Self
         requires { arena ≡ seen (replicate 32 []) MAX_LIVE }
-        ensures { IfOk result (λ lives. lives ≡ no_requests) }
+        ensures { result ≡ no_requests }
     {
-        Ok(Lives {
-            table: Table::over(alloc, arena)?,
+        Lives {
+            table: Table::over(arena, room),
             client_gone: false,
-        })
+        }
     }
 
     /// How many are live.

@@ -33,8 +33,30 @@ struct Row {
     kind: LiveKind,
 }
 
+/// The memory for what finds a request beside the arena, in which nothing stands yet; contracts see it as that list.
+#[derive(Drop)]
+pub struct Room {
+    rows: Vec<Row>,
+    seqnums: Vec<u32>,
+    ids: Vec<u64>,
+    index: Index,
+}
+
+impl Model for Room {
+    ghost use Rattle.std.specs.Prelude.{List, [], ◌≡◌, vec_capacity};
+    ghost use Rattle.unlink_race.specs.declared.live.Live.{Live};
+    ghost use Rattle.unlink_race.specs.Inner.Sound.{HasRoom};
+    ghost use Rattle.unlink_race.specs.Inner.Indexed.{IsIndexed};
+
+    ghost Value = { List Live };
+
+    ghost view = { λ room. [] };
+
+    ghost invariant = { λ room. (room.rows.items ≡ []) × (room.seqnums.items ≡ []) × (room.ids.items ≡ []) × HasRoom (vec_capacity room.rows) (vec_capacity room.seqnums) (vec_capacity room.ids) × IsIndexed [] room.index };
+}
+
 /// Requests in order of acceptance, at most 4,096; contracts see it as their list. The rows and the two columns
-/// have the same order. Only `over` takes memory.
+/// have the same order. No call takes memory.
 #[derive(Drop)]
 pub struct Table {
     // each request with its number, which rises in order of acceptance
@@ -134,26 +156,42 @@ fn next_number(arena: &mut Arena<(u64, Live)>, rows: &[Row], next: u64) -> u64
     rows.len() as u64
 }
 
+impl Room {
+    /// For 4,096 of each.
+    pub fn make(alloc: Global) -> Result<Self, Memory>
+        ensures { IfOk result (λ room. room ≡ []) }
+    {
+        Ok(Room {
+            rows: Vec::with_capacity(alloc, MAX_LIVE)?,
+            seqnums: Vec::with_capacity(alloc, MAX_LIVE)?,
+            ids: Vec::with_capacity(alloc, MAX_LIVE)?,
+            index: Index::make(alloc)?,
+        })
+    }
+}
+
 impl Table {
     ghost use Rattle.std.specs.Prelude.{Bool};
 
-    /// The empty table over an arena, with room beside it for what the searches want of as many requests as fit.
-    pub fn over(alloc: Global, arena: Arena<(u64, Live)>) -> Result<Self, Memory>
+    /// The empty table over an arena, and beside it the room for what the searches want of as many requests as fit.
+    pub fn over(arena: Arena<(u64, Live)>, room: Room) -> Self
         requires { arena ≡ seen (replicate 32 []) MAX_LIVE }
-        ensures { IfOk result (λ table. table ≡ []) }
+        ensures { result ≡ [] }
     {
-        let rows = Vec::with_capacity(alloc, MAX_LIVE)?;
-        let seqnums = Vec::with_capacity(alloc, MAX_LIVE)?;
-        let ids = Vec::with_capacity(alloc, MAX_LIVE)?;
-        let index = Index::make(alloc)?;
-        Ok(Table {
+        let Room {
+            rows,
+            seqnums,
+            ids,
+            index,
+        } = room;
+        Table {
             arena,
             next: 0,
             rows,
             seqnums,
             ids,
             index,
-        })
+        }
     }
 
     /// How many requests there are.
