@@ -1,5 +1,5 @@
 -- The earliest of all requests that pass a test is the earliest of their lanes.
-use Rattle.std.proofs.Common.{◌≡◌, ◌==◌, ◌&&◌, ◌||◌, ℕ, zero, suc, ◌+◌, ◌<◌, ◌≤◌, min, Bool, true, false, cond, ltb, List, [], ◌∷◌, ◌++◌, length, map, get_or, Option, Some, None, refl, ap, sym, subst, ◌∙◌, arith, inl, inr}
+use Rattle.std.proofs.Common.{◌≡◌, ◌==◌, ◌&&◌, ◌||◌, ℕ, zero, suc, ◌+◌, ◌<◌, ◌≤◌, min, Bool, true, false, cond, ltb, List, [], ◌∷◌, ◌++◌, length, map, filter, get_or, slice_get, Option, Some, None, refl, ap, sym, subst, ◌∙◌, arith, inl, inr, option_map}
 use Rattle.std.specs.Bool.{⊤}
 use Rattle.std.specs.List.{position_or_len}
 use Rattle.std.proofs.lemmas.Bool.{lt-ltb, eq-eqb, ne_eqb, cases_eq, cases_Bool}
@@ -7,7 +7,7 @@ use Rattle.std.proofs.lemmas.Bool.Decides.{nat_tests}
 use Rattle.urb_arena.specs.Lanes.{find_in, ByKey}
 use Rattle.unlink_race.specs.declared.live.Live.{Live}
 use Rattle.unlink_race.specs.declared.table.Row.{Row}
-use Rattle.unlink_race.specs.Inner.Earliest.{earliest, lesser, least}
+use Rattle.unlink_race.specs.Inner.Earliest.{passing, earliest, lesser, least}
 use Rattle.unlink_race.specs.Inner.Lane.{lane_of}
 use Rattle.unlink_race.specs.Inner.Listed.{Kept, listed}
 use Rattle.unlink_race.specs.Inner.Placed.{keys_in, AreBelow, ArePlaced}
@@ -55,11 +55,29 @@ none_placed test (e ∷ es) is =
       | inr away ↦ (let later = none_placed test es (rw away at is) in rw away (omega (arith, later)))
     ]
 
--- ---- tests that say the same, or together what one says
+-- ---- it is the first of those that pass
 
-pub same_earliest : (p q : Live → Bool) → ((x : Live) → p x ≡ q x) → (es : List (ℕ × Live)) → earliest p es ≡ earliest q es
-same_earliest p q same [] = refl
-same_earliest p q same (e ∷ es) = rw (same e.1) (ap (cond (q e.1) (Some e.0)) (same_earliest p q same es))
+abbrev pub first_number : List (ℕ × Live) → Option ℕ
+first_number es = option_map (λ (e : ℕ × Live). e.0) (slice_get es 0)
+
+pub earliest_passing : (test : Live → Bool) (es : List (ℕ × Live)) → earliest test es ≡ first_number (passing test es)
+earliest_passing test [] = refl
+earliest_passing test (e ∷ es) =
+    elim (cases_Bool (test e.1)) [
+      | inl here ↦ rw here refl
+      | inr away ↦ rw away (earliest_passing test es)
+    ]
+
+-- the requests of those that pass are those of all that pass
+pub lives_passing : (test : Live → Bool) (es : List (ℕ × Live)) → lives (passing test es) ≡ filter test (lives es)
+lives_passing test [] = refl
+lives_passing test (e ∷ es) =
+    elim (cases_Bool (test e.1)) [
+      | inl here ↦ rw here (ap (λ xs. e.1 ∷ xs) (lives_passing test es))
+      | inr away ↦ rw away (lives_passing test es)
+    ]
+
+-- ---- tests that together say what one says
 
 pub never : (p : Live → Bool) → ((x : Live) → p x ≡ false) → (es : List (ℕ × Live)) → earliest p es ≡ None
 never p none [] = refl
@@ -139,25 +157,25 @@ Alike rows es = map (λ r. r.kind) rows ≡ map (λ e. e.1.kind) es
 
 module _ (test : Live → Bool) (g : ℕ → Option (ℕ × Live)) (lane : ℕ) where
   abbrev Later : List Row → Type 0
-  Later rows = (ps : Entries) → Alike rows (listed key_of g rows) → Backed g ps → keys ps ≡ keys_in lane rows → earliest test (values ps) ≡ earliest (and_in test lane) (listed key_of g rows)
+  Later rows = (ps : Entries) → Alike rows (listed key_of g rows) → Backed g ps → keys ps ≡ keys_in lane rows → passing test (values ps) ≡ passing (and_in test lane) (listed key_of g rows)
 
-  pub lane_earliest : (rows : List Row) (ps : Entries) → Kept key_of g rows → Alike rows (listed key_of g rows) → Backed g ps → keys ps ≡ keys_in lane rows → earliest test (values ps) ≡ earliest (and_in test lane) (listed key_of g rows)
-  lane_earliest [] [] kept alike backed same = refl
-  lane_earliest [] (p ∷ ps) kept alike backed same = absurd (cc)
-  lane_earliest (r ∷ rows) ps kept alike backed same =
+  pub lane_passing : (rows : List Row) (ps : Entries) → Kept key_of g rows → Alike rows (listed key_of g rows) → Backed g ps → keys ps ≡ keys_in lane rows → passing test (values ps) ≡ passing (and_in test lane) (listed key_of g rows)
+  lane_passing [] [] kept alike backed same = refl
+  lane_passing [] (p ∷ ps) kept alike backed same = absurd (cc)
+  lane_passing (r ∷ rows) ps kept alike backed same =
       let e = entry_of key_of g r kept.0 in
-      by_entry (λ qs rest behind tail. lane_earliest rows qs kept.2 rest behind tail) e.0 e.1
+      by_entry (λ qs rest behind tail. lane_passing rows qs kept.2 rest behind tail) e.0 e.1
     where
-      here : Later rows → (x : ℕ × Live) → g r.key ≡ Some x → x.1.kind ≡ r.kind → Alike rows (listed key_of g rows) → lane_of r.kind ≡ lane → (qs : Entries) → Backed g qs → keys qs ≡ r.key ∷ keys_in lane rows → earliest test (values qs) ≡ earliest (and_in test lane) (x ∷ listed key_of g rows)
+      here : Later rows → (x : ℕ × Live) → g r.key ≡ Some x → x.1.kind ≡ r.kind → Alike rows (listed key_of g rows) → lane_of r.kind ≡ lane → (qs : Entries) → Backed g qs → keys qs ≡ r.key ∷ keys_in lane rows → passing test (values qs) ≡ passing (and_in test lane) (x ∷ listed key_of g rows)
       here later x is kind rest at [] backed same = absurd (cc)
       here later x is kind rest at (q ∷ qs) backed same =
           let head : q.0 ≡ r.key = cc in
           let tail : keys qs ≡ keys_in lane rows = cc in
           let both : Some q.1 ≡ Some x = sym backed.0 ∙ ap g head ∙ is in
           let this : q.1 ≡ x = cc in
-          rw (this, eq-eqb (lane_of x.1.kind) lane (ap lane_of kind ∙ at)) (ap (cond (test x.1) (Some x.0)) (later qs rest backed.1 tail))
+          rw (this, eq-eqb (lane_of x.1.kind) lane (ap lane_of kind ∙ at)) (ap (λ (es : List (ℕ × Live)). cond (test x.1) (x ∷ es) es) (later qs rest backed.1 tail))
 
-      by_entry : Later rows → (x : ℕ × Live) → g r.key ≡ Some x → earliest test (values ps) ≡ earliest (and_in test lane) (listed key_of g (r ∷ rows))
+      by_entry : Later rows → (x : ℕ × Live) → g r.key ≡ Some x → passing test (values ps) ≡ passing (and_in test lane) (listed key_of g (r ∷ rows))
       by_entry later x is =
           let all : Alike (r ∷ rows) (x ∷ listed key_of g rows) = rw is at alike in
           let kind : r.kind ≡ x.1.kind = cc in
@@ -169,6 +187,10 @@ module _ (test : Live → Bool) (g : ℕ → Option (ℕ × Live)) (lane : ℕ) 
                 let other : (lane_of x.1.kind == lane) ≡ false = ap (λ k. lane_of k == lane) (sym kind) ∙ ne_eqb (lane_of r.kind) lane away in
                 rw other (later ps rest backed (rw (ne_eqb (lane_of r.kind) lane away) at same)))
           ])
+
+  lane_earliest : (rows : List Row) (ps : Entries) → Kept key_of g rows → Alike rows (listed key_of g rows) → Backed g ps → keys ps ≡ keys_in lane rows → earliest test (values ps) ≡ earliest (and_in test lane) (listed key_of g rows)
+  lane_earliest rows ps kept alike backed same =
+      earliest_passing test (values ps) ∙ ap first_number (lane_passing rows ps kept alike backed same) ∙ sym (earliest_passing (and_in test lane) (listed key_of g rows))
 
   -- where each belongs before this lane, one in a lane before it is one of all
   all_below : (rows : List Row) (es : List (ℕ × Live)) → Alike rows es → AreBelow lane rows → earliest (and_below test lane) es ≡ earliest test es

@@ -59,6 +59,15 @@ took_first p xs i is =
 pub took_none : {X : Type 0} (p : X → Bool) (xs : List X) → position p xs ≡ None → (None ≡ find p xs) × (xs ≡ without_first p xs)
 took_none p xs is = let r = find_past p xs (position_past p xs is) in (sym r.0, sym r.1)
 
+-- the first of those that pass
+pub first_passing : {X : Type 0} (p : X → Bool) (xs : List X) → slice_get (filter p xs) 0 ≡ find p xs
+first_passing p [] = refl
+first_passing p (x ∷ xs) =
+    elim (cases_Bool (p x)) [
+      | inl here ↦ rw here refl
+      | inr away ↦ rw away (first_passing p xs)
+    ]
+
 -- a place is found where an element passes
 pub is_some-position : {X : Type 0} (p : X → Bool) (xs : List X) → is_some (position p xs) ≡ list_any p xs
 is_some-position p xs = is_some-cond _ _ ∙ within p xs

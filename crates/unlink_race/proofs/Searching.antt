@@ -1,8 +1,9 @@
 -- The searches of a sound table in its lanes.
-use Rattle.std.proofs.Common.{◌≡◌, ◌==◌, ◌&&◌, ℕ, ◌+◌, ◌<◌, Bool, true, false, ltb, List, [], length, map, get_or, Option, Some, None, refl, ap, sym, subst, ◌∙◌, zero-add, arith, inl, inr}
+use Rattle.std.proofs.Common.{◌≡◌, ◌==◌, ◌&&◌, ℕ, ◌+◌, ◌<◌, Bool, true, false, ltb, List, [], length, map, filter, get_or, slice_get, Option, option_map, Some, None, refl, ap, sym, subst, ◌∙◌, zero-add, arith, inl, inr}
 use Rattle.std.specs.List.{position, position_or_len}
 use Rattle.std.proofs.lemmas.Bool.{lt-ltb, le-ltb, eq-eqb, ne_eqb, cases_eq}
 use Rattle.std.proofs.lemmas.List.{length-map}
+use Rattle.std.proofs.lemmas.Option.{slice_get-map}
 use Rattle.std.proofs.lemmas.Simd.{map-map}
 use Rattle.std.proofs.Math.Bool.{and-false}
 use Rattle.usb_base.specs.Endpoint.{endpoint_index}
@@ -15,11 +16,11 @@ use Rattle.unlink_race.specs.declared.live.LiveKind.TheVariants.{Wire, Routed, S
 use Rattle.unlink_race.specs.declared.live.StreamEnd.TheVariants.{Told, Change}
 use Rattle.unlink_race.specs.declared.table.Row.{Row}
 use Rattle.unlink_race.specs.Searches.{waits_at, waits_for, ended_by, touched_by}
-use Rattle.unlink_race.specs.Inner.Earliest.{earliest, least}
+use Rattle.unlink_race.specs.Inner.Earliest.{passing, earliest, least}
 use Rattle.unlink_race.specs.Inner.Lane.{lane_of}
 use Rattle.unlink_race.specs.Inner.Listed.{Kept}
 use Rattle.unlink_race.specs.Inner.Sound.{entry_of, in_order, lives_of, numbers_of, Rises, IsSound}
-use Rattle.unlink_race.proofs.Earliest.{number_placed, none_placed, same_earliest, never, Alike, all_backed, keys_home, and_in, and_below, lane_earliest, least_is}
+use Rattle.unlink_race.proofs.Earliest.{number_placed, none_placed, first_number, earliest_passing, lives_passing, never, Alike, all_backed, keys_home, and_in, and_below, lane_passing, least_is}
 use Rattle.unlink_race.proofs.Halving.{number_at_place}
 use Rattle.unlink_race.proofs.Leading.{by_key}
 use Rattle.unlink_race.proofs.Rows.{length-listed}
@@ -52,12 +53,25 @@ module _ {arena : Seen (ℕ × Live)} {rows : List Row} {seqnums ids : List ℕ}
   alike : Alike rows (in_order arena rows)
   alike = s.columns.are_kinds ∙ map-map (λ live. live.kind) (λ (e : ℕ × Live). e.1) (in_order arena rows)
 
+  -- those that wait for an endpoint's packets are those of its lane that do
+  waiting_are : (ep byte lane : ℕ) → byte ≡ ep → lane ≡ endpoint_index ep → lane < 32 → passing (ended_by (Told byte)) (values (get_or arena.lanes lane [])) ≡ passing (waits_for ep) (in_order arena rows)
+  waiting_are ep byte lane same at low =
+      ap (λ b. passing (ended_by (Told b)) (values (get_or arena.lanes lane []))) same
+      ∙ lane_passing (waits_for ep) (entry_of arena) (0 + lane) rows (get_or arena.lanes lane []) s.kept alike (all_backed arena.lanes keyed lane [] (get_or arena.lanes lane []) refl) (keys_home 0 arena.lanes lane rows (let e = s.lanes in omega (arith, low, e)) s.placed)
+      ∙ ap (λ n. passing (and_in (waits_for ep) n) (in_order arena rows)) (zero-add lane ∙ at)
+      ∙ (λ i. passing (λ (x : Live). waits_there ep x.kind i) (in_order arena rows))
+
   pub waiting_is : (ep byte lane : ℕ) → byte ≡ ep → lane ≡ endpoint_index ep → lane < 32 → earliest (ended_by (Told byte)) (values (get_or arena.lanes lane [])) ≡ earliest (waits_for ep) (in_order arena rows)
   waiting_is ep byte lane same at low =
-      ap (λ b. earliest (ended_by (Told b)) (values (get_or arena.lanes lane []))) same
-      ∙ lane_earliest (waits_for ep) (entry_of arena) (0 + lane) rows (get_or arena.lanes lane []) s.kept alike (all_backed arena.lanes keyed lane [] (get_or arena.lanes lane []) refl) (keys_home 0 arena.lanes lane rows (let e = s.lanes in omega (arith, low, e)) s.placed)
-      ∙ ap (λ n. earliest (and_in (waits_for ep) n) (in_order arena rows)) (zero-add lane ∙ at)
-      ∙ same_earliest (and_in (waits_for ep) (endpoint_index ep)) (waits_for ep) (λ x. waits_there ep x.kind) (in_order arena rows)
+      earliest_passing (ended_by (Told byte)) (values (get_or arena.lanes lane [])) ∙ ap first_number (waiting_are ep byte lane same at low) ∙ sym (earliest_passing (waits_for ep) (in_order arena rows))
+
+  -- the nth of them
+  pub nth_waiting : {xs : List Live} → lives_of arena rows ≡ xs → (ep byte lane nth : ℕ) → byte ≡ ep → lane ≡ endpoint_index ep → lane < 32 → option_map (λ (e : ℕ × Live). e.1) (slice_get (passing (ended_by (Told byte)) (values (get_or arena.lanes lane []))) nth) ≡ slice_get (filter (waits_for ep) xs) nth
+  nth_waiting v ep byte lane nth same at low =
+      ap (λ (es : List (ℕ × Live)). option_map (λ (e : ℕ × Live). e.1) (slice_get es nth)) (waiting_are ep byte lane same at low)
+      ∙ sym (slice_get-map (λ (e : ℕ × Live). e.1) (passing (waits_for ep) (in_order arena rows)) nth)
+      ∙ ap (λ (ls : List Live). slice_get ls nth) (lives_passing (waits_for ep) (in_order arena rows))
+      ∙ ap (λ (ls : List Live). slice_get (filter (waits_for ep) ls) nth) v
 
   pub touched_is : (route : Route) (high : ℕ) → Rises 0 (numbers_of arena rows) high → least (ended_by (Change route)) None arena.lanes ≡ earliest (touched_by route) (in_order arena rows)
   touched_is route high rises =

@@ -1,10 +1,10 @@
 -- A walk along a lane, from each key to the next.
-use Rattle.std.proofs.Common.{◌≡◌, ◌==◌, ℕ, suc, ◌<◌, Bool, true, false, cond, List, [], ◌∷◌, ◌++◌, length, map, get_or, Option, Some, None, MatchOption, refl, ap, sym, subst, ◌∙◌, arith, inl, inr}
+use Rattle.std.proofs.Common.{◌≡◌, ◌==◌, ℕ, zero, suc, ◌<◌, Bool, true, false, cond, List, [], ◌∷◌, ◌++◌, length, map, get_or, slice_get, ◌-◌, Option, Some, None, MatchOption, refl, ap, sym, subst, ◌∙◌, arith, inl, inr}
 use Rattle.std.proofs.lemmas.Bool.{ne_eqb, eq-eqb, cases_eq}
 use Rattle.std.proofs.lemmas.List.{append_assoc, length-append}
 use Rattle.urb_arena.specs.Lanes.{find_in, key_after_in, first_key, ByKey}
 use Rattle.unlink_race.specs.declared.live.Live.{Live}
-use Rattle.unlink_race.specs.Inner.Earliest.{earliest}
+use Rattle.unlink_race.specs.Inner.Earliest.{passing}
 
 module _ {X : Type 0} where
   -- the pairs from that of k on
@@ -66,21 +66,25 @@ Entries = List (ℕ × (ℕ × Live))
 abbrev pub values : Entries → List (ℕ × Live)
 values ps = map (λ p. p.1) ps
 
--- the walk has come to this key, and none before it passes
-pub record IsAt (test : Live → Bool) (ps : Entries) (next : Option ℕ) : Type 0 where
+-- the walk has come to this key: of those that pass, so many that it has yet to come to are ahead of the one looked for
+pub record IsAt (test : Live → Bool) (ps : Entries) (nth : ℕ) (next : Option ℕ) (ahead : ℕ) : Type 0 where
   pub before : Entries
   pub split : ps ≡ before ++ rest_at next ps
   pub first : first_key (rest_at next ps) ≡ next
-  pub none : earliest test (values ps) ≡ earliest test (values (rest_at next ps))
+  pub there : slice_get (passing test (values ps)) nth ≡ slice_get (passing test (values (rest_at next ps))) ahead
 
-pub at_front : (test : Live → Bool) (ps : Entries) (next : Option ℕ) → MatchOption next (ps ≡ []) (λ k. first_key ps ≡ Some k) → IsAt test ps next
-at_front test ps None told = record { before = []; split = told; first = refl; none = ap (λ qs. earliest test (values qs)) told }
-at_front test [] (Some k) told = let e : None ≡ Some k = told in absurd (cc)
-at_front test (p ∷ ps) (Some k) told =
+pub at_front : (test : Live → Bool) (ps : Entries) (nth : ℕ) (next : Option ℕ) → MatchOption next (ps ≡ []) (λ k. first_key ps ≡ Some k) → IsAt test ps nth next nth
+at_front test ps nth None told = record { before = []; split = told; first = refl; there = ap (λ qs. slice_get (passing test (values qs)) nth) told }
+at_front test [] nth (Some k) told = let e : None ≡ Some k = told in absurd (cc)
+at_front test (p ∷ ps) nth (Some k) told =
     let e : Some p.0 ≡ Some k = told in
     let same : p.0 ≡ k = cc in
     let whole : rest k (p ∷ ps) ≡ p ∷ ps = rw (eq-eqb p.0 k same) refl in
-    record { before = []; split = sym whole; first = ap first_key whole ∙ told; none = ap (λ qs. earliest test (values qs)) (sym whole) }
+    record { before = []; split = sym whole; first = ap first_key whole ∙ told; there = ap (λ qs. slice_get (passing test (values qs)) nth) (sym whole) }
+
+-- it has come to the end
+pub at_end : {test : Live → Bool} {ps : Entries} {nth ahead : ℕ} {next : Option ℕ} → IsAt test ps nth next ahead → next ≡ None → slice_get (passing test (values ps)) nth ≡ None
+at_end {test = test} {ps = ps} {ahead = ahead} at is = at.there ∙ ap (λ o. slice_get (passing test (values (rest_at o ps))) ahead) is
 
 -- the pair there
 record Pair (ps : Entries) (k : ℕ) : Type 0 where
@@ -93,10 +97,15 @@ pair_at : (ps : Entries) (k : ℕ) (qs : Entries) → rest k ps ≡ qs → first
 pair_at ps k [] is first = let e : None ≡ Some k = first in absurd (cc)
 pair_at ps k (p ∷ qs) is first = let e : Some p.0 ≡ Some k = first in record { p = p; behind = qs; is = is; key = cc }
 
-pub at_key : {test : Live → Bool} {ps : Entries} {next : Option ℕ} {k : ℕ} → IsAt test ps next → next ≡ Some k → IsAt test ps (Some k)
-at_key {test = test} {ps = ps} at is = let P : Option ℕ → Type 0 = λ o. IsAt test ps o in subst P is at
+pub at_key : {test : Live → Bool} {ps : Entries} {nth ahead : ℕ} {next : Option ℕ} {k : ℕ} → IsAt test ps nth next ahead → next ≡ Some k → IsAt test ps nth (Some k) ahead
+at_key {test = test} {ps = ps} {nth = nth} {ahead = ahead} at is = let P : Option ℕ → Type 0 = λ o. IsAt test ps nth o ahead in subst P is at
 
-module _ (test : Live → Bool) (pss : List Entries) (lane : ℕ) (by_key : ByKey pss) (k : ℕ) (at : IsAt test (get_or pss lane []) (Some k)) where
+-- behind the first of a list there is one fewer ahead
+one_passed : {Y : Type 0} (y : Y) (ys : List Y) (n m : ℕ) → 0 < n → m ≡ n - 1 → slice_get (y ∷ ys) n ≡ slice_get ys m
+one_passed y ys zero m some is = absurd (omega (arith, some))
+one_passed y ys (suc n) m some is = let e : n ≡ m = omega (arith, is) in ap (slice_get ys) e
+
+module _ (test : Live → Bool) (pss : List Entries) (lane : ℕ) (by_key : ByKey pss) (nth k ahead : ℕ) (at : IsAt test (get_or pss lane []) nth (Some k) ahead) where
   abbrev ps : Entries
   ps = get_or pss lane []
 
@@ -116,15 +125,19 @@ module _ (test : Live → Bool) (pss : List Entries) (lane : ℕ) (by_key : ByKe
     this : pair.p.1 ≡ entry
     this = let e : Some pair.p.1 ≡ Some entry = sym (by_key lane at.before pair.p pair.behind whole).0 ∙ ap (λ j. find_in j pss) pair.key ∙ is in cc
 
-    all_here : earliest test (values ps) ≡ cond (test entry.1) (Some entry.0) (earliest test (values pair.behind))
-    all_here = at.none ∙ ap (λ qs. earliest test (values qs)) pair.is ∙ ap (λ (e : ℕ × Live). cond (test e.1) (Some e.0) (earliest test (values pair.behind))) this
+    abbrev others : List (ℕ × Live)
+    others = passing test (values pair.behind)
 
-    -- it passes
-    pub passes : test entry.1 ≡ true → earliest test (values ps) ≡ Some entry.0
-    passes here = all_here ∙ ap (λ b. cond b (Some entry.0) (earliest test (values pair.behind))) here
+    all_here : (b : Bool) → test entry.1 ≡ b → slice_get (passing test (values ps)) nth ≡ slice_get (cond b (entry ∷ others) others) ahead
+    all_here b tried =
+        at.there
+        ∙ ap (λ qs. slice_get (passing test (values qs)) ahead) pair.is
+        ∙ ap (λ (e : ℕ × Live). slice_get (cond (test e.1) (e ∷ others) others) ahead) this
+        ∙ ap (λ t. slice_get (cond t (entry ∷ others) others) ahead) tried
 
-    fails : test entry.1 ≡ false → earliest test (values ps) ≡ earliest test (values pair.behind)
-    fails away = all_here ∙ ap (λ b. cond b (Some entry.0) (earliest test (values pair.behind))) away
+    -- it passes, and is the one
+    pub passes : test entry.1 ≡ true → ahead ≡ 0 → slice_get (passing test (values ps)) nth ≡ Some entry
+    passes here none = all_here true here ∙ ap (slice_get (entry ∷ others)) none
 
   -- the walk goes on
   module _ (next : Option ℕ) (told : MatchOption next (key_after_in k pss ≡ None) (λ j. key_after_in k pss ≡ Some j)) where
@@ -134,14 +147,22 @@ module _ (test : Live → Bool) (pss : List Entries) (lane : ℕ) (by_key : ByKe
     rest_next : rest_at next ps ≡ pair.behind
     rest_next = ap (λ o. rest_at o ps) next_is ∙ rest_is (λ j. key_after_in j pss) ps leads at.before pair.p pair.behind whole
 
-    pub walked : (entry : ℕ × Live) → find_in k pss ≡ Some entry → test entry.1 ≡ false → IsAt test ps next
-    walked entry is away =
+    onto : (left : ℕ) → slice_get (passing test (values ps)) nth ≡ slice_get (passing test (values pair.behind)) left → IsAt test ps nth next left
+    onto left there =
         record {
           before = at.before ++ pair.p ∷ [];
           split = whole ∙ onward at.before pair.p pair.behind ∙ ap (λ qs. (at.before ++ pair.p ∷ []) ++ qs) (sym rest_next);
           first = ap first_key rest_next ∙ sym next_is;
-          none = fails entry is away ∙ ap (λ qs. earliest test (values qs)) (sym rest_next);
+          there = there ∙ ap (λ qs. slice_get (passing test (values qs)) left) (sym rest_next);
         }
+
+    -- past one that fails
+    pub walked : (entry : ℕ × Live) → find_in k pss ≡ Some entry → (left : ℕ) → test entry.1 ≡ false → left ≡ ahead → IsAt test ps nth next left
+    walked entry is left away same = onto left (all_here entry is false away ∙ ap (slice_get (passing test (values pair.behind))) (sym same))
+
+    -- past one that passes
+    pub counted : (entry : ℕ × Live) → find_in k pss ≡ Some entry → (left : ℕ) → test entry.1 ≡ true → 0 < ahead → left ≡ ahead - 1 → IsAt test ps nth next left
+    counted entry is left here some less = onto left (all_here entry is true here ∙ one_passed entry (passing test (values pair.behind)) ahead left some less)
 
     pub nearer : length (rest_at next ps) < length (rest_at (Some k) ps)
     nearer = let here = ap length rest_next in let there = ap length pair.is in omega (arith, here, there)

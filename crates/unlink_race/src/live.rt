@@ -2,7 +2,7 @@
 
 ghost use Rattle.std.specs.Prelude.{◌≡◌, ◌<◌};
 ghost use Rattle.unlink_race.specs.Inner.Lane.{lane_of};
-ghost use Rattle.unlink_race.specs.Searches.{is_stream, waits_at, is_touched_by, ends_with, is_change};
+ghost use Rattle.unlink_race.specs.Searches.{is_stream, is_touched_by, ends_with, is_change};
 
 use control_route::Route;
 use usb_base::{EpAddr, EpKind};
@@ -37,16 +37,6 @@ impl LiveKind {
         ensures { result ≡ is_stream self.now }
     {
         matches!(self, LiveKind::Stream { .. })
-    }
-
-    /// Whether it waits for packets of this endpoint's stream.
-    pub fn waits_at(&self, ep: EpAddr) -> bool
-        ensures { result ≡ waits_at ep self.now }
-    {
-        match self {
-            LiveKind::Stream { ep: its, .. } => its.byte() == ep.byte(),
-            _ => false,
-        }
     }
 
     /// Whether it waits for packets of a stream that ends once this route is carried out.

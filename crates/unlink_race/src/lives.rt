@@ -201,14 +201,21 @@ impl Lives {
         self.table.take(place)
     }
 
-    /// The earliest request that waits for the stream of an endpoint.
-    pub fn front(&self, ep: EpAddr) -> Option<&Live>
-        ensures { option_copied result ≡ find (waits_for ep) self.now.live }
+    /// The nth, from the earliest on, of the requests that wait for the stream of an endpoint.
+    pub fn waiting(&self, ep: EpAddr, nth: usize) -> Option<&Live>
+        ensures { option_copied result ≡ slice_get (filter (waits_for ep) self.now.live) nth }
     {
         if self.client_gone {
             return None;
         }
-        self.table.get(self.table.place_waiting(ep))
+        self.table.waiting(ep, nth)
+    }
+
+    /// The earliest request that waits for the stream of an endpoint.
+    pub fn front(&self, ep: EpAddr) -> Option<&Live>
+        ensures { option_copied result ≡ find (waits_for ep) self.now.live }
+    {
+        self.waiting(ep, 0)
     }
 
     /// Takes it out.

@@ -1,10 +1,10 @@
 //! Searches of the requests in their lanes, by the numbers that say when they were accepted.
 
-ghost use Rattle.std.specs.Prelude.{◌≡◌, ◌<◌, [], None, length, map, get_or};
+ghost use Rattle.std.specs.Prelude.{◌≡◌, ◌<◌, [], None, length, map, get_or, slice_get, option_copied};
 ghost use Rattle.std.specs.Option.{option_map};
 ghost use Rattle.urb_arena.specs.Lanes.{find_in, ByKey};
 ghost use Rattle.unlink_race.specs.Searches.{ended_by};
-ghost use Rattle.unlink_race.specs.Inner.Earliest.{earliest, lesser, least};
+ghost use Rattle.unlink_race.specs.Inner.Earliest.{passing, earliest, lesser, least};
 
 use crate::live::{Live, StreamEnd};
 use crate::table::LANES;
@@ -17,21 +17,39 @@ pub fn number_of(arena: &Arena<(u64, Live)>, key: Key) -> Option<u64>
     Some(arena.get(key)?.0)
 }
 
-/// The number of the earliest request in a lane that waits for packets of a stream that ends so.
+/// The nth, from the front on, of the requests in a lane that wait for packets of a stream that ends so.
+pub fn nth_in_lane<'a>(
+    arena: &'a Arena<(u64, Live)>,
+    lane: usize,
+    end: &StreamEnd,
+    nth: usize,
+) -> Option<&'a (u64, Live)>
+    requires lane { lane < length arena.now.lanes }
+    requires keys { ByKey arena.now.lanes }
+    ensures { option_copied result ≡ slice_get (passing (ended_by end.now) (map (λ p. p.1) (get_or arena.now.lanes lane []))) nth }
+{
+    let mut ahead = nth;
+    let mut next = arena.front(lane);
+    while let Some(key) = next {
+        let entry = arena.get(key).unwrap();
+        if entry.1.kind.ends_with(end) {
+            if ahead == 0 {
+                return Some(entry);
+            }
+            ahead -= 1;
+        }
+        next = arena.next(key);
+    }
+    None
+}
+
+/// The number of the earliest of them.
 pub fn earliest_in_lane(arena: &Arena<(u64, Live)>, lane: usize, end: &StreamEnd) -> Option<u64>
     requires lane { lane < length arena.now.lanes }
     requires keys { ByKey arena.now.lanes }
     ensures { result ≡ earliest (ended_by end.now) (map (λ p. p.1) (get_or arena.now.lanes lane [])) }
 {
-    let mut next = arena.front(lane);
-    while let Some(key) = next {
-        let (number, live) = arena.get(key).unwrap();
-        if live.kind.ends_with(end) {
-            return Some(*number);
-        }
-        next = arena.next(key);
-    }
-    None
+    Some(nth_in_lane(arena, lane, end, 0)?.0)
 }
 
 fn earlier(one: Option<u64>, other: Option<u64>) -> Option<u64>

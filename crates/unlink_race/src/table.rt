@@ -15,7 +15,7 @@ ghost use Rattle.unlink_race.specs.Searches.{has_number, has_id, waits_for, touc
 use crate::index::Index;
 use crate::live::{Live, LiveKind, StreamEnd};
 use crate::numbered::{mark, renumber};
-use crate::search::{earliest_in_lane, earliest_of_all, number_of};
+use crate::search::{earliest_in_lane, earliest_of_all, nth_in_lane, number_of};
 use control_route::Route;
 use std::alloc::Global;
 use std::marker::Model;
@@ -272,6 +272,15 @@ impl Table {
         let end = StreamEnd::Told(ep.byte());
         let number = earliest_in_lane(&self.arena, ep.index(), &end)?;
         place_numbered(&self.arena, &self.rows, number)
+    }
+
+    /// The nth, from the earliest on, of the requests that wait for packets of this endpoint's stream.
+    pub fn waiting(&self, ep: EpAddr, nth: usize) -> Option<&Live>
+        ensures { option_copied result ≡ slice_get (filter (waits_for ep) self.now) nth }
+    {
+        let end = StreamEnd::Told(ep.byte());
+        let entry = nth_in_lane(&self.arena, ep.index(), &end, nth)?;
+        Some(&entry.1)
     }
 
     /// Where the first request stands that waits for packets of an interface that the route touches.

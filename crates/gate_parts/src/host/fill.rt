@@ -61,20 +61,20 @@ pub fn write_fillings(
         packets: 0,
     };
     let held = up.len();
-    for place in 0..lives.len() {
+    for nth in 0..lives.len() {
         if filled.packets == held {
             return Ok(filled);
         }
-        let live = lives.at(place).unwrap();
-        if live.kind.waits_at(ep) {
-            let Some(taken) = write_filling(alloc, live, up, filled.packets, to_client)? else {
-                return Ok(filled);
-            };
-            notes.push(Note::Answered {
-                seqnum: live.seqnum,
-            })?;
-            filled = filled.and(taken);
-        }
+        let Some(live) = lives.waiting(ep, nth) else {
+            return Ok(filled);
+        };
+        let Some(taken) = write_filling(alloc, live, up, filled.packets, to_client)? else {
+            return Ok(filled);
+        };
+        notes.push(Note::Answered {
+            seqnum: live.seqnum,
+        })?;
+        filled = filled.and(taken);
     }
     Ok(filled)
 }

@@ -1,6 +1,10 @@
--- The earliest of the requests that pass a test, by its number.
-use Rattle.std.specs.Prelude.{ℕ, Bool, List, [], ◌∷◌, Option, Some, None, map, min, if◌then◌else◌}
+-- The requests that pass a test, and the earliest of them by its number.
+use Rattle.std.specs.Prelude.{ℕ, Bool, List, [], ◌∷◌, Option, Some, None, map, filter, min, if◌then◌else◌}
 use Rattle.unlink_race.specs.declared.live.Live.{Live}
+
+-- those that pass, in their order
+abbrev pub passing : (Live → Bool) → List (ℕ × Live) → List (ℕ × Live)
+passing test entries = filter (λ (entry : ℕ × Live). test entry.1) entries
 
 -- the number of the first that passes
 abbrev pub earliest : (Live → Bool) → List (ℕ × Live) → Option ℕ

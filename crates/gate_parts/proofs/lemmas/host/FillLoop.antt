@@ -1,16 +1,17 @@
 -- The loop that answers the requests which a stream's packets fill: what is so far, and one row more.
-use Rattle.std.proofs.Common.{◌≡◌, ◌≤◌, ◌+◌, ℕ, zero, suc, Bool, true, false, cond, List, [], ◌∷◌, ◌++◌, length, map, drop, Option, Some, None, refl, sym, ap, ◌∙◌, subst, append_assoc, arith}
+use Rattle.std.proofs.Common.{◌≡◌, ◌≤◌, ◌+◌, ℕ, zero, suc, Bool, true, cond, List, [], ◌∷◌, ◌++◌, length, map, drop, Option, Some, None, refl, sym, ap, ◌∙◌, subst, append_assoc, arith, inl, inr}
 use Rattle.std.specs.Prelude.{slice_get}
 use Rattle.std.specs.Option.{option_map}
 use Rattle.std.proofs.lemmas.List.{append-nil, drop-drop, length-drop}
-use Rattle.std.proofs.lemmas.Option.{none-some, same_Some}
+use Rattle.std.proofs.lemmas.List.Sums.{length-filter, count_by-le-length}
+use Rattle.std.proofs.lemmas.Option.{none-some, same_Some, slice_get_past}
 use Rattle.usb_base.specs.declared.transfer.StreamPacket.{StreamPacket}
 use Rattle.usbip_urb.specs.Spelling.{spelling}
 use Rattle.usbip_urb.specs.declared.packet.IsoDesc.{IsoDesc}
 use Rattle.stream_buffers.specs.Cuts.{Cut}
 use Rattle.stream_buffers.specs.Interrupt.{interrupt_cut}
 use Rattle.stream_buffers.specs.Iso.{iso_outcome, iso_cut}
-use Rattle.std.proofs.lemmas.Bool.{lt-ltb, false≢true}
+use Rattle.std.proofs.lemmas.Bool.{lt-ltb, cases_Bool, false≢true}
 use Rattle.std.specs.List.{AllByRecursion}
 use Rattle.std.proofs.Math.Seq.{drop-length}
 use Rattle.unlink_race.specs.declared.live.Live.{Live}
@@ -28,38 +29,51 @@ use Rattle.gate_parts.specs.state.Rows.{row_request}
 use Rattle.gate_parts.specs.host.Fill.{row_cut, cut_bytes, HasTaken, rows_fill, bytes_by, filled_bytes, filled_notes, waiting_rows}
 use Rattle.gate_parts.specs.write.Extends.{Extends}
 
--- ---- the rows that are left at a place
+-- ---- the rows that are left behind the first so many
 
-drop-next : {X : Type 0} (xs : List X) (n : ℕ) (x : X) → slice_get xs n ≡ Some x → drop n xs ≡ x ∷ drop (suc n) xs
-drop-next [] n x e = absurd (none-some x e)
-drop-next {X = X} (y ∷ ys) zero x e = ap (λ (z : X). z ∷ ys) (same_Some y x e)
-drop-next (y ∷ ys) (suc n) x e = drop-next ys n x e
+-- the next is the first of them
+pub left-next : {X : Type 0} (xs : List X) (n : ℕ) (x : X) → slice_get xs n ≡ Some x → drop n xs ≡ x ∷ drop (n + 1) xs
+left-next {X = X} xs n x e = drop-next xs n x e ∙ ap (λ (k : ℕ). x ∷ drop k xs) (plus-one n)
+  where
+    drop-next : (xs : List X) (n : ℕ) (x : X) → slice_get xs n ≡ Some x → drop n xs ≡ x ∷ drop (suc n) xs
+    drop-next [] n x e = absurd (none-some x e)
+    drop-next (y ∷ ys) zero x e = ap (λ (z : X). z ∷ ys) (same_Some y x e)
+    drop-next (y ∷ ys) (suc n) x e = drop-next ys n x e
 
-plus-one : (n : ℕ) → suc n ≡ n + 1
-plus-one n = omega arith
+    plus-one : (n : ℕ) → suc n ≡ n + 1
+    plus-one n = omega arith
 
-left-as : (ep : ℕ) (ls : List Live) (n : ℕ) (l : Live) → slice_get ls n ≡ Some l → waiting_rows ep (drop n ls) ≡ cond (waits_for ep l) (l ∷ waiting_rows ep (drop (n + 1) ls)) (waiting_rows ep (drop (n + 1) ls))
-left-as ep ls n l e = ap (waiting_rows ep) (drop-next ls n l e ∙ ap (λ (k : ℕ). l ∷ drop k ls) (plus-one n))
+-- where there is no next, none is left
+pub left-none : {X : Type 0} (xs : List X) (n : ℕ) → slice_get xs n ≡ None → drop n xs ≡ []
+left-none [] zero e = refl
+left-none [] (suc n) e = refl
+left-none (y ∷ ys) zero e = absurd (none-some y (sym e))
+left-none (y ∷ ys) (suc n) e = left-none ys n e
 
--- one that waits is the first of them
-pub left-next : (ep : ℕ) (ls : List Live) (n : ℕ) (l : Live) → slice_get ls n ≡ Some l → waits_for ep l ≡ true → waiting_rows ep (drop n ls) ≡ l ∷ waiting_rows ep (drop (n + 1) ls)
-left-next ep ls n l e w = left-as ep ls n l e ∙ ap (λ (b : Bool). cond b (l ∷ waiting_rows ep (drop (n + 1) ls)) (waiting_rows ep (drop (n + 1) ls))) w
-
-pub left-skip : (ep : ℕ) (ls : List Live) (n : ℕ) (l : Live) → slice_get ls n ≡ Some l → waits_for ep l ≡ false → waiting_rows ep (drop n ls) ≡ waiting_rows ep (drop (n + 1) ls)
-left-skip ep ls n l e w = left-as ep ls n l e ∙ ap (λ (b : Bool). cond b (l ∷ waiting_rows ep (drop (n + 1) ls)) (waiting_rows ep (drop (n + 1) ls))) w
+-- no more wait than there are
+pub left-all : (ep : ℕ) (ls : List Live) (n : ℕ) → length ls ≤ n → drop n (waiting_rows ep ls) ≡ []
+left-all ep ls n past = left-none (waiting_rows ep ls) n (slice_get_past (waiting_rows ep ls) n (omega (arith, length-filter (waits_for ep) ls, count_by-le-length (waits_for ep) ls, past)))
 
 -- ---- one row
 
-pub each-at : {X : Type 0} (P : X → Type 0) (xs : List X) (n : ℕ) (x : X) → AllByRecursion P xs → slice_get xs n ≡ Some x → P x
-each-at P [] n x h e = absurd (none-some x e)
-each-at P (y ∷ ys) zero x h e = subst P (same_Some y x e) h.0
-each-at P (y ∷ ys) (suc n) x h e = each-at P ys n x h.1 e
-
 -- a row that waits is one of a stream's
-pub waits-stream : (ep : ℕ) (kind : LiveKind) → waits_at ep kind ≡ true → is_stream kind ≡ true
+waits-stream : (ep : ℕ) (kind : LiveKind) → waits_at ep kind ≡ true → is_stream kind ≡ true
 waits-stream ep (live_kind.Wire at kind) h = absurd (false≢true h)
 waits-stream ep (live_kind.Routed route) h = absurd (false≢true h)
 waits-stream ep (live_kind.Stream at interface) h = refl
+
+-- one that waits is one of all, and one of a stream's
+pub waiting-at : (P : Live → Type 0) (ep : ℕ) (ls : List Live) (n : ℕ) (l : Live) → AllByRecursion P ls → slice_get (waiting_rows ep ls) n ≡ Some l → P l × (is_stream l.kind ≡ true)
+waiting-at P ep [] n l h e = absurd (none-some l e)
+waiting-at P ep (x ∷ ls) n l h e =
+    elim (cases_Bool (waits_for ep x)) [
+      | inl waits ↦ by-place (λ m later. waiting-at P ep ls m l h.1 later) waits n (rw waits at e)
+      | inr other ↦ waiting-at P ep ls n l h.1 (rw other at e)
+    ]
+  where
+    by-place : ((m : ℕ) → slice_get (waiting_rows ep ls) m ≡ Some l → P l × (is_stream l.kind ≡ true)) → waits_for ep x ≡ true → (m : ℕ) → slice_get (x ∷ waiting_rows ep ls) m ≡ Some l → P l × (is_stream l.kind ≡ true)
+    by-place later waits zero e = (subst P (same_Some x l e) h.0, subst (λ (y : Live). is_stream y.kind ≡ true) (same_Some x l e) (waits-stream ep x.kind waits))
+    by-place later waits (suc m) e = later m e
 
 -- ---- what is so far
 
@@ -208,12 +222,6 @@ taken {max_packet = max_packet} {held = held} {all = all} {sent_all = sent_all} 
     (ap (λ (ls : List Live). client ++ filled_bytes max_packet ls packets) (sym e) ∙ s.sent)
     (ap (λ (ls : List Live). notes ++ filled_notes (rows_fill max_packet ls packets)) (sym e) ∙ s.told)
     (omega (arith, h.0, long, s.few))
-
--- one that doesn't wait changes nothing
-pub skipped : {max_packet : ℕ} {held : List StreamPacket} {all : Fill} {sent_all : List ℕ} {told_all : List Note} {rows rest : List Live} {f : Filled} {client : List ℕ} {notes : List Note}
-    → SoFar max_packet held all sent_all told_all rows f client notes → rows ≡ rest → SoFar max_packet held all sent_all told_all rest f client notes
-skipped {max_packet = max_packet} {held = held} {all = all} {sent_all = sent_all} {told_all = told_all} {f = f} {client = client} {notes = notes} s e =
-    subst (λ (ls : List Live). SoFar max_packet held all sent_all told_all ls f client notes) e s
 
 pub moved : {max_packet : ℕ} {held : List StreamPacket} {all : Fill} {sent_all : List ℕ} {told_all : List Note} {rows : List Live} {f f_new : Filled} {client client_new : List ℕ} {notes notes_new : List Note}
     → SoFar max_packet held all sent_all told_all rows f client notes → f_new ≡ f → client_new ≡ client → notes_new ≡ notes → SoFar max_packet held all sent_all told_all rows f_new client_new notes_new
