@@ -1,6 +1,6 @@
 -- A stream follows the splitting of its bytes: what its first moment, a piece and an answer of `next` make of that.
-use Rattle.std.proofs.Common.{◌≡◌, ℕ, zero, suc, ◌<◌, ◌≤◌, ◌+◌, ◌-◌, Bool, true, false, List, [], ◌∷◌, ◌++◌, length, take, drop, Some, None, refl, sym, ap, subst, ◌∙◌, append_assoc, arith}
-use Rattle.std.proofs.lemmas.List.{append-nil, take_rest, length-drop}
+use Rattle.std.proofs.Common.{◌≡◌, ℕ, zero, suc, ◌<◌, ◌≤◌, ◌+◌, Bool, true, false, List, [], ◌∷◌, ◌++◌, length, drop, Some, None, refl, sym, ap, subst, ◌∙◌, append_assoc, arith}
+use Rattle.std.proofs.lemmas.List.{append-nil, length-drop}
 use Rattle.usb_base.specs.Number.{AreBytes}
 use Rattle.packet_stream.specs.Format.{Found, Whole, Short, Wrong}
 use Rattle.packet_stream.specs.Split.{Reader, Position, past, Splitting, split, with_packets, further, further_by, go_on}
@@ -63,13 +63,9 @@ after-over {S = S} kept old piece view e = sym view ∙ sym (ap (after_piece_by 
 
 -- ---- what `next` answers
 
--- what was read of a slice is read of the list behind the taken bytes
-pub read_behind : {X : Type 0} (read : List ℕ → X) (slice bytes : List ℕ) (taken : ℕ) (x : X) → slice ≡ bytes → read (take (length slice - taken) (drop taken slice)) ≡ x → read (drop taken bytes) ≡ x
-read_behind read slice bytes taken x e h = ap (λ (l : List ℕ). read (drop taken l)) (sym e) ∙ ap read (sym (take_rest slice taken)) ∙ h
-
 -- behind a packet there is less
-pub shorter : (index n : ℕ) (bytes : List ℕ) → 0 < n → n ≤ length (drop index bytes) → length (drop (index + n) bytes) < length (drop index bytes)
-shorter index n bytes some there = omega (arith, length-drop index bytes, length-drop (index + n) bytes, some, there)
+pub shorter : (n : ℕ) (bytes : List ℕ) → 0 < n → n ≤ length bytes → length (drop n bytes) < length bytes
+shorter n bytes some there = omega (arith, length-drop n bytes, some, there)
 
 going : {S P R : Type 0} (r : Reader S P R) (kept : Kept S) (x : Splitting S P R) (given : List (ℕ × P)) (over : Bool) → over ≡ false → FollowsBy r kept x given over → Left r kept x given
 going r kept x given false e f = f
@@ -81,17 +77,17 @@ found_at {S = S} r kept at found e h = ap (λ (s : S). r.read s kept.rest) (sym 
 pub capped-past : (place a n new : ℕ) → place ≡ capped a → new ≡ capped (place + n) → new ≡ capped (a + n)
 capped-past place a n new e f = omega (arith, e, f)
 
-pub follows-whole : {S P R : Type 0} (r : Reader S P R) → IsSteady r → (start : Position S) (kept old new : Kept S) (bytes : List ℕ) (given : List (ℕ × P)) (p : P) (n : ℕ) → kept ≡ old →
+pub follows-whole : {S P R : Type 0} (r : Reader S P R) → IsSteady r → (start : Position S) (kept old new : Kept S) (bytes : List ℕ) (given : List (ℕ × P)) (p : P) (n told : ℕ) → kept ≡ old →
     kept.over ≡ false → r.read kept.state kept.rest ≡ Whole p n → new ≡ record { state = r.next kept.state p; rest = drop n kept.rest; place = capped (kept.place + n); held = kept.rest; at = kept.place; over = false } →
-    Follows r start old bytes given → Gives r start new bytes given kept.place p
-follows-whole {S = S} {P = P} {R = R} r steady start kept old new bytes given p n view runs h e g =
+    told ≡ kept.place → Follows r start old bytes given → Gives r start new bytes given told p
+follows-whole {S = S} {P = P} {R = R} r steady start kept old new bytes given p n told view runs h e is g =
     let f : Follows r start kept bytes given = subst (λ (k : Kept S). Follows r start k bytes given) (sym view) g in
     let left = going r kept (split r start bytes) given kept.over runs f.follows in
     let item : List (ℕ × P) = (left.at.place, p) ∷ [] in
     let z = past r.next left.at p n in
-    subst (λ (k : Kept S). Gives r start k bytes given kept.place p) (sym e) (record {
+    subst (λ (k : Kept S). Gives r start k bytes given told p) (sym e) (record {
       at = left.at.place;
-      place-is = left.place;
+      place-is = is ∙ left.place;
       follows = record {
         fits = f.fits;
         follows = record {

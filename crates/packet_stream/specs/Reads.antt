@@ -1,5 +1,5 @@
 -- What the answer of a reader tells.
-use Rattle.std.specs.Prelude.{◌≡◌, ℕ, Bool, true, List, ◌++◌, codes, Result, Ok, Err, Option, Some, None}
+use Rattle.std.specs.Prelude.{◌≡◌, ℕ, Bool, true, List, ◌++◌, drop, codes, Result, Ok, Err, Option, Some, None}
 use Rattle.std.specs.Fmt.{decimal}
 use Rattle.usb_base.specs.Reason.{name_of}
 use Rattle.usb_base.specs.declared.reason.Reason.{Reason}
@@ -35,6 +35,12 @@ Answers takes (Ok (read.Whole p n)) found = found ≡ Whole p n
 Answers takes (Ok read.Short) found = found ≡ Short
 Answers takes (Err (error.Refused place reason)) found = found ≡ Wrong place reason
 Answers takes (Err error.Memory) found = WantsMemory takes found
+
+-- a packet that was read is no more among the bytes, and else they stay
+abbrev pub bytes_left : {P : Type 0} → Result (Read P) ReadError → List ℕ → List ℕ
+bytes_left (Ok (read.Whole p n)) bytes = drop n bytes
+bytes_left (Ok read.Short) bytes = bytes
+bytes_left (Err error) bytes = bytes
 
 -- how an error is printed
 abbrev pub error_text : ReadError → List ℕ

@@ -4,10 +4,11 @@ ghost use Rattle.std.specs.Prelude.{◌≡◌, Bool};
 ghost use Rattle.usb_base.specs.declared.reason.Reason.{Reason as Why};
 ghost use Rattle.packet_stream.specs.Format.{Format, Short, IsSound, reading};
 ghost use Rattle.packet_stream.specs.Awaited.{IsAwaited, StaysShort};
-ghost use Rattle.packet_stream.specs.Reads.{Answers};
+ghost use Rattle.packet_stream.specs.Reads.{Answers, bytes_left};
 
 use crate::read::{Read, ReadError};
 use std::alloc::Global;
+use usb_base::Bytes;
 
 /// How the packets of a stream are read, where those that came decide how the next one is.
 pub trait PacketFormat {
@@ -22,13 +23,15 @@ pub trait PacketFormat {
 
     ghost takes_memory: { Self.Packet → Bool };
 
-    /// Reads the packet at the front of the bytes. Memory is wanting only for a whole packet that takes some.
-    fn read(
+    /// Takes the packet at the front of the bytes off them, where one is whole. Memory is wanting only for one that takes
+    /// some; then, and where none is whole, the bytes stay.
+    fn take(
         alloc: Global,
         state: &Self::State,
-        bytes: &[u8],
+        bytes: &mut Bytes,
     ) -> Result<Read<Self::Packet>, ReadError>
-        ensures { Answers takes_memory result (reading (format state.now) bytes.now) };
+        ensures exact { Answers takes_memory result (reading (format state.now) bytes.old) }
+        ensures left { bytes.new ≡ bytes_left result bytes.old };
 
     /// How many bytes are awaited where less than a packet is there: the least number at which anything of it is
     /// decided. It takes no memory.

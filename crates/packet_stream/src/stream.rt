@@ -1,6 +1,6 @@
 //! One side's stream, of which whole packets are taken as its bytes come in pieces.
 
-ghost use Rattle.std.specs.Prelude.{◌≡◌, ◌≤◌, ◌<◌, ◌^◌, [], length, drop, true, false, OnOk, OnErr};
+ghost use Rattle.std.specs.Prelude.{◌≡◌, ◌<◌, ◌^◌, [], length, true, false, OnOk, OnErr};
 ghost use Rattle.packet_stream.specs.Split.{reads};
 ghost use Rattle.packet_stream.specs.Awaited.{StaysShort};
 ghost use Rattle.packet_stream.specs.Streams.{Kept, passed, ended, after_piece, Follows, Puts, Nexts, Changes};
@@ -9,15 +9,17 @@ use crate::format::PacketFormat;
 use crate::read::{Read, ReadError};
 use std::alloc::Global;
 use std::marker::Model;
+use std::snapshot::Snapshot;
 use usb_base::{Bytes, Memory};
 
-/// Where a packet begins.
-#[derive(Clone, Copy)]
-struct Mark {
-    /// Among the bytes that are kept.
-    index: usize,
-    /// In the side's stream: it counts from the first byte, and stands still at `u64::MAX`.
+/// The packet that was given last, with all that has come behind it.
+#[derive(Drop)]
+struct Given {
+    /// Where it begins in the side's stream: it counts from the first byte, and stands still at `u64::MAX`.
     place: u64,
+    len: usize,
+    /// They are not kept: only contracts speak of them.
+    bytes: Snapshot<Bytes>,
 }
 
 /// One side's stream: the bytes that have come of it and belong to no packet that was taken, where in the
@@ -25,13 +27,13 @@ struct Mark {
 #[derive(Drop)]
 pub struct Stream<F: PacketFormat> {
     state: F::State,
+    /// From the next packet on.
     bytes: Bytes,
-    /// The packet that was given last. It is held until the next call, so that one who can't take it has
-    /// changed nothing.
-    given: Mark,
-    /// The next packet.
-    next: Mark,
-    /// How many bytes are awaited from there on: with fewer it isn't read.
+    /// Where the next packet begins in the side's stream, counted in the same way.
+    place: u64,
+    /// It counts as held until the next call.
+    given: Given,
+    /// How many bytes are awaited from the next packet on: with fewer it isn't read.
     awaited: usize,
     /// Nothing more is read of it.
     over: bool,
@@ -42,14 +44,14 @@ impl<F: PacketFormat> Model for Stream<F> {
 
     ghost view = { λ s. record {
       state = s.state;
-      rest = drop s.next.index s.bytes;
-      place = s.next.place;
-      held = drop s.given.index s.bytes;
+      rest = s.bytes;
+      place = s.place;
+      held = s.given.bytes.value;
       at = s.given.place;
       over = s.over;
     } };
 
-    ghost invariant = { λ s. (s.given.index ≤ s.next.index) × (s.next.index ≤ length s.bytes) × StaysShort (F.format s.state) (drop s.next.index s.bytes) s.awaited };
+    ghost invariant = { λ s. (s.given.len ≡ length s.given.bytes.value) × (s.given.len < 2 ^ 63) × StaysShort (F.format s.state) s.bytes s.awaited };
 }
 
 impl<F: PacketFormat> Stream<F> {
@@ -58,12 +60,13 @@ impl<F: PacketFormat> Stream<F> {
         ensures kept { result ≡ record { state = state; rest = []; place = 0; held = []; at = 0; over = false } }
         ensures follows { Follows (reads F.format F.after) (record { state = state; place = 0 }) result [] [] }
     {
-        let start = Mark { index: 0, place: 0 };
+        let bytes = Bytes::new(alloc);
+        let given = given_from(0, &bytes);
         Stream {
             state,
-            bytes: Bytes::new(alloc),
-            given: start,
-            next: start,
+            bytes,
+            place: 0,
+            given,
             awaited: 0,
             over: false,
         }
@@ -81,7 +84,7 @@ impl<F: PacketFormat> Stream<F> {
         ensures held { result ≡ length self.now.held }
         ensures small { result < 2 ^ 63 }
     {
-        self.bytes.as_slice().len() - self.given.index
+        self.given.len
     }
 
     /// How the next packet is read.
@@ -91,8 +94,8 @@ impl<F: PacketFormat> Stream<F> {
         &self.state
     }
 
-    /// Puts a piece behind the bytes that are kept, which are at the front or moved there. A stream that is over stays
-    /// as it is. For want of memory the piece hasn't come.
+    /// Puts a piece behind the bytes that are kept. A stream that is over stays as it is. For want of memory the piece
+    /// hasn't come.
     pub fn put(&mut self, piece: &[u8]) -> Result<(), Memory>
         ensures ok { OnOk result (self.new ≡ after_piece self.old piece.now) }
         ensures follows { OnOk result (Puts (reads F.format F.after) piece.now self.old self.new) }
@@ -102,10 +105,9 @@ impl<F: PacketFormat> Stream<F> {
         if self.over {
             return Ok(());
         }
-        drop_front(&mut self.bytes, self.next.index);
-        self.next.index = 0;
-        self.given = self.next;
-        self.bytes.append(piece)
+        let put = self.bytes.receive(piece, self.awaited);
+        self.given = given_from(self.place, &self.bytes);
+        put
     }
 
     /// Takes the next packet with its place, `None` where it isn't whole yet or the stream is over. What is short is
@@ -116,28 +118,26 @@ impl<F: PacketFormat> Stream<F> {
         ensures over { self.old.over ≡ true → result ≡ Ok None }
         ensures follows { Nexts (reads F.format F.after) F.takes_memory result self.old self.new }
     {
-        self.given = self.next;
+        self.given = given_from(self.place, &self.bytes);
         if self.over {
             return Ok(None);
         }
-        let rest = &self.bytes.as_slice()[self.next.index..];
-        if rest.len() < self.awaited {
+        if self.bytes.len() < self.awaited {
             return Ok(None);
         }
-        match F::read(alloc, &self.state, rest) {
+        match F::take(alloc, &self.state, &mut self.bytes) {
             Ok(Read::Whole(packet, len)) => {
                 F::next(&mut self.state, &packet);
-                self.next.index += len;
-                self.next.place = self.next.place.saturating_add(len as u64);
+                self.place = self.place.saturating_add(len as u64);
                 self.awaited = 0;
                 Ok(Some((self.given.place, packet)))
             }
             Ok(Read::Short) => {
-                self.awaited = F::awaited(&self.state, rest);
+                self.awaited = F::awaited(&self.state, self.bytes.as_slice());
                 Ok(None)
             }
             Err(ReadError::Refused { place, reason }) => {
-                let place = self.given.place.saturating_add(place);
+                let place = self.place.saturating_add(place);
                 self.end();
                 Err(ReadError::Refused { place, reason })
             }
@@ -160,20 +160,22 @@ impl<F: PacketFormat> Stream<F> {
         ensures { self.new ≡ ended self.old }
     {
         self.bytes.clear();
-        self.given.index = 0;
-        self.next.index = 0;
+        self.given = given_from(self.given.place, &self.bytes);
         self.awaited = 0;
         self.over = true;
     }
 }
 
-/// Drops the first `count` bytes. Where there are none, those behind them stay where they are: a long packet that comes
-/// in many pieces is not moved with each.
-fn drop_front(bytes: &mut Bytes, count: usize)
-    requires { count ≤ length bytes.old }
-    ensures { bytes.new ≡ drop count bytes.old }
+/// The packet that begins there, with all these bytes.
+fn given_from(place: u64, bytes: &Bytes) -> Given
+    ensures place { result.place ≡ place }
+    ensures len { result.len ≡ length bytes.now }
+    ensures small { result.len < 2 ^ 63 }
+    ensures bytes { result.bytes.value ≡ bytes.now }
 {
-    if count > 0 {
-        bytes.skip(count);
+    Given {
+        place,
+        len: bytes.as_slice().len(),
+        bytes: Snapshot::of(bytes),
     }
 }

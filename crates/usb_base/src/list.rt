@@ -5,6 +5,7 @@ ghost use Rattle.std.specs.Prelude.{◌≡◌, ◌++◌, ◌∷◌, [], ◌≤�
 use crate::memory::Memory;
 use std::alloc::Global;
 use std::marker::Model;
+use std::mem;
 
 /// A list on the heap. It keeps the allocator that it was made with.
 #[derive(Drop)]
@@ -91,7 +92,7 @@ impl<T: Drop> List<T> {
 /// How many bytes a list has at least that is moved and not copied where it is put behind another.
 const LONG: usize = 32_768;
 
-/// The room before the bytes of a long list that is made as a copy: for the head of any packet that carries them.
+/// The room before the bytes of a long list: for the head of any packet that carries them.
 const ROOM: usize = 64;
 
 impl List<u8> {
@@ -147,5 +148,74 @@ impl List<u8> {
     {
         self.items.copy_within(self.front + count.., self.front);
         self.items.truncate(self.items.len() - count);
+    }
+
+    /// Drops the first `count` bytes and moves none: their room is used again at the next `receive`.
+    pub fn advance(&mut self, count: usize)
+        requires { count ≤ length self.old }
+        ensures { self.new ≡ drop count self.old }
+    {
+        self.front += count;
+    }
+
+    /// Puts a piece of a stream at the end, where `awaited` bytes are to stand in all before any is taken: there is room
+    /// for them at once, and behind it none is moved again. Bytes are moved only where others before them were dropped. It
+    /// takes no memory for an empty piece.
+    pub fn receive(&mut self, piece: &[u8], awaited: usize) -> Result<(), Memory>
+        ensures ok { OnOk result (self.new ≡ self.old ++ piece.now) }
+        ensures err { OnErr result (self.new ≡ self.old) }
+        ensures wants { OnErr result (0 < length piece.now) }
+    {
+        if piece.is_empty() {
+            return Ok(());
+        }
+        self.settle()?;
+        let missing = awaited.saturating_sub(self.len());
+        self.items.reserve(missing)?;
+        self.append(piece)
+    }
+
+    /// Moves the bytes up to the room that a long list has before them.
+    fn settle(&mut self) -> Result<(), Memory>
+        ensures { self.new ≡ self.old }
+    {
+        if self.items.is_empty() {
+            self.items.extend_from_slice(&[0; ROOM])?;
+            self.front = ROOM;
+        } else if self.front > ROOM {
+            let dropped = self.front - ROOM;
+            self.front = ROOM;
+            self.skip(dropped);
+        }
+        Ok(())
+    }
+
+    /// Takes the `len` bytes from the byte `from` on, and drops the first `size`. Where the list is little more than those,
+    /// and long, its memory becomes theirs, and what stands behind is copied to memory of its own; else they are copied.
+    pub fn take_part(
+        &mut self,
+        alloc: Global,
+        from: usize,
+        len: usize,
+        size: usize,
+    ) -> Result<Bytes, Memory>
+        requires within { from + len ≤ size }
+        requires there { size ≤ length self.old }
+        ensures part { IfOk result (λ part. part ≡ take len (drop from self.old)) }
+        ensures rest { OnOk result (self.new ≡ drop size self.old) }
+        ensures err { OnErr result (self.new ≡ self.old) }
+        ensures wants { OnErr result (0 < len) }
+    {
+        if len < LONG || len < self.items.len() / 2 {
+            let part = Bytes::copied(alloc, &self.as_slice()[from..from + len])?;
+            self.advance(size);
+            return Ok(part);
+        }
+        let mut rest = List::new(alloc);
+        rest.receive(&self.as_slice()[size..], 0)?;
+        let mut part = mem::replace(self, rest);
+        part.advance(from);
+        part.cut(len);
+        Ok(part)
     }
 }
