@@ -4,3 +4,4 @@ pub mod Buffers
 pub mod ClientPackets
 pub mod Awaits
 pub mod ClientAwaits
+pub mod Taken

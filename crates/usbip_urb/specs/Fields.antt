@@ -28,8 +28,9 @@ body_at has_body b = part HEAD_SIZE (body_size has_body (be_at w32 24 b)) b
 abbrev pub descs_behind : Bool → List ℕ → List IsoDesc
 descs_behind has_body b = descs_at (count_of (be_at w32 32 b)) (part (descs_place has_body b) (descs_size b) b)
 
-abbrev pub submit_at : List ℕ → Submit
-submit_at b = record {
+-- the fields, with this body and these descriptors
+abbrev pub submit_with : List ℕ → List ℕ → List IsoDesc → Submit
+submit_with b body descs = record {
   head = head_at b;
   flags = be_at w32 20 b;
   length = be_at w32 24 b;
@@ -37,9 +38,12 @@ submit_at b = record {
   packets = be_at w32 32 b;
   interval = be_at w32 36 b;
   setup = part 40 8 b;
-  body = body_at (is_out (be_at w32 12 b)) b;
-  descs = descs_behind (is_out (be_at w32 12 b)) b;
+  body = body;
+  descs = descs;
 }
+
+abbrev pub submit_at : List ℕ → Submit
+submit_at b = submit_with b (body_at (is_out (be_at w32 12 b)) b) (descs_behind (is_out (be_at w32 12 b)) b)
 
 abbrev pub ret_submit_at : Bool → List ℕ → RetSubmit
 ret_submit_at is_in b = record {

@@ -2,17 +2,17 @@
 
 ghost use Rattle.std.specs.Prelude.{◌≡◌, ◌++◌, ℕ, List, true, false, length};
 ghost use Rattle.packet_stream.specs.Format.{IsSound, Stands, reading, Whole as FoundWhole};
-ghost use Rattle.packet_stream.specs.Reads.{Answers, IfTold};
+ghost use Rattle.packet_stream.specs.Reads.{Answers, IfTold, bytes_left};
 ghost use Rattle.usbip_urb.specs.declared.client.ClientPacket.{ClientPacket as Packet};
 ghost use Rattle.usbip_urb.specs.ClientPackets.{is_op, client_packets, client_spelling, IsClientPacket, takes_memory};
 ghost use Rattle.usbip_urb.specs.Sound.ClientPackets.{client_packets_sound};
 
 use crate::next::next_client;
 use crate::packet::UrbPacket;
-use crate::request::read_urb;
-use packet_stream::{PacketFormat, Read, ReadError};
+use crate::request::take_urb;
+use packet_stream::{PacketBytes, PacketFormat, Read, ReadError};
 use std::alloc::Global;
-use usb_base::be_u16_at;
+use usb_base::{Bytes, be_u16_at};
 use usbip_op::{OpPacket, USBIP_VERSION, read_request};
 
 /// What a client sends.
@@ -41,36 +41,51 @@ pub fn read_client(alloc: Global, bytes: &[u8]) -> Result<Read<ClientPacket>, Re
     ensures stands { IfTold result (Stands client_packets bytes.now) }
     ensures exact { Answers takes_memory result (reading client_packets bytes.now) }
 {
-    packet_at_front(alloc, bytes)
+    let mut bytes = bytes;
+    take_packet(alloc, &mut bytes)
 }
 
-fn packet_at_front(alloc: Global, bytes: &[u8]) -> Result<Read<ClientPacket>, ReadError>
-    ensures { Answers takes_memory result (reading client_packets bytes.now) }
+/// Takes the packet at the front of the bytes off them.
+fn take_packet<B: PacketBytes>(
+    alloc: Global,
+    bytes: &mut B,
+) -> Result<Read<ClientPacket>, ReadError>
+    ensures exact { Answers takes_memory result (reading client_packets (B.contents bytes.old)) }
+    ensures left { B.contents bytes.new ≡ bytes_left result (B.contents bytes.old) }
 {
-    if bytes.len() < 2 {
+    let front = bytes.as_slice();
+    if front.len() < 2 {
         return Ok(Read::Short);
     }
-    if be_u16_at(bytes, 0) == USBIP_VERSION {
-        return op_at_front(bytes);
+    if be_u16_at(front, 0) == USBIP_VERSION {
+        return take_op_packet(bytes);
     }
-    urb_at_front(alloc, bytes)
+    take_urb_packet(alloc, bytes)
 }
 
-fn op_at_front(bytes: &[u8]) -> Result<Read<ClientPacket>, ReadError>
-    requires { is_op bytes.now ≡ true }
-    ensures { Answers takes_memory result (reading client_packets bytes.now) }
+fn take_op_packet<B: PacketBytes>(bytes: &mut B) -> Result<Read<ClientPacket>, ReadError>
+    requires { is_op (B.contents bytes.old) ≡ true }
+    ensures exact { Answers takes_memory result (reading client_packets (B.contents bytes.old)) }
+    ensures left { B.contents bytes.new ≡ bytes_left result (B.contents bytes.old) }
 {
-    match read_request(bytes)? {
-        Read::Whole(packet, size) => Ok(Read::Whole(ClientPacket::Op(packet), size)),
+    match read_request(bytes.as_slice())? {
+        Read::Whole(packet, size) => {
+            bytes.advance(size);
+            Ok(Read::Whole(ClientPacket::Op(packet), size))
+        }
         Read::Short => Ok(Read::Short),
     }
 }
 
-fn urb_at_front(alloc: Global, bytes: &[u8]) -> Result<Read<ClientPacket>, ReadError>
-    requires { is_op bytes.now ≡ false }
-    ensures { Answers takes_memory result (reading client_packets bytes.now) }
+fn take_urb_packet<B: PacketBytes>(
+    alloc: Global,
+    bytes: &mut B,
+) -> Result<Read<ClientPacket>, ReadError>
+    requires { is_op (B.contents bytes.old) ≡ false }
+    ensures exact { Answers takes_memory result (reading client_packets (B.contents bytes.old)) }
+    ensures left { B.contents bytes.new ≡ bytes_left result (B.contents bytes.old) }
 {
-    match read_urb(alloc, bytes)? {
+    match take_urb(alloc, bytes)? {
         Read::Whole(packet, size) => Ok(Read::Whole(ClientPacket::Urb(packet), size)),
         Read::Short => Ok(Read::Short),
     }
@@ -91,8 +106,12 @@ impl PacketFormat for ClientFormat {
 
     ghost takes_memory = { takes_memory };
 
-    fn read(alloc: Global, _state: &(), bytes: &[u8]) -> Result<Read<ClientPacket>, ReadError> {
-        read_client(alloc, bytes)
+    fn take(
+        alloc: Global,
+        _state: &(),
+        bytes: &mut Bytes,
+    ) -> Result<Read<ClientPacket>, ReadError> {
+        take_packet(alloc, bytes)
     }
 
     fn awaited(_state: &(), bytes: &[u8]) -> usize {

@@ -4,19 +4,21 @@ ghost use Rattle.std.specs.Prelude.{◌≡◌, ◌++◌, ◌≤◌, ℕ, None, L
 ghost use Rattle.std.specs.Int.{w32};
 ghost use Rattle.usb_base.specs.Number.{be_at};
 ghost use Rattle.packet_stream.specs.Format.{IsSound, Stands, reading, reading_by, Whole as FoundWhole};
-ghost use Rattle.packet_stream.specs.Reads.{Answers, IfTold};
+ghost use Rattle.packet_stream.specs.Reads.{Answers, IfTold, bytes_left};
 ghost use Rattle.usbip_urb.specs.declared.packet.UrbPacket.{UrbPacket as Packet};
 ghost use Rattle.usbip_urb.specs.declared.code.TheConstants.{HEAD_SIZE, USBIP_CMD_SUBMIT};
 ghost use Rattle.usbip_urb.specs.Spelling.{spelling};
 ghost use Rattle.usbip_urb.specs.Ranges.{IsRequest};
+ghost use Rattle.usbip_urb.specs.Fields.{submit_with};
 ghost use Rattle.usbip_urb.specs.Requests.{requests};
 ghost use Rattle.usbip_urb.specs.Heap.{takes_memory};
 
 use crate::check::wrong_request;
 use crate::code::{HEAD_SIZE, USBIP_CMD_SUBMIT, USBIP_DIR_OUT};
 use crate::field::{head_at, unlink_at};
-use crate::packet::{Submit, UrbError, UrbPacket, UrbRead};
+use crate::packet::{Descs, Submit, UrbError, UrbPacket, UrbRead};
 use crate::payload::{payload_of, read_descs};
+use packet_stream::PacketBytes;
 use std::alloc::Global;
 use usb_base::{Bytes, array_at, be_u32_at};
 
@@ -38,37 +40,53 @@ pub fn read_urb(alloc: Global, bytes: &[u8]) -> Result<UrbRead, UrbError>
     ensures stands { IfTold result (Stands requests bytes.now) }
     ensures exact { Answers takes_memory result (reading requests bytes.now) }
 {
-    request_at_front(alloc, bytes)
+    let mut bytes = bytes;
+    take_urb(alloc, &mut bytes)
 }
 
-fn request_at_front(alloc: Global, bytes: &[u8]) -> Result<UrbRead, UrbError>
-    ensures { Answers takes_memory result (reading requests bytes.now) }
+/// Takes the request at the front of the bytes off them.
+pub(crate) fn take_urb<B: PacketBytes>(alloc: Global, bytes: &mut B) -> Result<UrbRead, UrbError>
+    ensures exact { Answers takes_memory result (reading requests (B.contents bytes.old)) }
+    ensures left { B.contents bytes.new ≡ bytes_left result (B.contents bytes.old) }
 {
-    if let Some((place, reason)) = wrong_request(bytes) {
+    let front = bytes.as_slice();
+    if let Some((place, reason)) = wrong_request(front) {
         return Err(UrbError::Refused { place, reason });
     }
-    if bytes.len() < HEAD_SIZE {
+    if front.len() < HEAD_SIZE {
         return Ok(UrbRead::Short);
     }
-    if be_u32_at(bytes, 0) == USBIP_CMD_SUBMIT {
-        return read_submit(alloc, bytes);
+    if be_u32_at(front, 0) == USBIP_CMD_SUBMIT {
+        return take_submit(alloc, bytes);
     }
-    let unlink = unlink_at(bytes);
+    let unlink = unlink_at(front);
+    bytes.advance(HEAD_SIZE);
     Ok(UrbRead::Whole(UrbPacket::Unlink(unlink), HEAD_SIZE))
 }
 
-fn read_submit(alloc: Global, bytes: &[u8]) -> Result<UrbRead, UrbError>
-    requires submit { be_at w32 0 bytes.now ≡ USBIP_CMD_SUBMIT }
-    requires head { HEAD_SIZE ≤ length bytes.now }
-    ensures { Answers takes_memory result (reading_by requests bytes.now None) }
+fn take_submit<B: PacketBytes>(alloc: Global, bytes: &mut B) -> Result<UrbRead, UrbError>
+    requires submit { be_at w32 0 (B.contents bytes.old) ≡ USBIP_CMD_SUBMIT }
+    requires head { HEAD_SIZE ≤ length (B.contents bytes.old) }
+    ensures exact { Answers takes_memory result (reading_by requests (B.contents bytes.old) None) }
+    ensures left { B.contents bytes.new ≡ bytes_left result (B.contents bytes.old) }
 {
-    let is_out = be_u32_at(bytes, 12) == USBIP_DIR_OUT;
-    let Some(payload) = payload_of(is_out, bytes) else {
+    let front = bytes.as_slice();
+    let is_out = be_u32_at(front, 12) == USBIP_DIR_OUT;
+    let Some(payload) = payload_of(is_out, front) else {
         return Ok(UrbRead::Short);
     };
-    let body = Bytes::copied(alloc, payload.body)?;
+    let (body_len, size) = (payload.body.len(), payload.size);
     let descs = read_descs(alloc, payload.descs)?;
-    let submit = Submit {
+    let mut submit = submit_with(front, Bytes::new(alloc), descs);
+    submit.body = bytes.take_part(alloc, HEAD_SIZE, body_len, size)?;
+    Ok(UrbRead::Whole(UrbPacket::Submit(submit), size))
+}
+
+fn submit_with(bytes: &[u8], body: Bytes, descs: Descs) -> Submit
+    requires { HEAD_SIZE ≤ length bytes.now }
+    ensures { result ≡ submit_with bytes.now body descs }
+{
+    Submit {
         head: head_at(bytes),
         flags: be_u32_at(bytes, 20),
         length: be_u32_at(bytes, 24),
@@ -78,6 +96,5 @@ fn read_submit(alloc: Global, bytes: &[u8]) -> Result<UrbRead, UrbError>
         setup: array_at(bytes, 40),
         body,
         descs,
-    };
-    Ok(UrbRead::Whole(UrbPacket::Submit(submit), payload.size))
+    }
 }

@@ -5,4 +5,4 @@ use Rattle.usbip_urb.specs.Sound.ClientPackets.{client_packets_sound}
 use Rattle.usbip_urb.proofs.client.read_client.Goals as goal
 
 pub returns-clause-stands : goal.returns-clause-stands
-returns-clause-stands c = answers_stands takes_memory client_packets client_packets_sound c.args.bytes.now (λ i. omega (arith, c.type_inv.bytes i)) c.packet_at_front.result c.packet_at_front.ensures
+returns-clause-stands c = answers_stands takes_memory client_packets client_packets_sound c.args.bytes.now (λ i. omega (arith, c.type_inv.bytes i)) c.take_packet.result c.take_packet.ensures.exact

@@ -6,4 +6,4 @@ use Rattle.usbip_urb.specs.Sound.Requests.{requests_sound}
 use Rattle.usbip_urb.proofs.request.read_urb.Goals as goal
 
 pub returns-clause-stands : goal.returns-clause-stands
-returns-clause-stands c = answers_stands takes_memory requests requests_sound c.args.bytes.now (λ i. omega (arith, c.type_inv.bytes i)) c.request_at_front.result c.request_at_front.ensures
+returns-clause-stands c = answers_stands takes_memory requests requests_sound c.args.bytes.now (λ i. omega (arith, c.type_inv.bytes i)) c.take_urb.result c.take_urb.ensures.exact

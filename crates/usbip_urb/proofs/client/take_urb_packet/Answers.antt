@@ -9,11 +9,11 @@ use Rattle.usbip_urb.specs.Heap.{takes_memory as urb_takes_memory}
 use Rattle.usbip_urb.specs.Requests.{requests}
 use Rattle.packet_stream.specs.Format.{reading}
 use Rattle.usbip_urb.proofs.ClientPackets.{urb_reading, handed_on}
-use Rattle.usbip_urb.proofs.client.urb_at_front.Goals as goal
+use Rattle.usbip_urb.proofs.client.take_urb_packet.Goals as goal
 
-pub returns-in_err-packet : goal.returns-in_err-packet
-returns-in_err-packet c =
-    let b = c.args.bytes.now in
+pub returns-in_err-packet-clause-exact : goal.returns-in_err-packet-clause-exact
+returns-in_err-packet-clause-exact g c =
+    let b = g.B.PacketBytes.contents c.args.bytes.now in
     let r = c.from_residual.result in
     subst (λ (x : Found ClientPacket Reason). Answers takes_memory r x) (sym (urb_reading b c.requires))
     (handed_on urb_takes_memory takes_memory Urb (λ p. refl) c.in_err-packet.field-0.0 r (reading requests b) c.from_residual.ensures.1 c.in_err-packet.ensures.exact)
