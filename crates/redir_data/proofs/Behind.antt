@@ -3,6 +3,7 @@ use Rattle.std.proofs.Common.{◌≡◌, ℕ, ◌+◌, ◌-◌, ◌<◌, ◌≤�
 use Rattle.std.specs.Prelude.{nat_le, not, ◌&&◌, ◌==◌}
 use Rattle.std.proofs.lemmas.Grind.{common_steps}
 use Rattle.usb_base.specs.Number.{part}
+use Rattle.usb_base.proofs.Numbers.{length-part}
 use Rattle.usb_base.specs.declared.reason.Reason.{Reason}
 use Rattle.packet_stream.specs.Format.{Check, wrong_at, Found, Whole, Short, Wrong, reading}
 use Rattle.packet_stream.specs.Reads.{WantsMemory, Answers}
@@ -13,6 +14,7 @@ use Rattle.redir_wire.specs.declared.packet.Caps.{Caps}
 use Rattle.redir_wire.specs.declared.packet.Way.{Way}
 use Rattle.redir_wire.specs.declared.packet.Header.{Header}
 use Rattle.redir_wire.specs.declared.kind.DataKind.{DataKind}
+use Rattle.redir_wire.specs.declared.kind.DataKind.TheVariants.{Control, Bulk, Iso, Interrupt}
 use Rattle.redir_wire.specs.Table.{data_numbered}
 use Rattle.redir_wire.specs.Bodies.{with_header, behind}
 use Rattle.redir_wire.specs.Plain.{controls}
@@ -21,29 +23,37 @@ use Rattle.redir_wire.specs.Reads.{AnswersBehind}
 use Rattle.redir_data.specs.declared.packet.RedirPacket.{RedirPacket}
 use Rattle.redir_data.specs.Places.{fixed, told_length, fields_with, fields_at}
 use Rattle.redir_data.specs.Carrying.{transfers, has_data}
-use Rattle.redir_data.specs.inner.Past.{packet_past, error_past, IsNear}
+use Rattle.redir_data.specs.inner.Past.{packet_past, error_past, IsNear, with_body}
 use Rattle.redir_data.specs.sound.Checks.{announced, read_whole}
 use Rattle.redir_data.specs.sound.Fields.{are_fields}
 
 -- ---- a whole packet that moves data
 
-pub whole_is : (caps : Caps) (k : DataKind) (b : List ℕ) (n f told count : ℕ) (body : List ℕ) → f ≡ fixed caps k → told ≡ told_length caps k b → n ≡ f + count → body ≡ take ((f + count) - f) (drop f b) →
+pub whole_is : (caps : Caps) (k : DataKind) (b : List ℕ) (n f told count : ℕ) (body : List ℕ) → f ≡ fixed caps k → told ≡ told_length caps k b → n ≡ f + count → body ≡ take count (drop f b) →
     fields_with k b told body ≡ fields_at caps n k b
 whole_is caps k b n f told count body is tells all body_is =
-    let count_is : (f + count) - f ≡ n - fixed caps k = omega arith in
+    let count_is : count ≡ n - fixed caps k = omega (arith, is, all) in
     let data_is : body ≡ part (fixed caps k) (n - fixed caps k) b = body_is ∙ (λ i. take (count_is i) (drop (is i) b)) in
     λ i. fields_with k b (tells i) (data_is i)
+
+-- the data are put to the fields that were read before
+pub with_body_is : (k : DataKind) (b : List ℕ) (told : ℕ) (old body : List ℕ) → with_body (fields_with k b told old) body ≡ fields_with k b told body
+with_body_is Control b told old body = refl
+with_body_is Bulk b told old body = refl
+with_body_is Iso b told old body = refl
+with_body_is Interrupt b told old body = refl
 
 has_some : (n : ℕ) → 0 < n → not (n == 0) ≡ true
 has_some n some = grind (arith, common_steps)
 
 pub wants : (caps : Caps) (way : Way) (h : Header) (k : DataKind) (b : List ℕ) (f count : ℕ) → data_numbered h.kind ≡ Some k → h.length ≡ announced caps way k b → h.length ≤ length b → f ≡ fixed caps k → h.length ≡ f + count →
-    0 < length (take ((f + count) - f) (drop f b)) → WantsMemory has_data (reading (behind (transfers caps way) h) b)
+    0 < count → WantsMemory has_data (reading (behind (transfers caps way) h) b)
 wants caps way h k b f count e agrees there is all some =
     let told = told_length caps k b in
-    let body = take ((f + count) - f) (drop f b) in
+    let body = part f count b in
+    let long : length body ≡ count = length-part f count b (omega (arith, all, there)) in
     let d = whole_is caps k b h.length f told count body is refl all refl in
-    let has : has_data (fields_at caps h.length k b) ≡ true = ap has_data (sym d) ∙ ap (λ (x : List ℕ). not (length x == 0)) (are_fields k b told body).body_is ∙ has_some (length body) some in
+    let has : has_data (fields_at caps h.length k b) ≡ true = ap has_data (sym d) ∙ ap (λ (x : List ℕ). not (length x == 0)) (are_fields k b told body).body_is ∙ has_some (length body) (omega (arith, long, some)) in
     subst (WantsMemory has_data) (sym (read_whole caps way h k b e agrees there)) has
 
 -- ---- places within the fixed fields

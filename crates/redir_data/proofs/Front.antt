@@ -1,13 +1,13 @@
 -- Reading a packet of any type is reading its header, and then what is behind it.
 use Rattle.std.proofs.Common.{◌≡◌, ℕ, ◌≤◌, Bool, true, false, cond, List, inl, inr, length, drop, Err, refl, sym, ap, subst, ◌∙◌}
 use Rattle.std.specs.Prelude.{not}
-use Rattle.usb_base.specs.Number.{AreBytes}
 use Rattle.usb_base.specs.declared.reason.Reason.{Reason}
 use Rattle.packet_stream.specs.Format.{Found, Whole, Short, Wrong, reading}
 use Rattle.packet_stream.specs.Joined.{joined}
 use Rattle.packet_stream.specs.Reads.{WantsMemory, Answers}
 use Rattle.packet_stream.specs.declared.read.ReadError.{ReadError}
 use Rattle.packet_stream.specs.declared.read.ReadError.TheVariants as error
+use Rattle.packet_stream.proofs.Formats.{whole_parts}
 use Rattle.packet_stream.proofs.Joins.{found_as, reading-left, reading-right, reading-renamed}
 use Rattle.redir_wire.specs.declared.packet.Caps.{Caps}
 use Rattle.redir_wire.specs.declared.packet.Way.{Way}
@@ -18,7 +18,6 @@ use Rattle.redir_wire.specs.Bodies.{behind}
 use Rattle.redir_wire.specs.Plain.{controls, plain}
 use Rattle.redir_wire.specs.Past.{found_past}
 use Rattle.redir_wire.specs.Reads.{never}
-use Rattle.redir_wire.proofs.Heads.{header_read}
 use Rattle.redir_wire.proofs.Past.{read_past, read_short, read_wrong}
 use Rattle.redir_wire.proofs.Plain.{plain_bodies}
 use Rattle.redir_data.specs.declared.packet.RedirData.{RedirData}
@@ -98,10 +97,9 @@ past_by first caps way b there header false begins =
     ∙ data_past wide h y
     ∙ ap (λ (t : Bool). cond t (packet_past Plain (head_size wide) h x) (packet_past Carrying (head_size wide) h y)) (sym begins)
 
-pub past : (first : Bool) (caps : Caps) (way : Way) (b : List ℕ) (h : Header) (n : ℕ) → AreBytes b → reading (headers first caps way) b ≡ Whole h n →
+pub past : (first : Bool) (caps : Caps) (way : Way) (b : List ℕ) (h : Header) (n : ℕ) → IsHeader first caps way h → reading (headers first caps way) b ≡ Whole h n →
     reading (redir_packets first caps way) b ≡ past_found caps way n h (drop n b)
-past first caps way b h n are e =
-    let is = header_read first caps way b h n are e in
-    let there : head_size (is_wide first caps) ≤ length b = subst (λ (m : ℕ). m ≤ length b) (sym is.size) is.there in
-    past_by first caps way b there (subst (IsHeader first caps way) (sym is.is) is.header) (begins_plain b) refl
-    ∙ (λ i. past_found caps way (is.size i) (is.is i) (drop (is.size i) b))
+past first caps way b h n header e =
+    let parts = whole_parts (headers first caps way) b h n e in
+    past_by first caps way b parts.1 (subst (IsHeader first caps way) (sym parts.3) header) (begins_plain b) refl
+    ∙ (λ i. past_found caps way (parts.2 i) (parts.3 i) (drop (parts.2 i) b))

@@ -3,6 +3,7 @@
 ghost use Rattle.std.specs.Prelude.{◌≡◌, ◌↔◌, IsTrue};
 ghost use Rattle.redir_data.specs.Spelling.{kind_of, endpoint_of, length_of, body_of, carries, data_count};
 ghost use Rattle.redir_data.specs.Ranges.{HasItsData};
+ghost use Rattle.redir_data.specs.inner.Past.{with_body};
 
 use crate::packet::RedirData;
 use redir_wire::{DataKind, Way};
@@ -66,6 +67,76 @@ impl RedirData {
             | RedirData::Bulk { body, .. }
             | RedirData::Iso { body, .. }
             | RedirData::Interrupt { body, .. } => body,
+        }
+    }
+
+    /// The same fields with these data.
+    pub(crate) fn with_body(self, body: Bytes) -> RedirData
+        ensures { result ≡ with_body self body }
+    {
+        match self {
+            RedirData::Control {
+                endpoint,
+                request,
+                kind,
+                status,
+                value,
+                index,
+                length,
+                ..
+            } => {
+                RedirData::Control {
+                    endpoint,
+                    request,
+                    kind,
+                    status,
+                    value,
+                    index,
+                    length,
+                    body,
+                }
+            }
+            RedirData::Bulk {
+                endpoint,
+                status,
+                length,
+                stream,
+                ..
+            } => {
+                RedirData::Bulk {
+                    endpoint,
+                    status,
+                    length,
+                    stream,
+                    body,
+                }
+            }
+            RedirData::Iso {
+                endpoint,
+                status,
+                length,
+                ..
+            } => {
+                RedirData::Iso {
+                    endpoint,
+                    status,
+                    length,
+                    body,
+                }
+            }
+            RedirData::Interrupt {
+                endpoint,
+                status,
+                length,
+                ..
+            } => {
+                RedirData::Interrupt {
+                    endpoint,
+                    status,
+                    length,
+                    body,
+                }
+            }
         }
     }
 

@@ -1,6 +1,6 @@
 //! Reads what stands behind the header of a packet that moves data.
 
-ghost use Rattle.std.specs.Prelude.{◌≡◌, ◌+◌, ◌≤◌, ◌<◌, ◌^◌, length, true, false, IfOk, OnErr};
+ghost use Rattle.std.specs.Prelude.{◌≡◌, ◌+◌, ◌≤◌, length, drop, true, false};
 ghost use Rattle.packet_stream.specs.Format.{reading};
 ghost use Rattle.redir_wire.specs.Header.{is_its_length};
 ghost use Rattle.redir_wire.specs.Bodies.{behind};
@@ -8,11 +8,12 @@ ghost use Rattle.redir_wire.specs.Plain.{is_plain};
 ghost use Rattle.redir_wire.specs.Reads.{AnswersBehind};
 ghost use Rattle.redir_data.specs.Places.{fixed, length_place, bulk_length, told_length, fields_with};
 ghost use Rattle.redir_data.specs.Carrying.{transfers, has_data};
+ghost use Rattle.redir_data.specs.inner.Past.{behind_left};
 ghost use Rattle.redir_data.specs.inner.Least.{least, bulk_size, TellsLength};
 
 use crate::data::data_count;
 use crate::packet::RedirData;
-use packet_stream::ReadError;
+use packet_stream::{PacketBytes, ReadError};
 use redir_wire::{Caps, DataKind, Header, WIDE_BULK_LENGTH, Way, WireError};
 use std::alloc::Global;
 use usb_base::{Bytes, Memory, Reason, le_u16_at, le_u32_at};
@@ -32,27 +33,57 @@ pub fn read_data(
     requires its_length { is_its_length caps head.now.kind head.now.length ≡ true }
     ensures { AnswersBehind head.now has_data result (reading (behind (transfers caps way) head.now) bytes.now) }
 {
+    let mut bytes = bytes;
+    take_data(alloc, head, 0, way, caps, &mut bytes)
+}
+
+/// Takes the packet whose header this is, of `size` bytes, with it off the bytes, at whose front that stands, as
+/// `read_data` tells.
+pub(crate) fn take_data<B: PacketBytes>(
+    alloc: Global,
+    head: &Header,
+    size: usize,
+    way: Way,
+    caps: Caps,
+    bytes: &mut B,
+) -> Result<Option<RedirData>, WireError>
+    requires carrying { is_plain head.now.kind ≡ false }
+    requires its_length { is_its_length caps head.now.kind head.now.length ≡ true }
+    requires there { size ≤ length (B.contents bytes.old) }
+    ensures exact { AnswersBehind head.now has_data result (reading (behind (transfers caps way) head.now) (drop size (B.contents bytes.old))) }
+    ensures left { B.contents bytes.new ≡ behind_left size head.now result (B.contents bytes.old) }
+{
     let Some(kind) = DataKind::numbered(head.kind) else {
         unreachable!()
     };
+    let front = behind(bytes.as_slice(), size);
     let fixed = kind.row().fixed(caps) as usize;
-    let has_fields = bytes.len() >= fixed;
+    let has_fields = front.len() >= fixed;
     if !has_fields {
         return Ok(None);
     }
-    let told = told_length(kind, caps, bytes);
-    let count = data_count(way, bytes[0], told) as usize;
+    let told = told_length(kind, caps, front);
+    let count = data_count(way, front[0], told) as usize;
     if head.length as usize != fixed + count {
         let (place, reason) = (length_place(kind), Reason::DataLength);
         return Err(ReadError::Refused { place, reason });
     }
-    if bytes.len() < head.length as usize {
+    if front.len() < head.length as usize {
         return Ok(None);
     }
-    match Bytes::copied(alloc, &bytes[fixed..fixed + count]) {
-        Ok(body) => Ok(Some(fields_with(kind, bytes, told, body))),
+    let fields = fields_with(kind, front, told, Bytes::new(alloc));
+    match bytes.take_part(alloc, size + fixed, count, size + fixed + count) {
+        Ok(body) => Ok(Some(fields.with_body(body))),
         Err(Memory) => Err(ReadError::Memory),
     }
+}
+
+/// What stands behind a header of so many bytes.
+pub(crate) fn behind(bytes: &[u8], size: usize) -> &[u8]
+    requires { size ≤ length bytes.now }
+    ensures { result.now ≡ drop size bytes.now }
+{
+    &bytes[size..]
 }
 
 /// The place of the length field.

@@ -1,8 +1,8 @@
 //! Reads packets of all types.
 
-ghost use Rattle.std.specs.Prelude.{◌≡◌, ◌≤◌, true, false};
+ghost use Rattle.std.specs.Prelude.{◌≡◌, ◌≤◌, true, false, length, drop};
 ghost use Rattle.packet_stream.specs.Format.{Stands, reading};
-ghost use Rattle.packet_stream.specs.Reads.{Answers, IfTold};
+ghost use Rattle.packet_stream.specs.Reads.{Answers, IfTold, bytes_left};
 ghost use Rattle.redir_wire.specs.Header.{is_its_length};
 ghost use Rattle.redir_wire.specs.Bodies.{behind};
 ghost use Rattle.redir_wire.specs.Plain.{controls, is_plain};
@@ -11,8 +11,8 @@ ghost use Rattle.redir_data.specs.Packets.{redir_packets, takes_memory};
 ghost use Rattle.redir_data.specs.inner.Past.{packet_past, past_found, error_past, IsNear};
 
 use crate::packet::{RedirPacket, RedirRead};
-use crate::read::read_data;
-use packet_stream::{Read, ReadError};
+use crate::read::{behind, take_data};
+use packet_stream::{PacketBytes, Read, ReadError};
 use redir_wire::{Caps, Header, Way, WireError, read_control, read_header};
 use std::alloc::Global;
 
@@ -30,62 +30,70 @@ pub fn read_redir(
     ensures exact { Answers takes_memory result (reading (redir_packets first caps way) bytes.now) }
     ensures stands { IfTold result (Stands (redir_packets first caps way) bytes.now) }
 {
-    packet_at_front(alloc, first, caps, way, bytes)
+    let mut bytes = bytes;
+    take_redir(alloc, first, caps, way, &mut bytes)
 }
 
-fn packet_at_front(
+/// Takes the packet at the front of the bytes off them, as `read_redir` reads it.
+pub(crate) fn take_redir<B: PacketBytes>(
     alloc: Global,
     first: bool,
     caps: Caps,
     way: Way,
-    bytes: &[u8],
+    bytes: &mut B,
 ) -> Result<RedirRead, WireError>
-    ensures { Answers takes_memory result (reading (redir_packets first caps way) bytes.now) }
+    ensures exact { Answers takes_memory result (reading (redir_packets first caps way) (B.contents bytes.old)) }
+    ensures left { B.contents bytes.new ≡ bytes_left result (B.contents bytes.old) }
 {
-    match read_header(first, caps, way, bytes) {
-        Ok(Read::Whole(head, size)) => behind_header(alloc, head, size, caps, way, &bytes[size..]),
+    match read_header(first, caps, way, bytes.as_slice()) {
+        Ok(Read::Whole(head, size)) => take_behind(alloc, head, size, caps, way, bytes),
         Ok(Read::Short) => Ok(Read::Short),
         Err(error) => Err(error),
     }
 }
 
-fn behind_header(
+fn take_behind<B: PacketBytes>(
     alloc: Global,
     head: Header,
     size: usize,
     caps: Caps,
     way: Way,
-    bytes: &[u8],
+    bytes: &mut B,
 ) -> Result<RedirRead, WireError>
     requires its_length { is_its_length caps head.kind head.length ≡ true }
     requires size { size ≤ 16 }
-    ensures { Answers takes_memory result (past_found caps way size head bytes.now) }
+    requires there { size ≤ length (B.contents bytes.old) }
+    ensures exact { Answers takes_memory result (past_found caps way size head (drop size (B.contents bytes.old))) }
+    ensures left { B.contents bytes.new ≡ bytes_left result (B.contents bytes.old) }
 {
     if head.kind < FIRST_DATA {
-        plain_behind(alloc, head, size, caps, bytes)
+        take_plain_packet(alloc, head, size, caps, bytes)
     } else {
-        data_behind(alloc, head, size, caps, way, bytes)
+        take_data_packet(alloc, head, size, caps, way, bytes)
     }
 }
 
 /// The first number of the types that move data.
 pub(crate) const FIRST_DATA: u32 = 100;
 
-fn plain_behind(
+fn take_plain_packet<B: PacketBytes>(
     alloc: Global,
     head: Header,
     size: usize,
     caps: Caps,
-    bytes: &[u8],
+    bytes: &mut B,
 ) -> Result<RedirRead, WireError>
     requires plain { is_plain head.kind ≡ true }
     requires its_length { is_its_length caps head.kind head.length ≡ true }
     requires size { size ≤ 16 }
-    ensures { Answers takes_memory result (packet_past RedirPacket.Plain size head (reading (behind (controls caps) head) bytes.now)) }
+    requires there { size ≤ length (B.contents bytes.old) }
+    ensures exact { Answers takes_memory result (packet_past RedirPacket.Plain size head (reading (behind (controls caps) head) (drop size (B.contents bytes.old)))) }
+    ensures left { B.contents bytes.new ≡ bytes_left result (B.contents bytes.old) }
 {
-    match read_control(alloc, &head, caps, bytes) {
+    match read_control(alloc, &head, caps, behind(bytes.as_slice(), size)) {
         Ok(Some(control)) => {
             let all = size + head.length as usize;
+            bytes.advance(all);
             Ok(Read::Whole((head, RedirPacket::Plain(control)), all))
         }
         Ok(None) => Ok(Read::Short),
@@ -93,20 +101,22 @@ fn plain_behind(
     }
 }
 
-fn data_behind(
+fn take_data_packet<B: PacketBytes>(
     alloc: Global,
     head: Header,
     size: usize,
     caps: Caps,
     way: Way,
-    bytes: &[u8],
+    bytes: &mut B,
 ) -> Result<RedirRead, WireError>
     requires carrying { is_plain head.kind ≡ false }
     requires its_length { is_its_length caps head.kind head.length ≡ true }
     requires size { size ≤ 16 }
-    ensures { Answers takes_memory result (packet_past RedirPacket.Carrying size head (reading (behind (transfers caps way) head) bytes.now)) }
+    requires there { size ≤ length (B.contents bytes.old) }
+    ensures exact { Answers takes_memory result (packet_past RedirPacket.Carrying size head (reading (behind (transfers caps way) head) (drop size (B.contents bytes.old)))) }
+    ensures left { B.contents bytes.new ≡ bytes_left result (B.contents bytes.old) }
 {
-    match read_data(alloc, &head, way, caps, bytes) {
+    match take_data(alloc, &head, size, way, caps, bytes) {
         Ok(Some(data)) => {
             let all = size + head.length as usize;
             Ok(Read::Whole((head, RedirPacket::Carrying(data)), all))

@@ -8,11 +8,12 @@ ghost use Rattle.redir_data.specs.sound.Joined.{stream_sound};
 
 use crate::next::next_redir;
 use crate::packet::RedirPacket;
-use crate::redir::read_redir;
+use crate::redir::take_redir;
 use crate::state::RedirState;
 use packet_stream::{PacketFormat, Read, ReadError};
 use redir_wire::{ANNOUNCED, Caps, Header, RedirControl, Way};
 use std::alloc::Global;
+use usb_base::Bytes;
 
 impl RedirState {
     /// Before the hello, where nothing is agreed.
@@ -52,12 +53,12 @@ impl PacketFormat for FromHost {
 
     ghost takes_memory = { packet_takes_memory };
 
-    fn read(
+    fn take(
         alloc: Global,
         state: &RedirState,
-        bytes: &[u8],
+        bytes: &mut Bytes,
     ) -> Result<Read<(Header, RedirPacket)>, ReadError> {
-        read_redir(alloc, state.first, state.caps, Way::ToGuest, bytes)
+        take_redir(alloc, state.first, state.caps, Way::ToGuest, bytes)
     }
 
     fn awaited(state: &RedirState, bytes: &[u8]) -> usize {
@@ -85,12 +86,12 @@ impl PacketFormat for FromGuest {
 
     ghost takes_memory = { packet_takes_memory };
 
-    fn read(
+    fn take(
         alloc: Global,
         state: &RedirState,
-        bytes: &[u8],
+        bytes: &mut Bytes,
     ) -> Result<Read<(Header, RedirPacket)>, ReadError> {
-        read_redir(alloc, state.first, state.caps, Way::ToHost, bytes)
+        take_redir(alloc, state.first, state.caps, Way::ToHost, bytes)
     }
 
     fn awaited(state: &RedirState, bytes: &[u8]) -> usize {
