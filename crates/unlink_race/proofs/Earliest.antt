@@ -6,7 +6,6 @@ use Rattle.std.proofs.lemmas.Bool.{lt-ltb, eq-eqb, ne_eqb, cases_eq, cases_Bool}
 use Rattle.std.proofs.lemmas.Bool.Decides.{nat_tests}
 use Rattle.urb_arena.specs.Lanes.{find_in, ByKey}
 use Rattle.unlink_race.specs.declared.live.Live.{Live}
-use Rattle.unlink_race.specs.declared.table.Row.{Row}
 use Rattle.unlink_race.specs.Inner.Earliest.{passing, earliest, lesser, least}
 use Rattle.unlink_race.specs.Inner.Lane.{lane_of}
 use Rattle.unlink_race.specs.Inner.Listed.{Kept, listed}
@@ -16,8 +15,8 @@ use Rattle.unlink_race.proofs.Placing.{keys}
 use Rattle.unlink_race.proofs.Rows.{entry_of}
 use Rattle.unlink_race.proofs.Walks.{Entries, values, onward}
 
-abbrev key_of : Row → ℕ
-key_of r = r.key
+abbrev key_of : ℕ × Live → ℕ
+key_of r = r.0
 
 abbrev pub lives : List (ℕ × Live) → List Live
 lives es = map (λ e. e.1) es
@@ -138,7 +137,7 @@ pub all_backed : (pss : List Entries) → ByKey pss → (l : ℕ) (xs ps : Entri
 all_backed pss by_key l xs [] is = tt
 all_backed pss by_key l xs (p ∷ ps) is = ((by_key l xs p ps is).0, all_backed pss by_key l (xs ++ p ∷ []) ps (is ∙ onward xs p ps))
 
-pub keys_home : (lane : ℕ) (pss : List Entries) (l : ℕ) (rows : List Row) → l < length pss → ArePlaced lane (map keys pss) rows → keys (get_or pss l []) ≡ keys_in (lane + l) rows
+pub keys_home : (lane : ℕ) (pss : List Entries) (l : ℕ) (rows : List (ℕ × Live)) → l < length pss → ArePlaced lane (map keys pss) rows → keys (get_or pss l []) ≡ keys_in (lane + l) rows
 keys_home lane [] l rows within placed = absurd (omega (arith, within))
 keys_home lane (ps ∷ pss) zero rows within placed = let e : lane + 0 ≡ lane = omega arith in placed.0 ∙ ap (λ n. keys_in n rows) (sym e)
 keys_home lane (ps ∷ pss) (suc l) rows within placed = let e : lane + suc l ≡ lane + 1 + l = omega arith in keys_home (lane + 1) pss l rows (omega (arith, within)) placed.1 ∙ ap (λ n. keys_in n rows) (sym e)
@@ -152,53 +151,53 @@ abbrev pub and_below : (Live → Bool) → ℕ → Live → Bool
 and_below test lane x = ltb (lane_of x.kind) lane && test x
 
 -- the rows have the requests' kinds
-abbrev pub Alike : List Row → List (ℕ × Live) → Type 0
-Alike rows es = map (λ r. r.kind) rows ≡ map (λ e. e.1.kind) es
+abbrev pub Alike : List (ℕ × Live) → List (ℕ × Live) → Type 0
+Alike rows es = map (λ r. r.1.kind) rows ≡ map (λ e. e.1.kind) es
 
 module _ (test : Live → Bool) (g : ℕ → Option (ℕ × Live)) (lane : ℕ) where
-  abbrev Later : List Row → Type 0
+  abbrev Later : List (ℕ × Live) → Type 0
   Later rows = (ps : Entries) → Alike rows (listed key_of g rows) → Backed g ps → keys ps ≡ keys_in lane rows → passing test (values ps) ≡ passing (and_in test lane) (listed key_of g rows)
 
-  pub lane_passing : (rows : List Row) (ps : Entries) → Kept key_of g rows → Alike rows (listed key_of g rows) → Backed g ps → keys ps ≡ keys_in lane rows → passing test (values ps) ≡ passing (and_in test lane) (listed key_of g rows)
+  pub lane_passing : (rows : List (ℕ × Live)) (ps : Entries) → Kept key_of g rows → Alike rows (listed key_of g rows) → Backed g ps → keys ps ≡ keys_in lane rows → passing test (values ps) ≡ passing (and_in test lane) (listed key_of g rows)
   lane_passing [] [] kept alike backed same = refl
   lane_passing [] (p ∷ ps) kept alike backed same = absurd (cc)
   lane_passing (r ∷ rows) ps kept alike backed same =
       let e = entry_of key_of g r kept.0 in
       by_entry (λ qs rest behind tail. lane_passing rows qs kept.2 rest behind tail) e.0 e.1
     where
-      here : Later rows → (x : ℕ × Live) → g r.key ≡ Some x → x.1.kind ≡ r.kind → Alike rows (listed key_of g rows) → lane_of r.kind ≡ lane → (qs : Entries) → Backed g qs → keys qs ≡ r.key ∷ keys_in lane rows → passing test (values qs) ≡ passing (and_in test lane) (x ∷ listed key_of g rows)
+      here : Later rows → (x : ℕ × Live) → g r.0 ≡ Some x → x.1.kind ≡ r.1.kind → Alike rows (listed key_of g rows) → lane_of r.1.kind ≡ lane → (qs : Entries) → Backed g qs → keys qs ≡ r.0 ∷ keys_in lane rows → passing test (values qs) ≡ passing (and_in test lane) (x ∷ listed key_of g rows)
       here later x is kind rest at [] backed same = absurd (cc)
       here later x is kind rest at (q ∷ qs) backed same =
-          let head : q.0 ≡ r.key = cc in
+          let head : q.0 ≡ r.0 = cc in
           let tail : keys qs ≡ keys_in lane rows = cc in
           let both : Some q.1 ≡ Some x = sym backed.0 ∙ ap g head ∙ is in
           let this : q.1 ≡ x = cc in
           rw (this, eq-eqb (lane_of x.1.kind) lane (ap lane_of kind ∙ at)) (ap (λ (es : List (ℕ × Live)). cond (test x.1) (x ∷ es) es) (later qs rest backed.1 tail))
 
-      by_entry : Later rows → (x : ℕ × Live) → g r.key ≡ Some x → passing test (values ps) ≡ passing (and_in test lane) (listed key_of g (r ∷ rows))
+      by_entry : Later rows → (x : ℕ × Live) → g r.0 ≡ Some x → passing test (values ps) ≡ passing (and_in test lane) (listed key_of g (r ∷ rows))
       by_entry later x is =
           let all : Alike (r ∷ rows) (x ∷ listed key_of g rows) = rw is at alike in
-          let kind : r.kind ≡ x.1.kind = cc in
+          let kind : r.1.kind ≡ x.1.kind = cc in
           let rest : Alike rows (listed key_of g rows) = cc in
           rw is (
-          elim (cases_eq (lane_of r.kind) lane) [
-            | inl at ↦ here later x is (sym kind) rest at ps backed (rw (eq-eqb (lane_of r.kind) lane at) at same)
+          elim (cases_eq (lane_of r.1.kind) lane) [
+            | inl at ↦ here later x is (sym kind) rest at ps backed (rw (eq-eqb (lane_of r.1.kind) lane at) at same)
             | inr away ↦ (
-                let other : (lane_of x.1.kind == lane) ≡ false = ap (λ k. lane_of k == lane) (sym kind) ∙ ne_eqb (lane_of r.kind) lane away in
-                rw other (later ps rest backed (rw (ne_eqb (lane_of r.kind) lane away) at same)))
+                let other : (lane_of x.1.kind == lane) ≡ false = ap (λ k. lane_of k == lane) (sym kind) ∙ ne_eqb (lane_of r.1.kind) lane away in
+                rw other (later ps rest backed (rw (ne_eqb (lane_of r.1.kind) lane away) at same)))
           ])
 
-  lane_earliest : (rows : List Row) (ps : Entries) → Kept key_of g rows → Alike rows (listed key_of g rows) → Backed g ps → keys ps ≡ keys_in lane rows → earliest test (values ps) ≡ earliest (and_in test lane) (listed key_of g rows)
+  lane_earliest : (rows : List (ℕ × Live)) (ps : Entries) → Kept key_of g rows → Alike rows (listed key_of g rows) → Backed g ps → keys ps ≡ keys_in lane rows → earliest test (values ps) ≡ earliest (and_in test lane) (listed key_of g rows)
   lane_earliest rows ps kept alike backed same =
       earliest_passing test (values ps) ∙ ap first_number (lane_passing rows ps kept alike backed same) ∙ sym (earliest_passing (and_in test lane) (listed key_of g rows))
 
   -- where each belongs before this lane, one in a lane before it is one of all
-  all_below : (rows : List Row) (es : List (ℕ × Live)) → Alike rows es → AreBelow lane rows → earliest (and_below test lane) es ≡ earliest test es
+  all_below : (rows : List (ℕ × Live)) (es : List (ℕ × Live)) → Alike rows es → AreBelow lane rows → earliest (and_below test lane) es ≡ earliest test es
   all_below [] [] alike below = refl
   all_below [] (e ∷ es) alike below = absurd (cc)
   all_below (r ∷ rows) [] alike below = absurd (cc)
   all_below (r ∷ rows) (e ∷ es) alike below =
-      let kind : r.kind ≡ e.1.kind = cc in
+      let kind : r.1.kind ≡ e.1.kind = cc in
       let rest : Alike rows es = cc in
       let low : lane_of e.1.kind < lane = subst (λ k. lane_of k < lane) kind below.0 in
       rw (lt-ltb (lane_of e.1.kind) lane low) (ap (cond (test e.1) (Some e.0)) (all_below rows es rest below.1))
@@ -208,7 +207,7 @@ widen a m true = grind (arith, nat_tests)
 widen a m false = grind (arith, nat_tests)
 
 -- so the least of the lanes' numbers is that of the earliest of all
-pub least_is : (test : Live → Bool) (g : ℕ → Option (ℕ × Live)) (rows : List Row) (high : ℕ) → Kept key_of g rows → Alike rows (listed key_of g rows) → Rises 0 (numbers (listed key_of g rows)) high → (lane : ℕ) (pss : List Entries) (so_far : Option ℕ) → ((l : ℕ) → Backed g (get_or pss l [])) → ArePlaced lane (map keys pss) rows → so_far ≡ earliest (and_below test lane) (listed key_of g rows) → least test so_far pss ≡ earliest test (listed key_of g rows)
+pub least_is : (test : Live → Bool) (g : ℕ → Option (ℕ × Live)) (rows : List (ℕ × Live)) (high : ℕ) → Kept key_of g rows → Alike rows (listed key_of g rows) → Rises 0 (numbers (listed key_of g rows)) high → (lane : ℕ) (pss : List Entries) (so_far : Option ℕ) → ((l : ℕ) → Backed g (get_or pss l [])) → ArePlaced lane (map keys pss) rows → so_far ≡ earliest (and_below test lane) (listed key_of g rows) → least test so_far pss ≡ earliest test (listed key_of g rows)
 least_is test g rows high kept alike rises lane [] so_far backed placed is = is ∙ all_below test g lane rows (listed key_of g rows) alike placed
 least_is test g rows high kept alike rises lane (ps ∷ pss) so_far backed placed is =
     let this = lane_earliest test g lane rows ps kept alike (backed 0) placed.0 in

@@ -1,4 +1,4 @@
--- A binary search of the rows by the numbers of their requests.
+-- A binary search of the keys by the numbers of their requests.
 use Rattle.std.proofs.Common.{◌≡◌, ◌≢◌, ◌==◌, ℕ, zero, suc, ◌+◌, ◌<◌, ◌≤◌, List, [], ◌∷◌, length, get_or, Option, Some, None, Result, Ok, Err, refl, ap, sym, ◌∙◌, arith, inl, inr}
 use Rattle.std.specs.List.{position}
 use Rattle.std.specs.List.Sorted.{IsSearchInRange, IsBinarySearchResult, IsNonDecreasingBy}
@@ -15,15 +15,14 @@ use Rattle.std.proofs.lemmas.List.Sums.{position_or_len_is}
 use Rattle.std.proofs.lemmas.Option.{slice_get-get_or}
 use Rattle.urb_arena.specs.Seen.{Seen}
 use Rattle.unlink_race.specs.declared.live.Live.{Live}
-use Rattle.unlink_race.specs.declared.table.Row.{Row}
 use Rattle.unlink_race.specs.Inner.Listed.{Kept}
 use Rattle.unlink_race.specs.Inner.Sound.{entry_of, in_order, numbers_of, Rises}
 use Rattle.unlink_race.proofs.Dealing.{long_numbers}
-use Rattle.unlink_race.proofs.Ids.{no_live, no_row}
+use Rattle.unlink_race.proofs.Ids.{no_live}
 use Rattle.unlink_race.proofs.Rows.{length-listed, took_at}
 
-abbrev key_of : Row → ℕ
-key_of r = r.key
+abbrev key_of : ℕ → ℕ
+key_of k = k
 
 -- each rising number is below those behind it
 pub rises_at : (low : ℕ) (ns : List ℕ) (high i j : ℕ) → Rises low ns high → i < j → j < length ns → get_or ns i 0 < get_or ns j 0
@@ -38,23 +37,23 @@ rises_at low (n ∷ ns) high zero (suc j) rises before within = let above = at_l
 rises_at low (n ∷ ns) high (suc i) zero rises before within = absurd (omega (arith, before))
 rises_at low (n ∷ ns) high (suc i) (suc j) rises before within = rises_at (n + 1) ns high i j rises.1 (omega (arith, before)) (omega (arith, within))
 
--- the number that a row leads to
-abbrev pub number_at : Seen (ℕ × Live) → Row → Option ℕ
-number_at arena r = option_map (λ (e : ℕ × Live). e.0) (entry_of arena r.key)
+-- the number that a key leads to
+abbrev pub number_at : Seen (ℕ × Live) → ℕ → Option ℕ
+number_at arena r = option_map (λ (e : ℕ × Live). e.0) (entry_of arena r)
 
-module _ (arena : Seen (ℕ × Live)) (rows : List Row) (kept : Kept key_of (entry_of arena) rows) where
+module _ (arena : Seen (ℕ × Live)) (rows : List ℕ) (kept : Kept key_of (entry_of arena) rows) where
   abbrev numbers : List ℕ
   numbers = numbers_of arena rows
 
   long : length (numbers_of arena rows) ≡ length rows
   long = long_numbers arena rows kept
 
-  leads : (i : ℕ) → i < length rows → number_at arena (get_or rows i no_row) ≡ Some (get_or (numbers_of arena rows) i 0)
+  leads : (i : ℕ) → i < length rows → number_at arena (get_or rows i 0) ≡ Some (get_or (numbers_of arena rows) i 0)
   leads i within =
       let all = length-listed key_of (entry_of arena) rows kept in
       let inside : i < length (in_order arena rows) = omega (arith, all, within) in
-      let row = get_or rows i no_row in
-      let took = took_at key_of (entry_of arena) (entry_of arena) rows i row within (get_or_default rows i no_row row within) (λ _ _. refl) kept in
+      let row = get_or rows i 0 in
+      let took = took_at key_of (entry_of arena) (entry_of arena) rows i row within (get_or_default rows i 0 row within) (λ _ _. refl) kept in
       ap (option_map (λ (e : ℕ × Live). e.0)) (took.entry ∙ slice_get-get_or (in_order arena rows) i (0, no_live) inside)
       ∙ ap Some (sym (get_or-map (λ (e : ℕ × Live). e.0) (in_order arena rows) i (0, no_live) 0 inside))
 
@@ -77,28 +76,28 @@ module _ (arena : Seen (ℕ × Live)) (rows : List Row) (kept : Kept key_of (ent
         let at = position_or_len_is (λ n. n == number) (numbers_of arena rows) n 0 (omega arith) (λ k before. ne_eqb _ number (none k (omega (arith, before, e)))) (λ past. absurd (omega (arith, past))) in
         rw (at, le-ltb n n (omega arith)) refl
 
-    abbrev compared : Row → Ordering
+    abbrev compared : ℕ → Ordering
     compared r = option_cmp nat_cmp (number_at arena r) (Some number)
 
-    compared_at : (i : ℕ) → i < length rows → compared (get_or rows i no_row) ≡ nat_cmp (get_or (numbers_of arena rows) i 0) number
+    compared_at : (i : ℕ) → i < length rows → compared (get_or rows i 0) ≡ nat_cmp (get_or (numbers_of arena rows) i 0) number
     compared_at i within = ap (λ o. option_cmp nat_cmp o (Some number)) (leads i within)
 
     ordered : (a b : ℕ) → a ≤ b → ordering_index (nat_cmp a number) ≤ ordering_index (nat_cmp b number)
     ordered a b le = grind (arith, nat_tests)
 
     rise : IsNonDecreasingBy (λ r. ordering_index (compared r)) rows
-    rise = IsNonDecreasingBy-from_default (λ r. ordering_index (compared r)) rows no_row (λ i j le within.
+    rise = IsNonDecreasingBy-from_default (λ r. ordering_index (compared r)) rows 0 (λ i j le within.
         elim (cases_eq i j) [
-          | inl same ↦ (let e : ordering_index (compared (get_or rows i no_row)) ≡ ordering_index (compared (get_or rows j no_row)) = ap (λ k. ordering_index (compared (get_or rows k no_row))) same in omega (arith, e))
+          | inl same ↦ (let e : ordering_index (compared (get_or rows i 0)) ≡ ordering_index (compared (get_or rows j 0)) = ap (λ k. ordering_index (compared (get_or rows k 0))) same in omega (arith, e))
           | inr other ↦ (
               let less = up i j (omega (arith, le, other)) within in
               rw (compared_at i (omega (arith, le, within)), compared_at j within) (ordered _ _ (omega (arith, less))))
         ])
 
     pub halved : (r : Result ℕ ℕ) → IsSearchInRange r (length rows) → IsBinarySearchResult compared rows r → result_ok r ≡ position (λ n. n == number) (numbers_of arena rows)
-    halved (Ok i) within equal = number_at_place i within (ranked _ number _ (sym (sym (compared_at i within) ∙ equal no_row)))
+    halved (Ok i) within equal = number_at_place i within (ranked _ number _ (sym (sym (compared_at i within) ∙ equal 0)))
     halved (Err i) within parted = number_nowhere (λ k inside same.
         elim (cases_lt k i) [
-          | inl before ↦ (let less : get_or (numbers_of arena rows) k 0 < number = ranked _ number _ (sym (sym (compared_at k inside) ∙ (parted rise).0 k no_row (omega arith) before)) in omega (arith, less, same))
-          | inr after ↦ (let more : number < get_or (numbers_of arena rows) k 0 = ranked _ number _ (sym (sym (compared_at k inside) ∙ (parted rise).1 k no_row after inside)) in omega (arith, more, same))
+          | inl before ↦ (let less : get_or (numbers_of arena rows) k 0 < number = ranked _ number _ (sym (sym (compared_at k inside) ∙ (parted rise).0 k 0 (omega arith) before)) in omega (arith, less, same))
+          | inr after ↦ (let more : number < get_or (numbers_of arena rows) k 0 = ranked _ number _ (sym (sym (compared_at k inside) ∙ (parted rise).1 k 0 after inside)) in omega (arith, more, same))
         ])

@@ -1,86 +1,289 @@
--- What is counted of the requests, as one comes and as one ends.
-use Rattle.std.proofs.Common.{◌≡◌, ◌==◌, ℕ, ◌+◌, ◌≤◌, Bool, true, cond, List, [], ◌∷◌, ◌++◌, length, get_or, set, Some, refl, ap, sym, ◌∙◌, arith}
-use Rattle.std.specs.List.{count_by, list_any, remove, slice_get}
-use Rattle.std.proofs.lemmas.List.Sums.{sum_by_push, sum_by-remove, sum_by-set, count_by-le-length}
+-- What the index has of the requests, as one comes, as one ends, and as one is looked for.
+use Rattle.std.proofs.Common.{◌≡◌, ◌≢◌, ◌==◌, ◌&&◌, ◌||◌, ℕ, zero, suc, ◌+◌, ◌<◌, ◌≤◌, Bool, true, false, cond, List, [], ◌∷◌, ◌++◌, length, filter, set, Some, option_map, is_some, refl, ap, sym, ◌∙◌, arith, inl, inr}
+use Rattle.std.specs.List.{find, list_any, remove, slice_get, zip}
+use Rattle.std.proofs.lemmas.Bool.{eq-eqb, ne_eqb, cases_eq, cases_Bool, false≢true}
+use lib.ListN.{length-set}
+use Rattle.std.proofs.lemmas.List.{length-append}
+use Rattle.std.proofs.lemmas.List.Edits.{length-remove}
+use Rattle.std.proofs.lemmas.List.Sums.{count_by-le-length}
+use Rattle.std.proofs.lemmas.List.Elements.{filter-append}
 use Rattle.std.proofs.lemmas.Option.{slice_get_within, get_or_from_slice_get}
+use Rattle.std.proofs.lemmas.Slice.Zip.{length-zip}
+use Rattle.std.proofs.Math.Bool.{and-false}
 use Rattle.unlink_race.specs.declared.live.Live.{Live}
 use Rattle.unlink_race.specs.declared.index.Index.{Index}
-use Rattle.unlink_race.specs.Searches.{has_id, goes_by_id, changes}
-use Rattle.unlink_race.specs.Inner.Indexed.{times, IsTally, IsIndexed}
-use Rattle.unlink_race.proofs.Counts.{some_from_count}
+use Rattle.unlink_race.specs.Firsts.{without_first}
+use Rattle.unlink_race.specs.Searches.{goes_by_id, changes}
+use Rattle.unlink_race.specs.Inner.Indexed.{column, is_pair, with_number, IsOrdering, IsIndexed}
+use Rattle.unlink_race.specs.Inner.Listed.{Distinct}
+use Rattle.unlink_race.proofs.Counts.{count_pushed, count_removed, count_changed}
+use Rattle.unlink_race.proofs.Firsts.{first_passing, filter-without_first}
+use Rattle.unlink_race.proofs.Rows.{absent_at}
+use Rattle.unlink_race.proofs.Zipped.{key_of, itself, zip_pushed, zip_removed, zip_at, distinct_zipped}
 
-module _ {X : Type 0} (p : X → Bool) where
-  pub count_pushed : (xs : List X) (x : X) → count_by p (xs ++ x ∷ []) ≡ count_by p xs + cond (p x) 1 0
-  count_pushed xs x = sum_by_push (λ y. cond (p y) 1 0) xs x
+abbrev pub Pairs : Type 0
+Pairs = List (ℕ × ℕ)
 
-  pub count_removed : (xs : List X) (i : ℕ) (x : X) → slice_get xs i ≡ Some x → count_by p (remove xs i) + cond (p x) 1 0 ≡ count_by p xs
-  count_removed xs i x is =
-      ap (λ y. count_by p (remove xs i) + cond (p y) 1 0) (sym (get_or_from_slice_get xs i x x is)) ∙ sum_by-remove (λ y. cond (p y) 1 0) xs i x (slice_get_within xs i x is)
+-- ---- lists without the first that passes
 
-  pub count_changed : (xs : List X) (i : ℕ) (x y : X) → slice_get xs i ≡ Some x → p y ≡ p x → count_by p (set xs i y) ≡ count_by p xs
-  count_changed xs i x y is same =
-      let sum = sum_by-set (λ z. cond (p z) 1 0) xs i y x (slice_get_within xs i x is) in
-      let old : ◌≡◌ {A = ℕ} (cond (p (get_or xs i x)) 1 0) (cond (p x) 1 0) = ap (λ z. cond (p z) 1 0) (get_or_from_slice_get xs i x x is) in
-      let new : ◌≡◌ {A = ℕ} (cond (p y) 1 0) (cond (p x) 1 0) = ap (λ b. cond b 1 0) same in
-      omega (arith, sum, old, new)
+module _ {X : Type 0} (p q : X → Bool) (within : (x : X) → p x ≡ true → q x ≡ true) where
+  filter_within : (xs : List X) → filter q (without_first p xs) ≡ without_first p (filter q xs)
+  filter_within [] = refl
+  filter_within (x ∷ xs) =
+      elim (cases_Bool (p x)) [
+        | inl here ↦ rw (here, within x here, here) refl
+        | inr other ↦
+            elim (cases_Bool (q x)) [
+              | inl kept ↦ rw (other, kept, other) (ap (λ ys. x ∷ ys) (filter_within xs))
+              | inr away ↦ rw (other, away) (filter_within xs)
+            ]
+      ]
 
-module _ {has : ℕ → Live → Bool} {any : Live → Bool} {lives : List Live} {bag : List ℕ} (t : IsTally has any lives bag) where
-  pub tally_pushed : (bag' : List ℕ) (x : Live) → ((n : ℕ) → times n bag' ≡ times n bag + cond (has n x) 1 0) → length bag' ≡ length bag + cond (any x) 1 0 → IsTally has any (lives ++ x ∷ []) bag'
-  tally_pushed bag' x more longer =
+  any_within : (xs : List X) → list_any p (filter q xs) ≡ list_any p xs
+  any_within [] = refl
+  any_within (x ∷ xs) =
+      elim (cases_Bool (p x)) [
+        | inl here ↦ rw (within x here, here) refl
+        | inr other ↦
+            elim (cases_Bool (q x)) [
+              | inl kept ↦ rw (kept, other) (any_within xs)
+              | inr away ↦ rw (away, other) (any_within xs)
+            ]
+      ]
+
+one_fewer : {X : Type 0} (p : X → Bool) (xs : List X) → list_any p xs ≡ true → length (without_first p xs) + 1 ≡ length xs
+one_fewer p [] any = absurd (false≢true any)
+one_fewer p (x ∷ xs) any =
+    elim (cases_Bool (p x)) [
+      | inl here ↦ rw here (omega arith)
+      | inr other ↦ (let later = one_fewer p xs (rw other at any) in rw other (omega (arith, later)))
+    ]
+
+-- ---- pairs of one number
+
+of_number : (m k : ℕ) (p : ℕ × ℕ) → is_pair m k p ≡ true → (p.0 == m) ≡ true
+of_number m k p is =
+    elim (cases_Bool (p.0 == m)) [
+      | inl same ↦ same
+      | inr other ↦ absurd (false≢true (sym (ap (λ b. b && (p.1 == k)) other) ∙ is))
+    ]
+
+of_no_other : (n m k : ℕ) → n ≢ m → (p : ℕ × ℕ) → (p.0 == n) ≡ true → is_pair m k p ≡ false
+of_no_other n m k other p is =
+    elim (cases_eq p.0 m) [
+      | inl same ↦
+          elim (cases_eq p.0 n) [
+            | inl this ↦ absurd (other (sym this ∙ same))
+            | inr away ↦ absurd (false≢true (sym (ne_eqb p.0 n away) ∙ is))
+          ]
+      | inr away ↦ ap (λ b. b && (p.1 == k)) (ne_eqb p.0 m away)
+    ]
+
+without_is : (n m k : ℕ) (ps qs : Pairs) → with_number n ps ≡ with_number n qs → with_number n (without_first (is_pair m k) ps) ≡ with_number n (without_first (is_pair m k) qs)
+without_is n m k ps qs same =
+    elim (cases_eq n m) [
+      | inl this ↦ (
+          let within : (p : ℕ × ℕ) → is_pair m k p ≡ true → (p.0 == n) ≡ true = λ p is. ap (λ j. p.0 == j) this ∙ of_number m k p is in
+          filter_within (is_pair m k) (λ (p : ℕ × ℕ). p.0 == n) within ps ∙ ap (without_first (is_pair m k)) same ∙ sym (filter_within (is_pair m k) (λ (p : ℕ × ℕ). p.0 == n) within qs))
+      | inr other ↦
+          filter-without_first (is_pair m k) (λ (p : ℕ × ℕ). p.0 == n) (of_no_other n m k other) ps ∙ same ∙ sym (filter-without_first (is_pair m k) (λ (p : ℕ × ℕ). p.0 == n) (of_no_other n m k other) qs)
+    ]
+
+module _ {ps qs : Pairs} (o : IsOrdering ps qs) where
+  pub ordering_pushed : (ps' more : Pairs) → ((n : ℕ) → with_number n ps' ≡ with_number n (ps ++ more)) → length ps' ≡ length ps + length more → IsOrdering ps' (qs ++ more)
+  ordering_pushed ps' more each longer =
       record {
-        each = λ n. more n ∙ ap (λ k. k + cond (has n x) 1 0) (t.each n) ∙ sym (count_pushed (has n) lives x);
-        size = longer ∙ ap (λ k. k + cond (any x) 1 0) t.size ∙ sym (count_pushed any lives x);
+        each = λ n. each n ∙ filter-append (λ (p : ℕ × ℕ). p.0 == n) ps more ∙ ap (λ rs. rs ++ with_number n more) (o.each n) ∙ sym (filter-append (λ (p : ℕ × ℕ). p.0 == n) qs more);
+        size = (let long = length-append qs more in let same = o.size in omega (arith, longer, long, same));
       }
 
-  pub tally_removed : (bag' : List ℕ) (i : ℕ) (x : Live) → slice_get lives i ≡ Some x → ((n : ℕ) → times n bag' + cond (has n x) 1 0 ≡ times n bag) → length bag' + cond (any x) 1 0 ≡ length bag → IsTally has any (remove lives i) bag'
-  tally_removed bag' i x is less shorter =
+  -- a pair of the one is in the other
+  pub pair_there : (m k : ℕ) → list_any (is_pair m k) qs ≡ true → list_any (is_pair m k) ps ≡ true
+  pair_there m k there =
+      sym (any_within (is_pair m k) (λ (p : ℕ × ℕ). p.0 == m) (of_number m k) ps) ∙ ap (list_any (is_pair m k)) (o.each m) ∙ any_within (is_pair m k) (λ (p : ℕ × ℕ). p.0 == m) (of_number m k) qs ∙ there
+
+  pub ordering_removed : (m k : ℕ) → list_any (is_pair m k) qs ≡ true → IsOrdering (without_first (is_pair m k) ps) (without_first (is_pair m k) qs)
+  ordering_removed m k there =
       record {
-        each = λ n. omega (arith, less n, t.each n, count_removed (has n) lives i x is);
-        size = omega (arith, shorter, t.size, count_removed any lives i x is);
+        each = λ n. without_is n m k ps qs (o.each n);
+        size = (let here = one_fewer (is_pair m k) ps (pair_there m k there) in let away = one_fewer (is_pair m k) qs there in let same = o.size in omega (arith, here, away, same));
       }
 
-  pub tally_changed : (i : ℕ) (x y : Live) → slice_get lives i ≡ Some x → ((n : ℕ) → has n y ≡ has n x) → any y ≡ any x → IsTally has any (set lives i y) bag
-  tally_changed i x y is same_has same_any =
+  -- the first of a number is the first of the other
+  pub same_first : (n : ℕ) → find (λ (p : ℕ × ℕ). p.0 == n) ps ≡ find (λ (p : ℕ × ℕ). p.0 == n) qs
+  same_first n =
+      sym (first_passing (λ (p : ℕ × ℕ). p.0 == n) ps) ∙ ap (λ rs. slice_get rs 0) (o.each n) ∙ first_passing (λ (p : ℕ × ℕ). p.0 == n) qs
+
+-- ---- the column of the requests
+
+module _ (any : Live → Bool) (number : Live → ℕ) where
+  pub column_pushed : (rs : List (ℕ × Live)) (r : ℕ × Live) → column any number (rs ++ r ∷ []) ≡ column any number rs ++ cond (any r.1) ((number r.1, r.0) ∷ []) []
+  column_pushed [] r = refl
+  column_pushed (s ∷ rs) r =
+      elim (cases_Bool (any s.1)) [
+        | inl here ↦ rw here (ap (λ ps. (number s.1, s.0) ∷ ps) (column_pushed rs r))
+        | inr other ↦ rw other (column_pushed rs r)
+      ]
+
+  pub column_short : (rs : List (ℕ × Live)) → length (column any number rs) ≤ length rs
+  column_short [] = omega arith
+  column_short (r ∷ rs) =
+      let later = column_short rs in
+      elim (cases_Bool (any r.1)) [
+        | inl here ↦ rw here (omega (arith, later))
+        | inr other ↦ rw other (omega (arith, later))
+      ]
+
+  itself_there : (m k : ℕ) → is_pair m k (m, k) ≡ true
+  itself_there m k = rw (eq-eqb m m refl, eq-eqb k k refl) refl
+
+  pub column_has : (rs : List (ℕ × Live)) (i : ℕ) (r : ℕ × Live) → slice_get rs i ≡ Some r → any r.1 ≡ true → list_any (is_pair (number r.1) r.0) (column any number rs) ≡ true
+  column_has [] i r is here = absurd (cc)
+  column_has (s ∷ rs) zero r is here =
+      let e : Some s ≡ Some r = is in
+      let same : s ≡ r = cc in
+      rw (same, here, itself_there (number r.1) r.0) refl
+  column_has (s ∷ rs) (suc i) r is here =
+      let later = column_has rs i r is here in
+      elim (cases_Bool (any s.1)) [
+        | inl first ↦ rw (first, later) (or-true (is_pair (number r.1) r.0 (number s.1, s.0)))
+        | inr other ↦ rw other later
+      ]
+    where
+      or-true : (b : Bool) → (b || true) ≡ true
+      or-true true = refl
+      or-true false = refl
+
+  pub column_removed : (rs : List (ℕ × Live)) (i : ℕ) (r : ℕ × Live) → slice_get rs i ≡ Some r → Distinct key_of rs → column any number (remove rs i) ≡ cond (any r.1) (without_first (is_pair (number r.1) r.0) (column any number rs)) (column any number rs)
+  column_removed [] i r is apart = absurd (cc)
+  column_removed (s ∷ rs) zero r is apart =
+      let e : Some s ≡ Some r = is in
+      let same : s ≡ r = cc in
+      rw same (
+      elim (cases_Bool (any r.1)) [
+        | inl here ↦ rw (here, itself_there (number r.1) r.0) refl
+        | inr other ↦ rw other refl
+      ])
+  column_removed (s ∷ rs) (suc i) r is apart =
+      let within : i < length rs = slice_get_within rs i r is in
+      let away : r.0 ≢ s.0 = absent_at key_of s.0 rs i r within (sym (get_or_from_slice_get rs i r r is)) apart.0 in
+      let stays : is_pair (number r.1) r.0 (number s.1, s.0) ≡ false = ap (λ b. (number s.1 == number r.1) && b) (ne_eqb s.0 r.0 (λ h. away (sym h))) ∙ and-false (number s.1 == number r.1) in
+      let later = column_removed rs i r is apart.1 in
+      elim (cases_Bool (any s.1)) [
+        | inl first ↦ rw (first, later) (ahead (any r.1) stays)
+        | inr other ↦ rw other later
+      ]
+    where
+      ahead : (b : Bool) → is_pair (number r.1) r.0 (number s.1, s.0) ≡ false → (number s.1, s.0) ∷ cond b (without_first (is_pair (number r.1) r.0) (column any number rs)) (column any number rs) ≡ cond b (without_first (is_pair (number r.1) r.0) ((number s.1, s.0) ∷ column any number rs)) ((number s.1, s.0) ∷ column any number rs)
+      ahead true stays = rw stays refl
+      ahead false stays = refl
+
+  pub column_changed : (ks : List ℕ) (xs : List Live) (i : ℕ) (x y : Live) → slice_get xs i ≡ Some x → any y ≡ any x → number y ≡ number x → column any number (zip ks (set xs i y)) ≡ column any number (zip ks xs)
+  column_changed [] xs i x y is same one = refl
+  column_changed (k ∷ ks) [] i x y is same one = absurd (cc)
+  column_changed (k ∷ ks) (z ∷ xs) zero x y is same one =
+      let e : Some z ≡ Some x = is in
+      let here : z ≡ x = cc in
+      rw (here, same, one) refl
+  column_changed (k ∷ ks) (z ∷ xs) (suc i) x y is same one = ap (λ ps. cond (any z) ((number z, k) ∷ ps) ps) (column_changed ks xs i x y is same one)
+
+  pub column_found : (n : ℕ) (rs : List (ℕ × Live)) → option_map (λ (p : ℕ × ℕ). p.1) (find (λ (p : ℕ × ℕ). p.0 == n) (column any number rs)) ≡ option_map (λ (r : ℕ × Live). r.0) (find (λ (r : ℕ × Live). any r.1 && (number r.1 == n)) rs)
+  column_found n [] = refl
+  column_found n (r ∷ rs) =
+      elim (cases_Bool (any r.1)) [
+        | inl here ↦
+            elim (cases_Bool (number r.1 == n)) [
+              | inl same ↦ rw (here, same) refl
+              | inr other ↦ rw (here, other) (column_found n rs)
+            ]
+        | inr other ↦ rw other (column_found n rs)
+      ]
+
+-- ---- the index
+
+pub zip_short : (keys : List ℕ) (lives : List Live) → length keys ≡ length lives → length (zip keys lives) ≤ length lives
+zip_short keys lives long = let e = length-zip keys lives in omega (arith, e, long)
+
+module _ {keys : List ℕ} {lives : List Live} {index : Index} (s : IsIndexed keys lives index) where
+  abbrev number : Live → ℕ
+  number live = live.seqnum
+
+  abbrev id : Live → ℕ
+  id live = live.id
+
+  abbrev each : Live → Bool
+  each live = true
+
+  pub index_changed : (i : ℕ) (x y : Live) → slice_get lives i ≡ Some x → y.kind ≡ x.kind → y.seqnum ≡ x.seqnum → y.id ≡ x.id → IsIndexed keys (set lives i y) index
+  index_changed i x y is kind seqnum same_id =
       record {
-        each = λ n. t.each n ∙ sym (count_changed (has n) lives i x y is (same_has n));
-        size = t.size ∙ sym (count_changed any lives i x y is same_any);
-      }
-
-  pub tally_room : length bag ≤ length lives
-  tally_room = omega (arith, t.size, count_by-le-length any lives)
-
-  -- a request has the number, so the bag does
-  pub tally_has : (i : ℕ) (x : Live) (n : ℕ) → slice_get lives i ≡ Some x → has n x ≡ true → list_any (λ m. m == n) bag ≡ true
-  tally_has i x n is here =
-      let one : ◌≡◌ {A = ℕ} (cond (has n x) 1 0) 1 = ap (λ b. cond b 1 0) here in
-      some_from_count (λ m. m == n) bag (omega (arith, t.each n, count_removed (has n) lives i x is, one))
-
-module _ {lives : List Live} {index : Index} (s : IsIndexed lives index) where
-  pub index_changed : (i : ℕ) (x y : Live) → slice_get lives i ≡ Some x → y.kind ≡ x.kind → y.seqnum ≡ x.seqnum → y.id ≡ x.id → IsIndexed (set lives i y) index
-  index_changed i x y is kind seqnum id =
-      record {
-        numbers = tally_changed s.numbers i x y is (λ n. ap (λ m. m == n) seqnum) refl;
-        held = tally_changed s.held i x y is (λ n. rw (kind, id) refl) (rw kind refl);
+        long = s.long ∙ sym (length-set lives i y);
+        numbers = rw (column_changed each number keys lives i x y is refl seqnum) s.numbers;
+        held = rw (column_changed goes_by_id id keys lives i x y is (rw kind refl) same_id) s.held;
         changes = s.changes ∙ sym (count_changed changes lives i x y is (rw kind refl));
       }
 
-  -- the sums are written out, so that the callers' clauses fit
-  pub index_pushed : (numbers held : List ℕ) (changing : ℕ) (x : Live) → ((n : ℕ) → times n numbers ≡ times n index.numbers + cond (x.seqnum == n) 1 0) → length numbers ≡ length index.numbers + 1 → ((n : ℕ) → times n held ≡ times n index.held + cond (has_id n x) 1 0) → length held ≡ length index.held + cond (goes_by_id x) 1 0 → changing ≡ index.changes + cond (changes x) 1 0 → IsIndexed (lives ++ x ∷ []) record { numbers = numbers; held = held; changes = changing }
-  index_pushed numbers held changing x number_more number_longer held_more held_longer more =
-      record {
-        numbers = tally_pushed s.numbers numbers x number_more number_longer;
-        held = tally_pushed s.held held x held_more held_longer;
-        changes = more ∙ ap (λ k. k + cond (changes x) 1 0) s.changes ∙ sym (count_pushed changes lives x);
-      }
+  pub number_room : length index.numbers ≤ length lives
+  number_room = let a = s.numbers.size in let b = column_short each number (zip keys lives) in let c = zip_short keys lives s.long in omega (arith, a, b, c)
 
-  pub index_removed : (numbers held : List ℕ) (changing : ℕ) (i : ℕ) (x : Live) → slice_get lives i ≡ Some x → ((n : ℕ) → times n numbers + cond (x.seqnum == n) 1 0 ≡ times n index.numbers) → length numbers + 1 ≡ length index.numbers → ((n : ℕ) → times n held + cond (has_id n x) 1 0 ≡ times n index.held) → length held + cond (goes_by_id x) 1 0 ≡ length index.held → changing + cond (changes x) 1 0 ≡ index.changes → IsIndexed (remove lives i) record { numbers = numbers; held = held; changes = changing }
-  index_removed numbers held changing i x is number_less number_shorter held_less held_shorter less =
-      record {
-        numbers = tally_removed s.numbers numbers i x is number_less number_shorter;
-        held = tally_removed s.held held i x is held_less held_shorter;
-        changes = omega (arith, less, s.changes, count_removed changes lives i x is);
-      }
+  pub held_room : length index.held ≤ length lives
+  held_room = let a = s.held.size in let b = column_short goes_by_id id (zip keys lives) in let c = zip_short keys lives s.long in omega (arith, a, b, c)
 
-  -- one that changes the interfaces is among those that are counted
-  pub change_counted : (i : ℕ) (x : Live) → slice_get lives i ≡ Some x → cond (changes x) 1 0 ≤ index.changes
-  change_counted i x is = omega (arith, s.changes, count_removed changes lives i x is)
+  pub changes_few : index.changes ≤ length lives
+  changes_few = let a = s.changes in let b = count_by-le-length changes lives in omega (arith, a, b)
+
+  -- the parts are written out, so that the callers' clauses fit
+  pub index_pushed : (numbers held : Pairs) (changing k : ℕ) (x : Live) → ((n : ℕ) → with_number n numbers ≡ with_number n (index.numbers ++ (x.seqnum, k) ∷ [])) → length numbers ≡ length index.numbers + 1 → ((n : ℕ) → with_number n held ≡ with_number n (index.held ++ cond (goes_by_id x) ((x.id, k) ∷ []) [])) → length held ≡ length index.held + cond (goes_by_id x) 1 0 → changing ≡ index.changes + cond (changes x) 1 0 → IsIndexed (keys ++ k ∷ []) (lives ++ x ∷ []) record { numbers = numbers; held = held; changes = changing }
+  index_pushed numbers held changing k x number_more number_longer held_more held_longer more =
+      let whole = zip_pushed keys lives k x s.long in
+      record {
+        long = (let a = length-append keys (k ∷ []) in let b = length-append lives (x ∷ []) in let c = s.long in omega (arith, a, b, c));
+        numbers = rw (whole, column_pushed each number (zip keys lives) (k, x)) (ordering_pushed s.numbers numbers ((x.seqnum, k) ∷ []) number_more number_longer);
+        held = rw (whole, column_pushed goes_by_id id (zip keys lives) (k, x)) (ordering_pushed s.held held (cond (goes_by_id x) ((x.id, k) ∷ []) []) held_more (held_longer ∙ ap (λ n. length index.held + n) (long_cond (goes_by_id x))));
+        changes = more ∙ ap (λ n. n + cond (changes x) 1 0) s.changes ∙ sym (count_pushed changes lives x);
+      }
+    where
+      long_cond : (b : Bool) → cond b 1 0 ≡ length {A = ℕ × ℕ} (cond b ((x.id, k) ∷ []) [])
+      long_cond true = refl
+      long_cond false = refl
+
+  module _ (i k : ℕ) (x : Live) (key : slice_get keys i ≡ Some k) (live : slice_get lives i ≡ Some x) where
+    at : slice_get (zip keys lives) i ≡ Some (k, x)
+    at = zip_at keys lives i k x key live
+
+    pub numbered_there : list_any (is_pair x.seqnum k) index.numbers ≡ true
+    numbered_there = pair_there s.numbers x.seqnum k (column_has each number (zip keys lives) i (k, x) at refl)
+
+    pub held_there : goes_by_id x ≡ true → list_any (is_pair x.id k) index.held ≡ true
+    held_there flies = pair_there s.held x.id k (column_has goes_by_id id (zip keys lives) i (k, x) at flies)
+
+    -- one that changes the interfaces is among those that are counted
+    pub change_counted : cond (changes x) 1 0 ≤ index.changes
+    change_counted = omega (arith, s.changes, count_removed changes lives i x live)
+
+    pub index_removed : Distinct itself keys → (numbers held : Pairs) (changing : ℕ) → numbers ≡ without_first (is_pair x.seqnum k) index.numbers → held ≡ cond (goes_by_id x) (without_first (is_pair x.id k) index.held) index.held → changing + cond (changes x) 1 0 ≡ index.changes → IsIndexed (remove keys i) (remove lives i) record { numbers = numbers; held = held; changes = changing }
+    index_removed apart numbers held changing number_less held_less less =
+        let left = zip_removed keys lives i in
+        let apart_rows = distinct_zipped keys lives apart in
+        record {
+          long = (let a = length-remove keys i (slice_get_within keys i k key) in let b = length-remove lives i (slice_get_within lives i x live) in let c = s.long in omega (arith, a, b, c));
+          numbers = rw (left, column_removed each number (zip keys lives) i (k, x) at apart_rows, number_less) (ordering_removed s.numbers x.seqnum k (column_has each number (zip keys lives) i (k, x) at refl));
+          held = rw (left, column_removed goes_by_id id (zip keys lives) i (k, x) at apart_rows, held_less) (
+              elim (cases_Bool (goes_by_id x)) [
+                | inl flies ↦ rw flies (ordering_removed s.held x.id k (column_has goes_by_id id (zip keys lives) i (k, x) at flies))
+                | inr waits ↦ rw waits s.held
+              ]);
+          changes = omega (arith, less, s.changes, count_removed changes lives i x live);
+        }
+
+-- ---- one is looked for
+
+pub zip_any : (test : Live → Bool) (keys : List ℕ) (lives : List Live) → length keys ≡ length lives → is_some (option_map (λ (r : ℕ × Live). r.0) (find (λ (r : ℕ × Live). test r.1) (zip keys lives))) ≡ list_any test lives
+zip_any test [] [] long = refl
+zip_any test [] (x ∷ xs) long = absurd (omega (arith, long))
+zip_any test (k ∷ ks) [] long = absurd (omega (arith, long))
+zip_any test (k ∷ ks) (x ∷ xs) long =
+    elim (cases_Bool (test x)) [
+      | inl here ↦ rw here refl
+      | inr other ↦ rw other (zip_any test ks xs (omega (arith, long)))
+    ]

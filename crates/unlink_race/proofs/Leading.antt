@@ -3,14 +3,14 @@ use Rattle.std.proofs.Common.{◌≡◌, ℕ, zero, suc, ◌+◌, ◌<◌, ◌�
 use Rattle.std.proofs.lemmas.Bool.{ne_eqb, eq-eqb, cases_eq}
 use Rattle.std.proofs.lemmas.List.{map-append}
 use Rattle.urb_arena.specs.Lanes.{find, key_after, first_key, or_else, search_in, ByKey}
-use Rattle.unlink_race.specs.declared.table.Row.{Row}
+use Rattle.unlink_race.specs.declared.live.Live.{Live}
 use Rattle.unlink_race.specs.Inner.Lane.{lane_of}
 use Rattle.unlink_race.specs.Inner.Listed.{Absent, Kept}
 use Rattle.unlink_race.specs.Inner.Placed.{keys_in, ArePlaced}
 use Rattle.unlink_race.proofs.Placing.{keys}
 
-abbrev key_of : Row → ℕ
-key_of r = r.key
+abbrev key_of : ℕ × Live → ℕ
+key_of r = r.0
 
 -- k is one of the keys
 abbrev In : ℕ → List ℕ → Type 0
@@ -23,65 +23,65 @@ in_here k (j ∷ ks) js = inr (in_here k ks js)
 
 -- ---- of rows that all differ in their keys
 
-not_in : (k lane : ℕ) (rows : List Row) → Absent key_of k rows → In k (keys_in lane rows) → ⊥
+not_in : (k lane : ℕ) (rows : List (ℕ × Live)) → Absent key_of k rows → In k (keys_in lane rows) → ⊥
 not_in k lane [] absent there = there
 not_in k lane (r ∷ rows) absent there =
-    elim (cases_eq (lane_of r.kind) lane) [
+    elim (cases_eq (lane_of r.1.kind) lane) [
       | inl same ↦ (
-          let split : (r.key ≡ k) ⊎ In k (keys_in lane rows) = rw (eq-eqb (lane_of r.kind) lane same) at there in
+          let split : (r.0 ≡ k) ⊎ In k (keys_in lane rows) = rw (eq-eqb (lane_of r.1.kind) lane same) at there in
           elim split [
             | inl here ↦ absent.0 here
             | inr later ↦ not_in k lane rows absent.1 later
           ])
-      | inr other ↦ not_in k lane rows absent.1 (rw (ne_eqb (lane_of r.kind) lane other) at there)
+      | inr other ↦ not_in k lane rows absent.1 (rw (ne_eqb (lane_of r.1.kind) lane other) at there)
     ]
 
 module _ {X : Type 0} (g : ℕ → Option X) where
   -- a key stands in one lane
-  one_lane : (k a b : ℕ) (rows : List Row) → Kept key_of g rows → In k (keys_in a rows) → In k (keys_in b rows) → a ≡ b
+  one_lane : (k a b : ℕ) (rows : List (ℕ × Live)) → Kept key_of g rows → In k (keys_in a rows) → In k (keys_in b rows) → a ≡ b
   one_lane k a b [] kept first second = absurd first
   one_lane k a b (r ∷ rows) kept first second =
-      elim (cases_eq (lane_of r.kind) a) [
+      elim (cases_eq (lane_of r.1.kind) a) [
         | inl in_a ↦
-            elim (cases_eq (lane_of r.kind) b) [
+            elim (cases_eq (lane_of r.1.kind) b) [
               | inl in_b ↦ sym in_a ∙ in_b
               | inr not_b ↦ (
-                  let split : (r.key ≡ k) ⊎ In k (keys_in a rows) = rw (eq-eqb (lane_of r.kind) a in_a) at first in
-                  let there : In k (keys_in b rows) = rw (ne_eqb (lane_of r.kind) b not_b) at second in
+                  let split : (r.0 ≡ k) ⊎ In k (keys_in a rows) = rw (eq-eqb (lane_of r.1.kind) a in_a) at first in
+                  let there : In k (keys_in b rows) = rw (ne_eqb (lane_of r.1.kind) b not_b) at second in
                   elim split [
-                    | inl here ↦ absurd (not_in r.key b rows kept.1 (subst (λ j. In j (keys_in b rows)) (sym here) there))
+                    | inl here ↦ absurd (not_in r.0 b rows kept.1 (subst (λ j. In j (keys_in b rows)) (sym here) there))
                     | inr later ↦ one_lane k a b rows kept.2 later there
                   ])
             ]
         | inr not_a ↦ (
-            let there : In k (keys_in a rows) = rw (ne_eqb (lane_of r.kind) a not_a) at first in
-            elim (cases_eq (lane_of r.kind) b) [
+            let there : In k (keys_in a rows) = rw (ne_eqb (lane_of r.1.kind) a not_a) at first in
+            elim (cases_eq (lane_of r.1.kind) b) [
               | inl in_b ↦ (
-                  let split : (r.key ≡ k) ⊎ In k (keys_in b rows) = rw (eq-eqb (lane_of r.kind) b in_b) at second in
+                  let split : (r.0 ≡ k) ⊎ In k (keys_in b rows) = rw (eq-eqb (lane_of r.1.kind) b in_b) at second in
                   elim split [
-                    | inl here ↦ absurd (not_in r.key a rows kept.1 (subst (λ j. In j (keys_in a rows)) (sym here) there))
+                    | inl here ↦ absurd (not_in r.0 a rows kept.1 (subst (λ j. In j (keys_in a rows)) (sym here) there))
                     | inr later ↦ one_lane k a b rows kept.2 there later
                   ])
-              | inr not_b ↦ one_lane k a b rows kept.2 there (rw (ne_eqb (lane_of r.kind) b not_b) at second)
+              | inr not_b ↦ one_lane k a b rows kept.2 there (rw (ne_eqb (lane_of r.1.kind) b not_b) at second)
             ])
       ]
 
   -- and once in it
-  once : (k lane : ℕ) (rows : List Row) (ks js : List ℕ) → Kept key_of g rows → keys_in lane rows ≡ ks ++ k ∷ js → In k ks → ⊥
+  once : (k lane : ℕ) (rows : List (ℕ × Live)) (ks js : List ℕ) → Kept key_of g rows → keys_in lane rows ≡ ks ++ k ∷ js → In k ks → ⊥
   once k lane [] [] js kept is there = there
   once k lane [] (i ∷ ks) js kept is there = absurd (cc)
   once k lane (r ∷ rows) ks js kept is there =
-      elim (cases_eq (lane_of r.kind) lane) [
-        | inl same ↦ by_head (λ later e. once k lane rows later js kept.2 e) ks (rw (eq-eqb (lane_of r.kind) lane same) at is) there
-        | inr other ↦ once k lane rows ks js kept.2 (rw (ne_eqb (lane_of r.kind) lane other) at is) there
+      elim (cases_eq (lane_of r.1.kind) lane) [
+        | inl same ↦ by_head (λ later e. once k lane rows later js kept.2 e) ks (rw (eq-eqb (lane_of r.1.kind) lane same) at is) there
+        | inr other ↦ once k lane rows ks js kept.2 (rw (ne_eqb (lane_of r.1.kind) lane other) at is) there
       ]
     where
-      by_head : ((later : List ℕ) → keys_in lane rows ≡ later ++ k ∷ js → In k later → ⊥) → (is : List ℕ) → r.key ∷ keys_in lane rows ≡ is ++ k ∷ js → In k is → ⊥
+      by_head : ((later : List ℕ) → keys_in lane rows ≡ later ++ k ∷ js → In k later → ⊥) → (is : List ℕ) → r.0 ∷ keys_in lane rows ≡ is ++ k ∷ js → In k is → ⊥
       by_head behind [] e here = here
       by_head behind (i ∷ is) e (inl here) =
-          let head : r.key ≡ i = cc in
+          let head : r.0 ≡ i = cc in
           let tail : keys_in lane rows ≡ is ++ k ∷ js = cc in
-          not_in r.key lane rows kept.1 (subst (λ j. In j (keys_in lane rows)) (sym (head ∙ here)) (rw tail (in_here k is js)))
+          not_in r.0 lane rows kept.1 (subst (λ j. In j (keys_in lane rows)) (sym (head ∙ here)) (rw tail (in_here k is js)))
       by_head behind (i ∷ is) e (inr later) =
           let tail : keys_in lane rows ≡ is ++ k ∷ js = cc in
           behind is tail later
@@ -112,7 +112,7 @@ module _ {X : Type 0} where
   after_here [] p ys away = rw (eq-eqb p.0 p.0 refl) refl
   after_here (x ∷ xs) p ys away = rw (ne_eqb x.0 p.0 (λ same. away (inl same))) (after_here xs p ys (λ later. away (inr later)))
 
-  module _ {Y : Type 0} (k : ℕ) (h : List (ℕ × X) → Option Y) (skip : (ps : List (ℕ × X)) → (In k (keys ps) → ⊥) → h ps ≡ None) {E : Type 0} (g : ℕ → Option E) (rows : List Row) (kept : Kept key_of g rows) where
+  module _ {Y : Type 0} (k : ℕ) (h : List (ℕ × X) → Option Y) (skip : (ps : List (ℕ × X)) → (In k (keys ps) → ⊥) → h ps ≡ None) {E : Type 0} (g : ℕ → Option E) (rows : List (ℕ × Live)) (kept : Kept key_of g rows) where
     -- it is found in no lane behind its own
     none_behind : (home lane : ℕ) (pss : List (List (ℕ × X))) → In k (keys_in home rows) → home < lane → ArePlaced lane (map keys pss) rows → search_in h pss ≡ None
     none_behind home lane [] there low placed = refl
@@ -137,7 +137,7 @@ module _ {X : Type 0} where
         none_before (h ps) (search_in h pss) (skip ps away) ∙ search_home (lane + 1) pss l here placed.1
 
   -- the keys of a lane with a pair in it
-  keys_at : (lane : ℕ) (pss : List (List (ℕ × X))) (l : ℕ) (rows : List Row) (xs : List (ℕ × X)) (p : ℕ × X) (ys : List (ℕ × X)) → get_or pss l [] ≡ xs ++ p ∷ ys → ArePlaced lane (map keys pss) rows → keys_in (lane + l) rows ≡ keys xs ++ p.0 ∷ keys ys
+  keys_at : (lane : ℕ) (pss : List (List (ℕ × X))) (l : ℕ) (rows : List (ℕ × Live)) (xs : List (ℕ × X)) (p : ℕ × X) (ys : List (ℕ × X)) → get_or pss l [] ≡ xs ++ p ∷ ys → ArePlaced lane (map keys pss) rows → keys_in (lane + l) rows ≡ keys xs ++ p.0 ∷ keys ys
   keys_at lane [] zero rows [] p ys is placed = absurd (cc)
   keys_at lane [] zero rows (x ∷ xs) p ys is placed = absurd (cc)
   keys_at lane [] (suc l) rows [] p ys is placed = absurd (cc)
@@ -149,7 +149,7 @@ module _ {X : Type 0} where
       let e : lane + suc l ≡ lane + 1 + l = omega arith in
       ap (λ n. keys_in n rows) e ∙ keys_at (lane + 1) pss l rows xs p ys is placed.1
 
-  pub by_key : {E : Type 0} (g : ℕ → Option E) (rows : List Row) (pss : List (List (ℕ × X))) → Kept key_of g rows → ArePlaced 0 (map keys pss) rows → ByKey pss
+  pub by_key : {E : Type 0} (g : ℕ → Option E) (rows : List (ℕ × Live)) (pss : List (List (ℕ × X))) → Kept key_of g rows → ArePlaced 0 (map keys pss) rows → ByKey pss
   by_key g rows pss kept placed l xs p ys is =
       let here : In p.0 (keys (get_or pss l [])) = subst (λ ps. In p.0 (keys ps)) (sym is) (subst (In p.0) (sym (map-append (λ q. q.0) xs (p ∷ ys))) (in_here p.0 (keys xs) (keys ys))) in
       let away : In p.0 (keys xs) → ⊥ = once g p.0 (0 + l) rows (keys xs) (keys ys) kept (keys_at 0 pss l rows xs p ys is placed) in (

@@ -3,11 +3,13 @@ pub mod Columns
 pub mod Counts
 pub mod Dealing
 pub mod Earliest
+pub mod Found
 pub mod Halving
 pub mod Ids
 pub mod Indexes
 pub mod Lanes
 pub mod Leading
+pub mod Ordered
 pub mod Passing
 pub mod Placing
 pub mod Rising
@@ -17,3 +19,4 @@ pub mod Searching
 pub mod Told
 pub mod Unlinks
 pub mod Walks
+pub mod Zipped

@@ -1,33 +1,29 @@
 -- The searches of a sound table in its lanes.
 use Rattle.std.proofs.Common.{◌≡◌, ◌==◌, ◌&&◌, ℕ, ◌+◌, ◌<◌, Bool, true, false, ltb, List, [], length, map, filter, get_or, slice_get, Option, option_map, Some, None, refl, ap, sym, subst, ◌∙◌, zero-add, arith, inl, inr}
-use Rattle.std.specs.List.{position, position_or_len}
+use Rattle.std.specs.List.{find, position, position_or_len, zip}
 use Rattle.std.proofs.lemmas.Bool.{lt-ltb, le-ltb, eq-eqb, ne_eqb, cases_eq}
 use Rattle.std.proofs.lemmas.List.{length-map}
 use Rattle.std.proofs.lemmas.Option.{slice_get-map}
-use Rattle.std.proofs.lemmas.Simd.{map-map}
 use Rattle.std.proofs.Math.Bool.{and-false}
 use Rattle.usb_base.specs.Endpoint.{endpoint_index}
-use Rattle.control_route.specs.declared.route.Route.{Route}
 use Rattle.urb_arena.specs.Seen.{Seen}
 use Rattle.urb_arena.specs.Lanes.{ByKey}
 use Rattle.unlink_race.specs.declared.live.Live.{Live}
 use Rattle.unlink_race.specs.declared.live.LiveKind.{LiveKind}
 use Rattle.unlink_race.specs.declared.live.LiveKind.TheVariants.{Wire, Routed, Stream}
-use Rattle.unlink_race.specs.declared.live.StreamEnd.TheVariants.{Told, Change}
-use Rattle.unlink_race.specs.declared.table.Row.{Row}
-use Rattle.unlink_race.specs.Searches.{waits_at, waits_for, ended_by, touched_by}
+use Rattle.unlink_race.specs.declared.live.StreamEnd.TheVariants.{Told}
+use Rattle.unlink_race.specs.Searches.{waits_at, waits_for, ended_by}
 use Rattle.unlink_race.specs.Inner.Earliest.{passing, earliest, least}
 use Rattle.unlink_race.specs.Inner.Lane.{lane_of}
-use Rattle.unlink_race.specs.Inner.Listed.{Kept}
+use Rattle.unlink_race.specs.Inner.Listed.{Kept, listed}
 use Rattle.unlink_race.specs.Inner.Sound.{entry_of, in_order, lives_of, numbers_of, Rises, IsSound}
 use Rattle.unlink_race.proofs.Earliest.{number_placed, none_placed, first_number, earliest_passing, lives_passing, never, Alike, all_backed, keys_home, and_in, and_below, lane_passing, least_is}
+use Rattle.unlink_race.proofs.Found.{key_found, IsFound, found, found_none}
 use Rattle.unlink_race.proofs.Halving.{number_at_place}
 use Rattle.unlink_race.proofs.Leading.{by_key}
 use Rattle.unlink_race.proofs.Rows.{length-listed}
 use Rattle.unlink_race.proofs.Walks.{values}
-
-abbrev key_of : Row → ℕ
-key_of r = r.key
+use Rattle.unlink_race.proofs.Zipped.{key_of, itself, kept_zipped, listed_zipped, kinds_zipped}
 
 -- what waits for an endpoint's packets stands in the endpoint's lane
 waits_there : (ep : ℕ) (kind : LiveKind) → ((lane_of kind == endpoint_index ep) && waits_at ep kind) ≡ waits_at ep kind
@@ -40,68 +36,106 @@ waits_there ep (Stream at interface) =
     ]
 
 -- the place of a request, from its number
-pub record IsPlaced (test : Live → Bool) (arena : Seen (ℕ × Live)) (rows : List Row) (xs : List Live) (number : ℕ) : Type 0 where
+pub record IsPlaced (test : Live → Bool) (arena : Seen (ℕ × Live)) (keys : List ℕ) (xs : List Live) (number : ℕ) : Type 0 where
   pub place : ℕ
-  pub within : place < length rows
-  pub is : get_or (numbers_of arena rows) place 0 ≡ number
+  pub within : place < length keys
+  pub is : get_or (numbers_of arena keys) place 0 ≡ number
   pub first : position test xs ≡ Some place
 
-module _ {arena : Seen (ℕ × Live)} {rows : List Row} {seqnums ids : List ℕ} (s : IsSound arena rows seqnums ids) where
-  pub keyed : ByKey arena.lanes
-  keyed = by_key (entry_of arena) rows arena.lanes s.kept s.placed
+module _ {arena : Seen (ℕ × Live)} {keys : List ℕ} (s : IsSound arena keys) where
+  long_entries : length (in_order arena keys) ≡ length keys
+  long_entries = length-listed itself (entry_of arena) keys s.kept
 
-  alike : Alike rows (in_order arena rows)
-  alike = s.columns.are_kinds ∙ map-map (λ live. live.kind) (λ (e : ℕ × Live). e.1) (in_order arena rows)
+  abbrev rows : List (ℕ × Live)
+  rows = zip keys (lives_of arena keys)
+
+  kept : Kept key_of (entry_of arena) rows
+  kept = kept_zipped (entry_of arena) keys (lives_of arena keys) s.kept
+
+  -- the requests of the keys, by the pairs of both
+  whole : listed key_of (entry_of arena) rows ≡ in_order arena keys
+  whole = listed_zipped (entry_of arena) keys (lives_of arena keys) (sym long_entries ∙ sym (length-map (in_order arena keys) (λ (e : ℕ × Live). e.1))) s.kept
+
+  pub keyed : ByKey arena.lanes
+  keyed = by_key (entry_of arena) rows arena.lanes kept s.placed
+
+  alike : Alike rows (listed key_of (entry_of arena) rows)
+  alike = kinds_zipped keys (in_order arena keys) (sym long_entries) ∙ ap (map (λ (e : ℕ × Live). e.1.kind)) (sym whole)
 
   -- those that wait for an endpoint's packets are those of its lane that do
-  waiting_are : (ep byte lane : ℕ) → byte ≡ ep → lane ≡ endpoint_index ep → lane < 32 → passing (ended_by (Told byte)) (values (get_or arena.lanes lane [])) ≡ passing (waits_for ep) (in_order arena rows)
+  waiting_are : (ep byte lane : ℕ) → byte ≡ ep → lane ≡ endpoint_index ep → lane < 32 → passing (ended_by (Told byte)) (values (get_or arena.lanes lane [])) ≡ passing (waits_for ep) (in_order arena keys)
   waiting_are ep byte lane same at low =
       ap (λ b. passing (ended_by (Told b)) (values (get_or arena.lanes lane []))) same
-      ∙ lane_passing (waits_for ep) (entry_of arena) (0 + lane) rows (get_or arena.lanes lane []) s.kept alike (all_backed arena.lanes keyed lane [] (get_or arena.lanes lane []) refl) (keys_home 0 arena.lanes lane rows (let e = s.lanes in omega (arith, low, e)) s.placed)
-      ∙ ap (λ n. passing (and_in (waits_for ep) n) (in_order arena rows)) (zero-add lane ∙ at)
-      ∙ (λ i. passing (λ (x : Live). waits_there ep x.kind i) (in_order arena rows))
+      ∙ lane_passing (waits_for ep) (entry_of arena) (0 + lane) rows (get_or arena.lanes lane []) kept alike (all_backed arena.lanes keyed lane [] (get_or arena.lanes lane []) refl) (keys_home 0 arena.lanes lane rows (let e = s.lanes in omega (arith, low, e)) s.placed)
+      ∙ ap (passing (and_in (waits_for ep) (0 + lane))) whole
+      ∙ ap (λ n. passing (and_in (waits_for ep) n) (in_order arena keys)) (zero-add lane ∙ at)
+      ∙ (λ i. passing (λ (x : Live). waits_there ep x.kind i) (in_order arena keys))
 
-  pub waiting_is : (ep byte lane : ℕ) → byte ≡ ep → lane ≡ endpoint_index ep → lane < 32 → earliest (ended_by (Told byte)) (values (get_or arena.lanes lane [])) ≡ earliest (waits_for ep) (in_order arena rows)
+  pub waiting_is : (ep byte lane : ℕ) → byte ≡ ep → lane ≡ endpoint_index ep → lane < 32 → earliest (ended_by (Told byte)) (values (get_or arena.lanes lane [])) ≡ earliest (waits_for ep) (in_order arena keys)
   waiting_is ep byte lane same at low =
-      earliest_passing (ended_by (Told byte)) (values (get_or arena.lanes lane [])) ∙ ap first_number (waiting_are ep byte lane same at low) ∙ sym (earliest_passing (waits_for ep) (in_order arena rows))
+      earliest_passing (ended_by (Told byte)) (values (get_or arena.lanes lane [])) ∙ ap first_number (waiting_are ep byte lane same at low) ∙ sym (earliest_passing (waits_for ep) (in_order arena keys))
 
   -- the nth of them
-  pub nth_waiting : {xs : List Live} → lives_of arena rows ≡ xs → (ep byte lane nth : ℕ) → byte ≡ ep → lane ≡ endpoint_index ep → lane < 32 → option_map (λ (e : ℕ × Live). e.1) (slice_get (passing (ended_by (Told byte)) (values (get_or arena.lanes lane []))) nth) ≡ slice_get (filter (waits_for ep) xs) nth
+  pub nth_waiting : {xs : List Live} → lives_of arena keys ≡ xs → (ep byte lane nth : ℕ) → byte ≡ ep → lane ≡ endpoint_index ep → lane < 32 → option_map (λ (e : ℕ × Live). e.1) (slice_get (passing (ended_by (Told byte)) (values (get_or arena.lanes lane []))) nth) ≡ slice_get (filter (waits_for ep) xs) nth
   nth_waiting v ep byte lane nth same at low =
       ap (λ (es : List (ℕ × Live)). option_map (λ (e : ℕ × Live). e.1) (slice_get es nth)) (waiting_are ep byte lane same at low)
-      ∙ sym (slice_get-map (λ (e : ℕ × Live). e.1) (passing (waits_for ep) (in_order arena rows)) nth)
-      ∙ ap (λ (ls : List Live). slice_get ls nth) (lives_passing (waits_for ep) (in_order arena rows))
+      ∙ sym (slice_get-map (λ (e : ℕ × Live). e.1) (passing (waits_for ep) (in_order arena keys)) nth)
+      ∙ ap (λ (ls : List Live). slice_get ls nth) (lives_passing (waits_for ep) (in_order arena keys))
       ∙ ap (λ (ls : List Live). slice_get (filter (waits_for ep) ls) nth) v
 
-  pub touched_is : (route : Route) (high : ℕ) → Rises 0 (numbers_of arena rows) high → least (ended_by (Change route)) None arena.lanes ≡ earliest (touched_by route) (in_order arena rows)
-  touched_is route high rises =
-      least_is (touched_by route) (entry_of arena) rows high s.kept alike rises 0 arena.lanes None (λ l. all_backed arena.lanes keyed l [] (get_or arena.lanes l []) refl) s.placed (sym (never (and_below (touched_by route) 0) (λ x. ap (λ b. b && touched_by route x) (le-ltb (lane_of x.kind) 0 (omega arith))) (in_order arena rows)))
+  -- the least of the lanes' first that pass is the earliest of all that pass
+  pub least_passing : (test : Live → Bool) (high : ℕ) → Rises 0 (numbers_of arena keys) high → least test None arena.lanes ≡ earliest test (in_order arena keys)
+  least_passing test high rises =
+      least_is test (entry_of arena) rows high kept alike (rw whole rises) 0 arena.lanes None (λ l. all_backed arena.lanes keyed l [] (get_or arena.lanes l []) refl) s.placed (sym (never (and_below test 0) (λ x. ap (λ b. b && test x) (le-ltb (lane_of x.kind) 0 (omega arith))) (listed key_of (entry_of arena) rows)))
+      ∙ ap (earliest test) whole
 
-  module _ {xs : List Live} (v : lives_of arena rows ≡ xs) (test : Live → Bool) where
-    long : length (in_order arena rows) ≡ length rows
-    long = length-listed key_of (entry_of arena) rows s.kept
+  module _ {xs : List Live} (v : lives_of arena keys ≡ xs) (test : Live → Bool) where
+    long_lives : length xs ≡ length (in_order arena keys)
+    long_lives = ap length (sym v) ∙ length-map (in_order arena keys) (λ (e : ℕ × Live). e.1)
 
-    long_lives : length xs ≡ length (in_order arena rows)
-    long_lives = ap length (sym v) ∙ length-map (in_order arena rows) (λ (e : ℕ × Live). e.1)
-
-    placed : (number : ℕ) → earliest test (in_order arena rows) ≡ Some number → IsPlaced test arena rows xs number
-    placed number is =
-        let at = number_placed test (in_order arena rows) number is in
-        let inside : at.place < length rows = (let w = at.within in let e = long in omega (arith, w, e)) in
+    at_place : (number : ℕ) → earliest test (in_order arena keys) ≡ Some number → IsPlaced test arena keys xs number
+    at_place number is =
+        let at = number_placed test (in_order arena keys) number is in
+        let inside : at.place < length keys = (let w = at.within in let e = long_entries in omega (arith, w, e)) in
         let first : position_or_len test xs ≡ at.place = ap (position_or_len test) (sym v) ∙ at.first in
         let there : ltb at.place (length xs) ≡ true = lt-ltb _ _ (let w = at.within in let e = long_lives in omega (arith, w, e)) in
         record { place = at.place; within = inside; is = at.is; first = rw (first, there) refl }
 
-    -- what a search of these rows by the number gives
-    pub search_gives : (rows' : List Row) (result : Option ℕ) (number high : ℕ) → rows' ≡ rows → earliest test (in_order arena rows) ≡ Some number → Rises 0 (numbers_of arena rows) high → ((high : ℕ) → Kept key_of (entry_of arena) rows' → Rises 0 (numbers_of arena rows') high → result ≡ position (λ n. n == number) (numbers_of arena rows')) → result ≡ position test xs
-    search_gives rows' result number high same is rises told =
-        let at = placed number is in
-        let P : List Row → Type 0 = λ rs. (high : ℕ) → Kept key_of (entry_of arena) rs → Rises 0 (numbers_of arena rs) high → result ≡ position (λ n. n == number) (numbers_of arena rs) in
-        subst P same told high s.kept rises ∙ sym (number_at_place arena rows s.kept high rises number at.place at.within at.is) ∙ sym at.first
+    -- what a search of these keys by the number gives
+    pub search_gives : (keys' : List ℕ) (result : Option ℕ) (number high : ℕ) → keys' ≡ keys → earliest test (in_order arena keys) ≡ Some number → Rises 0 (numbers_of arena keys) high → ((high : ℕ) → Kept itself (entry_of arena) keys' → Rises 0 (numbers_of arena keys') high → result ≡ position (λ n. n == number) (numbers_of arena keys')) → result ≡ position test xs
+    search_gives keys' result number high same is rises told =
+        let at = at_place number is in
+        let P : List ℕ → Type 0 = λ ks. (high : ℕ) → Kept itself (entry_of arena) ks → Rises 0 (numbers_of arena ks) high → result ≡ position (λ n. n == number) (numbers_of arena ks) in
+        subst P same told high s.kept rises ∙ sym (number_at_place arena keys s.kept high rises number at.place at.within at.is) ∙ sym at.first
 
-    pub unplaced : earliest test (in_order arena rows) ≡ None → position test xs ≡ None
+    pub unplaced : earliest test (in_order arena keys) ≡ None → position test xs ≡ None
     unplaced is =
-        let past = none_placed test (in_order arena rows) is in
-        let same : position_or_len test xs ≡ position_or_len test (map (λ (e : ℕ × Live). e.1) (in_order arena rows)) = ap (position_or_len test) (sym v) in
+        let past = none_placed test (in_order arena keys) is in
+        let same : position_or_len test xs ≡ position_or_len test (map (λ (e : ℕ × Live). e.1) (in_order arena keys)) = ap (position_or_len test) (sym v) in
         let none : ltb (position_or_len test xs) (length xs) ≡ false = le-ltb _ _ (let e = long_lives in omega (arith, past, e, same)) in
         rw none refl
+
+    -- what an index leads to
+    module _ (index : Option ℕ) (told : index ≡ key_found test keys (lives_of arena keys)) where
+      pub led : (k : ℕ) → index ≡ Some k → IsFound test (entry_of arena) (in_order arena keys) k
+      led k is = found test (entry_of arena) keys s.kept k (sym told ∙ is)
+
+      pub led_nowhere : index ≡ None → earliest test (in_order arena keys) ≡ None
+      led_nowhere is = (found_none test (entry_of arena) keys s.kept (sym told ∙ is)).0
+
+      pub finds : (k : ℕ) (e : ℕ × Live) → index ≡ Some k → entry_of arena k ≡ Some e → find test xs ≡ Some e.1
+      finds k e is there =
+          let f = led k is in
+          let same : Some f.entry ≡ Some e = sym f.is ∙ there in
+          let one : f.entry ≡ e = cc in
+          ap (find test) (sym v) ∙ f.live ∙ ap (λ (x : ℕ × Live). Some x.1) one
+
+      pub numbered : (k : ℕ) (e : ℕ × Live) → index ≡ Some k → entry_of arena k ≡ Some e → earliest test (in_order arena keys) ≡ Some e.0
+      numbered k e is there =
+          let f = led k is in
+          let same : Some f.entry ≡ Some e = sym f.is ∙ there in
+          let one : f.entry ≡ e = cc in
+          f.number ∙ ap (λ (x : ℕ × Live). Some x.0) one
+
+      pub finds_none : index ≡ None → find test xs ≡ None
+      finds_none is = ap (find test) (sym v) ∙ (found_none test (entry_of arena) keys s.kept (sym told ∙ is)).1

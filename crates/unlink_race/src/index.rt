@@ -1,44 +1,44 @@
-//! What is counted of the requests in a table, so that a submit walks none of them.
+//! Where the requests in a table are found by their numbers and ids, so that no search walks them.
 
-ghost use Rattle.std.specs.Prelude.{◌≡◌, ◌==◌, ◌<◌, ◌+◌, ℕ, true, List, [], ◌∷◌, ◌++◌, length, remove, slice_get, if◌then◌else◌, IfOk, Some};
-ghost use Rattle.std.specs.List.{count_by, list_any};
+ghost use Rattle.std.specs.Prelude.{◌≡◌, ◌<◌, ◌+◌, ℕ, true, List, [], ◌∷◌, ◌++◌, length, remove, slice_get, Some, option_map, if◌then◌else◌};
+ghost use Rattle.std.specs.List.{find, list_any, zip};
 ghost use Rattle.unlink_race.specs.declared.live.Live.{Live};
-ghost use Rattle.unlink_race.specs.Searches.{has_number, has_id, goes_by_id, changes, is_change};
-ghost use Rattle.unlink_race.specs.Inner.Indexed.{times, IsIndexed};
+ghost use Rattle.unlink_race.specs.Firsts.{without_first};
+ghost use Rattle.unlink_race.specs.Searches.{has_number, has_id, goes_by_id, changes};
+ghost use Rattle.unlink_race.specs.Inner.Listed.{Distinct};
+ghost use Rattle.unlink_race.specs.Inner.Indexed.{is_pair, with_number, IsIndexed};
 
-use crate::bag::Bag;
+use crate::by_number::ByNumber;
 use crate::live::Live;
-use std::alloc::Global;
-use usb_base::Memory;
+use urb_arena::Key;
 use usbip_urb::MAX_LIVE;
 
-/// The numbers and the ids of the requests in a table, and how many of them change the device's interfaces. It holds
-/// no request, and of one that has ended nothing.
+/// The keys of the requests in a table by their numbers, and those of wire and route requests by their ids; and how
+/// many requests change the device's interfaces. It holds no request, and of one that has ended nothing.
 #[derive(Drop)]
 pub struct Index {
-    numbers: Bag,
+    numbers: ByNumber,
     // of the wire and route requests
-    held: Bag,
+    held: ByNumber,
     changes: usize,
 }
 
-fn put_id(held: &mut Bag, live: &Live)
+fn put_id(held: &mut ByNumber, key: Key, live: &Live)
     requires { length held.old < MAX_LIVE }
-    ensures times { (n : ℕ) → times n held.new ≡ times n held.old + (if has_id n live.now then 1 else 0) }
+    ensures each { (n : ℕ) → with_number n held.new ≡ with_number n (held.old ++ (if goes_by_id live.now then (live.now.id, key) ∷ [] else [])) }
     ensures len { length held.new ≡ length held.old + (if goes_by_id live.now then 1 else 0) }
 {
     if !live.kind.is_stream() {
-        held.put(live.id);
+        held.put(live.id, key);
     }
 }
 
-fn take_id(held: &mut Bag, live: &Live)
-    requires { goes_by_id live.now ≡ true → list_any (λ n. n == live.now.id) held.old ≡ true }
-    ensures times { (n : ℕ) → times n held.new + (if has_id n live.now then 1 else 0) ≡ times n held.old }
-    ensures len { length held.new + (if goes_by_id live.now then 1 else 0) ≡ length held.old }
+fn take_id(held: &mut ByNumber, key: Key, live: &Live)
+    requires { goes_by_id live.now ≡ true → list_any (is_pair live.now.id key) held.old ≡ true }
+    ensures { held.new ≡ (if goes_by_id live.now then without_first (is_pair live.now.id key) held.old else held.old) }
 {
     if !live.kind.is_stream() {
-        held.take(live.id);
+        held.take(live.id, key);
     }
 }
 
@@ -49,80 +49,55 @@ fn change_of(live: &Live) -> usize
 }
 
 impl Index {
-    /// That of no request, with room for 4,096.
-    pub fn make(alloc: Global) -> Result<Self, Memory>
-        ensures { IfOk result (λ index. IsIndexed [] index) }
+    /// That of no request.
+    pub fn new() -> Self
+        ensures { IsIndexed [] [] result }
     {
-        let numbers = Bag::make(alloc)?;
-        let held = Bag::make(alloc)?;
-        Ok(Index {
-            numbers,
-            held,
+        Index {
+            numbers: ByNumber::new(),
+            held: ByNumber::new(),
             changes: 0,
-        })
+        }
     }
 
-    /// Whether a request has this number.
-    pub fn has_number(&self, seqnum: u32) -> bool
-        ensures { (lives : List Live) → IsIndexed lives self.now → result ≡ list_any (has_number seqnum) lives }
+    /// The key of the first request with this number.
+    pub fn numbered(&self, seqnum: u32) -> Option<Key>
+        ensures { (keys : List ℕ) (lives : List Live) → IsIndexed keys lives self.now → result ≡ option_map (λ (r : ℕ × Live). r.0) (find (λ (r : ℕ × Live). has_number seqnum r.1) (zip keys lives)) }
     {
-        self.numbers.has(u64::from(seqnum))
+        self.numbers.first(u64::from(seqnum))
     }
 
-    /// Whether a request flies with this id.
-    pub fn has_id(&self, id: u64) -> bool
-        ensures { (lives : List Live) → IsIndexed lives self.now → result ≡ list_any (has_id id) lives }
+    /// The key of the first request that flies with this id.
+    pub fn flying(&self, id: u64) -> Option<Key>
+        ensures { (keys : List ℕ) (lives : List Live) → IsIndexed keys lives self.now → result ≡ option_map (λ (r : ℕ × Live). r.0) (find (λ (r : ℕ × Live). has_id id r.1) (zip keys lives)) }
     {
-        self.held.has(id)
-    }
-
-    /// Whether one request alone has this number.
-    pub fn has_number_once(&self, seqnum: u32) -> bool
-        ensures { (lives : List Live) → IsIndexed lives self.now → result ≡ true → count_by (has_number seqnum) lives ≡ 1 }
-    {
-        self.numbers.has_once(u64::from(seqnum))
-    }
-
-    /// Whether one request alone flies with this id.
-    pub fn has_id_once(&self, id: u64) -> bool
-        ensures { (lives : List Live) → IsIndexed lives self.now → result ≡ true → count_by (has_id id) lives ≡ 1 }
-    {
-        self.held.has_once(id)
+        self.held.first(id)
     }
 
     /// Whether a request changes the configuration or an interface.
     pub fn has_change(&self) -> bool
-        ensures { (lives : List Live) → IsIndexed lives self.now → result ≡ list_any changes lives }
+        ensures { (keys : List ℕ) (lives : List Live) → IsIndexed keys lives self.now → result ≡ list_any changes lives }
     {
         self.changes > 0
     }
 
-    /// One more request comes to the others.
-    pub fn note(&mut self, live: &Live)
-        requires { (lives : List Live) × (length lives < MAX_LIVE) × IsIndexed lives self.old }
-        ensures { (lives : List Live) → IsIndexed lives self.old → IsIndexed (lives ++ live.now ∷ []) self.new }
+    /// One more request comes to the others, under this key.
+    pub fn note(&mut self, key: Key, live: &Live)
+        requires { (keys : List ℕ) × (lives : List Live) × (length lives < MAX_LIVE) × IsIndexed keys lives self.old }
+        ensures { (keys : List ℕ) (lives : List Live) → IsIndexed keys lives self.old → IsIndexed (keys ++ key ∷ []) (lives ++ live.now ∷ []) self.new }
     {
-        self.numbers.put(u64::from(live.seqnum));
-        put_id(&mut self.held, live);
+        self.numbers.put(u64::from(live.seqnum), key);
+        put_id(&mut self.held, key, live);
         self.changes += change_of(live);
     }
 
-    /// A request has ended.
-    pub fn forget(&mut self, live: &Live)
-        requires { (lives : List Live) × (place : ℕ) × (slice_get lives place ≡ Some live.now) × IsIndexed lives self.old }
-        ensures { (lives : List Live) (place : ℕ) → slice_get lives place ≡ Some live.now → IsIndexed lives self.old → IsIndexed (remove lives place) self.new }
+    /// The request of this key has ended.
+    pub fn forget(&mut self, key: Key, live: &Live)
+        requires { (keys : List ℕ) × (lives : List Live) × (place : ℕ) × (slice_get keys place ≡ Some key) × (slice_get lives place ≡ Some live.now) × Distinct (λ k. k) keys × IsIndexed keys lives self.old }
+        ensures { (keys : List ℕ) (lives : List Live) (place : ℕ) → slice_get keys place ≡ Some key → slice_get lives place ≡ Some live.now → Distinct (λ k. k) keys → IsIndexed keys lives self.old → IsIndexed (remove keys place) (remove lives place) self.new }
     {
-        self.numbers.take(u64::from(live.seqnum));
-        take_id(&mut self.held, live);
+        self.numbers.take(u64::from(live.seqnum), key);
+        take_id(&mut self.held, key, live);
         self.changes -= change_of(live);
-    }
-
-    /// All requests have ended.
-    pub fn clear(&mut self)
-        ensures { IsIndexed [] self.new }
-    {
-        self.numbers.clear();
-        self.held.clear();
-        self.changes = 0;
     }
 }

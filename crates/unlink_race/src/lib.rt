@@ -2,7 +2,7 @@
 //! answer ends.
 #![tactic(auto)]
 
-mod bag;
+mod by_number;
 mod ending;
 mod index;
 mod live;
@@ -15,5 +15,4 @@ mod unlink;
 pub use ending::{Ending, ending_of};
 pub use live::{Live, LiveKind, StreamEnd};
 pub use lives::{Lives, NotAccepted};
-pub use table::Room;
 pub use unlink::UnlinkTold;

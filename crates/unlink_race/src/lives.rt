@@ -11,7 +11,7 @@ ghost use Rattle.unlink_race.specs.Accepting.{refusal_of};
 ghost use Rattle.unlink_race.specs.Unlinking.{told_of, left_by};
 
 use crate::live::{Live, StreamEnd};
-use crate::table::{LANES, Room, Table};
+use crate::table::{LANES, Table};
 use crate::unlink::{UnlinkTold, unlink};
 use control_route::Route;
 use std::alloc::Global;
@@ -30,7 +30,7 @@ pub enum NotAccepted {
 }
 
 /// A client's requests in flight, or those that a former client left with the host; contracts see both lists, in
-/// order of acceptance, of which one is always empty. All memory is taken by `make`, its own and that of `Room`.
+/// order of acceptance, of which one is always empty. `make` alone takes memory: that of the arena, in one request.
 #[derive(Drop)]
 pub struct Lives {
     table: Table,
@@ -53,18 +53,17 @@ impl Lives {
         ensures { IfOk result (λ lives. lives ≡ no_requests) }
     {
         let arena = Arena::new(alloc, MAX_LIVE, LANES)?;
-        let room = Room::make(alloc)?;
-        Ok(Lives::over(arena, room))
+        Ok(Lives::over(arena))
     }
 
-    /// No request, in an arena that is handed over: 4,096 requests fit, in a lane for each endpoint. The room is for what
-    /// finds a request beside the arena, and no request is kept there.
-    pub fn over(arena: Arena<(u64, Live)>, room: Room) -> Self
+    /// No request, in an arena that is handed over: 4,096 requests fit, in a lane for each endpoint. What finds a
+    /// request lies in the value itself, and no memory is taken.
+    pub fn over(arena: Arena<(u64, Live)>) -> Self
         requires { arena ≡ seen (replicate 32 []) MAX_LIVE }
         ensures { result ≡ no_requests }
     {
         Lives {
-            table: Table::over(arena, room),
+            table: Table::over(arena),
             client_gone: false,
         }
     }
@@ -164,7 +163,7 @@ impl Lives {
         if self.client_gone {
             return None;
         }
-        self.table.get(self.table.place_of_number(seqnum))
+        self.table.numbered(seqnum)
     }
 
     /// Takes it out.
@@ -186,7 +185,7 @@ impl Lives {
         if self.client_gone {
             return None;
         }
-        self.table.get(self.table.place_of_id(id))
+        self.table.flying(id)
     }
 
     /// Takes it out.
@@ -256,10 +255,11 @@ impl Lives {
         ensures found { result ≡ slice_get self.old.live 0 }
         ensures rest { self.new ≡ record self.old { live = drop 1 self.old.live } }
     {
-        if self.client_gone || self.table.len() == 0 {
+        if self.client_gone {
             return None;
         }
-        Some(self.table.remove(0))
+        let place = self.table.place_first();
+        self.table.take(place)
     }
 
     /// Takes out the last that was taken in.
@@ -289,7 +289,7 @@ impl Lives {
         if !self.client_gone {
             return None;
         }
-        self.table.get(self.table.place_of_id(id))
+        self.table.flying(id)
     }
 
     /// Takes it out.

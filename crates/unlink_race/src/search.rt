@@ -1,6 +1,6 @@
 //! Searches of the requests in their lanes, by the numbers that say when they were accepted.
 
-ghost use Rattle.std.specs.Prelude.{◌≡◌, ◌<◌, [], None, length, map, get_or, slice_get, option_copied};
+ghost use Rattle.std.specs.Prelude.{◌≡◌, ◌<◌, true, [], None, length, map, get_or, slice_get, option_copied};
 ghost use Rattle.std.specs.Option.{option_map};
 ghost use Rattle.urb_arena.specs.Lanes.{find_in, ByKey};
 ghost use Rattle.unlink_race.specs.Searches.{ended_by};
@@ -62,7 +62,29 @@ fn earlier(one: Option<u64>, other: Option<u64>) -> Option<u64>
     }
 }
 
-/// The number of the earliest in all lanes: one of the lanes' earliest.
+// The number of the first in a lane: numbers rise from its front on.
+fn first_in_lane(arena: &Arena<(u64, Live)>, lane: usize) -> Option<u64>
+    requires lane { lane < length arena.now.lanes }
+    requires keys { ByKey arena.now.lanes }
+    ensures { result ≡ earliest (λ live. true) (map (λ p. p.1) (get_or arena.now.lanes lane [])) }
+{
+    number_of(arena, arena.front(lane)?)
+}
+
+/// The number of the earliest of all: one of the lanes' first.
+pub fn first_of_all(arena: &Arena<(u64, Live)>) -> Option<u64>
+    requires lanes { length arena.now.lanes ≡ 32 }
+    requires keys { ByKey arena.now.lanes }
+    ensures { result ≡ least (λ live. true) None arena.now.lanes }
+{
+    let mut first = None;
+    for lane in 0..LANES {
+        first = earlier(first, first_in_lane(arena, lane));
+    }
+    first
+}
+
+/// The number of the earliest in all lanes whose stream ends so: one of the lanes' earliest.
 pub fn earliest_of_all(arena: &Arena<(u64, Live)>, end: &StreamEnd) -> Option<u64>
     requires lanes { length arena.now.lanes ≡ 32 }
     requires keys { ByKey arena.now.lanes }

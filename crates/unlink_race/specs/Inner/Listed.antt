@@ -6,6 +6,11 @@ abbrev pub Absent : {R : Type 0} → (R → ℕ) → ℕ → List R → Type 0
 Absent key k [] = ⊤
 Absent key k (r ∷ rs) = (key r ≢ k) × Absent key k rs
 
+-- no two rows have one key
+abbrev pub Distinct : {R : Type 0} → (R → ℕ) → List R → Type 0
+Distinct key [] = ⊤
+Distinct key (r ∷ rs) = Absent key (key r) rs × Distinct key rs
+
 -- each row's key has an entry, and no two rows have one key
 abbrev pub Kept : {R X : Type 0} → (R → ℕ) → (ℕ → Option X) → List R → Type 0
 Kept key table [] = ⊤

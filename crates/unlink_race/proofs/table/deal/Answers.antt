@@ -5,13 +5,13 @@ use Rattle.unlink_race.proofs.table.deal.Goals as goal
 pub loop-place-preserved : goal.loop-place-preserved
 loop-place-preserved c =
     let dealt = c.loop-place.invariant in
-    let row = c.index-rows-place.result in
-    let within : c.loop-place.place < length c.args.rows.now = omega (arith, c.loop-place-test.true) in
-    let made = c.renumber.ensures _ (has_entry dealt.0 c.loop-place.place row within c.index-rows-place.is) in (
-      still_dealt dealt.0 c.loop-place.place row within c.index-rows-place.is c.renumber.new.arena made,
-      more_dealt dealt.0 c.loop-place.place row within c.index-rows-place.is c.renumber.new.arena made dealt.1,
+    let row = c.index-keys-place.result in
+    let within : c.loop-place.place < length c.args.keys.now = omega (arith, c.loop-place-test.true) in
+    let made = c.renumber.ensures _ (has_entry dealt.0 c.loop-place.place row within c.index-keys-place.is) in (
+      still_dealt dealt.0 c.loop-place.place row within c.index-keys-place.is c.renumber.new.arena made,
+      more_dealt dealt.0 c.loop-place.place row within c.index-keys-place.is c.renumber.new.arena made dealt.1,
     )
 
 pub returns-clause-numbers : goal.returns-clause-numbers
 returns-clause-numbers c =
-    all_dealt c.loop-place.arena c.args.rows.now c.loop-place.place c.loop-place.invariant.0.kept (omega (arith, c.loop-place-test.false)) c.loop-place.invariant.1
+    all_dealt c.loop-place.arena c.args.keys.now c.loop-place.place c.loop-place.invariant.0.kept (omega (arith, c.loop-place-test.false)) c.loop-place.invariant.1

@@ -4,4 +4,4 @@ use Rattle.unlink_race.proofs.table.deal.Given as goal
 
 -- the first so many are numbered
 abbrev pub invariant-loop-place : goal.invariant-loop-place
-invariant-loop-place l = HasDealt l.initial.arena l.arena l.rows × Dealt l.arena l.rows l.place
+invariant-loop-place l = HasDealt l.initial.arena l.arena l.keys × Dealt l.arena l.keys l.place

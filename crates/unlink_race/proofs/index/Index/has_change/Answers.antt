@@ -4,4 +4,4 @@ use Rattle.unlink_race.proofs.Counts.{some_counted}
 use Rattle.unlink_race.proofs.index.Index.has_change.Goals as goal
 
 pub returns : goal.returns
-returns c = λ lives indexed. ap (ltb 0) indexed.changes ∙ sym (some_counted changes lives)
+returns c = λ keys lives indexed. ap (ltb 0) indexed.changes ∙ sym (some_counted changes lives)

@@ -1,12 +1,20 @@
-use Rattle.std.proofs.Common.{◌∙◌, sym, ap, length, map}
-use Rattle.unlink_race.proofs.Tables.{columns, long, long_ids}
+use Rattle.std.proofs.Common.{ap, sym, ◌∙◌}
+use Rattle.std.specs.Option.{option_copied}
+use Rattle.unlink_race.specs.Searches.{has_id}
+use Rattle.unlink_race.proofs.Searching.{led, led_nowhere, numbered, search_gives, unplaced}
+use Rattle.unlink_race.proofs.Told.{lent}
 use Rattle.unlink_race.proofs.table.Table.place_of_id.Goals as goal
 
-pub first_id-requires : goal.first_id-requires
-first_id-requires c =
-    ap length c.deref-2.ensures.value ∙ long_ids c.self.invariant.0 c.self.view_is ∙ long c.self.invariant.0 c.self.view_is ∙ sym (ap length c.deref-3.ensures.value)
+pub returns-in_err-key : goal.returns-in_err-key
+returns-in_err-key c =
+    c.from_residual.ensures ∙ sym (unplaced c.self.invariant.0 c.self.view_is (has_id c.args.id) (led_nowhere c.self.invariant.0 c.self.view_is (has_id c.args.id) c.flying.result (c.flying.ensures _ _ c.self.invariant.1) c.in_err-key.was))
+
+pub unwrap-entry-requires : goal.unwrap-entry-requires
+unwrap-entry-requires c =
+    let found = led c.self.invariant.0 c.self.view_is (has_id c.args.id) c.flying.result (c.flying.ensures _ _ c.self.invariant.1) c.in_ok-key.key c.in_ok-key.was in
+    lent c.get.result found.entry (c.get.ensures ∙ found.is)
 
 pub returns : goal.returns
 returns c =
-    let are = columns c.self.invariant.0 c.self.view_is in
-    c.first_id.ensures c.args.self.now (c.deref-2.ensures.value ∙ are.are_ids) (ap (map (λ r. r.kind)) c.deref-3.ensures.value ∙ are.are_kinds)
+    let earliest_is = numbered c.self.invariant.0 c.self.view_is (has_id c.args.id) c.flying.result (c.flying.ensures _ _ c.self.invariant.1) c.in_ok-key.key c.unwrap-entry.result.now c.in_ok-key.was (sym c.get.ensures ∙ ap option_copied c.unwrap-entry.ensures) in
+    search_gives c.self.invariant.0 c.self.view_is (has_id c.args.id) c.deref.result.now c.place_numbered.result c.unwrap-entry.result.now.0 c.self.inside.next c.deref.ensures.0 earliest_is c.self.invariant.2 c.place_numbered.ensures

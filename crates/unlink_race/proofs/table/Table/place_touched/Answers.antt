@@ -1,6 +1,6 @@
 use Rattle.std.proofs.Common.{sym, ◌∙◌}
 use Rattle.unlink_race.specs.Searches.{touched_by}
-use Rattle.unlink_race.proofs.Searching.{keyed, touched_is, search_gives, unplaced}
+use Rattle.unlink_race.proofs.Searching.{keyed, least_passing, search_gives, unplaced}
 use Rattle.unlink_race.proofs.table.Table.place_touched.Goals as goal
 
 pub earliest_of_all-requires-clause-keys : goal.earliest_of_all-requires-clause-keys
@@ -8,10 +8,10 @@ earliest_of_all-requires-clause-keys c = keyed c.self.invariant.0
 
 pub returns-in_err-number : goal.returns-in_err-number
 returns-in_err-number c =
-    let earliest_is = touched_is c.self.invariant.0 c.args.route.now c.self.inside.next c.self.invariant.3 in
+    let earliest_is = least_passing c.self.invariant.0 (touched_by c.args.route.now) c.self.inside.next c.self.invariant.2 in
     c.from_residual.ensures ∙ sym (unplaced c.self.invariant.0 c.self.view_is (touched_by c.args.route.now) (sym earliest_is ∙ sym c.earliest_of_all.ensures ∙ c.in_err-number.was))
 
 pub returns : goal.returns
 returns c =
-    let earliest_is = touched_is c.self.invariant.0 c.args.route.now c.self.inside.next c.self.invariant.3 in
-    search_gives c.self.invariant.0 c.self.view_is (touched_by c.args.route.now) c.deref.result.now c.place_numbered.result c.in_ok-number.number c.self.inside.next c.deref.ensures.value (sym earliest_is ∙ sym c.earliest_of_all.ensures ∙ c.in_ok-number.was) c.self.invariant.3 c.place_numbered.ensures
+    let earliest_is = least_passing c.self.invariant.0 (touched_by c.args.route.now) c.self.inside.next c.self.invariant.2 in
+    search_gives c.self.invariant.0 c.self.view_is (touched_by c.args.route.now) c.deref.result.now c.place_numbered.result c.in_ok-number.number c.self.inside.next c.deref.ensures.0 (sym earliest_is ∙ sym c.earliest_of_all.ensures ∙ c.in_ok-number.was) c.self.invariant.2 c.place_numbered.ensures
