@@ -70,73 +70,15 @@ impl RedirData {
         }
     }
 
-    /// The same fields with these data.
-    pub(crate) fn with_body(self, body: Bytes) -> RedirData
-        ensures { result ≡ with_body self body }
+    /// Puts these data in the place of its own.
+    pub(crate) fn set_body(&mut self, bytes: Bytes)
+        ensures { self.new ≡ with_body self.old bytes }
     {
         match self {
-            RedirData::Control {
-                endpoint,
-                request,
-                kind,
-                status,
-                value,
-                index,
-                length,
-                ..
-            } => {
-                RedirData::Control {
-                    endpoint,
-                    request,
-                    kind,
-                    status,
-                    value,
-                    index,
-                    length,
-                    body,
-                }
-            }
-            RedirData::Bulk {
-                endpoint,
-                status,
-                length,
-                stream,
-                ..
-            } => {
-                RedirData::Bulk {
-                    endpoint,
-                    status,
-                    length,
-                    stream,
-                    body,
-                }
-            }
-            RedirData::Iso {
-                endpoint,
-                status,
-                length,
-                ..
-            } => {
-                RedirData::Iso {
-                    endpoint,
-                    status,
-                    length,
-                    body,
-                }
-            }
-            RedirData::Interrupt {
-                endpoint,
-                status,
-                length,
-                ..
-            } => {
-                RedirData::Interrupt {
-                    endpoint,
-                    status,
-                    length,
-                    body,
-                }
-            }
+            RedirData::Control { body, .. } => *body = bytes,
+            RedirData::Bulk { body, .. } => *body = bytes,
+            RedirData::Iso { body, .. } => *body = bytes,
+            RedirData::Interrupt { body, .. } => *body = bytes,
         }
     }
 

@@ -71,9 +71,12 @@ pub(crate) fn take_data<B: PacketBytes>(
     if front.len() < head.length as usize {
         return Ok(None);
     }
-    let fields = fields_with(kind, front, told, Bytes::new(alloc));
+    let mut packet = fields_with(kind, front, told, Bytes::new(alloc));
     match bytes.take_part(alloc, size + fixed, count, size + fixed + count) {
-        Ok(body) => Ok(Some(fields.with_body(body))),
+        Ok(body) => {
+            packet.set_body(body);
+            Ok(Some(packet))
+        }
         Err(Memory) => Err(ReadError::Memory),
     }
 }

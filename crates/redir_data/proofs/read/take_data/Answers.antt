@@ -63,7 +63,7 @@ returns-in-Ok-clause-exact g c =
     let body = c.in-Ok.body in
     let place = sym (drop-drop c.fixed-fixed.result a.size (g.B.PacketBytes.contents a.bytes.now)) ∙ ap (drop c.fixed-fixed.result) (sym same) in
     let d = whole_is a.caps k b a.head.now.length c.fixed-fixed.result told count body f c.told_length-told.ensures.value c.if-head-fixed.false (c.in-Ok.ensures.part ∙ ap (take count) place) in
-    let fields = c.with_body.ensures ∙ ap (λ (x : RedirData). with_body x body) c.fields_with-fields.ensures ∙ with_body_is k b told c.new.result body in
+    let fields = c.set_body.ensures ∙ ap (λ (x : RedirData). with_body x body) c.fields_with-packet.ensures ∙ with_body_is k b told c.new.result body in
     ap (reading (behind (transfers a.caps a.way) a.head.now)) (sym same) ∙ read_whole a.caps a.way a.head.now k b kind (c.if-head-fixed.false ∙ sum) c.if-front-head.false ∙ ap (λ (x : RedirData). Whole x a.head.now.length) (sym (fields ∙ d))
 
 pub returns-in-Err-clause-exact : goal.returns-in-Err-clause-exact
