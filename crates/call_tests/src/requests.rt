@@ -68,7 +68,7 @@ fn one_call(lives: &mut Lives, alloc: Global, seed: u32) -> Result<(), Fail>
     Ok(())
 }
 
-// No call after `make` asks for memory: where every allocation after its own four fails, this ends as ever.
+// No call after `make` asks for memory: where every allocation after its own one fails, this ends as ever.
 #[test]
 fn many_calls_with_no_memory_left(rt: HostRuntime) -> Result<(), Fail> {
     let mut lives = Lives::make(rt.alloc())?;

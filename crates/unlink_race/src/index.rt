@@ -1,6 +1,6 @@
 //! Where the requests in a table are found by their numbers and ids, so that no search walks them.
 
-ghost use Rattle.std.specs.Prelude.{◌≡◌, ◌<◌, ◌+◌, ℕ, true, List, [], ◌∷◌, ◌++◌, length, remove, slice_get, Some, option_map, if◌then◌else◌};
+ghost use Rattle.std.specs.Prelude.{◌≡◌, ◌<◌, ◌+◌, ℕ, true, List, [], ◌∷◌, ◌++◌, length, remove, slice_get, Some, None, option_map, if◌then◌else◌};
 ghost use Rattle.std.specs.List.{find, list_any, zip};
 ghost use Rattle.unlink_race.specs.declared.live.Live.{Live};
 ghost use Rattle.unlink_race.specs.Firsts.{without_first};
@@ -23,13 +23,24 @@ pub struct Index {
     changes: usize,
 }
 
+// The id that the request flies with: one that waits for a stream has none.
+fn id_of(live: &Live) -> Option<u64>
+    ensures { result ≡ (if goes_by_id live.now then Some live.now.id else None) }
+{
+    if live.kind.is_stream() {
+        None
+    } else {
+        Some(live.id)
+    }
+}
+
 fn put_id(held: &mut ByNumber, key: Key, live: &Live)
     requires { length held.old < MAX_LIVE }
     ensures each { (n : ℕ) → with_number n held.new ≡ with_number n (held.old ++ (if goes_by_id live.now then (live.now.id, key) ∷ [] else [])) }
     ensures len { length held.new ≡ length held.old + (if goes_by_id live.now then 1 else 0) }
 {
-    if !live.kind.is_stream() {
-        held.put(live.id, key);
+    if let Some(id) = id_of(live) {
+        held.put(id, key);
     }
 }
 
@@ -37,8 +48,8 @@ fn take_id(held: &mut ByNumber, key: Key, live: &Live)
     requires { goes_by_id live.now ≡ true → list_any (is_pair live.now.id key) held.old ≡ true }
     ensures { held.new ≡ (if goes_by_id live.now then without_first (is_pair live.now.id key) held.old else held.old) }
 {
-    if !live.kind.is_stream() {
-        held.take(live.id, key);
+    if let Some(id) = id_of(live) {
+        held.take(id, key);
     }
 }
 
