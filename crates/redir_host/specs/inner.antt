@@ -1,2 +1,3 @@
 -- How what the code keeps is seen.
 pub mod Views
+pub mod Waiting

@@ -6,3 +6,4 @@ pub mod Moves
 pub mod Makes
 pub mod Machine
 pub mod Stands
+pub mod Wants

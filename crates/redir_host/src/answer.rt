@@ -9,6 +9,7 @@ ghost use Rattle.redir_host.specs.step.Makes.{AnswerFits, flushed_bytes};
 ghost use Rattle.redir_host.specs.state.Sound.{DoneFits, Each};
 
 use crate::change::is_touched;
+use crate::queue::Queue;
 use crate::request::{Form, Request};
 use crate::write::write;
 use control_route::Route;
@@ -122,17 +123,17 @@ pub fn write_cancelled(
 /// there still stands at the front.
 pub fn write_flushed(
     alloc: Global,
-    requests: &[Request],
+    queue: &Queue,
     route: &Route,
     table: &EpTable,
     caps: Caps,
     out: &mut Bytes,
 ) -> Result<(), Memory>
-    requires { Each (λ q. IdFits (is_wide false caps) q.id) requests.now }
-    ensures ok { OnOk result (out.new ≡ out.old ++ flushed_bytes caps route.now table.now requests.now) }
+    requires { Each (λ q. IdFits (is_wide false caps) q.id) queue.now }
+    ensures ok { OnOk result (out.new ≡ out.old ++ flushed_bytes caps route.now table.now queue.now) }
     ensures err { OnErr result (Begins out.old out.new) }
 {
-    for request in requests {
+    for request in queue.iter() {
         if is_touched(route, table, request.transfer.ep) {
             write_cancelled(alloc, request, caps, out)?;
         }

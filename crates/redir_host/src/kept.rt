@@ -12,7 +12,8 @@ ghost use Rattle.redir_host.specs.device.Performing.{told_performed};
 ghost use Rattle.redir_host.specs.write.Readable.{TakesInRange};
 ghost use Rattle.redir_host.specs.state.Sound.{IsSound};
 ghost use Rattle.redir_host.specs.step.Stands.{DoesAct, HasPast, Stands, Stops, TakesAct};
-ghost use Rattle.redir_host.specs.guest.Takings.{HasRead, TookPackets};
+ghost use Rattle.redir_host.specs.guest.Takings.{HasRead, LeavesWanted, TookPackets};
+ghost use Rattle.redir_host.specs.step.Wants.{GivesSome};
 ghost use Rattle.redir_host.specs.inner.Views.{kept_of};
 
 use crate::host::Host;
@@ -128,7 +129,8 @@ fn take_packets<G: Gadget>(
 ) -> Result<(), ReadError>
     requires read { HasRead stream.old host.old.guest }
     requires sound { IsSound host.old }
-    ensures { TakesPackets guest_reader result stream.old stream.new (TookPackets result G.meaning host.old host.new out.old out.new notes.old notes.new) }
+    ensures takes { TakesPackets guest_reader result stream.old stream.new (TookPackets result G.meaning host.old host.new out.old out.new notes.old notes.new) }
+    ensures wants { LeavesWanted result G.meaning stream.old host.old out.old out.new }
 {
     while let Some((_, (header, packet))) = stream.next(alloc)? {
         take_packet(alloc, host, header, packet, out, notes)?;
@@ -149,6 +151,7 @@ fn take_packet<G: Gadget>(
     requires taken { IsTaken host.old.guest header packet }
     ensures ok { OnOk result (Takes (packet_move G.meaning host.old header.id packet) host.new out.old out.new notes.old notes.new) }
     ensures ranges { OnOk result (TakesInRange G.meaning host.old packet) }
+    ensures wants { OnErr result (GivesSome host.old (packet_move G.meaning host.old header.id packet)) }
     ensures err { OnErr result (out.new ≡ out.old) }
 {
     let before = out.len();

@@ -17,6 +17,7 @@ mod request;
 mod routed;
 mod running;
 mod take;
+mod waiting;
 mod write;
 
 pub use hello::write_hello;

@@ -1,7 +1,7 @@
 //! Performs requests: changes with what they flush, resets, and answers.
 
-ghost use Rattle.std.specs.Prelude.{◌≡◌, ◌++◌, ◌<◌, length, remove, slice_get, true, Some, IfOk, IfSome, OnOk, OnErr};
-ghost use Rattle.std.specs.List.{flat_map};
+ghost use Rattle.std.specs.Prelude.{◌≡◌, ◌++◌, true, Some, IfOk, IsSome, IsSomeAnd, OnOk, OnErr};
+ghost use Rattle.std.specs.List.{find, flat_map};
 ghost use Rattle.control_route.specs.declared.route.Route.TheVariants as route;
 ghost use Rattle.model_device.specs.Device.{is_success as is_success_status};
 ghost use Rattle.model_device.specs.Transfer.{IsOutcome};
@@ -16,6 +16,7 @@ ghost use Rattle.redir_host.specs.guest.Asking.{routed};
 ghost use Rattle.redir_host.specs.device.Performing.{does, done_by, performs, performs_marked, perform_move, resets, told_performed, with_id};
 ghost use Rattle.redir_host.specs.device.Resets.{PerformsNow, ResetsTo};
 ghost use Rattle.redir_host.specs.write.Readable.{InRange};
+ghost use Rattle.redir_host.specs.state.Queues.{is_at, without_first};
 ghost use Rattle.redir_host.specs.state.Sound.{Each, IsRequest, IsSound};
 
 use crate::answer::{write_answer, write_flushed};
@@ -47,34 +48,34 @@ impl<G: Gadget> Host<G> {
         if self.unplugged {
             return Ok(Performed::Unplugged);
         }
-        let Some(place) = self.queue.first_at(ep) else {
+        let Some(request) = self.queue.first(ep) else {
             return Ok(Performed::NotReady);
         };
-        if self.queue.as_slice()[place].reset {
-            self.perform_marked(alloc, place, out)
+        if request.reset {
+            self.perform_marked(alloc, ep, out)
         } else {
-            self.perform_unmarked(alloc, place, out)
+            self.perform_unmarked(alloc, ep, out)
         }
     }
 
-    /// Performs the request at a place.
+    /// Performs an endpoint's first request.
     fn perform_unmarked(
         &mut self,
         alloc: Global,
-        place: usize,
+        ep: EpAddr,
         out: &mut Bytes,
     ) -> Result<Performed, Memory>
         requires sound { IsSound self.old }
-        requires there { place < length self.old.queue }
-        ensures ok { IfOk result (λ told. (q : Asked) → slice_get self.old.queue place ≡ Some q
-            → Performs (with_id q (performs G.meaning (record self.old { queue = remove self.old.queue place }) q)) self.old self.new told out.old out.new) }
+        requires there { IsSome (find (is_at ep) self.old.queue) }
+        ensures ok { IfOk result (λ told. (q : Asked) → find (is_at ep) self.old.queue ≡ Some q
+            → Performs (with_id q (performs G.meaning (record self.old { queue = without_first (is_at ep) self.old.queue }) q)) self.old self.new told out.old out.new) }
         ensures err { OnErr result (Begins out.old out.new) }
     {
         let table = self.gadget.table();
-        let transfer = &self.queue.as_slice()[place].transfer;
+        let transfer = &self.queue.first(ep).unwrap().transfer;
         match self.gadget.perform(alloc, transfer)? {
             Some(outcome) => {
-                let request = self.queue.remove(place);
+                let request = self.queue.remove_first(ep);
                 let id = request.id;
                 let change = change_of(request.form);
                 self.finish(alloc, &request, change, &table, outcome, out)?;
@@ -84,21 +85,20 @@ impl<G: Gadget> Host<G> {
         }
     }
 
-    /// Resets the device, and performs the request at a place.
+    /// Resets the device, and performs an endpoint's first request.
     fn perform_marked(
         &mut self,
         alloc: Global,
-        place: usize,
+        ep: EpAddr,
         out: &mut Bytes,
     ) -> Result<Performed, Memory>
         requires sound { IsSound self.old }
-        requires there { place < length self.old.queue }
-        requires marked { IfSome (slice_get self.old.queue place) (λ q. q.reset ≡ true) }
-        ensures ok { IfOk result (λ told. (q : Asked) → slice_get self.old.queue place ≡ Some q
-            → Performs (with_id q (performs_marked G.meaning (record self.old { queue = remove self.old.queue place }) q q.form)) self.old self.new told out.old out.new) }
+        requires marked { IsSomeAnd (find (is_at ep) self.old.queue) (λ q. q.reset ≡ true) }
+        ensures ok { IfOk result (λ told. (q : Asked) → find (is_at ep) self.old.queue ≡ Some q
+            → Performs (with_id q (performs_marked G.meaning (record self.old { queue = without_first (is_at ep) self.old.queue }) q q.form)) self.old self.new told out.old out.new) }
         ensures err { OnErr result (Begins out.old out.new) }
     {
-        let request = self.queue.remove(place);
+        let request = self.queue.remove_first(ep);
         let id = request.id;
         self.perform_reset(alloc, &request, out)?;
         Ok(Performed::Done { id })
@@ -292,14 +292,7 @@ impl<G> Host<G> {
         if !success {
             return Ok(());
         }
-        write_flushed(
-            alloc,
-            self.queue.as_slice(),
-            route,
-            table,
-            self.guest.caps,
-            out,
-        )?;
+        write_flushed(alloc, &self.queue, route, table, self.guest.caps, out)?;
         self.queue.flush(route, table);
         self.running.flush(route, table);
         Ok(())

@@ -12,6 +12,7 @@ ghost use Rattle.redir_host.specs.guest.Packets.{can_start, cancel_move, data_mo
 ghost use Rattle.redir_host.specs.state.Queues.{is_cancelled_by};
 ghost use Rattle.redir_host.specs.write.Readable.{GreetsInRange, InRange, TakesInRange};
 ghost use Rattle.redir_host.specs.state.Sound.{Each, IsSound};
+ghost use Rattle.redir_host.specs.step.Wants.{GivesSome};
 
 use crate::answer::{write_cancelled, write_ended};
 use crate::asking::asking_of;
@@ -43,6 +44,7 @@ impl<G: Gadget> Host<G> {
         requires sound { IsSound self.old }
         requires taken { IsTaken self.old.guest header packet }
         ensures ok { OnOk result (Takes (packet_move G.meaning self.old header.id packet) self.new out.old out.new notes.old notes.new) }
+        ensures wants { OnErr result (GivesSome self.old (packet_move G.meaning self.old header.id packet)) }
         ensures ranges { OnOk result (TakesInRange G.meaning self.old packet) }
         ensures err { OnErr result (Begins out.old out.new) }
     {
@@ -66,6 +68,7 @@ impl<G: Gadget> Host<G> {
     ) -> Result<(), Memory>
         requires { IdFitsOf self.old.guest.caps id packet }
         ensures ok { OnOk result (Takes (plain_move G.meaning self.old id packet) self.new out.old out.new notes.old notes.new) }
+        ensures wants { OnErr result (GivesSome self.old (plain_move G.meaning self.old id packet)) }
         ensures ranges { OnOk result (GreetsInRange G.meaning self.old packet) }
         ensures err { OnErr result (Begins out.old out.new) }
     {
@@ -133,6 +136,7 @@ impl<G: Gadget> Host<G> {
     ) -> Result<(), Memory>
         requires { IdFits (is_wide false self.old.guest.caps) id }
         ensures ok { OnOk result (Makes (start_move (can_start (G.meaning.table self.old.gadget) kind endpoint) self.old id kind endpoint) self.new out.old out.new) }
+        ensures wants { OnErr result (GivesSome self.old (start_move (can_start (G.meaning.table self.old.gadget) kind endpoint) self.old id kind endpoint)) }
         ensures err { OnErr result (Begins out.old out.new) }
     {
         match stream_endpoint(&self.gadget.table(), kind, endpoint) {
@@ -156,6 +160,7 @@ impl<G> Host<G> {
     ) -> Result<(), Memory>
         requires { IdFits (is_wide false self.old.guest.caps) id }
         ensures ok { OnOk result (Makes (data_move self.old id (asking_of packet)) self.new out.old out.new) }
+        ensures wants { OnErr result (GivesSome self.old (data_move self.old id (asking_of packet))) }
         ensures err { OnErr result (Begins out.old out.new) }
     {
         match asking_of(packet) {
@@ -210,6 +215,7 @@ impl<G> Host<G> {
     ) -> Result<(), Memory>
         requires { IdFits (is_wide false self.old.guest.caps) id }
         ensures ok { OnOk result (Takes (cancel_move self.old id (find (is_cancelled_by id) self.old.queue)) self.new out.old out.new notes.old notes.new) }
+        ensures wants { OnErr result (GivesSome self.old (cancel_move self.old id (find (is_cancelled_by id) self.old.queue))) }
         ensures err { OnErr result (Begins out.old out.new) }
     {
         match self.queue.cancel(id) {

@@ -1,4 +1,5 @@
 -- What is kept.
 pub mod Sound
-pub mod Firsts
 pub mod Each
+pub mod Numbered
+pub mod Cancelled

@@ -1,5 +1,5 @@
 -- When a host core stands for acts, and what one act more makes of it.
-use Rattle.std.specs.Prelude.{◌≡◌, ℕ, true, false, Bool, List, [], ◌∷◌, ◌++◌, Some}
+use Rattle.std.specs.Prelude.{◌≡◌, ◌⊎◌, ℕ, true, false, Bool, List, [], ◌∷◌, ◌++◌, Some}
 use Rattle.usb_base.specs.Number.{AreBytes}
 use Rattle.usb_base.specs.declared.reason.Reason.{Reason}
 use Rattle.packet_stream.specs.Split.{Splitting}
@@ -15,7 +15,8 @@ use Rattle.redir_host.specs.step.Acts.{Act, guest_bytes}
 use Rattle.redir_host.specs.guest.Guest.{guest_split}
 use Rattle.redir_host.specs.step.History.{brought, history}
 use Rattle.redir_host.specs.step.Items.{Item}
-use Rattle.redir_host.specs.step.Machine.{bytes_of, all_given, given_by}
+use Rattle.redir_host.specs.step.Machine.{bytes_of, all_given, given_by, steps}
+use Rattle.redir_host.specs.step.Wants.{FirstWants, IsHeld}
 use Rattle.redir_host.specs.write.Output.{host_of, act_bytes, act_notes}
 use Rattle.redir_host.specs.write.Readable.{AreRead}
 use Rattle.redir_host.specs.state.Sound.{IsSound}
@@ -67,9 +68,12 @@ pub record TakesAct {S : Type 0} (m : Meaning S) (s : S) (new : HostKept S) (act
   pub does : DoesAct m s new acts a old_out new_out
   pub told : new_notes ≡ old_notes ++ act_notes m s acts a
 
--- memory ran out within an act: the first of its items were taken, and what they send was sent
+-- memory ran out within an act: the first of its items were taken, what they send was sent, and it was wanted for what is
+-- left
 pub record Stops {S : Type 0} (m : Meaning S) (s : S) (acts : List Act) (a : Act) (old_out new_out : List ℕ) : Type 0 where
   pub taken : List Item
   pub later : List Item
   pub parts : brought acts a ≡ taken ++ later
   pub sent : new_out ≡ old_out ++ given_by bytes_of m (host_of m s acts) taken
+  -- to hold the bytes, or for the first of the items that are left
+  pub wanted : ((taken ≡ []) × IsHeld acts a) ⊎ FirstWants m (steps m (host_of m s acts) taken) later

@@ -1,13 +1,14 @@
 use Rattle.std.proofs.Common.{Ok, ap, ◌∙◌}
 use Rattle.packet_stream.proofs.Loops.{goes-more, goes-none, takes-all, takes-err, takes-memory, takes-weaker}
+use Rattle.packet_stream.specs.declared.read.ReadError.TheVariants.{Memory}
 use Rattle.redir_data.specs.Packets.{takes_memory}
 use Rattle.redir_host.specs.guest.Guest.{guest_reader}
 use Rattle.redir_host.specs.guest.Takings.{TookPackets}
-use Rattle.redir_host.proofs.lemmas.guest.Pieces.{Going, going-none, going-one, going-given, going-ended, going-stopped, next-taken}
+use Rattle.redir_host.proofs.lemmas.guest.Pieces.{Going, going-none, going-one, going-given, going-ended, going-stopped, leaves-read, leaves-taken, leaves-wanted, next-taken}
 use Rattle.redir_host.proofs.kept.take_packets.Goals as goal
 
-pub returns-in_err-header : goal.returns-in_err-header
-returns-in_err-header g c =
+pub returns-in_err-header-clause-takes : goal.returns-in_err-header-clause-takes
+returns-in_err-header-clause-takes g c =
     let m = g.G.Gadget.meaning in
     let l = c.loop-header in
     let r = c.from_residual.result in
@@ -39,8 +40,8 @@ loop-header-preserved g c =
     goes-more guest_reader takes_memory c.args.stream.now l.stream c.next.new.self _ _ c.next.result (c.in-Some.field-0-0, (c.in-Some.header, c.in-Some.packet)) l.invariant c.next.ensures.changes c.next.ensures.follows is
     (going-one m g.met.G.Gadget.lawful c.args.host.now l.host c.take_packet.new.host c.in-Some.header c.in-Some.packet c.args.out.now l.out c.take_packet.new.out c.args.notes.now l.notes c.take_packet.new.notes taken c.in_ok-take_packet.ensures.ok c.in_ok-take_packet.ensures.ranges)
 
-pub returns-in_err-take_packet : goal.returns-in_err-take_packet
-returns-in_err-take_packet g c =
+pub returns-in_err-take_packet-clause-takes : goal.returns-in_err-take_packet-clause-takes
+returns-in_err-take_packet-clause-takes g c =
     let m = g.G.Gadget.meaning in
     let l = c.loop-header in
     let r = c.from_residual-in_err-take_packet.result in
@@ -49,8 +50,8 @@ returns-in_err-take_packet g c =
     (going-stopped r m c.args.host.now l.host c.take_packet.new.host c.args.out.now l.out c.take_packet.new.out c.args.notes.now l.notes c.take_packet.new.notes on c.in_err-take_packet.ensures.err)
     (takes-memory guest_reader c.args.stream.now l.stream c.next.new.self (Going m c.args.host.now l.host c.args.out.now l.out c.args.notes.now l.notes) c.next.result (c.in-Some.field-0-0, (c.in-Some.header, c.in-Some.packet)) r l.invariant c.next.ensures.changes (c.in_ok-header.was ∙ ap (λ o. Ok o) c.in-Some.is) on)
 
-pub returns : goal.returns
-returns g c =
+pub returns-clause-takes : goal.returns-clause-takes
+returns-clause-takes g c =
     let l = c.loop-header in
     takes-all tt guest_reader takes_memory c.args.stream.now l.stream c.next.new.self _ c.next.result l.invariant c.next.ensures.changes c.next.ensures.follows (c.in_ok-header.was ∙ ap (λ o. Ok o) c.in_default.is)
 
@@ -58,3 +59,18 @@ pub loop-header-init : goal.loop-header-init
 loop-header-init g c =
     let m = g.G.Gadget.meaning in
     goes-none guest_reader c.args.stream.now (Going m c.args.host.now c.args.host.now c.args.out.now c.args.out.now c.args.notes.now c.args.notes.now) (going-none m c.args.host.now c.args.out.now c.args.notes.now c.requires.sound)
+
+pub returns-in_err-header-clause-wants : goal.returns-in_err-header-clause-wants
+returns-in_err-header-clause-wants g c =
+    let m = g.G.Gadget.meaning in
+    let l = c.loop-header in
+    leaves-wanted c.from_residual.result c.in_err-header.field-0.0 m c.args.stream.now c.args.host.now c.args.out.now l.out c.from_residual.ensures.1
+    (leaves-read m c.args.stream.now l.stream c.next.new.self c.args.host.now l.host c.args.out.now l.out c.args.notes.now l.notes c.next.result c.in_err-header.field-0.0 l.invariant c.next.ensures.follows c.in_err-header.was)
+
+pub returns-in_err-take_packet-clause-wants : goal.returns-in_err-take_packet-clause-wants
+returns-in_err-take_packet-clause-wants g c =
+    let m = g.G.Gadget.meaning in
+    let l = c.loop-header in
+    leaves-wanted c.from_residual-in_err-take_packet.result Memory m c.args.stream.now c.args.host.now c.args.out.now c.take_packet.new.out c.from_residual-in_err-take_packet.ensures.1
+    (λ same. leaves-taken m c.args.stream.now l.stream c.next.new.self c.args.host.now l.host c.args.out.now l.out c.take_packet.new.out c.args.notes.now l.notes c.next.result (c.in-Some.field-0-0, (c.in-Some.header, c.in-Some.packet)) l.invariant c.next.ensures.follows (c.in_ok-header.was ∙ ap (λ o. Ok o) c.in-Some.is)
+    c.in_err-take_packet.ensures.err c.in_err-take_packet.ensures.wants)

@@ -1,12 +1,12 @@
 -- How a piece of the guest's bytes ends: all of it was taken, or all before a wrong place, or memory ran out.
-use Rattle.std.proofs.Common.{◌≡◌, ℕ, true, false, List, [], ◌∷◌, ◌++◌, length, map, Some, Ok, Err, refl, sym, ap, subst, ◌∙◌, append_assoc}
+use Rattle.std.proofs.Common.{◌≡◌, ◌<◌, ℕ, true, false, inl, inr, arith, List, [], ◌∷◌, ◌++◌, length, map, Some, Ok, Err, refl, sym, ap, subst, ◌∙◌, append_assoc}
 use Rattle.std.specs.Prelude.{Option, Result, OnErr, drop}
 use Rattle.std.proofs.lemmas.List.{append-nil, drop_at}
 use Rattle.usb_base.specs.Number.{AreBytes}
 use Rattle.usb_base.specs.declared.reason.Reason.{Reason}
 use Rattle.usb_base.proofs.Numbers.{AreBytes-append}
 use Rattle.packet_stream.specs.Loops.{TakesPackets}
-use Rattle.packet_stream.specs.Split.{Splitting, split, further_by}
+use Rattle.packet_stream.specs.Split.{Splitting, further_by}
 use Rattle.packet_stream.specs.Streams.{Kept as Stream, after_piece, Drained, Puts, capped}
 use Rattle.packet_stream.specs.declared.read.ReadError.{ReadError}
 use Rattle.packet_stream.specs.declared.read.ReadError.TheVariants.{Refused as IsRefused, Memory}
@@ -28,7 +28,8 @@ use Rattle.redir_host.specs.step.Items.{Item, Wrong}
 use Rattle.redir_host.specs.step.Machine.{all_given, bytes_of, notes_of, steps, given_by}
 use Rattle.redir_host.specs.write.Readable.{AreRead}
 use Rattle.redir_host.specs.step.Stands.{told_state, IsRead, IsReadBy, Stands, TakesAct, Stops}
-use Rattle.redir_host.specs.guest.Takings.{Took, TookPackets}
+use Rattle.redir_host.specs.guest.Takings.{LeavesOne, LeavesWanted, Took, TookPackets}
+use Rattle.redir_host.specs.step.Wants.{Wants}
 use Rattle.redir_host.proofs.lemmas.guest.Pieces.{Found, guest-steady, side, before, state-all, host-all, given-all, read-given, sent_of}
 use Rattle.redir_host.proofs.lemmas.step.Acts.{steps-append, given-append}
 
@@ -156,28 +157,28 @@ wrong-told {S = S} m s old new stream acts piece o0 o1 n0 n1 n2 place why are st
 
 -- ---- memory ran out
 
--- before any of it was taken
-pub stops-first : {S : Type 0} (m : Meaning S) (s : S) (acts : List Act) (piece o : List ℕ) → Stops m s acts (Piece piece) o o
-stops-first m s acts piece o = record { taken = []; later = added (guest_bytes acts) piece; parts = refl; sent = sym (append-nil o) }
+-- to hold the piece
+pub stops-first : {S : Type 0} (m : Meaning S) (s : S) (old : HostKept S) (acts : List Act) (piece o : List ℕ) → Stands m s old acts → (0 < length piece) × (old.stream.over ≡ false) → Stops m s acts (Piece piece) o o
+stops-first m s old acts piece o stands wants =
+    let x = guest_split (guest_bytes acts) in
+    let d : Drained old.stream x x.packets = subst (IsReadBy old.stream x) wants.1 stands.stream.read in
+    record { taken = []; later = added (guest_bytes acts) piece; parts = refl; sent = sym (append-nil o); wanted = inl (refl, (wants.0, d.right)) }
 
 -- for a packet
-pub stops-packet : {S : Type 0} (m : Meaning S) (s : S) (old : HostKept S) (host : Host S) (stream new : Stream RedirState) (acts : List Act) (piece o0 o1 : List ℕ) (n0 n1 : List HostNote) → AreBytes piece → Stands m s old acts → old.stream.over ≡ false → stream ≡ after_piece old.stream piece → Puts guest_reader piece old.stream stream →
-    (e : ReadError) → e ≡ Memory → EndedBy e m old.host host stream new o0 o1 n0 n1 → Stops m s acts (Piece piece) o0 o1
-stops-packet {S = S} m s old host stream new acts piece o0 o1 n0 n1 are stands going is puts e same ended =
+pub stops-packet : {S : Type 0} (m : Meaning S) (s : S) (old : HostKept S) (stream : Stream RedirState) (acts : List Act) (piece o0 o1 : List ℕ) → AreBytes piece → Stands m s old acts → old.stream.over ≡ false → stream ≡ after_piece old.stream piece → Puts guest_reader piece old.stream stream →
+    (e : ReadError) → e ≡ Memory → LeavesWanted {T = Unit {0}} (Err e) m stream old.host o0 o1 → Stops m s acts (Piece piece) o0 o1
+stops-packet {S = S} m s old stream acts piece o0 o1 are stands going is puts e same leaves =
     let bytes = guest_bytes acts in
     let x = guest_split bytes in
     let y = guest_split (bytes ++ piece) in
     let b = before m s old stream acts piece are stands going is puts in
-    let takes = ended-by e Memory m old.host host stream new o0 o1 n0 n1 same ended in
-    let t = takes.takes guest_start (bytes ++ piece) x.packets b.follows in
-    let h = t.stopped in
-    let left = (split guest_reader h.position new.held).packets in
-    let packets : y.packets ≡ (x.packets ++ t.more) ++ left = ap (λ (z : Splitting RedirState (Header × RedirPacket) Reason). z.packets) h.parts in
+    let l : LeavesOne m old.host o0 o1 (bytes ++ piece) x.packets = (subst (λ (r : ReadError). LeavesWanted {T = Unit {0}} (Err r) m stream old.host o0 o1) same leaves) (bytes ++ piece) x.packets b.follows in
     record {
-      taken = map asked t.more;
-      later = map asked left ++ wrongs y.wrong;
-      parts = added-front side bytes piece t.more left b.right packets;
-      sent = given-all bytes_of m s old acts (map asked t.more) (map asked t.more) o0 o1 stands t.did.sent refl;
+      taken = map asked l.more;
+      later = map asked (l.next ∷ l.left) ++ wrongs y.wrong;
+      parts = added-front side bytes piece l.more (l.next ∷ l.left) b.right l.packets;
+      sent = given-all bytes_of m s old acts (map asked l.more) (map asked l.more) o0 o1 stands l.sent refl;
+      wanted = inr (subst (λ (h : Host S). Wants m (steps m h (map asked l.more)) (asked l.next)) stands.host l.wants);
     }
 
 -- for the note of the wrong place
@@ -191,7 +192,8 @@ stops-note {S = S} m s old host stream new acts piece o0 o1 n0 n1 place why are 
     let t = takes.takes guest_start (bytes ++ piece) x.packets b.follows in
     record {
       taken = map asked t.more;
-      later = wrongs (guest_split (bytes ++ piece)).wrong;
-      parts = added-more side bytes piece t.more b.right t.stopped.packets;
+      later = Wrong (capped t.stopped.at) why ∷ [];
+      parts = added-more side bytes piece t.more b.right t.stopped.packets ∙ ap (λ (o : Option (ℕ × Reason)). map asked t.more ++ wrongs o) t.stopped.wrong;
       sent = given-all bytes_of m s old acts (map asked t.more) (map asked t.more) o0 o1 stands t.did.sent refl;
+      wanted = inr (inr (omega arith));
     }

@@ -1,5 +1,5 @@
 -- A piece of the guest's bytes, packet by packet: what each is, what the host makes of all, and what the piece brought.
-use Rattle.std.proofs.Common.{◌≡◌, ℕ, Bool, false, List, [], ◌∷◌, ◌++◌, length, map, Some, None, Ok, Err, refl, sym, ap, subst, ◌∙◌, append_assoc}
+use Rattle.std.proofs.Common.{◌≡◌, ℕ, Bool, true, false, inl, inr, List, [], ◌∷◌, ◌++◌, length, map, Some, None, Ok, Err, refl, sym, ap, subst, ◌∙◌, append_assoc}
 use Rattle.std.specs.Prelude.{Option, Result}
 use Rattle.std.specs.Result.{IsErrAnd}
 use Rattle.std.proofs.lemmas.List.{append-nil, map-append}
@@ -9,7 +9,7 @@ use Rattle.usb_base.proofs.Numbers.{AreBytes-append}
 use Rattle.packet_stream.specs.Items.{SideStream}
 use Rattle.packet_stream.specs.Loops.{Goes}
 use Rattle.packet_stream.specs.Split.{Position, past, Spells}
-use Rattle.packet_stream.specs.Streams.{Kept as Stream, after_piece, Follows, Drained, Gives, Answered, Nexts, Puts, capped}
+use Rattle.packet_stream.specs.Streams.{Kept as Stream, after_piece, Follows, Drained, Gives, Answered, Nexts, Puts, Wants as StreamWants, capped}
 use Rattle.packet_stream.specs.declared.read.ReadError.{ReadError}
 use Rattle.packet_stream.specs.declared.read.ReadError.TheVariants.{Refused as IsRefused, Memory}
 use Rattle.packet_stream.proofs.Following.{drained-follows, follows-front, over_after}
@@ -17,7 +17,9 @@ use Rattle.packet_stream.proofs.Laws.{IsSteady, reads_steady}
 use Rattle.packet_stream.proofs.Splits.{is_splitting}
 use Rattle.redir_wire.specs.declared.packet.Header.{Header}
 use Rattle.redir_wire.specs.declared.packet.Way.TheVariants.{ToHost}
+use Rattle.redir_data.specs.Packets.{takes_memory as redir_takes_memory}
 use Rattle.redir_data.specs.declared.packet.RedirPacket.{RedirPacket}
+use Rattle.redir_data.specs.declared.packet.RedirPacket.TheVariants.{Plain, Carrying}
 use Rattle.redir_data.specs.declared.state.RedirState.{RedirState}
 use Rattle.redir_data.specs.Streams.{start, after, stream_format}
 use Rattle.redir_data.specs.sound.Joined.{stream_sound}
@@ -38,7 +40,8 @@ use Rattle.redir_host.specs.guest.Packets.{packet_move}
 use Rattle.redir_host.specs.write.Readable.{AreRead, TakesInRange}
 use Rattle.redir_host.specs.state.Sound.{IsSound}
 use Rattle.redir_host.specs.step.Stands.{told_state, IsReadBy, Stands}
-use Rattle.redir_host.specs.guest.Takings.{IsGiven, OnRead, Took, TookPackets}
+use Rattle.redir_host.specs.guest.Takings.{IsGiven, LeavesOne, LeavesWanted, OnRead, Took, TookPackets}
+use Rattle.redir_host.specs.step.Wants.{GivesSome, takes_memory}
 use Rattle.redir_host.proofs.lemmas.guest.Sound.{keeps-packet}
 use Rattle.redir_host.proofs.lemmas.write.Replies.{packet-read}
 use Rattle.redir_host.proofs.lemmas.step.Acts.{act-gives, steps-append, given-append, act-host}
@@ -146,6 +149,45 @@ no-memory (Err Memory) P is = tt
 pub going-stopped : {S : Type 0} (r : Result (Unit {0}) ReadError) (m : Meaning S) (old mid new : Host S) (o0 o1 o2 : List ℕ) (n0 n1 n2 : List HostNote) → IsErrAnd r (λ y. y ≡ Memory) → o2 ≡ o1 →
     (more : List Found) → Going m old mid o0 o1 n0 n1 more → TookPackets r m old new o0 o2 n0 n2 more
 going-stopped r m old mid new o0 o1 o2 n0 n1 n2 is cut more g = record { sent = cut ∙ g.sent; took = no-memory r (Took m old new n0 n2 more) is }
+
+-- ---- where memory ran out
+
+asks-memory : (header : Header) (p : RedirPacket) → redir_takes_memory (header, p) ≡ true → takes_memory (Asked header.id p) ≡ true
+asks-memory header (Plain p) takes = takes
+asks-memory header (Carrying p) takes = takes
+
+-- for a packet that is read
+pub leaves-read : {S : Type 0} (m : Meaning S) (first kept new : Stream RedirState) (old mid : Host S) (o0 o1 : List ℕ) (n0 n1 : List HostNote) (result : Result (Option Found) ReadError) (e : ReadError) →
+    Goes guest_reader first kept (Going m old mid o0 o1 n0 n1) → Nexts guest_reader redir_takes_memory result kept new → result ≡ Err e → e ≡ Memory → (bytes : List ℕ) (given : List Found) → Follows guest_reader guest_start first bytes given → LeavesOne m old o0 o1 bytes given
+leaves-read m first kept new old mid o0 o1 n0 n1 result e goes nexts answered same bytes given f =
+    let w = goes.goes guest_start bytes given f in
+    let n : StreamWants redir_takes_memory (guest_split bytes) (given ++ w.more) =
+    subst (λ (x : Result (Option Found) ReadError). Answered guest_reader redir_takes_memory guest_start x new bytes (given ++ w.more)) (answered ∙ ap (λ (x : ReadError). Err x) same) (nexts guest_start bytes (given ++ w.more) w.follows) in
+    record { more = w.more; next = n.next; left = n.left; packets = n.packets; sent = w.did.sent; wants = inl (asks-memory n.next.1.0 n.next.1.1 n.takes-some) }
+
+-- for a packet that is taken
+pub leaves-taken : {S : Type 0} (m : Meaning S) (first kept new : Stream RedirState) (old mid : Host S) (o0 o1 o2 : List ℕ) (n0 n1 : List HostNote) (result : Result (Option Found) ReadError) (i : Found) →
+    Goes guest_reader first kept (Going m old mid o0 o1 n0 n1) → Nexts guest_reader redir_takes_memory result kept new → result ≡ Ok (Some i) → o2 ≡ o1 → GivesSome mid (packet_move m mid i.1.0.id i.1.1) → (bytes : List ℕ) (given : List Found) → Follows guest_reader guest_start first bytes given → LeavesOne m old o0 o2 bytes given
+leaves-taken {S = S} m first kept new old mid o0 o1 o2 n0 n1 result i goes nexts answered cut gives bytes given f =
+    let w = goes.goes guest_start bytes given f in
+    let n : Gives guest_reader guest_start new bytes (given ++ w.more) i.0 i.1 =
+    subst (λ (x : Result (Option Found) ReadError). Answered guest_reader redir_takes_memory guest_start x new bytes (given ++ w.more)) answered (nexts guest_start bytes (given ++ w.more) w.follows) in
+    let item : List Found = (n.at, i.1) ∷ [] in
+    let front = follows-front guest_reader guest_start new bytes ((given ++ w.more) ++ item) n.follows in
+    record {
+      more = w.more;
+      next = (n.at, i.1);
+      left = front.0;
+      packets = front.1 ∙ append_assoc (given ++ w.more) item front.0;
+      sent = cut ∙ w.did.sent;
+      wants = inr (subst (λ (h : Host S). GivesSome h (packet_move m h i.1.0.id i.1.1)) w.did.took.host gives);
+    }
+
+pub leaves-wanted : {T S : Type 0} (r : Result T ReadError) (e : ReadError) (m : Meaning S) (stream : Stream RedirState) (old : Host S) (o0 o1 : List ℕ) → IsErrAnd r (λ y. y ≡ e) →
+    (e ≡ Memory → (bytes : List ℕ) (given : List Found) → Follows guest_reader guest_start stream bytes given → LeavesOne m old o0 o1 bytes given) → LeavesWanted r m stream old o0 o1
+leaves-wanted (Ok v) e m stream old o0 o1 is leaves = tt
+leaves-wanted (Err (IsRefused place reason)) e m stream old o0 o1 is leaves = tt
+leaves-wanted (Err Memory) e m stream old o0 o1 is leaves = leaves (sym is)
 
 -- ---- what a piece brings
 

@@ -1,7 +1,7 @@
 -- What is known of each element of a list.
-use Rattle.std.proofs.Common.{◌≡◌, ℕ, zero, suc, Bool, true, false, cond, ◌&&◌, List, [], ◌∷◌, ◌++◌, filter, Some, None, refl, sym, ap, subst, ◌∙◌, inl, inr}
+use Rattle.std.proofs.Common.{◌≡◌, Bool, true, false, cond, ◌&&◌, List, [], ◌∷◌, ◌++◌, filter, Some, None, refl, sym, ap, subst, ◌∙◌, inl, inr}
 use Rattle.std.specs.Prelude.{Option, IfSome}
-use Rattle.std.specs.List.{find, remove}
+use Rattle.std.specs.List.{find}
 use Rattle.std.proofs.lemmas.Bool.{cases_Bool}
 use Rattle.model_device.specs.Meaning.{given_in}
 use Rattle.redir_host.specs.state.Sound.{Each}
@@ -68,9 +68,3 @@ all_well (x ∷ xs) = (tt, all_well xs)
 -- what is found passes
 pub found_passes : {A : Type 0} (test : A → Bool) (xs : List A) (x : A) → find test xs ≡ Some x → test x ≡ true
 found_passes test xs x is = (each_found (λ _. Unit {0}) test xs x (all_well xs) is).1
-
-pub each_removed : {A : Type 0} (P : A → Type 0) (xs : List A) (i : ℕ) → Each P xs → Each P (remove xs i)
-each_removed P [] zero each = tt
-each_removed P [] (suc i) each = tt
-each_removed P (x ∷ xs) zero each = each.1
-each_removed P (x ∷ xs) (suc i) each = (each.0, each_removed P xs i each.1)

@@ -1,9 +1,9 @@
 -- What the calls of a host make, put together.
-use Rattle.std.proofs.Common.{◌≡◌, ℕ, zero, suc, Bool, true, false, List, [], ◌∷◌, ◌++◌, Some, None, ◌<◌, length, get_or, filter, map, if◌then◌else◌, refl, sym, ap, subst, ◌∙◌, append_assoc, arith, lit<}
+use Rattle.std.proofs.Common.{◌≡◌, Bor, ℕ, Bool, true, false, List, [], ◌∷◌, ◌++◌, Some, None, length, filter, map, if◌then◌else◌, refl, sym, ap, subst, ◌∙◌, append_assoc, arith, lit<}
 use Rattle.std.specs.Prelude.{Option, Result, Ok, Err, IfOk, IfSome, OnOk}
-use Rattle.std.specs.List.{find, flat_map, position, remove, slice_get}
+use Rattle.std.specs.List.{find, flat_map}
+use Rattle.std.specs.Option.{option_copied}
 use Rattle.std.proofs.lemmas.List.{append-nil}
-use Rattle.std.proofs.lemmas.Option.{slice_get-get_or}
 use Rattle.usb_base.specs.declared.endpoint.EpTable.{EpTable}
 use Rattle.usb_base.specs.declared.status.UsbStatus.TheVariants.{Cancelled}
 use Rattle.usb_base.specs.declared.transfer.Outcome.{Outcome}
@@ -29,12 +29,11 @@ use Rattle.redir_host.specs.step.Machine.{told_bytes, bytes_of}
 use Rattle.redir_host.specs.step.Makes.{Makes, Performs, Tells}
 use Rattle.redir_host.specs.step.Moves.{Move, behind, then_sends}
 use Rattle.redir_host.specs.device.Performing.{done_by, does, performs, performs_marked, follows, resets, performed, first_performed, with_id, perform_move, perform_move_by, told_performed, told_performed_by}
-use Rattle.redir_host.specs.state.Queues.{is_at}
+use Rattle.redir_host.specs.state.Queues.{is_at, without_first}
 use Rattle.redir_host.specs.guest.Asking.{routed}
 use Rattle.redir_host.specs.device.Resets.{PerformsNow, ResetsTo}
 use Rattle.redir_host.specs.write.Readable.{InRange}
 use Rattle.redir_host.specs.state.Sound.{Each, IsRequest, IsRunning, IsSound}
-use Rattle.redir_host.proofs.lemmas.state.Firsts.{position_found, took_first, took_none}
 use Rattle.redir_host.proofs.lemmas.write.Flushes.{flat_map-append}
 use Rattle.redir_host.proofs.lemmas.state.Each.{each_appended, each_filtered, each_joined, given_if}
 
@@ -119,11 +118,6 @@ tells_answer m t h q o o0 o1 e = record {
 
 -- ---- requests that are performed
 
-pub each_at : {A : Type 0} (P : A → Type 0) (xs : List A) (i : ℕ) (x : A) → Each P xs → slice_get xs i ≡ Some x → P x
-each_at P [] i x each is = absurd cc
-each_at P (y ∷ ys) zero x each is = let same : y ≡ x = cc in subst P same each.0
-each_at P (y ∷ ys) (suc i) x each is = each_at P ys i x each.1 is
-
 -- the device did it, and this came of it
 pub performed_is : {S : Type 0} (s new : S) (r : Option (S × Outcome)) (o : Outcome) → Some o ≡ given_in r → new ≡ state_in s r → r ≡ Some (new, o)
 performed_is s new None o is e = absurd cc
@@ -152,19 +146,18 @@ performs_now h new q (Some v) o0 o1 now = record { told = refl; tells = now }
 -- ---- an endpoint's first request
 
 -- the one that was found, by its mark
-pub first_done : {S : Type 0} (m : Meaning S) (h new : Host S) (ep i : ℕ) (q : Request) (marks : Bool) (told : Performed) (o0 o1 : List ℕ) → h.unplugged ≡ false → position (is_at ep) h.queue ≡ Some i → slice_get h.queue i ≡ Some q → q.reset ≡ marks →
-    Performs (with_id q (if marks then performs_marked m (record h { queue = remove h.queue i }) q q.form else performs m (record h { queue = remove h.queue i }) q)) h new told o0 o1 →
+pub first_done : {S : Type 0} (m : Meaning S) (h new : Host S) (ep : ℕ) (q : Request) (marks : Bool) (told : Performed) (o0 o1 : List ℕ) → h.unplugged ≡ false → find (is_at ep) h.queue ≡ Some q → q.reset ≡ marks →
+    Performs (with_id q (if marks then performs_marked m (record h { queue = without_first (is_at ep) h.queue }) q q.form else performs m (record h { queue = without_first (is_at ep) h.queue }) q)) h new told o0 o1 →
     (told ≡ told_performed m h ep) × Tells (perform_move m h ep) new o0 o1
-first_done {S = S} m h new ep i q marks told o0 o1 plugged is here mark done =
-    let took = took_first (is_at ep) h.queue i is in
-    let found : find (is_at ep) h.queue ≡ Some q = sym took.0 ∙ here in
+first_done {S = S} m h new ep q marks told o0 o1 plugged found mark done =
+    let rest = without_first (is_at ep) h.queue in
     let P : Option (ℕ × Move S) → Type 0 = λ r. (told ≡ told_performed_by h.unplugged r) × Tells (perform_move_by h r) new o0 o1 in
-    let by : Bool → List Request → Option (ℕ × Move S) = λ b rest. with_id q (if b then performs_marked m (record h { queue = rest }) q q.form else performs m (record h { queue = rest }) q) in
-    let same : by marks (remove h.queue i) ≡ performed m h ep =
-    (λ j. by (sym mark j) (took.1 j))
+    let by : Bool → Option (ℕ × Move S) = λ b. with_id q (if b then performs_marked m (record h { queue = rest }) q q.form else performs m (record h { queue = rest }) q) in
+    let same : by marks ≡ performed m h ep =
+    ap by (sym mark)
     ∙ ap (first_performed m h ep) (sym found)
     ∙ ap (λ (b : Bool). if b then None else first_performed m h ep (find (is_at ep) h.queue)) (sym plugged) in
-    subst P same (done.told ∙ ap (λ (b : Bool). told_performed_by b (by marks (remove h.queue i))) (sym plugged), done.tells)
+    subst P same (done.told ∙ ap (λ (b : Bool). told_performed_by b (by marks)) (sym plugged), done.tells)
 
 pub some_same : {A : Type 0} (o : Option A) (x y : A) → o ≡ Some x → o ≡ Some y → x ≡ y
 some_same o x y e f = let g : Some x ≡ Some y = sym e ∙ f in cc
@@ -180,29 +173,20 @@ pub not_ready : {S : Type 0} (s new : S) (r : Option (S × Outcome)) → None �
 not_ready s new None is e = (refl, e)
 not_ready s new (Some done) is e = absurd cc
 
--- what is read at a place is what stands there
-pub read_is : (xs slice : List Request) (i : ℕ) (item q : Request) → i < length xs → slice ≡ xs → slice_get xs i ≡ Some q → get_or slice i item ≡ q
-read_is xs slice i item q within e is =
-    some_same (slice_get xs i) (get_or slice i item) q (slice_get-get_or xs i item within ∙ ap (λ l. Some (get_or l i item)) (sym e)) is
-
--- the request at the place that was found, and its mark
-pub found_here : (ep : ℕ) (queue slice : List Request) (i : ℕ) (item : Request) (marks : Bool) → position (is_at ep) queue ≡ Some i → slice ≡ queue → (get_or slice i item).reset ≡ marks →
-    (slice_get queue i ≡ Some (get_or queue i item)) × ((get_or queue i item).reset ≡ marks)
-found_here ep queue slice i item marks is e mark =
-    let within = (position_found (is_at ep) queue i is).1 in
-    let here = slice_get-get_or queue i item within in
-    (here, ap (λ (r : Request). r.reset) (sym (read_is queue slice i item (get_or queue i item) within e here)) ∙ mark)
+-- what is lent is what was found
+pub lent_is : (o : Option (Bor Request)) (x : Bor Request) (q : Request) (found : Option Request) → option_copied o ≡ found → o ≡ Some x → found ≡ Some q → x.now ≡ q
+lent_is o x q found copied lent is = let some : Some x.now ≡ Some q = sym (ap option_copied lent) ∙ copied ∙ is in cc
 
 pub on_ok_from : {T E : Type 0} (r : Result T E) (P : Type 0) → IfOk r (λ _. P) → OnOk r P
 on_ok_from (Ok v) P h = h
 on_ok_from (Err e) P h = tt
 
 -- there is none
-pub first_none : {S : Type 0} (m : Meaning S) (h : Host S) (ep : ℕ) (o0 : List ℕ) → h.unplugged ≡ false → position (is_at ep) h.queue ≡ None → (NotReady ≡ told_performed m h ep) × Tells (perform_move m h ep) h o0 o0
-first_none {S = S} m h ep o0 plugged is =
+pub first_none : {S : Type 0} (m : Meaning S) (h : Host S) (ep : ℕ) (o0 : List ℕ) → h.unplugged ≡ false → find (is_at ep) h.queue ≡ None → (NotReady ≡ told_performed m h ep) × Tells (perform_move m h ep) h o0 o0
+first_none {S = S} m h ep o0 plugged missing =
     let P : Option (ℕ × Move S) → Type 0 = λ r. (NotReady ≡ told_performed_by h.unplugged r) × Tells (perform_move_by h r) h o0 o0 in
     let same : None ≡ performed m h ep =
-    ap (first_performed m h ep) (took_none (is_at ep) h.queue is).0
+    ap (first_performed m h ep) (sym missing)
     ∙ ap (λ (b : Bool). if b then None else first_performed m h ep (find (is_at ep) h.queue)) (sym plugged) in
     subst P same (ap (λ (b : Bool). told_performed_by {S = S} b None) (sym plugged), record { makes = record { host = refl; sent = sym (append-nil o0) }; in_range = tt })
 

@@ -1,35 +1,38 @@
 use Rattle.std.proofs.Common.{List, sym, subst}
-use Rattle.std.specs.List.{slice_get, remove}
+use Rattle.std.specs.List.{find}
 use Rattle.redir_host.specs.declared.note.Performed.TheVariants.{Done}
 use Rattle.redir_host.specs.declared.request.Request.{Request}
 use Rattle.redir_host.specs.step.Makes.{Performs}
 use Rattle.redir_host.specs.device.Performing.{performs_marked, with_id}
 use Rattle.redir_host.specs.device.Resets.{PerformsNow}
+use Rattle.redir_host.specs.state.Queues.{is_at, without_first}
 use Rattle.redir_host.specs.state.Sound.{Each, IsRequest}
-use Rattle.redir_host.proofs.lemmas.state.Each.{each_removed}
-use Rattle.redir_host.proofs.lemmas.step.Makes.{each_at, performs_now, some_same}
+use Rattle.redir_host.proofs.lemmas.state.Each.{each_found}
+use Rattle.redir_host.proofs.lemmas.state.Sound.{each-without}
+use Rattle.redir_host.proofs.lemmas.step.Makes.{performs_now, some_same}
 use Rattle.redir_host.proofs.host.Host.perform_marked.Goals as goal
 
 pub perform_reset-requires-clause-sound : goal.perform_reset-requires-clause-sound
 perform_reset-requires-clause-sound g c =
     let h = c.args.self.now in
     record {
-      requests = subst (Each (IsRequest h.guest)) (sym c.remove-request.ensures.rest) (each_removed (IsRequest h.guest) h.queue c.args.place c.requires.sound.requests);
+      requests = subst (Each (IsRequest h.guest)) (sym c.remove_first-request.ensures.rest) (each-without (IsRequest h.guest) (is_at c.args.ep) h.queue c.requires.sound.requests);
       streams = c.requires.sound.streams;
     }
 
 pub perform_reset-requires-clause-request : goal.perform_reset-requires-clause-request
 perform_reset-requires-clause-request g c =
     let h = c.args.self.now in
-    each_at (IsRequest h.guest) h.queue c.args.place c.remove-request.result c.requires.sound.requests c.remove-request.ensures.request
+    (each_found (IsRequest h.guest) (is_at c.args.ep) h.queue c.remove_first-request.result c.requires.sound.requests c.remove_first-request.ensures.request).0
 
 pub returns-clause-ok : goal.returns-clause-ok
 returns-clause-ok g c q is =
     let h = c.args.self.now in
-    let own = c.remove-request.result in
+    let own = c.remove_first-request.result in
     let m = g.G.Gadget.meaning in
     let new = c.perform_reset.new.self in
-    let Says : Request → Type 0 = λ x. Performs (with_id x (performs_marked m (record h { queue = remove h.queue c.args.place }) x x.form)) h new (Done own.id) c.args.out.now c.perform_reset.new.out in
-    subst Says (some_same (slice_get h.queue c.args.place) own q c.remove-request.ensures.request is)
-    (performs_now h new own (performs_marked m (record h { queue = remove h.queue c.args.place }) own own.form) c.args.out.now c.perform_reset.new.out
-    (subst (λ (ys : List Request). PerformsNow (performs_marked m (record h { queue = ys }) own own.form) new c.args.out.now c.perform_reset.new.out) c.remove-request.ensures.rest c.in_ok-perform_reset.ensures.ok))
+    let rest = without_first (is_at c.args.ep) h.queue in
+    let Says : Request → Type 0 = λ x. Performs (with_id x (performs_marked m (record h { queue = rest }) x x.form)) h new (Done own.id) c.args.out.now c.perform_reset.new.out in
+    subst Says (some_same (find (is_at c.args.ep) h.queue) own q c.remove_first-request.ensures.request is)
+    (performs_now h new own (performs_marked m (record h { queue = rest }) own own.form) c.args.out.now c.perform_reset.new.out
+    (subst (λ (ys : List Request). PerformsNow (performs_marked m (record h { queue = ys }) own own.form) new c.args.out.now c.perform_reset.new.out) c.remove_first-request.ensures.rest c.in_ok-perform_reset.ensures.ok))

@@ -1,8 +1,10 @@
-use Rattle.std.proofs.Common.{◌∙◌, ap, filter, rules}
-use Rattle.std.proofs.lemmas.Fn.{filter_same}
+use Rattle.std.proofs.Common.{◌∙◌, ap, filter}
+use Rattle.std.specs.Map.{values_of}
 use Rattle.redir_host.specs.device.Changes.{stays}
+use Rattle.redir_host.proofs.lemmas.state.Numbered.{filter_values}
 use Rattle.redir_host.proofs.queue.Queue.flush.Goals as goal
 
 pub returns : goal.returns
 returns c =
-    filter_same _ (stays c.args.route.now c.args.table.now) _ (λ x b f' k. search rules) _ _ c.retain.ensures.filtered ∙ ap (filter (stays c.args.route.now c.args.table.now)) c.self.view_is
+    let s = stays c.args.route.now c.args.table.now in
+    ap values_of c.flush.ensures.rest ∙ filter_values s c.self.inside.waiting.requests.entries ∙ ap (filter s) c.self.view_is
