@@ -19,7 +19,7 @@
    its links stay up for so many seconds behind that, in which nothing is sent.
 
    Each side has a thread that reads and one that writes. A reader takes what has come in one call. What is to be sent
-   for that goes out with AT_ONCE packets in one call at most.
+   for that goes out with AT_ONCE packets in one call at most, where the isochronous packets of a transfer count as one.
    The reader sends it where it is short and the link takes it at once, so that a lone transfer wakes no thread beside
    the two that its packets wake; the rest is left to the writer. */
 #define _GNU_SOURCE
@@ -43,7 +43,7 @@
 #define ISO_PACKETS 8
 #define MOST_LENGTH (16 << 20)
 #define ROOM (256 << 10)
-/* Messages with more data are left to the writer's thread. */
+/* What has more data is left to the writer's thread. */
 #define SHORT 4096
 #define MOST_AT_ONCE 256
 #define MOST_HEAD (48 + 16 * ISO_PACKETS + 8)
@@ -194,8 +194,10 @@ struct outbox {
     int link;
     /* Writes a message's head, of at most MOST_HEAD bytes, and says how many bytes of data are behind it. */
     size_t (*message)(uint64_t number, unsigned char *head, size_t *behind);
-    /* Whether no message has more than SHORT bytes of data. */
+    /* Whether the messages of a transfer have SHORT bytes of data at most. */
     int is_short;
+    /* How many messages go out in one call at most. */
+    uint64_t most;
     pthread_mutex_t lock;
     pthread_cond_t handed_over;
     uint64_t queued, begun;
@@ -247,7 +249,7 @@ static int send_queued(struct outbox *box, int flags)
         pthread_mutex_unlock(&box->lock);
         if (count == 0)
             return 1;
-        take_next(box, count < at_once ? count : at_once);
+        take_next(box, count < box->most ? count : box->most);
     }
     return 0;
 }
@@ -281,13 +283,15 @@ static void post(struct outbox *box, uint64_t count)
     pthread_mutex_unlock(&box->lock);
 }
 
-static void begin_outbox(struct outbox *box, int link, int has_data,
+/* `each` messages are sent for a transfer. */
+static void begin_outbox(struct outbox *box, int link, int has_data, uint64_t each,
                          size_t (*message)(uint64_t, unsigned char *, size_t *))
 {
     pthread_t writer;
     box->link = link;
     box->message = message;
-    box->is_short = !has_data || length <= SHORT;
+    box->is_short = !has_data || length * each <= SHORT;
+    box->most = at_once * each < MOST_AT_ONCE ? at_once * each : MOST_AT_ONCE;
     pthread_mutex_init(&box->lock, NULL);
     pthread_cond_init(&box->handed_over, NULL);
     if (pthread_create(&writer, NULL, write_on, box))
@@ -456,7 +460,7 @@ static void import(int link)
 static void *measure(void *given)
 {
     import(dialed(*(int *)given));
-    begin_outbox(&requests, answers.link, way == OUT || way == BOTH, submit);
+    begin_outbox(&requests, answers.link, way == OUT || way == BOTH, 1, submit);
     begin = now();
     to_ask = in_flight;
     for (ask(); answered < asked; to_ask++, answered == asked ? ask() : (void)0)
@@ -497,7 +501,7 @@ static void begin_server(int link)
     sure(&far_requests, 40);
     if (send(link, reply, sizeof reply, MSG_NOSIGNAL) != sizeof reply)
         fail("a link takes nothing");
-    begin_outbox(&far_answers, link, way != OUT, server_answer);
+    begin_outbox(&far_answers, link, way != OUT, 1, server_answer);
 }
 
 /* Whether one came. */
@@ -574,7 +578,7 @@ static void begin_host(int link)
 {
     tell_device(link);
     sure(&far_requests, 80);
-    begin_outbox(&far_answers, link, way != OUT, is_stream() ? stream_packet : host_answer);
+    begin_outbox(&far_answers, link, way != OUT, packets_each(), is_stream() ? stream_packet : host_answer);
 }
 
 /* How many transfers of a stream were asked for before it was started, under the lock. */
