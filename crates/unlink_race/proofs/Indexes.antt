@@ -1,9 +1,9 @@
 -- What the index has of the requests, as one comes, as one ends, and as one is looked for.
-use Rattle.std.proofs.Common.{◌≡◌, ◌≢◌, ◌==◌, ◌&&◌, ◌||◌, ℕ, zero, suc, ◌+◌, ◌<◌, ◌≤◌, Bool, true, false, cond, List, [], ◌∷◌, ◌++◌, length, filter, set, Some, option_map, is_some, refl, ap, sym, ◌∙◌, arith, inl, inr}
+use Rattle.std.proofs.Common.{◌≡◌, ◌≢◌, ◌==◌, ◌&&◌, ◌||◌, ℕ, zero, suc, ◌+◌, ◌<◌, ◌≤◌, Bool, true, false, cond, List, [], ◌∷◌, ◌++◌, length, filter, set, Some, option_map, is_some, refl, ap, sym, subst, ◌∙◌, arith, inl, inr}
 use Rattle.std.specs.List.{find, list_any, remove, slice_get, zip}
 use Rattle.std.proofs.lemmas.Bool.{eq-eqb, ne_eqb, cases_eq, cases_Bool, false≢true}
 use lib.ListN.{length-set}
-use Rattle.std.proofs.lemmas.List.{length-append}
+use Rattle.std.proofs.lemmas.List.{length-append, length-map}
 use Rattle.std.proofs.lemmas.List.Edits.{length-remove}
 use Rattle.std.proofs.lemmas.List.Sums.{count_by-le-length}
 use Rattle.std.proofs.lemmas.List.Elements.{filter-append}
@@ -11,18 +11,23 @@ use Rattle.std.proofs.lemmas.Option.{slice_get_within, get_or_from_slice_get}
 use Rattle.std.proofs.lemmas.Slice.Zip.{length-zip}
 use Rattle.std.proofs.Math.Bool.{and-false}
 use Rattle.unlink_race.specs.declared.live.Live.{Live}
+use Rattle.unlink_race.specs.declared.by_number.By.{By}
+use Rattle.unlink_race.specs.declared.by_number.By.TheVariants.{Number, Id}
 use Rattle.unlink_race.specs.declared.index.Index.{Index}
 use Rattle.unlink_race.specs.Firsts.{without_first}
-use Rattle.unlink_race.specs.Searches.{goes_by_id, changes}
-use Rattle.unlink_race.specs.Inner.Indexed.{column, is_pair, with_number, IsOrdering, IsIndexed}
+use Rattle.unlink_race.specs.Searches.{changes}
+use Rattle.unlink_race.specs.Inner.Indexed.{number_by, any_by, found_by, column, is_pair, with_number, IsOrdering, IsOrderOf, IsIndexed}
 use Rattle.unlink_race.specs.Inner.Listed.{Distinct}
 use Rattle.unlink_race.proofs.Counts.{count_pushed, count_removed, count_changed}
 use Rattle.unlink_race.proofs.Firsts.{first_passing, filter-without_first}
 use Rattle.unlink_race.proofs.Rows.{absent_at}
-use Rattle.unlink_race.proofs.Zipped.{key_of, itself, zip_pushed, zip_removed, zip_at, distinct_zipped}
+use Rattle.unlink_race.proofs.Zipped.{key_of, zip_pushed, zip_removed}
 
 abbrev pub Pairs : Type 0
 Pairs = List (ℕ × ℕ)
+
+pub ordering_back : {ps qs : Pairs} → IsOrdering ps qs → IsOrdering qs ps
+ordering_back o = record { each = λ n. sym (o.each n); size = sym o.size }
 
 -- ---- lists without the first that passes
 
@@ -204,75 +209,65 @@ module _ (any : Live → Bool) (number : Live → ℕ) where
 pub zip_short : (keys : List ℕ) (lives : List Live) → length keys ≡ length lives → length (zip keys lives) ≤ length lives
 zip_short keys lives long = let e = length-zip keys lives in omega (arith, e, long)
 
+module _ {by : By} {requests : List (ℕ × Live)} {keys : List ℕ} (o : IsOrderOf by requests keys) where
+  long_order : length keys ≡ length o.pairs
+  long_order = ap length o.keys_are ∙ length-map o.pairs (λ (p : ℕ × ℕ). p.1)
+
+  pub order_short : length keys ≤ length requests
+  order_short = let a = long_order in let b = o.ordering in let c = b.size in let d = column_short (any_by by) (number_by by) requests in omega (arith, a, c, d)
+
+  -- by each name of the column
+  pub same_column : (others : List (ℕ × Live)) → column (any_by by) (number_by by) others ≡ column (any_by by) (number_by by) requests → IsOrderOf by others keys
+  same_column others same = record { pairs = o.pairs; keys_are = o.keys_are; rises = o.rises; ordering = rw same o.ordering }
+
+  pub leads : (n : ℕ) → option_map (λ (p : ℕ × ℕ). p.1) (find (λ (p : ℕ × ℕ). p.0 == n) o.pairs) ≡ option_map (λ (r : ℕ × Live). r.0) (find (λ (r : ℕ × Live). found_by by n r.1) requests)
+  leads n = ap (option_map (λ (p : ℕ × ℕ). p.1)) (same_first o.ordering n) ∙ column_found (any_by by) (number_by by) n requests
+
+pub order_of : {by : By} {requests others : List (ℕ × Live)} {keys : List ℕ} → others ≡ requests → IsOrderOf by requests keys → IsOrderOf by others keys
+order_of {by = by} {keys = keys} same o = let P : List (ℕ × Live) → Type 0 = λ rs. IsOrderOf by rs keys in subst P (sym same) o
+
 module _ {keys : List ℕ} {lives : List Live} {index : Index} (s : IsIndexed keys lives index) where
-  abbrev number : Live → ℕ
-  number live = live.seqnum
-
-  abbrev id : Live → ℕ
-  id live = live.id
-
-  abbrev each : Live → Bool
-  each live = true
-
   pub index_changed : (i : ℕ) (x y : Live) → slice_get lives i ≡ Some x → y.kind ≡ x.kind → y.seqnum ≡ x.seqnum → y.id ≡ x.id → IsIndexed keys (set lives i y) index
   index_changed i x y is kind seqnum same_id =
       record {
         long = s.long ∙ sym (length-set lives i y);
-        numbers = rw (column_changed each number keys lives i x y is refl seqnum) s.numbers;
-        held = rw (column_changed goes_by_id id keys lives i x y is (rw kind refl) same_id) s.held;
+        numbers = same_column s.numbers (zip keys (set lives i y)) (column_changed (any_by Number) (number_by Number) keys lives i x y is refl seqnum);
+        held = same_column s.held (zip keys (set lives i y)) (column_changed (any_by Id) (number_by Id) keys lives i x y is (rw kind refl) same_id);
         changes = s.changes ∙ sym (count_changed changes lives i x y is (rw kind refl));
       }
 
-  pub number_room : length index.numbers ≤ length lives
-  number_room = let a = s.numbers.size in let b = column_short each number (zip keys lives) in let c = zip_short keys lives s.long in omega (arith, a, b, c)
+  pub number_room : length index.numbers.items ≤ length lives
+  number_room = let a = order_short s.numbers in let b = zip_short keys lives s.long in omega (arith, a, b)
 
-  pub held_room : length index.held ≤ length lives
-  held_room = let a = s.held.size in let b = column_short goes_by_id id (zip keys lives) in let c = zip_short keys lives s.long in omega (arith, a, b, c)
+  pub held_room : length index.held.items ≤ length lives
+  held_room = let a = order_short s.held in let b = zip_short keys lives s.long in omega (arith, a, b)
 
   pub changes_few : index.changes ≤ length lives
   changes_few = let a = s.changes in let b = count_by-le-length changes lives in omega (arith, a, b)
 
   -- the parts are written out, so that the callers' clauses fit
-  pub index_pushed : (numbers held : Pairs) (changing k : ℕ) (x : Live) → ((n : ℕ) → with_number n numbers ≡ with_number n (index.numbers ++ (x.seqnum, k) ∷ [])) → length numbers ≡ length index.numbers + 1 → ((n : ℕ) → with_number n held ≡ with_number n (index.held ++ cond (goes_by_id x) ((x.id, k) ∷ []) [])) → length held ≡ length index.held + cond (goes_by_id x) 1 0 → changing ≡ index.changes + cond (changes x) 1 0 → IsIndexed (keys ++ k ∷ []) (lives ++ x ∷ []) record { numbers = numbers; held = held; changes = changing }
-  index_pushed numbers held changing k x number_more number_longer held_more held_longer more =
+  pub index_pushed : (index' : Index) (k : ℕ) (x : Live) → IsOrderOf Number (zip keys lives ++ (k, x) ∷ []) index'.numbers.items → IsOrderOf Id (zip keys lives ++ (k, x) ∷ []) index'.held.items → index'.changes ≡ index.changes + cond (changes x) 1 0 → IsIndexed (keys ++ k ∷ []) (lives ++ x ∷ []) index'
+  index_pushed index' k x numbers held more =
       let whole = zip_pushed keys lives k x s.long in
       record {
         long = (let a = length-append keys (k ∷ []) in let b = length-append lives (x ∷ []) in let c = s.long in omega (arith, a, b, c));
-        numbers = rw (whole, column_pushed each number (zip keys lives) (k, x)) (ordering_pushed s.numbers numbers ((x.seqnum, k) ∷ []) number_more number_longer);
-        held = rw (whole, column_pushed goes_by_id id (zip keys lives) (k, x)) (ordering_pushed s.held held (cond (goes_by_id x) ((x.id, k) ∷ []) []) held_more (held_longer ∙ ap (λ n. length index.held + n) (long_cond (goes_by_id x))));
+        numbers = order_of whole numbers;
+        held = order_of whole held;
         changes = more ∙ ap (λ n. n + cond (changes x) 1 0) s.changes ∙ sym (count_pushed changes lives x);
       }
-    where
-      long_cond : (b : Bool) → cond b 1 0 ≡ length {A = ℕ × ℕ} (cond b ((x.id, k) ∷ []) [])
-      long_cond true = refl
-      long_cond false = refl
 
   module _ (i k : ℕ) (x : Live) (key : slice_get keys i ≡ Some k) (live : slice_get lives i ≡ Some x) where
-    at : slice_get (zip keys lives) i ≡ Some (k, x)
-    at = zip_at keys lives i k x key live
-
-    pub numbered_there : list_any (is_pair x.seqnum k) index.numbers ≡ true
-    numbered_there = pair_there s.numbers x.seqnum k (column_has each number (zip keys lives) i (k, x) at refl)
-
-    pub held_there : goes_by_id x ≡ true → list_any (is_pair x.id k) index.held ≡ true
-    held_there flies = pair_there s.held x.id k (column_has goes_by_id id (zip keys lives) i (k, x) at flies)
-
     -- one that changes the interfaces is among those that are counted
     pub change_counted : cond (changes x) 1 0 ≤ index.changes
     change_counted = omega (arith, s.changes, count_removed changes lives i x live)
 
-    pub index_removed : Distinct itself keys → (numbers held : Pairs) (changing : ℕ) → numbers ≡ without_first (is_pair x.seqnum k) index.numbers → held ≡ cond (goes_by_id x) (without_first (is_pair x.id k) index.held) index.held → changing + cond (changes x) 1 0 ≡ index.changes → IsIndexed (remove keys i) (remove lives i) record { numbers = numbers; held = held; changes = changing }
-    index_removed apart numbers held changing number_less held_less less =
+    pub index_removed : (index' : Index) → IsOrderOf Number (remove (zip keys lives) i) index'.numbers.items → IsOrderOf Id (remove (zip keys lives) i) index'.held.items → index'.changes + cond (changes x) 1 0 ≡ index.changes → IsIndexed (remove keys i) (remove lives i) index'
+    index_removed index' numbers held less =
         let left = zip_removed keys lives i in
-        let apart_rows = distinct_zipped keys lives apart in
         record {
           long = (let a = length-remove keys i (slice_get_within keys i k key) in let b = length-remove lives i (slice_get_within lives i x live) in let c = s.long in omega (arith, a, b, c));
-          numbers = rw (left, column_removed each number (zip keys lives) i (k, x) at apart_rows, number_less) (ordering_removed s.numbers x.seqnum k (column_has each number (zip keys lives) i (k, x) at refl));
-          held = rw (left, column_removed goes_by_id id (zip keys lives) i (k, x) at apart_rows, held_less) (
-              elim (cases_Bool (goes_by_id x)) [
-                | inl flies ↦ rw flies (ordering_removed s.held x.id k (column_has goes_by_id id (zip keys lives) i (k, x) at flies))
-                | inr waits ↦ rw waits s.held
-              ]);
+          numbers = order_of left numbers;
+          held = order_of left held;
           changes = omega (arith, less, s.changes, count_removed changes lives i x live);
         }
 

@@ -12,6 +12,7 @@ pub mod Leading
 pub mod Ordered
 pub mod Passing
 pub mod Placing
+pub mod Reading
 pub mod Rising
 pub mod Rows
 pub mod Tables

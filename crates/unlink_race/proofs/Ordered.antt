@@ -1,13 +1,11 @@
 -- Pairs in rising order of their numbers: one is put in, one is looked for, one is taken out.
-use Rattle.std.proofs.Common.{◌≡◌, ◌≢◌, ◌==◌, ◌&&◌, ℕ, zero, suc, ◌+◌, ◌-◌, ◌<◌, ◌≤◌, Bool, true, false, cond, List, [], ◌∷◌, ◌++◌, length, take, drop, get_or, Some, None, IsSome, refl, ap, sym, ◌∙◌, arith, inl, inr}
-use Rattle.std.specs.List.{find, insert, list_any, position, position_or_len, remove, slice_get}
+use Rattle.std.proofs.Common.{◌≡◌, ◌≢◌, ◌==◌, ℕ, zero, suc, ◌+◌, ◌-◌, ◌<◌, ◌≤◌, Bool, false, cond, List, [], ◌∷◌, ◌++◌, length, take, drop, get_or, Some, None, refl, ap, sym, ◌∙◌, arith, inl, inr}
+use Rattle.std.specs.List.{find, insert, list_any, position_or_len, remove, slice_get}
 use Rattle.std.specs.List.Sorted.{IsNonDecreasingBy}
 use Rattle.std.proofs.lemmas.Bool.{eq-eqb, ne_eqb, cases_eq, cases_Bool, cases_lt}
 use Rattle.std.proofs.lemmas.List.{length-drop, take_all}
 use Rattle.std.proofs.lemmas.List.Edits.{length-remove, get_or-remove_below, get_or-remove_above}
-use Rattle.unlink_race.specs.Firsts.{without_first}
-use Rattle.unlink_race.specs.Inner.Indexed.{is_pair, with_number}
-use Rattle.unlink_race.proofs.Firsts.{remove_first, position_found, is_some-position}
+use Rattle.unlink_race.specs.Inner.Indexed.{with_number, Before, Behind}
 use Rattle.unlink_race.proofs.Indexes.{Pairs}
 
 abbrev pub number_of : ℕ × ℕ → ℕ
@@ -57,12 +55,6 @@ find_none n (p ∷ ps) other =
     let away : p.0 ≢ n = other 0 p (omega arith) in
     rw (ne_eqb p.0 n away) (find_none n ps (λ k d within. other (suc k) d (omega (arith, within))))
 
-abbrev pub Before : Pairs → ℕ → ℕ → Type 0
-Before ps i n = (k : ℕ) (d : ℕ × ℕ) → k < i → number_of (get_or ps k d) < n
-
-abbrev pub Behind : Pairs → ℕ → ℕ → Type 0
-Behind ps i n = (k : ℕ) (d : ℕ × ℕ) → i ≤ k → k < length ps → n ≤ number_of (get_or ps k d)
-
 pub find_past : (ps : Pairs) (i n : ℕ) → length ps ≤ i → Before ps i n → find (λ (p : ℕ × ℕ). p.0 == n) ps ≡ None
 find_past ps i n past before = find_none n ps (λ k d within is. (let less = before k d (omega (arith, within, past)) in omega (arith, less, is)))
 
@@ -93,7 +85,7 @@ module _ {X : Type 0} (p : X → Bool) where
       let later = place_behind xs i (omega (arith, within)) (λ k d below. none (suc k) d (omega (arith, below))) in
       rw away (omega (arith, later))
 
-  any_behind : (xs : List X) (i : ℕ) → i ≤ length xs → ((k : ℕ) (d : X) → k < i → p (get_or xs k d) ≡ false) → list_any p (drop i xs) ≡ list_any p xs
+  pub any_behind : (xs : List X) (i : ℕ) → i ≤ length xs → ((k : ℕ) (d : X) → k < i → p (get_or xs k d) ≡ false) → list_any p (drop i xs) ≡ list_any p xs
   any_behind xs zero within none = refl
   any_behind [] (suc i) within none = absurd (omega (arith, within))
   any_behind (x ∷ xs) (suc i) within none =
@@ -103,29 +95,6 @@ module _ {X : Type 0} (p : X → Bool) where
 -- what stands from a place on
 pub from_place : {X : Type 0} (xs : List X) (i : ℕ) → take (length xs - i) (drop i xs) ≡ drop i xs
 from_place xs i = let short = length-drop i xs in take_all (length xs - i) (drop i xs) (omega (arith, short))
-
-not_before : (ps : Pairs) (i m key : ℕ) → Before ps i m → (k : ℕ) (d : ℕ × ℕ) → k < i → is_pair m key (get_or ps k d) ≡ false
-not_before ps i m key before k d below =
-    let less = before k d below in
-    ap (λ b. b && ((get_or ps k d).1 == key)) (ne_eqb (number_of (get_or ps k d)) m (λ same. omega (arith, less, same)))
-
-pub there_behind : (ps : Pairs) (i m key : ℕ) → i ≤ length ps → Before ps i m → list_any (is_pair m key) ps ≡ true → IsSome (position (is_pair m key) (drop i ps))
-there_behind ps i m key within before there =
-    is_some-position (is_pair m key) (drop i ps) ∙ any_behind (is_pair m key) ps i within (not_before ps i m key before) ∙ there
-
-pub record TakenAt (ps : Pairs) (m key place : ℕ) : Type 0 where
-  pub within : place < length ps
-  pub left : remove ps place ≡ without_first (is_pair m key) ps
-
-pub taken_at : (ps : Pairs) (i m key j : ℕ) → i ≤ length ps → Before ps i m → position (is_pair m key) (drop i ps) ≡ Some j → TakenAt ps m key (i + j)
-taken_at ps i m key j within before is =
-    let at = position_found (is_pair m key) (drop i ps) j is in
-    let short = length-drop i ps in
-    let place : i + j ≡ position_or_len (is_pair m key) ps = ap (λ n. i + n) at.0 ∙ sym (place_behind (is_pair m key) ps i within (not_before ps i m key before)) in
-    record {
-      within = omega (arith, at.1, short);
-      left = ap (remove ps) place ∙ remove_first (is_pair m key) ps;
-    }
 
 -- the others rise still
 pub rises_without : {X : Type 0} (n : X → ℕ) (xs : List X) (p : ℕ) → p < length xs → IsNonDecreasingBy n xs → IsNonDecreasingBy n (remove xs p)

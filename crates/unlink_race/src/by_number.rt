@@ -1,94 +1,116 @@
-//! Keys by a number that each has: a search for a number doesn't walk.
+//! Keys in the order of a number that their requests have: a search for a number doesn't walk.
 
-ghost use Rattle.std.specs.Prelude.{◌≡◌, ◌==◌, ◌<◌, ◌≤◌, ◌+◌, ◌++◌, ℕ, true, [], ◌∷◌, length, get_or, option_map};
-ghost use Rattle.std.specs.List.{find, position, list_any};
-ghost use Rattle.unlink_race.specs.Firsts.{without_first};
-ghost use Rattle.unlink_race.specs.Inner.Indexed.{is_pair, with_number};
+ghost use Rattle.std.specs.Prelude.{◌≡◌, ◌==◌, ◌<◌, ◌≤◌, ◌+◌, ◌++◌, ℕ, true, List, [], ◌∷◌, length, map, remove, slice_get, Some, option_map};
+ghost use Rattle.std.specs.List.{find, position};
+ghost use Rattle.std.specs.List.Sorted.{IsNonDecreasingBy};
+ghost use Rattle.std.specs.Option.{option_cmp};
+ghost use Rattle.std.specs.Ordering.{nat_cmp};
+ghost use Rattle.arrayvec.specs.ArrayVec.{array_vec_len};
+ghost use Rattle.urb_arena.specs.Lanes.{find_in};
+ghost use Rattle.unlink_race.specs.declared.live.Live.{Live};
+ghost use Rattle.unlink_race.specs.Inner.Listed.{Distinct};
+ghost use Rattle.unlink_race.specs.Inner.Indexed.{number_by, any_by, found_by, number_at, Before, Behind, Reads, Stand, IsOrderOf};
 
+use crate::live::Live;
 use arrayvec::ArrayVec;
-use std::marker::Model;
-use urb_arena::Key;
+use std::cmp::Ordering;
+use urb_arena::{Arena, Key};
 use usbip_urb::MAX_LIVE;
 
-/// At most 4,096 keys, each behind its number, in rising order of the numbers; those of one number stand in the order
-/// in which they were put in. They lie in the value itself. Contracts see the pairs in their order.
-#[derive(Drop)]
-pub struct ByNumber {
-    pairs: ArrayVec<(u64, Key), MAX_LIVE>,
+/// What requests are found by.
+#[derive(Clone, Copy)]
+pub enum By {
+    /// The submit's number.
+    Number,
+    /// The id of the packet whose answer ends a wire or route request.
+    Id,
 }
 
-impl Model for ByNumber {
-    ghost use Rattle.std.specs.Prelude.{ℕ, List};
-    ghost use Rattle.std.specs.List.Sorted.{IsNonDecreasingBy};
-
-    ghost Value = { List (ℕ × ℕ) };
-
-    ghost view = { λ b. b.pairs.items };
-
-    ghost invariant = { λ b. IsNonDecreasingBy (λ (p : ℕ × ℕ). p.0) b.pairs.items };
-}
-
-fn place_of(pairs: &[(u64, Key)], number: u64, key: Key) -> Option<usize>
-    ensures { result ≡ position (is_pair number key) pairs.now }
-{
-    pairs
-        .iter()
-        .position(|pair| pair.0 == number && pair.1 == key)
-}
-
-impl ByNumber {
-    /// No key.
-    pub fn new() -> Self
-        ensures { result ≡ [] }
+impl By {
+    fn of(self, live: &Live) -> u64
+        ensures { result ≡ number_by self live.now }
     {
-        ByNumber {
-            pairs: ArrayVec::new(),
+        match self {
+            By::Number => u64::from(live.seqnum),
+            By::Id => live.id,
         }
     }
+}
 
-    // Where the first of this number stands, or would: those before it have lesser numbers, and those from it on don't.
-    fn place_before(&self, number: u64) -> usize
-        ensures bound { result ≤ length self.now }
-        ensures before { (k : ℕ) (d : ℕ × ℕ) → k < result → (get_or self.now k d).0 < number }
-        ensures behind { (k : ℕ) (d : ℕ × ℕ) → result ≤ k → k < length self.now → number ≤ (get_or self.now k d).0 }
-    {
-        self.pairs.partition_point(|pair| pair.0 < number)
-    }
+fn number_of(arena: &Arena<(u64, Live)>, key: Key, by: By) -> Option<u64>
+    ensures { result ≡ number_at by arena.now.lanes key }
+{
+    Some(by.of(&arena.get(key)?.1))
+}
 
-    // Where one more of this number comes: those before it have no greater numbers, and those from it on have.
-    fn place_behind(&self, number: u64) -> usize
-        ensures bound { result ≤ length self.now }
-        ensures before { (k : ℕ) (d : ℕ × ℕ) → k < result → (get_or self.now k d).0 ≤ number }
-        ensures behind { (k : ℕ) (d : ℕ × ℕ) → result ≤ k → k < length self.now → number < (get_or self.now k d).0 }
-    {
-        self.pairs.partition_point(|pair| pair.0 <= number)
-    }
+// How the number of a key's request compares to this one.
+fn compared(arena: &Arena<(u64, Live)>, key: Key, by: By, number: u64) -> Ordering
+    ensures { result ≡ option_cmp nat_cmp (number_at by arena.now.lanes key) (Some number) }
+{
+    number_of(arena, key, by).cmp(&Some(number))
+}
 
-    /// The first key of this number.
-    pub fn first(&self, number: u64) -> Option<Key>
-        ensures { result ≡ option_map (λ (p : ℕ × ℕ). p.1) (find (λ (p : ℕ × ℕ). p.0 == number) self.now) }
-    {
-        let (found, key) = *self.pairs.get(self.place_before(number))?;
-        if found == number { Some(key) } else { None }
-    }
+// Where the first of this number stands, or would: those before it have lesser numbers, and those from it on don't.
+fn place_before(arena: &Arena<(u64, Live)>, keys: &[Key], by: By, number: u64) -> usize
+    ensures bound { result ≤ length keys.now }
+    ensures parted { (pairs : List (ℕ × ℕ)) → keys.now ≡ map (λ p. p.1) pairs → Reads by arena.now.lanes pairs → IsNonDecreasingBy (λ p. p.0) pairs → Before pairs result number × Behind pairs result number }
+{
+    keys.partition_point(|key| compared(arena, *key, by, number).is_lt())
+}
 
-    /// Puts a key behind those that have its number.
-    pub fn put(&mut self, number: u64, key: Key)
-        requires { length self.old < MAX_LIVE }
-        ensures each { (n : ℕ) → with_number n self.new ≡ with_number n (self.old ++ (number, key) ∷ []) }
-        ensures len { length self.new ≡ length self.old + 1 }
-    {
-        let place = self.place_behind(number);
-        self.pairs.insert(place, (number, key));
-    }
+// Where one more of this number comes: those before it have no greater numbers, and those from it on have.
+fn place_behind(arena: &Arena<(u64, Live)>, keys: &[Key], by: By, number: u64) -> usize
+    ensures bound { result ≤ length keys.now }
+    ensures parted { (pairs : List (ℕ × ℕ)) → keys.now ≡ map (λ p. p.1) pairs → Reads by arena.now.lanes pairs → IsNonDecreasingBy (λ p. p.0) pairs → Before pairs result (number + 1) × Behind pairs result (number + 1) }
+{
+    keys.partition_point(|key| compared(arena, *key, by, number).is_le())
+}
 
-    /// Takes a key of this number out, the first where it is there twice.
-    pub fn take(&mut self, number: u64, key: Key)
-        requires { list_any (is_pair number key) self.old ≡ true }
-        ensures { self.new ≡ without_first (is_pair number key) self.old }
-    {
-        let first = self.place_before(number);
-        let behind = place_of(&self.pairs[first..], number, key);
-        self.pairs.remove(first + behind.unwrap());
+fn place_of(keys: &[Key], key: Key) -> Option<usize>
+    ensures { result ≡ position (λ k. k == key) keys.now }
+{
+    keys.iter().position(|held| *held == key)
+}
+
+/// The key of the first request of this number.
+pub fn first(arena: &Arena<(u64, Live)>, keys: &[Key], by: By, number: u64) -> Option<Key>
+    ensures { (requests : List (ℕ × Live)) → Stand arena.now.lanes requests → IsOrderOf by requests keys.now → result ≡ option_map (λ (r : ℕ × Live). r.0) (find (λ (r : ℕ × Live). found_by by number r.1) requests) }
+{
+    let key = *keys.get(place_before(arena, keys, by, number))?;
+    if compared(arena, key, by, number).is_eq() {
+        Some(key)
+    } else {
+        None
     }
+}
+
+/// Puts the key of a request behind those that have its number.
+pub fn put(
+    arena: &Arena<(u64, Live)>,
+    keys: &mut ArrayVec<Key, MAX_LIVE>,
+    by: By,
+    key: Key,
+    live: &Live,
+)
+    requires { array_vec_len keys.old < MAX_LIVE }
+    ensures { (requests : List (ℕ × Live)) → Stand arena.now.lanes requests → IsOrderOf by requests keys.old.items → any_by by live.now ≡ true → IsOrderOf by (requests ++ (key, live.now) ∷ []) keys.new.items }
+{
+    let place = place_behind(arena, keys, by, by.of(live));
+    keys.insert(place, key);
+}
+
+/// Takes the key of a request out.
+pub fn take(
+    arena: &Arena<(u64, Live)>,
+    keys: &mut ArrayVec<Key, MAX_LIVE>,
+    by: By,
+    key: Key,
+    live: &Live,
+)
+    requires { (requests : List (ℕ × Live)) × (place : ℕ) × Stand arena.now.lanes requests × IsOrderOf by requests keys.old.items × (any_by by live.now ≡ true) × (slice_get requests place ≡ Some (key, live.now)) }
+    ensures { (requests : List (ℕ × Live)) (place : ℕ) → Stand arena.now.lanes requests → IsOrderOf by requests keys.old.items → any_by by live.now ≡ true → slice_get requests place ≡ Some (key, live.now) → Distinct (λ (r : ℕ × Live). r.0) requests → IsOrderOf by (remove requests place) keys.new.items }
+{
+    let first = place_before(arena, keys, by, by.of(live));
+    let behind = place_of(&keys[first..], key);
+    keys.remove(first + behind.unwrap());
 }

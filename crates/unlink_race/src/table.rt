@@ -114,21 +114,21 @@ impl Table {
     pub fn has_number(&self, seqnum: u32) -> bool
         ensures { result ≡ list_any (has_number seqnum) self.now }
     {
-        self.index.numbered(seqnum).is_some()
+        self.index.numbered(&self.arena, seqnum).is_some()
     }
 
     /// Whether a request flies with this id.
     pub fn has_id(&self, id: u64) -> bool
         ensures { result ≡ list_any (has_id id) self.now }
     {
-        self.index.flying(id).is_some()
+        self.index.flying(&self.arena, id).is_some()
     }
 
     /// The first request with this number.
     pub fn numbered(&self, seqnum: u32) -> Option<&Live>
         ensures { option_copied result ≡ find (has_number seqnum) self.now }
     {
-        let key = self.index.numbered(seqnum)?;
+        let key = self.index.numbered(&self.arena, seqnum)?;
         let entry = self.arena.get(key).unwrap();
         Some(&entry.1)
     }
@@ -137,7 +137,7 @@ impl Table {
     pub fn flying(&self, id: u64) -> Option<&Live>
         ensures { option_copied result ≡ find (has_id id) self.now }
     {
-        let key = self.index.flying(id)?;
+        let key = self.index.flying(&self.arena, id)?;
         let entry = self.arena.get(key).unwrap();
         Some(&entry.1)
     }
@@ -146,7 +146,7 @@ impl Table {
     pub fn place_of_number(&self, seqnum: u32) -> Option<usize>
         ensures { result ≡ position (has_number seqnum) self.now }
     {
-        let key = self.index.numbered(seqnum)?;
+        let key = self.index.numbered(&self.arena, seqnum)?;
         let entry = self.arena.get(key).unwrap();
         place_numbered(&self.arena, &self.keys, entry.0)
     }
@@ -155,7 +155,7 @@ impl Table {
     pub fn place_of_id(&self, id: u64) -> Option<usize>
         ensures { result ≡ position (has_id id) self.now }
     {
-        let key = self.index.flying(id)?;
+        let key = self.index.flying(&self.arena, id)?;
         let entry = self.arena.get(key).unwrap();
         place_numbered(&self.arena, &self.keys, entry.0)
     }
@@ -218,10 +218,9 @@ impl Table {
         ensures rest { self.new ≡ remove self.old place }
     {
         let key = self.keys.remove(place);
-        let entry = self.arena.remove(key);
-        let (_, live) = entry.unwrap();
-        self.index.forget(key, &live);
-        live
+        let entry = self.arena.get(key).unwrap();
+        self.index.forget(&self.arena, key, &entry.1);
+        self.arena.remove(key).unwrap().1
     }
 
     /// Puts a request behind the others.
@@ -234,7 +233,7 @@ impl Table {
         let pushed = self.arena.push_back(live.kind.lane(), (number, live));
         let key = pushed.ok().unwrap();
         let entry = self.arena.get(key).unwrap();
-        self.index.note(key, &entry.1);
+        self.index.note(&self.arena, key, &entry.1);
         self.keys.push(key);
     }
 

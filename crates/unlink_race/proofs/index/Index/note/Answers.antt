@@ -1,5 +1,5 @@
-use Rattle.std.proofs.Common.{◌≡◌, ◌++◌, ◌∷◌, [], ◌+◌, ℕ, ap, ◌∙◌, arith}
-use Rattle.unlink_race.specs.Inner.Indexed.{with_number}
+use Rattle.std.proofs.Common.{◌+◌, refl, ap, arith}
+use Rattle.std.specs.List.{zip}
 use Rattle.unlink_race.proofs.Indexes.{index_pushed, number_room, held_room, changes_few}
 use Rattle.unlink_race.proofs.index.Index.note.Goals as goal
 
@@ -14,7 +14,6 @@ overflow_add-self c = let few = changes_few c.requires.3 in grind (arith, few, c
 
 pub returns : goal.returns
 returns c =
-    λ keys lives indexed.
-    let number_more : (n : ℕ) → with_number n c.put.new.self ≡ with_number n (c.args.self.now.numbers ++ (c.args.live.now.seqnum, c.args.key) ∷ []) = λ n. c.put.ensures.each n ∙ ap (λ m. with_number n (c.args.self.now.numbers ++ (m, c.args.key) ∷ [])) c.from.ensures in
+    λ keys lives indexed stand.
     let more = ap (λ k. c.args.self.now.changes + k) c.change_of.ensures in
-    index_pushed indexed c.put.new.self c.put_id.new.held _ c.args.key c.args.live.now number_more c.put.ensures.len c.put_id.ensures.each c.put_id.ensures.len more
+    index_pushed indexed _ c.args.key c.args.live.now (c.put.ensures (zip keys lives) stand indexed.numbers refl) (c.put_id.ensures (zip keys lives) stand indexed.held) more
