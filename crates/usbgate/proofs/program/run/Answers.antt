@@ -1,4 +1,4 @@
-use Rattle.std.proofs.Common.{inr, Some, None, sym, ap, subst, ◌∙◌}
+use Rattle.std.proofs.Common.{inr, sym, ap, subst, ◌∙◌}
 use Rattle.std.proofs.lemmas.Option.{same_Some}
 use Rattle.bridge_run.specs.Outside.{outside, written, faults}
 use Rattle.usbgate_tapes.specs.EventCommand.{over_events}

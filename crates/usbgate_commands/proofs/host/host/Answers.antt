@@ -1,4 +1,3 @@
-use Rattle.std.proofs.Common.{None}
 use Rattle.bridge_run.specs.Outside.{outside}
 use Rattle.usbgate_commands.specs.Logs.{terms_lent}
 use Rattle.usbgate_commands.proofs.Logs.{unlogged}
