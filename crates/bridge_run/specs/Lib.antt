@@ -9,4 +9,6 @@ pub mod Lent
 pub mod Serves
 pub mod inner
 pub mod Ups
+pub mod Asks
 pub mod Log
+pub mod Clients

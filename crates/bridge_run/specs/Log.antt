@@ -1,18 +1,20 @@
--- What serving has done, by the log of the doors' calls: which events came, and that what was written is what they send.
--- It holds over any doors, since it speaks of nothing but what their calls answered.
-use Rattle.std.specs.Prelude.{◌≡◌, ℕ, Bool, true, false, if◌then◌else◌, List, [], ◌∷◌, ◌++◌, take, Option, Some, None, is_some, Result, Ok, Err}
+-- What serving has done, by the log of the doors' calls: which events came, that what was written is what they send,
+-- and why it ended. It holds over any doors and any sink, since it speaks of nothing but what their calls answered.
+use Rattle.std.specs.Prelude.{◌≡◌, ◌<◌, ◌≤◌, ℕ, ◌&&◌, not, Bool, true, false, if◌then◌else◌, List, [], ◌∷◌, ◌++◌, take, Option, Some, None, is_some, Result, Ok, Err}
 use Rattle.usb_base.specs.declared.side.Side.{Side}
 use Rattle.usb_base.specs.declared.side.Side.TheVariants.{Client, Host}
 use Rattle.gate_outside.specs.declared.fault.Failed.{Failed as Fault}
 use Rattle.gate_outside.specs.declared.turn.Polled.{Polled}
 use Rattle.gate_outside.specs.declared.turn.Polled.TheVariants.{Took, NotYet, Ended, Failed}
 use Rattle.gate_outside.specs.Calls.{Call, Dial, Listen, Accept, Poll, Write, Close, Called, went}
+use Rattle.gate_outside.specs.Moved.{Moves}
 use Rattle.bridge_run.specs.Events.{Event, ClientComes, ClientQuiet, ClientEnd}
 use Rattle.bridge_run.specs.declared.serve_end.ServeEnd.{ServeEnd}
 use Rattle.bridge_run.specs.declared.serve_end.ServeEnd.TheVariants as end
-use Rattle.bridge_run.specs.Prescribed.{Prescribed}
+use Rattle.bridge_run.specs.Prescribed.{Prescribed, first_of}
 use Rattle.bridge_run.specs.Calls.{piece, end_of, ends_next}
-use Rattle.bridge_run.specs.Ups.{to_clients, sent_to_host}
+use Rattle.bridge_run.specs.Ups.{client_behind, host_since, to_clients, sent_to_host, told_of}
+use Rattle.bridge_run.specs.Asks.{asks_of, taken, quiet_rounds, last_fault}
 
 -- ---- which events came, the latest first
 
@@ -50,12 +52,15 @@ abbrev pub events_of : List Call → List Event
 events_of [] = []
 events_of (call ∷ calls) = behind_call call (events_of calls)
 
--- ---- what was asked first
+-- ---- what was asked of it
 
--- the address of the host, where one is dialled, and that of the door
-pub record Opening : Type 0 where
+-- the address of the host, where one is dialled, and that of the door; and how long it goes on: after how many rounds
+-- in a row that bring nothing it ends, and how many bytes may come, where each client counts as one
+pub record Terms : Type 0 where
   pub host : Option (List ℕ)
   pub door : List ℕ
+  pub idle : ℕ
+  pub budget : ℕ
 
 abbrev pub IsAddress : Option (List ℕ) → List ℕ → Type 0
 IsAddress None addr = ⊥
@@ -69,64 +74,102 @@ IsDialled (Some host) calls = calls ≡ Dial host (Ok tt) ∷ []
 -- ---- what was written
 
 -- all that these events send, to each side as far as its link was up, and no more
-pub record IsWritten (opening : Opening) (p : Prescribed) (events : List Event) (calls : List Call) : Type 0 where
+pub record IsWritten (terms : Terms) (p : Prescribed) (events : List Event) (calls : List Call) : Type 0 where
   pub client : went Client calls ≡ to_clients p events
-  pub host : went Host calls ≡ sent_to_host (is_some opening.host) p events
+  pub host : went Host calls ≡ sent_to_host (is_some terms.host) p events
 
 abbrev pub IsFront : List ℕ → List ℕ → Type 0
 IsFront front all = (rest : List ℕ) × (all ≡ front ++ rest)
 
 -- to each side a front of that
-pub record IsWrittenInPart (opening : Opening) (p : Prescribed) (events : List Event) (calls : List Call) : Type 0 where
+pub record IsWrittenInPart (terms : Terms) (p : Prescribed) (events : List Event) (calls : List Call) : Type 0 where
   pub client : IsFront (went Client calls) (to_clients p events)
-  pub host : IsFront (went Host calls) (sent_to_host (is_some opening.host) p events)
+  pub host : IsFront (went Host calls) (sent_to_host (is_some terms.host) p events)
+
+-- ---- what may come
+
+-- somebody has come, and no link is up any more
+abbrev pub is_over : Terms → Prescribed → List Event → Bool
+is_over terms p [] = false
+is_over terms p (e ∷ events) = not (client_behind p (e ∷ events)) && not (host_since (is_some terms.host) p (e ∷ events))
+
+-- more may come
+pub record GoesOn (terms : Terms) (p : Prescribed) (calls : List Call) : Type 0 where
+  pub links : is_over terms p (events_of calls) ≡ false
+  pub left : taken (asks_of calls) < terms.budget
+
+-- each round begins with the client's side, and as many that bring nothing may follow one another
+abbrev pub MayBegin : Side → Terms → List Call → Type 0
+MayBegin Client terms calls = quiet_rounds (asks_of calls) < terms.idle
+MayBegin Host terms calls = Unit {0}
+
+-- more may come from this side, and all is written that is sent for what came before
+pub record MayAsk (side : Side) (terms : Terms) (p : Prescribed) (calls : List Call) : Type 0 where
+  pub written : IsWritten terms p (events_of calls) calls
+  pub goes_on : GoesOn terms p calls
+  pub round : MayBegin side terms calls
 
 -- The host is dialled first, and once, and then the door is made, once. Nobody is asked for anything before all is
--- written that is sent for what came before.
-abbrev pub AsksSettled : Opening → Prescribed → Call → List Call → Type 0
-AsksSettled opening p (Dial addr answer) calls = IsAddress opening.host addr × (calls ≡ [])
-AsksSettled opening p (Listen addr answer) calls = (addr ≡ opening.door) × IsDialled opening.host calls
-AsksSettled opening p (Accept answer) calls = IsWritten opening p (events_of calls) calls
-AsksSettled opening p (Poll side polled buf) calls = IsWritten opening p (events_of calls) calls
-AsksSettled opening p (Write side bytes answer) calls = Unit {0}
-AsksSettled opening p (Close side) calls = Unit {0}
+-- written, nor once it is to end.
+abbrev pub AsksSettled : Terms → Prescribed → Call → List Call → Type 0
+AsksSettled terms p (Dial addr answer) calls = IsAddress terms.host addr × (calls ≡ [])
+AsksSettled terms p (Listen addr answer) calls = (addr ≡ terms.door) × IsDialled terms.host calls
+AsksSettled terms p (Accept answer) calls = MayAsk Client terms p calls
+AsksSettled terms p (Poll side polled buf) calls = MayAsk side terms p calls
+AsksSettled terms p (Write side bytes answer) calls = Unit {0}
+AsksSettled terms p (Close side) calls = Unit {0}
 
-abbrev pub Settled : Opening → Prescribed → List Call → Type 0
-Settled opening p [] = Unit {0}
-Settled opening p (call ∷ calls) = Settled opening p calls × AsksSettled opening p call calls
+abbrev pub Settled : Terms → Prescribed → List Call → Type 0
+Settled terms p [] = Unit {0}
+Settled terms p (call ∷ calls) = Settled terms p calls × AsksSettled terms p call calls
 
 -- ---- at the end
 
--- the calls that were made, one after the other, and all is written for what they brought
-pub record Wrote {D : Type 0} (gives : D → Call → D → Type 0) (opening : Opening) (p : Prescribed) (old new : D) : Type 0 where
+-- these bytes were written to a sink, by its log, and no others
+abbrev pub Told : {K : Type 0} → (K → List ℕ → Result ℕ Fault → K → Type 0) → K → K → List ℕ → Type 0
+Told write_gives old new bytes = Moves write_gives bytes old new
+
+-- all that these events send, and a line for each side that they refuse
+pub record Wrote (tells : List ℕ → Type 0) (terms : Terms) (p : Prescribed) (events : List Event) (calls : List Call) : Type 0 where
+  pub links : IsWritten terms p events calls
+  pub told : tells (told_of p events)
+
+-- a front of these bytes
+abbrev pub InPart : (List ℕ → Type 0) → List ℕ → Type 0
+InPart tells bytes = (front : List ℕ) × (IsFront front bytes × tells front)
+
+-- a call failed: what the last event sends, and its lines, may be written in part
+pub record WroteInPart (tells : List ℕ → Type 0) (terms : Terms) (p : Prescribed) (events : List Event) (calls : List Call) : Type 0 where
+  pub links : IsWrittenInPart terms p events calls
+  pub told : InPart tells (told_of p events)
+
+-- memory ran out before all, or as the latest event was taken: of that nothing is written, and all for those before it
+abbrev pub WroteBefore : (List ℕ → Type 0) → Terms → Prescribed → List Event → List Call → Type 0
+WroteBefore tells terms p [] calls = (calls ≡ []) × tells []
+WroteBefore tells terms p (e ∷ events) calls = Wrote tells terms p events calls
+
+abbrev pub HasWritten : ServeEnd → (List ℕ → Type 0) → Terms → Prescribed → List Event → List Call → Type 0
+HasWritten (end.Ended refused) tells terms p events calls = Wrote tells terms p events calls
+HasWritten end.Idle tells terms p events calls = Wrote tells terms p events calls
+HasWritten end.Spent tells terms p events calls = Wrote tells terms p events calls
+HasWritten (end.LinkFault side) tells terms p events calls = WroteInPart tells terms p events calls
+HasWritten end.WriteFault tells terms p events calls = WroteInPart tells terms p events calls
+HasWritten end.Memory tells terms p events calls = WroteBefore tells terms p events calls
+
+-- Why it ended. No link is up any more, and this is the first refusal; so many rounds in a row have brought nothing, no
+-- more and no fewer; as much has come as may; or the last call failed, which was of this side.
+abbrev pub HasEnded : ServeEnd → Terms → Prescribed → List Call → Type 0
+HasEnded (end.Ended refused) terms p calls = (is_over terms p (events_of calls) ≡ true) × (refused ≡ first_of (p.refusals (events_of calls)))
+HasEnded end.Idle terms p calls = GoesOn terms p calls × (quiet_rounds (asks_of calls) ≡ terms.idle)
+HasEnded end.Spent terms p calls = (is_over terms p (events_of calls) ≡ false) × (terms.budget ≤ taken (asks_of calls))
+HasEnded (end.LinkFault side) terms p calls = last_fault calls ≡ Some side
+HasEnded end.WriteFault terms p calls = Unit {0}
+HasEnded end.Memory terms p calls = Unit {0}
+
+-- the calls that were made, one after the other, what they wrote and what the sink was told, and why it ended
+pub record Logged {D : Type 0} (e : ServeEnd) (gives : D → Call → D → Type 0) (tells : List ℕ → Type 0) (terms : Terms) (p : Prescribed) (old new : D) : Type 0 where
   pub calls : List Call
   pub called : Called gives calls old new
-  pub settled : Settled opening p calls
-  pub written : IsWritten opening p (events_of calls) calls
-
--- a call failed: what the last event sends may be written in part
-pub record WroteInPart {D : Type 0} (gives : D → Call → D → Type 0) (opening : Opening) (p : Prescribed) (old new : D) : Type 0 where
-  pub calls : List Call
-  pub called : Called gives calls old new
-  pub settled : Settled opening p calls
-  pub written : IsWrittenInPart opening p (events_of calls) calls
-
--- of the latest event nothing is written, and all for those before it; where none came, nothing was asked
-abbrev pub IsWrittenBefore : Opening → Prescribed → List Event → List Call → Type 0
-IsWrittenBefore opening p [] calls = calls ≡ []
-IsWrittenBefore opening p (e ∷ events) calls = IsWritten opening p events calls
-
--- memory ran out before all, or as the latest event was taken
-pub record WroteBefore {D : Type 0} (gives : D → Call → D → Type 0) (opening : Opening) (p : Prescribed) (old new : D) : Type 0 where
-  pub calls : List Call
-  pub called : Called gives calls old new
-  pub settled : Settled opening p calls
-  pub written : IsWrittenBefore opening p (events_of calls) calls
-
-abbrev pub Logged : {D : Type 0} → ServeEnd → (D → Call → D → Type 0) → Opening → Prescribed → D → D → Type 0
-Logged (end.Ended refused) gives opening p old new = Wrote gives opening p old new
-Logged end.Idle gives opening p old new = Wrote gives opening p old new
-Logged end.Spent gives opening p old new = Wrote gives opening p old new
-Logged (end.LinkFault side) gives opening p old new = WroteInPart gives opening p old new
-Logged end.WriteFault gives opening p old new = WroteInPart gives opening p old new
-Logged end.Memory gives opening p old new = WroteBefore gives opening p old new
+  pub settled : Settled terms p calls
+  pub written : HasWritten e tells terms p (events_of calls) calls
+  pub ended : HasEnded e terms p calls

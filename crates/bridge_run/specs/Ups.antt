@@ -1,6 +1,9 @@
--- Which links are up, and what is written to them: behind events, the latest first, and as the next event is taken.
+-- Which links are up, and what is written to them and told of refusals: behind events, the latest first, and as the
+-- next event is taken.
 use Rattle.std.specs.Prelude.{ℕ, ◌&&◌, not, Bool, true, false, if◌then◌else◌, List, [], ◌∷◌, ◌++◌}
+use Rattle.std.specs.List.{flat_map}
 use Rattle.usb_base.specs.declared.side.Side.TheVariants.{Host}
+use Rattle.usb_base.specs.Refusal.{refusal_line}
 use Rattle.bridge_run.specs.Events.{Event, ClientComes, ClientPiece, ClientQuiet, ClientEnd, HostPiece, HostEnd}
 use Rattle.bridge_run.specs.Prescribed.{Prescribed, gained, refuses, drops}
 
@@ -41,3 +44,8 @@ to_clients p (e ∷ events) = to_clients p events ++ (if client_at e (client_beh
 abbrev pub sent_to_host : Bool → Prescribed → List Event → List ℕ
 sent_to_host dialled p [] = if dialled then p.to_host [] else []
 sent_to_host dialled p (e ∷ events) = sent_to_host dialled p events ++ (if host_at e (host_since dialled p events) then gained p.to_host events e else [])
+
+-- a line for each side that an event refuses
+abbrev pub told_of : Prescribed → List Event → List ℕ
+told_of p [] = []
+told_of p (e ∷ events) = told_of p events ++ flat_map refusal_line (gained p.refusals events e)

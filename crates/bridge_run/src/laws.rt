@@ -1,6 +1,6 @@
-//! A law of what is recorded, as the contract of a function that does nothing.
+//! Laws of what is recorded and of what was written, each as the contract of a function that does nothing.
 
-ghost use Rattle.std.specs.Prelude.{◌≡◌, ◌<◌, ◌∷◌, [], true, false, length};
+ghost use Rattle.std.specs.Prelude.{◌≡◌, ◌<◌, ◌∷◌, [], true, false, List, length};
 ghost use Rattle.bridge_run.specs.declared.serve_end.ServeEnd.{ServeEnd as End};
 ghost use Rattle.bridge_run.specs.Events.{Event as PastEvent};
 ghost use Rattle.bridge_run.specs.Prescribed.{Prescribed, gained};
@@ -8,6 +8,10 @@ ghost use Rattle.bridge_run.specs.Recorded.{sends_any};
 ghost use Rattle.bridge_run.specs.Course.{Setting, Course, Next};
 ghost use Rattle.bridge_run.specs.Calls.{Outcome, Goes, Stops, put, rest, course_of};
 ghost use Rattle.bridge_run.specs.Serves.{Reaches, NoneWaits};
+ghost use Rattle.usb_base.specs.declared.side.Side.TheVariants.{Client};
+ghost use Rattle.gate_outside.specs.Calls.{Call, went};
+ghost use Rattle.bridge_run.specs.Log.{Terms, events_of, IsWritten, Settled};
+ghost use Rattle.bridge_run.specs.Clients.{got_by, joined, sent_to_each};
 
 /// A law: of the lines that are recorded fewer than 64 KiB wait to be written at any time, and none once an event sends
 /// bytes, refuses a side or lets the client go, once a round brings nothing, and at each end that is no fault.
@@ -16,4 +20,13 @@ pub fn few_lines_wait()
     ensures sent { (p : Prescribed) (e : PastEvent) (c : Course) → sends_any (gained p.to_client c.events e) (gained p.to_host c.events e) (gained p.refusals c.events e) (p.lets_go (e ∷ c.events)) ≡ true → (put p e c).waiting ≡ [] }
     ensures quiet { (s : Setting) (c : Course) → c.busy ≡ false → (course_of (rest s c)).waiting ≡ [] }
     ensures ends { (s : Setting) (next : Next) (c : Course) (e : End) (d : Course) → Reaches s (Goes next c) (Stops e d) → NoneWaits e d }
+{}
+
+/// A law: what was written to clients is what each of them got, one client after another; and where all is written,
+/// each got just what the events send to it. Each client but the latest has got that also where a call failed or
+/// memory ran out.
+pub fn clients_get_their_own()
+    ensures joined { (calls : List Call) → joined (got_by calls) ≡ went Client calls }
+    ensures each { (terms : Terms) (p : Prescribed) (calls : List Call) → Settled terms p calls → IsWritten terms p (events_of calls) calls → got_by calls ≡ sent_to_each p (events_of calls) }
+    ensures earlier { (terms : Terms) (p : Prescribed) (calls : List Call) → Settled terms p calls → (got_by calls).earlier ≡ (sent_to_each p (events_of calls)).earlier }
 {}

@@ -18,7 +18,7 @@ mod serving;
 mod session;
 
 pub use after_loss::AfterLoss;
-pub use laws::few_lines_wait;
+pub use laws::{clients_get_their_own, few_lines_wait};
 pub use lending::serve_host;
 pub use serve_end::ServeEnd;
 pub use serving::serve;

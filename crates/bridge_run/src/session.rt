@@ -11,8 +11,9 @@ ghost use Rattle.bridge_run.specs.Serves.{Leaves};
 ghost use Rattle.bridge_run.specs.inner.Keeping.{Agrees, Wears, IsLive, rounds_of, up_of};
 ghost use Rattle.bridge_run.specs.inner.Follows.{Prepared, Follows, HasFaults, IsCutEnd, Puts, setting, Runs, polls, behind};
 ghost use Rattle.bridge_run.specs.Outside.{HasCause, HasReason};
-ghost use Rattle.bridge_run.specs.Log.{Opening, Logged};
-ghost use Rattle.bridge_run.specs.inner.Logging.{IsAt, IsTaking, IsResting, PutLogs, Logs};
+ghost use Rattle.bridge_run.specs.Asks.{Ask};
+ghost use Rattle.bridge_run.specs.Log.{Terms, Told, Logged};
+ghost use Rattle.bridge_run.specs.inner.Logging.{IsTaking, IsResting, IsAsking, RoundBegins, DoorAsked, ClientAsked, stage_of, PutLogs, HappenLogs, Logs};
 ghost use Rattle.bridge_run.specs.inner.Idling.{NotIdle, Asked, EndsWithin, RoundIdles};
 ghost use Rattle.usb_base.specs.declared.side.Side.TheVariants.{Client, Host};
 ghost use Rattle.gate_outside.specs.Link.{other};
@@ -94,8 +95,8 @@ impl<C: Served + Drop> Session<C> {
         requires { Agrees self.old.kept (outside (D.link doors.old) (D.door doors.old)) }
         ensures course { (first : C.First) (c : Course) → Follows (C.stands first self.old.core) (C.sends first) self.old.kept (outside (D.link doors.old) (D.door doors.old)) (gathering (K.contents out.old) (T.contents tape.old) self.old.waiting) c
             → Puts result (C.stands first self.new.core) (C.sends first) (event_of event.entry) self.new.kept (outside (D.link doors.new) (D.door doors.new)) (gathering (K.contents out.new) (T.contents tape.new) self.new.waiting) c }
-        ensures log { (first : C.First) (opening : Opening) (begun : D) → IsTaking D.call_gives (C.stands first self.old.core) opening (C.sends first) (event_of event.entry) self.old.kept begun doors.old
-            → PutLogs result D.call_gives (C.stands first self.new.core) opening (C.sends first) (event_of event.entry) self.new.kept begun doors.new }
+        ensures log { (first : C.First) (terms : Terms) (asks : List Ask) (begun : D) (begun_out : K) → IsTaking D.call_gives (C.stands first self.old.core) (Told K.write_gives begun_out out.old) terms (C.sends first) asks (event_of event.entry) self.old.kept begun doors.old
+            → PutLogs result D.call_gives (C.stands first self.new.core) (Told K.write_gives begun_out out.new) terms (C.sends first) asks (event_of event.entry) self.new.kept begun doors.new }
         ensures faults { HasFaults result (outside (D.link doors.old) (D.door doors.old)) (outside (D.link doors.new) (D.door doors.new)) (faults (K.faults out.old) (T.counts tape.old)) (faults (K.faults out.new) (T.counts tape.new)) }
         ensures cut { IfErr result IsCutEnd }
         ensures agrees { OnOk result (Agrees self.new.kept (outside (D.link doors.new) (D.door doors.new))) }
@@ -140,8 +141,8 @@ impl<C: Served + Drop> Session<C> {
         requires { Agrees self.old.kept (outside (D.link doors.old) (D.door doors.old)) }
         ensures course { (first : C.First) (next : Next) (c : Course) → Follows (C.stands first self.old.core) (C.sends first) self.old.kept (outside (D.link doors.old) (D.door doors.old)) (gathering (K.contents out.old) (T.contents tape.old) self.old.waiting) c
             → Runs result (C.stands first self.new.core) (setting (C.sends first) self.old.kept) self.new.kept (outside (D.link doors.new) (D.door doors.new)) (gathering (K.contents out.new) (T.contents tape.new) self.new.waiting) (Goes (Takes (event_of event.entry) next) c) next }
-        ensures log { (first : C.First) (opening : Opening) (begun : D) → IsTaking D.call_gives (C.stands first self.old.core) opening (C.sends first) (event_of event.entry) self.old.kept begun doors.old
-            → Logs result D.call_gives (C.stands first self.new.core) opening (C.sends first) self.new.kept begun doors.new }
+        ensures log { (first : C.First) (terms : Terms) (asks : List Ask) (begun : D) (begun_out : K) → IsTaking D.call_gives (C.stands first self.old.core) (Told K.write_gives begun_out out.old) terms (C.sends first) asks (event_of event.entry) self.old.kept begun doors.old
+            → HappenLogs result D.call_gives (C.stands first self.new.core) (Told K.write_gives begun_out out.new) terms (C.sends first) asks self.new.kept begun doors.new }
         ensures faults { HasFaults result (outside (D.link doors.old) (D.door doors.old)) (outside (D.link doors.new) (D.door doors.new)) (faults (K.faults out.old) (T.counts tape.old)) (faults (K.faults out.new) (T.counts tape.new)) }
         ensures agrees { OnOk result (Agrees self.new.kept (outside (D.link doors.new) (D.door doors.new))) }
         ensures wears { Wears self.old.kept self.new.kept }
@@ -169,8 +170,8 @@ impl<C: Served + Drop> Session<C> {
         requires left { 0 < self.old.kept.left }
         ensures course { (first : C.First) (c : Course) → Follows (C.stands first self.old.core) (C.sends first) self.old.kept (outside (D.link doors.old) (D.door doors.old)) (gathering (K.contents out.old) (T.contents tape.old) self.old.waiting) c
             → Runs result (C.stands first self.new.core) (setting (C.sends first) self.old.kept) self.new.kept (outside (D.link doors.new) (D.door doors.new)) (gathering (K.contents out.new) (T.contents tape.new) self.new.waiting) (Goes AtDoor c) AtClient }
-        ensures log { (first : C.First) (opening : Opening) (begun : D) → IsAt D.call_gives (C.stands first self.old.core) opening (C.sends first) self.old.kept begun doors.old
-            → Logs result D.call_gives (C.stands first self.new.core) opening (C.sends first) self.new.kept begun doors.new }
+        ensures log { (first : C.First) (terms : Terms) (begun : D) (begun_out : K) → IsAsking RoundBegins D.call_gives (C.stands first self.old.core) (Told K.write_gives begun_out out.old) terms (C.sends first) self.old.kept begun doors.old
+            → Logs result DoorAsked D.call_gives (C.stands first self.new.core) (Told K.write_gives begun_out out.new) terms (C.sends first) self.new.kept begun doors.new }
         ensures faults { HasFaults result (outside (D.link doors.old) (D.door doors.old)) (outside (D.link doors.new) (D.door doors.new)) (faults (K.faults out.old) (T.counts tape.old)) (faults (K.faults out.new) (T.counts tape.new)) }
         ensures agrees { OnOk result (Agrees self.new.kept (outside (D.link doors.new) (D.door doors.new))) }
         ensures wears { Wears self.old.kept self.new.kept }
@@ -204,8 +205,8 @@ impl<C: Served + Drop> Session<C> {
         requires left { 0 < self.old.kept.left }
         ensures course { (first : C.First) (next : Next) (c : Course) → Follows (C.stands first self.old.core) (C.sends first) self.old.kept (outside (D.link doors.old) (D.door doors.old)) (gathering (K.contents out.old) (T.contents tape.old) self.old.waiting) c
             → Runs result (C.stands first self.new.core) (setting (C.sends first) self.old.kept) self.new.kept (outside (D.link doors.new) (D.door doors.new)) (gathering (K.contents out.new) (T.contents tape.new) self.new.waiting) (Goes (quiet side next) c) next }
-        ensures log { (first : C.First) (opening : Opening) (begun : D) → IsResting side D.call_gives (C.stands first self.old.core) opening (C.sends first) self.old.kept begun doors.old
-            → Logs result D.call_gives (C.stands first self.new.core) opening (C.sends first) self.new.kept begun doors.new }
+        ensures log { (first : C.First) (terms : Terms) (asks : List Ask) (begun : D) (begun_out : K) → IsResting side D.call_gives (C.stands first self.old.core) (Told K.write_gives begun_out out.old) terms (C.sends first) asks self.old.kept begun doors.old
+            → HappenLogs result D.call_gives (C.stands first self.new.core) (Told K.write_gives begun_out out.new) terms (C.sends first) asks self.new.kept begun doors.new }
         ensures faults { HasFaults result (outside (D.link doors.old) (D.door doors.old)) (outside (D.link doors.new) (D.door doors.new)) (faults (K.faults out.old) (T.counts tape.old)) (faults (K.faults out.new) (T.counts tape.new)) }
         ensures agrees { OnOk result (Agrees self.new.kept (outside (D.link doors.new) (D.door doors.new))) }
         ensures wears { Wears self.old.kept self.new.kept }
@@ -233,8 +234,8 @@ impl<C: Served + Drop> Session<C> {
         requires room { length buf.old ≡ 65536 }
         ensures course { (first : C.First) (c : Course) → Follows (C.stands first self.old.core) (C.sends first) self.old.kept (outside (D.link doors.old) (D.door doors.old)) (gathering (K.contents out.old) (T.contents tape.old) self.old.waiting) c
             → Runs result (C.stands first self.new.core) (setting (C.sends first) self.old.kept) self.new.kept (outside (D.link doors.new) (D.door doors.new)) (gathering (K.contents out.new) (T.contents tape.new) self.new.waiting) (Goes (polls side) c) (behind side) }
-        ensures log { (first : C.First) (opening : Opening) (begun : D) → IsAt D.call_gives (C.stands first self.old.core) opening (C.sends first) self.old.kept begun doors.old
-            → Logs result D.call_gives (C.stands first self.new.core) opening (C.sends first) self.new.kept begun doors.new }
+        ensures log { (first : C.First) (terms : Terms) (begun : D) (begun_out : K) → IsAsking (stage_of side) D.call_gives (C.stands first self.old.core) (Told K.write_gives begun_out out.old) terms (C.sends first) self.old.kept begun doors.old
+            → Logs result ClientAsked D.call_gives (C.stands first self.new.core) (Told K.write_gives begun_out out.new) terms (C.sends first) self.new.kept begun doors.new }
         ensures faults { HasFaults result (outside (D.link doors.old) (D.door doors.old)) (outside (D.link doors.new) (D.door doors.new)) (faults (K.faults out.old) (T.counts tape.old)) (faults (K.faults out.new) (T.counts tape.new)) }
         ensures agrees { OnOk result (Agrees self.new.kept (outside (D.link doors.new) (D.door doors.new))) }
         ensures wears { Wears self.old.kept self.new.kept }
@@ -273,8 +274,8 @@ impl<C: Served + Drop> Session<C> {
         requires room { length buf.old ≡ 65536 }
         ensures course { (first : C.First) (c : Course) → Follows (C.stands first self.old.core) (C.sends first) self.old.kept (outside (D.link doors.old) (D.door doors.old)) (gathering (K.contents out.old) (T.contents tape.old) self.old.waiting) c
             → Runs result (C.stands first self.new.core) (setting (C.sends first) self.old.kept) self.new.kept (outside (D.link doors.new) (D.door doors.new)) (gathering (K.contents out.new) (T.contents tape.new) self.new.waiting) (Goes AtDoor c) AtDoor }
-        ensures log { (first : C.First) (opening : Opening) (begun : D) → IsAt D.call_gives (C.stands first self.old.core) opening (C.sends first) self.old.kept begun doors.old
-            → Logs result D.call_gives (C.stands first self.new.core) opening (C.sends first) self.new.kept begun doors.new }
+        ensures log { (first : C.First) (terms : Terms) (begun : D) (begun_out : K) → IsAsking RoundBegins D.call_gives (C.stands first self.old.core) (Told K.write_gives begun_out out.old) terms (C.sends first) self.old.kept begun doors.old
+            → Logs result RoundBegins D.call_gives (C.stands first self.new.core) (Told K.write_gives begun_out out.new) terms (C.sends first) self.new.kept begun doors.new }
         ensures faults { HasFaults result (outside (D.link doors.old) (D.door doors.old)) (outside (D.link doors.new) (D.door doors.new)) (faults (K.faults out.old) (T.counts tape.old)) (faults (K.faults out.new) (T.counts tape.new)) }
         ensures agrees { OnOk result (Agrees self.new.kept (outside (D.link doors.new) (D.door doors.new))) }
         ensures live { OnOk result (IsLive self.new.kept) }
@@ -303,8 +304,8 @@ impl<C: Served + Drop> Session<C> {
         requires fresh { self.old.kept.waits ≡ self.old.kept.idle }
         ensures course { (first : C.First) (c : Course) → Follows (C.stands first self.old.core) (C.sends first) self.old.kept (outside (D.link doors.old) (D.door doors.old)) (gathering (K.contents out.old) (T.contents tape.old) self.old.waiting) c
             → Leaves result (setting (C.sends first) self.old.kept) (Goes AtDoor c) (outside (D.link doors.new) (D.door doors.new)) (written (K.contents out.new) (T.contents tape.new)) }
-        ensures log { (first : C.First) (opening : Opening) (begun : D) → IsAt D.call_gives (C.stands first self.old.core) opening (C.sends first) self.old.kept begun doors.old
-            → Logged result D.call_gives opening (C.sends first) begun doors.new }
+        ensures log { (first : C.First) (terms : Terms) (begun : D) (begun_out : K) → IsAsking RoundBegins D.call_gives (C.stands first self.old.core) (Told K.write_gives begun_out out.old) terms (C.sends first) self.old.kept begun doors.old
+            → Logged result D.call_gives (Told K.write_gives begun_out out.new) terms (C.sends first) begun doors.new }
         ensures cause { HasCause result (outside (D.link doors.old) (D.door doors.old)) (outside (D.link doors.new) (D.door doors.new)) (faults (K.faults out.old) (T.counts tape.old)) (faults (K.faults out.new) (T.counts tape.new)) }
         ensures reason { HasReason result self.old.kept.idle (outside (D.link doors.old) (D.door doors.old)) (outside (D.link doors.new) (D.door doors.new)) }
     {

@@ -5,6 +5,7 @@ ghost use Rattle.gate_outside.specs.Faults.{Rose};
 ghost use Rattle.usb_base.specs.declared.side.Side.{Side as ASide};
 ghost use Rattle.usb_base.specs.declared.side.Side.TheVariants.{Client, Host};
 ghost use Rattle.session_tape.specs.Tapes.{WasThere};
+ghost use Rattle.bridge_run.specs.Log.{Told};
 ghost use Rattle.bridge_run.specs.Outside.{outside, written, faults, OneRose};
 ghost use Rattle.usbgate_tapes.specs.declared.device.Device.{Device as ADevice};
 ghost use Rattle.usbgate_tapes.specs.Run.{Leaves, OpensNoLink, IsOfNoCommand, IsOfNoTape};
@@ -59,8 +60,8 @@ pub fn run<S: Source, K: Sink, D: Doors, T: MakeTape>(
     ensures lends { (asked : AskedLent) → command_of (texts words.now) ≡ Command.Host asked
         → Lends result asked (outside (D.link doors.old) (D.door doors.old)) (outside (D.link doors.new) (D.door doors.new))
         (K.faults out.old) (K.faults out.new) (K.contents out.old) (K.contents out.new) }
-    ensures serves_log { (asked : Asked) → command_of (texts words.now) ≡ Command.Serve asked → ServesByLog D.call_gives result asked doors.old doors.new }
-    ensures lends_log { (asked : AskedLent) → command_of (texts words.now) ≡ Command.Host asked → LendsByLog D.call_gives result asked doors.old doors.new }
+    ensures serves_log { (asked : Asked) → command_of (texts words.now) ≡ Command.Serve asked → ServesByLog D.call_gives (Told K.write_gives out.old out.new) result asked doors.old doors.new }
+    ensures lends_log { (asked : AskedLent) → command_of (texts words.now) ≡ Command.Host asked → LendsByLog D.call_gives (Told K.write_gives out.old out.new) result asked doors.old doors.new }
     ensures usage { result ≡ Status.Usage → (command_of (texts words.now) ≡ Command.Unknown) ⊎ ((records (command_of (texts words.now)) ≡ true) × WasThere (T.counts recording.old) (T.counts recording.new)) }
     ensures no_command { command_of (texts words.now) ≡ Command.Unknown → IsOfNoCommand result }
     ensures made { (count : ℕ) → command_of (texts words.now) ≡ Command.Make count → IsOfNoTape result × (tape.new ≡ tape.old) }

@@ -1,6 +1,6 @@
 //! The command `serve`: the gateway between sockets.
 
-ghost use Rattle.std.specs.Prelude.{◌≡◌, ◌≤◌, ◌<◌, ◌^◌, true, false, Some, is_some, IfSome, OnOk, IfErr};
+ghost use Rattle.std.specs.Prelude.{◌≡◌, ◌≤◌, ◌<◌, ◌^◌, true, false, is_some, IfSome, OnOk, IfErr};
 ghost use Rattle.usb_base.specs.declared.side.Side.TheVariants.{Client, Host};
 ghost use Rattle.gate_outside.specs.Faults.{Rose};
 ghost use Rattle.session_tape.specs.Lines.{first_comment};
@@ -8,7 +8,8 @@ ghost use Rattle.bridge_run.specs.Course.{Making};
 ghost use Rattle.bridge_run.specs.Outside.{outside, written, faults};
 ghost use Rattle.usbgate_commands.specs.Recording.{IsUnmade, HasServed};
 ghost use Rattle.bridge_run.specs.Gate.{gate_sends};
-ghost use Rattle.usbgate_commands.specs.Logs.{HasLog, ServesByLog};
+ghost use Rattle.bridge_run.specs.Log.{Told};
+ghost use Rattle.usbgate_commands.specs.Logs.{HasLog, ServesByLog, terms_of};
 ghost use Rattle.usbgate_commands.specs.Serves.{Serves, EndsOf, setting_of};
 
 use crate::ended::ended_as;
@@ -36,7 +37,7 @@ pub fn serve<D: Doors, K: Sink, T: MakeTape>(
     requires first_id { (1 ≤ serving.now.first_id) × (serving.now.first_id < 2 ^ 32) }
     ensures serves { Serves result serving.now (outside (D.link doors.old) (D.door doors.old)) (outside (D.link doors.new) (D.door doors.new))
         (faults (K.faults out.old) (T.counts recording.old)) (faults (K.faults out.new) (T.counts recording.new)) (written (K.contents out.old) (T.contents recording.old)) (written (K.contents out.new) (T.contents recording.new)) }
-    ensures log { ServesByLog D.call_gives result serving.now doors.old doors.new }
+    ensures log { ServesByLog D.call_gives (Told K.write_gives out.old out.new) result serving.now doors.old doors.new }
     ensures causes { HasServed result (outside (D.link doors.old) (D.door doors.old)) (outside (D.link doors.new) (D.door doors.new))
         (faults (K.faults out.old) (T.counts recording.old)) (faults (K.faults out.new) (T.counts recording.new)) }
     ensures asked { result ≡ Status.Usage → is_some serving.now.recording ≡ true }
@@ -89,7 +90,7 @@ fn between<D: Doors, K: Sink, T: Tape>(
     requires host_down { (D.link doors.old Host).up ≡ false }
     requires idle { 1 ≤ serving.now.idle }
     requires first_id { (1 ≤ serving.now.first_id) × (serving.now.first_id < 2 ^ 32) }
-    ensures log { HasLog D.call_gives (record { host = Some serving.now.host; door = serving.now.listen }) (gate_sends serving.now.after_loss serving.now.first_id) result doors.old doors.new }
+    ensures log { HasLog D.call_gives (Told K.write_gives out.old out.new) (terms_of serving.now) (gate_sends serving.now.after_loss serving.now.first_id) result doors.old doors.new }
     ensures ends { EndsOf (setting_of serving.now) Making result (outside (D.link doors.old) (D.door doors.old)) (outside (D.link doors.new) (D.door doors.new))
         (faults (K.faults out.old) (T.counts tape.old)) (faults (K.faults out.new) (T.counts tape.new)) (written (K.contents out.old) (T.contents tape.old)) (written (K.contents out.new) (T.contents tape.new)) }
 {

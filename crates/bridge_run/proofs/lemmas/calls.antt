@@ -3,4 +3,8 @@ pub mod Course
 pub mod Answers
 pub mod Open
 pub mod Idle
+pub mod Sink
 pub mod Log
+pub mod Rounds
+pub mod Opening
+pub mod Shared

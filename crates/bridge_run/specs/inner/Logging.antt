@@ -1,56 +1,117 @@
 -- How far a session has come by the log of the doors' calls.
-use Rattle.std.specs.Prelude.{◌≡◌, ◌++◌, ◌∷◌, [], ℕ, Bool, true, false, if◌then◌else◌, List, Some, is_some, Result, Ok, Err}
+use Rattle.std.specs.Prelude.{◌≡◌, ◌<◌, ◌+◌, ◌-◌, ◌++◌, ◌∷◌, [], ℕ, not, Bool, true, false, if◌then◌else◌, List, Some, is_some, Result, Ok, Err}
 use Rattle.usb_base.specs.declared.side.Side.{Side}
 use Rattle.usb_base.specs.declared.side.Side.TheVariants.{Client, Host}
 use Rattle.gate_outside.specs.Calls.{Call, Close, Called, went}
 use Rattle.gate_outside.specs.Link.{other}
 use Rattle.bridge_run.specs.Events.{Event, ClientQuiet, ClientEnd}
 use Rattle.bridge_run.specs.declared.serve_end.ServeEnd.{ServeEnd}
+use Rattle.bridge_run.specs.declared.serve_end.ServeEnd.TheVariants.{Ended, LinkFault, WriteFault, Idle, Spent, Memory}
 use Rattle.bridge_run.specs.declared.kept.Kept.{Kept}
-use Rattle.bridge_run.specs.Prescribed.{Prescribed}
+use Rattle.bridge_run.specs.Prescribed.{Prescribed, first_of}
 use Rattle.bridge_run.specs.Calls.{ends_next}
-use Rattle.bridge_run.specs.Ups.{client_at, client_behind, host_at, host_since}
-use Rattle.bridge_run.specs.Log.{Opening, events_of, IsWritten, Settled, Logged}
+use Rattle.bridge_run.specs.Ups.{client_at, client_behind, host_at, host_since, told_of}
+use Rattle.bridge_run.specs.Asks.{Ask, asks_of, taken, has_just_come, quiet_rounds, last_fault}
+use Rattle.bridge_run.specs.Log.{Terms, events_of, IsWritten, IsWrittenInPart, GoesOn, is_over, Settled, Logged}
+use Rattle.bridge_run.specs.inner.Keeping.{one_if, is_over as none_up}
 
 -- what is served stands for the events that came, and all is written that they send
-pub record IsAt {D : Type 0} (gives : D → Call → D → Type 0) (stands : List Event → Type 0) (opening : Opening) (p : Prescribed) (k : Kept) (begun now : D) : Type 0 where
+pub record IsAt {D : Type 0} (gives : D → Call → D → Type 0) (stands : List Event → Type 0) (tells : List ℕ → Type 0) (terms : Terms) (p : Prescribed) (asks : List Ask) (k : Kept) (begun now : D) : Type 0 where
   pub calls : List Call
   pub called : Called gives calls begun now
-  pub settled : Settled opening p calls
+  pub settled : Settled terms p calls
+  pub asks-are : asks_of calls ≡ asks
   pub stands_for : stands (events_of calls)
-  pub written : IsWritten opening p (events_of calls) calls
+  pub written : IsWritten terms p (events_of calls) calls
+  pub told : tells (told_of p (events_of calls))
+  pub left : k.left ≡ terms.budget - taken asks
   pub client_up : k.client_up ≡ client_behind p (events_of calls)
-  pub host_up : k.host_up ≡ host_since (is_some opening.host) p (events_of calls)
+  pub host_up : k.host_up ≡ host_since (is_some terms.host) p (events_of calls)
+  pub refused : k.refused ≡ first_of (p.refusals (events_of calls))
 
 -- the latest event is still to be taken
-pub record IsTaking {D : Type 0} (gives : D → Call → D → Type 0) (stands : List Event → Type 0) (opening : Opening) (p : Prescribed) (e : Event) (k : Kept) (begun now : D) : Type 0 where
+pub record IsTaking {D : Type 0} (gives : D → Call → D → Type 0) (stands : List Event → Type 0) (tells : List ℕ → Type 0) (terms : Terms) (p : Prescribed) (asks : List Ask) (e : Event) (k : Kept) (begun now : D) : Type 0 where
   pub calls : List Call
   pub called : Called gives calls begun now
-  pub settled : Settled opening p calls
+  pub settled : Settled terms p calls
+  pub asks-are : asks_of calls ≡ asks
   pub events : List Event
   pub events-are : events_of calls ≡ e ∷ events
   pub stands_for : stands events
-  pub written : IsWritten opening p events calls
+  pub written : IsWritten terms p events calls
+  pub told : tells (told_of p events)
+  pub left : k.left ≡ terms.budget - taken asks
   pub client_up : k.client_up ≡ client_at e (client_behind p events)
-  pub host_up : k.host_up ≡ host_at e (host_since (is_some opening.host) p events)
+  pub host_up : k.host_up ≡ host_at e (host_since (is_some terms.host) p events)
+  pub refused : k.refused ≡ first_of (p.refusals events)
+
+-- the latest event was taken
+pub record HasTaken {D : Type 0} (gives : D → Call → D → Type 0) (stands : List Event → Type 0) (tells : List ℕ → Type 0) (terms : Terms) (p : Prescribed) (asks : List Ask) (k : Kept) (begun now : D) : Type 0 where
+  pub at : IsAt gives stands tells terms p asks k begun now
+  pub over : is_over terms p (events_of at.calls) ≡ none_up k
 
 -- the end of a client is still to be taken, or nothing is
-abbrev pub IsBehind : {D : Type 0} → Bool → (D → Call → D → Type 0) → (List Event → Type 0) → Opening → Prescribed → Kept → D → D → Type 0
-IsBehind true gives stands opening p k begun now = IsTaking gives stands opening p ClientEnd k begun now
-IsBehind false gives stands opening p k begun now = IsAt gives stands opening p k begun now
+abbrev pub IsBehind : {D : Type 0} → Bool → (D → Call → D → Type 0) → (List Event → Type 0) → (List ℕ → Type 0) → Terms → Prescribed → List Ask → Kept → D → D → Type 0
+IsBehind true gives stands tells terms p asks k begun now = IsTaking gives stands tells terms p asks ClientEnd k begun now
+IsBehind false gives stands tells terms p asks k begun now = HasTaken gives stands tells terms p asks k begun now
 
-abbrev pub PutLogs : {D : Type 0} → Result Bool ServeEnd → (D → Call → D → Type 0) → (List Event → Type 0) → Opening → Prescribed → Event → Kept → D → D → Type 0
-PutLogs (Ok dropped) gives stands opening p e k begun now = IsBehind (ends_next e dropped) gives stands opening p k begun now
-PutLogs (Err x) gives stands opening p e k begun now = Logged x gives opening p begun now
+abbrev pub PutLogs : {D : Type 0} → Result Bool ServeEnd → (D → Call → D → Type 0) → (List Event → Type 0) → (List ℕ → Type 0) → Terms → Prescribed → List Ask → Event → Kept → D → D → Type 0
+PutLogs (Ok dropped) gives stands tells terms p asks e k begun now = IsBehind (ends_next e dropped) gives stands tells terms p asks k begun now
+PutLogs (Err x) gives stands tells terms p asks e k begun now = Logged x gives tells terms p begun now
 
-abbrev pub Logs : {T D : Type 0} → Result T ServeEnd → (D → Call → D → Type 0) → (List Event → Type 0) → Opening → Prescribed → Kept → D → D → Type 0
-Logs (Ok _) gives stands opening p k begun now = IsAt gives stands opening p k begun now
-Logs (Err e) gives stands opening p k begun now = Logged e gives opening p begun now
+-- nothing is still to be taken, and more may come
+pub record IsOn {D : Type 0} (gives : D → Call → D → Type 0) (stands : List Event → Type 0) (tells : List ℕ → Type 0) (terms : Terms) (p : Prescribed) (asks : List Ask) (k : Kept) (begun now : D) : Type 0 where
+  pub at : IsAt gives stands tells terms p asks k begun now
+  pub goes_on : GoesOn terms p at.calls
+
+abbrev pub HappenLogs : {T D : Type 0} → Result T ServeEnd → (D → Call → D → Type 0) → (List Event → Type 0) → (List ℕ → Type 0) → Terms → Prescribed → List Ask → Kept → D → D → Type 0
+HappenLogs (Ok _) gives stands tells terms p asks k begun now = IsOn gives stands tells terms p asks k begun now
+HappenLogs (Err e) gives stands tells terms p asks k begun now = Logged e gives tells terms p begun now
 
 -- a side had nothing
-abbrev pub IsResting : {D : Type 0} → Side → (D → Call → D → Type 0) → (List Event → Type 0) → Opening → Prescribed → Kept → D → D → Type 0
-IsResting Client gives stands opening p k begun now = IsTaking gives stands opening p ClientQuiet k begun now
-IsResting Host gives stands opening p k begun now = IsAt gives stands opening p k begun now
+abbrev pub IsResting : {D : Type 0} → Side → (D → Call → D → Type 0) → (List Event → Type 0) → (List ℕ → Type 0) → Terms → Prescribed → List Ask → Kept → D → D → Type 0
+IsResting Client gives stands tells terms p asks k begun now = IsTaking gives stands tells terms p asks ClientQuiet k begun now
+IsResting Host gives stands tells terms p asks k begun now = IsOn gives stands tells terms p asks k begun now
+
+-- ---- a round
+
+-- how far a round has come: nobody was asked, the door was where no client was there, or the client's side was
+pub data Stage : Type 0 where
+  RoundBegins : Stage
+  DoorAsked : Stage
+  ClientAsked : Stage
+
+-- rounds may bring nothing
+pub record IsPatient (terms : Terms) (k : Kept) : Type 0 where
+  pub idle : k.idle ≡ terms.idle
+  pub some : 0 < terms.idle
+  pub waits : 0 < k.waits
+
+-- whether the client's side was asked in this round, and whether the client that is there has just come
+pub record HasWaited (asked just_come : Bool) (terms : Terms) (k : Kept) (asks : List Ask) : Type 0 where
+  pub came : k.client_up ≡ true → has_just_come asks ≡ just_come
+  pub busy : k.busy ≡ true → quiet_rounds asks ≡ 0
+  pub quiet : k.busy ≡ false → k.waits + quiet_rounds asks ≡ terms.idle + one_if asked
+
+abbrev pub Waits : Stage → Terms → Kept → List Ask → Type 0
+Waits RoundBegins terms k asks = (k.busy ≡ false) × HasWaited false false terms k asks
+Waits DoorAsked terms k asks = HasWaited (not k.client_up) k.busy terms k asks
+Waits ClientAsked terms k asks = HasWaited true false terms k asks
+
+-- where a side is polled
+abbrev pub stage_of : Side → Stage
+stage_of Client = DoorAsked
+stage_of Host = ClientAsked
+
+pub record IsAsking {D : Type 0} (stage : Stage) (gives : D → Call → D → Type 0) (stands : List Event → Type 0) (tells : List ℕ → Type 0) (terms : Terms) (p : Prescribed) (k : Kept) (begun now : D) : Type 0 where
+  pub asks : List Ask
+  pub on : IsOn gives stands tells terms p asks k begun now
+  pub patient : IsPatient terms k
+  pub waited : Waits stage terms k asks
+
+abbrev pub Logs : {T D : Type 0} → Result T ServeEnd → Stage → (D → Call → D → Type 0) → (List Event → Type 0) → (List ℕ → Type 0) → Terms → Prescribed → Kept → D → D → Type 0
+Logs (Ok _) stage gives stands tells terms p k begun now = IsAsking stage gives stands tells terms p k begun now
+Logs (Err e) stage gives stands tells terms p k begun now = Logged e gives tells terms p begun now
 
 -- ---- a link
 
@@ -58,7 +119,8 @@ IsResting Host gives stands opening p k begun now = IsAt gives stands opening p 
 pub record WroteMore {D : Type 0} (gives : D → Call → D → Type 0) (side : Side) (bytes : List ℕ) (calls : List Call) (begun now : D) : Type 0 where
   pub behind : List Call
   pub called : Called gives behind begun now
-  pub settled : (opening : Opening) (p : Prescribed) → Settled opening p calls → Settled opening p behind
+  pub settled : (terms : Terms) (p : Prescribed) → Settled terms p calls → Settled terms p behind
+  pub asks-are : asks_of behind ≡ asks_of calls
   pub events-are : events_of behind ≡ events_of calls
   pub side-is : went side behind ≡ went side calls ++ bytes
   pub other-is : went (other side) behind ≡ went (other side) calls
@@ -66,10 +128,19 @@ pub record WroteMore {D : Type 0} (gives : D → Call → D → Type 0) (side : 
 abbrev pub all_if : Bool → List ℕ → List ℕ
 all_if up bytes = if up then bytes else []
 
+-- a front of the bytes was written to a link that is up, and then a call failed
+pub record FailedBehind {D : Type 0} (gives : D → Call → D → Type 0) (side : Side) (up : Bool) (bytes : List ℕ) (calls : List Call) (begun now : D) : Type 0 where
+  pub front : List ℕ
+  pub back : List ℕ
+  pub is_up : up ≡ true
+  pub parts : bytes ≡ front ++ back
+  pub wrote : WroteMore gives side front calls begun now
+  pub failed : last_fault wrote.behind ≡ Some side
+
 -- all of the bytes, if the link is up, or a front of them
 abbrev pub LogsAll : {T D : Type 0} → Result T ServeEnd → (D → Call → D → Type 0) → Side → Bool → List ℕ → List Call → D → D → Type 0
 LogsAll (Ok _) gives side up bytes calls begun now = WroteMore gives side (all_if up bytes) calls begun now
-LogsAll {D = D} (Err _) gives side up bytes calls begun now = (front : List ℕ) × ((back : List ℕ) × ((up ≡ true) × (bytes ≡ front ++ back) × WroteMore gives side front calls begun now))
+LogsAll (Err _) gives side up bytes calls begun now = FailedBehind gives side up bytes calls begun now
 
 abbrev pub closing : Bool → Side → List Call → List Call
 closing true side calls = Close side ∷ calls
@@ -78,13 +149,28 @@ closing false side calls = calls
 -- ---- the opening
 
 -- the host was dialled, and has its hello, and no event has come
-pub record HasOpened {D : Type 0} (gives : D → Call → D → Type 0) (host door : List ℕ) (p : Prescribed) (begun now : D) : Type 0 where
+pub record HasOpened {D : Type 0} (gives : D → Call → D → Type 0) (terms : Terms) (p : Prescribed) (begun now : D) : Type 0 where
   pub calls : List Call
   pub called : Called gives calls begun now
-  pub settled : Settled (record { host = Some host; door = door }) p calls
+  pub settled : Settled terms p calls
+  pub asked : asks_of calls ≡ []
   pub none : events_of calls ≡ []
-  pub written : IsWritten (record { host = Some host; door = door }) p [] calls
+  pub written : IsWritten terms p [] calls
 
-abbrev pub OpenLogs : {T D : Type 0} → Result T ServeEnd → (D → Call → D → Type 0) → (host door : List ℕ) → Prescribed → D → D → Type 0
-OpenLogs (Ok _) gives host door p begun now = HasOpened gives host door p begun now
-OpenLogs (Err x) gives host door p begun now = Logged x gives (record { host = Some host; door = door }) p begun now
+-- a call failed before that
+pub record OpenFailed {D : Type 0} (side : Side) (gives : D → Call → D → Type 0) (terms : Terms) (p : Prescribed) (begun now : D) : Type 0 where
+  pub calls : List Call
+  pub called : Called gives calls begun now
+  pub settled : Settled terms p calls
+  pub none : events_of calls ≡ []
+  pub written : IsWrittenInPart terms p [] calls
+  pub failed : last_fault calls ≡ Some side
+
+abbrev pub OpenLogs : {T D : Type 0} → Result T ServeEnd → (D → Call → D → Type 0) → Terms → Prescribed → D → D → Type 0
+OpenLogs (Ok _) gives terms p begun now = HasOpened gives terms p begun now
+OpenLogs (Err (LinkFault side)) gives terms p begun now = OpenFailed side gives terms p begun now
+OpenLogs (Err (Ended refused)) gives terms p begun now = ⊥
+OpenLogs (Err WriteFault) gives terms p begun now = ⊥
+OpenLogs (Err Idle) gives terms p begun now = ⊥
+OpenLogs (Err Spent) gives terms p begun now = ⊥
+OpenLogs (Err Memory) gives terms p begun now = ⊥

@@ -99,7 +99,7 @@ put-host p c e sent lines old new up prepared s u is =
 
 -- ---- what is kept
 
-first_of-append : (xs ys : List Refusal) → first_of (xs ++ ys) ≡ or_else (first_of xs) (first_of ys)
+pub first_of-append : (xs ys : List Refusal) → first_of (xs ++ ys) ≡ or_else (first_of xs) (first_of ys)
 first_of-append [] ys = refl
 first_of-append (x ∷ xs) ys = refl
 

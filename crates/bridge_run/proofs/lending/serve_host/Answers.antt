@@ -14,7 +14,9 @@ use Rattle.bridge_run.specs.inner.Follows.{Follows, setting}
 use Rattle.bridge_run.proofs.lemmas.events.Rest.{faults-then}
 use Rattle.bridge_run.proofs.lemmas.calls.Idle.{reason-from}
 use Rattle.bridge_run.proofs.lemmas.calls.Open.{door-short, door-unmade, door-follows}
-use Rattle.bridge_run.proofs.lemmas.calls.Log.{no_host, nothing-before, door-part, door-at}
+use Rattle.bridge_run.specs.Log.{Told}
+use Rattle.bridge_run.proofs.lemmas.calls.Sink.{told-none}
+use Rattle.bridge_run.proofs.lemmas.calls.Opening.{no_host, nothing-before, door-failed, door-at}
 use Rattle.bridge_run.proofs.lending.serve_host.Goals as goal
 
 pub returns-in-Err-clause-leaves : goal.returns-in-Err-clause-leaves
@@ -62,19 +64,21 @@ returns-clause-reason g c =
     (subst (λ (q : Kept). HasReason c.run.result q.idle w ends) (c.new-session.ensures.kept ∙ c.new.ensures) c.run.ensures.reason)
 
 pub returns-in-Err-clause-log : goal.returns-in-Err-clause-log
-returns-in-Err-clause-log g c = nothing-before g.D.Doors.call_gives (no_host c.args.listen.now) (lent_sends g.G.Gadget.meaning c.args.gadget) c.args.doors.now
+returns-in-Err-clause-log g c = nothing-before g.D.Doors.call_gives (Told g.K.Sink.write_gives c.args.out.now c.args.out.now) (no_host c.args.listen.now c.args.idle c.args.budget) (lent_sends g.G.Gadget.meaning c.args.gadget) c.args.doors.now (told-none g.K.Sink.write_gives c.args.out.now)
 
 pub returns-in-Err-vec-clause-log : goal.returns-in-Err-vec-clause-log
-returns-in-Err-vec-clause-log g c = nothing-before g.D.Doors.call_gives (no_host c.args.listen.now) (lent_sends g.G.Gadget.meaning c.args.gadget) c.args.doors.now
+returns-in-Err-vec-clause-log g c = nothing-before g.D.Doors.call_gives (Told g.K.Sink.write_gives c.args.out.now c.args.out.now) (no_host c.args.listen.now c.args.idle c.args.budget) (lent_sends g.G.Gadget.meaning c.args.gadget) c.args.doors.now (told-none g.K.Sink.write_gives c.args.out.now)
 
 pub returns-in-Err-listen-clause-log : goal.returns-in-Err-listen-clause-log
-returns-in-Err-listen-clause-log g c = door-part g.D.Doors.call_gives (lent_sends g.G.Gadget.meaning c.args.gadget) c.args.listen.now _ c.args.doors.now c.listen.new.self c.in-Err-listen.ensures.gives
+returns-in-Err-listen-clause-log g c =
+    door-failed g.D.Doors.call_gives (Told g.K.Sink.write_gives c.args.out.now c.args.out.now) (lent_sends g.G.Gadget.meaning c.args.gadget) c.args.listen.now c.args.idle c.args.budget _ c.args.doors.now c.listen.new.self c.in-Err-listen.ensures.gives
+    (told-none g.K.Sink.write_gives c.args.out.now)
 
 pub returns-clause-log : goal.returns-clause-log
 returns-clause-log g c =
     let m = g.G.Gadget.meaning in
     let first = c.args.gadget in
     let core = c.new-session.result.core in
-    c.run.ensures.log first (no_host c.args.listen.now) c.args.doors.now
-    (door-at g.D.Doors.call_gives (λ events. IsLent m first core events) (lent_sends m first) c.new-session.result.kept c.args.idle c.args.budget c.args.listen.now _ c.args.doors.now c.listen.new.self c.in_default.ensures.gives
-    (subst (λ x. IsLent m first x []) (sym c.new-session.ensures.core) c.in-Ok.ensures) (c.new-session.ensures.kept ∙ c.new.ensures))
+    c.run.ensures.log first (no_host c.args.listen.now c.args.idle c.args.budget) c.args.doors.now c.args.out.now
+    (door-at g.D.Doors.call_gives (λ events. IsLent m first core events) (Told g.K.Sink.write_gives c.args.out.now c.args.out.now) (lent_sends m first) c.new-session.result.kept c.args.idle c.args.budget c.args.listen.now _ c.args.doors.now c.listen.new.self c.in_default.ensures.gives
+    (subst (λ x. IsLent m first x []) (sym c.new-session.ensures.core) c.in-Ok.ensures) (told-none g.K.Sink.write_gives c.args.out.now) refl c.requires.idle c.requires.budget (c.new-session.ensures.kept ∙ c.new.ensures))

@@ -6,7 +6,7 @@ use Rattle.gate_outside.specs.Doors.{faulted}
 use Rattle.bridge_run.specs.inner.Links.{wrote}
 use Rattle.bridge_run.specs.inner.Logging.{WroteMore}
 use Rattle.bridge_run.proofs.lemmas.events.Links.{wrote-twice}
-use Rattle.bridge_run.proofs.lemmas.calls.Log.{wrote-call, wrote-fault}
+use Rattle.bridge_run.proofs.lemmas.calls.Log.{wrote-call, failed-behind}
 use Rattle.bridge_run.proofs.link.write_link.Goals as goal
 
 pub loop-done-preserved : goal.loop-done-preserved
@@ -43,5 +43,5 @@ pub returns-in-Err-clause-log : goal.returns-in-Err-clause-log
 returns-in-Err-clause-log g c = λ begun calls called.
     let front = take c.loop-done.done c.args.bytes.now in
     let back = drop c.loop-done.done c.args.bytes.now in
-    let wrote = wrote-fault g.D.Doors.call_gives c.args.side front _ _ calls begun c.loop-done.doors c.write.new.self (c.loop-done.invariant.log begun calls called) c.in-Err.ensures.gives in
-    (front, (back, (c.if-not-up.false, sym (take-append-drop c.loop-done.done c.args.bytes.now), wrote)))
+    failed-behind g.D.Doors.call_gives c.args.side c.args.up c.args.bytes.now front back _ _ calls begun c.loop-done.doors c.write.new.self c.if-not-up.false (sym (take-append-drop c.loop-done.done c.args.bytes.now))
+    (c.loop-done.invariant.log begun calls called) c.in-Err.ensures.gives

@@ -3,11 +3,11 @@ use Rattle.usb_base.specs.declared.side.Side.TheVariants.{Host}
 use Rattle.gate_outside.specs.Link.{Door}
 use Rattle.gate_outside.specs.Doors.{faulted}
 use Rattle.bridge_run.specs.declared.serve_end.ServeEnd.{ServeEnd}
-use Rattle.bridge_run.specs.Log.{Logged}
+use Rattle.bridge_run.specs.inner.Logging.{OpenLogs}
 use Rattle.bridge_run.specs.Outside.{outside}
 use Rattle.bridge_run.proofs.lemmas.calls.Open.{cut-opens, not_dialled, not_listened, not_greeted}
-use Rattle.std.proofs.Common.{Ok}
-use Rattle.bridge_run.proofs.lemmas.calls.Log.{with_host, dial-part, listen-part, was-asked, asked, hello-part, hello-sent, open-err}
+use Rattle.std.proofs.Common.{Ok, Err}
+use Rattle.bridge_run.proofs.lemmas.calls.Opening.{with_host, dial-failed, listen-failed, was-asked, asked, hello-failed, hello-sent, open-err}
 use Rattle.bridge_run.proofs.serving.open.Goals as goal
 
 pub returns-in-Err-clause-course : goal.returns-in-Err-clause-course
@@ -29,25 +29,26 @@ returns-in_err-write_link-clause-course g c = λ p k out hello up t. let a = c.i
     (c.in_err-write_link.ensures.door ∙ c.in_default-listen.ensures.listens.0 ∙ ap (λ (d : Door). record d { made = true }) c.in_default.ensures.door))
 
 pub returns-in-Err-clause-log : goal.returns-in-Err-clause-log
-returns-in-Err-clause-log g c = λ p hello. dial-part g.D.Doors.call_gives p c.args.host.now c.args.listen.now _ c.args.doors.now c.dial.new.self c.in-Err.ensures.gives
+returns-in-Err-clause-log g c = λ idle budget p hello. dial-failed g.D.Doors.call_gives p c.args.host.now c.args.listen.now idle budget _ c.args.doors.now c.dial.new.self c.in-Err.ensures.gives
 
 pub returns-in-Err-listen-clause-log : goal.returns-in-Err-listen-clause-log
-returns-in-Err-listen-clause-log g c = λ p hello. listen-part g.D.Doors.call_gives p c.args.host.now c.args.listen.now _ c.args.doors.now c.dial.new.self c.listen.new.self c.in_default.ensures.gives c.in-Err-listen.ensures.gives
+returns-in-Err-listen-clause-log g c = λ idle budget p hello. listen-failed g.D.Doors.call_gives p c.args.host.now c.args.listen.now idle budget _ c.args.doors.now c.dial.new.self c.listen.new.self c.in_default.ensures.gives c.in-Err-listen.ensures.gives
 
 pub returns-in_err-write_link-clause-log : goal.returns-in_err-write_link-clause-log
-returns-in_err-write_link-clause-log g c = λ p hello.
+returns-in_err-write_link-clause-log g c = λ idle budget p hello.
     let gives = g.D.Doors.call_gives in
     let host = c.args.host.now in
     let door = c.args.listen.now in
-    let cut = c.in_err-write_link.ensures.log c.args.doors.now (asked host door (Ok tt)) (was-asked gives host door (Ok tt) c.args.doors.now c.dial.new.self c.listen.new.self c.in_default.ensures.gives c.in_default-listen.ensures.gives) in
-    open-err _ c.from_residual.result gives host door p c.args.doors.now c.write_link.new.doors c.from_residual.ensures.1
-    (λ x is. subst (λ (y : ServeEnd). Logged y gives (with_host host door) p c.args.doors.now c.write_link.new.doors) (sym (is ∙ c.in_err-write_link.ensures.fault))
-    (hello-part gives p host door c.args.hello.now cut.0 cut.1.0 c.args.doors.now c.write_link.new.doors hello cut.1.1.1 cut.1.1.2))
+    let terms = with_host host door idle budget in
+    let failed = c.in_err-write_link.ensures.log c.args.doors.now (asked host door (Ok tt)) (was-asked gives host door (Ok tt) c.args.doors.now c.dial.new.self c.listen.new.self c.in_default.ensures.gives c.in_default-listen.ensures.gives) in
+    open-err _ c.from_residual.result gives terms p c.args.doors.now c.write_link.new.doors c.from_residual.ensures.1
+    (λ x is. subst (λ (y : ServeEnd). OpenLogs {T = Unit {0}} (Err y) gives terms p c.args.doors.now c.write_link.new.doors) (sym (is ∙ c.in_err-write_link.ensures.fault))
+    (hello-failed gives p host door idle budget true c.args.hello.now c.args.doors.now c.write_link.new.doors hello failed))
 
 pub returns-clause-log : goal.returns-clause-log
-returns-clause-log g c = λ p hello.
+returns-clause-log g c = λ idle budget p hello.
     let gives = g.D.Doors.call_gives in
     let host = c.args.host.now in
     let door = c.args.listen.now in
-    hello-sent gives p host door c.args.hello.now c.args.doors.now c.write_link.new.doors hello
+    hello-sent gives p host door idle budget c.args.hello.now c.args.doors.now c.write_link.new.doors hello
     (c.in_ok-write_link.ensures.log c.args.doors.now (asked host door (Ok tt)) (was-asked gives host door (Ok tt) c.args.doors.now c.dial.new.self c.listen.new.self c.in_default.ensures.gives c.in_default-listen.ensures.gives))

@@ -15,7 +15,9 @@ use Rattle.bridge_run.proofs.lemmas.calls.Course.{reaches-none, reaches-call, le
 use Rattle.bridge_run.proofs.lemmas.events.Rest.{faults-then}
 use Rattle.bridge_run.proofs.lemmas.calls.Idle.{cut-reason, reason-from}
 use Rattle.bridge_run.proofs.lemmas.calls.Open.{making-short, begun-follows}
-use Rattle.bridge_run.proofs.lemmas.calls.Log.{with_host, nothing-before, opened-at}
+use Rattle.bridge_run.specs.Log.{Told}
+use Rattle.bridge_run.proofs.lemmas.calls.Sink.{told-none}
+use Rattle.bridge_run.proofs.lemmas.calls.Opening.{with_host, nothing-before, open-logged, opened-at}
 use Rattle.bridge_run.proofs.serving.serve.Goals as goal
 
 pub returns-in-Err-clause-leaves : goal.returns-in-Err-clause-leaves
@@ -66,15 +68,18 @@ returns-clause-reason g c =
     (subst (λ (q : Kept). HasReason c.run.result q.idle w ends) (c.new-session.ensures.kept ∙ c.new.ensures) c.run.ensures.reason)
 
 pub returns-in-Err-clause-log : goal.returns-in-Err-clause-log
-returns-in-Err-clause-log g c = nothing-before g.D.Doors.call_gives (with_host c.args.host.now c.args.listen.now) (gate_sends c.args.after_loss c.args.first_id) c.args.doors.now
+returns-in-Err-clause-log g c = nothing-before g.D.Doors.call_gives (Told g.K.Sink.write_gives c.args.out.now c.args.out.now) (with_host c.args.host.now c.args.listen.now c.args.idle c.args.budget) (gate_sends c.args.after_loss c.args.first_id) c.args.doors.now
+    (told-none g.K.Sink.write_gives c.args.out.now)
 
 pub returns-in-Err-vec-clause-log : goal.returns-in-Err-vec-clause-log
-returns-in-Err-vec-clause-log g c = nothing-before g.D.Doors.call_gives (with_host c.args.host.now c.args.listen.now) (gate_sends c.args.after_loss c.args.first_id) c.args.doors.now
+returns-in-Err-vec-clause-log g c = nothing-before g.D.Doors.call_gives (Told g.K.Sink.write_gives c.args.out.now c.args.out.now) (with_host c.args.host.now c.args.listen.now c.args.idle c.args.budget) (gate_sends c.args.after_loss c.args.first_id) c.args.doors.now
+    (told-none g.K.Sink.write_gives c.args.out.now)
 
 pub returns-in-Err-open-clause-log : goal.returns-in-Err-open-clause-log
 returns-in-Err-open-clause-log g c =
     let p = gate_sends c.args.after_loss c.args.first_id in
-    c.in-Err-open.ensures.log p (c.as_slice.ensures ∙ c.in-Ok.ensures.sent ∙ ap (λ (l : List ℕ). l ++ out_host c.args.first_id []) c.new-hello.ensures)
+    open-logged c.in-Err-open.end g.D.Doors.call_gives (Told g.K.Sink.write_gives c.args.out.now c.args.out.now) (with_host c.args.host.now c.args.listen.now c.args.idle c.args.budget) p c.args.doors.now c.open.new.doors (told-none g.K.Sink.write_gives c.args.out.now)
+    (c.in-Err-open.ensures.log c.args.idle c.args.budget p (c.as_slice.ensures ∙ c.in-Ok.ensures.sent ∙ ap (λ (l : List ℕ). l ++ out_host c.args.first_id []) c.new-hello.ensures))
 
 pub returns-clause-log : goal.returns-clause-log
 returns-clause-log g c =
@@ -82,8 +87,9 @@ returns-clause-log g c =
     let p = gate_sends c.args.after_loss first in
     let core = c.new-session.result.core in
     let stands : List Event → Type 0 = λ events. (core.after_loss ≡ c.args.after_loss) × Stands first core.gate (gate_events events) in
-    c.run.ensures.log (c.args.after_loss, first) (with_host c.args.host.now c.args.listen.now) c.args.doors.now
-    (opened-at g.D.Doors.call_gives stands c.args.host.now c.args.listen.now p c.new-session.result.kept c.args.idle c.args.budget c.args.doors.now c.open.new.doors
-    (c.in_default.ensures.log p (c.as_slice.ensures ∙ c.in-Ok.ensures.sent ∙ ap (λ (l : List ℕ). l ++ out_host first []) c.new-hello.ensures))
+    let tells = Told g.K.Sink.write_gives c.args.out.now c.args.out.now in
+    c.run.ensures.log (c.args.after_loss, first) (with_host c.args.host.now c.args.listen.now c.args.idle c.args.budget) c.args.doors.now c.args.out.now
+    (opened-at g.D.Doors.call_gives stands tells c.args.host.now c.args.listen.now c.args.idle c.args.budget p c.new-session.result.kept c.args.doors.now c.open.new.doors
+    (c.in_default.ensures.log c.args.idle c.args.budget p (c.as_slice.ensures ∙ c.in-Ok.ensures.sent ∙ ap (λ (l : List ℕ). l ++ out_host first []) c.new-hello.ensures))
     (subst (λ (x : Gateway). (x.after_loss ≡ c.args.after_loss) × Stands first x.gate (gate_events [])) (sym c.new-session.ensures.core) (refl, c.in-Ok.ensures.made))
-    (c.new-session.ensures.kept ∙ c.new.ensures))
+    (told-none g.K.Sink.write_gives c.args.out.now) refl c.requires.idle c.requires.budget (c.new-session.ensures.kept ∙ c.new.ensures))

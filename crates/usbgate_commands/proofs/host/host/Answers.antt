@@ -1,5 +1,5 @@
-use Rattle.std.proofs.Common.{None}
 use Rattle.bridge_run.specs.Outside.{outside}
+use Rattle.usbgate_commands.specs.Logs.{terms_lent}
 use Rattle.usbgate_commands.proofs.Logs.{unlogged}
 use Rattle.usbgate_commands.specs.Serves.{device_sends}
 use Rattle.usbgate_commands.proofs.Served.{unlent}
@@ -18,13 +18,13 @@ pub returns-in-Err-make-3-clause-lends : goal.returns-in-Err-make-3-clause-lends
 returns-in-Err-make-3-clause-lends g c = unlent c.args.lending.now (outside (g.D.Doors.link c.args.doors.now) (g.D.Doors.door c.args.doors.now)) (g.K.Sink.faults c.args.out.now) (g.K.Sink.contents c.args.out.now)
 
 pub returns-in-Err-clause-log : goal.returns-in-Err-clause-log
-returns-in-Err-clause-log g c = unlogged g.D.Doors.call_gives (record { host = None; door = c.args.lending.now.listen }) (device_sends c.args.lending.now.device) c.args.doors.now
+returns-in-Err-clause-log g c = unlogged g.D.Doors.call_gives g.K.Sink.write_gives (terms_lent c.args.lending.now) (device_sends c.args.lending.now.device) c.args.doors.now c.args.out.now
 
 pub returns-in-Err-make-clause-log : goal.returns-in-Err-make-clause-log
-returns-in-Err-make-clause-log g c = unlogged g.D.Doors.call_gives (record { host = None; door = c.args.lending.now.listen }) (device_sends c.args.lending.now.device) c.args.doors.now
+returns-in-Err-make-clause-log g c = unlogged g.D.Doors.call_gives g.K.Sink.write_gives (terms_lent c.args.lending.now) (device_sends c.args.lending.now.device) c.args.doors.now c.args.out.now
 
 pub returns-in-Err-make-2-clause-log : goal.returns-in-Err-make-2-clause-log
-returns-in-Err-make-2-clause-log g c = unlogged g.D.Doors.call_gives (record { host = None; door = c.args.lending.now.listen }) (device_sends c.args.lending.now.device) c.args.doors.now
+returns-in-Err-make-2-clause-log g c = unlogged g.D.Doors.call_gives g.K.Sink.write_gives (terms_lent c.args.lending.now) (device_sends c.args.lending.now.device) c.args.doors.now c.args.out.now
 
 pub returns-in-Err-make-3-clause-log : goal.returns-in-Err-make-3-clause-log
-returns-in-Err-make-3-clause-log g c = unlogged g.D.Doors.call_gives (record { host = None; door = c.args.lending.now.listen }) (device_sends c.args.lending.now.device) c.args.doors.now
+returns-in-Err-make-3-clause-log g c = unlogged g.D.Doors.call_gives g.K.Sink.write_gives (terms_lent c.args.lending.now) (device_sends c.args.lending.now.device) c.args.doors.now c.args.out.now

@@ -8,7 +8,8 @@ use Rattle.bridge_run.specs.Outside.{outside, gathering}
 use Rattle.bridge_run.specs.inner.Follows.{Runs, setting}
 use Rattle.bridge_run.proofs.lemmas.calls.Course.{reaches-none, reaches-call, cut-leaves, cut-next, is-err}
 use Rattle.bridge_run.proofs.lemmas.events.Settle.{settled, take-course, take-settles, take-ends, quiet-on, on-all}
-use Rattle.bridge_run.specs.inner.Logging.{IsBehind, Logs}
+use Rattle.bridge_run.specs.Log.{Told}
+use Rattle.bridge_run.specs.inner.Logging.{IsBehind, HappenLogs}
 use Rattle.bridge_run.proofs.lemmas.calls.Log.{settled-logs}
 use Rattle.bridge_run.proofs.session.Session.happen.Goals as goal
 
@@ -73,35 +74,32 @@ returns-clause-quiet g c = on-all c.settle-2.result _
     (λ quiet. absurd (false≢true (sym (quiet-on (event_of c.args.event) c.in_ok-dropped.dropped (c.in_ok-dropped.ensures.quiet quiet).0) ∙ sym c.ends_next.ensures ∙ c.if-not-ends_next.false)))
 
 pub returns-in_err-dropped-clause-log : goal.returns-in_err-dropped-clause-log
-returns-in_err-dropped-clause-log g c = λ first opening begun t.
-    let gives = g.D.Doors.call_gives in
-    let p = g.C.Served.sends first in
-    let e = c.in_err-dropped.field-0.0 in
-    subst (λ (r : Result (Unit {0}) ServeEnd). Logs r gives (g.C.Served.stands first c.put.new.self.core) opening p c.put.new.self.kept begun c.put.new.doors) (sym (is-err c.from_residual.result e c.from_residual.ensures.1))
-    (c.in_err-dropped.ensures.log first opening begun t)
+returns-in_err-dropped-clause-log g c = λ first terms asks begun begun_out t.
+    subst (λ (r : Result (Unit {0}) ServeEnd). HappenLogs r g.D.Doors.call_gives (g.C.Served.stands first c.put.new.self.core) (Told g.K.Sink.write_gives begun_out c.put.new.out) terms (g.C.Served.sends first) asks c.put.new.self.kept begun c.put.new.doors) (sym (is-err c.from_residual.result c.in_err-dropped.field-0.0 c.from_residual.ensures.1))
+    (c.in_err-dropped.ensures.log first terms asks begun begun_out t)
 
 pub returns-in_err-put-clause-log : goal.returns-in_err-put-clause-log
-returns-in_err-put-clause-log g c = λ first opening begun t.
+returns-in_err-put-clause-log g c = λ first terms asks begun begun_out t.
     let gives = g.D.Doors.call_gives in
     let p = g.C.Served.sends first in
-    let e = c.in_err-put.field-0.0 in
-    let taking = subst (λ (b : Bool). IsBehind b gives (g.C.Served.stands first c.put.new.self.core) opening p c.put.new.self.kept begun c.put.new.doors) (sym c.ends_next.ensures ∙ c.if-not-ends_next.false)
-    (c.in_ok-dropped.ensures.log first opening begun t) in
-    subst (λ (r : Result (Unit {0}) ServeEnd). Logs r gives (g.C.Served.stands first c.put-2.new.self.core) opening p c.put-2.new.self.kept begun c.put-2.new.doors) (sym (is-err c.from_residual-in_err-put.result e c.from_residual-in_err-put.ensures.1))
-    (c.in_err-put.ensures.log first opening begun taking)
+    let taking = subst (λ (b : Bool). IsBehind b gives (g.C.Served.stands first c.put.new.self.core) (Told g.K.Sink.write_gives begun_out c.put.new.out) terms p asks c.put.new.self.kept begun c.put.new.doors) (sym c.ends_next.ensures ∙ c.if-not-ends_next.false)
+    (c.in_ok-dropped.ensures.log first terms asks begun begun_out t) in
+    subst (λ (r : Result (Unit {0}) ServeEnd). HappenLogs r gives (g.C.Served.stands first c.put-2.new.self.core) (Told g.K.Sink.write_gives begun_out c.put-2.new.out) terms p asks c.put-2.new.self.kept begun c.put-2.new.doors) (sym (is-err c.from_residual-in_err-put.result c.in_err-put.field-0.0 c.from_residual-in_err-put.ensures.1))
+    (c.in_err-put.ensures.log first terms asks begun begun_out taking)
 
 pub returns-then-not-ends_next-clause-log : goal.returns-then-not-ends_next-clause-log
-returns-then-not-ends_next-clause-log g c = λ first opening begun t.
+returns-then-not-ends_next-clause-log g c = λ first terms asks begun begun_out t.
     let gives = g.D.Doors.call_gives in
     let p = g.C.Served.sends first in
-    let at = subst (λ (b : Bool). IsBehind b gives (g.C.Served.stands first c.put.new.self.core) opening p c.put.new.self.kept begun c.put.new.doors) (sym c.ends_next.ensures ∙ c.if-not-ends_next.true)
-    (c.in_ok-dropped.ensures.log first opening begun t) in
-    settled-logs c.settle.result gives (g.C.Served.stands first c.put.new.self.core) opening p c.put.new.self.kept begun c.put.new.doors c.settle.ensures at
+    let tells = Told g.K.Sink.write_gives begun_out c.put.new.out in
+    let taken = subst (λ (b : Bool). IsBehind b gives (g.C.Served.stands first c.put.new.self.core) tells terms p asks c.put.new.self.kept begun c.put.new.doors) (sym c.ends_next.ensures ∙ c.if-not-ends_next.true)
+    (c.in_ok-dropped.ensures.log first terms asks begun begun_out t) in
+    settled-logs c.settle.result gives (g.C.Served.stands first c.put.new.self.core) tells terms p asks c.put.new.self.kept begun c.put.new.doors c.settle.ensures taken
 
 pub returns-clause-log : goal.returns-clause-log
-returns-clause-log g c = λ first opening begun t.
+returns-clause-log g c = λ first terms asks begun begun_out t.
     let gives = g.D.Doors.call_gives in
     let p = g.C.Served.sends first in
-    let taking = subst (λ (b : Bool). IsBehind b gives (g.C.Served.stands first c.put.new.self.core) opening p c.put.new.self.kept begun c.put.new.doors) (sym c.ends_next.ensures ∙ c.if-not-ends_next.false)
-    (c.in_ok-dropped.ensures.log first opening begun t) in
-    settled-logs c.settle-2.result gives (g.C.Served.stands first c.put-2.new.self.core) opening p c.put-2.new.self.kept begun c.put-2.new.doors c.settle-2.ensures (c.in_ok-put.ensures.log first opening begun taking)
+    let taking = subst (λ (b : Bool). IsBehind b gives (g.C.Served.stands first c.put.new.self.core) (Told g.K.Sink.write_gives begun_out c.put.new.out) terms p asks c.put.new.self.kept begun c.put.new.doors) (sym c.ends_next.ensures ∙ c.if-not-ends_next.false)
+    (c.in_ok-dropped.ensures.log first terms asks begun begun_out t) in
+    settled-logs c.settle-2.result gives (g.C.Served.stands first c.put-2.new.self.core) (Told g.K.Sink.write_gives begun_out c.put-2.new.out) terms p asks c.put-2.new.self.kept begun c.put-2.new.doors c.settle-2.ensures (c.in_ok-put.ensures.log first terms asks begun begun_out taking)

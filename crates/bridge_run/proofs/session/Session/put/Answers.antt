@@ -9,8 +9,7 @@ use Rattle.bridge_run.specs.declared.kept.Kept.{Kept}
 use Rattle.bridge_run.specs.Prescribed.{refuses}
 use Rattle.bridge_run.specs.Outside.{outside, Cut, gathering, faults}
 use Rattle.bridge_run.specs.declared.serve_end.ServeEnd.{ServeEnd}
-use Rattle.bridge_run.specs.declared.serve_end.ServeEnd.TheVariants.{Memory}
-use Rattle.bridge_run.specs.Log.{Logged}
+use Rattle.bridge_run.specs.Log.{Logged, Told, InPart}
 use Rattle.bridge_run.specs.inner.Follows.{HasFaults}
 use Rattle.bridge_run.proofs.lemmas.calls.Course.{is-err}
 use Rattle.bridge_run.specs.inner.Links.{wrote_if, WritesFront, closed_if}
@@ -18,7 +17,8 @@ use Rattle.bridge_run.specs.inner.Keeping.{refusing}
 use Rattle.bridge_run.proofs.lemmas.events.Put.{due-of, recorded-by, tape-faults, cut-puts, dropped-is, put-client, put-host, put-follows, put-before, put-in_entry, put-in_client, put-in_host, put-in_lines, refusing-none}
 use Rattle.bridge_run.specs.Calls.{put, ends_next}
 use Rattle.bridge_run.specs.inner.Logging.{WroteMore, all_if, closing}
-use Rattle.bridge_run.proofs.lemmas.calls.Log.{has-sent, put-behind, client-kept, host-kept, dropped-down, taking-logs, client-part, host-part, behind-part, put-err}
+use Rattle.bridge_run.proofs.lemmas.calls.Sink.{told-event, told-front}
+use Rattle.bridge_run.proofs.lemmas.calls.Log.{has-sent, put-behind, client-kept, host-kept, refused-kept, dropped-down, memory-logs, tape-logs, client-part, host-part, behind-part, put-err}
 use Rattle.bridge_run.proofs.session.Session.put.Goals as goal
 
 pub returns-in_err-prepare-clause-course : goal.returns-in_err-prepare-clause-course
@@ -156,25 +156,28 @@ returns-in-Ok-clause-quiet g c = λ quiet.
     )
 
 pub returns-in_err-prepare-clause-log : goal.returns-in_err-prepare-clause-log
-returns-in_err-prepare-clause-log g c = λ first opening begun t.
+returns-in_err-prepare-clause-log g c = λ first terms asks begun begun_out t.
     let gives = g.D.Doors.call_gives in
+    let tells = Told g.K.Sink.write_gives begun_out c.args.out.now in
     let p = g.C.Served.sends first in
     let e = event_of c.args.event in
-    put-err _ c.from_residual.result gives (g.C.Served.stands first c.prepare.new.self.core) opening p e c.prepare.new.self.kept begun c.args.doors.now c.from_residual.ensures.1
-    (λ x is. subst (λ (y : ServeEnd). Logged y gives opening p begun c.args.doors.now) (sym is) (taking-logs Memory gives (g.C.Served.stands first c.args.self.now.core) opening p e c.args.self.now.kept begun c.args.doors.now tt t))
+    put-err _ c.from_residual.result gives (g.C.Served.stands first c.prepare.new.self.core) tells terms p asks e c.prepare.new.self.kept begun c.args.doors.now c.from_residual.ensures.1
+    (λ x is. subst (λ (y : ServeEnd). Logged y gives tells terms p begun c.args.doors.now) (sym is) (memory-logs gives (g.C.Served.stands first c.args.self.now.core) tells terms p asks e c.args.self.now.kept begun c.args.doors.now t))
 
 pub returns-in_err-record_event-clause-log : goal.returns-in_err-record_event-clause-log
-returns-in_err-record_event-clause-log g c = λ first opening begun t.
+returns-in_err-record_event-clause-log g c = λ first terms asks begun begun_out t.
     let gives = g.D.Doors.call_gives in
+    let tells = Told g.K.Sink.write_gives begun_out c.args.out.now in
     let p = g.C.Served.sends first in
     let e = event_of c.args.event in
-    put-err _ c.from_residual-in_err-record_event.result gives (g.C.Served.stands first c.prepare.new.self.core) opening p e c.prepare.new.self.kept begun c.args.doors.now c.from_residual-in_err-record_event.ensures.1
-    (λ x is. subst (λ (y : ServeEnd). Logged y gives opening p begun c.args.doors.now) (sym is)
-    (taking-logs c.in_err-record_event.field-0.0 gives (g.C.Served.stands first c.args.self.now.core) opening p e c.args.self.now.kept begun c.args.doors.now c.in_err-record_event.ensures.cut t))
+    put-err _ c.from_residual-in_err-record_event.result gives (g.C.Served.stands first c.prepare.new.self.core) tells terms p asks e c.prepare.new.self.kept begun c.args.doors.now c.from_residual-in_err-record_event.ensures.1
+    (λ x is. subst (λ (y : ServeEnd). Logged y gives tells terms p begun c.args.doors.now) (sym is)
+    (tape-logs c.in_err-record_event.field-0.0 (g.T.Tape.counts c.args.tape.now) (g.T.Tape.counts c.record_event.new.tape) gives (g.C.Served.stands first c.args.self.now.core) tells terms p asks e c.args.self.now.kept begun c.args.doors.now c.in_err-record_event.ensures.cause t))
 
 pub returns-in_err-write_link-clause-log : goal.returns-in_err-write_link-clause-log
-returns-in_err-write_link-clause-log g c = λ first opening begun t.
+returns-in_err-write_link-clause-log g c = λ first terms asks begun begun_out t.
     let gives = g.D.Doors.call_gives in
+    let tells = Told g.K.Sink.write_gives begun_out c.args.out.now in
     let p = g.C.Served.sends first in
     let e = event_of c.args.event in
     let old = c.args.self.now.kept in
@@ -184,14 +187,14 @@ returns-in_err-write_link-clause-log g c = λ first opening begun t.
     let stands = g.C.Served.stands first c.args.self.now.core in
     let prepared = c.in_ok-prepare.ensures.prepared first t.events t.stands_for in
     let same = c.in_ok-prepare.ensures.kept in
-    let cut = c.in_err-write_link.ensures.log begun t.calls t.called in
-    put-err _ c.from_residual-in_err-write_link.result gives (g.C.Served.stands first c.prepare.new.self.core) opening p e k1 begun c.write_link.new.doors c.from_residual-in_err-write_link.ensures.1
-    (λ x is. subst (λ (y : ServeEnd). Logged y gives opening p begun c.write_link.new.doors) (sym (is ∙ c.in_err-write_link.ensures.fault))
-    (client-part gives stands opening p e old k1 sent lines cut.0 cut.1.0 begun c.args.doors.now c.write_link.new.doors t prepared same cut.1.1.0 (sym c.as_slice.ensures ∙ cut.1.1.1) cut.1.1.2))
+    put-err _ c.from_residual-in_err-write_link.result gives (g.C.Served.stands first c.prepare.new.self.core) tells terms p asks e k1 begun c.write_link.new.doors c.from_residual-in_err-write_link.ensures.1
+    (λ x is. subst (λ (y : ServeEnd). Logged y gives tells terms p begun c.write_link.new.doors) (sym (is ∙ c.in_err-write_link.ensures.fault))
+    (client-part gives stands tells terms p asks e old k1 sent lines c.as_slice.result.now begun c.args.doors.now c.write_link.new.doors t prepared same c.as_slice.ensures (c.in_err-write_link.ensures.log begun t.calls t.called)))
 
 pub returns-in_err-write_link-2-clause-log : goal.returns-in_err-write_link-2-clause-log
-returns-in_err-write_link-2-clause-log g c = λ first opening begun t.
+returns-in_err-write_link-2-clause-log g c = λ first terms asks begun begun_out t.
     let gives = g.D.Doors.call_gives in
+    let tells = Told g.K.Sink.write_gives begun_out c.args.out.now in
     let p = g.C.Served.sends first in
     let e = event_of c.args.event in
     let old = c.args.self.now.kept in
@@ -202,14 +205,16 @@ returns-in_err-write_link-2-clause-log g c = λ first opening begun t.
     let prepared = c.in_ok-prepare.ensures.prepared first t.events t.stands_for in
     let same = c.in_ok-prepare.ensures.kept in
     let w1 = subst (λ (b : List ℕ). WroteMore gives Client (all_if k1.client_up b) t.calls begun c.write_link.new.doors) c.as_slice.ensures (c.in_ok-write_link.ensures.log begun t.calls t.called) in
-    let cut = c.in_err-write_link-2.ensures.log begun w1.behind w1.called in
-    put-err _ c.from_residual-in_err-write_link-2.result gives (g.C.Served.stands first c.prepare.new.self.core) opening p e k1 begun c.write_link-2.new.doors c.from_residual-in_err-write_link-2.ensures.1
-    (λ x is. subst (λ (y : ServeEnd). Logged y gives opening p begun c.write_link-2.new.doors) (sym (is ∙ c.in_err-write_link-2.ensures.fault))
-    (host-part gives stands opening p e old k1 sent lines cut.0 cut.1.0 begun c.args.doors.now c.write_link.new.doors c.write_link-2.new.doors t prepared same cut.1.1.0 (sym c.as_slice-2.ensures ∙ cut.1.1.1) w1 cut.1.1.2))
+    put-err _ c.from_residual-in_err-write_link-2.result gives (g.C.Served.stands first c.prepare.new.self.core) tells terms p asks e k1 begun c.write_link-2.new.doors c.from_residual-in_err-write_link-2.ensures.1
+    (λ x is. subst (λ (y : ServeEnd). Logged y gives tells terms p begun c.write_link-2.new.doors) (sym (is ∙ c.in_err-write_link-2.ensures.fault))
+    (host-part gives stands tells terms p asks e old k1 sent lines c.as_slice-2.result.now begun c.args.doors.now c.write_link.new.doors c.write_link-2.new.doors t prepared same c.as_slice-2.ensures w1 (c.in_err-write_link-2.ensures.log begun w1.behind w1.called)))
 
 pub returns-in-Err-clause-log : goal.returns-in-Err-clause-log
-returns-in-Err-clause-log g c = λ first opening begun t.
+returns-in-Err-clause-log g c = λ first terms asks begun begun_out t.
     let gives = g.D.Doors.call_gives in
+    let writes = g.K.Sink.write_gives in
+    let before = Told writes begun_out c.args.out.now in
+    let tells = Told writes begun_out c.write_all.new.sink in
     let p = g.C.Served.sends first in
     let e = event_of c.args.event in
     let old = c.args.self.now.kept in
@@ -217,24 +222,33 @@ returns-in-Err-clause-log g c = λ first opening begun t.
     let sent = c.prepare.new.self.sent in
     let lines = c.prepare.new.self.lines in
     let stands = g.C.Served.stands first c.args.self.now.core in
+    let stands' = g.C.Served.stands first c.prepare.new.self.core in
     let prepared = c.in_ok-prepare.ensures.prepared first t.events t.stands_for in
     let same = c.in_ok-prepare.ensures.kept in
     let w1 = subst (λ (b : List ℕ). WroteMore gives Client (all_if k1.client_up b) t.calls begun c.write_link.new.doors) c.as_slice.ensures (c.in_ok-write_link.ensures.log begun t.calls t.called) in
     let w2 = subst (λ (b : List ℕ). WroteMore gives Host (all_if k1.host_up b) w1.behind begun c.write_link-2.new.doors) c.as_slice-2.ensures (c.in_ok-write_link-2.ensures.log begun w1.behind w1.called) in
     let dropped = c.drops_client-dropped.result in
-    let refused = c.refuses.result in
     let called = c.close_link-2.ensures.log begun (closing dropped Client w2.behind) (c.close_link.ensures.log begun w2.behind w2.called) in
     let kept = c.refuse.ensures ∙ ap (refusing sent.refusals sent.lets_go) same in
-    let behind = put-behind gives (g.C.Served.stands first c.prepare.new.self.core) opening p e t.events c.refuse.new.self begun c.close_link-2.new.doors w2.behind refused dropped
-    (has-sent gives stands opening p e old k1 sent lines begun c.args.doors.now c.write_link.new.doors c.write_link-2.new.doors t prepared same w1 w2)
-    (c.in_ok-prepare.ensures.stands first t.events t.stands_for) called
-    (client-kept p e t.events old c.refuse.new.self sent lines prepared kept t.client_up) (host-kept opening p e t.events old c.refuse.new.self sent lines prepared kept t.host_up)
+    let behind = put-behind gives stands' (InPart tells) terms p asks e t.events c.refuse.new.self begun c.close_link-2.new.doors w2.behind c.refuses.result dropped
+    (has-sent gives stands before terms p asks e old k1 sent lines begun c.args.doors.now c.write_link.new.doors c.write_link-2.new.doors t prepared same w1 w2) called
+    (record {
+      stands_for = c.in_ok-prepare.ensures.stands first t.events t.stands_for;
+      told = told-front writes p t.events e sent lines c.as_slice-3.result.now begun_out c.args.out.now c.write_all.new.sink prepared c.as_slice-3.ensures t.told c.in-Err.ensures.writes_front;
+      left = ap (λ (k : Kept). k.left) kept ∙ t.left;
+      client_up = client-kept p e t.events old c.refuse.new.self sent lines prepared kept t.client_up;
+      host_up = host-kept terms p e t.events old c.refuse.new.self sent lines prepared kept t.host_up;
+      refused = refused-kept p e t.events old c.refuse.new.self sent lines prepared kept t.refused;
+    })
     (dropped-down old c.refuse.new.self sent dropped kept c.drops_client-dropped.ensures) in
-    behind-part gives (g.C.Served.stands first c.prepare.new.self.core) opening p c.refuse.new.self (ends_next e dropped) begun c.close_link-2.new.doors behind
+    behind-part gives stands' tells terms p asks c.refuse.new.self (ends_next e dropped) begun c.close_link-2.new.doors behind
 
 pub returns-in-Ok-clause-log : goal.returns-in-Ok-clause-log
-returns-in-Ok-clause-log g c = λ first opening begun t.
+returns-in-Ok-clause-log g c = λ first terms asks begun begun_out t.
     let gives = g.D.Doors.call_gives in
+    let writes = g.K.Sink.write_gives in
+    let before = Told writes begun_out c.args.out.now in
+    let tells = Told writes begun_out c.write_all.new.sink in
     let p = g.C.Served.sends first in
     let e = event_of c.args.event in
     let old = c.args.self.now.kept in
@@ -242,17 +256,23 @@ returns-in-Ok-clause-log g c = λ first opening begun t.
     let sent = c.prepare.new.self.sent in
     let lines = c.prepare.new.self.lines in
     let stands = g.C.Served.stands first c.args.self.now.core in
+    let stands' = g.C.Served.stands first c.prepare.new.self.core in
     let prepared = c.in_ok-prepare.ensures.prepared first t.events t.stands_for in
     let same = c.in_ok-prepare.ensures.kept in
     let w1 = subst (λ (b : List ℕ). WroteMore gives Client (all_if k1.client_up b) t.calls begun c.write_link.new.doors) c.as_slice.ensures (c.in_ok-write_link.ensures.log begun t.calls t.called) in
     let w2 = subst (λ (b : List ℕ). WroteMore gives Host (all_if k1.host_up b) w1.behind begun c.write_link-2.new.doors) c.as_slice-2.ensures (c.in_ok-write_link-2.ensures.log begun w1.behind w1.called) in
     let dropped = c.drops_client-dropped.result in
-    let refused = c.refuses.result in
     let called = c.close_link-2.ensures.log begun (closing dropped Client w2.behind) (c.close_link.ensures.log begun w2.behind w2.called) in
     let kept = c.refuse.ensures ∙ ap (refusing sent.refusals sent.lets_go) same in
-    let behind = put-behind gives (g.C.Served.stands first c.prepare.new.self.core) opening p e t.events c.refuse.new.self begun c.close_link-2.new.doors w2.behind refused dropped
-    (has-sent gives stands opening p e old k1 sent lines begun c.args.doors.now c.write_link.new.doors c.write_link-2.new.doors t prepared same w1 w2)
-    (c.in_ok-prepare.ensures.stands first t.events t.stands_for) called
-    (client-kept p e t.events old c.refuse.new.self sent lines prepared kept t.client_up) (host-kept opening p e t.events old c.refuse.new.self sent lines prepared kept t.host_up)
+    let behind = put-behind gives stands' tells terms p asks e t.events c.refuse.new.self begun c.close_link-2.new.doors w2.behind c.refuses.result dropped
+    (has-sent gives stands before terms p asks e old k1 sent lines begun c.args.doors.now c.write_link.new.doors c.write_link-2.new.doors t prepared same w1 w2) called
+    (record {
+      stands_for = c.in_ok-prepare.ensures.stands first t.events t.stands_for;
+      told = told-event writes p t.events e sent lines c.as_slice-3.result.now begun_out c.args.out.now c.write_all.new.sink prepared c.as_slice-3.ensures t.told c.in-Ok.ensures.writes;
+      left = ap (λ (k : Kept). k.left) kept ∙ t.left;
+      client_up = client-kept p e t.events old c.refuse.new.self sent lines prepared kept t.client_up;
+      host_up = host-kept terms p e t.events old c.refuse.new.self sent lines prepared kept t.host_up;
+      refused = refused-kept p e t.events old c.refuse.new.self sent lines prepared kept t.refused;
+    })
     (dropped-down old c.refuse.new.self sent dropped kept c.drops_client-dropped.ensures) in
     behind

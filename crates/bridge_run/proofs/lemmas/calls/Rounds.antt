@@ -1,0 +1,403 @@
+-- A session's log, as a round asks its questions.
+use Rattle.std.proofs.Common.{◌≡◌, ◌⊎◌, ℕ, ◌+◌, ◌-◌, ◌<◌, ◌≤◌, not, Bool, true, false, cond, List, [], ◌∷◌, ◌++◌, take, is_some, Result, Ok, Err, refl, sym, ap, ◌∙◌, subst, inl, inr, arith, append-nil}
+use Rattle.std.proofs.lemmas.Bool.{false≢true}
+use Rattle.std.specs.Result.{OnOk}
+use Rattle.usb_base.specs.declared.side.Side.{Side}
+use Rattle.usb_base.specs.declared.side.Side.TheVariants.{Client, Host}
+use Rattle.gate_outside.specs.declared.fault.Failed.{Failed as Fault}
+use Rattle.gate_outside.specs.declared.turn.Polled.{Polled}
+use Rattle.gate_outside.specs.declared.turn.Polled.TheVariants.{Took, NotYet, Ended, Failed}
+use Rattle.gate_outside.specs.Calls.{Call, Accept, Poll, written_by, went}
+use Rattle.bridge_run.specs.Events.{Event, ClientComes}
+use Rattle.bridge_run.specs.declared.kept.Kept.{Kept}
+use Rattle.bridge_run.specs.declared.serve_end.ServeEnd.{ServeEnd}
+use Rattle.bridge_run.specs.declared.serve_end.ServeEnd.TheVariants as end
+use Rattle.bridge_run.specs.Prescribed.{Prescribed}
+use Rattle.bridge_run.specs.Calls.{piece, end_of}
+use Rattle.bridge_run.specs.Ups.{client_at, client_behind, host_at, host_since}
+use Rattle.bridge_run.specs.Asks.{Ask, ForClient, OfSide, asks_of, taken, quiet_rounds}
+use Rattle.bridge_run.specs.Log.{Terms, events_of, IsWritten, MayBegin, MayAsk, Logged}
+use Rattle.bridge_run.specs.inner.Keeping.{up_of, with_up, chances_of, Wears, RestsBusy, Rests, one_if}
+use Rattle.bridge_run.specs.inner.Logging.{IsTaking, IsOn, HappenLogs, IsResting, RoundBegins, DoorAsked, ClientAsked, IsPatient, HasWaited, Waits, stage_of, IsAsking, Logs}
+use Rattle.bridge_run.proofs.lemmas.calls.Log.{failed-logs}
+
+-- ---- the end of a round
+
+-- what was kept of the links is the same
+at-kept : {D : Type 0} → (gives : D → Call → D → Type 0) (stands : List Event → Type 0) (tells : List ℕ → Type 0) (terms : Terms) (p : Prescribed) (asks : List Ask) (k k' : Kept) (begun now : D) → k'.left ≡ k.left → k'.client_up ≡ k.client_up → k'.host_up ≡ k.host_up → k'.refused ≡ k.refused
+    → IsOn gives stands tells terms p asks k begun now → IsOn gives stands tells terms p asks k' begun now
+at-kept gives stands tells terms p asks k k' begun now left client host refused a = record {
+  at = record {
+    calls = a.at.calls;
+    called = a.at.called;
+    settled = a.at.settled;
+    asks-are = a.at.asks-are;
+    stands_for = a.at.stands_for;
+    written = a.at.written;
+    told = a.at.told;
+    left = left ∙ a.at.left;
+    client_up = client ∙ a.at.client_up;
+    host_up = host ∙ a.at.host_up;
+    refused = refused ∙ a.at.refused;
+  };
+  goes_on = a.goes_on;
+}
+
+more-waits : (w q i w' : ℕ) → w + q ≡ i + 1 → w' ≡ w - 1 → 0 < w → w' + q ≡ i + 0
+more-waits w q i w' is less some = omega arith
+
+fresh-waits : (w q i : ℕ) → w ≡ i → q ≡ 0 → w + q ≡ i + 0
+fresh-waits w q i is none = omega arith
+
+rested-busy : {D : Type 0} → (busy : Bool) (gives : D → Call → D → Type 0) (stands : List Event → Type 0) (tells : List ℕ → Type 0) (terms : Terms) (p : Prescribed) (k k' : Kept) (begun now : D) → k.busy ≡ busy → RestsBusy busy k k'
+    → IsAsking ClientAsked gives stands tells terms p k begun now → IsAsking RoundBegins gives stands tells terms p k' begun now
+rested-busy true gives stands tells terms p k k' begun now is r a =
+    let waits : k'.waits ≡ terms.idle = ap (λ (q : Kept). q.waits) r ∙ a.patient.idle in
+    record {
+      asks = a.asks;
+      on = at-kept gives stands tells terms p a.asks k k' begun now (ap (λ (q : Kept). q.left) r) (ap (λ (q : Kept). q.client_up) r) (ap (λ (q : Kept). q.host_up) r) (ap (λ (q : Kept). q.refused) r) a.on;
+      patient = record { idle = ap (λ (q : Kept). q.idle) r ∙ a.patient.idle; some = a.patient.some; waits = subst (λ (n : ℕ). 0 < n) (sym waits) a.patient.some };
+      waited = (
+        ap (λ (q : Kept). q.busy) r,
+        record {
+          came = λ up. a.waited.came (sym (ap (λ (q : Kept). q.client_up) r) ∙ up);
+          busy = λ b. absurd (false≢true (sym (ap (λ (q : Kept). q.busy) r) ∙ b));
+          quiet = λ f. fresh-waits k'.waits (quiet_rounds a.asks) terms.idle waits (a.waited.busy is);
+        },
+      );
+    }
+rested-busy false gives stands tells terms p k k' begun now is r a =
+    let quiet = ap (λ (q : Kept). q.busy) r.0 ∙ is in
+    record {
+      asks = a.asks;
+      on = at-kept gives stands tells terms p a.asks k k' begun now (ap (λ (q : Kept). q.left) r.0) (ap (λ (q : Kept). q.client_up) r.0) (ap (λ (q : Kept). q.host_up) r.0) (ap (λ (q : Kept). q.refused) r.0) a.on;
+      patient = record { idle = ap (λ (q : Kept). q.idle) r.0 ∙ a.patient.idle; some = a.patient.some; waits = r.1 };
+      waited = (
+        quiet,
+        record {
+          came = λ up. a.waited.came (sym (ap (λ (q : Kept). q.client_up) r.0) ∙ up);
+          busy = λ b. absurd (false≢true (sym quiet ∙ b));
+          quiet = λ f. more-waits k.waits (quiet_rounds a.asks) terms.idle k'.waits (a.waited.quiet is) (ap (λ (q : Kept). q.waits) r.0) a.patient.waits;
+        },
+      );
+    }
+
+last-wait : (w q i w' : ℕ) → w + q ≡ i + 1 → w' ≡ w - 1 → w' ≡ 0 → 0 < w → q ≡ i
+last-wait w q i w' is less none some = omega arith
+
+pub rested-logs : {D : Type 0} → (result : Result (Unit {0}) ServeEnd) (gives : D → Call → D → Type 0) (stands : List Event → Type 0) (tells : List ℕ → Type 0) (terms : Terms) (p : Prescribed) (k k' : Kept) (begun now : D) → Rests result k k'
+    → IsAsking ClientAsked gives stands tells terms p k begun now → Logs result RoundBegins gives stands tells terms p k' begun now
+rested-logs (Ok x) gives stands tells terms p k k' begun now r a = rested-busy k.busy gives stands tells terms p k k' begun now refl r a
+rested-logs (Err end.Idle) gives stands tells terms p k k' begun now r a = record {
+  calls = a.on.at.calls;
+  called = a.on.at.called;
+  settled = a.on.at.settled;
+  written = record { links = a.on.at.written; told = a.on.at.told };
+  ended = (a.on.goes_on, ap quiet_rounds a.on.at.asks-are ∙ last-wait k.waits (quiet_rounds a.asks) terms.idle k'.waits (a.waited.quiet r.0) (ap (λ (q : Kept). q.waits) r.1) r.2 a.patient.waits);
+}
+rested-logs (Err (end.Ended refused)) gives stands tells terms p k k' begun now r a = absurd r
+rested-logs (Err end.Spent) gives stands tells terms p k k' begun now r a = absurd r
+rested-logs (Err (end.LinkFault side)) gives stands tells terms p k k' begun now r a = absurd r
+rested-logs (Err end.WriteFault) gives stands tells terms p k k' begun now r a = absurd r
+rested-logs (Err end.Memory) gives stands tells terms p k k' begun now r a = absurd r
+
+-- where it is asked for a client fewer rounds than may have brought nothing
+door-begins : (terms : Terms) (k : Kept) (asks : List Ask) → IsPatient terms k → Waits RoundBegins terms k asks → quiet_rounds asks < terms.idle
+door-begins terms k asks patient w = fewer (quiet_rounds asks) terms.idle k.waits (w.1.quiet w.0) patient.waits
+  where
+    fewer : (q i w : ℕ) → w + q ≡ i + 0 → 0 < w → q < i
+    fewer q i w is some = omega arith
+
+-- and so where the client is polled
+client-begins : (terms : Terms) (k : Kept) (asks : List Ask) → IsPatient terms k → Waits DoorAsked terms k asks → k.client_up ≡ true → quiet_rounds asks < terms.idle
+client-begins terms k asks patient w up = go k.busy refl
+  where
+    fewer : (q i w : ℕ) → w + q ≡ i + 0 → 0 < w → q < i
+    fewer q i w is some = omega arith
+
+    none : (q i : ℕ) → q ≡ 0 → 0 < i → q < i
+    none q i is some = omega arith
+
+    go : (b : Bool) → k.busy ≡ b → quiet_rounds asks < terms.idle
+    go true is = none (quiet_rounds asks) terms.idle (w.busy is) patient.some
+    go false is = fewer (quiet_rounds asks) terms.idle k.waits (w.quiet is ∙ ap (λ (u : Bool). terms.idle + one_if (not u)) up) patient.waits
+
+may-begin : (side : Side) (terms : Terms) (k : Kept) (asks : List Ask) (calls : List Call) → asks_of calls ≡ asks → IsPatient terms k → Waits (stage_of side) terms k asks → up_of side k ≡ true → MayBegin side terms calls
+may-begin Client terms k asks calls is patient w up = subst (λ (l : List Ask). quiet_rounds l < terms.idle) (sym is) (client-begins terms k asks patient w up)
+may-begin Host terms k asks calls is patient w up = tt
+
+-- a side is polled
+pub may-poll : {D : Type 0} → (side : Side) (gives : D → Call → D → Type 0) (stands : List Event → Type 0) (tells : List ℕ → Type 0) (terms : Terms) (p : Prescribed) (k : Kept) (begun now : D) → up_of side k ≡ true
+    → (a : IsAsking (stage_of side) gives stands tells terms p k begun now) → MayAsk side terms p a.on.at.calls
+may-poll side gives stands tells terms p k begun now up a = record { written = a.on.at.written; goes_on = a.on.goes_on; round = may-begin side terms k a.asks a.on.at.calls a.on.at.asks-are a.patient a.waited up }
+
+pub may-accept : {D : Type 0} → (gives : D → Call → D → Type 0) (stands : List Event → Type 0) (tells : List ℕ → Type 0) (terms : Terms) (p : Prescribed) (k : Kept) (begun now : D) → (a : IsAsking RoundBegins gives stands tells terms p k begun now) → MayAsk Client terms p a.on.at.calls
+may-accept gives stands tells terms p k begun now a =
+    record { written = a.on.at.written; goes_on = a.on.goes_on; round = subst (λ (l : List Ask). quiet_rounds l < terms.idle) (sym a.on.at.asks-are) (door-begins terms k a.asks a.patient a.waited) }
+
+-- ---- what the doors answered
+
+-- a call that wrote nothing behind these
+quiet-written : (terms : Terms) (p : Prescribed) (events : List Event) (calls : List Call) (call : Call) → written_by Client call ≡ [] → written_by Host call ≡ [] → IsWritten terms p events calls → IsWritten terms p events (call ∷ calls)
+quiet-written terms p events calls call client host w = record {
+  client = ap (λ (l : List ℕ). went Client calls ++ l) client ∙ append-nil (went Client calls) ∙ w.client;
+  host = ap (λ (l : List ℕ). went Host calls ++ l) host ∙ append-nil (went Host calls) ∙ w.host;
+}
+
+client-in : (side : Side) (b : List ℕ) (u : Bool) → client_at (piece side b) u ≡ u
+client-in Client b u = refl
+client-in Host b u = refl
+
+host-in : (side : Side) (b : List ℕ) (u : Bool) → host_at (piece side b) u ≡ u
+host-in Client b u = refl
+host-in Host b u = refl
+
+less-left : (b t n l : ℕ) → l ≡ b - t → l - n ≡ b - (t + n)
+less-left b t n l is = omega arith
+
+same-left : (b t l : ℕ) → l ≡ b - t → l ≡ b - (t + 0)
+same-left b t l is = omega arith
+
+pub took-taking : {D : Type 0} → (gives : D → Call → D → Type 0) (stands : List Event → Type 0) (tells : List ℕ → Type 0) (terms : Terms) (p : Prescribed) (side : Side) (n : ℕ) (buf : List ℕ) (k k' : Kept) (begun d0 d1 : D) → (a : IsAsking (stage_of side) gives stands tells terms p k begun d0)
+    → up_of side k ≡ true → gives d0 (Poll side (Took n) buf) d1 → k' ≡ record k { busy = true; left = k.left - n } → IsTaking gives stands tells terms p (OfSide side (Took n) ∷ a.asks) (piece side (take n buf)) k' begun d1
+took-taking gives stands tells terms p side n buf k k' begun d0 d1 a up g kept = record {
+  calls = Poll side (Took n) buf ∷ a.on.at.calls;
+  called = (d0, (a.on.at.called, g));
+  settled = (a.on.at.settled, may-poll side gives stands tells terms p k begun d0 up a);
+  asks-are = ap (λ (l : List Ask). OfSide side (Took n) ∷ l) a.on.at.asks-are;
+  events = events_of a.on.at.calls;
+  events-are = refl;
+  stands_for = a.on.at.stands_for;
+  written = quiet-written terms p (events_of a.on.at.calls) a.on.at.calls (Poll side (Took n) buf) refl refl a.on.at.written;
+  told = a.on.at.told;
+  left = ap (λ (q : Kept). q.left) kept ∙ less-left terms.budget (taken a.asks) n k.left a.on.at.left;
+  client_up = ap (λ (q : Kept). q.client_up) kept ∙ a.on.at.client_up ∙ sym (client-in side (take n buf) (client_behind p (events_of a.on.at.calls)));
+  host_up = ap (λ (q : Kept). q.host_up) kept ∙ a.on.at.host_up ∙ sym (host-in side (take n buf) (host_since (is_some terms.host) p (events_of a.on.at.calls)));
+  refused = ap (λ (q : Kept). q.refused) kept ∙ a.on.at.refused;
+}
+
+more-goes : (b t : ℕ) → t < b → t + 0 < b
+more-goes b t is = omega arith
+
+pub rest-resting : {D : Type 0} → (gives : D → Call → D → Type 0) (stands : List Event → Type 0) (tells : List ℕ → Type 0) (terms : Terms) (p : Prescribed) (side : Side) (buf : List ℕ) (k : Kept) (begun d0 d1 : D) → (a : IsAsking (stage_of side) gives stands tells terms p k begun d0)
+    → up_of side k ≡ true → gives d0 (Poll side NotYet buf) d1 → IsResting side gives stands tells terms p (OfSide side NotYet ∷ a.asks) k begun d1
+rest-resting gives stands tells terms p Client buf k begun d0 d1 a up g = record {
+  calls = Poll Client NotYet buf ∷ a.on.at.calls;
+  called = (d0, (a.on.at.called, g));
+  settled = (a.on.at.settled, may-poll Client gives stands tells terms p k begun d0 up a);
+  asks-are = ap (λ (l : List Ask). OfSide Client NotYet ∷ l) a.on.at.asks-are;
+  events = events_of a.on.at.calls;
+  events-are = refl;
+  stands_for = a.on.at.stands_for;
+  written = quiet-written terms p (events_of a.on.at.calls) a.on.at.calls (Poll Client NotYet buf) refl refl a.on.at.written;
+  told = a.on.at.told;
+  left = same-left terms.budget (taken a.asks) k.left a.on.at.left;
+  client_up = a.on.at.client_up;
+  host_up = a.on.at.host_up;
+  refused = a.on.at.refused;
+}
+rest-resting gives stands tells terms p Host buf k begun d0 d1 a up g = record {
+  at = record {
+    calls = Poll Host NotYet buf ∷ a.on.at.calls;
+    called = (d0, (a.on.at.called, g));
+    settled = (a.on.at.settled, may-poll Host gives stands tells terms p k begun d0 up a);
+    asks-are = ap (λ (l : List Ask). OfSide Host NotYet ∷ l) a.on.at.asks-are;
+    stands_for = a.on.at.stands_for;
+    written = quiet-written terms p (events_of a.on.at.calls) a.on.at.calls (Poll Host NotYet buf) refl refl a.on.at.written;
+    told = a.on.at.told;
+    left = same-left terms.budget (taken a.asks) k.left a.on.at.left;
+    client_up = a.on.at.client_up;
+    host_up = a.on.at.host_up;
+    refused = a.on.at.refused;
+  };
+  goes_on = record { links = a.on.goes_on.links; left = more-goes terms.budget (taken (asks_of a.on.at.calls)) a.on.goes_on.left };
+}
+
+pub end-taking : {D : Type 0} → (gives : D → Call → D → Type 0) (stands : List Event → Type 0) (tells : List ℕ → Type 0) (terms : Terms) (p : Prescribed) (side : Side) (buf : List ℕ) (k k' : Kept) (begun d0 d1 : D) → (a : IsAsking (stage_of side) gives stands tells terms p k begun d0)
+    → up_of side k ≡ true → gives d0 (Poll side Ended buf) d1 → k' ≡ record (with_up side k) { busy = true } → IsTaking gives stands tells terms p (OfSide side Ended ∷ a.asks) (end_of side) k' begun d1
+end-taking gives stands tells terms p Client buf k k' begun d0 d1 a up g kept = record {
+  calls = Poll Client Ended buf ∷ a.on.at.calls;
+  called = (d0, (a.on.at.called, g));
+  settled = (a.on.at.settled, may-poll Client gives stands tells terms p k begun d0 up a);
+  asks-are = ap (λ (l : List Ask). OfSide Client Ended ∷ l) a.on.at.asks-are;
+  events = events_of a.on.at.calls;
+  events-are = refl;
+  stands_for = a.on.at.stands_for;
+  written = quiet-written terms p (events_of a.on.at.calls) a.on.at.calls (Poll Client Ended buf) refl refl a.on.at.written;
+  told = a.on.at.told;
+  left = ap (λ (q : Kept). q.left) kept ∙ same-left terms.budget (taken a.asks) k.left a.on.at.left;
+  client_up = ap (λ (q : Kept). q.client_up) kept;
+  host_up = ap (λ (q : Kept). q.host_up) kept ∙ a.on.at.host_up;
+  refused = ap (λ (q : Kept). q.refused) kept ∙ a.on.at.refused;
+}
+end-taking gives stands tells terms p Host buf k k' begun d0 d1 a up g kept = record {
+  calls = Poll Host Ended buf ∷ a.on.at.calls;
+  called = (d0, (a.on.at.called, g));
+  settled = (a.on.at.settled, may-poll Host gives stands tells terms p k begun d0 up a);
+  asks-are = ap (λ (l : List Ask). OfSide Host Ended ∷ l) a.on.at.asks-are;
+  events = events_of a.on.at.calls;
+  events-are = refl;
+  stands_for = a.on.at.stands_for;
+  written = quiet-written terms p (events_of a.on.at.calls) a.on.at.calls (Poll Host Ended buf) refl refl a.on.at.written;
+  told = a.on.at.told;
+  left = ap (λ (q : Kept). q.left) kept ∙ same-left terms.budget (taken a.asks) k.left a.on.at.left;
+  client_up = ap (λ (q : Kept). q.client_up) kept ∙ a.on.at.client_up;
+  host_up = ap (λ (q : Kept). q.host_up) kept;
+  refused = ap (λ (q : Kept). q.refused) kept ∙ a.on.at.refused;
+}
+
+pub poll-failed : {D : Type 0} → (gives : D → Call → D → Type 0) (stands : List Event → Type 0) (tells : List ℕ → Type 0) (terms : Terms) (p : Prescribed) (side : Side) (buf : List ℕ) (k : Kept) (begun d0 d1 : D) → IsAsking (stage_of side) gives stands tells terms p k begun d0
+    → up_of side k ≡ true → gives d0 (Poll side Failed buf) d1 → Logged (end.LinkFault side) gives tells terms p begun d1
+poll-failed gives stands tells terms p side buf k begun d0 d1 a up g =
+    failed-logs gives stands tells terms p a.asks side (Poll side Failed buf) k begun d0 d1 a.on.at (d0, (a.on.at.called, g)) (a.on.at.settled, may-poll side gives stands tells terms p k begun d0 up a) refl
+    (quiet-written terms p (events_of a.on.at.calls) a.on.at.calls (Poll side Failed buf) refl refl a.on.at.written) refl
+
+pub came-taking : {D : Type 0} → (gives : D → Call → D → Type 0) (stands : List Event → Type 0) (tells : List ℕ → Type 0) (terms : Terms) (p : Prescribed) (k k' : Kept) (begun d0 d1 : D) → (a : IsAsking RoundBegins gives stands tells terms p k begun d0) → gives d0 (Accept (Ok true)) d1
+    → k' ≡ record k { client_up = true; busy = true; left = k.left - 1 } → IsTaking gives stands tells terms p (ForClient (Ok true) ∷ a.asks) ClientComes k' begun d1
+came-taking gives stands tells terms p k k' begun d0 d1 a g kept = record {
+  calls = Accept (Ok true) ∷ a.on.at.calls;
+  called = (d0, (a.on.at.called, g));
+  settled = (a.on.at.settled, may-accept gives stands tells terms p k begun d0 a);
+  asks-are = ap (λ (l : List Ask). ForClient (Ok true) ∷ l) a.on.at.asks-are;
+  events = events_of a.on.at.calls;
+  events-are = refl;
+  stands_for = a.on.at.stands_for;
+  written = quiet-written terms p (events_of a.on.at.calls) a.on.at.calls (Accept (Ok true)) refl refl a.on.at.written;
+  told = a.on.at.told;
+  left = ap (λ (q : Kept). q.left) kept ∙ less-left terms.budget (taken a.asks) 1 k.left a.on.at.left;
+  client_up = ap (λ (q : Kept). q.client_up) kept;
+  host_up = ap (λ (q : Kept). q.host_up) kept ∙ a.on.at.host_up;
+  refused = ap (λ (q : Kept). q.refused) kept ∙ a.on.at.refused;
+}
+
+asked-more : (w q i o : ℕ) → w + q ≡ i + 0 → o ≡ 1 → w + (q + 1) ≡ i + o
+asked-more w q i o is one = omega arith
+
+pub nobody-at : {D : Type 0} → (gives : D → Call → D → Type 0) (stands : List Event → Type 0) (tells : List ℕ → Type 0) (terms : Terms) (p : Prescribed) (k : Kept) (begun d0 d1 : D) → IsAsking RoundBegins gives stands tells terms p k begun d0 → k.client_up ≡ false → gives d0 (Accept (Ok false)) d1
+    → IsAsking DoorAsked gives stands tells terms p k begun d1
+nobody-at gives stands tells terms p k begun d0 d1 a down g = record {
+  asks = ForClient (Ok false) ∷ a.asks;
+  on = record {
+    at = record {
+      calls = Accept (Ok false) ∷ a.on.at.calls;
+      called = (d0, (a.on.at.called, g));
+      settled = (a.on.at.settled, may-accept gives stands tells terms p k begun d0 a);
+      asks-are = ap (λ (l : List Ask). ForClient (Ok false) ∷ l) a.on.at.asks-are;
+      stands_for = a.on.at.stands_for;
+      written = quiet-written terms p (events_of a.on.at.calls) a.on.at.calls (Accept (Ok false)) refl refl a.on.at.written;
+      told = a.on.at.told;
+      left = same-left terms.budget (taken a.asks) k.left a.on.at.left;
+      client_up = a.on.at.client_up;
+      host_up = a.on.at.host_up;
+      refused = a.on.at.refused;
+    };
+    goes_on = record { links = a.on.goes_on.links; left = more-goes terms.budget (taken (asks_of a.on.at.calls)) a.on.goes_on.left };
+  };
+  patient = a.patient;
+  waited = record {
+    came = λ up. absurd (false≢true (sym down ∙ up));
+    busy = λ b. absurd (false≢true (sym a.waited.0 ∙ b));
+    quiet = λ f. asked-more k.waits (quiet_rounds a.asks) terms.idle (one_if (not k.client_up)) (a.waited.1.quiet f) (ap (λ (u : Bool). one_if (not u)) down);
+  };
+}
+
+pub accept-failed : {D : Type 0} → (gives : D → Call → D → Type 0) (stands : List Event → Type 0) (tells : List ℕ → Type 0) (terms : Terms) (p : Prescribed) (failed : Fault) (k : Kept) (begun d0 d1 : D) → IsAsking RoundBegins gives stands tells terms p k begun d0
+    → gives d0 (Accept (Err failed)) d1 → Logged (end.LinkFault Client) gives tells terms p begun d1
+accept-failed gives stands tells terms p failed k begun d0 d1 a g =
+    failed-logs gives stands tells terms p a.asks Client (Accept (Err failed)) k begun d0 d1 a.on.at (d0, (a.on.at.called, g)) (a.on.at.settled, may-accept gives stands tells terms p k begun d0 a) refl
+    (quiet-written terms p (events_of a.on.at.calls) a.on.at.calls (Accept (Err failed)) refl refl a.on.at.written) refl
+
+-- ---- behind an answer
+
+-- the client is there, and is polled next
+pub there-asking : {D : Type 0} → (gives : D → Call → D → Type 0) (stands : List Event → Type 0) (tells : List ℕ → Type 0) (terms : Terms) (p : Prescribed) (k : Kept) (begun now : D) → k.client_up ≡ true → IsAsking RoundBegins gives stands tells terms p k begun now
+    → IsAsking DoorAsked gives stands tells terms p k begun now
+there-asking gives stands tells terms p k begun now there a = record {
+  asks = a.asks;
+  on = a.on;
+  patient = a.patient;
+  waited = record {
+    came = λ up. a.waited.1.came up ∙ sym a.waited.0;
+    busy = λ b. absurd (false≢true (sym a.waited.0 ∙ b));
+    quiet = λ f. a.waited.1.quiet f ∙ sym (ap (λ (u : Bool). terms.idle + one_if (not u)) there);
+  };
+}
+
+-- the side isn't there, and isn't polled
+pub gone-asking : {D : Type 0} → (side : Side) (gives : D → Call → D → Type 0) (stands : List Event → Type 0) (tells : List ℕ → Type 0) (terms : Terms) (p : Prescribed) (k : Kept) (begun now : D) → up_of side k ≡ false → IsAsking (stage_of side) gives stands tells terms p k begun now
+    → IsAsking ClientAsked gives stands tells terms p k begun now
+gone-asking Client gives stands tells terms p k begun now down a = record {
+  asks = a.asks;
+  on = a.on;
+  patient = a.patient;
+  waited = record {
+    came = λ up. absurd (false≢true (sym down ∙ up));
+    busy = a.waited.busy;
+    quiet = λ f. a.waited.quiet f ∙ ap (λ (u : Bool). terms.idle + one_if (not u)) down;
+  };
+}
+gone-asking Host gives stands tells terms p k begun now down a = a
+
+-- a side's end leaves how long it waits
+pub down-idle : (side : Side) (k k' : Kept) → k' ≡ record (with_up side k) { busy = true } → k'.idle ≡ k.idle
+down-idle Client k k' is = ap (λ (q : Kept). q.idle) is
+down-idle Host k k' is = ap (λ (q : Kept). q.idle) is
+
+pub down-waits : (side : Side) (k k' : Kept) → k' ≡ record (with_up side k) { busy = true } → k'.waits ≡ k.waits
+down-waits Client k k' is = ap (λ (q : Kept). q.waits) is
+down-waits Host k k' is = ap (λ (q : Kept). q.waits) is
+
+still-busy : (k k' : Kept) → k.busy ≡ true → Wears k k' → k'.busy ≡ true
+still-busy k k' is w = go w.fewer
+  where
+    go : (k'.busy ≡ true) × (chances_of k' < chances_of k) ⊎ (k'.busy ≡ k.busy) × (chances_of k' ≤ chances_of k) → k'.busy ≡ true
+    go (inl x) = x.0
+    go (inr x) = x.0 ∙ is
+
+worn-patient : (terms : Terms) (k k1 k2 : Kept) → IsPatient terms k → k1.idle ≡ k.idle → k1.waits ≡ k.waits → Wears k1 k2 → IsPatient terms k2
+worn-patient terms k k1 k2 patient idle waits w = record { idle = w.idle ∙ idle ∙ patient.idle; some = patient.some; waits = subst (λ (n : ℕ). 0 < n) (sym (w.waits ∙ waits)) patient.waits }
+
+-- something has come of a side
+pub came-logs : {D : Type 0} → (result : Result (Unit {0}) ServeEnd) (gives : D → Call → D → Type 0) (stands : List Event → Type 0) (tells : List ℕ → Type 0) (terms : Terms) (p : Prescribed) (side : Side) (polled : Polled) (asks : List Ask) (k k1 k2 : Kept) (begun now : D)
+    → HappenLogs result gives stands tells terms p (OfSide side polled ∷ asks) k2 begun now → quiet_rounds (OfSide side polled ∷ asks) ≡ 0 → IsPatient terms k → k1.busy ≡ true → k1.idle ≡ k.idle → k1.waits ≡ k.waits → Wears k1 k2
+    → Logs result ClientAsked gives stands tells terms p k2 begun now
+came-logs (Ok x) gives stands tells terms p side polled asks k k1 k2 begun now h none patient busy idle waits w = record {
+  asks = OfSide side polled ∷ asks;
+  on = h;
+  patient = worn-patient terms k k1 k2 patient idle waits w;
+  waited = record { came = λ up. refl; busy = λ b. none; quiet = λ f. absurd (false≢true (sym f ∙ still-busy k1 k2 busy w)) };
+}
+came-logs (Err e) gives stands tells terms p side polled asks k k1 k2 begun now h none patient busy idle waits w = h
+
+-- a client has come
+pub client-logs : {D : Type 0} → (result : Result (Unit {0}) ServeEnd) (gives : D → Call → D → Type 0) (stands : List Event → Type 0) (tells : List ℕ → Type 0) (terms : Terms) (p : Prescribed) (asks : List Ask) (k k1 k2 : Kept) (begun now : D)
+    → HappenLogs result gives stands tells terms p (ForClient (Ok true) ∷ asks) k2 begun now → IsPatient terms k → k1.busy ≡ true → k1.idle ≡ k.idle → k1.waits ≡ k.waits → Wears k1 k2
+    → Logs result DoorAsked gives stands tells terms p k2 begun now
+client-logs (Ok x) gives stands tells terms p asks k k1 k2 begun now h patient busy idle waits w = record {
+  asks = ForClient (Ok true) ∷ asks;
+  on = h;
+  patient = worn-patient terms k k1 k2 patient idle waits w;
+  waited = record { came = λ up. sym (still-busy k1 k2 busy w); busy = λ b. refl; quiet = λ f. absurd (false≢true (sym f ∙ still-busy k1 k2 busy w)) };
+}
+client-logs (Err e) gives stands tells terms p asks k k1 k2 begun now h patient busy idle waits w = h
+
+-- a side had nothing
+quiet-waited : (side : Side) (terms : Terms) (k : Kept) (asks : List Ask) → Waits (stage_of side) terms k asks → up_of side k ≡ true → HasWaited true false terms k (OfSide side NotYet ∷ asks)
+quiet-waited Client terms k asks w up = record {
+  came = λ there. refl;
+  busy = λ b. ap (λ (j : Bool). cond j (quiet_rounds asks) (quiet_rounds asks + 1)) (w.came up ∙ b) ∙ w.busy b;
+  quiet = λ f. ap (λ (j : Bool). k.waits + cond j (quiet_rounds asks) (quiet_rounds asks + 1)) (w.came up ∙ f)
+      ∙ asked-more k.waits (quiet_rounds asks) terms.idle 1 (w.quiet f ∙ ap (λ (u : Bool). terms.idle + one_if (not u)) up) refl;
+}
+quiet-waited Host terms k asks w up = record { came = λ there. refl; busy = w.busy; quiet = w.quiet }
+
+pub quiet-logs : {D : Type 0} → (result : Result (Unit {0}) ServeEnd) (gives : D → Call → D → Type 0) (stands : List Event → Type 0) (tells : List ℕ → Type 0) (terms : Terms) (p : Prescribed) (side : Side) (asks : List Ask) (k k1 : Kept) (begun now : D)
+    → HappenLogs result gives stands tells terms p (OfSide side NotYet ∷ asks) k1 begun now → IsPatient terms k → Waits (stage_of side) terms k asks → up_of side k ≡ true → OnOk result (k1 ≡ k)
+    → Logs result ClientAsked gives stands tells terms p k1 begun now
+quiet-logs (Ok x) gives stands tells terms p side asks k k1 begun now h patient w up same = record {
+  asks = OfSide side NotYet ∷ asks;
+  on = h;
+  patient = subst (λ (q : Kept). IsPatient terms q) (sym same) patient;
+  waited = subst (λ (q : Kept). HasWaited true false terms q (OfSide side NotYet ∷ asks)) (sym same) (quiet-waited side terms k asks w up);
+}
+quiet-logs (Err e) gives stands tells terms p side asks k k1 begun now h patient w up same = h

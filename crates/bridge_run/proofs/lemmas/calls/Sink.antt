@@ -1,0 +1,66 @@
+-- What a sink was told, piece by piece.
+use Rattle.std.proofs.Common.{◌≡◌, ℕ, List, [], ◌∷◌, ◌++◌, Result, refl, sym, ap, ◌∙◌, subst, append-nil, append_assoc}
+use Rattle.std.specs.List.{flat_map}
+use Rattle.usb_base.specs.declared.refusal.Refusal.{Refusal}
+use Rattle.usb_base.specs.Refusal.{refusal_line}
+use Rattle.gate_outside.specs.declared.fault.Failed.{Failed}
+use Rattle.gate_outside.specs.Calls.{Called, front_of}
+use Rattle.gate_outside.specs.Moved.{Move, moved, Moves, MovesFront}
+use Rattle.bridge_run.specs.Events.{Event}
+use Rattle.bridge_run.specs.declared.sent.Sent.{Sent}
+use Rattle.bridge_run.specs.Prescribed.{Prescribed, gained}
+use Rattle.bridge_run.specs.Ups.{told_of}
+use Rattle.bridge_run.specs.Log.{Told, InPart}
+use Rattle.bridge_run.specs.inner.Follows.{Prepared}
+
+-- calls behind other calls
+called-append : {C D : Type 0} (gives : D → C → D → Type 0) (later earlier : List C) (old mid new : D) → Called gives earlier old mid → Called gives later mid new → Called gives (later ++ earlier) old new
+called-append {D = D} gives [] earlier old mid new before behind = subst (λ (d : D). Called gives earlier old d) (sym behind) before
+called-append gives (call ∷ later) earlier old mid new before behind = (behind.0, (called-append gives later earlier old mid behind.0 before behind.1.0, behind.1.1))
+
+moved-append : (later earlier : List Move) → moved (later ++ earlier) ≡ moved earlier ++ moved later
+moved-append [] earlier = sym (append-nil (moved earlier))
+moved-append (move ∷ later) earlier = ap (λ (l : List ℕ). l ++ front_of move.answer move.bytes) (moved-append later earlier) ∙ append_assoc (moved earlier) (moved later) (front_of move.answer move.bytes)
+
+-- nothing was told
+pub told-none : {S : Type 0} (gives : S → List ℕ → Result ℕ Failed → S → Type 0) (now : S) → Told gives now now []
+told-none gives now = record { moves = []; called = refl; all = refl }
+
+-- lines were told, and then more
+pub told-more : {S : Type 0} (gives : S → List ℕ → Result ℕ Failed → S → Type 0) (bytes more : List ℕ) (old mid new : S) → Told gives old mid bytes → Told gives mid new more → Told gives old new (bytes ++ more)
+told-more {S = S} gives bytes more old mid new before behind = record {
+  moves = behind.moves ++ before.moves;
+  called = called-append (λ (s : S) (move : Move) (t : S). gives s move.bytes move.answer t) behind.moves before.moves old mid new before.called behind.called;
+  all = moved-append behind.moves before.moves ∙ ap (λ (l : List ℕ). l ++ moved behind.moves) before.all ∙ ap (λ (l : List ℕ). bytes ++ l) behind.all;
+}
+
+-- the lines of an event
+lines-of : (p : Prescribed) (events : List Event) (e : Event) (sent : Sent) (lines : List ℕ) → Prepared p events e sent lines → lines ≡ flat_map refusal_line (gained p.refusals events e)
+lines-of p events e sent lines prepared = prepared.lines-is ∙ ap (λ (rs : List Refusal). flat_map refusal_line rs) prepared.refusals
+
+-- an event's lines were told
+pub told-event : {S : Type 0} (gives : S → List ℕ → Result ℕ Failed → S → Type 0) (p : Prescribed) (events : List Event) (e : Event) (sent : Sent) (lines given : List ℕ) (old mid new : S) → Prepared p events e sent lines → given ≡ lines
+    → Told gives old mid (told_of p events) → Moves gives given mid new → Told gives old new (told_of p (e ∷ events))
+told-event gives p events e sent lines given old mid new prepared is before m =
+    told-more gives (told_of p events) (flat_map refusal_line (gained p.refusals events e)) old mid new before (subst (λ (l : List ℕ). Moves gives l mid new) (is ∙ lines-of p events e sent lines prepared) m)
+
+-- a front of them was
+pub told-front : {S : Type 0} (gives : S → List ℕ → Result ℕ Failed → S → Type 0) (p : Prescribed) (events : List Event) (e : Event) (sent : Sent) (lines given : List ℕ) (old mid new : S) → Prepared p events e sent lines → given ≡ lines
+    → Told gives old mid (told_of p events) → MovesFront gives given mid new → InPart (Told gives old new) (told_of p (e ∷ events))
+told-front gives p events e sent lines given old mid new prepared is before f = (
+  told_of p events ++ f.front,
+  (
+    (f.back, ap (λ (l : List ℕ). told_of p events ++ l) (sym (lines-of p events e sent lines prepared) ∙ sym is ∙ f.parts) ∙ sym (append_assoc (told_of p events) f.front f.back)),
+    told-more gives (told_of p events) f.front old mid new before f.moves,
+  ),
+)
+
+-- ---- in part
+
+-- all of the lines
+pub told-all : (tells : List ℕ → Type 0) (bytes : List ℕ) → tells bytes → InPart tells bytes
+told-all tells bytes t = (bytes, (([], sym (append-nil bytes)), t))
+
+-- and more are due
+pub part-more : (tells : List ℕ → Type 0) (bytes more : List ℕ) → InPart tells bytes → InPart tells (bytes ++ more)
+part-more tells bytes more t = (t.0, ((t.1.0.0 ++ more, ap (λ (l : List ℕ). l ++ more) t.1.0.1 ∙ append_assoc t.0 t.1.0.0 more), t.1.1))
