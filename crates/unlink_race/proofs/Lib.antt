@@ -5,6 +5,7 @@ pub mod Dealing
 pub mod Earliest
 pub mod Found
 pub mod Halving
+pub mod Held
 pub mod Ids
 pub mod Indexes
 pub mod Lanes

@@ -1,6 +1,7 @@
 -- What `Lives` is seen as: the requests of the present client, and those that a former client left with the
 -- host, each in order of acceptance. A client comes only once nothing is left of the former.
-use Rattle.std.specs.Prelude.{◌≡◌, ◌⊎◌, List, [], filter}
+use Rattle.std.specs.Prelude.{◌≡◌, ◌⊎◌, ◌++◌, ◌-◌, ℕ, List, [], length, filter, nat_lt, if◌then◌else◌}
+use Rattle.std.specs.List.{remove}
 use Rattle.unlink_race.specs.declared.live.Live.{Live}
 use Rattle.unlink_race.specs.Searches.{goes_by_id}
 
@@ -13,6 +14,16 @@ no_requests = record { live = []; abandoned = [] }
 
 abbrev pub OneIsEmpty : Requests → Type 0
 OneIsEmpty r = (r.live ≡ []) ⊎ (r.abandoned ≡ [])
+
+-- those in flight, whichever client sent them: a request's place is counted over both lists
+abbrev pub in_flight : Requests → List Live
+in_flight r = r.live ++ r.abandoned
+
+-- without the one at a place
+abbrev pub without_at : ℕ → Requests → Requests
+without_at place r =
+    if nat_lt place (length r.live) then record r { live = remove r.live place }
+    else record r { abandoned = remove r.abandoned (place - length r.live) }
 
 -- the client goes: the host still has the requests that went by id, and those that waited for a stream are no more
 abbrev pub left_behind : Requests → Requests

@@ -1,14 +1,15 @@
 //! The requests in flight.
 
-ghost use Rattle.std.specs.Prelude.{◌≡◌, ◌≤◌, ◌||◌, ◌-◌, not, [], ◌∷◌, ◌++◌, length, filter, take, drop, replicate, slice_get, option_copied, IfOk, OnOk, OnErr};
-ghost use Rattle.std.specs.List.{find, list_any};
+ghost use Rattle.std.specs.Prelude.{◌≡◌, ◌<◌, ◌≤◌, ◌||◌, ◌-◌, not, [], ◌∷◌, ◌++◌, length, filter, take, drop, replicate, slice_get, slice_set, option_copied, IfOk, OnOk, OnErr, Some};
+ghost use Rattle.std.specs.List.{find, position, list_any};
 ghost use Rattle.std.specs.Result.{result_err};
 ghost use Rattle.urb_arena.specs.Seen.{seen};
+ghost use Rattle.unlink_race.specs.declared.live.Live.{Live};
 ghost use Rattle.unlink_race.specs.Firsts.{without_first};
 ghost use Rattle.unlink_race.specs.Searches.{has_number, has_id, waits_for, touched_by, ended_by, changes};
-ghost use Rattle.unlink_race.specs.Requests.{no_requests, left_behind, OneIsEmpty};
+ghost use Rattle.unlink_race.specs.Requests.{no_requests, in_flight, without_at, left_behind, OneIsEmpty};
 ghost use Rattle.unlink_race.specs.Accepting.{refusal_of};
-ghost use Rattle.unlink_race.specs.Unlinking.{told_of, left_by};
+ghost use Rattle.unlink_race.specs.Unlinking.{told_of, left_by, unlinked_by};
 
 use crate::live::{Live, StreamEnd};
 use crate::table::{LANES, Table};
@@ -142,6 +143,48 @@ impl Lives {
         } else {
             None
         }
+    }
+
+    /// Where the wire or route request with an id stands among those in flight, live or abandoned.
+    pub fn place_of_id(&self, id: u64) -> Option<usize>
+        ensures { result ≡ position (has_id id) (in_flight self.now) }
+    {
+        self.table.place_of_id(id)
+    }
+
+    /// Where the live request with a number stands.
+    pub fn place_of_number(&self, seqnum: u32) -> Option<usize>
+        ensures { result ≡ position (has_number seqnum) self.now.live }
+    {
+        if self.client_gone {
+            return None;
+        }
+        self.table.place_of_number(seqnum)
+    }
+
+    /// The request at a place among those in flight, live or abandoned.
+    pub fn held_at(&self, place: usize) -> &Live
+        requires { place < length (in_flight self.now) }
+        ensures { slice_get (in_flight self.now) place ≡ Some result.now }
+    {
+        self.table.at(place)
+    }
+
+    /// Takes it out.
+    pub fn finish_at(&mut self, place: usize) -> Live
+        requires { place < length (in_flight self.old) }
+        ensures found { slice_get (in_flight self.old) place ≡ Some result }
+        ensures rest { self.new ≡ without_at place self.old }
+    {
+        self.table.remove(place)
+    }
+
+    /// The unlink with the number `by` asks for the live request at a place.
+    pub fn mark_at(&mut self, place: usize, by: u32)
+        requires { place < length self.old.live }
+        ensures { (live : Live) → slice_get self.old.live place ≡ Some live → self.new ≡ record self.old { live = slice_set self.old.live place (unlinked_by by live) } }
+    {
+        self.table.mark(place, by);
     }
 
     /// An unlink of the request with the number `target`; `by` is the unlink's own. It takes out a stream request,

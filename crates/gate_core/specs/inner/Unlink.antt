@@ -70,13 +70,6 @@ is_late (Cancel id) = false
 is_late Waits = false
 is_late Taken = false
 
--- the unlink waits for its target's answer
-abbrev pub is_kept : Asked → Bool
-is_kept Late = false
-is_kept (Cancel id) = true
-is_kept Waits = true
-is_kept Taken = false
-
 -- so many are taken back
 abbrev pub taken_count : Asked → ℕ
 taken_count Late = 0

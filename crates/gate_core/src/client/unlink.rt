@@ -1,7 +1,7 @@
 //! What becomes of a client's unlinks.
 
-ghost use Rattle.std.specs.Prelude.{◌≡◌, ◌++◌, ℕ, List, None, Some, true, false, OnOk, OnErr, IfSome};
-ghost use Rattle.std.specs.List.{find, flat_map};
+ghost use Rattle.std.specs.Prelude.{◌≡◌, ◌<◌, ◌++◌, ℕ, List, None, Some, false, length, slice_get, OnOk, OnErr, IfSome};
+ghost use Rattle.std.specs.List.{position, flat_map};
 ghost use Rattle.usbip_urb.specs.declared.packet.UrbPacket.TheVariants.{Unlink as UnlinkPacket};
 ghost use Rattle.usbip_urb.specs.Spelling.{spelling};
 ghost use Rattle.redir_wire.specs.Header.{IdFits};
@@ -12,7 +12,7 @@ ghost use Rattle.gate_history.specs.state.Flight.{wide_ids};
 ghost use Rattle.gate_history.specs.state.State.{State};
 ghost use Rattle.gate_history.specs.step.Meaning.{mark_as, urb_meaning};
 ghost use Rattle.gate_history.specs.state.Sound.{IsSound};
-ghost use Rattle.gate_core.specs.inner.Unlink.{asked_of, is_kept, CancelFits, HasMarked, HasTakenBack};
+ghost use Rattle.gate_core.specs.inner.Unlink.{asked_of, CancelFits, HasMarked, HasTakenBack};
 ghost use Rattle.gate_core.specs.inner.Holds.{IsKept, Holds, Does, Leaves};
 
 use crate::state::kept::Kept;
@@ -73,54 +73,57 @@ impl Kept {
         ensures err { OnErr result (Leaves self.old self.new to_client.old to_client.new to_host.old to_host.new notes.old notes.new) }
     {
         notes.push(Note::UnlinkAsked { by, target })?;
-        match self.asked(target) {
+        let Some(at) = self.lives.place_of_number(target) else {
+            return write_ret_unlink(by, 0, to_client);
+        };
+        match self.asked(at) {
             Asked::Late => write_ret_unlink(by, 0, to_client),
             Asked::Cancel(id) => {
                 write_cancel(id, self.caps, to_host)?;
-                self.mark(target, by);
+                self.mark(at, by);
                 Ok(())
             }
             Asked::Waits => {
-                self.mark(target, by);
+                self.mark(at, by);
                 Ok(())
             }
             Asked::Taken => {
                 write_ret_unlink(by, ECONNRESET, to_client)?;
-                self.take_back(target);
+                self.take_back(at);
                 Ok(())
             }
         }
     }
 
-    /// Keeps the unlink `by` of a submit that no other asked for.
-    fn mark(&mut self, target: u32, by: u32)
+    /// Keeps the unlink `by` of the submit at a place.
+    fn mark(&mut self, at: usize, by: u32)
         requires kept { IsKept self.old }
-        requires first { is_kept (asked_of (find (has_number target) self.old.lives.live)) ≡ true }
+        requires there { (target : ℕ) × (position (has_number target) self.old.lives.live ≡ Some at) }
         ensures kept { IsKept self.new }
-        ensures marked { HasMarked target by self.old self.new }
+        ensures marked { (target : ℕ) → position (has_number target) self.old.lives.live ≡ Some at → HasMarked target by self.old self.new }
     {
-        self.lives.unlink(target, by);
+        self.lives.mark_at(at, by);
     }
 
-    /// A submit is no more, and its unlink answered so.
-    fn take_back(&mut self, target: u32)
+    /// The submit at a place is no more, and its unlink answered so.
+    fn take_back(&mut self, at: usize)
         requires kept { IsKept self.old }
+        requires there { (target : ℕ) × (position (has_number target) self.old.lives.live ≡ Some at) }
         ensures kept { IsKept self.new }
-        ensures taken { HasTakenBack target self.old self.new }
+        ensures taken { (target : ℕ) → position (has_number target) self.old.lives.live ≡ Some at → HasTakenBack target self.old self.new }
     {
-        self.lives.finish_number(target);
+        self.lives.finish_at(at);
         self.unlinked = self.unlinked.saturating_add(1);
     }
 
-    /// What an unlink of this submit is told.
-    fn asked(&self, target: u32) -> Asked
+    /// What an unlink of the submit at a place is told.
+    fn asked(&self, at: usize) -> Asked
         requires kept { IsKept self.now }
-        ensures value { result ≡ asked_of (find (has_number target) self.now.lives.live) }
+        requires there { at < length self.now.lives.live }
+        ensures value { result ≡ asked_of (slice_get self.now.lives.live at) }
         ensures fits { CancelFits self.now.caps result }
     {
-        let Some(live) = self.lives.find_number(target) else {
-            return Asked::Late;
-        };
+        let live = self.lives.at(at).unwrap();
         match (live.kind, live.unlinker) {
             (LiveKind::Stream { .. }, _) => Asked::Taken,
             (LiveKind::Wire { .. }, None) => Asked::Cancel(live.id),

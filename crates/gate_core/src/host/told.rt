@@ -1,12 +1,13 @@
 //! What becomes of the host's packets.
 
-ghost use Rattle.std.specs.Prelude.{◌≡◌, ◌⊎◌, ◌++◌, ℕ, List, Some, None, ◌∷◌, false, if◌then◌else◌, option_map, option_copied, IfSome, OnOk, OnErr};
-ghost use Rattle.std.specs.List.{find};
-ghost use Rattle.std.specs.Option.{option_and_then, option_or};
+ghost use Rattle.std.specs.Prelude.{◌≡◌, ◌⊎◌, ◌++◌, ◌<◌, ℕ, List, Some, None, ◌∷◌, false, if◌then◌else◌, length, option_map, slice_get, IfSome, OnOk, OnErr};
+ghost use Rattle.std.specs.List.{find, position};
 ghost use Rattle.usb_base.specs.declared.side.Side.TheVariants.{Host};
 ghost use Rattle.redir_wire.specs.Capability.{announced, caps_of, agreed};
 ghost use Rattle.redir_wire.specs.Header.{head_size};
 ghost use Rattle.redir_data.specs.declared.packet.RedirPacket.TheVariants.{Plain, Carrying};
+ghost use Rattle.unlink_race.specs.declared.live.Live.{Live};
+ghost use Rattle.unlink_race.specs.Requests.{in_flight};
 ghost use Rattle.unlink_race.specs.Searches.{has_id};
 ghost use Rattle.gate_history.specs.step.Items.{capped};
 ghost use Rattle.gate_history.specs.step.Marks.{StreamTold};
@@ -32,7 +33,6 @@ use gate_parts::{
 };
 use redir_data::{RedirData, RedirPacket};
 use redir_wire::{ANNOUNCED, Caps, Header, Hello, RedirControl};
-use unlink_race::Live;
 use usb_base::{Bytes, Memory, Refusal, UsbStatus};
 
 impl Kept {
@@ -225,53 +225,54 @@ impl Kept {
         ensures err { (host : List ℕ) → OnErr result (Leaves self.old self.new to_client.old to_client.new host host notes.old notes.new) }
         ensures wants { (st : State) (at : ℕ) → place ≡ capped at → Holds self.old st → IsSound st → OnErr result (GivesSome st (mark_as st (by_response st at header.now (Some (response_view response))) None)) }
     {
-        if let Some(refusal) = self.mismatch_of(place, header, &response) {
+        let Some(at) = self.lives.place_of_id(header.id) else {
+            return Ok(());
+        };
+        if let Some(refusal) = self.mismatch_of(at, place, header, &response) {
             return self.refuse_host(refusal, to_client, notes);
         }
-        self.complete(header.id, response, to_client, notes)
+        self.complete(at, response, to_client, notes)
     }
 
-    /// What is wrong of an answer, if a request waits for it.
-    fn mismatch_of(&self, place: u64, header: &Header, response: &Response) -> Option<Refusal>
-        ensures value { result ≡ option_and_then (λ l. row_mismatch place (head_size (wide_ids self.now.caps)) l header.now.kind (response_view response.now)) (option_or (find (has_id header.now.id) self.now.lives.live) (find (has_id header.now.id) self.now.lives.abandoned)) }
+    /// What is wrong of an answer of the request in flight at a place, whether its client is there or gone.
+    fn mismatch_of(
+        &self,
+        at: usize,
+        place: u64,
+        header: &Header,
+        response: &Response,
+    ) -> Option<Refusal>
+        requires { at < length (in_flight self.now.lives) }
+        ensures value { (l : Live) → slice_get (in_flight self.now.lives) at ≡ Some l → result ≡ row_mismatch place (head_size (wide_ids self.now.caps)) l header.now.kind (response_view response.now) }
         ensures side { IfSome result (λ refusal. refusal.side ≡ Host) }
     {
-        let live = self.waiting(header.id)?;
+        let live = self.lives.held_at(at);
         mismatch(place, head_size(self.caps), live, header.kind, response)
     }
 
-    /// The request that waits for the answer with this id, whether its client is there or gone.
-    fn waiting(&self, id: u64) -> Option<&Live>
-        ensures { option_copied result ≡ option_or (find (has_id id) self.now.lives.live) (find (has_id id) self.now.lives.abandoned) }
-    {
-        match self.lives.find(id) {
-            Some(live) => Some(live),
-            None => self.lives.find_abandoned(id),
-        }
-    }
-
-    /// The request that has this id ends by its answer. Of one whose client is gone nothing is sent.
+    /// The request in flight at a place ends by its answer. Of one whose client is gone nothing is sent.
     fn complete(
         &mut self,
-        id: u64,
+        at: usize,
         response: Response,
         to_client: &mut Bytes,
         notes: &mut Notes,
     ) -> Result<(), Memory>
         requires kept { IsKept self.old }
-        requires fits { IfSome (find (has_id id) self.old.lives.live) (λ l. IsAnswer l (response_view response)) }
+        requires there { at < length (in_flight self.old.lives) }
+        requires fits { IfSome (slice_get self.old.lives.live at) (λ l. IsAnswer l (response_view response)) }
         ensures kept { IsKept self.new }
-        ensures ok { (st : State) (host : List ℕ) → Holds self.old st → IsSound st
+        ensures ok { (st : State) (host : List ℕ) (id : ℕ) → position (has_id id) (in_flight self.old.lives) ≡ Some at → Holds self.old st → IsSound st
             → OnOk result (Does st (mark_as st (completes id (response_view response) (find (submit_has_id id) (submits st ++ st.abandoned))) None) self.old self.new to_client.old to_client.new host host notes.old notes.new) }
         ensures err { (host : List ℕ) → OnErr result (Leaves self.old self.new to_client.old to_client.new host host notes.old notes.new) }
-        ensures wants { (st : State) → Holds self.old st → IsSound st → OnErr result (GivesSome st (mark_as st (completes id (response_view response) (find (submit_has_id id) (submits st ++ st.abandoned))) None)) }
+        ensures wants { (st : State) (id : ℕ) → position (has_id id) (in_flight self.old.lives) ≡ Some at → Holds self.old st → IsSound st → OnErr result (GivesSome st (mark_as st (completes id (response_view response) (find (submit_has_id id) (submits st ++ st.abandoned))) None)) }
     {
-        let Some(live) = self.lives.find(id) else {
-            self.lives.finish_abandoned(id);
+        let Some(live) = self.lives.at(at) else {
+            self.lives.finish_at(at);
             return Ok(());
         };
         let won = write_completed(self.alloc, live, response, to_client, notes)?;
-        self.lives.finish(id);
+        self.lives.finish_at(at);
         self.answered = self.answered.saturating_add(u64::from(!won));
         self.unlinked = self.unlinked.saturating_add(u64::from(won));
         Ok(())

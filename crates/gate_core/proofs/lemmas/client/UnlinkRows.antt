@@ -2,8 +2,7 @@
 use Rattle.std.proofs.Common.{◌≡◌, ℕ, suc, ◌≤◌, ◌==◌, ◌&&◌, ◌||◌, Bool, true, false, cond, not, List, [], ◌∷◌, ◌++◌, length, map, Option, Some, None, refl, sym, ap, subst, ◌∙◌, inl, inr, arith}
 use Rattle.std.specs.Prelude.{filter, is_none}
 use Rattle.std.specs.List.{find, list_any, flat_map}
-use Rattle.std.proofs.lemmas.Bool.{cases_Bool, false≢true}
-use Rattle.std.proofs.lemmas.Option.{none-some, same_Some}
+use Rattle.std.proofs.lemmas.Bool.{cases_Bool}
 use Rattle.std.proofs.lemmas.List.{append-nil}
 use Rattle.redir_wire.specs.declared.packet.Caps.{Caps}
 use Rattle.redir_wire.specs.declared.packet.RedirControl.TheVariants as plain
@@ -13,7 +12,7 @@ use Rattle.unlink_race.specs.declared.live.LiveKind.{LiveKind}
 use Rattle.unlink_race.specs.declared.live.LiveKind.TheVariants as live_kind
 use Rattle.unlink_race.specs.Searches.{is_stream, goes_by_id, has_number}
 use Rattle.unlink_race.specs.Firsts.{without_first, change_first}
-use Rattle.unlink_race.specs.Unlinking.{unlinked_by, left_by, left_live}
+use Rattle.unlink_race.specs.Unlinking.{unlinked_by}
 use Rattle.gate_core.specs.declared.client.unlink.Asked.{Asked}
 use Rattle.gate_core.specs.declared.client.unlink.Asked.TheVariants.{Late, Cancel, Waits, Taken}
 use Rattle.gate_history.specs.state.Sides.{or_else}
@@ -24,7 +23,7 @@ use Rattle.gate_history.proofs.lemmas.step.NoCancel.{or_else-none}
 use Rattle.usbip_urb.specs.Spelling.{spelling}
 use Rattle.gate_history.specs.write.Errno.{econnreset}
 use Rattle.gate_history.specs.write.Answers.{ret_unlink}
-use Rattle.gate_core.specs.inner.Unlink.{asked_kind, asked_of, asked_row, is_target_row, is_taken_row, cancel_row, asked_rows, left_told, is_late, is_kept, taken_count, taken_bytes, told_bytes}
+use Rattle.gate_core.specs.inner.Unlink.{asked_kind, asked_of, asked_row, is_target_row, is_taken_row, cancel_row, asked_rows, left_told, is_late, taken_count, taken_bytes, told_bytes}
 
 module _ (caps : Caps) (target by : ℕ) where
   -- it is marked, or taken out
@@ -147,14 +146,6 @@ module _ (caps : Caps) (target by : ℕ) where
 
 -- ---- lists
 
-pub each-found : {X : Type 0} (P : X → Type 0) (test : X → Bool) (xs : List X) (x : X) → Each P xs → find test xs ≡ Some x → P x
-each-found P test [] x h e = absurd (none-some x e)
-each-found P test (y ∷ ys) x h e = go (test y) e (λ k. each-found P test ys x h.1 k)
-  where
-    go : (b : Bool) → cond b (Some y) (find test ys) ≡ Some x → (find test ys ≡ Some x → P x) → P x
-    go true k later = subst P (same_Some y x k) h.0
-    go false k later = later k
-
 pub each-changed : {X : Type 0} (P : X → Type 0) (test : X → Bool) (change : X → X) (xs : List X) → ((x : X) → P x → P (change x)) → Each P xs → Each P (change_first test change xs)
 each-changed P test change [] f h = tt
 each-changed P test change (x ∷ xs) f h = elim (test x) as (λ b. Each P (cond b (change x ∷ xs) (x ∷ change_first test change xs))) [ true ↦ (f x h.0, h.1) | false ↦ (h.0, each-changed P test change xs f h.1) ]
@@ -162,24 +153,3 @@ each-changed P test change (x ∷ xs) f h = elim (test x) as (λ b. Each P (cond
 pub length-changed : {X : Type 0} (test : X → Bool) (change : X → X) (xs : List X) → length (change_first test change xs) ≡ length xs
 length-changed test change [] = refl
 length-changed test change (x ∷ xs) = elim (test x) as (λ b. length (cond b (change x ∷ xs) (x ∷ change_first test change xs)) ≡ suc (length xs)) [ true ↦ refl | false ↦ ap (λ n. suc n) (length-changed test change xs) ]
-
-pub Each-without : {X : Type 0} (P : X → Type 0) (test : X → Bool) (xs : List X) → Each P xs → Each P (without_first test xs)
-Each-without P test [] h = tt
-Each-without P test (x ∷ xs) h = elim (test x) as (λ b. Each P (cond b xs (x ∷ without_first test xs))) [ true ↦ h.1 | false ↦ (h.0, Each-without P test xs h.1) ]
-
-pub length-without : {X : Type 0} (test : X → Bool) (xs : List X) → length (without_first test xs) ≤ length xs
-length-without test [] = omega arith
-length-without test (x ∷ xs) =
-    let rest = length-without test xs in
-    elim (test x) as (λ b. length (cond b xs (x ∷ without_first test xs)) ≤ suc (length xs)) [ true ↦ omega arith | false ↦ omega arith ]
-
-pub first-left : (target by : ℕ) (o : Option Live) (ls : List Live) → is_kept (asked_of o) ≡ true → left_by target by o ls ≡ change_first (has_number target) (unlinked_by by) ls
-first-left target by None ls e = absurd (false≢true e)
-first-left target by (Some l) ls e = of l.unlinker l.kind e
-  where
-    of : (o : Option ℕ) (k : LiveKind) → is_kept (asked_kind k l.id o) ≡ true → left_live target by o k ls ≡ change_first (has_number target) (unlinked_by by) ls
-    of o (live_kind.Stream ep interface) h = absurd (false≢true h)
-    of (Some first) (live_kind.Wire ep kind) h = absurd (false≢true h)
-    of (Some first) (live_kind.Routed route) h = absurd (false≢true h)
-    of None (live_kind.Wire ep kind) h = refl
-    of None (live_kind.Routed route) h = refl

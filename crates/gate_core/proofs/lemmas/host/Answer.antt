@@ -1,7 +1,7 @@
 -- What an answer of the host makes of what is kept, and what it sends and tells.
 use Rattle.std.proofs.Common.{◌≡◌, ℕ, ◌+◌, ◌^◌, ◌-◌, ◌≤◌, ◌&&◌, Bool, true, false, cond, not, eqb, List, [], ◌∷◌, ◌++◌, length, map, Option, Some, None, refl, sym, ap, subst, ◌∙◌, arith, suc}
-use Rattle.std.specs.Prelude.{is_none, unwrap_or, filter, option_map, IfSome}
-use Rattle.std.specs.List.{find, flat_map}
+use Rattle.std.specs.Prelude.{is_none, unwrap_or, filter, option_map, slice_get, IfSome}
+use Rattle.std.specs.List.{find, position, flat_map}
 use Rattle.std.specs.Option.{option_and_then, option_or, option_to_list}
 use Rattle.std.proofs.lemmas.Bool.{false≢true}
 use Rattle.std.proofs.lemmas.List.{append-nil, length-append, length-map}
@@ -24,7 +24,8 @@ use Rattle.redir_data.specs.declared.packet.RedirPacket.TheVariants.{Plain}
 use Rattle.unlink_race.specs.declared.live.Live.{Live}
 use Rattle.unlink_race.specs.Searches.{has_id as has_row_id}
 use Rattle.unlink_race.specs.Firsts.{without_first}
-use Rattle.unlink_race.specs.Requests.{Requests}
+use Rattle.unlink_race.specs.Requests.{Requests, in_flight}
+use Rattle.unlink_race.proofs.Firsts.{took_none}
 use Rattle.gate_history.specs.declared.note.Note.{Note}
 use Rattle.gate_history.specs.declared.note.Note.TheVariants as note
 use Rattle.gate_core.specs.declared.state.kept.Kept.{Kept}
@@ -51,6 +52,7 @@ use Rattle.gate_history.specs.step.Fits.{ResponseFits}
 use Rattle.gate_history.proofs.lemmas.Lists.{Each, every, filter-same, filter-map, flat_map-map}
 use Rattle.gate_history.proofs.lemmas.step.Effects.{answer-left, answer-sent, answer-noted, answer-dropped}
 use Rattle.gate_core.proofs.lemmas.Firsts.{without-first, find-first}
+use Rattle.gate_core.proofs.lemmas.Held.{there-too, each-at}
 use Rattle.gate_core.proofs.lemmas.host.Loss.{capped-same}
 use Rattle.gate_parts.proofs.lemmas.state.Rows.{by_id-row}
 use Rattle.gate_history.specs.step.Wants.{GivesSome}
@@ -71,21 +73,13 @@ find-same : {X : Type 0} (p q : X → Bool) → ((x : X) → p x ≡ q x) → (x
 find-same p q h [] = refl
 find-same {X = X} p q h (x ∷ xs) = λ i. cond (h x i) (Some x) (find-same p q h xs i)
 
-pub without-none : {X : Type 0} (p : X → Bool) (xs : List X) → find p xs ≡ None → without_first p xs ≡ xs
+without-none : {X : Type 0} (p : X → Bool) (xs : List X) → find p xs ≡ None → without_first p xs ≡ xs
 without-none p [] e = refl
 without-none {X = X} p (x ∷ xs) e = of (without-none p xs) (p x) e
   where
     of : (find p xs ≡ None → without_first p xs ≡ xs) → (b : Bool) → cond b (Some x) (find p xs) ≡ None → cond b xs (x ∷ without_first p xs) ≡ x ∷ xs
     of rest true e = absurd (false≢true (ap is_none e))
     of rest false e = ap (λ (l : List X). x ∷ l) (rest e)
-
-pub Each-find : {X : Type 0} (P : X → Type 0) (p : X → Bool) (xs : List X) (x : X) → Each P xs → find p xs ≡ Some x → P x
-Each-find P p [] x h e = absurd (false≢true (sym (ap is_none e)))
-Each-find {X = X} P p (y ∷ ys) x h e = of (λ k. Each-find P p ys x h.1 k) (p y) e
-  where
-    of : (find p ys ≡ Some x → P x) → (b : Bool) → cond b (Some y) (find p ys) ≡ Some x → P x
-    of rest true k = subst P (ap (λ (o : Option X). unwrap_or o y) k) h.0
-    of rest false k = rest k
 
 pub Each-without : {X : Type 0} (P : X → Type 0) (p : X → Bool) (xs : List X) → Each P xs → Each P (without_first p xs)
 Each-without P p [] h = tt
@@ -329,7 +323,7 @@ abbrev pub wrong_of : State → ℕ → Header → Response → Submission → O
 wrong_of st at h response s = mismatch at (head_size (wide_ids st.agreed)) s h.kind response
 
 -- by the row of the request that waits for it, and by its submit
-pub found-wrong : (old : Kept) (st : State) (at place : ℕ) (h : Header) (response : Response) → Holds old st → place ≡ capped at → ResponseFits h.kind (Some response) →
+found-wrong : (old : Kept) (st : State) (at place : ℕ) (h : Header) (response : Response) → Holds old st → place ≡ capped at → ResponseFits h.kind (Some response) →
     option_and_then (λ l. row_mismatch place (head_size (wide_ids old.caps)) l h.kind response) (option_or (find (has_row_id h.id) old.lives.live) (find (has_row_id h.id) old.lives.abandoned))
     ≡ option_and_then (wrong_of st at h response) (find (has_id h.id) (submits st ++ st.abandoned))
 found-wrong old st at place h response holds is fits =
@@ -363,14 +357,40 @@ pub is-completed : (st : State) (at : ℕ) (h : Header) (response : Response) (o
 is-completed st at h response None e = refl
 is-completed st at h response (Some s) e = ap (answered_as h.id (seen s.request s.verdict response)) e
 
+-- by the row that is found
+pub wrong-at : (old : Kept) (st : State) (at place : ℕ) (h : Header) (response : Response) (l : Live) → Holds old st → place ≡ capped at → ResponseFits h.kind (Some response) →
+    find (has_row_id h.id) (in_flight old.lives) ≡ Some l →
+    row_mismatch place (head_size (wide_ids old.caps)) l h.kind response ≡ option_and_then (wrong_of st at h response) (find (has_id h.id) (submits st ++ st.abandoned))
+wrong-at old st at place h response l holds is fits found =
+    ap (option_and_then (λ k. row_mismatch place (head_size (wide_ids old.caps)) k h.kind response)) (sym found ∙ find-append (has_row_id h.id) old.lives.live old.lives.abandoned)
+    ∙ found-wrong old st at place h response holds is fits
+
 -- an answer of which nothing is wrong is that of the live request that waits for it
-pub found-answer : (caps : Caps) (place head id kind : ℕ) (response : Response) (rows : List Live) (left : Option Live) → Each (IsFine caps) rows → ResponseFits kind (Some response) →
-    option_and_then (λ l. row_mismatch place head l kind response) (option_or (find (has_row_id id) rows) left) ≡ None → IfSome (find (has_row_id id) rows) (λ l. IsAnswer l response)
-found-answer caps place head id kind response rows left fine fits e = of (find (has_row_id id) rows) refl e
+pub found-answer : (caps : Caps) (place head kind i : ℕ) (response : Response) (rows left : List Live) (l : Live) → Each (IsFine caps) rows → ResponseFits kind (Some response) →
+    slice_get (rows ++ left) i ≡ Some l → row_mismatch place head l kind response ≡ None → IfSome (slice_get rows i) (λ k. IsAnswer k response)
+found-answer caps place head kind i response rows left l fine fits at right = of (slice_get rows i) refl
   where
-    of : (o : Option Live) → find (has_row_id id) rows ≡ o → option_and_then (λ l. row_mismatch place head l kind response) (option_or o left) ≡ None → IfSome o (λ l. IsAnswer l response)
-    of None is k = tt
-    of (Some l) is k = is-answer caps place head l kind response (Each-find (IsFine caps) (has_row_id id) rows l fine is) fits k
+    of : (o : Option Live) → slice_get rows i ≡ o → IfSome o (λ k. IsAnswer k response)
+    of None is = tt
+    of (Some k) is =
+        let e : Some k ≡ Some l = sym (there-too rows left i k is) ∙ at in
+        let same : k ≡ l = cc in
+        is-answer caps place head k kind response (each-at (IsFine caps) rows i k fine is) fits (ap (λ (x : Live). row_mismatch place head x kind response) same ∙ right)
+
+-- where no row has its id nobody waits for it
+pub nobody : (old : Kept) (st : State) (id : ℕ) → Holds old st → position (has_row_id id) (in_flight old.lives) ≡ None → find (has_id id) (submits st ++ st.abandoned) ≡ None
+nobody old st id h is =
+    let none = none-of (find (has_row_id id) old.lives.live) (find (has_row_id id) old.lives.abandoned)
+    (sym (find-append (has_row_id id) old.lives.live old.lives.abandoned) ∙ sym (took_none (has_row_id id) (in_flight old.lives) is).0) in
+    let live = map-none row (find (pending_has_id id) st.live) (sym (find-rows id st.live) ∙ ap (find (has_row_id id)) (sym h.live) ∙ none.0) in
+    let left = map-none left_row (find (has_id id) st.abandoned)
+    (sym (find-left id st.abandoned) ∙ ap (find (has_row_id id)) (sym h.abandoned) ∙ sym (find-unmarked id old.lives.abandoned) ∙ ap (option_map unmarked) none.1) in
+    find-append (has_id id) (submits st) st.abandoned
+    ∙ (λ i. option_or ((find-map (has_id id) (λ (p : Pending). p.submit) st.live ∙ ap (option_map (λ (p : Pending). p.submit)) live) i) (left i))
+  where
+    none-of : (a b : Option Live) → option_or a b ≡ None → (a ≡ None) × (b ≡ None)
+    none-of None b e = (refl, e)
+    none-of (Some l) b e = let k : Some l ≡ None = e in absurd (cc)
 
 -- ---- a fact that is told with it
 
