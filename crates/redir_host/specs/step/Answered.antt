@@ -31,7 +31,7 @@ use Rattle.redir_host.specs.write.Answers.{answer_by, ended}
 
 -- ---- the requests
 
--- A request of the guest. Its place, how many packets the guest has sent before its own, tells it from others of its id.
+-- A request of the guest. Its place, how many packets the guest has sent before it, tells it from others of its id.
 pub record Placed : Type 0 where
   pub place : ℕ
   pub id : ℕ
@@ -46,6 +46,15 @@ packets (Wrong place reason ∷ xs) = packets xs
 packets (Performs ep ∷ xs) = packets xs
 packets (Offers ep ∷ xs) = packets xs
 packets (Unplugs ∷ xs) = packets xs
+
+-- the device was taken away
+abbrev pub is_gone : List Item → Bool
+is_gone [] = false
+is_gone (Asked id p ∷ xs) = is_gone xs
+is_gone (Wrong place reason ∷ xs) = is_gone xs
+is_gone (Performs ep ∷ xs) = is_gone xs
+is_gone (Offers ep ∷ xs) = is_gone xs
+is_gone (Unplugs ∷ xs) = true
 
 -- what a packet asks that moves no data
 abbrev pub asking_plain : RedirControl → Asking
@@ -202,35 +211,36 @@ by_outcome changes ep waiting (Some o) = record {
   dropped = [];
 }
 
+-- of the first request of the host's queue, with its mark
 abbrev pub by_perform : {S : Type 0} → Meaning S → S → ℕ → List Placed → Option Request → Became
 by_perform m s ep waiting None = stays waiting
 by_perform m s ep waiting (Some q) = by_outcome (all_changes m s q) ep waiting (outcome_of m s q)
 
 -- with the device all that wait are dropped, and so is each that comes later
-abbrev pub becomes : {S : Type 0} → Meaning S → Host S → ℕ → Item → List Placed → Became
-becomes m h place (Asked id p) waiting =
-    if h.unplugged then record { waiting = waiting; answered = []; dropped = request_in place id (asking p) }
+abbrev pub becomes : {S : Type 0} → Meaning S → Host S → Bool → ℕ → Item → List Placed → Became
+becomes m h gone place (Asked id p) waiting =
+    if gone then record { waiting = waiting; answered = []; dropped = request_in place id (asking p) }
     else by_packet place id p waiting
-becomes m h place (Wrong from reason) waiting = stays waiting
-becomes m h place (Performs ep) waiting =
-    if h.unplugged then stays waiting else by_perform m h.gadget ep waiting (find (is_at ep) h.queue)
-becomes m h place (Offers ep) waiting = stays waiting
-becomes m h place Unplugs waiting =
-    if h.unplugged then stays waiting else record { waiting = []; answered = []; dropped = waiting }
+becomes m h gone place (Wrong from reason) waiting = stays waiting
+becomes m h gone place (Performs ep) waiting =
+    if gone then stays waiting else by_perform m h.gadget ep waiting (find (is_at ep) h.queue)
+becomes m h gone place (Offers ep) waiting = stays waiting
+becomes m h gone place Unplugs waiting =
+    if gone then stays waiting else record { waiting = []; answered = []; dropped = waiting }
 
 -- ---- behind all items
 
 abbrev pub waiting : {S : Type 0} → Meaning S → S → List Item → List Placed
 waiting m s [] = []
-waiting m s (x ∷ xs) = (becomes m (run m s xs) (packets xs) x (waiting m s xs)).waiting
+waiting m s (x ∷ xs) = (becomes m (run m s xs) (is_gone xs) (packets xs) x (waiting m s xs)).waiting
 
 abbrev pub answered : {S : Type 0} → Meaning S → S → List Item → List Answered
 answered m s [] = []
-answered m s (x ∷ xs) = answered m s xs ++ (becomes m (run m s xs) (packets xs) x (waiting m s xs)).answered
+answered m s (x ∷ xs) = answered m s xs ++ (becomes m (run m s xs) (is_gone xs) (packets xs) x (waiting m s xs)).answered
 
 abbrev pub dropped : {S : Type 0} → Meaning S → S → List Item → List Placed
 dropped m s [] = []
-dropped m s (x ∷ xs) = dropped m s xs ++ (becomes m (run m s xs) (packets xs) x (waiting m s xs)).dropped
+dropped m s (x ∷ xs) = dropped m s xs ++ (becomes m (run m s xs) (is_gone xs) (packets xs) x (waiting m s xs)).dropped
 
 abbrev pub requests_of : List Answered → List Placed
 requests_of answered = map (λ (a : Answered). a.request) answered

@@ -2,7 +2,7 @@
 use Rattle.std.proofs.Common.{◌≡◌, ℕ, ◌+◌, ◌≤◌, ◌==◌, Bool, true, false, cond, not, List, [], ◌∷◌, ◌++◌, length, filter, map, Some, None, refl, sym, ap, ◌∙◌, arith, length-append, inl, inr}
 use Rattle.std.specs.Prelude.{Option}
 use Rattle.std.specs.List.{find}
-use Rattle.std.proofs.lemmas.Bool.{cases_Bool, eqb-true}
+use Rattle.std.proofs.lemmas.Bool.{cases_Bool, eqb-true, true≢false}
 use Rattle.std.proofs.lemmas.List.{map-append}
 use Rattle.std.proofs.lemmas.List.Elements.{filter-append}
 use Rattle.usb_base.specs.declared.endpoint.EpTable.{EpTable}
@@ -20,7 +20,7 @@ use Rattle.redir_host.specs.declared.request.Request.{Request}
 use Rattle.redir_host.specs.guest.Asking.{asking_of}
 use Rattle.redir_host.specs.guest.Line.{all_changes}
 use Rattle.redir_host.specs.state.Queues.{is_at, without_first}
-use Rattle.redir_host.specs.step.Answered.{Placed, Answered, End, ByDevice, ByCancel, ByChange, Became, packets, asking, asking_plain, request_in, requests, placed, ends, stays, first_such, is_of, is_cancelled, is_placed, by_asking, by_cancel, by_plain, by_packet, is_flushed, is_left, flushed_of, left_of, outcome_of, by_outcome, by_perform, becomes, waiting, answered, dropped, requests_of}
+use Rattle.redir_host.specs.step.Answered.{Placed, Answered, End, ByDevice, ByCancel, ByChange, Became, packets, asking, asking_plain, request_in, requests, placed, ends, stays, first_such, is_of, is_cancelled, is_placed, by_asking, by_cancel, by_plain, by_packet, is_flushed, is_left, flushed_of, left_of, outcome_of, by_outcome, by_perform, becomes, is_gone, waiting, answered, dropped, requests_of}
 use Rattle.redir_host.specs.step.Items.{Item, Asked, Wrong, Performs, Offers, Unplugs}
 use Rattle.redir_host.specs.step.Machine.{run}
 
@@ -117,21 +117,21 @@ abbrev news : ℕ → Item → List Placed
 news place (Asked id p) = request_in place id (asking p)
 news place _ = []
 
-counts-item : {S : Type 0} (test : Placed → Bool) (m : Meaning S) (h : Host S) (place : ℕ) (x : Item) (ws : List Placed) → Counts test (becomes m h place x ws) ws (news place x)
-counts-item test m h place (Asked id p) ws =
+counts-item : {S : Type 0} (test : Placed → Bool) (m : Meaning S) (h : Host S) (out : Bool) (place : ℕ) (x : Item) (ws : List Placed) → Counts test (becomes m h out place x ws) ws (news place x)
+counts-item test m h out place (Asked id p) ws =
     let new = request_in place id (asking p) in
     let gone : Became = record { waiting = ws; answered = []; dropped = new } in
-    elim h.unplugged as (λ (b : Bool). Counts test (cond b gone (by_packet place id p ws)) ws new) [ true ↦ omega arith | false ↦ counts-packet test place id p ws ]
-counts-item test m h place (Wrong from reason) ws = omega arith
-counts-item test m h place (Performs ep) ws =
-    elim h.unplugged as (λ (b : Bool). Counts test (cond b (stays ws) (by_perform m h.gadget ep ws (find (is_at ep) h.queue))) ws []) [
+    elim out as (λ (b : Bool). Counts test (cond b gone (by_packet place id p ws)) ws new) [ true ↦ omega arith | false ↦ counts-packet test place id p ws ]
+counts-item test m h out place (Wrong from reason) ws = omega arith
+counts-item test m h out place (Performs ep) ws =
+    elim out as (λ (b : Bool). Counts test (cond b (stays ws) (by_perform m h.gadget ep ws (find (is_at ep) h.queue))) ws []) [
       | true ↦ omega arith
       | false ↦ counts-perform test m h.gadget ep ws (find (is_at ep) h.queue)
     ]
-counts-item test m h place (Offers ep) ws = omega arith
-counts-item test m h place Unplugs ws =
+counts-item test m h out place (Offers ep) ws = omega arith
+counts-item test m h out place Unplugs ws =
     let gone : Became = record { waiting = []; answered = []; dropped = ws } in
-    elim h.unplugged as (λ (b : Bool). Counts test (cond b (stays ws) gone) ws []) [ true ↦ omega arith | false ↦ omega arith ]
+    elim out as (λ (b : Bool). Counts test (cond b (stays ws) gone) ws []) [ true ↦ omega arith | false ↦ omega arith ]
 
 -- ---- all items
 
@@ -145,8 +145,8 @@ many-new test Unplugs xs = omega arith
 pub all-counted : {S : Type 0} (m : Meaning S) (s : S) (xs : List Item) (test : Placed → Bool) → many test (requests xs) ≡ many test (requests_of (answered m s xs)) + many test (waiting m s xs) + many test (dropped m s xs)
 all-counted m s [] test = refl
 all-counted m s (x ∷ xs) test =
-    let b = becomes m (run m s xs) (packets xs) x (waiting m s xs) in
-    let one = counts-item test m (run m s xs) (packets xs) x (waiting m s xs) in
+    let b = becomes m (run m s xs) (is_gone xs) (packets xs) x (waiting m s xs) in
+    let one = counts-item test m (run m s xs) (is_gone xs) (packets xs) x (waiting m s xs) in
     let new = many-new test x xs in
     let before = all-counted m s xs test in
     let told = ap (many test) (requests-append (answered m s xs) b.answered) in
@@ -209,3 +209,81 @@ placed-once (x ∷ xs) n =
           omega (arith, all, none, one, e)
       | inr other ↦ let e = ap {B = ℕ} (λ (b : Bool). cond b 1 0) other in omega (arith, all, before, one, e)
     ]
+
+-- ---- with the device
+
+asking-drops-none : (place id : ℕ) (a : Asking) (ws : List Placed) → (by_asking place id a ws).dropped ≡ []
+asking-drops-none place id Nothing ws = refl
+asking-drops-none place id (Refuses f ep) ws = refl
+asking-drops-none place id (Asks f t) ws = refl
+
+plain-drops-none : (place id : ℕ) (p : RedirControl) (ws : List Placed) → (by_plain place id p ws).dropped ≡ []
+plain-drops-none place id plain.Cancel ws = refl
+plain-drops-none place id p ws = asking-drops-none place id (asking_plain p) ws
+
+packet-drops-none : (place id : ℕ) (p : RedirPacket) (ws : List Placed) → (by_packet place id p ws).dropped ≡ []
+packet-drops-none place id (Plain p) ws = plain-drops-none place id p ws
+packet-drops-none place id (Carrying d) ws = asking-drops-none place id (asking_of d) ws
+
+outcome-drops-none : (cs : List (Route × EpTable)) (ep : ℕ) (ws : List Placed) (o : Option (ℕ × Outcome)) → (by_outcome cs ep ws o).dropped ≡ []
+outcome-drops-none cs ep ws None = refl
+outcome-drops-none cs ep ws (Some o) = refl
+
+perform-drops-none : {S : Type 0} (m : Meaning S) (s : S) (ep : ℕ) (ws : List Placed) (o : Option Request) → (by_perform m s ep ws o).dropped ≡ []
+perform-drops-none m s ep ws None = refl
+perform-drops-none m s ep ws (Some q) = outcome-drops-none (all_changes m s q) ep ws (outcome_of m s q)
+
+item-drops-none : {S : Type 0} (m : Meaning S) (h : Host S) (place : ℕ) (x : Item) (xs : List Item) (ws : List Placed) → is_gone (x ∷ xs) ≡ false → (becomes m h false place x ws).dropped ≡ []
+item-drops-none m h place (Asked id p) xs ws there = packet-drops-none place id p ws
+item-drops-none m h place (Wrong from reason) xs ws there = refl
+item-drops-none m h place (Performs ep) xs ws there = perform-drops-none m h.gadget ep ws (find (is_at ep) h.queue)
+item-drops-none m h place (Offers ep) xs ws there = refl
+item-drops-none m h place Unplugs xs ws there = absurd cc
+
+there-before : (x : Item) (xs : List Item) → is_gone (x ∷ xs) ≡ false → is_gone xs ≡ false
+there-before (Asked id p) xs there = there
+there-before (Wrong from reason) xs there = there
+there-before (Performs ep) xs there = there
+there-before (Offers ep) xs there = there
+there-before Unplugs xs there = absurd cc
+
+pub none-dropped : {S : Type 0} (m : Meaning S) (s : S) (xs : List Item) → is_gone xs ≡ false → dropped m s xs ≡ []
+none-dropped m s [] there = refl
+none-dropped m s (x ∷ xs) there =
+    let h = run m s xs in
+    let ws = waiting m s xs in
+    let before = there-before x xs there in
+    (λ i. none-dropped m s xs before i ++ (becomes m h (before i) (packets xs) x ws).dropped)
+    ∙ item-drops-none m h (packets xs) x xs ws there
+
+gone-waits : {S : Type 0} (m : Meaning S) (h : Host S) (place : ℕ) (x : Item) (ws : List Placed) → (becomes m h true place x ws).waiting ≡ ws
+gone-waits m h place (Asked id p) ws = refl
+gone-waits m h place (Wrong from reason) ws = refl
+gone-waits m h place (Performs ep) ws = refl
+gone-waits m h place (Offers ep) ws = refl
+gone-waits m h place Unplugs ws = refl
+
+goes-now : {S : Type 0} (m : Meaning S) (h : Host S) (place : ℕ) (x : Item) (xs : List Item) (ws : List Placed) → is_gone (x ∷ xs) ≡ true → is_gone xs ≡ false → (becomes m h false place x ws).waiting ≡ []
+goes-now m h place (Asked id p) xs ws out there = absurd (true≢false (sym out ∙ there))
+goes-now m h place (Wrong from reason) xs ws out there = absurd (true≢false (sym out ∙ there))
+goes-now m h place (Performs ep) xs ws out there = absurd (true≢false (sym out ∙ there))
+goes-now m h place (Offers ep) xs ws out there = absurd (true≢false (sym out ∙ there))
+goes-now m h place Unplugs xs ws out there = refl
+
+pub none-waiting : {S : Type 0} (m : Meaning S) (s : S) (xs : List Item) → is_gone xs ≡ true → waiting m s xs ≡ []
+none-waiting m s [] out = refl
+none-waiting m s (x ∷ xs) out =
+    let h = run m s xs in
+    let ws = waiting m s xs in
+    elim (cases_Bool (is_gone xs)) [
+      | inl before ↦ (λ i. (becomes m h (before i) (packets xs) x ws).waiting) ∙ gone-waits m h (packets xs) x ws ∙ none-waiting m s xs before
+      | inr there ↦ (λ i. (becomes m h (there i) (packets xs) x ws).waiting) ∙ goes-now m h (packets xs) x xs ws out there
+    ]
+
+-- ---- at most once
+
+pub answered-once : {S : Type 0} (m : Meaning S) (s : S) (xs : List Item) (n : ℕ) → many (is_placed n) (requests_of (answered m s xs)) ≤ 1
+answered-once m s xs n =
+    let all = all-counted m s xs (is_placed n) in
+    let one = placed-once xs n in
+    omega (arith, all, one)

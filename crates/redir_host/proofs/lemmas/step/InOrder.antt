@@ -19,7 +19,7 @@ use Rattle.redir_host.specs.declared.request.Request.{Request}
 use Rattle.redir_host.specs.guest.Asking.{asking_of}
 use Rattle.redir_host.specs.guest.Line.{all_changes}
 use Rattle.redir_host.specs.state.Queues.{is_at, queue_of, without_first}
-use Rattle.redir_host.specs.step.Answered.{IsSublist, Placed, Answered, ByDevice, ByCancel, ByChange, Became, packets, asking, asking_plain, request_in, requests, placed, ends, stays, first_such, is_of, is_cancelled, is_performed, by_asking, by_cancel, by_plain, by_packet, is_left, flushed_of, left_of, outcome_of, by_outcome, by_perform, becomes, waiting, answered, requests_of, performed_of}
+use Rattle.redir_host.specs.step.Answered.{IsSublist, Placed, Answered, ByDevice, ByCancel, ByChange, Became, packets, asking, asking_plain, request_in, requests, placed, ends, stays, first_such, is_of, is_cancelled, is_performed, by_asking, by_cancel, by_plain, by_packet, is_left, flushed_of, left_of, outcome_of, by_outcome, by_perform, becomes, is_gone, waiting, answered, requests_of, performed_of}
 use Rattle.redir_host.specs.step.Items.{Item, Asked, Wrong, Performs, Offers, Unplugs}
 use Rattle.redir_host.specs.step.Machine.{run}
 use Rattle.redir_host.proofs.lemmas.step.Counted.{requests-append}
@@ -204,21 +204,21 @@ abbrev news : ℕ → Item → List Placed
 news place (Asked id p) = request_in place id (asking p)
 news place _ = []
 
-keeps-item : {S : Type 0} (e : ℕ) (m : Meaning S) (h : Host S) (place : ℕ) (x : Item) (ws : List Placed) → Keeps e (becomes m h place x ws) ws (news place x)
-keeps-item e m h place (Asked id p) ws =
+keeps-item : {S : Type 0} (e : ℕ) (m : Meaning S) (h : Host S) (out : Bool) (place : ℕ) (x : Item) (ws : List Placed) → Keeps e (becomes m h out place x ws) ws (news place x)
+keeps-item e m h out place (Asked id p) ws =
     let new = request_in place id (asking p) in
     let gone : Became = record { waiting = ws; answered = []; dropped = new } in
-    elim h.unplugged as (λ (b : Bool). Keeps e (cond b gone (by_packet place id p ws)) ws new) [ true ↦ keeps-same e ws new | false ↦ keeps-packet e place id p ws ]
-keeps-item e m h place (Wrong from reason) ws = keeps-same e ws []
-keeps-item e m h place (Performs ep) ws =
-    elim h.unplugged as (λ (b : Bool). Keeps e (cond b (stays ws) (by_perform m h.gadget ep ws (find (is_at ep) h.queue))) ws []) [
+    elim out as (λ (b : Bool). Keeps e (cond b gone (by_packet place id p ws)) ws new) [ true ↦ keeps-same e ws new | false ↦ keeps-packet e place id p ws ]
+keeps-item e m h out place (Wrong from reason) ws = keeps-same e ws []
+keeps-item e m h out place (Performs ep) ws =
+    elim out as (λ (b : Bool). Keeps e (cond b (stays ws) (by_perform m h.gadget ep ws (find (is_at ep) h.queue))) ws []) [
       | true ↦ keeps-same e ws []
       | false ↦ keeps-perform e m h.gadget ep ws (find (is_at ep) h.queue)
     ]
-keeps-item e m h place (Offers ep) ws = keeps-same e ws []
-keeps-item e m h place Unplugs ws =
+keeps-item e m h out place (Offers ep) ws = keeps-same e ws []
+keeps-item e m h out place Unplugs ws =
     let gone : Became = record { waiting = []; answered = []; dropped = ws } in
-    elim h.unplugged as (λ (b : Bool). Keeps e (cond b (stays ws) gone) ws []) [ true ↦ keeps-same e ws [] | false ↦ tt ]
+    elim out as (λ (b : Bool). Keeps e (cond b (stays ws) gone) ws []) [ true ↦ keeps-same e ws [] | false ↦ tt ]
 
 -- ---- all items
 
@@ -234,13 +234,13 @@ in-order m s e [] = tt
 in-order m s e (x ∷ xs) =
     let of = is_of e in
     let before = waiting m s xs in
-    let b = becomes m (run m s xs) (packets xs) x before in
+    let b = becomes m (run m s xs) (is_gone xs) (packets xs) x before in
     let new = filter of (news (packets xs) x) in
     let done = filter of (performed_of (answered m s xs)) in
     let now = filter of (performed_of b.answered) in
     let left = filter of b.waiting in
     let told : filter of (performed_of (answered m s xs ++ b.answered)) ≡ done ++ now = ap (filter of) (performed-append (answered m s xs) b.answered) ∙ filter-append of (performed_of (answered m s xs)) (performed_of b.answered) in
-    let one = sub-front done (now ++ left) (filter of before ++ new) (keeps-item e m (run m s xs) (packets xs) x before) in
+    let one = sub-front done (now ++ left) (filter of before ++ new) (keeps-item e m (run m s xs) (is_gone xs) (packets xs) x before) in
     let all = sub-both (done ++ filter of before) (filter of (requests xs)) new (in-order m s e xs) in
     let both = sub-of (done ++ (now ++ left)) (done ++ (filter of before ++ new)) (filter of (requests xs) ++ new) one
     (subst (λ (ps : List Placed). IsSublist ps (filter of (requests xs) ++ new)) (append_assoc done (filter of before) new) all) in

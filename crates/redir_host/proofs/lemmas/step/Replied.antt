@@ -42,7 +42,7 @@ use Rattle.redir_host.specs.guest.Line.{changes_by, changes_of, request_changes,
 use Rattle.redir_host.specs.guest.Packets.{can_start, cancel_move, data_move, packet_move_by, plain_move, runs_at, start_move, stopped}
 use Rattle.redir_host.specs.state.Queues.{after_cancel, is_at, is_cancelled_by, is_data, is_first_queue, queue_of, with_first_marked, without_first}
 use Rattle.redir_host.specs.state.Sound.{Each}
-use Rattle.redir_host.specs.step.Answered.{Placed, Answered, ByDevice, ByCancel, ByChange, Became, packets, asking_plain, request_in, asking, placed, ends, stays, first_such, is_of, is_answer, is_cancelled, answer_of, answers_sent, by_asking, by_cancel, by_plain, by_packet, is_flushed, is_left, flushed_of, left_of, came_of, came_behind, came_marked, outcome_of, by_outcome, by_perform, becomes, waiting, answered, told_request, told_placed}
+use Rattle.redir_host.specs.step.Answered.{Placed, Answered, ByDevice, ByCancel, ByChange, Became, packets, asking_plain, request_in, asking, placed, ends, stays, first_such, is_of, is_answer, is_cancelled, answer_of, answers_sent, by_asking, by_cancel, by_plain, by_packet, is_flushed, is_left, flushed_of, left_of, came_of, came_behind, came_marked, outcome_of, by_outcome, by_perform, becomes, is_gone, waiting, answered, told_request, told_placed}
 use Rattle.redir_host.specs.step.Items.{Item, Asked, Wrong, Performs, Offers, Unplugs}
 use Rattle.redir_host.specs.step.Machine.{move, run, all_given}
 use Rattle.redir_host.specs.step.Moves.{Move, quiet}
@@ -67,13 +67,14 @@ record Same (q : Request) (p : Placed) : Type 0 where
 abbrev IsIn : Running → Type 0
 IsIn s = is_in_endpoint s.ep ≡ true
 
-record Tied {S : Type 0} (h : Host S) (ws : List Placed) : Type 0 where
+record Tied {S : Type 0} (h : Host S) (out : Bool) (ws : List Placed) : Type 0 where
   pub queue : AllZip Same h.queue ws
   pub running : Each IsIn h.running
+  pub gone : h.unplugged ≡ out
 
 -- the move leaves those that wait, and its answers are theirs
-record Gives {S : Type 0} (v : Move S) (b : Became) : Type 0 where
-  pub tied : Tied v.host b.waiting
+record Gives {S : Type 0} (out : Bool) (v : Move S) (b : Became) : Type 0 where
+  pub tied : Tied v.host out b.waiting
   pub sent : filter is_answer v.sent ≡ map answer_of b.answered
 
 same-answer : (q : Request) (p : Placed) → Same q p → (configuration : ℕ) (o : Outcome) → answer configuration q o ≡ (p.id, answer_by configuration p.form p.ep o)
@@ -208,7 +209,7 @@ plain-answers (plain.SetAlt interface alt) = λ id c o. refl
 plain-answers (plain.GetAlt interface) = λ id c o. refl
 plain-answers _ = tt
 
-asked-gives : {S : Type 0} (h : Host S) (ws : List Placed) (place id : ℕ) (a : Asking) → AsksAnswers a → Tied h ws → Gives (data_move h id a) (by_asking place id a ws)
+asked-gives : {S : Type 0} {out : Bool} (h : Host S) (ws : List Placed) (place id : ℕ) (a : Asking) → AsksAnswers a → Tied h out ws → Gives out (data_move h id a) (by_asking place id a ws)
 asked-gives h ws place id Nothing answers is = record { tied = is; sent = refl }
 asked-gives h ws place id (Refuses f ep) answers is = record { tied = is; sent = kept-first (id, answer_by 0 f ep (ended status.Inval)) [] (answers id 0 (ended status.Inval)) }
 asked-gives h ws place id (Asks f t) answers is = record {
@@ -216,25 +217,26 @@ asked-gives h ws place id (Asks f t) answers is = record {
     queue = zip-append h.queue ws (record { id = id; form = f; transfer = t; reset = is_first_queue (record { id = id; form = f; transfer = t; reset = false }) && h.resets_next }) (placed place id f t.ep) is.queue
         (record { id = refl; form = refl; ep = refl; answers = answers });
     running = is.running;
+    gone = is.gone;
   };
   sent = refl;
 }
 
-cancel-gives : {S : Type 0} (h : Host S) (ws : List Placed) (id : ℕ) (o : Option Request) → find (is_cancelled_by id) h.queue ≡ o → FirstOf o (first_such (is_cancelled id) ws) → Tied h ws → Gives (cancel_move h id o) (by_cancel id ws)
+cancel-gives : {S : Type 0} {out : Bool} (h : Host S) (ws : List Placed) (id : ℕ) (o : Option Request) → find (is_cancelled_by id) h.queue ≡ o → FirstOf o (first_such (is_cancelled id) ws) → Tied h out ws → Gives out (cancel_move h id o) (by_cancel id ws)
 cancel-gives h ws id None none first is = record {
-  tied = record { queue = subst (λ (qs : List Request). AllZip Same qs (without_first (is_cancelled id) ws)) (nothing-cancelled id h.queue none).0 (zip-cancelled id h.queue ws is.queue); running = is.running };
+  tied = record { queue = subst (λ (qs : List Request). AllZip Same qs (without_first (is_cancelled id) ws)) (nothing-cancelled id h.queue none).0 (zip-cancelled id h.queue ws is.queue); running = is.running; gone = is.gone };
   sent = sym (ap (λ (ps : List Placed). map answer_of (map (ends ByCancel) ps)) first);
 }
 cancel-gives h ws id (Some q) some first is = record {
-  tied = record { queue = zip-cancelled id h.queue ws is.queue; running = is.running };
+  tied = record { queue = zip-cancelled id h.queue ws is.queue; running = is.running; gone = is.gone };
   sent = kept-first (cancelled q) [] (queue-answers q first.0 first.1.1 q.id 0 (ended status.Cancelled))
       ∙ ap (λ (x : ℕ × RedirPacket). x ∷ []) (same-answer q first.0 first.1.1 0 (ended status.Cancelled))
       ∙ sym (ap (λ (ps : List Placed). map answer_of (map (ends ByCancel) ps)) first.1.0);
 }
 
-start-gives : {S : Type 0} (h : Host S) (ws : List Placed) (id : ℕ) (k : StreamKind) (ep : ℕ) (b : Bool) → (b ≡ true → is_in_endpoint ep ≡ true) → Tied h ws → Gives (start_move b h id k ep) (stays ws)
+start-gives : {S : Type 0} {out : Bool} (h : Host S) (ws : List Placed) (id : ℕ) (k : StreamKind) (ep : ℕ) (b : Bool) → (b ≡ true → is_in_endpoint ep ≡ true) → Tied h out ws → Gives out (start_move b h id k ep) (stays ws)
 start-gives h ws id k ep true into is = record {
-  tied = record { queue = is.queue; running = each_appended IsIn (stopped ep h.running) (record { ep = ep; kind = k }) (each_filtered IsIn (λ s. not (runs_at ep s)) h.running is.running) (into refl) };
+  tied = record { queue = is.queue; running = each_appended IsIn (stopped ep h.running) (record { ep = ep; kind = k }) (each_filtered IsIn (λ s. not (runs_at ep s)) h.running is.running) (into refl); gone = is.gone };
   sent = elim k as (λ (k : StreamKind). filter is_answer ((start_move true h id k ep).sent) ≡ []) [ Iso ↦ refl | Interrupt ↦ refl ];
 }
 start-gives h ws id k ep false into is = record {
@@ -242,43 +244,43 @@ start-gives h ws id k ep false into is = record {
   sent = elim k as (λ (k : StreamKind). filter is_answer ((start_move false h id k ep).sent) ≡ []) [ Iso ↦ refl | Interrupt ↦ refl ];
 }
 
-plain-gives : {S : Type 0} (m : Meaning S) (h : Host S) (ws : List Placed) (place id : ℕ) (p : RedirControl) → Tied h ws → Gives (plain_move m h id p) (by_plain place id p ws)
+plain-gives : {S : Type 0} {out : Bool} (m : Meaning S) (h : Host S) (ws : List Placed) (place id : ℕ) (p : RedirControl) → Tied h out ws → Gives out (plain_move m h id p) (by_plain place id p ws)
 plain-gives m h ws place id (plain.SetConfiguration configuration) is = asked-gives h ws place id (asking_plain (plain.SetConfiguration configuration)) (plain-answers (plain.SetConfiguration configuration)) is
 plain-gives m h ws place id plain.GetConfiguration is = asked-gives h ws place id (asking_plain plain.GetConfiguration) (plain-answers plain.GetConfiguration) is
 plain-gives m h ws place id (plain.SetAlt interface alt) is = asked-gives h ws place id (asking_plain (plain.SetAlt interface alt)) (plain-answers (plain.SetAlt interface alt)) is
 plain-gives m h ws place id (plain.GetAlt interface) is = asked-gives h ws place id (asking_plain (plain.GetAlt interface)) (plain-answers (plain.GetAlt interface)) is
 plain-gives m h ws place id (plain.StartIso ep pkts_per_urb no_urbs) is = start-gives h ws id Iso ep (can_start (m.table h.gadget) Iso ep) (started-in (m.table h.gadget) Iso ep) is
-plain-gives m h ws place id (plain.StopIso ep) is = record { tied = record { queue = is.queue; running = each_filtered IsIn (λ s. not (runs_at ep s)) h.running is.running }; sent = refl }
+plain-gives m h ws place id (plain.StopIso ep) is = record { tied = record { queue = is.queue; running = each_filtered IsIn (λ s. not (runs_at ep s)) h.running is.running; gone = is.gone }; sent = refl }
 plain-gives m h ws place id (plain.StartInterrupt ep) is = start-gives h ws id Interrupt ep (can_start (m.table h.gadget) Interrupt ep) (started-in (m.table h.gadget) Interrupt ep) is
-plain-gives m h ws place id (plain.StopInterrupt ep) is = record { tied = record { queue = is.queue; running = each_filtered IsIn (λ s. not (runs_at ep s)) h.running is.running }; sent = refl }
+plain-gives m h ws place id (plain.StopInterrupt ep) is = record { tied = record { queue = is.queue; running = each_filtered IsIn (λ s. not (runs_at ep s)) h.running is.running; gone = is.gone }; sent = refl }
 plain-gives m h ws place id plain.Cancel is =
     cancel-gives h ws id (find (is_cancelled_by id) h.queue) refl (zip-first (is_cancelled_by id) (is_cancelled id) (same-cancelled id) h.queue ws is.queue) is
-plain-gives m h ws place id plain.Reset is = record { tied = record { queue = is.queue; running = is.running }; sent = refl }
+plain-gives m h ws place id plain.Reset is = record { tied = record { queue = is.queue; running = is.running; gone = is.gone }; sent = refl }
 plain-gives m h ws place id _ is = record { tied = is; sent = refl }
 
-any-gives : {S : Type 0} (m : Meaning S) (h : Host S) (ws : List Placed) (place id : ℕ) (p : RedirPacket) → Tied h ws → Gives (packet_move_by m h id p) (by_packet place id p ws)
+any-gives : {S : Type 0} {out : Bool} (m : Meaning S) (h : Host S) (ws : List Placed) (place id : ℕ) (p : RedirPacket) → Tied h out ws → Gives out (packet_move_by m h id p) (by_packet place id p ws)
 any-gives m h ws place id (Plain p) is = plain-gives m h ws place id p is
 any-gives m h ws place id (Carrying d) is = asked-gives h ws place id (asking_of d) (data-answers d) is
 
-packet-gives : {S : Type 0} (m : Meaning S) (g : Host S) (ws new : List Placed) (place id : ℕ) (p : RedirPacket) (b : Bool) → Tied g ws → Gives (cond b (quiet g) (packet_move_by m g id p)) (cond b (record { waiting = ws; answered = []; dropped = new }) (by_packet place id p ws))
+packet-gives : {S : Type 0} {out : Bool} (m : Meaning S) (g : Host S) (ws new : List Placed) (place id : ℕ) (p : RedirPacket) (b : Bool) → Tied g out ws → Gives out (cond b (quiet g) (packet_move_by m g id p)) (cond b (record { waiting = ws; answered = []; dropped = new }) (by_packet place id p ws))
 packet-gives m g ws new place id p true is = record { tied = is; sent = refl }
 packet-gives m g ws new place id p false is = any-gives m g ws place id p is
 
 -- ---- performs
 
 -- the changes flush those that they touch, and the answer is the last
-record Finished {S : Type 0} (ws : List Placed) (q : Request) (cs : List (Route × EpTable)) (o : ℕ × Outcome) (v : Move S) : Type 0 where
-  pub tied : Tied v.host (left_of cs ws)
+record Finished {S : Type 0} (out : Bool) (ws : List Placed) (q : Request) (cs : List (Route × EpTable)) (o : ℕ × Outcome) (v : Move S) : Type 0 where
+  pub tied : Tied v.host out (left_of cs ws)
   pub sent : filter is_answer v.sent ≡ map answer_of (map (ends ByChange) (flushed_of cs ws)) ++ answer o.0 q o.1 ∷ []
 
-abbrev Finishes : {S : Type 0} → List Placed → Request → List (Route × EpTable) → Option (ℕ × Outcome) → Option (Move S) → Type 0
-Finishes ws q cs None None = Unit {0}
-Finishes ws q cs None (Some v) = ⊥
-Finishes ws q cs (Some o) None = ⊥
-Finishes ws q cs (Some o) (Some v) = Finished ws q cs o v
+abbrev Finishes : {S : Type 0} → Bool → List Placed → Request → List (Route × EpTable) → Option (ℕ × Outcome) → Option (Move S) → Type 0
+Finishes out ws q cs None None = Unit {0}
+Finishes out ws q cs None (Some v) = ⊥
+Finishes out ws q cs (Some o) None = ⊥
+Finishes out ws q cs (Some o) (Some v) = Finished out ws q cs o v
 
-record Flushes {S : Type 0} (ws : List Placed) (cs : List (Route × EpTable)) (v : Move S) : Type 0 where
-  pub tied : Tied v.host (left_of cs ws)
+record Flushes {S : Type 0} (out : Bool) (ws : List Placed) (cs : List (Route × EpTable)) (v : Move S) : Type 0 where
+  pub tied : Tied v.host out (left_of cs ws)
   pub sent : filter is_answer v.sent ≡ map answer_of (map (ends ByChange) (flushed_of cs ws))
 
 abbrev told_flushed : List Placed → List (ℕ × RedirPacket)
@@ -287,14 +289,15 @@ told_flushed ps = map answer_of (map (ends ByChange) ps)
 told-append : (ps qs : List Placed) → told_flushed (ps ++ qs) ≡ told_flushed ps ++ told_flushed qs
 told-append ps qs = ap (λ (xs : List Answered). map answer_of xs) (map-append (ends ByChange) ps qs) ∙ map-append answer_of (map (ends ByChange) ps) (map (ends ByChange) qs)
 
-changed-flushes : {S : Type 0} (m : Meaning S) (r : Route) (table : EpTable) (status : UsbStatus) (h : Host S) (ws : List Placed) → Tied h ws → Flushes ws (changes_by table (Some r) status) (changed m r table (is_success status) h)
-changed-flushes m r table status h ws is = by (is_success status)
+changed-flushes : {S : Type 0} {out : Bool} (m : Meaning S) (r : Route) (table : EpTable) (status : UsbStatus) (h : Host S) (ws : List Placed) → Tied h out ws → Flushes out ws (changes_by table (Some r) status) (changed m r table (is_success status) h)
+changed-flushes {out = out} m r table status h ws is = by (is_success status)
   where
-    by : (b : Bool) → Flushes ws (cond b ((r, table) ∷ []) []) (changed m r table b h)
+    by : (b : Bool) → Flushes out ws (cond b ((r, table) ∷ []) []) (changed m r table b h)
     by true = record {
       tied = record {
         queue = zip-filtered (λ q. not (touched r table q)) (is_left r table) (λ q p same. ap not (same-touched r table q p same)) h.queue ws is.queue;
         running = each_filtered IsIn (runs_on r table) h.running is.running;
+        gone = is.gone;
       };
       sent = filter-append is_answer (map cancelled (filter (touched r table) h.queue)) (facts_of h.guest.caps m h.gadget)
           ∙ append-nil (filter is_answer (map cancelled (filter (touched r table) h.queue)))
@@ -303,8 +306,8 @@ changed-flushes m r table status h ws is = by (is_success status)
     }
     by false = record { tied = is; sent = refl }
 
-done-finishes : {S : Type 0} (m : Meaning S) (table : EpTable) (h : Host S) (ws : List Placed) (q : Request) (r : Option Route) (o : Outcome) → Answers q.form q.transfer.ep → Tied h ws →
-    Finished ws q (changes_by table r o.status) (m.configuration h.gadget, o) (done_by m table h q r o)
+done-finishes : {S : Type 0} {out : Bool} (m : Meaning S) (table : EpTable) (h : Host S) (ws : List Placed) (q : Request) (r : Option Route) (o : Outcome) → Answers q.form q.transfer.ep → Tied h out ws →
+    Finished out ws q (changes_by table r o.status) (m.configuration h.gadget, o) (done_by m table h q r o)
 done-finishes m table h ws q None o answers is = record { tied = is; sent = kept-first (answer (m.configuration h.gadget) q o) [] (answers q.id (m.configuration h.gadget) o) }
 done-finishes {S = S} m table h ws q (Some r) o answers is =
     let v : Move S = changed m r table (is_success o.status) h in
@@ -315,12 +318,12 @@ done-finishes {S = S} m table h ws q (Some r) o answers is =
       sent = filter-append is_answer v.sent (last ∷ []) ∙ (λ i. f.sent i ++ kept-first last [] (answers q.id (m.configuration h.gadget) o) i);
     }
 
-does-finishes : {S : Type 0} (m : Meaning S) (h : Host S) (ws : List Placed) (q : Request) (r : Option Route) (o : Option (S × Outcome)) → Answers q.form q.transfer.ep → Tied h ws →
-    Finishes ws q (changes_of m h.gadget r o) (came_of m o) (does m h q r o)
+does-finishes : {S : Type 0} {out : Bool} (m : Meaning S) (h : Host S) (ws : List Placed) (q : Request) (r : Option Route) (o : Option (S × Outcome)) → Answers q.form q.transfer.ep → Tied h out ws →
+    Finishes out ws q (changes_of m h.gadget r o) (came_of m o) (does m h q r o)
 does-finishes m h ws q r None answers is = tt
 does-finishes {S = S} m h ws q r (Some done) answers is =
     let g : Host S = record h { gadget = done.0 } in
-    done-finishes m (m.table h.gadget) g ws q r done.1 answers (record { queue = is.queue; running = is.running })
+    done-finishes m (m.table h.gadget) g ws q r done.1 answers (record { queue = is.queue; running = is.running; gone = is.gone })
 
 left-more : (cs ds : List (Route × EpTable)) (ws : List Placed) → left_of (cs ++ ds) ws ≡ left_of ds (left_of cs ws)
 left-more [] ds ws = refl
@@ -333,17 +336,17 @@ flushed-more (c ∷ cs) ds ws =
     let left = filter (is_left c.0 c.1) ws in
     ap (λ (ps : List Placed). here ++ ps) (flushed-more cs ds left) ∙ sym (append_assoc here (flushed_of cs left) (flushed_of ds (left_of cs left)))
 
-follows-finishes : {S : Type 0} (v : Move S) (ws : List Placed) (q : Request) (cs ds : List (Route × EpTable)) (o : Option (ℕ × Outcome)) (w : Option (Move S)) → Flushes ws cs v → Finishes (left_of cs ws) q ds o w →
-    Finishes ws q (cs ++ ds) o (follows v w)
+follows-finishes : {S : Type 0} {out : Bool} (v : Move S) (ws : List Placed) (q : Request) (cs ds : List (Route × EpTable)) (o : Option (ℕ × Outcome)) (w : Option (Move S)) → Flushes out ws cs v → Finishes out (left_of cs ws) q ds o w →
+    Finishes out ws q (cs ++ ds) o (follows v w)
 follows-finishes v ws q cs ds None None first then = tt
 follows-finishes v ws q cs ds None (Some w) first then = absurd then
 follows-finishes v ws q cs ds (Some o) None first then = absurd then
-follows-finishes v ws q cs ds (Some o) (Some w) first then =
+follows-finishes {out = out} v ws q cs ds (Some o) (Some w) first then =
     let now = flushed_of cs ws in
     let later = flushed_of ds (left_of cs ws) in
     let last = answer o.0 q o.1 in
     record {
-      tied = subst (λ (ps : List Placed). Tied w.host ps) (sym (left-more cs ds ws)) then.tied;
+      tied = subst (λ (ps : List Placed). Tied w.host out ps) (sym (left-more cs ds ws)) then.tied;
       sent = filter-append is_answer v.sent w.sent
           ∙ (λ i. first.sent i ++ then.sent i)
           ∙ sym (append_assoc (told_flushed now) (told_flushed later) (last ∷ []))
@@ -355,24 +358,24 @@ changed-gadget : {S : Type 0} (m : Meaning S) (r : Route) (table : EpTable) (b :
 changed-gadget m r table true h = refl
 changed-gadget m r table false h = refl
 
-resets-finishes : {S : Type 0} (m : Meaning S) (h : Host S) (ws : List Placed) (q : Request) (o : Option (S × Outcome)) → Answers q.form q.transfer.ep → Tied h ws →
-    Finishes ws q (reset_changes m h.gadget q o) (came_behind m q o) (resets m h q o)
+resets-finishes : {S : Type 0} {out : Bool} (m : Meaning S) (h : Host S) (ws : List Placed) (q : Request) (o : Option (S × Outcome)) → Answers q.form q.transfer.ep → Tied h out ws →
+    Finishes out ws q (reset_changes m h.gadget q o) (came_behind m q o) (resets m h q o)
 resets-finishes m h ws q None answers is = tt
-resets-finishes {S = S} m h ws q (Some done) answers is =
+resets-finishes {S = S} {out = out} m h ws q (Some done) answers is =
     let g : Host S = record h { gadget = done.0 } in
     let status = done.1.status in
     let table = m.table h.gadget in
     let cs = changes_by table (Some route.Reset) status in
     let v : Move S = changed m route.Reset table (is_success status) g in
-    let first = changed-flushes m route.Reset table status g ws (record { queue = is.queue; running = is.running }) in
-    let then : Finishes (left_of cs ws) q (request_changes m v.host.gadget q) (came_of m (m.perform v.host.gadget q.transfer)) (performs m v.host q) =
+    let first = changed-flushes m route.Reset table status g ws (record { queue = is.queue; running = is.running; gone = is.gone }) in
+    let then : Finishes out (left_of cs ws) q (request_changes m v.host.gadget q) (came_of m (m.perform v.host.gadget q.transfer)) (performs m v.host q) =
     does-finishes m v.host (left_of cs ws) q (change_of q.form) (m.perform v.host.gadget q.transfer) answers first.tied in
     let same : v.host.gadget ≡ done.0 = changed-gadget m route.Reset table (is_success status) g in
     follows-finishes v ws q cs (request_changes m done.0 q) (came_of m (m.perform done.0 q.transfer)) (performs m v.host q) first
-    (subst (λ (s : S). Finishes (left_of cs ws) q (request_changes m s q) (came_of m (m.perform s q.transfer)) (performs m v.host q)) same then)
+    (subst (λ (s : S). Finishes out (left_of cs ws) q (request_changes m s q) (came_of m (m.perform s q.transfer)) (performs m v.host q)) same then)
 
-marked-finishes : {S : Type 0} (m : Meaning S) (h : Host S) (ws : List Placed) (q : Request) (f : Form) → Answers q.form q.transfer.ep → Tied h ws →
-    Finishes ws q (marked_changes m h.gadget q f) (came_marked m h.gadget q f) (performs_marked m h q f)
+marked-finishes : {S : Type 0} {out : Bool} (m : Meaning S) (h : Host S) (ws : List Placed) (q : Request) (f : Form) → Answers q.form q.transfer.ep → Tied h out ws →
+    Finishes out ws q (marked_changes m h.gadget q f) (came_marked m h.gadget q f) (performs_marked m h q f)
 marked-finishes m h ws q (form.Control setup) answers is = resets-finishes m h ws q (m.perform h.gadget (routed route.Reset)) answers is
 marked-finishes m h ws q (form.Bulk stream) answers is = resets-finishes m h ws q (m.perform h.gadget (routed route.Reset)) answers is
 marked-finishes m h ws q form.Interrupt answers is = resets-finishes m h ws q (m.perform h.gadget (routed route.Reset)) answers is
@@ -381,16 +384,16 @@ marked-finishes m h ws q form.GetConfiguration answers is = does-finishes m h ws
 marked-finishes m h ws q (form.SetAlt interface alt) answers is = resets-finishes m h ws q (m.perform h.gadget (routed route.Reset)) answers is
 marked-finishes m h ws q (form.GetAlt interface) answers is = resets-finishes m h ws q (m.perform h.gadget (routed route.Reset)) answers is
 
-any-finishes : {S : Type 0} (m : Meaning S) (h : Host S) (ws : List Placed) (q : Request) → Answers q.form q.transfer.ep → Tied h ws →
-    Finishes ws q (all_changes m h.gadget q) (outcome_of m h.gadget q) (performs_any m h q)
-any-finishes m h ws q answers is =
-    elim q.reset as (λ (b : Bool). Finishes ws q (cond b (marked_changes m h.gadget q q.form) (request_changes m h.gadget q)) (cond b (came_marked m h.gadget q q.form) (came_of m (m.perform h.gadget q.transfer))) (cond b (performs_marked m h q q.form) (performs m h q))) [
+any-finishes : {S : Type 0} {out : Bool} (m : Meaning S) (h : Host S) (ws : List Placed) (q : Request) → Answers q.form q.transfer.ep → Tied h out ws →
+    Finishes out ws q (all_changes m h.gadget q) (outcome_of m h.gadget q) (performs_any m h q)
+any-finishes {out = out} m h ws q answers is =
+    elim q.reset as (λ (b : Bool). Finishes out ws q (cond b (marked_changes m h.gadget q q.form) (request_changes m h.gadget q)) (cond b (came_marked m h.gadget q q.form) (came_of m (m.perform h.gadget q.transfer))) (cond b (performs_marked m h q q.form) (performs m h q))) [
       | true ↦ marked-finishes m h ws q q.form answers is
       | false ↦ does-finishes m h ws q (change_of q.form) (m.perform h.gadget q.transfer) answers is
     ]
 
-first-finishes : {S : Type 0} (h : Host S) (ws : List Placed) (ep : ℕ) (q : Request) (cs : List (Route × EpTable)) (o : Option (ℕ × Outcome)) (v : Option (Move S)) → FirstOf (Some q) (first_such (is_of ep) ws) → Tied h ws →
-    Finishes (without_first (is_of ep) ws) q cs o v → Gives (perform_move_by h (with_id q v)) (by_outcome cs ep ws o)
+first-finishes : {S : Type 0} {out : Bool} (h : Host S) (ws : List Placed) (ep : ℕ) (q : Request) (cs : List (Route × EpTable)) (o : Option (ℕ × Outcome)) (v : Option (Move S)) → FirstOf (Some q) (first_such (is_of ep) ws) → Tied h out ws →
+    Finishes out (without_first (is_of ep) ws) q cs o v → Gives out (perform_move_by h (with_id q v)) (by_outcome cs ep ws o)
 first-finishes h ws ep q cs None None first is then = record { tied = is; sent = refl }
 first-finishes h ws ep q cs None (Some v) first is then = absurd then
 first-finishes h ws ep q cs (Some o) None first is then = absurd then
@@ -405,60 +408,68 @@ first-finishes h ws ep q cs (Some o) (Some v) first is then =
           ∙ sym (map-append answer_of (map (ends ByChange) flushed) (map by (first_such (is_of ep) ws)));
     }
 
-found-gives : {S : Type 0} (m : Meaning S) (h : Host S) (ws : List Placed) (ep : ℕ) (o : Option Request) → FirstOf o (first_such (is_of ep) ws) → Tied h ws → Gives (perform_move_by h (first_performed m h ep o)) (by_perform m h.gadget ep ws o)
+found-gives : {S : Type 0} {out : Bool} (m : Meaning S) (h : Host S) (ws : List Placed) (ep : ℕ) (o : Option Request) → FirstOf o (first_such (is_of ep) ws) → Tied h out ws → Gives out (perform_move_by h (first_performed m h ep o)) (by_perform m h.gadget ep ws o)
 found-gives m h ws ep None first is = record { tied = is; sent = refl }
-found-gives {S = S} m h ws ep (Some q) first is =
+found-gives {S = S} {out = out} m h ws ep (Some q) first is =
     let g : Host S = record h { queue = without_first (is_at ep) h.queue } in
     let left = without_first (is_of ep) ws in
-    let tied : Tied g left = record { queue = zip-without (is_at ep) (is_of ep) (same-at ep) h.queue ws is.queue; running = is.running } in
+    let tied : Tied g out left = record { queue = zip-without (is_at ep) (is_of ep) (same-at ep) h.queue ws is.queue; running = is.running; gone = is.gone } in
     first-finishes h ws ep q (all_changes m h.gadget q) (outcome_of m h.gadget q) (performs_any m g q) first is (any-finishes m g left q (queue-answers q first.0 first.1.1) tied)
 
-performed-gives : {S : Type 0} (m : Meaning S) (h : Host S) (ws : List Placed) (ep : ℕ) (b : Bool) → Tied h ws →
-    Gives (perform_move_by h (cond b None (first_performed m h ep (find (is_at ep) h.queue)))) (cond b (stays ws) (by_perform m h.gadget ep ws (find (is_at ep) h.queue)))
+performed-gives : {S : Type 0} {out : Bool} (m : Meaning S) (h : Host S) (ws : List Placed) (ep : ℕ) (b : Bool) → Tied h out ws →
+    Gives out (perform_move_by h (cond b None (first_performed m h ep (find (is_at ep) h.queue)))) (cond b (stays ws) (by_perform m h.gadget ep ws (find (is_at ep) h.queue)))
 performed-gives m h ws ep true is = record { tied = is; sent = refl }
 performed-gives m h ws ep false is = found-gives m h ws ep (find (is_at ep) h.queue) (zip-first (is_at ep) (is_of ep) (same-at ep) h.queue ws is.queue) is
 
 -- ---- offers, and the end
 
-given-gives : {S : Type 0} (h : Host S) (ws : List Placed) (ep : ℕ) (k : StreamKind) (o : Option (S × StreamPacket)) → is_in_endpoint ep ≡ true → Tied h ws → Gives (offered_by h ep k o) (stays ws)
+given-gives : {S : Type 0} {out : Bool} (h : Host S) (ws : List Placed) (ep : ℕ) (k : StreamKind) (o : Option (S × StreamPacket)) → is_in_endpoint ep ≡ true → Tied h out ws → Gives out (offered_by h ep k o) (stays ws)
 given-gives h ws ep k None into is = record { tied = is; sent = refl }
-given-gives h ws ep Iso (Some sent) into is = record { tied = record { queue = is.queue; running = is.running }; sent = refl }
+given-gives h ws ep Iso (Some sent) into is = record { tied = record { queue = is.queue; running = is.running; gone = is.gone }; sent = refl }
 given-gives h ws ep Interrupt (Some sent) into is = record {
-  tied = record { queue = is.queue; running = is.running };
+  tied = record { queue = is.queue; running = is.running; gone = is.gone };
   sent = ap (λ (b : Bool). cond (not b) ((offered_by h ep Interrupt (Some sent)).sent) []) into;
 }
 
-offered-gives : {S : Type 0} (m : Meaning S) (h : Host S) (ws : List Placed) (ep : ℕ) (o : Option Running) → find (runs_at ep) h.running ≡ o → Tied h ws → Gives (offered_on m h ep o) (stays ws)
+offered-gives : {S : Type 0} {out : Bool} (m : Meaning S) (h : Host S) (ws : List Placed) (ep : ℕ) (o : Option Running) → find (runs_at ep) h.running ≡ o → Tied h out ws → Gives out (offered_on m h ep o) (stays ws)
 offered-gives m h ws ep None none is = record { tied = is; sent = refl }
 offered-gives m h ws ep (Some s) found is =
     let e = each_found IsIn (runs_at ep) h.running s is.running found in
     given-gives h ws ep s.kind (m.offer h.gadget ep) (subst (λ (n : ℕ). is_in_endpoint n ≡ true) (eqb-true s.ep ep e.1) e.0) is
 
-offer-gives : {S : Type 0} (m : Meaning S) (h : Host S) (ws : List Placed) (ep : ℕ) (b : Bool) → Tied h ws → Gives (cond b (quiet h) (offered_on m h ep (find (runs_at ep) h.running))) (stays ws)
+offer-gives : {S : Type 0} {out : Bool} (m : Meaning S) (h : Host S) (ws : List Placed) (ep : ℕ) (b : Bool) → Tied h out ws → Gives out (cond b (quiet h) (offered_on m h ep (find (runs_at ep) h.running))) (stays ws)
 offer-gives m h ws ep true is = record { tied = is; sent = refl }
 offer-gives m h ws ep false is = offered-gives m h ws ep (find (runs_at ep) h.running) refl is
 
-unplug-gives : {S : Type 0} (h : Host S) (ws : List Placed) (b : Bool) → Tied h ws → Gives (unplugged-by h b) (cond b (stays ws) (record { waiting = []; answered = []; dropped = ws }))
+unplug-gives : {S : Type 0} (h : Host S) (ws : List Placed) (b : Bool) → Tied h b ws → Gives true (unplugged-by h b) (cond b (stays ws) (record { waiting = []; answered = []; dropped = ws }))
 unplug-gives h ws true is = record { tied = is; sent = refl }
-unplug-gives {S = S} h ws false is = record {
-  tied = record { queue = tt; running = tt };
+unplug-gives h ws false is = record {
+  tied = record { queue = tt; running = tt; gone = refl };
   sent = elim h.guest.first as (λ (b : Bool). filter is_answer (cond b [] ((0, Plain plain.Disconnect) ∷ [])) ≡ []) [ true ↦ refl | false ↦ refl ];
 }
 
 -- ---- whatever comes
 
-step-gives : {S : Type 0} (m : Meaning S) (h : Host S) (ws : List Placed) (place : ℕ) (x : Item) → Tied h ws → Gives (move m h x) (becomes m h place x ws)
-step-gives {S = S} m h ws place (Asked id p) is =
+step-gives : {S : Type 0} (m : Meaning S) (h : Host S) (ws : List Placed) (place : ℕ) (x : Item) (xs : List Item) → Tied h (is_gone xs) ws → Gives (is_gone (x ∷ xs)) (move m h x) (becomes m h (is_gone xs) place x ws)
+step-gives {S = S} m h ws place (Asked id p) xs is =
     let g : Host S = record h { guest = advanced h.guest p } in
-    packet-gives m g ws (request_in place id (asking p)) place id p h.unplugged (record { queue = is.queue; running = is.running })
-step-gives m h ws place (Wrong from reason) is = record { tied = is; sent = refl }
-step-gives m h ws place (Performs ep) is = performed-gives m h ws ep h.unplugged is
-step-gives m h ws place (Offers ep) is = offer-gives m h ws ep h.unplugged is
-step-gives m h ws place Unplugs is = unplug-gives h ws h.unplugged is
+    let out = is_gone xs in
+    let new = request_in place id (asking p) in
+    subst (λ (b : Bool). Gives out (cond b (quiet g) (packet_move_by m g id p)) (cond out (record { waiting = ws; answered = []; dropped = new }) (by_packet place id p ws))) (sym is.gone)
+    (packet-gives m g ws new place id p out (record { queue = is.queue; running = is.running; gone = is.gone }))
+step-gives m h ws place (Wrong from reason) xs is = record { tied = is; sent = refl }
+step-gives m h ws place (Performs ep) xs is =
+    let out = is_gone xs in
+    let first = find (is_at ep) h.queue in
+    subst (λ (b : Bool). Gives out (perform_move_by h (cond b None (first_performed m h ep first))) (cond out (stays ws) (by_perform m h.gadget ep ws first))) (sym is.gone) (performed-gives m h ws ep out is)
+step-gives m h ws place (Offers ep) xs is = offer-gives m h ws ep h.unplugged is
+step-gives m h ws place Unplugs xs is =
+    let out = is_gone xs in
+    subst (λ (b : Bool). Gives true (unplugged-by h b) (cond out (stays ws) (record { waiting = []; answered = []; dropped = ws }))) (sym is.gone) (unplug-gives h ws out is)
 
-run-tied : {S : Type 0} (m : Meaning S) (s : S) (xs : List Item) → Tied (run m s xs) (waiting m s xs)
-run-tied m s [] = record { queue = tt; running = tt }
-run-tied m s (x ∷ xs) = (step-gives m (run m s xs) (waiting m s xs) (packets xs) x (run-tied m s xs)).tied
+run-tied : {S : Type 0} (m : Meaning S) (s : S) (xs : List Item) → Tied (run m s xs) (is_gone xs) (waiting m s xs)
+run-tied m s [] = record { queue = tt; running = tt; gone = refl }
+run-tied m s (x ∷ xs) = (step-gives m (run m s xs) (waiting m s xs) (packets xs) x xs (run-tied m s xs)).tied
 
 pub all-told : {S : Type 0} (m : Meaning S) (s : S) (xs : List Item) → map told_request (run m s xs).queue ≡ map told_placed (waiting m s xs)
 all-told m s xs = zip-told (run m s xs).queue (waiting m s xs) (run-tied m s xs).queue
@@ -467,7 +478,7 @@ pub all-sent : {S : Type 0} (m : Meaning S) (s : S) (xs : List Item) → answers
 all-sent m s [] = refl
 all-sent m s (x ∷ xs) =
     let h = run m s xs in
-    let b = becomes m h (packets xs) x (waiting m s xs) in
+    let b = becomes m h (is_gone xs) (packets xs) x (waiting m s xs) in
     filter-append is_answer (all_given (λ v. v.sent) m s xs) (move m h x).sent
-    ∙ (λ i. all-sent m s xs i ++ (step-gives m h (waiting m s xs) (packets xs) x (run-tied m s xs)).sent i)
+    ∙ (λ i. all-sent m s xs i ++ (step-gives m h (waiting m s xs) (packets xs) x xs (run-tied m s xs)).sent i)
     ∙ sym (map-append answer_of (answered m s xs) b.answered)
