@@ -6,4 +6,5 @@ pub mod Moves
 pub mod Makes
 pub mod Machine
 pub mod Stands
+pub mod Answered
 pub mod Wants

@@ -1,12 +1,13 @@
 //! Laws of a host's definitions, as contracts of functions that do nothing.
 
-ghost use Rattle.std.specs.Prelude.{◌≡◌, [], ◌∷◌, ◌++◌, false, ℕ, List};
+ghost use Rattle.std.specs.Prelude.{◌≡◌, ◌≤◌, ◌+◌, [], ◌∷◌, ◌++◌, Bool, false, true, ℕ, List, length, map, filter};
 ghost use Rattle.usb_base.specs.Number.{AreBytes};
 ghost use Rattle.redir_wire.specs.declared.packet.Header.{Header};
 ghost use Rattle.redir_data.specs.declared.packet.RedirPacket.{RedirPacket};
 ghost use Rattle.redir_host.specs.declared.host.Host.{Host};
 ghost use Rattle.redir_host.specs.step.Acts.{Act, Perform, Offer, Unplug, guest_bytes};
 ghost use Rattle.redir_host.specs.guest.Guest.{guest_items};
+ghost use Rattle.redir_host.specs.step.Answered.{IsSublist, Placed, answer_of, answered, answers_sent, dropped, is_gone, is_of, is_placed, performed_of, requests, requests_of, told_placed, told_request, waiting};
 ghost use Rattle.redir_host.specs.step.History.{brought, history, of_guest};
 ghost use Rattle.redir_host.specs.step.Items.{Item};
 ghost use Rattle.redir_host.specs.guest.Line.{line, queue_in, reset_in};
@@ -56,4 +57,32 @@ pub fn hosts_stay_sound<G: Gadget>()
 pub fn queues_are_lines<G: Gadget>()
     ensures queue { (first : G) (items : List Item) → (run G.meaning first items).queue ≡ queue_in false (line G.meaning first items) }
     ensures reset { (first : G) (items : List Item) → (run G.meaning first items).resets_next ≡ reset_in false (line G.meaning first items) }
+{}
+
+/// A law: each packet of the guest that asks for a transfer, or goes by a route, is one request, and is answered at most
+/// once: whatever comes, each request has been answered, waits, or was dropped, once, and none is dropped but with the
+/// device. What was sent as answers is, in order, one answer for each request that has been answered.
+pub fn answered_at_most_once<G: Gadget>()
+    ensures placed { (items : List Item) (place : ℕ) → length (filter (is_placed place) (requests items)) ≤ 1 }
+    ensures once { (first : G) (items : List Item) (place : ℕ)
+        → length (filter (is_placed place) (requests_of (answered G.meaning first items))) ≤ 1 }
+    ensures counted { (first : G) (items : List Item) (test : Placed → Bool)
+        → length (filter test (requests items))
+        ≡ length (filter test (requests_of (answered G.meaning first items)))
+        + length (filter test (waiting G.meaning first items))
+        + length (filter test (dropped G.meaning first items)) }
+    ensures kept { (first : G) (items : List Item) → is_gone items ≡ false → dropped G.meaning first items ≡ [] }
+    ensures gone { (first : G) (items : List Item) → is_gone items ≡ true → waiting G.meaning first items ≡ [] }
+    ensures sent { (first : G) (items : List Item)
+        → answers_sent G.meaning first items ≡ map answer_of (answered G.meaning first items) }
+    ensures queue { (first : G) (items : List Item)
+        → map told_request (run G.meaning first items).queue ≡ map told_placed (waiting G.meaning first items) }
+{}
+
+/// A law: the device performs the requests of each queue in the order in which they came, and those that wait came behind
+/// those that it has performed.
+pub fn performed_in_order<G: Gadget>()
+    ensures { (first : G) (items : List Item) (ep : ℕ)
+        → IsSublist (filter (is_of ep) (performed_of (answered G.meaning first items) ++ waiting G.meaning first items))
+        (filter (is_of ep) (requests items)) }
 {}

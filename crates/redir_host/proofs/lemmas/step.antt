@@ -3,3 +3,6 @@ pub mod Examples
 pub mod Acts
 pub mod Makes
 pub mod Stands
+pub mod Counted
+pub mod Replied
+pub mod InOrder

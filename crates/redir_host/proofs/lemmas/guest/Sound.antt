@@ -211,7 +211,7 @@ start-keeps h id k ep false sound greeted into = record { guest = refl; sound = 
 stop-keeps : {S : Type 0} (h : Host S) (id : ℕ) (k : StreamKind) (ep : ℕ) → IsSound h → Keeps h (stop_move h id k ep).host
 stop-keeps h id k ep sound = record { guest = refl; sound = record { requests = sound.requests; streams = each_filtered (IsRunning h.guest) (λ s. not (runs_at ep s)) h.running sound.streams } }
 
-started-in : (table : EpTable) (k : StreamKind) (ep : ℕ) → can_start table k ep ≡ true → is_in_endpoint ep ≡ true
+pub started-in : (table : EpTable) (k : StreamKind) (ep : ℕ) → can_start table k ep ≡ true → is_in_endpoint ep ≡ true
 started-in table k ep can = first_of_both (is_in_endpoint ep) (is_of k (row_of table ep).kind) (second (nat_lt (ep % 128) 16) (is_in_endpoint ep && is_of k (row_of table ep).kind) can)
 
 -- ---- packets that move no data

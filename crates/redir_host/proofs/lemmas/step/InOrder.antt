@@ -1,0 +1,253 @@
+-- Each queue is performed in the order in which its requests came.
+use Rattle.std.proofs.Common.{◌≡◌, ℕ, ◌==◌, Bool, true, false, cond, List, [], ◌∷◌, ◌++◌, filter, map, Some, None, refl, sym, ap, subst, ◌∙◌, append_assoc, append-nil, inl, inr}
+use Rattle.std.specs.Prelude.{Option}
+use Rattle.std.specs.List.{find}
+use Rattle.std.proofs.lemmas.Bool.{cases_Bool, eqb-true, true≢false}
+use Rattle.std.proofs.lemmas.List.Elements.{filter-append}
+use Rattle.usb_base.specs.declared.endpoint.EpTable.{EpTable}
+use Rattle.usb_base.specs.declared.transfer.Outcome.{Outcome}
+use Rattle.redir_wire.specs.declared.packet.RedirControl.{RedirControl}
+use Rattle.redir_wire.specs.declared.packet.RedirControl.TheVariants as plain
+use Rattle.redir_data.specs.declared.packet.RedirPacket.{RedirPacket}
+use Rattle.redir_data.specs.declared.packet.RedirPacket.TheVariants.{Plain, Carrying}
+use Rattle.control_route.specs.declared.route.Route.{Route}
+use Rattle.model_device.specs.Meaning.{Meaning}
+use Rattle.redir_host.specs.declared.host.Host.{Host}
+use Rattle.redir_host.specs.declared.request.Asking.{Asking}
+use Rattle.redir_host.specs.declared.request.Asking.TheVariants.{Nothing, Refuses, Asks}
+use Rattle.redir_host.specs.declared.request.Request.{Request}
+use Rattle.redir_host.specs.guest.Asking.{asking_of}
+use Rattle.redir_host.specs.guest.Line.{all_changes}
+use Rattle.redir_host.specs.state.Queues.{is_at, queue_of, without_first}
+use Rattle.redir_host.specs.step.Answered.{IsSublist, Placed, Answered, ByDevice, ByCancel, ByChange, Became, packets, asking, asking_plain, request_in, requests, placed, ends, stays, first_such, is_of, is_cancelled, is_performed, by_asking, by_cancel, by_plain, by_packet, is_left, flushed_of, left_of, outcome_of, by_outcome, by_perform, becomes, is_gone, waiting, answered, requests_of, performed_of}
+use Rattle.redir_host.specs.step.Items.{Item, Asked, Wrong, Performs, Offers, Unplugs}
+use Rattle.redir_host.specs.step.Machine.{run}
+use Rattle.redir_host.proofs.lemmas.step.Counted.{requests-append}
+
+-- ---- sublists
+
+sub-all : {A : Type 0} (xs : List A) → IsSublist xs xs
+sub-all [] = tt
+sub-all (x ∷ xs) = inl (refl, sub-all xs)
+
+-- with one more in front
+sub-behind : {A : Type 0} (xs : List A) (y : A) (ys : List A) → IsSublist xs ys → IsSublist xs (y ∷ ys)
+sub-behind [] y ys is = tt
+sub-behind (x ∷ xs) y ys is = inr is
+
+sub-more : {A : Type 0} (xs ys zs : List A) → IsSublist xs ys → IsSublist xs (ys ++ zs)
+sub-more [] ys zs is = tt
+sub-more (x ∷ xs) [] zs is = absurd is
+sub-more (x ∷ xs) (y ∷ ys) zs (inl here) = inl (here.0, sub-more xs ys zs here.1)
+sub-more (x ∷ xs) (y ∷ ys) zs (inr later) = inr (sub-more (x ∷ xs) ys zs later)
+
+sub-end : {A : Type 0} (ys zs : List A) → IsSublist zs (ys ++ zs)
+sub-end [] zs = sub-all zs
+sub-end (y ∷ ys) zs = sub-behind zs y (ys ++ zs) (sub-end ys zs)
+
+sub-both : {A : Type 0} (xs ys zs : List A) → IsSublist xs ys → IsSublist (xs ++ zs) (ys ++ zs)
+sub-both [] ys zs is = sub-end ys zs
+sub-both (x ∷ xs) [] zs is = absurd is
+sub-both (x ∷ xs) (y ∷ ys) zs (inl here) = inl (here.0, sub-both xs ys zs here.1)
+sub-both (x ∷ xs) (y ∷ ys) zs (inr later) = inr (sub-both (x ∷ xs) ys zs later)
+
+sub-front : {A : Type 0} (fs xs ys : List A) → IsSublist xs ys → IsSublist (fs ++ xs) (fs ++ ys)
+sub-front [] xs ys is = is
+sub-front (f ∷ fs) xs ys is = inl (refl, sub-front fs xs ys is)
+
+sub-of : {A : Type 0} (xs ys zs : List A) → IsSublist xs ys → IsSublist ys zs → IsSublist xs zs
+sub-of [] ys zs first then = tt
+sub-of (x ∷ xs) [] zs first then = absurd first
+sub-of (x ∷ xs) (y ∷ ys) [] first then = absurd then
+sub-of (x ∷ xs) (y ∷ ys) (z ∷ zs) first (inr later) = inr (sub-of (x ∷ xs) (y ∷ ys) zs first later)
+sub-of (x ∷ xs) (y ∷ ys) (z ∷ zs) (inl here) (inl there) = inl (here.0 ∙ there.0, sub-of xs ys zs here.1 there.1)
+sub-of (x ∷ xs) (y ∷ ys) (z ∷ zs) (inr later) (inl there) = inr (sub-of (x ∷ xs) ys zs later there.1)
+
+-- those of a filtered list that pass a test, among those that pass it
+sub-filtered : {A : Type 0} (test takes : A → Bool) (xs : List A) → IsSublist (filter test (filter takes xs)) (filter test xs)
+sub-filtered test takes [] = tt
+sub-filtered test takes (x ∷ xs) =
+    let rest = sub-filtered test takes xs in
+    let left = filter test (filter takes xs) in
+    let all = filter test xs in
+    elim (takes x) as (λ (b : Bool). IsSublist (filter test (cond b (x ∷ filter takes xs) (filter takes xs))) (filter test (x ∷ xs))) [
+      | true ↦ elim (test x) as (λ (c : Bool). IsSublist (cond c (x ∷ left) left) (cond c (x ∷ all) all)) [ true ↦ inl (refl, rest) | false ↦ rest ]
+      | false ↦ elim (test x) as (λ (c : Bool). IsSublist left (cond c (x ∷ all) all)) [ true ↦ sub-behind left x all rest | false ↦ rest ]
+    ]
+
+sub-without : {A : Type 0} (test takes : A → Bool) (xs : List A) → IsSublist (filter test (without_first takes xs)) (filter test xs)
+sub-without test takes [] = tt
+sub-without test takes (x ∷ xs) =
+    let rest = sub-without test takes xs in
+    let left = filter test (without_first takes xs) in
+    let all = filter test xs in
+    elim (takes x) as (λ (b : Bool). IsSublist (filter test (cond b xs (x ∷ without_first takes xs))) (filter test (x ∷ xs))) [
+      | true ↦ elim (test x) as (λ (c : Bool). IsSublist all (cond c (x ∷ all) all)) [ true ↦ sub-behind all x all (sub-all all) | false ↦ sub-all all ]
+      | false ↦ elim (test x) as (λ (c : Bool). IsSublist (cond c (x ∷ left) left) (cond c (x ∷ all) all)) [ true ↦ inl (refl, rest) | false ↦ rest ]
+    ]
+
+-- ---- the first of a queue, before those behind it
+
+-- no other queue's first is of this one
+none-first : (e ep : ℕ) (ws : List Placed) → ((queue_of ep == queue_of e) ≡ false) → filter (is_of e) (first_such (is_of ep) ws) ≡ []
+none-first e ep [] other = refl
+none-first e ep (w ∷ ws) other = by (none-first e ep ws other) (is_of ep w) refl
+  where
+    by : filter (is_of e) (first_such (is_of ep) ws) ≡ [] → (b : Bool) → is_of ep w ≡ b → filter (is_of e) (cond b (w ∷ []) (first_such (is_of ep) ws)) ≡ []
+    by rest true is =
+        let same = eqb-true (queue_of w.ep) (queue_of ep) is in
+        ap (λ (b : Bool). cond b (w ∷ []) []) ((λ i. same i == queue_of e) ∙ other)
+    by rest false is = rest
+
+-- where it is not of the performed queue itself
+one-behind : (e ep : ℕ) (w : Placed) (ws : List Placed) → is_of ep w ≡ false → IsSublist (filter (is_of e) (first_such (is_of ep) ws) ++ filter (is_of e) (without_first (is_of ep) ws)) (filter (is_of e) ws) →
+    (b : Bool) → is_of e w ≡ b → IsSublist (filter (is_of e) (first_such (is_of ep) ws) ++ cond b (w ∷ filter (is_of e) (without_first (is_of ep) ws)) (filter (is_of e) (without_first (is_of ep) ws))) (cond b (w ∷ filter (is_of e) ws) (filter (is_of e) ws))
+one-behind e ep w ws not_first rest false is = rest
+one-behind e ep w ws not_first rest true is =
+    let same = eqb-true (queue_of w.ep) (queue_of e) is in
+    let left = filter (is_of e) (without_first (is_of ep) ws) in
+    let all = filter (is_of e) ws in
+    let other : (queue_of ep == queue_of e) ≡ false = elim (cases_Bool (queue_of ep == queue_of e)) [
+      | inl equal ↦
+          let e1 = eqb-true (queue_of ep) (queue_of e) equal in
+          absurd (true≢false (sym is ∙ (λ i. queue_of w.ep == sym e1 i) ∙ not_first))
+      | inr differ ↦ differ
+    ] in
+    let none = none-first e ep ws other in
+    subst (λ (ps : List Placed). IsSublist (ps ++ w ∷ left) (w ∷ all)) (sym none)
+    (inl (refl, subst (λ (ps : List Placed). IsSublist (ps ++ left) all) none rest))
+
+first-before : (e ep : ℕ) (ws : List Placed) → IsSublist (filter (is_of e) (first_such (is_of ep) ws) ++ filter (is_of e) (without_first (is_of ep) ws)) (filter (is_of e) ws)
+first-before e ep [] = tt
+first-before e ep (w ∷ ws) = by (first-before e ep ws) (is_of ep w) refl
+  where
+    by : IsSublist (filter (is_of e) (first_such (is_of ep) ws) ++ filter (is_of e) (without_first (is_of ep) ws)) (filter (is_of e) ws) → (b : Bool) → is_of ep w ≡ b →
+        IsSublist (filter (is_of e) (cond b (w ∷ []) (first_such (is_of ep) ws)) ++ filter (is_of e) (cond b ws (w ∷ without_first (is_of ep) ws))) (filter (is_of e) (w ∷ ws))
+    by rest true is =
+        let all = filter (is_of e) ws in
+        elim (is_of e w) as (λ (c : Bool). IsSublist (cond c (w ∷ []) [] ++ all) (cond c (w ∷ all) all)) [ true ↦ sub-all (w ∷ all) | false ↦ sub-all all ]
+    by rest false is = one-behind e ep w ws is rest (is_of e w) refl
+
+-- ---- one item
+
+-- what an item has performed, and what waits behind it, are among those that waited and came, in order
+abbrev Keeps : ℕ → Became → List Placed → List Placed → Type 0
+Keeps e b before new = IsSublist (filter (is_of e) (performed_of b.answered) ++ filter (is_of e) b.waiting) (filter (is_of e) before ++ filter (is_of e) new)
+
+keeps-same : (e : ℕ) (ws new : List Placed) → IsSublist (filter (is_of e) ws) (filter (is_of e) ws ++ filter (is_of e) new)
+keeps-same e ws new = sub-more (filter (is_of e) ws) (filter (is_of e) ws) (filter (is_of e) new) (sub-all (filter (is_of e) ws))
+
+keeps-asking : (e place id : ℕ) (a : Asking) (ws : List Placed) → Keeps e (by_asking place id a ws) ws (request_in place id a)
+keeps-asking e place id Nothing ws = keeps-same e ws []
+keeps-asking e place id (Refuses f ep) ws = keeps-same e ws (placed place id f ep ∷ [])
+keeps-asking e place id (Asks f t) ws =
+    let new = placed place id f t.ep ∷ [] in
+    subst (λ (ps : List Placed). IsSublist (filter (is_of e) (ws ++ new)) ps) (filter-append (is_of e) ws new) (sub-all (filter (is_of e) (ws ++ new)))
+
+by-cancel-none : (ps : List Placed) → performed_of (map (ends ByCancel) ps) ≡ []
+by-cancel-none [] = refl
+by-cancel-none (p ∷ ps) = by-cancel-none ps
+
+by-change-none : (ps : List Placed) → performed_of (map (ends ByChange) ps) ≡ []
+by-change-none [] = refl
+by-change-none (p ∷ ps) = by-change-none ps
+
+by-device-all : (configuration : ℕ) (o : Outcome) (ps : List Placed) → performed_of (map (ends (ByDevice configuration o)) ps) ≡ ps
+by-device-all configuration o [] = refl
+by-device-all configuration o (p ∷ ps) = ap (λ (qs : List Placed). p ∷ qs) (by-device-all configuration o ps)
+
+performed-append : (xs ys : List Answered) → performed_of (xs ++ ys) ≡ performed_of xs ++ performed_of ys
+performed-append xs ys = ap requests_of (filter-append is_performed xs ys) ∙ requests-append (filter is_performed xs) (filter is_performed ys)
+
+keeps-cancel : (e id : ℕ) (ws : List Placed) → Keeps e (by_cancel id ws) ws []
+keeps-cancel e id ws =
+    let left = filter (is_of e) (without_first (is_cancelled id) ws) in
+    let all = filter (is_of e) ws in
+    subst (λ (ps : List Placed). IsSublist (filter (is_of e) ps ++ left) (all ++ [])) (sym (by-cancel-none (first_such (is_cancelled id) ws)))
+    (sub-more left all [] (sub-without (is_of e) (is_cancelled id) ws))
+
+keeps-plain : (e place id : ℕ) (p : RedirControl) (ws : List Placed) → Keeps e (by_plain place id p ws) ws (request_in place id (asking_plain p))
+keeps-plain e place id plain.Cancel ws = keeps-cancel e id ws
+keeps-plain e place id p ws = keeps-asking e place id (asking_plain p) ws
+
+keeps-packet : (e place id : ℕ) (p : RedirPacket) (ws : List Placed) → Keeps e (by_packet place id p ws) ws (request_in place id (asking p))
+keeps-packet e place id (Plain p) ws = keeps-plain e place id p ws
+keeps-packet e place id (Carrying d) ws = keeps-asking e place id (asking_of d) ws
+
+sub-left : (e : ℕ) (cs : List (Route × EpTable)) (ws : List Placed) → IsSublist (filter (is_of e) (left_of cs ws)) (filter (is_of e) ws)
+sub-left e [] ws = sub-all (filter (is_of e) ws)
+sub-left e (c ∷ cs) ws =
+    let left = filter (is_left c.0 c.1) ws in
+    sub-of (filter (is_of e) (left_of cs left)) (filter (is_of e) left) (filter (is_of e) ws) (sub-left e cs left) (sub-filtered (is_of e) (is_left c.0 c.1) ws)
+
+keeps-outcome : (e : ℕ) (cs : List (Route × EpTable)) (ep : ℕ) (ws : List Placed) (o : Option (ℕ × Outcome)) → Keeps e (by_outcome cs ep ws o) ws []
+keeps-outcome e cs ep ws None = keeps-same e ws []
+keeps-outcome e cs ep ws (Some o) =
+    let first = first_such (is_of ep) ws in
+    let behind = without_first (is_of ep) ws in
+    let all = filter (is_of e) ws in
+    let here = filter (is_of e) first in
+    let left = filter (is_of e) (left_of cs behind) in
+    let done : performed_of (map (ends ByChange) (flushed_of cs behind) ++ map (ends (ByDevice o.0 o.1)) first) ≡ first =
+    performed-append (map (ends ByChange) (flushed_of cs behind)) (map (ends (ByDevice o.0 o.1)) first)
+    ∙ (λ i. by-change-none (flushed_of cs behind) i ++ by-device-all o.0 o.1 first i) in
+    let fewer = sub-front here left (filter (is_of e) behind) (sub-left e cs behind) in
+    subst (λ (ps : List Placed). IsSublist (filter (is_of e) ps ++ left) (all ++ [])) (sym done)
+    (sub-more (here ++ left) all [] (sub-of (here ++ left) (here ++ filter (is_of e) behind) all fewer (first-before e ep ws)))
+
+keeps-perform : {S : Type 0} (e : ℕ) (m : Meaning S) (s : S) (ep : ℕ) (ws : List Placed) (o : Option Request) → Keeps e (by_perform m s ep ws o) ws []
+keeps-perform e m s ep ws None = keeps-same e ws []
+keeps-perform e m s ep ws (Some q) = keeps-outcome e (all_changes m s q) ep ws (outcome_of m s q)
+
+-- those that an item brings
+abbrev news : ℕ → Item → List Placed
+news place (Asked id p) = request_in place id (asking p)
+news place _ = []
+
+keeps-item : {S : Type 0} (e : ℕ) (m : Meaning S) (h : Host S) (out : Bool) (place : ℕ) (x : Item) (ws : List Placed) → Keeps e (becomes m h out place x ws) ws (news place x)
+keeps-item e m h out place (Asked id p) ws =
+    let new = request_in place id (asking p) in
+    let gone : Became = record { waiting = ws; answered = []; dropped = new } in
+    elim out as (λ (b : Bool). Keeps e (cond b gone (by_packet place id p ws)) ws new) [ true ↦ keeps-same e ws new | false ↦ keeps-packet e place id p ws ]
+keeps-item e m h out place (Wrong from reason) ws = keeps-same e ws []
+keeps-item e m h out place (Performs ep) ws =
+    elim out as (λ (b : Bool). Keeps e (cond b (stays ws) (by_perform m h.gadget ep ws (find (is_at ep) h.queue))) ws []) [
+      | true ↦ keeps-same e ws []
+      | false ↦ keeps-perform e m h.gadget ep ws (find (is_at ep) h.queue)
+    ]
+keeps-item e m h out place (Offers ep) ws = keeps-same e ws []
+keeps-item e m h out place Unplugs ws =
+    let gone : Became = record { waiting = []; answered = []; dropped = ws } in
+    elim out as (λ (b : Bool). Keeps e (cond b (stays ws) gone) ws []) [ true ↦ keeps-same e ws [] | false ↦ tt ]
+
+-- ---- all items
+
+requests-more : (e : ℕ) (x : Item) (xs : List Item) → filter (is_of e) (requests (x ∷ xs)) ≡ filter (is_of e) (requests xs) ++ filter (is_of e) (news (packets xs) x)
+requests-more e (Asked id p) xs = filter-append (is_of e) (requests xs) (request_in (packets xs) id (asking p))
+requests-more e (Wrong from reason) xs = sym (append-nil (filter (is_of e) (requests xs)))
+requests-more e (Performs ep) xs = sym (append-nil (filter (is_of e) (requests xs)))
+requests-more e (Offers ep) xs = sym (append-nil (filter (is_of e) (requests xs)))
+requests-more e Unplugs xs = sym (append-nil (filter (is_of e) (requests xs)))
+
+in-order : {S : Type 0} (m : Meaning S) (s : S) (e : ℕ) (xs : List Item) → IsSublist (filter (is_of e) (performed_of (answered m s xs)) ++ filter (is_of e) (waiting m s xs)) (filter (is_of e) (requests xs))
+in-order m s e [] = tt
+in-order m s e (x ∷ xs) =
+    let of = is_of e in
+    let before = waiting m s xs in
+    let b = becomes m (run m s xs) (is_gone xs) (packets xs) x before in
+    let new = filter of (news (packets xs) x) in
+    let done = filter of (performed_of (answered m s xs)) in
+    let now = filter of (performed_of b.answered) in
+    let left = filter of b.waiting in
+    let told : filter of (performed_of (answered m s xs ++ b.answered)) ≡ done ++ now = ap (filter of) (performed-append (answered m s xs) b.answered) ∙ filter-append of (performed_of (answered m s xs)) (performed_of b.answered) in
+    let one = sub-front done (now ++ left) (filter of before ++ new) (keeps-item e m (run m s xs) (is_gone xs) (packets xs) x before) in
+    let all = sub-both (done ++ filter of before) (filter of (requests xs)) new (in-order m s e xs) in
+    let both = sub-of (done ++ (now ++ left)) (done ++ (filter of before ++ new)) (filter of (requests xs) ++ new) one
+    (subst (λ (ps : List Placed). IsSublist ps (filter of (requests xs) ++ new)) (append_assoc done (filter of before) new) all) in
+    subst (λ (ps : List Placed). IsSublist (ps ++ left) (filter of (requests (x ∷ xs)))) (sym told)
+    (subst (λ (ps : List Placed). IsSublist ps (filter of (requests (x ∷ xs)))) (sym (append_assoc done now left))
+    (subst (λ (ps : List Placed). IsSublist (done ++ (now ++ left)) ps) (sym (requests-more e x xs)) both))
+
+pub all-in-order : {S : Type 0} (m : Meaning S) (s : S) (xs : List Item) (e : ℕ) → IsSublist (filter (is_of e) (performed_of (answered m s xs) ++ waiting m s xs)) (filter (is_of e) (requests xs))
+all-in-order m s xs e =
+    subst (λ (ps : List Placed). IsSublist ps (filter (is_of e) (requests xs))) (sym (filter-append (is_of e) (performed_of (answered m s xs)) (waiting m s xs))) (in-order m s e xs)

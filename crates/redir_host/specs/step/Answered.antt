@@ -1,0 +1,281 @@
+-- What becomes of the guest's requests: each waits, is answered, or is dropped with the device. Lists of items have the
+-- latest first, lists of requests and of answers the earliest.
+use Rattle.std.specs.Prelude.{◌≡◌, ◌⊎◌, ℕ, ◌+◌, ◌==◌, ◌&&◌, not, Bool, true, false, if◌then◌else◌, List, [], ◌∷◌, ◌++◌, map, filter, Option, Some, None}
+use Rattle.std.specs.List.{find}
+use Rattle.usb_base.specs.Endpoint.{is_in_endpoint}
+use Rattle.usb_base.specs.declared.endpoint.EpTable.{EpTable}
+use Rattle.usb_base.specs.declared.status.UsbStatus.TheVariants as status
+use Rattle.usb_base.specs.declared.transfer.Outcome.{Outcome}
+use Rattle.redir_wire.specs.declared.packet.RedirControl.{RedirControl}
+use Rattle.redir_wire.specs.declared.packet.RedirControl.TheVariants as plain
+use Rattle.redir_data.specs.declared.packet.RedirData.{RedirData}
+use Rattle.redir_data.specs.declared.packet.RedirData.TheVariants as moving
+use Rattle.redir_data.specs.declared.packet.RedirPacket.{RedirPacket}
+use Rattle.redir_data.specs.declared.packet.RedirPacket.TheVariants.{Plain, Carrying}
+use Rattle.control_route.specs.declared.route.Route.{Route}
+use Rattle.control_route.specs.declared.route.Route.TheVariants as route
+use Rattle.model_device.specs.Meaning.{Meaning}
+use Rattle.redir_host.specs.declared.host.Host.{Host}
+use Rattle.redir_host.specs.declared.request.Asking.{Asking}
+use Rattle.redir_host.specs.declared.request.Asking.TheVariants.{Nothing, Refuses, Asks}
+use Rattle.redir_host.specs.declared.request.Form.{Form}
+use Rattle.redir_host.specs.declared.request.Form.TheVariants as form
+use Rattle.redir_host.specs.declared.request.Request.{Request}
+use Rattle.redir_host.specs.device.Changes.{is_touched}
+use Rattle.redir_host.specs.guest.Asking.{asking_of, routed}
+use Rattle.redir_host.specs.guest.Line.{all_changes}
+use Rattle.redir_host.specs.state.Queues.{is_at, is_data, queue_of, without_first}
+use Rattle.redir_host.specs.step.Items.{Item, Asked, Wrong, Performs, Offers, Unplugs}
+use Rattle.redir_host.specs.step.Machine.{run, all_given}
+use Rattle.redir_host.specs.write.Answers.{answer_by, ended}
+
+-- ---- the requests
+
+-- A request of the guest. Its place, how many packets the guest has sent before it, tells it from others of its id.
+pub record Placed : Type 0 where
+  pub place : ℕ
+  pub id : ℕ
+  pub form : Form
+  pub ep : ℕ
+
+-- how many packets the guest has sent
+abbrev pub packets : List Item → ℕ
+packets [] = 0
+packets (Asked id p ∷ xs) = packets xs + 1
+packets (Wrong place reason ∷ xs) = packets xs
+packets (Performs ep ∷ xs) = packets xs
+packets (Offers ep ∷ xs) = packets xs
+packets (Unplugs ∷ xs) = packets xs
+
+-- the device was taken away
+abbrev pub is_gone : List Item → Bool
+is_gone [] = false
+is_gone (Asked id p ∷ xs) = is_gone xs
+is_gone (Wrong place reason ∷ xs) = is_gone xs
+is_gone (Performs ep ∷ xs) = is_gone xs
+is_gone (Offers ep ∷ xs) = is_gone xs
+is_gone (Unplugs ∷ xs) = true
+
+-- what a packet asks that moves no data
+abbrev pub asking_plain : RedirControl → Asking
+asking_plain (plain.SetConfiguration configuration) = Asks (form.SetConfiguration configuration) (routed (route.SetConfig configuration))
+asking_plain plain.GetConfiguration = Asks form.GetConfiguration (routed route.GetConfig)
+asking_plain (plain.SetAlt interface alt) = Asks (form.SetAlt interface alt) (routed (route.SetAlt interface alt))
+asking_plain (plain.GetAlt interface) = Asks (form.GetAlt interface) (routed (route.GetAlt interface))
+asking_plain _ = Nothing
+
+abbrev pub asking : RedirPacket → Asking
+asking (Plain p) = asking_plain p
+asking (Carrying d) = asking_of d
+
+abbrev pub placed : ℕ → ℕ → Form → ℕ → Placed
+placed place id f ep = record { place = place; id = id; form = f; ep = ep }
+
+abbrev pub request_in : ℕ → ℕ → Asking → List Placed
+request_in place id Nothing = []
+request_in place id (Refuses f ep) = placed place id f ep ∷ []
+request_in place id (Asks f t) = placed place id f t.ep ∷ []
+
+-- all that came
+abbrev pub requests : List Item → List Placed
+requests [] = []
+requests (Asked id p ∷ xs) = requests xs ++ request_in (packets xs) id (asking p)
+requests (Wrong place reason ∷ xs) = requests xs
+requests (Performs ep ∷ xs) = requests xs
+requests (Offers ep ∷ xs) = requests xs
+requests (Unplugs ∷ xs) = requests xs
+
+-- ---- the answers
+
+pub data End : Type 0 where
+  -- the device performed it, and has this configuration then
+  ByDevice : (configuration : ℕ) → (outcome : Outcome) → End
+  ByCancel : End
+  -- a change flushed it
+  ByChange : End
+  -- it can't be asked
+  AtOnce : End
+
+pub record Answered : Type 0 where
+  pub request : Placed
+  pub by : End
+
+abbrev pub ends : End → Placed → Answered
+ends e p = record { request = p; by = e }
+
+abbrev pub answer_to : Placed → End → ℕ × RedirPacket
+answer_to p (ByDevice configuration o) = (p.id, answer_by configuration p.form p.ep o)
+answer_to p ByCancel = (p.id, answer_by 0 p.form p.ep (ended status.Cancelled))
+answer_to p ByChange = (p.id, answer_by 0 p.form p.ep (ended status.Cancelled))
+answer_to p AtOnce = (p.id, answer_by 0 p.form p.ep (ended status.Inval))
+
+abbrev pub answer_of : Answered → ℕ × RedirPacket
+answer_of a = answer_to a.request a.by
+
+-- all else that is sent tells of the device, of a stream, or is a stream's: those of IN endpoints
+abbrev pub is_plain_answer : RedirControl → Bool
+is_plain_answer (plain.ConfigurationStatus status configuration) = true
+is_plain_answer (plain.AltStatus status interface alt) = true
+is_plain_answer _ = false
+
+abbrev pub is_data_answer : RedirData → Bool
+is_data_answer (moving.Control ep request kind status value index told body) = true
+is_data_answer (moving.Bulk ep status told stream body) = true
+is_data_answer (moving.Iso ep status told body) = false
+is_data_answer (moving.Interrupt ep status told body) = not (is_in_endpoint ep)
+
+abbrev pub is_answer : ℕ × RedirPacket → Bool
+is_answer (id, Plain p) = is_plain_answer p
+is_answer (id, Carrying d) = is_data_answer d
+
+-- ---- what an item makes of them
+
+-- those that wait behind it, those that it answers, and those that it drops
+pub record Became : Type 0 where
+  pub waiting : List Placed
+  pub answered : List Answered
+  pub dropped : List Placed
+
+abbrev pub stays : List Placed → Became
+stays waiting = record { waiting = waiting; answered = []; dropped = [] }
+
+-- the first of these, if there is one
+abbrev pub first_such : {A : Type 0} → (A → Bool) → List A → List A
+first_such test [] = []
+first_such test (x ∷ xs) = if test x then x ∷ [] else first_such test xs
+
+abbrev pub is_of : ℕ → Placed → Bool
+is_of ep p = queue_of p.ep == queue_of ep
+
+abbrev pub is_cancelled : ℕ → Placed → Bool
+is_cancelled id p = is_data p.form && (p.id == id)
+
+abbrev pub by_asking : ℕ → ℕ → Asking → List Placed → Became
+by_asking place id Nothing waiting = stays waiting
+by_asking place id (Refuses f ep) waiting = record { waiting = waiting; answered = ends AtOnce (placed place id f ep) ∷ []; dropped = [] }
+by_asking place id (Asks f t) waiting = stays (waiting ++ placed place id f t.ep ∷ [])
+
+abbrev pub by_cancel : ℕ → List Placed → Became
+by_cancel id waiting = record {
+  waiting = without_first (is_cancelled id) waiting;
+  answered = map (ends ByCancel) (first_such (is_cancelled id) waiting);
+  dropped = [];
+}
+
+abbrev pub by_plain : ℕ → ℕ → RedirControl → List Placed → Became
+by_plain place id plain.Cancel waiting = by_cancel id waiting
+by_plain place id p waiting = by_asking place id (asking_plain p) waiting
+
+abbrev pub by_packet : ℕ → ℕ → RedirPacket → List Placed → Became
+by_packet place id (Plain p) waiting = by_plain place id p waiting
+by_packet place id (Carrying d) waiting = by_asking place id (asking_of d) waiting
+
+-- changes flush, one after another, those of the endpoints that they touch
+abbrev pub is_flushed : Route → EpTable → Placed → Bool
+is_flushed r table p = is_touched r table p.ep
+
+abbrev pub is_left : Route → EpTable → Placed → Bool
+is_left r table p = not (is_flushed r table p)
+
+abbrev pub flushed_of : List (Route × EpTable) → List Placed → List Placed
+flushed_of [] waiting = []
+flushed_of (c ∷ cs) waiting = filter (is_flushed c.0 c.1) waiting ++ flushed_of cs (filter (is_left c.0 c.1) waiting)
+
+abbrev pub left_of : List (Route × EpTable) → List Placed → List Placed
+left_of [] waiting = waiting
+left_of (c ∷ cs) waiting = left_of cs (filter (is_left c.0 c.1) waiting)
+
+-- what came of a transfer, and the configuration behind it
+abbrev pub came_of : {S : Type 0} → Meaning S → Option (S × Outcome) → Option (ℕ × Outcome)
+came_of m None = None
+came_of m (Some done) = Some (m.configuration done.0, done.1)
+
+abbrev pub came_behind : {S : Type 0} → Meaning S → Request → Option (S × Outcome) → Option (ℕ × Outcome)
+came_behind m q None = None
+came_behind m q (Some done) = came_of m (m.perform done.0 q.transfer)
+
+abbrev pub came_marked : {S : Type 0} → Meaning S → S → Request → Form → Option (ℕ × Outcome)
+came_marked m s q form.GetConfiguration = came_of m (m.perform s (routed route.Reset))
+came_marked m s q _ = came_behind m q (m.perform s (routed route.Reset))
+
+-- what comes of a request, behind the reset where it is marked, or none where the device isn't ready for it
+abbrev pub outcome_of : {S : Type 0} → Meaning S → S → Request → Option (ℕ × Outcome)
+outcome_of m s q = if q.reset then came_marked m s q q.form else came_of m (m.perform s q.transfer)
+
+-- the first of its queue is answered behind those that its changes flush
+abbrev pub by_outcome : List (Route × EpTable) → ℕ → List Placed → Option (ℕ × Outcome) → Became
+by_outcome changes ep waiting None = stays waiting
+by_outcome changes ep waiting (Some o) = record {
+  waiting = left_of changes (without_first (is_of ep) waiting);
+  answered = map (ends ByChange) (flushed_of changes (without_first (is_of ep) waiting)) ++ map (ends (ByDevice o.0 o.1)) (first_such (is_of ep) waiting);
+  dropped = [];
+}
+
+-- of the first request of the host's queue, with its mark
+abbrev pub by_perform : {S : Type 0} → Meaning S → S → ℕ → List Placed → Option Request → Became
+by_perform m s ep waiting None = stays waiting
+by_perform m s ep waiting (Some q) = by_outcome (all_changes m s q) ep waiting (outcome_of m s q)
+
+-- with the device all that wait are dropped, and so is each that comes later
+abbrev pub becomes : {S : Type 0} → Meaning S → Host S → Bool → ℕ → Item → List Placed → Became
+becomes m h gone place (Asked id p) waiting =
+    if gone then record { waiting = waiting; answered = []; dropped = request_in place id (asking p) }
+    else by_packet place id p waiting
+becomes m h gone place (Wrong from reason) waiting = stays waiting
+becomes m h gone place (Performs ep) waiting =
+    if gone then stays waiting else by_perform m h.gadget ep waiting (find (is_at ep) h.queue)
+becomes m h gone place (Offers ep) waiting = stays waiting
+becomes m h gone place Unplugs waiting =
+    if gone then stays waiting else record { waiting = []; answered = []; dropped = waiting }
+
+-- ---- behind all items
+
+abbrev pub waiting : {S : Type 0} → Meaning S → S → List Item → List Placed
+waiting m s [] = []
+waiting m s (x ∷ xs) = (becomes m (run m s xs) (is_gone xs) (packets xs) x (waiting m s xs)).waiting
+
+abbrev pub answered : {S : Type 0} → Meaning S → S → List Item → List Answered
+answered m s [] = []
+answered m s (x ∷ xs) = answered m s xs ++ (becomes m (run m s xs) (is_gone xs) (packets xs) x (waiting m s xs)).answered
+
+abbrev pub dropped : {S : Type 0} → Meaning S → S → List Item → List Placed
+dropped m s [] = []
+dropped m s (x ∷ xs) = dropped m s xs ++ (becomes m (run m s xs) (is_gone xs) (packets xs) x (waiting m s xs)).dropped
+
+abbrev pub requests_of : List Answered → List Placed
+requests_of answered = map (λ (a : Answered). a.request) answered
+
+abbrev pub is_performed_end : End → Bool
+is_performed_end (ByDevice configuration outcome) = true
+is_performed_end ByCancel = false
+is_performed_end ByChange = false
+is_performed_end AtOnce = false
+
+abbrev pub is_performed : Answered → Bool
+is_performed a = is_performed_end a.by
+
+-- in the order in which the device performed them
+abbrev pub performed_of : List Answered → List Placed
+performed_of answered = requests_of (filter is_performed answered)
+
+-- all answers that were sent
+abbrev pub answers_sent : {S : Type 0} → Meaning S → S → List Item → List (ℕ × RedirPacket)
+answers_sent m s items = filter is_answer (all_given (λ v. v.sent) m s items)
+
+-- ---- words of the laws
+
+abbrev pub is_placed : ℕ → Placed → Bool
+is_placed place p = p.place == place
+
+-- the queue has these requests, in this order
+abbrev pub told_request : Request → ℕ × Form × ℕ
+told_request q = (q.id, q.form, q.transfer.ep)
+
+abbrev pub told_placed : Placed → ℕ × Form × ℕ
+told_placed p = (p.id, p.form, p.ep)
+
+-- the first list is the second without some of its elements
+abbrev pub IsSublist : {A : Type 0} → List A → List A → Type 0
+IsSublist [] ys = Unit {0}
+IsSublist (x ∷ xs) [] = ⊥
+IsSublist (x ∷ xs) (y ∷ ys) = ((x ≡ y) × IsSublist xs ys) ⊎ IsSublist (x ∷ xs) ys
