@@ -80,3 +80,32 @@ fn many_calls_with_no_memory_left(rt: HostRuntime) -> Result<(), Fail> {
     assert!(rt; lives.len() <= 4096);
     Ok(())
 }
+
+fn three_requests(alloc: Global) -> Result<Lives, Fail> {
+    let mut lives = Lives::make(alloc)?;
+    for number in 1..4u32 {
+        let id = u64::from(number) + 20;
+        accept(&mut lives, request(alloc, number, id, wire()?))?;
+    }
+    Ok(lives)
+}
+
+#[test]
+fn an_id_gives_the_place_of_its_request(rt: HostRuntime) -> Result<(), Fail> {
+    let mut lives = three_requests(rt.alloc())?;
+    let place = lives.place_of_id(22).ok_or("no place")?;
+    assert!(rt; place == 1 && lives.held_at(place).seqnum == 2);
+    let live = lives.finish_at(place);
+    assert!(rt; live.id == 22 && lives.len() == 2 && lives.place_of_id(22).is_none());
+    Ok(())
+}
+
+#[test]
+fn a_number_gives_the_place_of_its_request(rt: HostRuntime) -> Result<(), Fail> {
+    let mut lives = three_requests(rt.alloc())?;
+    let place = lives.place_of_number(3).ok_or("no place")?;
+    lives.mark_at(place, 9);
+    let live = lives.find_number(3).ok_or("no request")?;
+    assert!(rt; place == 2 && live.unlinker == Some(9));
+    Ok(())
+}
