@@ -7,7 +7,7 @@ ghost use Rattle.redir_data.specs.declared.packet.RedirPacket.{RedirPacket};
 ghost use Rattle.redir_host.specs.declared.host.Host.{Host};
 ghost use Rattle.redir_host.specs.step.Acts.{Act, Perform, Offer, Unplug, guest_bytes};
 ghost use Rattle.redir_host.specs.guest.Guest.{guest_items};
-ghost use Rattle.redir_host.specs.step.Answered.{IsSublist, Placed, answer_of, answered, answers_sent, dropped, is_gone, is_of, is_placed, performed_of, requests, requests_of, told_placed, told_request, waiting};
+ghost use Rattle.redir_host.specs.step.Answered.{IsSublist, Placed, answer_of, answered, answers_sent, dropped, ids_of, is_gone, is_of, is_placed, performed_of, requests, requests_of, statuses_sent, stream_ids, told_placed, told_request, waiting};
 ghost use Rattle.redir_host.specs.step.History.{brought, history, of_guest};
 ghost use Rattle.redir_host.specs.step.Items.{Item};
 ghost use Rattle.redir_host.specs.guest.Line.{line, queue_in, reset_in};
@@ -85,4 +85,10 @@ pub fn performed_in_order<G: Gadget>()
     ensures { (first : G) (items : List Item) (ep : ℕ)
         → IsSublist (filter (is_of ep) (performed_of (answered G.meaning first items) ++ waiting G.meaning first items))
         (filter (is_of ep) (requests items)) }
+{}
+
+/// A law: each packet of the guest that starts or stops a stream, and came before the device was taken away, is answered
+/// by one status, in order, and no other status is sent.
+pub fn streams_answered_at_once<G: Gadget>()
+    ensures { (first : G) (items : List Item) → ids_of (statuses_sent G.meaning first items) ≡ stream_ids items }
 {}

@@ -262,6 +262,45 @@ performed_of answered = requests_of (filter is_performed answered)
 abbrev pub answers_sent : {S : Type 0} → Meaning S → S → List Item → List (ℕ × RedirPacket)
 answers_sent m s items = filter is_answer (all_given (λ v. v.sent) m s items)
 
+-- ---- streams
+
+-- a packet that starts or stops a stream, by its id
+abbrev pub stream_id_in : ℕ → RedirControl → List ℕ
+stream_id_in id (plain.StartIso ep pkts_per_urb no_urbs) = id ∷ []
+stream_id_in id (plain.StopIso ep) = id ∷ []
+stream_id_in id (plain.StartInterrupt ep) = id ∷ []
+stream_id_in id (plain.StopInterrupt ep) = id ∷ []
+stream_id_in id _ = []
+
+abbrev pub stream_id : ℕ → RedirPacket → List ℕ
+stream_id id (Plain p) = stream_id_in id p
+stream_id id (Carrying d) = []
+
+-- those that came before the device was taken away
+abbrev pub stream_ids : List Item → List ℕ
+stream_ids [] = []
+stream_ids (Asked id p ∷ xs) = stream_ids xs ++ (if is_gone xs then [] else stream_id id p)
+stream_ids (Wrong place reason ∷ xs) = stream_ids xs
+stream_ids (Performs ep ∷ xs) = stream_ids xs
+stream_ids (Offers ep ∷ xs) = stream_ids xs
+stream_ids (Unplugs ∷ xs) = stream_ids xs
+
+abbrev pub is_plain_status : RedirControl → Bool
+is_plain_status (plain.IsoStatus status ep) = true
+is_plain_status (plain.InterruptStatus status ep) = true
+is_plain_status _ = false
+
+abbrev pub is_status : ℕ × RedirPacket → Bool
+is_status (id, Plain p) = is_plain_status p
+is_status (id, Carrying d) = false
+
+abbrev pub ids_of : List (ℕ × RedirPacket) → List ℕ
+ids_of packets = map (λ (p : ℕ × RedirPacket). p.0) packets
+
+-- all statuses of streams that were sent
+abbrev pub statuses_sent : {S : Type 0} → Meaning S → S → List Item → List (ℕ × RedirPacket)
+statuses_sent m s items = filter is_status (all_given (λ v. v.sent) m s items)
+
 -- ---- words of the laws
 
 abbrev pub is_placed : ℕ → Placed → Bool

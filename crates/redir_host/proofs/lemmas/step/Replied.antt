@@ -471,6 +471,9 @@ run-tied : {S : Type 0} (m : Meaning S) (s : S) (xs : List Item) → Tied (run m
 run-tied m s [] = record { queue = tt; running = tt; gone = refl }
 run-tied m s (x ∷ xs) = (step-gives m (run m s xs) (waiting m s xs) (packets xs) x xs (run-tied m s xs)).tied
 
+pub run-gone : {S : Type 0} (m : Meaning S) (s : S) (xs : List Item) → (run m s xs).unplugged ≡ is_gone xs
+run-gone m s xs = (run-tied m s xs).gone
+
 pub all-told : {S : Type 0} (m : Meaning S) (s : S) (xs : List Item) → map told_request (run m s xs).queue ≡ map told_placed (waiting m s xs)
 all-told m s xs = zip-told (run m s xs).queue (waiting m s xs) (run-tied m s xs).queue
 
