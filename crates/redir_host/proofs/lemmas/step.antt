@@ -7,3 +7,4 @@ pub mod Counted
 pub mod Replied
 pub mod InOrder
 pub mod Statuses
+pub mod Others

@@ -301,6 +301,10 @@ ids_of packets = map (λ (p : ℕ × RedirPacket). p.0) packets
 abbrev pub statuses_sent : {S : Type 0} → Meaning S → S → List Item → List (ℕ × RedirPacket)
 statuses_sent m s items = filter is_status (all_given (λ v. v.sent) m s items)
 
+-- it answers a request, tells of a stream, or is the device's own
+abbrev pub IsKnown : ℕ × RedirPacket → Type 0
+IsKnown p = (is_answer p ≡ true) ⊎ ((is_status p ≡ true) ⊎ (p.0 ≡ 0))
+
 -- ---- words of the laws
 
 abbrev pub is_placed : ℕ → Placed → Bool
