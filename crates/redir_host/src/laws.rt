@@ -59,9 +59,9 @@ pub fn queues_are_lines<G: Gadget>()
     ensures reset { (first : G) (items : List Item) → (run G.meaning first items).resets_next ≡ reset_in false (line G.meaning first items) }
 {}
 
-/// A law: each packet of the guest that asks for a transfer, or goes by a route, is one request, and is answered at most
-/// once: whatever comes, each request has been answered, waits, or was dropped, once, and none is dropped but with the
-/// device. What was sent as answers is, in order, one answer for each request that has been answered.
+/// A law: each packet of the guest that asks for a transfer, or goes by a route, is one request, and is answered at
+/// most once: whatever comes, each request has been answered, waits, or was dropped, once, and none is dropped but with
+/// the device. What was sent as answers is, in order, one answer for each request that has been answered.
 pub fn answered_at_most_once<G: Gadget>()
     ensures placed { (items : List Item) (place : ℕ) → length (filter (is_placed place) (requests items)) ≤ 1 }
     ensures once { (first : G) (items : List Item) (place : ℕ)
@@ -79,16 +79,16 @@ pub fn answered_at_most_once<G: Gadget>()
         → map told_request (run G.meaning first items).queue ≡ map told_placed (waiting G.meaning first items) }
 {}
 
-/// A law: the device performs the requests of each queue in the order in which they came, and those that wait came behind
-/// those that it has performed.
+/// A law: the device performs the requests of each queue in the order in which they came, and those that wait came
+/// behind those that it has performed.
 pub fn performed_in_order<G: Gadget>()
     ensures { (first : G) (items : List Item) (ep : ℕ)
         → IsSublist (filter (is_of ep) (performed_of (answered G.meaning first items) ++ waiting G.meaning first items))
         (filter (is_of ep) (requests items)) }
 {}
 
-/// A law: each packet of the guest that starts or stops a stream, and came before the device was taken away, is answered
-/// by one status, in order, and no other status is sent.
+/// A law: each packet of the guest that starts or stops a stream, and came before the device was taken away, is
+/// answered by one status, in order, and no other status is sent.
 pub fn streams_answered_at_once<G: Gadget>()
     ensures { (first : G) (items : List Item) → ids_of (statuses_sent G.meaning first items) ≡ stream_ids items }
 {}

@@ -58,7 +58,8 @@ is_gone (Unplugs ∷ xs) = true
 
 -- what a packet asks that moves no data
 abbrev pub asking_plain : RedirControl → Asking
-asking_plain (plain.SetConfiguration configuration) = Asks (form.SetConfiguration configuration) (routed (route.SetConfig configuration))
+asking_plain (plain.SetConfiguration configuration) =
+    Asks (form.SetConfiguration configuration) (routed (route.SetConfig configuration))
 asking_plain plain.GetConfiguration = Asks form.GetConfiguration (routed route.GetConfig)
 asking_plain (plain.SetAlt interface alt) = Asks (form.SetAlt interface alt) (routed (route.SetAlt interface alt))
 asking_plain (plain.GetAlt interface) = Asks (form.GetAlt interface) (routed (route.GetAlt interface))
@@ -152,7 +153,8 @@ is_cancelled id p = is_data p.form && (p.id == id)
 
 abbrev pub by_asking : ℕ → ℕ → Asking → List Placed → Became
 by_asking place id Nothing waiting = stays waiting
-by_asking place id (Refuses f ep) waiting = record { waiting = waiting; answered = ends AtOnce (placed place id f ep) ∷ []; dropped = [] }
+by_asking place id (Refuses f ep) waiting =
+    record { waiting = waiting; answered = ends AtOnce (placed place id f ep) ∷ []; dropped = [] }
 by_asking place id (Asks f t) waiting = stays (waiting ++ placed place id f t.ep ∷ [])
 
 abbrev pub by_cancel : ℕ → List Placed → Became
@@ -207,7 +209,8 @@ abbrev pub by_outcome : List (Route × EpTable) → ℕ → List Placed → Opti
 by_outcome changes ep waiting None = stays waiting
 by_outcome changes ep waiting (Some o) = record {
   waiting = left_of changes (without_first (is_of ep) waiting);
-  answered = map (ends ByChange) (flushed_of changes (without_first (is_of ep) waiting)) ++ map (ends (ByDevice o.0 o.1)) (first_such (is_of ep) waiting);
+  answered = map (ends ByChange) (flushed_of changes (without_first (is_of ep) waiting))
+      ++ map (ends (ByDevice o.0 o.1)) (first_such (is_of ep) waiting);
   dropped = [];
 }
 
@@ -236,7 +239,8 @@ waiting m s (x ∷ xs) = (becomes m (run m s xs) (is_gone xs) (packets xs) x (wa
 
 abbrev pub answered : {S : Type 0} → Meaning S → S → List Item → List Answered
 answered m s [] = []
-answered m s (x ∷ xs) = answered m s xs ++ (becomes m (run m s xs) (is_gone xs) (packets xs) x (waiting m s xs)).answered
+answered m s (x ∷ xs) =
+    answered m s xs ++ (becomes m (run m s xs) (is_gone xs) (packets xs) x (waiting m s xs)).answered
 
 abbrev pub dropped : {S : Type 0} → Meaning S → S → List Item → List Placed
 dropped m s [] = []
