@@ -7,17 +7,17 @@ ghost use Rattle.redir_data.specs.declared.packet.RedirPacket.{RedirPacket};
 ghost use Rattle.redir_host.specs.declared.host.Host.{Host};
 ghost use Rattle.redir_host.specs.step.Acts.{Act, Perform, Offer, Unplug, guest_bytes};
 ghost use Rattle.redir_host.specs.guest.Guest.{guest_items};
-ghost use Rattle.redir_host.specs.step.Answered.{IsSublist, Placed, answer_of, answered, answers_sent, dropped, is_gone, is_of, is_placed, performed_of, requests, requests_of, told_placed, told_request, waiting};
+ghost use Rattle.redir_host.specs.step.Answered.{IsKnown, IsSublist, Placed, answer_of, answered, answers_sent, dropped, ids_of, is_gone, is_of, is_placed, performed_of, requests, requests_of, statuses_sent, stream_ids, told_placed, told_request, waiting};
 ghost use Rattle.redir_host.specs.step.History.{brought, history, of_guest};
 ghost use Rattle.redir_host.specs.step.Items.{Item};
 ghost use Rattle.redir_host.specs.guest.Line.{line, queue_in, reset_in};
-ghost use Rattle.redir_host.specs.step.Machine.{run, steps};
+ghost use Rattle.redir_host.specs.step.Machine.{all_given, run, steps};
 ghost use Rattle.redir_host.specs.step.Makes.{IsTaken};
 ghost use Rattle.redir_host.specs.device.Offering.{offer_move, unplug_move};
 ghost use Rattle.redir_host.specs.write.Output.{act_bytes, act_notes, host_of, host_out};
 ghost use Rattle.redir_host.specs.guest.Packets.{packet_move};
 ghost use Rattle.redir_host.specs.device.Performing.{perform_move};
-ghost use Rattle.redir_host.specs.state.Sound.{IsSound};
+ghost use Rattle.redir_host.specs.state.Sound.{Each, IsSound};
 
 use model_device::Gadget;
 
@@ -59,9 +59,9 @@ pub fn queues_are_lines<G: Gadget>()
     ensures reset { (first : G) (items : List Item) → (run G.meaning first items).resets_next ≡ reset_in false (line G.meaning first items) }
 {}
 
-/// A law: each packet of the guest that asks for a transfer, or goes by a route, is one request, and is answered at most
-/// once: whatever comes, each request has been answered, waits, or was dropped, once, and none is dropped but with the
-/// device. What was sent as answers is, in order, one answer for each request that has been answered.
+/// A law: each packet of the guest that asks for a transfer, or goes by a route, is one request, and is answered at
+/// most once: whatever comes, each request has been answered, waits, or was dropped, once, and none is dropped but with
+/// the device. What was sent as answers is, in order, one answer for each request that has been answered.
 pub fn answered_at_most_once<G: Gadget>()
     ensures placed { (items : List Item) (place : ℕ) → length (filter (is_placed place) (requests items)) ≤ 1 }
     ensures once { (first : G) (items : List Item) (place : ℕ)
@@ -79,10 +79,22 @@ pub fn answered_at_most_once<G: Gadget>()
         → map told_request (run G.meaning first items).queue ≡ map told_placed (waiting G.meaning first items) }
 {}
 
-/// A law: the device performs the requests of each queue in the order in which they came, and those that wait came behind
-/// those that it has performed.
+/// A law: the device performs the requests of each queue in the order in which they came, and those that wait came
+/// behind those that it has performed.
 pub fn performed_in_order<G: Gadget>()
     ensures { (first : G) (items : List Item) (ep : ℕ)
         → IsSublist (filter (is_of ep) (performed_of (answered G.meaning first items) ++ waiting G.meaning first items))
         (filter (is_of ep) (requests items)) }
+{}
+
+/// A law: each packet of the guest that starts or stops a stream, and came before the device was taken away, is
+/// answered by one status, in order, and no other status is sent.
+pub fn streams_answered_at_once<G: Gadget>()
+    ensures { (first : G) (items : List Item) → ids_of (statuses_sent G.meaning first items) ≡ stream_ids items }
+{}
+
+/// A law: each packet that is sent answers a request, is a status of a stream, or has id 0, so that no other packet of
+/// the guest is answered.
+pub fn nothing_else_is_answered<G: Gadget>()
+    ensures { (first : G) (items : List Item) → Each IsKnown (all_given (λ v. v.sent) G.meaning first items) }
 {}

@@ -25,7 +25,8 @@ pub use host::Host;
 pub use host_core::HostCore;
 pub use laws::{
     acts_add_items, acts_bring_the_split, answered_at_most_once, hosts_stay_sound,
-    only_bytes_are_noted, performed_in_order, queues_are_lines,
+    nothing_else_is_answered, only_bytes_are_noted, performed_in_order, queues_are_lines,
+    streams_answered_at_once,
 };
 pub use note::{HostNote, HostNotes, Offered, Performed};
 pub use queue::Queue;

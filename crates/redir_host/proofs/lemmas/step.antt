@@ -6,3 +6,5 @@ pub mod Stands
 pub mod Counted
 pub mod Replied
 pub mod InOrder
+pub mod Statuses
+pub mod Others

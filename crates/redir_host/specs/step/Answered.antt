@@ -58,7 +58,8 @@ is_gone (Unplugs ∷ xs) = true
 
 -- what a packet asks that moves no data
 abbrev pub asking_plain : RedirControl → Asking
-asking_plain (plain.SetConfiguration configuration) = Asks (form.SetConfiguration configuration) (routed (route.SetConfig configuration))
+asking_plain (plain.SetConfiguration configuration) =
+    Asks (form.SetConfiguration configuration) (routed (route.SetConfig configuration))
 asking_plain plain.GetConfiguration = Asks form.GetConfiguration (routed route.GetConfig)
 asking_plain (plain.SetAlt interface alt) = Asks (form.SetAlt interface alt) (routed (route.SetAlt interface alt))
 asking_plain (plain.GetAlt interface) = Asks (form.GetAlt interface) (routed (route.GetAlt interface))
@@ -152,7 +153,8 @@ is_cancelled id p = is_data p.form && (p.id == id)
 
 abbrev pub by_asking : ℕ → ℕ → Asking → List Placed → Became
 by_asking place id Nothing waiting = stays waiting
-by_asking place id (Refuses f ep) waiting = record { waiting = waiting; answered = ends AtOnce (placed place id f ep) ∷ []; dropped = [] }
+by_asking place id (Refuses f ep) waiting =
+    record { waiting = waiting; answered = ends AtOnce (placed place id f ep) ∷ []; dropped = [] }
 by_asking place id (Asks f t) waiting = stays (waiting ++ placed place id f t.ep ∷ [])
 
 abbrev pub by_cancel : ℕ → List Placed → Became
@@ -207,7 +209,8 @@ abbrev pub by_outcome : List (Route × EpTable) → ℕ → List Placed → Opti
 by_outcome changes ep waiting None = stays waiting
 by_outcome changes ep waiting (Some o) = record {
   waiting = left_of changes (without_first (is_of ep) waiting);
-  answered = map (ends ByChange) (flushed_of changes (without_first (is_of ep) waiting)) ++ map (ends (ByDevice o.0 o.1)) (first_such (is_of ep) waiting);
+  answered = map (ends ByChange) (flushed_of changes (without_first (is_of ep) waiting))
+      ++ map (ends (ByDevice o.0 o.1)) (first_such (is_of ep) waiting);
   dropped = [];
 }
 
@@ -236,7 +239,8 @@ waiting m s (x ∷ xs) = (becomes m (run m s xs) (is_gone xs) (packets xs) x (wa
 
 abbrev pub answered : {S : Type 0} → Meaning S → S → List Item → List Answered
 answered m s [] = []
-answered m s (x ∷ xs) = answered m s xs ++ (becomes m (run m s xs) (is_gone xs) (packets xs) x (waiting m s xs)).answered
+answered m s (x ∷ xs) =
+    answered m s xs ++ (becomes m (run m s xs) (is_gone xs) (packets xs) x (waiting m s xs)).answered
 
 abbrev pub dropped : {S : Type 0} → Meaning S → S → List Item → List Placed
 dropped m s [] = []
@@ -261,6 +265,49 @@ performed_of answered = requests_of (filter is_performed answered)
 -- all answers that were sent
 abbrev pub answers_sent : {S : Type 0} → Meaning S → S → List Item → List (ℕ × RedirPacket)
 answers_sent m s items = filter is_answer (all_given (λ v. v.sent) m s items)
+
+-- ---- streams
+
+-- a packet that starts or stops a stream, by its id
+abbrev pub stream_id_in : ℕ → RedirControl → List ℕ
+stream_id_in id (plain.StartIso ep pkts_per_urb no_urbs) = id ∷ []
+stream_id_in id (plain.StopIso ep) = id ∷ []
+stream_id_in id (plain.StartInterrupt ep) = id ∷ []
+stream_id_in id (plain.StopInterrupt ep) = id ∷ []
+stream_id_in id _ = []
+
+abbrev pub stream_id : ℕ → RedirPacket → List ℕ
+stream_id id (Plain p) = stream_id_in id p
+stream_id id (Carrying d) = []
+
+-- those that came before the device was taken away
+abbrev pub stream_ids : List Item → List ℕ
+stream_ids [] = []
+stream_ids (Asked id p ∷ xs) = stream_ids xs ++ (if is_gone xs then [] else stream_id id p)
+stream_ids (Wrong place reason ∷ xs) = stream_ids xs
+stream_ids (Performs ep ∷ xs) = stream_ids xs
+stream_ids (Offers ep ∷ xs) = stream_ids xs
+stream_ids (Unplugs ∷ xs) = stream_ids xs
+
+abbrev pub is_plain_status : RedirControl → Bool
+is_plain_status (plain.IsoStatus status ep) = true
+is_plain_status (plain.InterruptStatus status ep) = true
+is_plain_status _ = false
+
+abbrev pub is_status : ℕ × RedirPacket → Bool
+is_status (id, Plain p) = is_plain_status p
+is_status (id, Carrying d) = false
+
+abbrev pub ids_of : List (ℕ × RedirPacket) → List ℕ
+ids_of packets = map (λ (p : ℕ × RedirPacket). p.0) packets
+
+-- all statuses of streams that were sent
+abbrev pub statuses_sent : {S : Type 0} → Meaning S → S → List Item → List (ℕ × RedirPacket)
+statuses_sent m s items = filter is_status (all_given (λ v. v.sent) m s items)
+
+-- it answers a request, tells of a stream, or is the device's own
+abbrev pub IsKnown : ℕ × RedirPacket → Type 0
+IsKnown p = (is_answer p ≡ true) ⊎ ((is_status p ≡ true) ⊎ (p.0 ≡ 0))
 
 -- ---- words of the laws
 

@@ -55,10 +55,10 @@ use Rattle.redir_host.proofs.lemmas.state.Sound.{unplugged-by}
 -- ---- a request of the queue and one that waits
 
 -- its answers are told from what else is sent
-abbrev Answers : Form → ℕ → Type 0
+abbrev pub Answers : Form → ℕ → Type 0
 Answers f ep = (id configuration : ℕ) (o : Outcome) → is_answer (id, answer_by configuration f ep o) ≡ true
 
-record Same (q : Request) (p : Placed) : Type 0 where
+pub record Same (q : Request) (p : Placed) : Type 0 where
   pub id : q.id ≡ p.id
   pub form : q.form ≡ p.form
   pub ep : q.transfer.ep ≡ p.ep
@@ -80,7 +80,7 @@ record Gives {S : Type 0} (out : Bool) (v : Move S) (b : Became) : Type 0 where
 same-answer : (q : Request) (p : Placed) → Same q p → (configuration : ℕ) (o : Outcome) → answer configuration q o ≡ (p.id, answer_by configuration p.form p.ep o)
 same-answer q p same configuration o = λ i. (same.id i, answer_by configuration (same.form i) (same.ep i) o)
 
-queue-answers : (q : Request) (p : Placed) → Same q p → Answers q.form q.transfer.ep
+pub queue-answers : (q : Request) (p : Placed) → Same q p → Answers q.form q.transfer.ep
 queue-answers q p same id configuration o = (λ i. is_answer (id, answer_by configuration (same.form i) (same.ep i) o)) ∙ same.answers id configuration o
 
 kept-first : (x : ℕ × RedirPacket) (xs : List (ℕ × RedirPacket)) → is_answer x ≡ true → filter is_answer (x ∷ xs) ≡ x ∷ filter is_answer xs
@@ -180,7 +180,7 @@ same-touched r table q p same = λ i. is_touched r table (same.ep i)
 
 -- ---- packets
 
-abbrev AsksAnswers : Asking → Type 0
+abbrev pub AsksAnswers : Asking → Type 0
 AsksAnswers Nothing = Unit {0}
 AsksAnswers (Refuses f ep) = Answers f ep
 AsksAnswers (Asks f t) = Answers f t.ep
@@ -189,7 +189,7 @@ asked-answers : (b : Bool) (f : Form) (t : Transfer) → Answers f t.ep → Asks
 asked-answers true f t answers = answers
 asked-answers false f t answers = answers
 
-data-answers : (d : RedirData) → AsksAnswers (asking_of d)
+pub data-answers : (d : RedirData) → AsksAnswers (asking_of d)
 data-answers (moving.Control ep request kind status value index told body) =
     let setup : Setup = record { kind = kind; request = request; value = value; index = index; length = told } in
     asked-answers (ep == (cond (nat_lt kind 128) 0 128)) (form.Control setup) (record { ep = ep; setup = Some setup; wanted = told; body = body }) (λ id c o. refl)
@@ -470,6 +470,12 @@ step-gives m h ws place Unplugs xs is =
 run-tied : {S : Type 0} (m : Meaning S) (s : S) (xs : List Item) → Tied (run m s xs) (is_gone xs) (waiting m s xs)
 run-tied m s [] = record { queue = tt; running = tt; gone = refl }
 run-tied m s (x ∷ xs) = (step-gives m (run m s xs) (waiting m s xs) (packets xs) x xs (run-tied m s xs)).tied
+
+pub run-queue : {S : Type 0} (m : Meaning S) (s : S) (xs : List Item) → AllZip Same (run m s xs).queue (waiting m s xs)
+run-queue m s xs = (run-tied m s xs).queue
+
+pub run-gone : {S : Type 0} (m : Meaning S) (s : S) (xs : List Item) → (run m s xs).unplugged ≡ is_gone xs
+run-gone m s xs = (run-tied m s xs).gone
 
 pub all-told : {S : Type 0} (m : Meaning S) (s : S) (xs : List Item) → map told_request (run m s xs).queue ≡ map told_placed (waiting m s xs)
 all-told m s xs = zip-told (run m s xs).queue (waiting m s xs) (run-tied m s xs).queue

@@ -1,0 +1,195 @@
+-- What is sent is an answer, a status of a stream, or has id 0.
+use Rattle.std.proofs.Common.{◌≡◌, ℕ, Bool, true, false, cond, List, [], ◌∷◌, filter, map, Some, None, refl, inl, inr}
+use Rattle.std.specs.Prelude.{Option}
+use Rattle.std.specs.List.{find, AllZip}
+use Rattle.usb_base.specs.declared.endpoint.EpTable.{EpTable}
+use Rattle.usb_base.specs.declared.status.UsbStatus.TheVariants as status
+use Rattle.usb_base.specs.declared.transfer.Outcome.{Outcome}
+use Rattle.usb_base.specs.declared.transfer.StreamPacket.{StreamPacket}
+use Rattle.redir_wire.specs.declared.packet.RedirControl.{RedirControl}
+use Rattle.redir_wire.specs.declared.packet.RedirControl.TheVariants as plain
+use Rattle.redir_data.specs.declared.packet.RedirPacket.{RedirPacket}
+use Rattle.redir_data.specs.declared.packet.RedirPacket.TheVariants.{Plain, Carrying}
+use Rattle.redir_data.specs.Streams.{advanced}
+use Rattle.control_route.specs.declared.route.Route.{Route}
+use Rattle.control_route.specs.declared.route.Route.TheVariants as route
+use Rattle.model_device.specs.Device.{is_success}
+use Rattle.model_device.specs.Meaning.{Meaning}
+use Rattle.redir_host.specs.declared.host.Host.{Host}
+use Rattle.redir_host.specs.declared.request.Asking.{Asking}
+use Rattle.redir_host.specs.declared.request.Asking.TheVariants.{Nothing, Refuses, Asks}
+use Rattle.redir_host.specs.declared.request.Form.{Form}
+use Rattle.redir_host.specs.declared.request.Form.TheVariants as form
+use Rattle.redir_host.specs.declared.request.Request.{Request}
+use Rattle.redir_host.specs.declared.running.Running.{Running}
+use Rattle.redir_host.specs.declared.running.StreamKind.{StreamKind}
+use Rattle.redir_host.specs.declared.running.StreamKind.TheVariants.{Iso, Interrupt}
+use Rattle.redir_host.specs.device.Changes.{change_of, changed, touched, stays}
+use Rattle.redir_host.specs.device.Facts.{facts_of}
+use Rattle.redir_host.specs.device.Offering.{offered_on, offered_by}
+use Rattle.redir_host.specs.device.Performing.{done_by, does, performs, follows, resets, performs_marked, performs_any, with_id, first_performed, perform_move_by}
+use Rattle.redir_host.specs.guest.Asking.{asking_of, routed}
+use Rattle.redir_host.specs.guest.Packets.{can_start, cancel_move, data_move, packet_move_by, plain_move, runs_at, start_move}
+use Rattle.redir_host.specs.state.Queues.{is_at, is_cancelled_by, without_first}
+use Rattle.redir_host.specs.state.Sound.{Each}
+use Rattle.redir_host.specs.step.Answered.{IsKnown, Placed, waiting}
+use Rattle.redir_host.specs.step.Items.{Item, Asked, Wrong, Performs, Offers, Unplugs}
+use Rattle.redir_host.specs.step.Machine.{move, run, all_given}
+use Rattle.redir_host.specs.step.Moves.{Move, quiet}
+use Rattle.redir_host.specs.write.Answers.{answer, cancelled, ended}
+use Rattle.redir_host.proofs.lemmas.state.Each.{each_filtered, each_found, each_joined}
+use Rattle.redir_host.proofs.lemmas.state.Sound.{each-without, unplugged-by}
+use Rattle.redir_host.proofs.lemmas.step.Replied.{Answers, AsksAnswers, Same, data-answers, queue-answers, run-queue}
+
+-- each request of the queue has answers that are told as such
+abbrev IsAnswered : Request → Type 0
+IsAnswered q = Answers q.form q.transfer.ep
+
+abbrev IsAll : {S : Type 0} → Move S → Type 0
+IsAll v = Each IsKnown v.sent
+
+abbrev IfAll : {S : Type 0} → Option (Move S) → Type 0
+IfAll None = Unit {0}
+IfAll (Some v) = IsAll v
+
+flushed-known : (qs : List Request) → Each IsAnswered qs → Each IsKnown (map cancelled qs)
+flushed-known [] answers = tt
+flushed-known (q ∷ qs) answers = (inl (answers.0 q.id 0 (ended status.Cancelled)), flushed-known qs answers.1)
+
+-- ---- performs
+
+changed-known : {S : Type 0} (m : Meaning S) (r : Route) (table : EpTable) (b : Bool) (h : Host S) → Each IsAnswered h.queue → IsAll (changed m r table b h)
+changed-known m r table true h answers =
+    each_joined IsKnown (map cancelled (filter (touched r table) h.queue)) (facts_of h.guest.caps m h.gadget)
+    (flushed-known (filter (touched r table) h.queue) (each_filtered IsAnswered (touched r table) h.queue answers)) (inr (inr refl), (inr (inr refl), tt))
+changed-known m r table false h answers = (inr (inr refl), (inr (inr refl), tt))
+
+changed-queue : {S : Type 0} (m : Meaning S) (r : Route) (table : EpTable) (b : Bool) (h : Host S) → Each IsAnswered h.queue → Each IsAnswered (changed m r table b h).host.queue
+changed-queue m r table true h answers = each_filtered IsAnswered (stays r table) h.queue answers
+changed-queue m r table false h answers = answers
+
+done-known : {S : Type 0} (m : Meaning S) (table : EpTable) (h : Host S) (q : Request) (r : Option Route) (o : Outcome) → IsAnswered q → Each IsAnswered h.queue → IsAll (done_by m table h q r o)
+done-known m table h q None o one answers = (inl (one q.id (m.configuration h.gadget) o), tt)
+done-known {S = S} m table h q (Some r) o one answers =
+    let v : Move S = changed m r table (is_success o.status) h in
+    each_joined IsKnown v.sent (answer (m.configuration h.gadget) q o ∷ []) (changed-known m r table (is_success o.status) h answers) (inl (one q.id (m.configuration h.gadget) o), tt)
+
+does-known : {S : Type 0} (m : Meaning S) (h : Host S) (q : Request) (r : Option Route) (o : Option (S × Outcome)) → IsAnswered q → Each IsAnswered h.queue → IfAll (does m h q r o)
+does-known m h q r None one answers = tt
+does-known {S = S} m h q r (Some done) one answers = let g : Host S = record h { gadget = done.0 } in done-known m (m.table h.gadget) g q r done.1 one answers
+
+follows-known : {S : Type 0} (v : Move S) (o : Option (Move S)) → IsAll v → IfAll o → IfAll (follows v o)
+follows-known v None first then = tt
+follows-known v (Some w) first then = each_joined IsKnown v.sent w.sent first then
+
+resets-known : {S : Type 0} (m : Meaning S) (h : Host S) (q : Request) (o : Option (S × Outcome)) → IsAnswered q → Each IsAnswered h.queue → IfAll (resets m h q o)
+resets-known m h q None one answers = tt
+resets-known {S = S} m h q (Some done) one answers =
+    let g : Host S = record h { gadget = done.0 } in
+    let success = is_success done.1.status in
+    let v : Move S = changed m route.Reset (m.table h.gadget) success g in
+    follows-known v (performs m v.host q) (changed-known m route.Reset (m.table h.gadget) success g answers)
+    (does-known m v.host q (change_of q.form) (m.perform v.host.gadget q.transfer) one (changed-queue m route.Reset (m.table h.gadget) success g answers))
+
+marked-known : {S : Type 0} (m : Meaning S) (h : Host S) (q : Request) (f : Form) → IsAnswered q → Each IsAnswered h.queue → IfAll (performs_marked m h q f)
+marked-known m h q (form.Control setup) one answers = resets-known m h q (m.perform h.gadget (routed route.Reset)) one answers
+marked-known m h q (form.Bulk stream) one answers = resets-known m h q (m.perform h.gadget (routed route.Reset)) one answers
+marked-known m h q form.Interrupt one answers = resets-known m h q (m.perform h.gadget (routed route.Reset)) one answers
+marked-known m h q (form.SetConfiguration configuration) one answers = resets-known m h q (m.perform h.gadget (routed route.Reset)) one answers
+marked-known m h q form.GetConfiguration one answers = does-known m h q (Some route.Reset) (m.perform h.gadget (routed route.Reset)) one answers
+marked-known m h q (form.SetAlt interface alt) one answers = resets-known m h q (m.perform h.gadget (routed route.Reset)) one answers
+marked-known m h q (form.GetAlt interface) one answers = resets-known m h q (m.perform h.gadget (routed route.Reset)) one answers
+
+any-known : {S : Type 0} (m : Meaning S) (h : Host S) (q : Request) (b : Bool) → IsAnswered q → Each IsAnswered h.queue → IfAll (cond b (performs_marked m h q q.form) (performs m h q))
+any-known m h q true one answers = marked-known m h q q.form one answers
+any-known m h q false one answers = does-known m h q (change_of q.form) (m.perform h.gadget q.transfer) one answers
+
+by-known : {S : Type 0} (h : Host S) (q : Request) (o : Option (Move S)) → IfAll o → IsAll (perform_move_by h (with_id q o))
+by-known h q None all = tt
+by-known h q (Some v) all = all
+
+first-known : {S : Type 0} (m : Meaning S) (h : Host S) (ep : ℕ) (o : Option Request) → find (is_at ep) h.queue ≡ o → Each IsAnswered h.queue → IsAll (perform_move_by h (first_performed m h ep o))
+first-known m h ep None none answers = tt
+first-known {S = S} m h ep (Some q) found answers =
+    let g : Host S = record h { queue = without_first (is_at ep) h.queue } in
+    let one = each_found IsAnswered (is_at ep) h.queue q answers found in
+    by-known h q (performs_any m g q) (any-known m g q q.reset one.0 (each-without IsAnswered (is_at ep) h.queue answers))
+
+performed-known : {S : Type 0} (m : Meaning S) (h : Host S) (ep : ℕ) (b : Bool) → Each IsAnswered h.queue → IsAll (perform_move_by h (cond b None (first_performed m h ep (find (is_at ep) h.queue))))
+performed-known m h ep true answers = tt
+performed-known m h ep false answers = first-known m h ep (find (is_at ep) h.queue) refl answers
+
+-- ---- offers, and the end
+
+given-known : {S : Type 0} (h : Host S) (ep : ℕ) (k : StreamKind) (o : Option (S × StreamPacket)) → IsAll (offered_by h ep k o)
+given-known h ep k None = tt
+given-known h ep Iso (Some sent) = (inr (inr refl), tt)
+given-known h ep Interrupt (Some sent) = (inr (inr refl), tt)
+
+offered-known : {S : Type 0} (m : Meaning S) (h : Host S) (ep : ℕ) (o : Option Running) → IsAll (offered_on m h ep o)
+offered-known m h ep None = tt
+offered-known m h ep (Some s) = given-known h ep s.kind (m.offer h.gadget ep)
+
+offer-known : {S : Type 0} (m : Meaning S) (h : Host S) (ep : ℕ) (b : Bool) → IsAll (cond b (quiet h) (offered_on m h ep (find (runs_at ep) h.running)))
+offer-known m h ep true = tt
+offer-known m h ep false = offered-known m h ep (find (runs_at ep) h.running)
+
+unplug-known : {S : Type 0} (h : Host S) (b : Bool) → IsAll (unplugged-by h b)
+unplug-known h true = tt
+unplug-known h false = elim h.guest.first as (λ (b : Bool). Each IsKnown (cond b [] ((0, Plain plain.Disconnect) ∷ []))) [ true ↦ tt | false ↦ (inr (inr refl), tt) ]
+
+-- ---- packets
+
+asked-known : {S : Type 0} (h : Host S) (id : ℕ) (a : Asking) → AsksAnswers a → IsAll (data_move h id a)
+asked-known h id Nothing answers = tt
+asked-known h id (Refuses f ep) answers = (inl (answers id 0 (ended status.Inval)), tt)
+asked-known h id (Asks f t) answers = tt
+
+cancel-known : {S : Type 0} (h : Host S) (id : ℕ) (o : Option Request) → find (is_cancelled_by id) h.queue ≡ o → Each IsAnswered h.queue → IsAll (cancel_move h id o)
+cancel-known h id None none answers = tt
+cancel-known h id (Some q) found answers = let one = each_found IsAnswered (is_cancelled_by id) h.queue q answers found in (inl (one.0 q.id 0 (ended status.Cancelled)), tt)
+
+start-known : {S : Type 0} (h : Host S) (id : ℕ) (k : StreamKind) (ep : ℕ) (b : Bool) → IsAll (start_move b h id k ep)
+start-known h id Iso ep true = (inr (inl refl), tt)
+start-known h id Iso ep false = (inr (inl refl), tt)
+start-known h id Interrupt ep true = (inr (inl refl), tt)
+start-known h id Interrupt ep false = (inr (inl refl), tt)
+
+plain-known : {S : Type 0} (m : Meaning S) (h : Host S) (id : ℕ) (p : RedirControl) → Each IsAnswered h.queue → IsAll (plain_move m h id p)
+plain-known m h id (plain.Hello x) answers = (inr (inr refl), (inr (inr refl), (inr (inr refl), tt)))
+plain-known m h id (plain.StartIso ep pkts_per_urb no_urbs) answers = start-known h id Iso ep (can_start (m.table h.gadget) Iso ep)
+plain-known m h id (plain.StopIso ep) answers = (inr (inl refl), tt)
+plain-known m h id (plain.StartInterrupt ep) answers = start-known h id Interrupt ep (can_start (m.table h.gadget) Interrupt ep)
+plain-known m h id (plain.StopInterrupt ep) answers = (inr (inl refl), tt)
+plain-known m h id plain.Cancel answers = cancel-known h id (find (is_cancelled_by id) h.queue) refl answers
+plain-known m h id _ answers = tt
+
+any-known-packet : {S : Type 0} (m : Meaning S) (h : Host S) (id : ℕ) (p : RedirPacket) → Each IsAnswered h.queue → IsAll (packet_move_by m h id p)
+any-known-packet m h id (Plain p) answers = plain-known m h id p answers
+any-known-packet m h id (Carrying d) answers = asked-known h id (asking_of d) (data-answers d)
+
+packet-known : {S : Type 0} (m : Meaning S) (g : Host S) (id : ℕ) (p : RedirPacket) (b : Bool) → Each IsAnswered g.queue → IsAll (cond b (quiet g) (packet_move_by m g id p))
+packet-known m g id p true answers = tt
+packet-known m g id p false answers = any-known-packet m g id p answers
+
+-- ---- whatever comes
+
+step-known : {S : Type 0} (m : Meaning S) (h : Host S) (x : Item) → Each IsAnswered h.queue → IsAll (move m h x)
+step-known {S = S} m h (Asked id p) answers =
+    let g : Host S = record h { guest = advanced h.guest p } in
+    packet-known m g id p h.unplugged answers
+step-known m h (Wrong from reason) answers = tt
+step-known m h (Performs ep) answers = performed-known m h ep h.unplugged answers
+step-known m h (Offers ep) answers = offer-known m h ep h.unplugged
+step-known m h Unplugs answers = unplug-known h h.unplugged
+
+each-answered : (qs : List Request) (ws : List Placed) → AllZip Same qs ws → Each IsAnswered qs
+each-answered [] ws zip = tt
+each-answered (q ∷ qs) [] zip = absurd zip
+each-answered (q ∷ qs) (p ∷ ws) zip = (queue-answers q p zip.0, each-answered qs ws zip.1)
+
+pub all-known : {S : Type 0} (m : Meaning S) (s : S) (xs : List Item) → Each IsKnown (all_given (λ v. v.sent) m s xs)
+all-known m s [] = tt
+all-known m s (x ∷ xs) =
+    each_joined IsKnown (all_given (λ v. v.sent) m s xs) (move m (run m s xs) x).sent (all-known m s xs)
+    (step-known m (run m s xs) x (each-answered (run m s xs).queue (waiting m s xs) (run-queue m s xs)))
