@@ -1,12 +1,12 @@
 //! Commands over the events that a replay tape's lines say.
 
-ghost use Rattle.std.specs.Prelude.{◌≡◌, ◌++◌, ◌∷◌, [], List, ℕ, None, OnOk, option_map, true};
+ghost use Rattle.std.specs.Prelude.{◌≡◌, ◌++◌, ◌∷◌, [], List, ℕ, None, OnOk, option_map, true, false};
 ghost use Rattle.gate_history.specs.step.Events.{Event as PastEvent, event_of};
 ghost use Rattle.packet_show.specs.Tape.{tape_line};
 ghost use Rattle.packet_show.specs.declared.tape.TapeKind.TheVariants as kind;
-ghost use Rattle.usbgate_tapes.specs.Tape.{event_said, IsEvent, host_ended, may_happen};
+ghost use Rattle.usbgate_tapes.specs.Tape.{event_said, IsEvent, host_ended};
 ghost use Rattle.usbgate_tapes.specs.EventCommand.{EventCommand as Told, over_events};
-ghost use Rattle.usbgate_tapes.specs.inner.EventTape.{HasEvents};
+ghost use Rattle.usbgate_tapes.specs.inner.EventTape.{HasEvents, MayStand};
 
 use crate::tape_command::TapeCommand;
 use gate_history::Event;
@@ -69,13 +69,14 @@ impl<E: EventCommand> EventTape<E> {
         }
     }
 
-    /// Whether the event isn't one of a host that has ended.
-    fn may_see(&self, event: Event) -> bool
-        ensures { (events : List PastEvent) → self.now.host_ended ≡ host_ended events → result ≡ may_happen events (event_of event.entry) }
+    /// Whether the line isn't one of a host that has ended.
+    fn may_stand(&self, line: &[u8]) -> bool
+        ensures stands { result ≡ true → (events : List PastEvent) → self.now.host_ended ≡ host_ended events → MayStand events (tape_line kind.Replay line.now) }
+        ensures bad { result ≡ false → (told : Told) (events : List PastEvent) → self.now.host_ended ≡ host_ended events → (over_events told).line events line.now ≡ None }
     {
-        match event {
-            Event::ClientPiece(_) | Event::ClientEnd => true,
-            Event::HostPiece(_) | Event::HostEnd => !self.host_ended,
+        match line {
+            [b'h', ..] => !self.host_ended,
+            _ => true,
         }
     }
 
@@ -102,13 +103,13 @@ impl<E: EventCommand> TapeCommand for EventTape<E> {
     ghost Wants = { λ line. IsEvent (tape_line kind.Replay line) };
 
     fn take_line(&mut self, alloc: Global, line: &[u8], text: &mut Bytes) -> Result<(), LineError> {
+        if !self.may_stand(line) {
+            return Err(LineError::Bad);
+        }
         let said = read_line(alloc, TapeKind::Replay, line)?;
         let Some(event) = event_said(&said) else {
             return Ok(());
         };
-        if !self.may_see(event) {
-            return Err(LineError::Bad);
-        }
         self.command.see(alloc, event, text)?;
         self.see_end(event);
         Ok(())

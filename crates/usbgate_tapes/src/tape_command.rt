@@ -1,6 +1,6 @@
 //! What a command over a tape is.
 
-ghost use Rattle.std.specs.Prelude.{◌≡◌, ◌++◌, List, ℕ, None, IfOk, OnOk};
+ghost use Rattle.std.specs.Prelude.{◌≡◌, ◌≢◌, ◌++◌, List, ℕ, None, IfOk, OnOk};
 ghost use Rattle.usbgate_tapes.specs.TapeCommand.{TapeCommand as Told};
 ghost use Rattle.usbgate_tapes.specs.inner.TapeReader.{TakesLine};
 
@@ -22,12 +22,13 @@ pub trait TapeCommand {
 
     ghost Wants: { List ℕ → Type 0 };
 
-    /// Takes the next line, without its LF, and appends its text. A bad line changes nothing.
+    /// Takes the next line, without its LF, and appends its text. A bad line changes nothing, and wants no memory.
     fn take_line(&mut self, alloc: Global, line: &[u8], text: &mut Bytes) -> Result<(), LineError>
         ensures goes { OnOk result ((task : Task) (kept : Kept) → Keeps task self.old kept → TakesLine (Keeps task) ((means task).line kept line.now) self.new text.old text.new) }
         ensures bad { result ≡ Err LineError.Bad → (task : Task) (kept : Kept) → Keeps task self.old kept → (means task).line kept line.now ≡ None }
         ensures same { result ≡ Err LineError.Bad → (self.new ≡ self.old) × (text.new ≡ text.old) }
-        ensures memory { result ≡ Err LineError.Memory → Wants line.now };
+        ensures memory { result ≡ Err LineError.Memory → Wants line.now }
+        ensures good { result ≡ Err LineError.Memory → (task : Task) (kept : Kept) → Keeps task self.old kept → (means task).line kept line.now ≢ None };
 
     /// Appends the text behind the last line.
     fn close(&self, alloc: Global, text: &mut Bytes) -> Result<(), Memory>

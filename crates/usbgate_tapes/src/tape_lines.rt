@@ -1,6 +1,6 @@
 //! A tape's lines, put to a command one by one.
 
-ghost use Rattle.std.specs.Prelude.{◌≡◌, ◌++◌, ◌+◌, ◌<◌, ◌≤◌, ◌↔◌, ℕ, List, length, IfOk, OnOk, IsTrue, None};
+ghost use Rattle.std.specs.Prelude.{◌≡◌, ◌≢◌, ◌++◌, ◌+◌, ◌<◌, ◌≤◌, ◌↔◌, ℕ, List, length, IfOk, OnOk, IsTrue, None};
 ghost use Rattle.usbgate_tapes.specs.Tape.{content as content_of};
 ghost use Rattle.usbgate_tapes.specs.TapeCommand.{Progress, begin, next_line, tape_limit};
 ghost use Rattle.usbgate_tapes.specs.inner.TapeReader.{HasRead, GoesOn};
@@ -35,7 +35,8 @@ impl<C: TapeCommand> TapeLines<C> {
         }
     }
 
-    /// Reads the next line, which may have its LF, and appends its text. A bad line changes nothing.
+    /// Reads the next line, which may have its LF, and appends its text. A bad line changes nothing, and wants no
+    /// memory.
     pub fn take_line(
         &mut self,
         alloc: Global,
@@ -47,6 +48,7 @@ impl<C: TapeCommand> TapeLines<C> {
         ensures bad { result ≡ Err LineError.Bad → (task : C.Task) (s : Progress C.Kept) → HasRead (C.Keeps task) self.old s → next_line (C.means task) s line.now ≡ None }
         ensures same { result ≡ Err LineError.Bad → (self.new ≡ self.old) × (text.new ≡ text.old) }
         ensures memory { result ≡ Err LineError.Memory → C.Wants (content_of line.now) }
+        ensures good { result ≡ Err LineError.Memory → (task : C.Task) (s : Progress C.Kept) → HasRead (C.Keeps task) self.old s → next_line (C.means task) s line.now ≢ None }
     {
         let len = line.len() as u64;
         if len > self.room {

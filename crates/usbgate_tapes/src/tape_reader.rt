@@ -1,8 +1,8 @@
 //! A tape that comes in pieces, read line by line.
 
-ghost use Rattle.std.specs.Prelude.{◌≡◌, ◌++◌, ◌<◌, ◌==◌, [], List, ℕ, length, IfOk, OnOk, None, position};
+ghost use Rattle.std.specs.Prelude.{◌≡◌, ◌≢◌, ◌⊎◌, ◌++◌, ◌<◌, ◌==◌, [], List, ℕ, length, IfOk, OnOk, None, position};
 ghost use Rattle.usbgate_tapes.specs.TapeCommand.{Progress, next_line};
-ghost use Rattle.usbgate_tapes.specs.inner.TapeReader.{HasRead, GoesOn, Stage, Took, Stepped, Finished, AllRead, TookLast, Spoils, TookLine, Kept};
+ghost use Rattle.usbgate_tapes.specs.inner.TapeReader.{HasRead, GoesOn, IsJoined, Stage, Took, Stepped, Finished, AllRead, TookLast, Spoils, TookLine, Kept};
 
 use crate::status::Status;
 use crate::tape_command::TapeCommand;
@@ -108,13 +108,15 @@ impl<C: TapeCommand> TapeReader<C> {
         }
     }
 
-    /// Puts the line that ends with these bytes to the command.
+    /// Puts the line that ends with these bytes to the command. A bad line wants no memory, but to join its parts.
     fn put_line(&mut self, alloc: Global, last: &[u8]) -> Result<(), LineError>
         requires { 0 < length (self.old.pending ++ last.now) }
         ensures goes { OnOk result ((task : C.Task) (s : Progress C.Kept) → HasRead (C.Keeps task) self.old.lines s
             → GoesOn (C.Keeps task) (next_line (C.means task) s (self.old.pending ++ last.now)) self.new.lines self.old.text self.new.text) }
         ensures bad { result ≡ Err LineError.Bad → (task : C.Task) (s : Progress C.Kept) → HasRead (C.Keeps task) self.old.lines s → next_line (C.means task) s (self.old.pending ++ last.now) ≡ None }
         ensures same { result ≡ Err LineError.Bad → (self.new.lines ≡ self.old.lines) × (self.new.text ≡ self.old.text) }
+        ensures good { result ≡ Err LineError.Memory → IsJoined self.old.pending last.now
+            ⊎ ((task : C.Task) (s : Progress C.Kept) → HasRead (C.Keeps task) self.old.lines s → next_line (C.means task) s (self.old.pending ++ last.now) ≢ None) }
     {
         if self.pending.is_empty() {
             return self.lines.take_line(alloc, last, &mut self.text);

@@ -35,6 +35,10 @@ abbrev pub GoesOn : {C S : Type 0} → (C → S → Type 0) → Option (List ℕ
 GoesOn Keeps None new text_old text_new = ⊥
 GoesOn Keeps (Some x) new text_old text_new = (text_new ≡ text_old ++ x.0) × HasRead Keeps new x.1
 
+-- the line has come in parts, which are joined
+abbrev pub IsJoined : List ℕ → List ℕ → Type 0
+IsJoined pending last = (0 < length pending) × (0 < length last)
+
 -- ---- a tape
 
 abbrev pub with_text : {S : Type 0} → List ℕ → Reading S → Reading S
