@@ -54,6 +54,12 @@ end_by true refused number = refl
 end_by false true number = refl
 end_by false false number = refl
 
+-- nor is it for want of memory
+remembers : (bad refused : Bool) (number : ℕ) → cond bad (BadTape number) (cond refused Refused Done) ≡ OutOfMemory → ⊥
+remembers true refused number e = cc
+remembers false true number e = cc
+remembers false false number e = cc
+
 pub false-true : {A : Type 0} → false ≡ true → A
 false-true e = cc
 
@@ -114,6 +120,11 @@ pub closes-is_quiet : {C T : Type 0} (command : TapeCommand T) (Keeps : C → T 
 closes-is_quiet {T = T} command Keeps {piece = piece} read c =
     let x = read_lines command (begin command) (lines_of ((read ++ piece) ++ [])) in
     ap is_quiet (sym (c.outcome [] (λ _. refl))) ∙ end_by x.bad (command.refused x.after.kept) (x.after.lines + 1)
+
+pub closes-remembers : {C T : Type 0} (command : TapeCommand T) (Keeps : C → T → Type 0) {status : Status} {p : TapeReader C} {piece written : List ℕ} (read : List ℕ) → Closes command Keeps status p piece read written → status ≡ OutOfMemory → ⊥
+closes-remembers {T = T} command Keeps {piece = piece} read c e =
+    let x = read_lines command (begin command) (lines_of ((read ++ piece) ++ [])) in
+    remembers x.bad (command.refused x.after.kept) (x.after.lines + 1) (c.outcome [] (λ _. refl) ∙ e)
 
 module _ {C T S K : Type 0} (command : TapeCommand T) (Keeps : C → T → Type 0) (read_gives : S → List ℕ → Result ℕ Failed → S → Type 0) (write_gives : K → List ℕ → Result ℕ Failed → K → Type 0) (remaining : S → Option (List ℕ)) (contents : K → Option (List ℕ)) where
   abbrev Going : S → S → K → K → TapeReader C → Type 0

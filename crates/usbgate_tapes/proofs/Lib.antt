@@ -4,6 +4,7 @@ pub mod Moving
 pub mod Told
 pub mod Going
 pub mod Unread
+pub mod Wanting
 pub mod Events
 pub mod Modelled
 pub mod Loaded

@@ -9,6 +9,7 @@ pub mod Show
 pub mod Made
 pub mod Prescribed
 pub mod Run
+pub mod Wants
 pub mod Logs
 pub mod Simulated
 pub mod Causes

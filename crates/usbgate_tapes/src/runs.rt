@@ -10,6 +10,7 @@ ghost use Rattle.usbgate_tapes.specs.Model.{model as modelling, model_of};
 ghost use Rattle.usbgate_tapes.specs.Simulated.{AreSimulated, SimulatesTape, AreSimulatedByLog, SimulatesByLog};
 ghost use Rattle.usbgate_tapes.specs.Show.{show as showing, show_side};
 ghost use Rattle.usbgate_tapes.specs.inner.Show.{shown_by};
+ghost use Rattle.usbgate_tapes.specs.Wants.{RunsOut, event_wants, step_wants};
 ghost use Rattle.usbgate_tapes.specs.Causes.{HasCauses};
 ghost use Rattle.usbgate_tapes.specs.inner.TapeReader.{Stage, ReadsTo, ReadsToByLog};
 
@@ -39,6 +40,7 @@ pub fn replay<S: Source, K: Sink>(alloc: Global, first_id: u32, tape: &mut S, ou
     requires { 1 ≤ first_id }
     ensures leaves { Leaves result (tape_prescribed (over_events (replaying first_id))) (S.remaining tape.old) (S.remaining tape.new) (K.contents out.old) (K.contents out.new) }
     ensures leaves_log { LeavesByLog S.read_gives K.write_gives result (tape_prescribed (over_events (replaying first_id))) tape.old tape.new out.old out.new }
+    ensures wants { result ≡ Status.OutOfMemory → RunsOut S.read_gives (over_events (replaying first_id)) event_wants tape.old tape.new }
     ensures causes { HasCauses result (S.faults tape.old) (S.faults tape.new) (K.faults out.old) (K.faults out.new) }
     ensures command { result ≢ Status.Usage }
 {
@@ -55,6 +57,7 @@ pub fn model<S: Source, K: Sink>(alloc: Global, device: Device, tape: &mut S, ou
     ensures leaves_log { LeavesByLog S.read_gives K.write_gives result (tape_prescribed (model_of device)) tape.old tape.new out.old out.new }
     ensures simulates { SimulatesTape result device (S.remaining tape.old) }
     ensures simulates_log { SimulatesByLog S.read_gives result device tape.old tape.new }
+    ensures wants { result ≡ Status.OutOfMemory → RunsOut S.read_gives (model_of device) step_wants tape.old tape.new }
     ensures causes { HasCauses result (S.faults tape.old) (S.faults tape.new) (K.faults out.old) (K.faults out.new) }
     ensures command { result ≢ Status.Usage }
 {
@@ -88,6 +91,7 @@ fn model_with<G: Gadget, S: Source, K: Sink>(
     ensures leaves_log { LeavesByLog S.read_gives K.write_gives result (tape_prescribed (modelling G.meaning gadget)) tape.old tape.new out.old out.new }
     ensures simulates { AreSimulated result G.meaning gadget (S.remaining tape.old) }
     ensures simulates_log { AreSimulatedByLog S.read_gives result G.meaning gadget tape.old tape.new }
+    ensures wants { result ≡ Status.OutOfMemory → RunsOut S.read_gives (modelling G.meaning gadget) step_wants tape.old tape.new }
     ensures causes { HasCauses result (S.faults tape.old) (S.faults tape.new) (K.faults out.old) (K.faults out.new) }
     ensures command { result ≢ Status.Usage }
 {
@@ -103,6 +107,7 @@ fn model_with<G: Gadget, S: Source, K: Sink>(
 pub fn show<S: Source, K: Sink>(alloc: Global, side: Side, tape: &mut S, out: &mut K) -> Status
     ensures leaves { Leaves result (tape_prescribed (over_events (showing side))) (S.remaining tape.old) (S.remaining tape.new) (K.contents out.old) (K.contents out.new) }
     ensures leaves_log { LeavesByLog S.read_gives K.write_gives result (tape_prescribed (over_events (showing side))) tape.old tape.new out.old out.new }
+    ensures wants { result ≡ Status.OutOfMemory → RunsOut S.read_gives (over_events (showing side)) event_wants tape.old tape.new }
     ensures causes { HasCauses result (S.faults tape.old) (S.faults tape.new) (K.faults out.old) (K.faults out.new) }
     ensures command { result ≢ Status.Usage }
 {
@@ -119,6 +124,7 @@ fn show_stream<F: ShownFormat, S: Source, K: Sink>(
 ) -> Status
     ensures leaves { Leaves result (tape_prescribed (over_events (show_side (shown_by F.the_side F.format F.after F.first_state F.bytes F.line)))) (S.remaining tape.old) (S.remaining tape.new) (K.contents out.old) (K.contents out.new) }
     ensures leaves_log { LeavesByLog S.read_gives K.write_gives result (tape_prescribed (over_events (show_side (shown_by F.the_side F.format F.after F.first_state F.bytes F.line)))) tape.old tape.new out.old out.new }
+    ensures wants { result ≡ Status.OutOfMemory → RunsOut S.read_gives (over_events (show_side (shown_by F.the_side F.format F.after F.first_state F.bytes F.line))) event_wants tape.old tape.new }
     ensures causes { HasCauses result (S.faults tape.old) (S.faults tape.new) (K.faults out.old) (K.faults out.new) }
     ensures command { result ≢ Status.Usage }
 {
@@ -141,6 +147,7 @@ fn over_tape<C: TapeCommand + Drop, S: Source, K: Sink>(
         → LeavesByLog S.read_gives K.write_gives result (tape_prescribed (C.means task)) tape.old tape.new out.old out.new }
     ensures kept { (task : C.Task) → C.Keeps task command (C.means task).start → text ≡ (C.means task).opening → ReadsTo result (C.Keeps task) (C.means task) (S.remaining tape.old) }
     ensures kept_log { (task : C.Task) → C.Keeps task command (C.means task).start → text ≡ (C.means task).opening → ReadsToByLog S.read_gives result (C.Keeps task) (C.means task) tape.old tape.new }
+    ensures wants { result ≡ Status.OutOfMemory → (task : C.Task) → C.Keeps task command (C.means task).start → text ≡ (C.means task).opening → RunsOut S.read_gives (C.means task) C.Wants tape.old tape.new }
     ensures causes { HasCauses result (S.faults tape.old) (S.faults tape.new) (K.faults out.old) (K.faults out.new) }
     ensures command { result ≢ Status.Usage }
 {
@@ -171,6 +178,7 @@ fn read_pieces<C: TapeCommand + Drop, S: Source, K: Sink>(
     ensures leaves_log { (task : C.Task) → Stage (C.means task) (C.Keeps task) reader [] [] → LeavesByLog S.read_gives K.write_gives result (tape_prescribed (C.means task)) tape.old tape.new out.old out.new }
     ensures kept { (task : C.Task) → Stage (C.means task) (C.Keeps task) reader [] [] → ReadsTo result (C.Keeps task) (C.means task) (S.remaining tape.old) }
     ensures kept_log { (task : C.Task) → Stage (C.means task) (C.Keeps task) reader [] [] → ReadsToByLog S.read_gives result (C.Keeps task) (C.means task) tape.old tape.new }
+    ensures wants { result ≡ Status.OutOfMemory → (task : C.Task) → Stage (C.means task) (C.Keeps task) reader [] [] → RunsOut S.read_gives (C.means task) C.Wants tape.old tape.new }
     ensures causes { HasCauses result (S.faults tape.old) (S.faults tape.new) (K.faults out.old) (K.faults out.new) }
     ensures command { result ≢ Status.Usage }
 {

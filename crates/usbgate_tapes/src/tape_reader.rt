@@ -1,7 +1,8 @@
 //! A tape that comes in pieces, read line by line.
 
-ghost use Rattle.std.specs.Prelude.{◌≡◌, ◌≢◌, ◌⊎◌, ◌++◌, ◌<◌, ◌==◌, [], List, ℕ, length, IfOk, OnOk, None, position};
-ghost use Rattle.usbgate_tapes.specs.TapeCommand.{Progress, next_line};
+ghost use Rattle.std.specs.Prelude.{◌≡◌, ◌≢◌, ◌⊎◌, ◌++◌, ◌+◌, ◌<◌, ◌≤◌, ◌==◌, [], List, ℕ, length, IfOk, OnOk, OnErr, None, position};
+ghost use Rattle.usbgate_tapes.specs.Wants.{LineTakes, LineWants, PieceWants};
+ghost use Rattle.usbgate_tapes.specs.TapeCommand.{Progress, next_line, tape_limit};
 ghost use Rattle.usbgate_tapes.specs.inner.TapeReader.{HasRead, GoesOn, IsJoined, Stage, Took, Stepped, Finished, AllRead, TookLast, Spoils, TookLine, Kept};
 
 use crate::status::Status;
@@ -38,7 +39,8 @@ impl<C: TapeCommand> TapeReader<C> {
     /// Reads the next piece of the tape, or, where that is empty, comes to the tape's end. It answers how the
     /// run ends: at the tape's end, or at a bad line.
     pub fn step(&mut self, alloc: Global, piece: &[u8]) -> Result<Option<Status>, Memory>
-        ensures { IfOk result (λ status. (task : C.Task) (read written : List ℕ) → Stage (C.means task) (C.Keeps task) self.old read written → Stepped (C.means task) (C.Keeps task) status self.new piece.now read written) }
+        ensures ok { IfOk result (λ status. (task : C.Task) (read written : List ℕ) → Stage (C.means task) (C.Keeps task) self.old read written → Stepped (C.means task) (C.Keeps task) status self.new piece.now read written) }
+        ensures wants { OnErr result ((task : C.Task) (read written : List ℕ) → Stage (C.means task) (C.Keeps task) self.old read written → (piece.now ≡ []) ⊎ PieceWants (C.means task) C.Wants read piece.now) }
     {
         if piece.is_empty() {
             return Ok(Some(self.end(alloc)?));
@@ -49,7 +51,8 @@ impl<C: TapeCommand> TapeReader<C> {
     /// Reads the next piece of the tape. It answers how the run ends, if a line is bad. Lines that lie whole
     /// in the piece are read where they are.
     fn take(&mut self, alloc: Global, piece: &[u8]) -> Result<Option<Status>, Memory>
-        ensures { IfOk result (λ status. (task : C.Task) (read written : List ℕ) → Stage (C.means task) (C.Keeps task) self.old read written → Took (C.means task) (C.Keeps task) status self.new (read ++ piece.now) written) }
+        ensures ok { IfOk result (λ status. (task : C.Task) (read written : List ℕ) → Stage (C.means task) (C.Keeps task) self.old read written → Took (C.means task) (C.Keeps task) status self.new (read ++ piece.now) written) }
+        ensures wants { OnErr result ((task : C.Task) (read written : List ℕ) → Stage (C.means task) (C.Keeps task) self.old read written → PieceWants (C.means task) C.Wants read piece.now) }
     {
         let mut from = 0;
         while let Some(len) = line_end(&piece[from..]) {
@@ -96,7 +99,8 @@ impl<C: TapeCommand> TapeReader<C> {
     /// Reads the line that ends with these bytes.
     fn end_line(&mut self, alloc: Global, last: &[u8]) -> Result<Option<Status>, Memory>
         requires { 0 < length (self.old.pending ++ last.now) }
-        ensures { IfOk result (λ status. (task : C.Task) (p : Progress C.Kept) → HasRead (C.Keeps task) self.old.lines p → TookLine (C.means task) (C.Keeps task) status p (self.old.pending ++ last.now) self.old self.new) }
+        ensures ok { IfOk result (λ status. (task : C.Task) (p : Progress C.Kept) → HasRead (C.Keeps task) self.old.lines p → TookLine (C.means task) (C.Keeps task) status p (self.old.pending ++ last.now) self.old self.new) }
+        ensures wants { OnErr result ((task : C.Task) (p : Progress C.Kept) → HasRead (C.Keeps task) self.old.lines p → LineWants (C.means task) C.Wants p self.old.pending last.now) }
     {
         match self.put_line(alloc, last) {
             Ok(()) => {
@@ -115,6 +119,7 @@ impl<C: TapeCommand> TapeReader<C> {
             → GoesOn (C.Keeps task) (next_line (C.means task) s (self.old.pending ++ last.now)) self.new.lines self.old.text self.new.text) }
         ensures bad { result ≡ Err LineError.Bad → (task : C.Task) (s : Progress C.Kept) → HasRead (C.Keeps task) self.old.lines s → next_line (C.means task) s (self.old.pending ++ last.now) ≡ None }
         ensures same { result ≡ Err LineError.Bad → (self.new.lines ≡ self.old.lines) × (self.new.text ≡ self.old.text) }
+        ensures memory { result ≡ Err LineError.Memory → LineTakes C.Wants self.old.pending last.now }
         ensures good { result ≡ Err LineError.Memory → IsJoined self.old.pending last.now
             ⊎ ((task : C.Task) (s : Progress C.Kept) → HasRead (C.Keeps task) self.old.lines s → next_line (C.means task) s (self.old.pending ++ last.now) ≢ None) }
     {
@@ -128,7 +133,8 @@ impl<C: TapeCommand> TapeReader<C> {
 
     /// Keeps a part of a line, unless the line passes the limit.
     fn keep(&mut self, alloc: Global, part: &[u8]) -> Result<Option<Status>, Memory>
-        ensures { IfOk result (λ status. (task : C.Task) (s : Progress C.Kept) → HasRead (C.Keeps task) self.old.lines s → Kept status s (self.old.pending ++ part.now) self.old self.new) }
+        ensures ok { IfOk result (λ status. (task : C.Task) (s : Progress C.Kept) → HasRead (C.Keeps task) self.old.lines s → Kept status s (self.old.pending ++ part.now) self.old self.new) }
+        ensures wants { OnErr result ((task : C.Task) (s : Progress C.Kept) → HasRead (C.Keeps task) self.old.lines s → s.bytes + length self.old.pending ≤ tape_limit → 0 < length part.now) }
     {
         self.pending.append(part)?;
         if self.lines.has_room(self.pending.len()) {

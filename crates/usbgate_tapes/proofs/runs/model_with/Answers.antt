@@ -3,6 +3,8 @@ use Rattle.usbgate_tapes.specs.Model.{model}
 use Rattle.usbgate_tapes.specs.Prescribed.{over_tape}
 use Rattle.usbgate_tapes.proofs.Simulated.{are-simulated, are-simulated_log}
 use Rattle.usbgate_tapes.proofs.Unread.{logs-none}
+use Rattle.usbgate_tapes.specs.Wants.{step_wants}
+use Rattle.usbgate_tapes.proofs.Wanting.{none-read}
 use Rattle.usbgate_tapes.proofs.runs.model_with.Goals as goal
 
 pub over_tape-requires : goal.over_tape-requires
@@ -29,3 +31,11 @@ returns-in-Ok-clause-simulates_log g c =
 
 pub returns-in-Err-clause-leaves_log : goal.returns-in-Err-clause-leaves_log
 returns-in-Err-clause-leaves_log g c = logs-none g.S.Source.read_gives g.K.Sink.write_gives (over_tape (model g.G.Gadget.meaning c.args.gadget)) c.args.tape.now c.args.out.now
+
+pub returns-in-Ok-clause-wants : goal.returns-in-Ok-clause-wants
+returns-in-Ok-clause-wants g c = λ out.
+    let opening = (model g.G.Gadget.meaning c.args.gadget).opening in
+    c.over_tape.ensures.wants out c.args.gadget c.in-Ok.ensures.start (c.in-Ok.ensures.text ∙ ap (λ (l : List ℕ). l ++ opening) c.new-text.ensures)
+
+pub returns-in-Err-clause-wants : goal.returns-in-Err-clause-wants
+returns-in-Err-clause-wants g c = λ out. none-read g.S.Source.read_gives (model g.G.Gadget.meaning c.args.gadget) step_wants c.args.tape.now

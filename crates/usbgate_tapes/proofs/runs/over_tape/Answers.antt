@@ -1,5 +1,6 @@
 use Rattle.usbgate_tapes.specs.Prescribed.{over_tape}
 use Rattle.usbgate_tapes.proofs.Unread.{logs-none}
+use Rattle.usbgate_tapes.proofs.Wanting.{none-read}
 use Rattle.usbgate_tapes.proofs.runs.over_tape.Goals as goal
 
 pub read_pieces-requires-clause-start : goal.read_pieces-requires-clause-start
@@ -19,3 +20,9 @@ returns-clause-kept_log g c = λ task keeps opening. c.read_pieces.ensures.kept_
 
 pub returns-in-Err-clause-leaves_log : goal.returns-in-Err-clause-leaves_log
 returns-in-Err-clause-leaves_log g c = λ task keeps opening. logs-none g.S.Source.read_gives g.K.Sink.write_gives (over_tape (g.C.TapeCommand.means task)) c.args.tape.now c.args.out.now
+
+pub returns-clause-wants : goal.returns-clause-wants
+returns-clause-wants g c = λ out task keeps opening. c.read_pieces.ensures.wants out task (c.start.ensures task keeps opening)
+
+pub returns-in-Err-clause-wants : goal.returns-in-Err-clause-wants
+returns-in-Err-clause-wants g c = λ out task keeps opening. none-read g.S.Source.read_gives (g.C.TapeCommand.means task) g.C.TapeCommand.Wants c.args.tape.now

@@ -5,7 +5,8 @@ use Rattle.gate_outside.specs.Moved.{moved}
 use Rattle.usbgate_tapes.specs.declared.status.Status.{Status}
 use Rattle.usbgate_tapes.specs.inner.TapeReader.{Stepped}
 use Rattle.usbgate_tapes.proofs.Stages.{room-falls}
-use Rattle.usbgate_tapes.proofs.Going.{goes-none, goes-written, goes-read, ran-write, logs-write, ran-read, logs-read, ran-memory, logs-memory, ran-last, logs-last, ran-end, logs-end, ran-kept, logs-kept, read-end, closes-is_quiet, quiet-not_usage, causes-none, causes-read, causes-write}
+use Rattle.usbgate_tapes.proofs.Going.{goes-none, goes-written, goes-read, ran-write, logs-write, ran-read, logs-read, ran-memory, logs-memory, ran-last, logs-last, ran-end, logs-end, ran-kept, logs-kept, read-end, closes-is_quiet, closes-remembers, quiet-not_usage, causes-none, causes-read, causes-write}
+use Rattle.usbgate_tapes.proofs.Wanting.{read-wanted}
 use Rattle.usbgate_tapes.proofs.runs.read_pieces.Goals as goal
 
 pub loop-reader-init : goal.loop-reader-init
@@ -78,6 +79,14 @@ pub returns-in-Err-step-clause-causes : goal.returns-in-Err-step-clause-causes
 returns-in-Err-step-clause-causes g c =
     causes-none _ _ _ _ _ refl (c.in-Ok.ensures.cause.stands ∙ c.loop-reader.invariant.tape) (c.in_default.ensures.cause.stands ∙ c.loop-reader.invariant.out)
 
+pub returns-in-Err-step-clause-wants : goal.returns-in-Err-step-clause-wants
+returns-in-Err-step-clause-wants g c = λ out task start.
+    let p = record c.loop-reader.reader { text = c.clear.new.self } in
+    let now =
+    goes-written (g.C.TapeCommand.means task) (g.C.TapeCommand.Keeps task) g.S.Source.read_gives g.K.Sink.write_gives g.S.Source.remaining g.K.Sink.contents c.args.tape.now c.loop-reader.tape c.args.out.now c.loop-reader.out c.write_all.new.sink c.loop-reader.reader c.as_slice.result.now c.clear.new.self (c.loop-reader.invariant.goes task start)
+    c.as_slice.ensures c.in_default.ensures.ok c.in_default.ensures.writes c.clear.ensures in
+    read-wanted g.S.Source.read_gives (g.C.TapeCommand.means task) g.C.TapeCommand.Wants c.args.tape.now c.loop-reader.tape c.read.new.self now.reads c.in-Ok.n c.read.new.buf now.read c.in-Ok.ensures.gives (c.in-Err-step.ensures.wants task (moved now.reads) now.written now.stage)
+
 pub loop-reader-preserved : goal.loop-reader-preserved
 loop-reader-preserved g c =
     let p = record c.loop-reader.reader { text = c.clear.new.self } in
@@ -87,7 +96,7 @@ loop-reader-preserved g c =
           let now =
           goes-written (g.C.TapeCommand.means task) (g.C.TapeCommand.Keeps task) g.S.Source.read_gives g.K.Sink.write_gives g.S.Source.remaining g.K.Sink.contents c.args.tape.now c.loop-reader.tape c.args.out.now c.loop-reader.out c.write_all.new.sink c.loop-reader.reader c.as_slice.result.now c.clear.new.self (c.loop-reader.invariant.goes task start)
           c.as_slice.ensures c.in_default.ensures.ok c.in_default.ensures.writes c.clear.ensures in
-          let stepped = subst (λ (o : Option Status). Stepped (g.C.TapeCommand.means task) (g.C.TapeCommand.Keeps task) o c.step.new.self (take c.in-Ok.n c.read.new.buf) (moved now.reads) now.written) c.in_default-ended.is (c.in-Ok-step.ensures task (moved now.reads) now.written now.stage) in
+          let stepped = subst (λ (o : Option Status). Stepped (g.C.TapeCommand.means task) (g.C.TapeCommand.Keeps task) o c.step.new.self (take c.in-Ok.n c.read.new.buf) (moved now.reads) now.written) c.in_default-ended.is (c.in-Ok-step.ensures.ok task (moved now.reads) now.written now.stage) in
           goes-read (g.C.TapeCommand.means task) (g.C.TapeCommand.Keeps task) g.S.Source.read_gives g.K.Sink.write_gives g.S.Source.remaining g.K.Sink.contents c.args.tape.now c.loop-reader.tape c.read.new.self c.args.out.now c.write_all.new.sink p c.step.new.self c.in-Ok.n c.read.new.buf now c.in-Ok.ensures.gives c.in-Ok.ensures.bytes.0 stepped.1;
       tape = c.in-Ok.ensures.cause.stands ∙ c.loop-reader.invariant.tape;
       out = c.in_default.ensures.cause.stands ∙ c.loop-reader.invariant.out;
@@ -100,7 +109,7 @@ loop-reader-smaller g c =
     let now =
     goes-written (g.C.TapeCommand.means task) (g.C.TapeCommand.Keeps task) g.S.Source.read_gives g.K.Sink.write_gives g.S.Source.remaining g.K.Sink.contents c.args.tape.now c.loop-reader.tape c.args.out.now c.loop-reader.out c.write_all.new.sink c.loop-reader.reader c.as_slice.result.now c.clear.new.self (c.loop-reader.invariant.goes task start)
     c.as_slice.ensures c.in_default.ensures.ok c.in_default.ensures.writes c.clear.ensures in
-    let stepped = subst (λ (o : Option Status). Stepped (g.C.TapeCommand.means task) (g.C.TapeCommand.Keeps task) o c.step.new.self (take c.in-Ok.n c.read.new.buf) (moved now.reads) now.written) c.in_default-ended.is (c.in-Ok-step.ensures task (moved now.reads) now.written now.stage) in
+    let stepped = subst (λ (o : Option Status). Stepped (g.C.TapeCommand.means task) (g.C.TapeCommand.Keeps task) o c.step.new.self (take c.in-Ok.n c.read.new.buf) (moved now.reads) now.written) c.in_default-ended.is (c.in-Ok-step.ensures.ok task (moved now.reads) now.written now.stage) in
     room-falls (g.C.TapeCommand.means task) (g.C.TapeCommand.Keeps task) (take c.in-Ok.n c.read.new.buf) now.stage stepped.1 stepped.0
 
 -- ---- the end
@@ -113,7 +122,7 @@ returns-in-Some-clause-leaves g c = λ task start.
     let now =
     goes-written (g.C.TapeCommand.means task) (g.C.TapeCommand.Keeps task) g.S.Source.read_gives g.K.Sink.write_gives g.S.Source.remaining g.K.Sink.contents c.args.tape.now c.loop-reader.tape c.args.out.now c.loop-reader.out c.write_all.new.sink c.loop-reader.reader c.as_slice.result.now c.clear.new.self (c.loop-reader.invariant.goes task start)
     c.as_slice.ensures c.in_default.ensures.ok c.in_default.ensures.writes c.clear.ensures in
-    let closes = subst (λ (o : Option Status). Stepped (g.C.TapeCommand.means task) (g.C.TapeCommand.Keeps task) o c.step.new.self (take c.in-Ok.n c.read.new.buf) (moved now.reads) now.written) c.in-Some.is (c.in-Ok-step.ensures task (moved now.reads) now.written now.stage) in
+    let closes = subst (λ (o : Option Status). Stepped (g.C.TapeCommand.means task) (g.C.TapeCommand.Keeps task) o c.step.new.self (take c.in-Ok.n c.read.new.buf) (moved now.reads) now.written) c.in-Some.is (c.in-Ok-step.ensures.ok task (moved now.reads) now.written now.stage) in
     ran-end (g.C.TapeCommand.means task) (g.C.TapeCommand.Keeps task) g.S.Source.read_gives g.K.Sink.write_gives g.S.Source.remaining g.K.Sink.contents c.args.tape.now c.loop-reader.tape c.read.new.self c.args.out.now c.write_all.new.sink c.write_all-in-Some.new.sink p c.step.new.self c.in-Some.status (take n buf) c.as_slice-in-Some.result.now now c.in-Ok.ensures.bytes.0
     (read-end n buf (g.S.Source.remaining c.read.new.self) (omega (arith, c.in-Ok.ensures.bound)) (omega (arith, c.read.auto.buf)) c.in-Ok.ensures.bytes.1) closes c.as_slice-in-Some.ensures c.in_default-write_all.ensures.ok
 
@@ -123,7 +132,7 @@ returns-in-Some-clause-leaves_log g c = λ task start.
     let now =
     goes-written (g.C.TapeCommand.means task) (g.C.TapeCommand.Keeps task) g.S.Source.read_gives g.K.Sink.write_gives g.S.Source.remaining g.K.Sink.contents c.args.tape.now c.loop-reader.tape c.args.out.now c.loop-reader.out c.write_all.new.sink c.loop-reader.reader c.as_slice.result.now c.clear.new.self (c.loop-reader.invariant.goes task start)
     c.as_slice.ensures c.in_default.ensures.ok c.in_default.ensures.writes c.clear.ensures in
-    let closes = subst (λ (o : Option Status). Stepped (g.C.TapeCommand.means task) (g.C.TapeCommand.Keeps task) o c.step.new.self (take c.in-Ok.n c.read.new.buf) (moved now.reads) now.written) c.in-Some.is (c.in-Ok-step.ensures task (moved now.reads) now.written now.stage) in
+    let closes = subst (λ (o : Option Status). Stepped (g.C.TapeCommand.means task) (g.C.TapeCommand.Keeps task) o c.step.new.self (take c.in-Ok.n c.read.new.buf) (moved now.reads) now.written) c.in-Some.is (c.in-Ok-step.ensures.ok task (moved now.reads) now.written now.stage) in
     logs-end (g.C.TapeCommand.means task) (g.C.TapeCommand.Keeps task) g.S.Source.read_gives g.K.Sink.write_gives g.S.Source.remaining g.K.Sink.contents c.args.tape.now c.loop-reader.tape c.read.new.self c.args.out.now c.write_all.new.sink c.write_all-in-Some.new.sink p c.step.new.self c.in-Some.status c.in-Ok.n c.read.new.buf c.as_slice-in-Some.result.now now c.in-Ok.ensures.gives (omega (arith, c.in-Ok.ensures.bound))
     closes c.as_slice-in-Some.ensures c.in_default-write_all.ensures.writes
 
@@ -135,7 +144,7 @@ returns-in-Some-clause-kept g c = λ task start.
     let now =
     goes-written (g.C.TapeCommand.means task) (g.C.TapeCommand.Keeps task) g.S.Source.read_gives g.K.Sink.write_gives g.S.Source.remaining g.K.Sink.contents c.args.tape.now c.loop-reader.tape c.args.out.now c.loop-reader.out c.write_all.new.sink c.loop-reader.reader c.as_slice.result.now c.clear.new.self (c.loop-reader.invariant.goes task start)
     c.as_slice.ensures c.in_default.ensures.ok c.in_default.ensures.writes c.clear.ensures in
-    let closes = subst (λ (o : Option Status). Stepped (g.C.TapeCommand.means task) (g.C.TapeCommand.Keeps task) o c.step.new.self (take c.in-Ok.n c.read.new.buf) (moved now.reads) now.written) c.in-Some.is (c.in-Ok-step.ensures task (moved now.reads) now.written now.stage) in
+    let closes = subst (λ (o : Option Status). Stepped (g.C.TapeCommand.means task) (g.C.TapeCommand.Keeps task) o c.step.new.self (take c.in-Ok.n c.read.new.buf) (moved now.reads) now.written) c.in-Some.is (c.in-Ok-step.ensures.ok task (moved now.reads) now.written now.stage) in
     ran-kept (g.C.TapeCommand.means task) (g.C.TapeCommand.Keeps task) g.S.Source.read_gives g.K.Sink.write_gives g.S.Source.remaining g.K.Sink.contents c.args.tape.now c.loop-reader.tape c.read.new.self c.args.out.now c.write_all.new.sink p c.step.new.self c.in-Some.status (take n buf) now c.in-Ok.ensures.bytes.0
     (read-end n buf (g.S.Source.remaining c.read.new.self) (omega (arith, c.in-Ok.ensures.bound)) (omega (arith, c.read.auto.buf)) c.in-Ok.ensures.bytes.1) closes
 
@@ -145,7 +154,7 @@ returns-in-Some-clause-kept_log g c = λ task start.
     let now =
     goes-written (g.C.TapeCommand.means task) (g.C.TapeCommand.Keeps task) g.S.Source.read_gives g.K.Sink.write_gives g.S.Source.remaining g.K.Sink.contents c.args.tape.now c.loop-reader.tape c.args.out.now c.loop-reader.out c.write_all.new.sink c.loop-reader.reader c.as_slice.result.now c.clear.new.self (c.loop-reader.invariant.goes task start)
     c.as_slice.ensures c.in_default.ensures.ok c.in_default.ensures.writes c.clear.ensures in
-    let closes = subst (λ (o : Option Status). Stepped (g.C.TapeCommand.means task) (g.C.TapeCommand.Keeps task) o c.step.new.self (take c.in-Ok.n c.read.new.buf) (moved now.reads) now.written) c.in-Some.is (c.in-Ok-step.ensures task (moved now.reads) now.written now.stage) in
+    let closes = subst (λ (o : Option Status). Stepped (g.C.TapeCommand.means task) (g.C.TapeCommand.Keeps task) o c.step.new.self (take c.in-Ok.n c.read.new.buf) (moved now.reads) now.written) c.in-Some.is (c.in-Ok-step.ensures.ok task (moved now.reads) now.written now.stage) in
     logs-kept (g.C.TapeCommand.means task) (g.C.TapeCommand.Keeps task) g.S.Source.read_gives g.K.Sink.write_gives g.S.Source.remaining g.K.Sink.contents c.args.tape.now c.loop-reader.tape c.read.new.self c.args.out.now c.write_all.new.sink p c.step.new.self c.in-Some.status c.in-Ok.n c.read.new.buf now c.in-Ok.ensures.gives (omega (arith, c.in-Ok.ensures.bound)) closes
 
 pub returns-in-Some-clause-causes : goal.returns-in-Some-clause-causes
@@ -155,7 +164,7 @@ returns-in-Some-clause-causes g c =
     let now =
     goes-written (g.C.TapeCommand.means task) (g.C.TapeCommand.Keeps task) g.S.Source.read_gives g.K.Sink.write_gives g.S.Source.remaining g.K.Sink.contents c.args.tape.now c.loop-reader.tape c.args.out.now c.loop-reader.out c.write_all.new.sink c.loop-reader.reader c.as_slice.result.now c.clear.new.self (c.loop-reader.invariant.goes task start)
     c.as_slice.ensures c.in_default.ensures.ok c.in_default.ensures.writes c.clear.ensures in
-    let closes = subst (λ (o : Option Status). Stepped (g.C.TapeCommand.means task) (g.C.TapeCommand.Keeps task) o c.step.new.self (take c.in-Ok.n c.read.new.buf) (moved now.reads) now.written) c.in-Some.is (c.in-Ok-step.ensures task (moved now.reads) now.written now.stage) in
+    let closes = subst (λ (o : Option Status). Stepped (g.C.TapeCommand.means task) (g.C.TapeCommand.Keeps task) o c.step.new.self (take c.in-Ok.n c.read.new.buf) (moved now.reads) now.written) c.in-Some.is (c.in-Ok-step.ensures.ok task (moved now.reads) now.written now.stage) in
     causes-none _ _ _ _ _ (closes-is_quiet (g.C.TapeCommand.means task) (g.C.TapeCommand.Keeps task) (moved now.reads) closes) (c.in-Ok.ensures.cause.stands ∙ c.loop-reader.invariant.tape)
     (c.in_default-write_all.ensures.cause.stands ∙ c.in_default.ensures.cause.stands ∙ c.loop-reader.invariant.out)
 
@@ -167,7 +176,7 @@ returns-in-Err-write_all-clause-leaves g c = λ task start.
     let now =
     goes-written (g.C.TapeCommand.means task) (g.C.TapeCommand.Keeps task) g.S.Source.read_gives g.K.Sink.write_gives g.S.Source.remaining g.K.Sink.contents c.args.tape.now c.loop-reader.tape c.args.out.now c.loop-reader.out c.write_all.new.sink c.loop-reader.reader c.as_slice.result.now c.clear.new.self (c.loop-reader.invariant.goes task start)
     c.as_slice.ensures c.in_default.ensures.ok c.in_default.ensures.writes c.clear.ensures in
-    let closes = subst (λ (o : Option Status). Stepped (g.C.TapeCommand.means task) (g.C.TapeCommand.Keeps task) o c.step.new.self (take c.in-Ok.n c.read.new.buf) (moved now.reads) now.written) c.in-Some.is (c.in-Ok-step.ensures task (moved now.reads) now.written now.stage) in
+    let closes = subst (λ (o : Option Status). Stepped (g.C.TapeCommand.means task) (g.C.TapeCommand.Keeps task) o c.step.new.self (take c.in-Ok.n c.read.new.buf) (moved now.reads) now.written) c.in-Some.is (c.in-Ok-step.ensures.ok task (moved now.reads) now.written now.stage) in
     ran-last (g.C.TapeCommand.means task) (g.C.TapeCommand.Keeps task) g.S.Source.read_gives g.K.Sink.write_gives g.S.Source.remaining g.K.Sink.contents c.args.tape.now c.loop-reader.tape c.read.new.self c.args.out.now c.write_all.new.sink c.write_all-in-Some.new.sink p c.step.new.self c.in-Some.status (take n buf) c.as_slice-in-Some.result.now now c.in-Ok.ensures.bytes.0
     (read-end n buf (g.S.Source.remaining c.read.new.self) (omega (arith, c.in-Ok.ensures.bound)) (omega (arith, c.read.auto.buf)) c.in-Ok.ensures.bytes.1) closes c.as_slice-in-Some.ensures c.in-Err-write_all.ensures.err
 
@@ -177,7 +186,7 @@ returns-in-Err-write_all-clause-leaves_log g c = λ task start.
     let now =
     goes-written (g.C.TapeCommand.means task) (g.C.TapeCommand.Keeps task) g.S.Source.read_gives g.K.Sink.write_gives g.S.Source.remaining g.K.Sink.contents c.args.tape.now c.loop-reader.tape c.args.out.now c.loop-reader.out c.write_all.new.sink c.loop-reader.reader c.as_slice.result.now c.clear.new.self (c.loop-reader.invariant.goes task start)
     c.as_slice.ensures c.in_default.ensures.ok c.in_default.ensures.writes c.clear.ensures in
-    let closes = subst (λ (o : Option Status). Stepped (g.C.TapeCommand.means task) (g.C.TapeCommand.Keeps task) o c.step.new.self (take c.in-Ok.n c.read.new.buf) (moved now.reads) now.written) c.in-Some.is (c.in-Ok-step.ensures task (moved now.reads) now.written now.stage) in
+    let closes = subst (λ (o : Option Status). Stepped (g.C.TapeCommand.means task) (g.C.TapeCommand.Keeps task) o c.step.new.self (take c.in-Ok.n c.read.new.buf) (moved now.reads) now.written) c.in-Some.is (c.in-Ok-step.ensures.ok task (moved now.reads) now.written now.stage) in
     logs-last (g.C.TapeCommand.means task) (g.C.TapeCommand.Keeps task) g.S.Source.read_gives g.K.Sink.write_gives g.S.Source.remaining g.K.Sink.contents c.args.tape.now c.loop-reader.tape c.read.new.self c.args.out.now c.write_all.new.sink c.write_all-in-Some.new.sink p c.step.new.self c.in-Some.status c.in-Ok.n c.read.new.buf c.as_slice-in-Some.result.now now c.in-Ok.ensures.gives (omega (arith, c.in-Ok.ensures.bound))
     closes c.as_slice-in-Some.ensures c.in-Err-write_all.ensures.writes_front
 
@@ -193,5 +202,13 @@ returns-in-Some-clause-command g c =
     let now =
     goes-written (g.C.TapeCommand.means task) (g.C.TapeCommand.Keeps task) g.S.Source.read_gives g.K.Sink.write_gives g.S.Source.remaining g.K.Sink.contents c.args.tape.now c.loop-reader.tape c.args.out.now c.loop-reader.out c.write_all.new.sink c.loop-reader.reader c.as_slice.result.now c.clear.new.self (c.loop-reader.invariant.goes task start)
     c.as_slice.ensures c.in_default.ensures.ok c.in_default.ensures.writes c.clear.ensures in
-    let closes = subst (λ (o : Option Status). Stepped (g.C.TapeCommand.means task) (g.C.TapeCommand.Keeps task) o c.step.new.self (take c.in-Ok.n c.read.new.buf) (moved now.reads) now.written) c.in-Some.is (c.in-Ok-step.ensures task (moved now.reads) now.written now.stage) in
+    let closes = subst (λ (o : Option Status). Stepped (g.C.TapeCommand.means task) (g.C.TapeCommand.Keeps task) o c.step.new.self (take c.in-Ok.n c.read.new.buf) (moved now.reads) now.written) c.in-Some.is (c.in-Ok-step.ensures.ok task (moved now.reads) now.written now.stage) in
     quiet-not_usage c.in-Some.status (closes-is_quiet (g.C.TapeCommand.means task) (g.C.TapeCommand.Keeps task) (moved now.reads) closes)
+
+pub returns-in-Some-clause-wants : goal.returns-in-Some-clause-wants
+returns-in-Some-clause-wants g c = λ out task start.
+    let now =
+    goes-written (g.C.TapeCommand.means task) (g.C.TapeCommand.Keeps task) g.S.Source.read_gives g.K.Sink.write_gives g.S.Source.remaining g.K.Sink.contents c.args.tape.now c.loop-reader.tape c.args.out.now c.loop-reader.out c.write_all.new.sink c.loop-reader.reader c.as_slice.result.now c.clear.new.self (c.loop-reader.invariant.goes task start)
+    c.as_slice.ensures c.in_default.ensures.ok c.in_default.ensures.writes c.clear.ensures in
+    let closes = subst (λ (o : Option Status). Stepped (g.C.TapeCommand.means task) (g.C.TapeCommand.Keeps task) o c.step.new.self (take c.in-Ok.n c.read.new.buf) (moved now.reads) now.written) c.in-Some.is (c.in-Ok-step.ensures.ok task (moved now.reads) now.written now.stage) in
+    absurd (closes-remembers (g.C.TapeCommand.means task) (g.C.TapeCommand.Keeps task) (moved now.reads) closes out)

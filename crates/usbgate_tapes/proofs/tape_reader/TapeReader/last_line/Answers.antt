@@ -7,4 +7,4 @@ pub returns-then-is_empty : goal.returns-then-is_empty
 returns-then-is_empty g c = λ task read written s. last-none (g.C.TapeCommand.means task) (g.C.TapeCommand.Keeps task) s (search rules)
 
 pub returns : goal.returns
-returns g c = IfOk-weaker c.end_line.result _ _ (λ status took task read written s. took-last (g.C.TapeCommand.means task) (g.C.TapeCommand.Keeps task) c.end_line.new.self status s (λ none. search rules) (took task s.at s.has_read)) c.end_line.ensures
+returns g c = IfOk-weaker c.end_line.result _ _ (λ status took task read written s. took-last (g.C.TapeCommand.means task) (g.C.TapeCommand.Keeps task) c.end_line.new.self status s (λ none. search rules) (took task s.at s.has_read)) c.end_line.ensures.ok
