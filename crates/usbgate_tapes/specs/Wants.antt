@@ -1,6 +1,6 @@
 -- What memory is wanted for where a tape is read: to join a line of its parts, for what a line says, to tell that one
--- is bad, and to keep a part of a line. A run ends for want of it only at its start, at the tape's end, or behind a read
--- that brings such a line or such a part.
+-- is bad, and to keep a part of a line. A run ends for want of it only at its start, at the tape's end, or behind a
+-- read that brings such a line or such a part.
 use Rattle.std.specs.Prelude.{◌≡◌, ◌⊎◌, ℕ, ◌<◌, false, List, [], ◌∷◌, ◌++◌, length, None, Result}
 use Rattle.gate_outside.specs.declared.fault.Failed.{Failed}
 use Rattle.gate_outside.specs.Calls.{front_of}
