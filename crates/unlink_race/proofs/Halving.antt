@@ -41,63 +41,63 @@ rises_at low (n ∷ ns) high (suc i) (suc j) rises before within = rises_at (n +
 abbrev pub number_at : Seen (ℕ × Live) → ℕ → Option ℕ
 number_at arena r = option_map (λ (e : ℕ × Live). e.0) (entry_of arena r)
 
-module _ (arena : Seen (ℕ × Live)) (rows : List ℕ) (kept : Kept key_of (entry_of arena) rows) where
+module _ (arena : Seen (ℕ × Live)) (keys : List ℕ) (kept : Kept key_of (entry_of arena) keys) where
   abbrev numbers : List ℕ
-  numbers = numbers_of arena rows
+  numbers = numbers_of arena keys
 
-  long : length (numbers_of arena rows) ≡ length rows
-  long = long_numbers arena rows kept
+  long : length (numbers_of arena keys) ≡ length keys
+  long = long_numbers arena keys kept
 
-  leads : (i : ℕ) → i < length rows → number_at arena (get_or rows i 0) ≡ Some (get_or (numbers_of arena rows) i 0)
+  leads : (i : ℕ) → i < length keys → number_at arena (get_or keys i 0) ≡ Some (get_or (numbers_of arena keys) i 0)
   leads i within =
-      let all = length-listed key_of (entry_of arena) rows kept in
-      let inside : i < length (in_order arena rows) = omega (arith, all, within) in
-      let row = get_or rows i 0 in
-      let took = took_at key_of (entry_of arena) (entry_of arena) rows i row within (get_or_default rows i 0 row within) (λ _ _. refl) kept in
-      ap (option_map (λ (e : ℕ × Live). e.0)) (took.entry ∙ slice_get-get_or (in_order arena rows) i (0, no_live) inside)
-      ∙ ap Some (sym (get_or-map (λ (e : ℕ × Live). e.0) (in_order arena rows) i (0, no_live) 0 inside))
+      let all = length-listed key_of (entry_of arena) keys kept in
+      let inside : i < length (in_order arena keys) = omega (arith, all, within) in
+      let row = get_or keys i 0 in
+      let took = took_at key_of (entry_of arena) (entry_of arena) keys i row within (get_or_default keys i 0 row within) (λ _ _. refl) kept in
+      ap (option_map (λ (e : ℕ × Live). e.0)) (took.entry ∙ slice_get-get_or (in_order arena keys) i (0, no_live) inside)
+      ∙ ap Some (sym (get_or-map (λ (e : ℕ × Live). e.0) (in_order arena keys) i (0, no_live) 0 inside))
 
-  module _ (high : ℕ) (rises : Rises 0 (numbers_of arena rows) high) (number : ℕ) where
-    up : (i j : ℕ) → i < j → j < length rows → get_or (numbers_of arena rows) i 0 < get_or (numbers_of arena rows) j 0
-    up i j before within = rises_at 0 (numbers_of arena rows) high i j rises before (let e = long in omega (arith, within, e))
+  module _ (high : ℕ) (rises : Rises 0 (numbers_of arena keys) high) (number : ℕ) where
+    up : (i j : ℕ) → i < j → j < length keys → get_or (numbers_of arena keys) i 0 < get_or (numbers_of arena keys) j 0
+    up i j before within = rises_at 0 (numbers_of arena keys) high i j rises before (let e = long in omega (arith, within, e))
 
     -- the number stands at one place, or at none
-    pub number_at_place : (i : ℕ) → i < length rows → get_or (numbers_of arena rows) i 0 ≡ number → Some i ≡ position (λ n. n == number) (numbers_of arena rows)
+    pub number_at_place : (i : ℕ) → i < length keys → get_or (numbers_of arena keys) i 0 ≡ number → Some i ≡ position (λ n. n == number) (numbers_of arena keys)
     number_at_place i within is =
         let e = long in
-        let inside : i < length (numbers_of arena rows) = omega (arith, within, e) in
-        let at = position_or_len_is (λ n. n == number) (numbers_of arena rows) i 0 (omega (arith, inside)) (λ k before. ne_eqb _ number (λ same. (let less = up k i before within in omega (arith, less, same, is)))) (λ _. eq-eqb _ number is) in
-        rw (at, lt-ltb i (length (numbers_of arena rows)) inside) refl
+        let inside : i < length (numbers_of arena keys) = omega (arith, within, e) in
+        let at = position_or_len_is (λ n. n == number) (numbers_of arena keys) i 0 (omega (arith, inside)) (λ k before. ne_eqb _ number (λ same. (let less = up k i before within in omega (arith, less, same, is)))) (λ _. eq-eqb _ number is) in
+        rw (at, lt-ltb i (length (numbers_of arena keys)) inside) refl
 
-    number_nowhere : ((k : ℕ) → k < length rows → get_or (numbers_of arena rows) k 0 ≢ number) → None ≡ position (λ n. n == number) (numbers_of arena rows)
+    number_nowhere : ((k : ℕ) → k < length keys → get_or (numbers_of arena keys) k 0 ≢ number) → None ≡ position (λ n. n == number) (numbers_of arena keys)
     number_nowhere none =
         let e = long in
-        let n = length (numbers_of arena rows) in
-        let at = position_or_len_is (λ n. n == number) (numbers_of arena rows) n 0 (omega arith) (λ k before. ne_eqb _ number (none k (omega (arith, before, e)))) (λ past. absurd (omega (arith, past))) in
+        let n = length (numbers_of arena keys) in
+        let at = position_or_len_is (λ n. n == number) (numbers_of arena keys) n 0 (omega arith) (λ k before. ne_eqb _ number (none k (omega (arith, before, e)))) (λ past. absurd (omega (arith, past))) in
         rw (at, le-ltb n n (omega arith)) refl
 
     abbrev compared : ℕ → Ordering
     compared r = option_cmp nat_cmp (number_at arena r) (Some number)
 
-    compared_at : (i : ℕ) → i < length rows → compared (get_or rows i 0) ≡ nat_cmp (get_or (numbers_of arena rows) i 0) number
+    compared_at : (i : ℕ) → i < length keys → compared (get_or keys i 0) ≡ nat_cmp (get_or (numbers_of arena keys) i 0) number
     compared_at i within = ap (λ o. option_cmp nat_cmp o (Some number)) (leads i within)
 
     ordered : (a b : ℕ) → a ≤ b → ordering_index (nat_cmp a number) ≤ ordering_index (nat_cmp b number)
     ordered a b le = grind (arith, nat_tests)
 
-    rise : IsNonDecreasingBy (λ r. ordering_index (compared r)) rows
-    rise = IsNonDecreasingBy-from_default (λ r. ordering_index (compared r)) rows 0 (λ i j le within.
+    rise : IsNonDecreasingBy (λ r. ordering_index (compared r)) keys
+    rise = IsNonDecreasingBy-from_default (λ r. ordering_index (compared r)) keys 0 (λ i j le within.
         elim (cases_eq i j) [
-          | inl same ↦ (let e : ordering_index (compared (get_or rows i 0)) ≡ ordering_index (compared (get_or rows j 0)) = ap (λ k. ordering_index (compared (get_or rows k 0))) same in omega (arith, e))
+          | inl same ↦ (let e : ordering_index (compared (get_or keys i 0)) ≡ ordering_index (compared (get_or keys j 0)) = ap (λ k. ordering_index (compared (get_or keys k 0))) same in omega (arith, e))
           | inr other ↦ (
               let less = up i j (omega (arith, le, other)) within in
               rw (compared_at i (omega (arith, le, within)), compared_at j within) (ordered _ _ (omega (arith, less))))
         ])
 
-    pub halved : (r : Result ℕ ℕ) → IsSearchInRange r (length rows) → IsBinarySearchResult compared rows r → result_ok r ≡ position (λ n. n == number) (numbers_of arena rows)
+    pub halved : (r : Result ℕ ℕ) → IsSearchInRange r (length keys) → IsBinarySearchResult compared keys r → result_ok r ≡ position (λ n. n == number) (numbers_of arena keys)
     halved (Ok i) within equal = number_at_place i within (ranked _ number _ (sym (sym (compared_at i within) ∙ equal 0)))
     halved (Err i) within parted = number_nowhere (λ k inside same.
         elim (cases_lt k i) [
-          | inl before ↦ (let less : get_or (numbers_of arena rows) k 0 < number = ranked _ number _ (sym (sym (compared_at k inside) ∙ (parted rise).0 k 0 (omega arith) before)) in omega (arith, less, same))
-          | inr after ↦ (let more : number < get_or (numbers_of arena rows) k 0 = ranked _ number _ (sym (sym (compared_at k inside) ∙ (parted rise).1 k 0 after inside)) in omega (arith, more, same))
+          | inl before ↦ (let less : get_or (numbers_of arena keys) k 0 < number = ranked _ number _ (sym (sym (compared_at k inside) ∙ (parted rise).0 k 0 (omega arith) before)) in omega (arith, less, same))
+          | inr after ↦ (let more : number < get_or (numbers_of arena keys) k 0 = ranked _ number _ (sym (sym (compared_at k inside) ∙ (parted rise).1 k 0 after inside)) in omega (arith, more, same))
         ])
