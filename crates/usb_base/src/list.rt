@@ -75,7 +75,8 @@ impl<T: Drop> List<T> {
 
     /// Makes room for so many items more, so that none is moved as they are put at the end.
     pub fn reserve(&mut self, more: usize) -> Result<(), Memory>
-        ensures { self.new ≡ self.old }
+        ensures stands { self.new ≡ self.old }
+        ensures wants { OnErr result (0 < more) }
     {
         self.items.reserve(more)?;
         Ok(())

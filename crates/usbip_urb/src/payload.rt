@@ -55,6 +55,7 @@ pub(crate) fn read_descs(alloc: Global, bytes: &[u8]) -> Result<Descs, Memory>
     ensures err { OnErr result (0 < length bytes.now / DESC_SIZE) }
 {
     let mut descs = List::new(alloc);
+    descs.reserve(bytes.len() / DESC_SIZE)?;
     for desc in bytes.chunks_exact(DESC_SIZE) {
         descs.push(desc_at(desc))?;
     }
