@@ -33,11 +33,6 @@ Hears (Broken e) polled old new = (polled ≡ Ended) × (new ≡ closed old)
 abbrev pub Reads : {S : Type 0} → (S → List ℕ → Result ℕ Error → S → Type 0) → List ℕ → Result ℕ Error → S → State S → Type 0
 Reads {S = S} gives buf answer new old = (stream : S) × ((old.stream ≡ Some stream) × gives stream buf answer new)
 
--- the same, by the step that this was
-abbrev pub ReadsOnce : {S : Type 0} → (S → List ℕ → Result ℕ Error → S → Type 0) → List ℕ → Step → State S → State S → Type 0
-ReadsOnce {S = S} gives buf step old new =
-    (answer : Result ℕ Error) × ((before : S) × ((after : S) × ((old.stream ≡ Some before) × gives before buf answer after × (step ≡ step_for answer) × (new ≡ read_to after old))))
-
 -- the link is passed over, as long after a read that had to wait as it may be
 pub record PassesOver {S : Type 0} (old new : State S) : Type 0 where
   pub whole : old.broken ≡ false

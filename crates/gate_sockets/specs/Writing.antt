@@ -5,7 +5,6 @@ use Rattle.gate_sockets.specs.declared.step.Step.{Step}
 use Rattle.gate_sockets.specs.declared.step.Step.TheVariants.{Moved, Blocked, Cut, Broken}
 use Rattle.gate_sockets.specs.Calls.{Call, Calls, came, went, tries, broken}
 use Rattle.gate_sockets.specs.State.{State, broke, faulted}
-use Rattle.gate_sockets.specs.Step.{step_for}
 
 -- how often a write is tried that can't go on
 abbrev pub most_tries : ℕ
@@ -58,11 +57,6 @@ pub record GivesUp {S : Type 0} (reads writes : S → List ℕ → Result ℕ Er
 abbrev pub WriteSteps : {S E : Type 0} → (S → List ℕ → Result ℕ Error → S → Type 0) → (S → List ℕ → Result ℕ Error → S → Type 0) → Result ℕ E → List ℕ → State S → State S → Type 0
 WriteSteps reads writes (Ok n) piece old new = Sends reads writes n piece old new
 WriteSteps reads writes (Err _) piece old new = GivesUp reads writes old new
-
--- the connection was written to once, and this is the step that it was
-abbrev pub WritesOnce : {S : Type 0} → (S → List ℕ → Result ℕ Error → S → Type 0) → List ℕ → Step → State S → State S → Type 0
-WritesOnce {S = S} gives piece step old new =
-    (answer : Result ℕ Error) × ((before : S) × ((after : S) × ((old.stream ≡ Some before) × gives before piece answer after × (step ≡ step_for answer) × (new ≡ record old { stream = Some after }))))
 
 -- how many bytes a step of a write has taken of so many, and whether it broke the link
 abbrev pub Takes : {S : Type 0} → Step → ℕ → Option ℕ → State S → State S → Type 0

@@ -2,10 +2,9 @@
 
 ghost use Rattle.std.specs.Prelude.{◌≡◌, ◌<◌, false, length, IsTrue, is_some};
 ghost use Rattle.gate_outside.specs.Doors.{Polls, TookWithin};
-ghost use Rattle.gate_sockets.specs.Polling.{PassesOver, ReadsOnce, Heard, Hears, PollSteps};
+ghost use Rattle.gate_sockets.specs.Polling.{PassesOver, Heard, Hears, PollSteps};
 ghost use Rattle.gate_sockets.specs.State.{fresh, opened, closed, broke, faulted, idled, untold};
-ghost use Rattle.gate_sockets.specs.Step.{IsStepWithin};
-ghost use Rattle.gate_sockets.specs.Writing.{ReadOn, WritesOnce, WroteOnce, Takes};
+ghost use Rattle.gate_sockets.specs.Writing.{ReadOn, WroteOnce, Takes};
 
 use crate::ahead::Ahead;
 use crate::connection::Connection;
@@ -179,7 +178,12 @@ impl<S: Connection> Socket<S> {
         ensures heard { Heard S.read_gives result buf.new self.old self.new }
     {
         ready.reads(self.side);
-        let step = self.read_once(buf);
+        self.rests = 0;
+        let limit = buf.len();
+        let Some(stream) = &mut self.stream else {
+            unreachable!();
+        };
+        let step = step_of(stream.read_once(buf), limit);
         match step {
             Step::Blocked => ready.drained(),
             _ => ready.moved(),
@@ -225,19 +229,6 @@ impl<S: Connection> Socket<S> {
         self.end()
     }
 
-    fn read_once(&mut self, buf: &mut [u8]) -> Step
-        requires { IsTrue (is_some self.old.stream) }
-        ensures within { IsStepWithin (length buf.new) result }
-        ensures reads { ReadsOnce S.read_gives buf.new result self.old self.new }
-    {
-        let limit = buf.len();
-        self.rests = 0;
-        match &mut self.stream {
-            Some(stream) => step_of(stream.read_once(buf), limit),
-            None => unreachable!(),
-        }
-    }
-
     /// Writes a front of the piece, where that need not wait.
     pub(crate) fn write_once(&mut self, piece: &[u8]) -> Option<usize>
         requires up { IsTrue (is_some self.old.stream) }
@@ -247,19 +238,11 @@ impl<S: Connection> Socket<S> {
         if self.broken {
             return Some(piece.len());
         }
-        let step = self.send(piece);
+        let Some(stream) = &mut self.stream else {
+            unreachable!();
+        };
+        let step = step_of(stream.write_once(piece), piece.len());
         self.take(step, piece.len())
-    }
-
-    fn send(&mut self, piece: &[u8]) -> Step
-        requires { IsTrue (is_some self.old.stream) }
-        ensures within { IsStepWithin (length piece.now) result }
-        ensures writes { WritesOnce S.write_gives piece.now result self.old self.new }
-    {
-        match &mut self.stream {
-            Some(stream) => step_of(stream.write_once(piece), piece.len()),
-            None => unreachable!(),
-        }
     }
 
     /// How many bytes a write of so many has taken.

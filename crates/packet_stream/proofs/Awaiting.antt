@@ -1,7 +1,7 @@
 -- What is awaited is the least number at which anything is decided, and until then everything stays short.
 use Rattle.std.proofs.Common.{◌≡◌, ℕ, ◌<◌, ◌≤◌, ◌⊎◌, inl, inr, Bool, true, false, cond, List, [], ◌∷◌, ◌++◌, length, Option, Some, None, refl, sym, ap, subst, ◌∙◌, arith}
 use Rattle.std.specs.Prelude.{nat_lt, not, ◌&&◌}
-use Rattle.std.proofs.lemmas.Bool.{ltb-true, ltb-false, lt-ltb}
+use Rattle.std.proofs.lemmas.Bool.{and_parts, ltb-true, ltb-false, lt-ltb}
 use Rattle.packet_stream.specs.Format.{Check, wrong_at, Format, Found, Whole, Short, reading_by, reading}
 use Rattle.packet_stream.specs.Joined.{guarded, joined, renamed}
 use Rattle.packet_stream.specs.Awaited.{IsComplete, Decides, IsAwaited, StaysShort, first_awaited, awaited}
@@ -27,10 +27,6 @@ short_from f b none less = let e = lt-ltb (length b) (f.size b) less in ap (read
 
 -- ---- the least number
 
-both_true : (t u : Bool) → (t && u) ≡ true → (t ≡ true) × (u ≡ true)
-both_true true u e = (refl, e)
-both_true false u e = absurd cc
-
 one_false : (t u : Bool) → (t && u) ≡ false → t ≡ true → u ≡ false
 one_false true u e is = e
 one_false false u e is = absurd cc
@@ -43,11 +39,11 @@ first_above : {R : Type 0} (cs : List (Check R)) (b : List ℕ) (size : ℕ) →
 first_above [] b size less = less
 first_above (c ∷ cs) b size less =
     above_by (c.tried b && nat_lt (length b) c.needed) (length b) c.needed (first_awaited cs b size)
-    (λ e. ltb-true (length b) c.needed (both_true (c.tried b) (nat_lt (length b) c.needed) e).1) (first_above cs b size less)
+    (λ e. ltb-true (length b) c.needed (and_parts (c.tried b) (nat_lt (length b) c.needed) e).1) (first_above cs b size less)
 
 holds_by : {R : Type 0} (c : Check R) (cs : List (Check R)) (b : List ℕ) (size n : ℕ) (t : Bool) → (c.tried b && nat_lt (length b) c.needed) ≡ t → IsComplete cs b n ⊎ (size ≡ n) →
     IsComplete (c ∷ cs) b (cond t c.needed n) ⊎ (size ≡ cond t c.needed n)
-holds_by c cs b size n true e later = inl (inl ((both_true (c.tried b) (nat_lt (length b) c.needed) e).0, refl))
+holds_by c cs b size n true e later = inl (inl ((and_parts (c.tried b) (nat_lt (length b) c.needed) e).0, refl))
 holds_by c cs b size n false e (inl h) = inl (inr h)
 holds_by c cs b size n false e (inr h) = inr h
 
@@ -104,7 +100,7 @@ pub first_most : {R : Type 0} (cs : List (Check R)) (n : ℕ) (b : List ℕ) (si
 first_most [] n b size most le = le
 first_most (c ∷ cs) n b size most le =
     most_by (c.tried b && nat_lt (length b) c.needed) c.needed (first_awaited cs b size) n
-    (λ e. let parts = both_true (c.tried b) (nat_lt (length b) c.needed) e in most.0 parts.0 (ltb-true (length b) c.needed parts.1))
+    (λ e. let parts = and_parts (c.tried b) (nat_lt (length b) c.needed) e in most.0 parts.0 (ltb-true (length b) c.needed parts.1))
     (first_most cs n b size most.1 le)
 
 -- no check needs more than n bytes
@@ -177,12 +173,12 @@ stays_short f patient b short n is more less =
 
 complete_off : {R : Type 0} (test : List ℕ → Bool) (cs ds : List (Check R)) (b : List ℕ) (n : ℕ) → test b ≡ false → IsComplete (guarded test cs ++ ds) b n → IsComplete ds b n
 complete_off test [] ds b n e h = h
-complete_off test (c ∷ cs) ds b n e (inl h) = let no = (both_true (test b) (c.tried b) h.0).0 in absurd cc
+complete_off test (c ∷ cs) ds b n e (inl h) = let no = (and_parts (test b) (c.tried b) h.0).0 in absurd cc
 complete_off test (c ∷ cs) ds b n e (inr h) = complete_off test cs ds b n e h
 
 complete_on : {R : Type 0} (test : List ℕ → Bool) (cs ds : List (Check R)) (b : List ℕ) (n : ℕ) → IsComplete (guarded test cs ++ ds) b n → IsComplete cs b n ⊎ IsComplete ds b n
 complete_on test [] ds b n h = inr h
-complete_on test (c ∷ cs) ds b n (inl h) = inl (inl ((both_true (test b) (c.tried b) h.0).1, h.1))
+complete_on test (c ∷ cs) ds b n (inl h) = inl (inl ((and_parts (test b) (c.tried b) h.0).1, h.1))
 complete_on test (c ∷ cs) ds b n (inr h) = elim (complete_on test cs ds b n h) [
   | inl g ↦ inl (inr g)
   | inr g ↦ inr g
@@ -199,12 +195,12 @@ complete_last test (c ∷ cs) ds b n h = inr (complete_last test cs ds b n h)
 
 none_complete : {R : Type 0} (test : List ℕ → Bool) (cs : List (Check R)) (b : List ℕ) (n : ℕ) → test b ≡ false → IsComplete (guarded test cs) b n → ⊥
 none_complete test [] b n e h = h
-none_complete test (c ∷ cs) b n e (inl h) = let no = (both_true (test b) (c.tried b) h.0).0 in absurd cc
+none_complete test (c ∷ cs) b n e (inl h) = let no = (and_parts (test b) (c.tried b) h.0).0 in absurd cc
 none_complete test (c ∷ cs) b n e (inr h) = none_complete test cs b n e h
 
 all_complete : {R : Type 0} (test : List ℕ → Bool) (cs : List (Check R)) (b : List ℕ) (n : ℕ) → IsComplete (guarded test cs) b n → IsComplete cs b n
 all_complete test [] b n h = h
-all_complete test (c ∷ cs) b n (inl h) = inl ((both_true (test b) (c.tried b) h.0).1, h.1)
+all_complete test (c ∷ cs) b n (inl h) = inl ((and_parts (test b) (c.tried b) h.0).1, h.1)
 all_complete test (c ∷ cs) b n (inr h) = inr (all_complete test cs b n h)
 
 each_complete : {R : Type 0} (test : List ℕ → Bool) (cs : List (Check R)) (b : List ℕ) (n : ℕ) → test b ≡ true → IsComplete cs b n → IsComplete (guarded test cs) b n

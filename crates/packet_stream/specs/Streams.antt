@@ -1,14 +1,12 @@
 -- Where a stream stands, of which bytes have come in pieces and packets were given one by one.
-use Rattle.std.specs.Prelude.{◌≡◌, ℕ, ◌-◌, ◌^◌, ◌<◌, min, Bool, true, false, List, [], ◌∷◌, ◌++◌, length, Option, Some, None, Result, Ok, Err}
+use Rattle.std.specs.Prelude.{◌≡◌, ℕ, ◌<◌, Bool, true, false, List, [], ◌∷◌, ◌++◌, length, Option, Some, None, Result, Ok, Err}
 use Rattle.usb_base.specs.Number.{AreBytes}
+-- a place past the greatest number is that number
+pub use Rattle.usb_base.specs.Number.{capped}
 use Rattle.packet_stream.specs.Split.{Reader, Position, Splitting, with_packets, split}
 use Rattle.usb_base.specs.declared.reason.Reason.{Reason}
 use Rattle.packet_stream.specs.declared.read.ReadError.{ReadError}
 use Rattle.packet_stream.specs.declared.read.ReadError.TheVariants.{Refused, Memory}
-
--- a place past the greatest number is that number
-abbrev pub capped : ℕ → ℕ
-capped n = min n (2 ^ 64 - 1)
 
 -- what is kept of a stream
 pub record Kept (S : Type 0) : Type 0 where

@@ -3,13 +3,12 @@
 #![tactic(auto)]
 
 mod format;
-mod packet_bytes;
 mod read;
 mod splitting;
 mod stream;
 
 pub use format::PacketFormat;
-pub use packet_bytes::PacketBytes;
 pub use read::{Read, ReadError};
 pub use splitting::splits_well;
 pub use stream::Stream;
+pub use usb_base::PacketBytes;

@@ -1,2 +1,4 @@
+pub mod Firsts
 pub mod Numbers
+pub mod Fronts
 pub mod Setups

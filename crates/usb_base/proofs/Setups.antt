@@ -1,20 +1,15 @@
 -- A setup and its eight bytes.
-use Rattle.std.proofs.Common.{◌≡◌, ℕ, ◌≤◌, List, [], ◌∷◌, ◌++◌, length, take, refl, sym, ap, ◌∙◌, append_assoc, arith}
+use Rattle.std.proofs.Common.{◌≡◌, ℕ, List, [], ◌∷◌, ◌++◌, length, refl, sym, ap, ◌∙◌, append_assoc, arith}
 use Rattle.std.proofs.lemmas.List.{take_all, append-nil, length-append}
 use Rattle.std.specs.Int.{w16}
-use Rattle.usb_base.specs.Number.{le, le_at, byte_at}
+use Rattle.usb_base.specs.Number.{le, le_at}
+use Rattle.usb_base.proofs.Fronts.{two}
 use Rattle.usb_base.specs.Setup.{SpellsRead, ReadsSpelled}
 use Rattle.usb_base.proofs.Numbers.{then, le_spelled_16, le_found_16, length-le}
 
-first_two : (b : List ℕ) → 2 ≤ length b → byte_at 0 b ∷ byte_at 1 b ∷ [] ≡ take 2 b
-first_two [] h = absurd (omega arith)
-first_two (x ∷ []) h = absurd (omega arith)
-first_two (x ∷ y ∷ bs) h = refl
-
 pub spells_read : SpellsRead
 spells_read b fits e =
-    let two = first_two b (omega arith) in
-    let four = then 2 2 b _ _ two (le_spelled_16 2 b fits (omega arith)) in
+    let four = then 2 2 b _ _ (two b (omega arith)) (le_spelled_16 2 b fits (omega arith)) in
     let six = then 4 2 b _ _ four (le_spelled_16 4 b fits (omega arith)) in
     let eight = then 6 2 b _ _ six (le_spelled_16 6 b fits (omega arith)) in
     eight ∙ take_all 8 b (omega arith)

@@ -1,4 +1,5 @@
 pub mod Number
+pub mod Firsts
 pub mod Reason
 pub mod Refusal
 pub mod Speed

@@ -1,5 +1,5 @@
 -- Numbers in bytes, the most or the least significant byte first, and what stands at a place of a list of bytes.
-use Rattle.std.specs.Prelude.{ℕ, ◌<◌, List, take, drop, slice_index}
+use Rattle.std.specs.Prelude.{ℕ, ◌<◌, ◌-◌, ◌^◌, min, List, take, drop, slice_index}
 use Rattle.std.specs.Int.{Width, byte_len, to_be_bytes, to_le_bytes, from_be_bytes, from_le_bytes}
 
 -- the bytes of a number of this width
@@ -27,3 +27,7 @@ byte_at place bytes = slice_index bytes place
 -- a list of bytes is a list of numbers below 256
 abbrev pub AreBytes : List ℕ → Type 0
 AreBytes bytes = (i : ℕ) → slice_index bytes i < 256
+
+-- a number past the greatest of 64 bits is that number
+abbrev pub capped : ℕ → ℕ
+capped n = min n (2 ^ 64 - 1)

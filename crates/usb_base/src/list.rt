@@ -1,8 +1,9 @@
 //! Lists that contracts see as lists.
 
-ghost use Rattle.std.specs.Prelude.{◌≡◌, ◌++◌, ◌∷◌, [], ◌≤◌, ◌<◌, ◌+◌, length, take, drop, IsTrue, ◌↔◌, OnOk, OnErr, IfOk};
+ghost use Rattle.std.specs.Prelude.{◌≡◌, ◌++◌, ◌∷◌, [], ◌≤◌, ◌<◌, length, take, drop, IsTrue, ◌↔◌, OnOk, OnErr, IfOk};
 
 use crate::memory::Memory;
+use crate::packet_bytes::PacketBytes;
 use std::alloc::Global;
 use std::marker::Model;
 use std::mem;
@@ -72,12 +73,35 @@ impl<T: Drop> List<T> {
         Ok(())
     }
 
+    /// Makes room for so many items more, so that none is moved as they are put at the end.
+    pub fn reserve(&mut self, more: usize) -> Result<(), Memory>
+        ensures stands { self.new ≡ self.old }
+        ensures wants { OnErr result (0 < more) }
+    {
+        self.items.reserve(more)?;
+        Ok(())
+    }
+
     /// Keeps the first `len` items.
     pub fn cut(&mut self, len: usize)
         requires { len ≤ length self.old }
         ensures { self.new ≡ take len self.old }
     {
         self.items.truncate(self.front + len);
+    }
+
+    /// After a call that puts items behind the first `len`: where it gave an error, what it has put there is dropped. So
+    /// all of them come, or none.
+    pub fn cut_on_err<V, E>(&mut self, len: usize, given: Result<V, E>) -> Result<V, E>
+        requires { OnErr given (len ≤ length self.old) }
+        ensures same { result ≡ given }
+        ensures ok { OnOk given (self.new ≡ self.old) }
+        ensures err { OnErr given (self.new ≡ take len self.old) }
+    {
+        if given.is_err() {
+            self.cut(len);
+        }
+        given
     }
 
     /// Drops every item, and keeps the room.
@@ -189,23 +213,28 @@ impl List<u8> {
         }
         Ok(())
     }
+}
 
-    /// Takes the `len` bytes from the byte `from` on, and drops the first `size`. Where the list is little more than those,
-    /// and long, its memory becomes theirs, and what stands behind is copied to memory of its own; else they are copied.
-    pub fn take_part(
+impl PacketBytes for Bytes {
+    ghost contents = { λ bytes. bytes };
+
+    fn as_slice(&self) -> &[u8] {
+        self.as_slice()
+    }
+
+    fn advance(&mut self, count: usize) {
+        self.advance(count);
+    }
+
+    /// Where the part is long, and at least half of what the memory of the list holds, that memory becomes its own, and
+    /// what stands behind is copied to another; else the part is copied.
+    fn take_part(
         &mut self,
         alloc: Global,
         from: usize,
         len: usize,
         size: usize,
-    ) -> Result<Bytes, Memory>
-        requires within { from + len ≤ size }
-        requires there { size ≤ length self.old }
-        ensures part { IfOk result (λ part. part ≡ take len (drop from self.old)) }
-        ensures rest { OnOk result (self.new ≡ drop size self.old) }
-        ensures err { OnErr result (self.new ≡ self.old) }
-        ensures wants { OnErr result (0 < len) }
-    {
+    ) -> Result<Bytes, Memory> {
         if len < LONG || len < self.items.len() / 2 {
             let part = Bytes::copied(alloc, &self.as_slice()[from..from + len])?;
             self.advance(size);

@@ -1,8 +1,8 @@
 -- What lets a reader wait for bytes: no later byte makes a packet shorter, and no check that isn't tried fails.
 use Rattle.std.proofs.Common.{◌≡◌, ℕ, zero, suc, ◌+◌, ◌*◌, ◌<◌, ◌≤◌, ◌==◌, inl, inr, Bool, true, false, cond, List, [], ◌∷◌, ◌++◌, length, drop, refl, sym, ap, subst, ◌∙◌, arith}
-use Rattle.std.specs.Prelude.{nat_le, nat_lt, not, ◌&&◌, ◌||◌}
+use Rattle.std.specs.Prelude.{nat_le, nat_lt, not, ◌&&◌}
 use Rattle.std.specs.Int.{w16, w32}
-use Rattle.std.proofs.lemmas.Bool.{cases_lt, le-ltb, lt-ltb, le-leb, leb-true}
+use Rattle.std.proofs.lemmas.Bool.{and_parts, cases_lt, le-ltb, lt-ltb, le-leb, leb-true, not_from_false, or_left}
 use Rattle.std.proofs.lemmas.Grind.{common_steps}
 use Rattle.std.proofs.lemmas.List.{length-append, drop_all, drop-append-le, get_or_past, get_or_append_left}
 use Rattle.usb_base.specs.Number.{be_at, byte_at}
@@ -211,15 +211,11 @@ behind_longer b more less =
 
 -- ---- the count is tried in no other reply
 
-few_by : (t u : Bool) → t ≡ false → (not t || u) ≡ true
-few_by true u e = absurd cc
-few_by false u e = refl
-
 count_idle : (b more : List ℕ) → length (b ++ more) < behind_head b → has_count b ≡ false → 12 ≤ length (b ++ more) → count_check.passes (b ++ more) ≡ true
 count_idle b more less untried there =
     elim (cases_lt (length b) 8) [
       | inl short ↦ absurd (omega (arith, less, short_behind b short, there))
-      | inr whole ↦ few_by (counts (be_at w16 2 (b ++ more)) (be_at w32 4 (b ++ more))) (nat_le (be_at w32 8 (b ++ more)) 1024) (counted b more whole ∙ (sym (headed_count b whole) ∙ untried))
+      | inr whole ↦ or_left (not (counts (be_at w16 2 (b ++ more)) (be_at w32 4 (b ++ more)))) (nat_le (be_at w32 8 (b ++ more)) 1024) (not_from_false (counts (be_at w16 2 (b ++ more)) (be_at w32 4 (b ++ more))) (counted b more whole ∙ (sym (headed_count b whole) ∙ untried)))
     ]
 
 -- ---- the law
@@ -242,13 +238,9 @@ count_most true true n most = most refl
 count_most true false n most = omega arith
 count_most false u n most = omega arith
 
-counts_from : (t u : Bool) → (t && u) ≡ true → (t ≡ true) × (u ≡ true)
-counts_from true u e = (refl, e)
-counts_from false u e = absurd cc
-
 behind_most : (b : List ℕ) → behind_head b ≤ reply_size b
 behind_most b = count_most (has_count b) (nat_lt (length b) 12) (reply_size b) (λ e.
-    let parts = counts_from (nat_le 8 (length b)) (counts (be_at w16 2 b) (be_at w32 4 b)) e in
+    let parts = and_parts (nat_le 8 (length b)) (counts (be_at w16 2 b) (be_at w32 4 b)) e in
     list_size b (leb-true 8 (length b) parts.0) parts.1)
 
 pub replies_patient : IsPatient replies

@@ -26,13 +26,8 @@ pub fn write_op(packet: &OpPacket, out: &mut Bytes) -> Result<(), Memory>
     ensures { Appends result out.old out.new (spelling packet.now) }
 {
     let before = out.len();
-    match push_packet(packet, out) {
-        Ok(()) => Ok(()),
-        Err(error) => {
-            out.cut(before);
-            Err(error)
-        }
-    }
+    let pushed = push_packet(packet, out);
+    out.cut_on_err(before, pushed)
 }
 
 fn push_packet(packet: &OpPacket, out: &mut Bytes) -> Result<(), Memory>

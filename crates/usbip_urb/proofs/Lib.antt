@@ -4,4 +4,3 @@ pub mod Buffers
 pub mod ClientPackets
 pub mod Awaits
 pub mod ClientAwaits
-pub mod Taken

@@ -16,7 +16,7 @@ use crate::check::wrong_answer;
 use crate::code::{HEAD_SIZE, USBIP_RET_SUBMIT};
 use crate::field::{head_at, ret_unlink_at};
 use crate::packet::{RetSubmit, UrbError, UrbPacket, UrbRead};
-use crate::payload::{payload_of, read_descs};
+use crate::payload::{descs_place, descs_size, read_descs};
 use std::alloc::Global;
 use usb_base::{Bytes, array_at, be_u32_at};
 
@@ -72,11 +72,13 @@ fn read_ret_submit(alloc: Global, is_in: bool, bytes: &[u8]) -> Result<UrbRead, 
     requires head { HEAD_SIZE ≤ length bytes.now }
     ensures { Answers takes_memory result (reading_by (answers is_in) bytes.now None) }
 {
-    let Some(payload) = payload_of(is_in, bytes) else {
+    let place = descs_place(is_in, bytes);
+    let size = place + descs_size(bytes);
+    if bytes.len() < size {
         return Ok(UrbRead::Short);
-    };
-    let body = Bytes::copied(alloc, payload.body)?;
-    let descs = read_descs(alloc, payload.descs)?;
+    }
+    let body = Bytes::copied(alloc, &bytes[HEAD_SIZE..place])?;
+    let descs = read_descs(alloc, &bytes[place..size])?;
     let answer = RetSubmit {
         head: head_at(bytes),
         status: be_u32_at(bytes, 20).cast_signed(),
@@ -88,5 +90,5 @@ fn read_ret_submit(alloc: Global, is_in: bool, bytes: &[u8]) -> Result<UrbRead, 
         body,
         descs,
     };
-    Ok(UrbRead::Whole(UrbPacket::RetSubmit(answer), payload.size))
+    Ok(UrbRead::Whole(UrbPacket::RetSubmit(answer), size))
 }

@@ -1,6 +1,6 @@
 //! All that a client sends: list and import requests, and URB requests, told apart by their first two bytes.
 
-ghost use Rattle.std.specs.Prelude.{◌≡◌, ◌++◌, ℕ, List, true, false, length};
+ghost use Rattle.std.specs.Prelude.{◌≡◌, ◌++◌, ℕ, List, true, length};
 ghost use Rattle.packet_stream.specs.Format.{IsSound, Stands, reading, Whole as FoundWhole};
 ghost use Rattle.packet_stream.specs.Reads.{Answers, IfTold, bytes_left};
 ghost use Rattle.usbip_urb.specs.declared.client.ClientPacket.{ClientPacket as Packet};
@@ -10,9 +10,9 @@ ghost use Rattle.usbip_urb.specs.Sound.ClientPackets.{client_packets_sound};
 use crate::next::next_client;
 use crate::packet::UrbPacket;
 use crate::request::take_urb;
-use packet_stream::{PacketBytes, PacketFormat, Read, ReadError};
+use packet_stream::{PacketFormat, Read, ReadError};
 use std::alloc::Global;
-use usb_base::{Bytes, be_u16_at};
+use usb_base::{Bytes, PacketBytes, be_u16_at};
 use usbip_op::{OpPacket, USBIP_VERSION, read_request};
 
 /// What a client sends.
@@ -60,7 +60,10 @@ fn take_packet<B: PacketBytes>(
     if be_u16_at(front, 0) == USBIP_VERSION {
         return take_op_packet(bytes);
     }
-    take_urb_packet(alloc, bytes)
+    match take_urb(alloc, bytes)? {
+        Read::Whole(packet, size) => Ok(Read::Whole(ClientPacket::Urb(packet), size)),
+        Read::Short => Ok(Read::Short),
+    }
 }
 
 fn take_op_packet<B: PacketBytes>(bytes: &mut B) -> Result<Read<ClientPacket>, ReadError>
@@ -73,20 +76,6 @@ fn take_op_packet<B: PacketBytes>(bytes: &mut B) -> Result<Read<ClientPacket>, R
             bytes.advance(size);
             Ok(Read::Whole(ClientPacket::Op(packet), size))
         }
-        Read::Short => Ok(Read::Short),
-    }
-}
-
-fn take_urb_packet<B: PacketBytes>(
-    alloc: Global,
-    bytes: &mut B,
-) -> Result<Read<ClientPacket>, ReadError>
-    requires { is_op (B.contents bytes.old) ≡ false }
-    ensures exact { Answers takes_memory result (reading client_packets (B.contents bytes.old)) }
-    ensures left { B.contents bytes.new ≡ bytes_left result (B.contents bytes.old) }
-{
-    match take_urb(alloc, bytes)? {
-        Read::Whole(packet, size) => Ok(Read::Whole(ClientPacket::Urb(packet), size)),
         Read::Short => Ok(Read::Short),
     }
 }

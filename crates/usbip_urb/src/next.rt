@@ -1,14 +1,13 @@
 //! How many bytes a packet awaits of which less than all is there.
 
-ghost use Rattle.std.specs.Prelude.{◌≡◌, ◌≤◌, length};
+ghost use Rattle.std.specs.Prelude.{◌≡◌};
 ghost use Rattle.packet_stream.specs.Format.{Short, reading};
 ghost use Rattle.packet_stream.specs.Awaited.{IsAwaited, StaysShort, awaited};
 ghost use Rattle.usbip_urb.specs.ClientPackets.{client_packets};
 ghost use Rattle.usbip_urb.specs.Requests.{requests};
-ghost use Rattle.usbip_urb.specs.Sizes.{whole_size};
 
-use crate::code::{DESC_SIZE, HEAD_SIZE, USBIP_CMD_SUBMIT, USBIP_DIR_OUT};
-use crate::payload::desc_count;
+use crate::code::{HEAD_SIZE, USBIP_CMD_SUBMIT, USBIP_DIR_OUT};
+use crate::payload::{descs_place, descs_size};
 use usb_base::{be_u16_at, be_u32_at};
 use usbip_op::{OpWay, USBIP_VERSION, next_op};
 
@@ -49,20 +48,7 @@ fn next_request(bytes: &[u8]) -> usize
     if bytes.len() < 36 {
         return 36;
     }
-    told_size(be_u32_at(bytes, 12) == USBIP_DIR_OUT, bytes)
-}
-
-/// How many bytes a packet has by its fields, where `has_body` says whether it has a body.
-fn told_size(has_body: bool, bytes: &[u8]) -> usize
-    requires { 36 ≤ length bytes.now }
-    ensures { result ≡ whole_size has_body bytes.now }
-{
-    let body_size = if has_body {
-        be_u32_at(bytes, 24) as usize
-    } else {
-        0
-    };
-    HEAD_SIZE + body_size + desc_count(bytes) * DESC_SIZE
+    descs_place(be_u32_at(bytes, 12) == USBIP_DIR_OUT, bytes) + descs_size(bytes)
 }
 
 /// How many bytes are awaited where less than a client's packet is there, as `next_op` and `next_urb` say.

@@ -1,11 +1,11 @@
-//! What stands behind the first 48 bytes of a submit and of its answer: a body or none, and descriptors.
+//! What stands behind the first 48 bytes of a submit and of its answer: a body or none, and descriptors, 16 bytes each.
 
-ghost use Rattle.std.specs.Prelude.{◌≡◌, ◌≤◌, ◌<◌, ◌↔◌, ◌/◌, ◌^◌, length, IsNone, IfSome, IfOk, OnErr};
+ghost use Rattle.std.specs.Prelude.{◌≡◌, ◌≤◌, ◌<◌, ◌/◌, ◌^◌, length, IfOk, OnErr};
 ghost use Rattle.std.specs.Int.{w32};
-ghost use Rattle.usb_base.specs.Number.{be_at, part};
-ghost use Rattle.usbip_urb.specs.declared.code.TheConstants.{DESC_SIZE, HEAD_SIZE};
-ghost use Rattle.usbip_urb.specs.Sizes.{count_of, descs_place, descs_size, whole_size};
-ghost use Rattle.usbip_urb.specs.Fields.{body_at, descs_at};
+ghost use Rattle.usb_base.specs.Number.{be_at};
+ghost use Rattle.usbip_urb.specs.declared.code.TheConstants.{DESC_SIZE};
+ghost use Rattle.usbip_urb.specs.Sizes.{count_of, descs_place, descs_size};
+ghost use Rattle.usbip_urb.specs.Fields.{descs_at};
 
 use crate::code::{DESC_SIZE, HEAD_SIZE, NO_PACKETS};
 use crate::field::desc_at;
@@ -13,44 +13,30 @@ use crate::packet::Descs;
 use std::alloc::Global;
 use usb_base::{List, Memory, be_u32_at};
 
-/// What stands behind the head, lent from the packet's bytes.
-#[derive(Clone, Copy)]
-pub(crate) struct Payload<'a> {
-    pub body: &'a [u8],
-    /// The descriptors, 16 bytes each.
-    pub descs: &'a [u8],
-    /// How many bytes the whole packet has.
-    pub size: usize,
+/// Where the descriptors stand: behind the head, and behind a body where `has_body` says that there is one.
+pub(crate) fn descs_place(has_body: bool, bytes: &[u8]) -> usize
+    requires { 28 ≤ length bytes.now }
+    ensures place { result ≡ descs_place has_body bytes.now }
+    ensures in_range { result < 2 ^ 33 }
+{
+    if has_body {
+        HEAD_SIZE + be_u32_at(bytes, 24) as usize
+    } else {
+        HEAD_SIZE
+    }
 }
 
-/// What stands behind the head, where `has_body` says whether a body does. None where it isn't all there.
-pub(crate) fn payload_of(has_body: bool, bytes: &[u8]) -> Option<Payload<'_>>
-    requires { HEAD_SIZE ≤ length bytes.now }
-    ensures none { IsNone result ↔ (length bytes.now < whole_size has_body bytes.now) }
-    ensures body { IfSome result (λ payload. payload.body.now ≡ body_at has_body bytes.now) }
-    ensures descs { IfSome result (λ payload. payload.descs.now ≡ part (descs_place has_body bytes.now) (descs_size bytes.now) bytes.now) }
-    ensures size { IfSome result (λ payload. payload.size ≡ whole_size has_body bytes.now) }
-    ensures there { IfSome result (λ payload. payload.size ≤ length bytes.now) }
+/// How many bytes they have.
+pub(crate) fn descs_size(bytes: &[u8]) -> usize
+    requires { 36 ≤ length bytes.now }
+    ensures size { result ≡ descs_size bytes.now }
+    ensures in_range { result < 2 ^ 36 }
 {
-    let body_size = if has_body {
-        be_u32_at(bytes, 24) as usize
-    } else {
-        0
-    };
-    let place = HEAD_SIZE + body_size;
-    let size = place + desc_count(bytes) * DESC_SIZE;
-    if bytes.len() < size {
-        return None;
-    }
-    Some(Payload {
-        body: &bytes[HEAD_SIZE..place],
-        descs: &bytes[place..size],
-        size,
-    })
+    desc_count(bytes) * DESC_SIZE
 }
 
 /// How many descriptors a packet has.
-pub(crate) fn desc_count(bytes: &[u8]) -> usize
+fn desc_count(bytes: &[u8]) -> usize
     requires { 36 ≤ length bytes.now }
     ensures count { result ≡ count_of (be_at w32 32 bytes.now) }
     ensures in_range { result < 2 ^ 32 }
@@ -69,6 +55,7 @@ pub(crate) fn read_descs(alloc: Global, bytes: &[u8]) -> Result<Descs, Memory>
     ensures err { OnErr result (0 < length bytes.now / DESC_SIZE) }
 {
     let mut descs = List::new(alloc);
+    descs.reserve(bytes.len() / DESC_SIZE)?;
     for desc in bytes.chunks_exact(DESC_SIZE) {
         descs.push(desc_at(desc))?;
     }

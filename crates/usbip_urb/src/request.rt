@@ -17,10 +17,9 @@ use crate::check::wrong_request;
 use crate::code::{HEAD_SIZE, USBIP_CMD_SUBMIT, USBIP_DIR_OUT};
 use crate::field::{head_at, unlink_at};
 use crate::packet::{Descs, Submit, UrbError, UrbPacket, UrbRead};
-use crate::payload::{payload_of, read_descs};
-use packet_stream::PacketBytes;
+use crate::payload::{descs_place, descs_size, read_descs};
 use std::alloc::Global;
-use usb_base::{Bytes, array_at, be_u32_at};
+use usb_base::{Bytes, PacketBytes, array_at, be_u32_at};
 
 /// A law: what is read as a request is spelled so, and what is spelled so is read.
 pub fn requests_sound()
@@ -71,14 +70,14 @@ fn take_submit<B: PacketBytes>(alloc: Global, bytes: &mut B) -> Result<UrbRead, 
     ensures left { B.contents bytes.new ≡ bytes_left result (B.contents bytes.old) }
 {
     let front = bytes.as_slice();
-    let is_out = be_u32_at(front, 12) == USBIP_DIR_OUT;
-    let Some(payload) = payload_of(is_out, front) else {
+    let place = descs_place(be_u32_at(front, 12) == USBIP_DIR_OUT, front);
+    let size = place + descs_size(front);
+    if front.len() < size {
         return Ok(UrbRead::Short);
-    };
-    let (body_len, size) = (payload.body.len(), payload.size);
-    let descs = read_descs(alloc, payload.descs)?;
+    }
+    let descs = read_descs(alloc, &front[place..size])?;
     let mut submit = submit_with(front, Bytes::new(alloc), descs);
-    submit.body = bytes.take_part(alloc, HEAD_SIZE, body_len, size)?;
+    submit.body = bytes.take_part(alloc, HEAD_SIZE, place - HEAD_SIZE, size)?;
     Ok(UrbRead::Whole(UrbPacket::Submit(submit), size))
 }
 

@@ -1,14 +1,18 @@
 //! Packets written.
 
-ghost use Rattle.std.specs.Prelude.{◌++◌};
+ghost use Rattle.std.specs.Prelude.{◌≡◌, ◌+◌, ◌*◌, ◌++◌, length};
 ghost use Rattle.packet_stream.specs.Writes.{Appends, AppendsSome};
 ghost use Rattle.usbip_urb.specs.declared.packet.UrbPacket.TheVariants.{Submit as SubmitPacket, RetSubmit as RetSubmitPacket, Unlink as UnlinkPacket, RetUnlink as RetUnlinkPacket};
 ghost use Rattle.usbip_urb.specs.Spelling.{spelling, words, ret_submit_words, desc_bytes, descs_bytes};
 ghost use Rattle.usbip_urb.specs.Ranges.{IsWritable};
+ghost use Rattle.usbip_urb.specs.declared.code.TheConstants.{HEAD_SIZE};
 
-use crate::code::{USBIP_CMD_SUBMIT, USBIP_CMD_UNLINK, USBIP_RET_SUBMIT, USBIP_RET_UNLINK};
+use crate::code::{
+    DESC_SIZE, HEAD_SIZE, USBIP_CMD_SUBMIT, USBIP_CMD_UNLINK, USBIP_RET_SUBMIT, USBIP_RET_UNLINK,
+};
 use crate::packet::{IsoDesc, RetSubmit, RetUnlink, Submit, Unlink, UrbPacket};
-use usb_base::{Bytes, Memory, push_be_u32};
+use byteorder::{BigEndian, ByteOrder};
+use usb_base::{Bytes, Memory};
 
 /// Appends a packet. For want of memory the bytes stay as they were.
 pub fn write_urb(packet: &UrbPacket, out: &mut Bytes) -> Result<(), Memory>
@@ -16,13 +20,8 @@ pub fn write_urb(packet: &UrbPacket, out: &mut Bytes) -> Result<(), Memory>
     ensures { Appends result out.old out.new (spelling packet.now) }
 {
     let before = out.len();
-    match push_packet(packet, out) {
-        Ok(()) => Ok(()),
-        Err(error) => {
-            out.cut(before);
-            Err(error)
-        }
-    }
+    let pushed = push_packet(packet, out);
+    out.cut_on_err(before, pushed)
 }
 
 /// Appends the answer of a submit, whose body is moved: a long one is not copied where `out` has little else. For want of
@@ -31,14 +30,9 @@ pub fn write_ret_submit(answer: RetSubmit, out: &mut Bytes) -> Result<(), Memory
     requires { IsWritable (RetSubmitPacket answer) }
     ensures { Appends result out.old out.new (spelling (RetSubmitPacket answer)) }
 {
-    let len = out.len();
-    match move_ret_submit(answer, out) {
-        Ok(()) => Ok(()),
-        Err(error) => {
-            out.cut(len);
-            Err(error)
-        }
-    }
+    let before = out.len();
+    let pushed = move_ret_submit(answer, out);
+    out.cut_on_err(before, pushed)
 }
 
 fn move_ret_submit(answer: RetSubmit, out: &mut Bytes) -> Result<(), Memory>
@@ -66,22 +60,19 @@ fn push_submit(submit: &Submit, out: &mut Bytes) -> Result<(), Memory>
     ensures { AppendsSome result out.old out.new (spelling (SubmitPacket submit.now)) }
 {
     let head = &submit.head;
-    push_words(
-        &[
-            USBIP_CMD_SUBMIT,
-            head.seqnum,
-            head.devid,
-            head.direction,
-            head.ep,
-            submit.flags,
-            submit.length,
-            submit.start_frame,
-            submit.packets,
-            submit.interval,
-        ],
-        out,
-    )?;
-    out.append(&submit.setup)?;
+    let numbers = [
+        USBIP_CMD_SUBMIT,
+        head.seqnum,
+        head.devid,
+        head.direction,
+        head.ep,
+        submit.flags,
+        submit.length,
+        submit.start_frame,
+        submit.packets,
+        submit.interval,
+    ];
+    push_head(&numbers, &submit.setup, out)?;
     out.append(submit.body.as_slice())?;
     push_descs(submit.descs.as_slice(), out)?;
     Ok(())
@@ -103,76 +94,69 @@ pub fn push_ret_fields(answer: &RetSubmit, out: &mut Bytes) -> Result<(), Memory
     ensures { AppendsSome result out.old out.new (words (ret_submit_words answer.now) ++ answer.now.tail) }
 {
     let head = &answer.head;
-    push_words(
-        &[
-            USBIP_RET_SUBMIT,
-            head.seqnum,
-            head.devid,
-            head.direction,
-            head.ep,
-            answer.status.cast_unsigned(),
-            answer.actual,
-            answer.start_frame,
-            answer.packets,
-            answer.errors,
-        ],
-        out,
-    )?;
-    out.append(&answer.tail)?;
-    Ok(())
+    let numbers = [
+        USBIP_RET_SUBMIT,
+        head.seqnum,
+        head.devid,
+        head.direction,
+        head.ep,
+        answer.status.cast_unsigned(),
+        answer.actual,
+        answer.start_frame,
+        answer.packets,
+        answer.errors,
+    ];
+    push_head(&numbers, &answer.tail, out)
 }
 
 fn push_unlink(unlink: &Unlink, out: &mut Bytes) -> Result<(), Memory>
     ensures { AppendsSome result out.old out.new (spelling (UnlinkPacket unlink.now)) }
 {
     let head = &unlink.head;
-    push_words(
-        &[
-            USBIP_CMD_UNLINK,
-            head.seqnum,
-            head.devid,
-            head.direction,
-            head.ep,
-            unlink.target,
-        ],
-        out,
-    )?;
-    out.append(&unlink.pad)?;
-    Ok(())
+    let numbers = [
+        USBIP_CMD_UNLINK,
+        head.seqnum,
+        head.devid,
+        head.direction,
+        head.ep,
+        unlink.target,
+    ];
+    push_head(&numbers, &unlink.pad, out)
 }
 
 fn push_ret_unlink(answer: &RetUnlink, out: &mut Bytes) -> Result<(), Memory>
     ensures { AppendsSome result out.old out.new (spelling (RetUnlinkPacket answer.now)) }
 {
     let head = &answer.head;
-    push_words(
-        &[
-            USBIP_RET_UNLINK,
-            head.seqnum,
-            head.devid,
-            head.direction,
-            head.ep,
-            answer.status.cast_unsigned(),
-        ],
-        out,
-    )?;
-    out.append(&answer.pad)?;
-    Ok(())
+    let numbers = [
+        USBIP_RET_UNLINK,
+        head.seqnum,
+        head.devid,
+        head.direction,
+        head.ep,
+        answer.status.cast_unsigned(),
+    ];
+    push_head(&numbers, &answer.pad, out)
 }
 
-// Each number in four bytes.
-fn push_words(numbers: &[u32], out: &mut Bytes) -> Result<(), Memory>
-    ensures { AppendsSome result out.old out.new (words numbers.now) }
+// The 48 bytes that a packet begins with, in one append: these numbers, and what stands behind them.
+#[tactic(auto, unfolding(usb_base::specs::Number::be))]
+fn push_head(numbers: &[u32], rest: &[u8], out: &mut Bytes) -> Result<(), Memory>
+    requires { 4 * length numbers.now + length rest.now ≡ HEAD_SIZE }
+    ensures { Appends result out.old out.new (words numbers.now ++ rest.now) }
 {
-    for number in numbers {
-        push_be_u32(out, *number)?;
-    }
-    Ok(())
+    let mut head = [0; HEAD_SIZE];
+    let (front, behind) = head.split_at_mut(4 * numbers.len());
+    BigEndian::write_u32_into(numbers, front);
+    behind.copy_from_slice(rest);
+    out.append(&head)
 }
 
+// There is room for all of them before the first comes.
 fn push_descs(descs: &[IsoDesc], out: &mut Bytes) -> Result<(), Memory>
     ensures { AppendsSome result out.old out.new (descs_bytes descs.now) }
 {
+    out.reserve(descs.len() * DESC_SIZE)?;
     for desc in descs {
         push_desc(desc, out)?;
     }
@@ -180,16 +164,17 @@ fn push_descs(descs: &[IsoDesc], out: &mut Bytes) -> Result<(), Memory>
 }
 
 /// Appends a descriptor, 16 bytes. For want of memory some of them may be there, which the caller cuts off.
+#[tactic(auto, unfolding(usb_base::specs::Number::be))]
 pub fn push_desc(desc: &IsoDesc, out: &mut Bytes) -> Result<(), Memory>
     ensures { AppendsSome result out.old out.new (desc_bytes desc.now) }
 {
-    push_words(
-        &[
-            desc.offset,
-            desc.length,
-            desc.actual,
-            desc.status.cast_unsigned(),
-        ],
-        out,
-    )
+    let mut bytes = [0; DESC_SIZE];
+    let numbers = [
+        desc.offset,
+        desc.length,
+        desc.actual,
+        desc.status.cast_unsigned(),
+    ];
+    BigEndian::write_u32_into(&numbers, &mut bytes);
+    out.append(&bytes)
 }

@@ -2,8 +2,9 @@
 
 ghost use Rattle.std.specs.Prelude.{◌≡◌, ◌≤◌, ◌<◌, ◌+◌, ℕ, List, length, take, drop, IfOk, OnOk, OnErr};
 
+use crate::list::Bytes;
+use crate::memory::Memory;
 use std::alloc::Global;
-use usb_base::{Bytes, Memory};
 
 /// Bytes with a packet at their front: a stream's own, of which a long body is taken as it lies there, or lent ones, of
 /// which it is copied.
@@ -32,28 +33,6 @@ pub trait PacketBytes {
         ensures rest { OnOk result (contents self.new ≡ drop size (contents self.old)) }
         ensures err { OnErr result (contents self.new ≡ contents self.old) }
         ensures wants { OnErr result (0 < len) };
-}
-
-impl PacketBytes for Bytes {
-    ghost contents = { λ bytes. bytes };
-
-    fn as_slice(&self) -> &[u8] {
-        self.as_slice()
-    }
-
-    fn advance(&mut self, count: usize) {
-        self.advance(count);
-    }
-
-    fn take_part(
-        &mut self,
-        alloc: Global,
-        from: usize,
-        len: usize,
-        size: usize,
-    ) -> Result<Bytes, Memory> {
-        self.take_part(alloc, from, len, size)
-    }
 }
 
 impl PacketBytes for &[u8] {
