@@ -134,7 +134,7 @@ fn wrong_place(alloc: Global, blob: &[u8]) -> Result<Option<usize>, Memory> {
     match walk(alloc, blob) {
         Ok(_) => Ok(None),
         Err(WalkError::Bad { place }) => Ok(Some(place)),
-        Err(WalkError::Memory) => Err(Memory),
+        Err(WalkError::Memory(memory)) => Err(memory),
     }
 }
 

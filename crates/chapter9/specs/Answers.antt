@@ -8,10 +8,10 @@ use Rattle.chapter9.specs.declared.descriptors.WalkError.TheVariants.{Bad, Memor
 abbrev pub IfBad : Result (List Part) WalkError → (ℕ → Type 0) → Type 0
 IfBad (Ok parts) P = Unit {0}
 IfBad (Err (Bad place)) P = P place
-IfBad (Err Memory) P = Unit {0}
+IfBad (Err (Memory memory)) P = Unit {0}
 
 -- where memory was wanting, this holds
 abbrev pub OnMemory : Result (List Part) WalkError → Type 0 → Type 0
 OnMemory (Ok parts) p = Unit {0}
 OnMemory (Err (Bad place)) p = Unit {0}
-OnMemory (Err Memory) p = p
+OnMemory (Err (Memory memory)) p = p

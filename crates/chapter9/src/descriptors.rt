@@ -24,17 +24,17 @@ pub enum WalkError {
     /// The first wrong descriptor stands at this place, counted in bytes.
     Bad { place: usize },
     /// No memory was left for the parts.
-    Memory,
+    Memory(Memory),
 }
 
 impl From<Memory> for WalkError {
     ghost use Rattle.std.specs.Prelude.{◌≡◌};
     ghost use Rattle.chapter9.specs.declared.descriptors.WalkError.TheVariants.{Memory as OutOfMemory};
 
-    ghost from_gives = { λ _ error. error ≡ OutOfMemory };
+    ghost from_gives = { λ memory error. error ≡ OutOfMemory memory };
 
-    fn from(_memory: Memory) -> Self {
-        WalkError::Memory
+    fn from(memory: Memory) -> Self {
+        WalkError::Memory(memory)
     }
 }
 

@@ -1,6 +1,6 @@
 //! What a system keeps, and how steps change it.
 
-ghost use Rattle.std.specs.Prelude.{◌≡◌, ◌++◌, [], List as ListOf, IfOk, OnOk, OnErr, IsErr, take, drop, true, false};
+ghost use Rattle.std.specs.Prelude.{◌≡◌, ◌++◌, [], List as ListOf, Some, None, is_some, IfOk, IfErr, OnOk, IsErr, take, drop, true};
 ghost use Rattle.std.specs.List.{flat_map};
 ghost use Rattle.gate_history.specs.step.Events.{Event as PastEvent, HostPiece, event_of};
 ghost use Rattle.gate_core.specs.step.Stands.{Stands as GateStands};
@@ -39,8 +39,8 @@ pub struct Inner<G: Gadget> {
     pub to_gate: Bytes,
     pub trace: Items,
     pub submits: Submits,
-    /// Memory ran out in an earlier step.
-    pub failed: bool,
+    /// What was told as memory ran out in an earlier step.
+    pub want: Option<Memory>,
 }
 
 impl<G: Gadget> Inner<G> {
@@ -63,7 +63,7 @@ impl<G: Gadget> Inner<G> {
         ensures host { IfOk result (λ inner. HostStands G.meaning gadget inner.host []) }
         ensures wires { IfOk result (λ inner. (inner.to_host ≡ []) × (inner.to_gate ≡ [])) }
         ensures lists { IfOk result (λ inner. (inner.trace ≡ []) × (inner.submits ≡ [])) }
-        ensures works { IfOk result (λ inner. inner.failed ≡ false) }
+        ensures works { IfOk result (λ inner. inner.want ≡ None) }
         ensures told { OnOk result (told.new ≡ record told.old { to_host = sent_to_host nothing_yet; from_host = sent_to_gate G.meaning gadget nothing_yet }) }
     {
         let gate = Gate::make(alloc, 1, &mut told.to_host)?;
@@ -76,7 +76,7 @@ impl<G: Gadget> Inner<G> {
             to_gate: Bytes::new(alloc),
             trace: List::new(alloc),
             submits: List::new(alloc),
-            failed: false,
+            want: None,
         })
     }
 
@@ -92,7 +92,7 @@ impl<G: Gadget> Inner<G> {
     pub fn step(&mut self, step: Step) -> Result<Told, Memory>
         ensures takes { IfOk result (λ told. (first : G) (past : ListOf PastStep) → Stands G.meaning first (kept_of self.old) past
             → Takes G.meaning first (kept_of self.new) past (step_of step.entry) told) }
-        ensures failed { self.old.failed ≡ true → IsErr result × (self.new ≡ self.old) }
+        ensures failed { is_some self.old.want ≡ true → IsErr result × (self.new ≡ self.old) }
     {
         match step {
             Step::Client(bytes) => self.event(Event::ClientPiece(bytes)),
@@ -109,26 +109,26 @@ impl<G: Gadget> Inner<G> {
     pub fn keep(&mut self, told: Result<Told, Memory>) -> Result<Told, Memory>
         ensures same { result ≡ told }
         ensures ok { OnOk result (self.new ≡ self.old) }
-        ensures err { OnErr result (self.new ≡ record self.old { failed = true }) }
+        ensures err { IfErr told (λ memory. self.new ≡ record self.old { want = Some memory }) }
     {
-        if told.is_err() {
-            self.failed = true;
+        if let Err(memory) = &told {
+            self.want = Some(*memory);
         }
         told
     }
 
     /// An error where memory has run out in an earlier step.
     fn works(&self) -> Result<(), Memory>
-        ensures failed { self.now.failed ≡ true → IsErr result }
+        ensures failed { is_some self.now.want ≡ true → IsErr result }
     {
-        if self.failed { Err(Memory) } else { Ok(()) }
+        self.want.map_or(Ok(()), Err)
     }
 
     /// So many bytes get to the host, or all there are.
     fn carry_to_host(&mut self, count: u32) -> Result<Told, Memory>
         ensures does { IfOk result (λ told. (first : G) (past : ListOf Act) → HostStands G.meaning first self.old.host past
             → DoesAct G.meaning first (record (kept_of self.old) { to_host = drop count self.old.to_host }) (kept_of self.new) past (Piece (take count self.old.to_host)) told) }
-        ensures failed { self.old.failed ≡ true → IsErr result × (self.new ≡ self.old) }
+        ensures failed { is_some self.old.want ≡ true → IsErr result × (self.new ≡ self.old) }
     {
         self.works()?;
         let piece = take_front(self.alloc, &mut self.to_host, count)?;
@@ -139,7 +139,7 @@ impl<G: Gadget> Inner<G> {
     fn carry_to_gate(&mut self, count: u32) -> Result<Told, Memory>
         ensures does { IfOk result (λ told. (past : ListOf PastEvent) → GateStands first_id self.old.gate past
             → DoesEvent (record (kept_of self.old) { to_gate = drop count self.old.to_gate }) (kept_of self.new) past (HostPiece (take count self.old.to_gate)) told) }
-        ensures failed { self.old.failed ≡ true → IsErr result × (self.new ≡ self.old) }
+        ensures failed { is_some self.old.want ≡ true → IsErr result × (self.new ≡ self.old) }
     {
         self.works()?;
         let piece = take_front(self.alloc, &mut self.to_gate, count)?;
@@ -150,7 +150,7 @@ impl<G: Gadget> Inner<G> {
     fn event(&mut self, event: Event) -> Result<Told, Memory>
         ensures does { IfOk result (λ told. (past : ListOf PastEvent) → GateStands first_id self.old.gate past
             → DoesEvent (kept_of self.old) (kept_of self.new) past (event_of event.entry) told) }
-        ensures failed { self.old.failed ≡ true → IsErr result × (self.new ≡ self.old) }
+        ensures failed { is_some self.old.want ≡ true → IsErr result × (self.new ≡ self.old) }
     {
         self.works()?;
         let mut told = Told::new(self.alloc);
@@ -186,7 +186,7 @@ impl<G: Gadget> Inner<G> {
     fn hear(&mut self, bytes: &[u8]) -> Result<Told, Memory>
         ensures does { IfOk result (λ told. (first : G) (past : ListOf Act) → HostStands G.meaning first self.old.host past
             → DoesAct G.meaning first (kept_of self.old) (kept_of self.new) past (Piece bytes.now) told) }
-        ensures failed { self.old.failed ≡ true → IsErr result × (self.new ≡ self.old) }
+        ensures failed { is_some self.old.want ≡ true → IsErr result × (self.new ≡ self.old) }
     {
         self.works()?;
         let mut told = Told::new(self.alloc);
@@ -210,7 +210,7 @@ impl<G: Gadget> Inner<G> {
     fn perform(&mut self, ep: EpAddr) -> Result<Told, Memory>
         ensures does { IfOk result (λ told. (first : G) (past : ListOf Act) → HostStands G.meaning first self.old.host past
             → DoesAct G.meaning first (kept_of self.old) (kept_of self.new) past (Perform ep) told) }
-        ensures failed { self.old.failed ≡ true → IsErr result × (self.new ≡ self.old) }
+        ensures failed { is_some self.old.want ≡ true → IsErr result × (self.new ≡ self.old) }
     {
         self.works()?;
         let mut told = Told::new(self.alloc);
@@ -234,7 +234,7 @@ impl<G: Gadget> Inner<G> {
     fn offer(&mut self, ep: EpAddr) -> Result<Told, Memory>
         ensures does { IfOk result (λ told. (first : G) (past : ListOf Act) → HostStands G.meaning first self.old.host past
             → DoesAct G.meaning first (kept_of self.old) (kept_of self.new) past (Offer ep) told) }
-        ensures failed { self.old.failed ≡ true → IsErr result × (self.new ≡ self.old) }
+        ensures failed { is_some self.old.want ≡ true → IsErr result × (self.new ≡ self.old) }
     {
         self.works()?;
         let mut told = Told::new(self.alloc);
@@ -258,7 +258,7 @@ impl<G: Gadget> Inner<G> {
     fn unplug(&mut self) -> Result<Told, Memory>
         ensures does { IfOk result (λ told. (first : G) (past : ListOf Act) → HostStands G.meaning first self.old.host past
             → DoesAct G.meaning first (kept_of self.old) (kept_of self.new) past Unplug told) }
-        ensures failed { self.old.failed ≡ true → IsErr result × (self.new ≡ self.old) }
+        ensures failed { is_some self.old.want ≡ true → IsErr result × (self.new ≡ self.old) }
     {
         self.works()?;
         let mut told = Told::new(self.alloc);

@@ -2,7 +2,7 @@
 
 use gate_outside::{Script, Scripts, Turn};
 use hex::FromHexError;
-use std::alloc::Global;
+use std::alloc::{AllocError, Global};
 use usb_base::{Bytes, Memory};
 
 /// What the link of a side gives, a turn for each line that begins with its letter.
@@ -35,7 +35,7 @@ fn turn_of(alloc: Global, word: &str) -> Result<Turn, Memory> {
     }
     match hex::decode(alloc, word) {
         Ok(decoded) => Ok(Turn::Piece(bytes_of(alloc, &decoded)?)),
-        Err(FromHexError::OutOfMemory) => Err(Memory),
+        Err(FromHexError::OutOfMemory) => Err(AllocError.into()),
         Err(_) => Ok(Turn::Fail),
     }
 }

@@ -1,7 +1,7 @@
 //! Packets by name.
 
 use hex::FromHexError;
-use std::alloc::Global;
+use std::alloc::{AllocError, Global};
 use usb_base::Memory;
 
 /// Packets by name, in hexadecimal. `#` stands for a number in four bytes, the high one first, and `@` for an id in
@@ -35,7 +35,7 @@ impl Packets {
         }
         match hex::decode(alloc, digits.as_str()) {
             Ok(bytes) => Ok(bytes),
-            Err(FromHexError::OutOfMemory) => Err(Memory),
+            Err(FromHexError::OutOfMemory) => Err(AllocError.into()),
             Err(_) => Ok(Vec::new(alloc)),
         }
     }

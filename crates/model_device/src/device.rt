@@ -45,7 +45,7 @@ impl Device {
         set.name.append(name)?;
         let parts = match walk(alloc, config) {
             Ok(parts) => parts,
-            Err(WalkError::Memory) => return Err(Memory),
+            Err(WalkError::Memory(memory)) => return Err(memory),
             Err(WalkError::Bad { .. }) => unreachable!(),
         };
         Ok(Device {

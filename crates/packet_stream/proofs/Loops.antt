@@ -4,6 +4,7 @@ use Rattle.std.specs.Result.{IsErrAnd}
 use Rattle.std.proofs.lemmas.List.{append-nil}
 use Rattle.packet_stream.specs.Split.{Reader, Position}
 use Rattle.usb_base.specs.declared.reason.Reason.{Reason}
+use Rattle.usb_base.specs.declared.memory.Memory.{Memory as NoMemory}
 use Rattle.packet_stream.specs.declared.read.ReadError.{ReadError}
 use Rattle.packet_stream.specs.declared.read.ReadError.TheVariants.{Refused, Memory}
 use Rattle.packet_stream.specs.Streams.{Kept, Follows, Answered, Nexts, Changes}
@@ -58,12 +59,12 @@ handed (Err y) e h = ap (λ z. Err z) (sym h)
 
 over_by : {S : Type 0} (T P : Type 0) (old kept new : Kept S) (e : ReadError) → kept.over ≡ old.over → Changes {P = P} (Err e) kept new → IsOver {T = T} (Err e) old new
 over_by {S = S} T P old kept new (Refused place reason) same c = (ap (λ (k : Kept S). k.over) c.1, ap (λ (k : Kept S). k.held) c.1, ap (λ (k : Kept S). k.rest) c.1)
-over_by {S = S} T P old kept new Memory same c = (ap (λ (k : Kept S). k.over) c.1 ∙ c.0, sym same ∙ c.0)
+over_by {S = S} T P old kept new (Memory memory) same c = (ap (λ (k : Kept S). k.over) c.1 ∙ c.0, sym same ∙ c.0)
 
 err_by : (T : Type 0) {S P : Type 0} (r : Reader S P Reason) (takes : P → Bool) (start : Position S) (kept new : Kept S) (bytes : List ℕ) (taken : List (ℕ × P)) (e : ReadError) →
     Follows r start kept bytes taken → Changes {P = P} (Err e) kept new → Answered r takes start (Err e) new bytes taken → Stopped {T = T} r start (Err e) new bytes taken
 err_by T r takes start kept new bytes taken (Refused place reason) f c n = n
-err_by T {S = S} r takes start kept new bytes taken Memory f c n = follows-holds r start kept new bytes taken f c.0 (ap (λ (k : Kept S). k.held) c.1) (ap (λ (k : Kept S). k.at) c.1)
+err_by T {S = S} r takes start kept new bytes taken (Memory memory) f c n = follows-holds r start kept new bytes taken f c.0 (ap (λ (k : Kept S). k.held) c.1) (ap (λ (k : Kept S). k.at) c.1)
 
 -- the next packet is wrong, or memory ran out for it
 pub takes-err : {T S P : Type 0} (r : Reader S P Reason) (takes : P → Bool) (old kept new : Kept S) (Did : List (ℕ × P) → Type 0) (result : Result (Option (ℕ × P)) ReadError) (e : ReadError) (last : Result T ReadError) →
@@ -82,11 +83,11 @@ takes-err {T = T} {P = P} r takes old kept new Did result e last goes changes ne
     })
 
 -- memory ran out where a packet was handled: those before it were, and it is held
-pub takes-memory : {T S P : Type 0} (r : Reader S P Reason) (old kept new : Kept S) (Did : List (ℕ × P) → Type 0) (result : Result (Option (ℕ × P)) ReadError) (i : ℕ × P) (last : Result T ReadError) →
-    Goes r old kept Did → Changes result kept new → result ≡ Ok (Some i) → IsErrAnd last (λ y. y ≡ Memory) → TakesPackets r last old new Did
-takes-memory {T = T} {P = P} r old kept new Did result i last goes changes is on =
+pub takes-memory : {T S P : Type 0} {memory : NoMemory} (r : Reader S P Reason) (old kept new : Kept S) (Did : List (ℕ × P) → Type 0) (result : Result (Option (ℕ × P)) ReadError) (i : ℕ × P) (last : Result T ReadError) →
+    Goes r old kept Did → Changes result kept new → result ≡ Ok (Some i) → IsErrAnd last (λ y. y ≡ Memory memory) → TakesPackets r last old new Did
+takes-memory {T = T} {P = P} {memory = memory} r old kept new Did result i last goes changes is on =
     let c = changed_to kept new result (Ok (Some i)) changes is in
-    subst (λ (x : Result T ReadError). TakesPackets r x old new Did) (handed last Memory on) (record {
+    subst (λ (x : Result T ReadError). TakesPackets r x old new Did) (handed last (Memory memory) on) (record {
       over = (c.2, sym goes.over ∙ c.1);
       takes = λ start bytes given f.
           let w = goes.goes start bytes given f in

@@ -18,14 +18,14 @@ pub told_answers : {P : Type 0} (takes : P → Bool) (r : Result (Read P) ReadEr
 told_answers takes (Ok (read.Whole p n)) found e = some_is (Whole p n) found e
 told_answers takes (Ok read.Short) found e = some_is Short found e
 told_answers takes (Err (error.Refused place reason)) found e = some_is (Wrong place reason) found e
-told_answers takes (Err error.Memory) found e = absurd cc
+told_answers takes (Err (error.Memory memory)) found e = absurd cc
 
 -- what holds of what was found holds of what is told
 pub answers_if : {P : Type 0} (takes : P → Bool) (r : Result (Read P) ReadError) (found : Found P Reason) (Holds : Found P Reason → Type 0) → Answers takes r found → Holds found → IfTold r Holds
 answers_if takes (Ok (read.Whole p n)) found Holds a h = subst Holds a h
 answers_if takes (Ok read.Short) found Holds a h = subst Holds a h
 answers_if takes (Err (error.Refused place reason)) found Holds a h = subst Holds a h
-answers_if takes (Err error.Memory) found Holds a h = tt
+answers_if takes (Err (error.Memory memory)) found Holds a h = tt
 
 -- what is told stands there
 pub answers_stands : {P : Type 0} (takes : P → Bool) (f : Format P Reason) → IsSound f → (b : List ℕ) → AreBytes b → (r : Result (Read P) ReadError) → Answers takes r (reading f b) → IfTold r (Stands f b)

@@ -10,13 +10,13 @@ use Rattle.packet_stream.specs.Streams.{Kept, Follows, Drained, Wrongs, Holds}
 abbrev pub IsOver : {T S : Type 0} → Result T ReadError → Kept S → Kept S → Type 0
 IsOver (Ok v) old new = (new.over ≡ old.over) × (new.held ≡ new.rest) × (new.at ≡ new.place)
 IsOver (Err (Refused place reason)) old new = (new.over ≡ true) × (new.held ≡ []) × (new.rest ≡ [])
-IsOver (Err Memory) old new = (new.over ≡ false) × (old.over ≡ false)
+IsOver (Err (Memory memory)) old new = (new.over ≡ false) × (old.over ≡ false)
 
 -- all packets were taken, or all before the wrong place, or memory ran out at the next one, which is held
 abbrev pub Stopped : {T S P : Type 0} → Reader S P Reason → Position S → Result T ReadError → Kept S → List ℕ → List (ℕ × P) → Type 0
 Stopped r start (Ok v) new bytes taken = new.over ≡ false → Drained new (split r start bytes) taken
 Stopped r start (Err (Refused place reason)) new bytes taken = Wrongs place reason (split r start bytes) taken
-Stopped r start (Err Memory) new bytes taken = Holds r new (split r start bytes) taken
+Stopped r start (Err (Memory memory)) new bytes taken = Holds r new (split r start bytes) taken
 
 -- after those that were given these packets were taken, this was done with them, and so it stopped
 pub record TookPackets {T S P : Type 0} (r : Reader S P Reason) (start : Position S) (result : Result T ReadError) (new : Kept S) (bytes : List ℕ) (given : List (ℕ × P)) (Did : List (ℕ × P) → Type 0) : Type 0 where

@@ -14,14 +14,14 @@ abbrev pub told : {P : Type 0} → Result (Read P) ReadError → Option (Found P
 told (Ok (read.Whole p n)) = Some (Whole p n)
 told (Ok read.Short) = Some Short
 told (Err (error.Refused place reason)) = Some (Wrong place reason)
-told (Err error.Memory) = None
+told (Err (error.Memory memory)) = None
 
 -- P holds of what was found, unless memory was wanting
 abbrev pub IfTold : {P : Type 0} → Result (Read P) ReadError → (Found P Reason → Type 0) → Type 0
 IfTold (Ok (read.Whole p n)) Holds = Holds (Whole p n)
 IfTold (Ok read.Short) Holds = Holds Short
 IfTold (Err (error.Refused place reason)) Holds = Holds (Wrong place reason)
-IfTold (Err error.Memory) Holds = Unit {0}
+IfTold (Err (error.Memory memory)) Holds = Unit {0}
 
 -- a whole packet is found that takes memory
 abbrev pub WantsMemory : {P : Type 0} → (P → Bool) → Found P Reason → Type 0
@@ -34,7 +34,7 @@ abbrev pub Answers : {P : Type 0} → (P → Bool) → Result (Read P) ReadError
 Answers takes (Ok (read.Whole p n)) found = found ≡ Whole p n
 Answers takes (Ok read.Short) found = found ≡ Short
 Answers takes (Err (error.Refused place reason)) found = found ≡ Wrong place reason
-Answers takes (Err error.Memory) found = WantsMemory takes found
+Answers takes (Err (error.Memory memory)) found = WantsMemory takes found
 
 -- a packet that was read is no more among the bytes, and else they stay
 abbrev pub bytes_left : {P : Type 0} → Result (Read P) ReadError → List ℕ → List ℕ
@@ -45,4 +45,4 @@ bytes_left (Err error) bytes = bytes
 -- how an error is printed
 abbrev pub error_text : ReadError → List ℕ
 error_text (error.Refused place reason) = name_of reason ++ codes " at " ++ decimal place
-error_text error.Memory = codes "out of memory"
+error_text (error.Memory memory) = codes "out of memory"

@@ -91,7 +91,7 @@ abbrev pub Answered : {S P : Type 0} → Reader S P Reason → (P → Bool) → 
 Answered r takes start (Ok (Some i)) new bytes given = Gives r start new bytes given i.0 i.1
 Answered r takes start (Ok None) new bytes given = new.over ≡ false → Drained new (split r start bytes) given
 Answered r takes start (Err (Refused place reason)) new bytes given = Wrongs place reason (split r start bytes) given
-Answered r takes start (Err Memory) new bytes given = Wants takes (split r start bytes) given
+Answered r takes start (Err (Memory memory)) new bytes given = Wants takes (split r start bytes) given
 
 -- whatever has come and was given: the answer is what comes next of the splitting
 abbrev pub Nexts : {S P : Type 0} → Reader S P Reason → (P → Bool) → Result (Option (ℕ × P)) ReadError → Kept S → Kept S → Type 0
@@ -106,7 +106,7 @@ abbrev pub Changes : {S P : Type 0} → Result (Option (ℕ × P)) ReadError →
 Changes (Ok (Some i)) old new = (length new.rest < length old.rest) × (old.over ≡ false) × (new.over ≡ false) × (new.held ≡ old.rest) × (new.at ≡ old.place) × (i.0 ≡ old.place)
 Changes (Ok None) old new = new ≡ passed old
 Changes (Err (Refused place reason)) old new = (old.over ≡ false) × (new ≡ ended (passed old))
-Changes (Err Memory) old new = (old.over ≡ false) × (new ≡ passed old)
+Changes (Err (Memory memory)) old new = (old.over ≡ false) × (new ≡ passed old)
 
 abbrev pub after_piece_by : {S : Type 0} → Kept S → List ℕ → Bool → Kept S
 after_piece_by kept piece false = passed (record kept { rest = kept.rest ++ piece })

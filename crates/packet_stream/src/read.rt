@@ -22,7 +22,7 @@ pub enum ReadError {
     /// The packet is wrong at this place, counted in bytes from its first.
     Refused { place: u64, reason: Reason },
     /// No memory was left for the packet, which is whole. Its bytes may be read again.
-    Memory,
+    Memory(Memory),
 }
 
 impl fmt::Display for ReadError {
@@ -34,7 +34,7 @@ impl fmt::Display for ReadError {
                 let name = reason.name();
                 write!(f, "{name} at {place}")
             }
-            ReadError::Memory => write!(f, "out of memory"),
+            ReadError::Memory(memory) => write!(f, "{memory}"),
         }
     }
 }
@@ -45,9 +45,9 @@ impl From<Memory> for ReadError {
     ghost use Rattle.std.specs.Prelude.{◌≡◌};
     ghost use Rattle.packet_stream.specs.declared.read.ReadError.TheVariants.{Memory as OutOfMemory};
 
-    ghost from_gives = { λ _ error. error ≡ OutOfMemory };
+    ghost from_gives = { λ memory error. error ≡ OutOfMemory memory };
 
-    fn from(_memory: Memory) -> Self {
-        ReadError::Memory
+    fn from(memory: Memory) -> Self {
+        ReadError::Memory(memory)
     }
 }

@@ -141,7 +141,7 @@ impl<F: PacketFormat> Stream<F> {
                 self.end();
                 Err(ReadError::Refused { place, reason })
             }
-            Err(ReadError::Memory) => Err(ReadError::Memory),
+            Err(ReadError::Memory(memory)) => Err(ReadError::Memory(memory)),
         }
     }
 

@@ -11,8 +11,8 @@ pub struct Output {
     pub alloc: Global,
     /// The text so far.
     pub bytes: Bytes,
-    /// Whether memory was left for all of it.
-    is_whole: bool,
+    /// What was told where memory wasn't left for all of it.
+    want: Option<Memory>,
     /// Whether all words could be read.
     is_read: bool,
 }
@@ -23,7 +23,7 @@ impl Output {
         Output {
             alloc,
             bytes: Bytes::new(alloc),
-            is_whole: true,
+            want: None,
             is_read: true,
         }
     }
@@ -33,19 +33,19 @@ impl Output {
         let Output {
             alloc,
             bytes,
-            is_whole,
+            want,
             is_read,
         } = self;
-        match (is_whole, is_read) {
-            (true, true) => Ok(bytes),
-            (true, false) => Bytes::copied(alloc, b"the row can't be read\n"),
-            (false, _) => Err(Memory),
+        match (want, is_read) {
+            (None, true) => Ok(bytes),
+            (None, false) => Bytes::copied(alloc, b"the row can't be read\n"),
+            (Some(memory), _) => Err(memory),
         }
     }
 
     /// Whether memory was left for all of it.
     pub fn whole(&self) -> Result<(), Memory> {
-        if self.is_whole { Ok(()) } else { Err(Memory) }
+        self.want.map_or(Ok(()), Err)
     }
 
     /// Notes that words can't be read.
@@ -66,7 +66,9 @@ impl Output {
 
     /// Notes whether memory was left for a part.
     pub fn note(&mut self, part: Result<(), Memory>) {
-        self.is_whole = self.is_whole && part.is_ok();
+        if let Err(memory) = part {
+            self.want = Some(memory);
+        }
     }
 
     /// Appends bytes.
@@ -84,7 +86,7 @@ impl Output {
     pub fn made(&mut self, text: Result<String, AllocError>) {
         match text {
             Ok(text) => self.text(text.as_str()),
-            Err(_) => self.is_whole = false,
+            Err(error) => self.want = Some(error.into()),
         }
     }
 

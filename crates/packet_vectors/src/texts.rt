@@ -2,7 +2,7 @@
 
 use crate::output::Output;
 use hex::FromHexError;
-use std::alloc::Global;
+use std::alloc::{AllocError, Global};
 use usb_base::{Bytes, Memory};
 
 /// Texts by name. A word is pieces with `+` between them, of which each is a name or a text; `00*8` stands for eight
@@ -127,7 +127,7 @@ impl Texts {
         out.note(digits.whole());
         match hex::decode(out.alloc, digits.bytes.as_slice()) {
             Ok(bytes) => return bytes,
-            Err(FromHexError::OutOfMemory) => out.note(Err(Memory)),
+            Err(FromHexError::OutOfMemory) => out.note(Err(AllocError.into())),
             Err(_) => out.refuse(),
         }
         Vec::new(out.alloc)
@@ -136,9 +136,8 @@ impl Texts {
 
 /// Adds bytes at the end.
 fn add_to(bytes: &mut Vec<u8>, piece: &[u8], out: &mut Output) {
-    if bytes.extend_from_slice(piece).is_err() {
-        out.note(Err(Memory));
-    }
+    let part = bytes.extend_from_slice(piece);
+    out.note(part.map_err(Memory::from));
 }
 
 /// Puts other bytes at a place.

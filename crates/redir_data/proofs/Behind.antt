@@ -75,13 +75,13 @@ pub control_near : (caps : Caps) (h : Header) (b : List ℕ) (e : ReadError) →
 unfolding AreNear
 control_near caps h b (error.Refused place reason) is =
     near_checks (with_header h (controls caps).checks) b (place, reason) (omega arith, tt) (wrong_parts (behind (controls caps) h) b place reason is)
-control_near caps h b error.Memory is = tt
+control_near caps h b (error.Memory memory) is = tt
 
 pub data_near : (caps : Caps) (way : Way) (h : Header) (b : List ℕ) (e : ReadError) → AnswersBehind h has_data (Err e) (reading (behind (transfers caps way) h) b) → IsNear e
 unfolding AreNear
 data_near caps way h b (error.Refused place reason) is =
     near_checks (with_header h (transfers caps way).checks) b (place, reason) (omega arith, (omega arith, (omega arith, (omega arith, tt)))) (wrong_parts (behind (transfers caps way) h) b place reason is)
-data_near caps way h b error.Memory is = tt
+data_near caps way h b (error.Memory memory) is = tt
 
 -- ---- the same of the packet
 
@@ -94,4 +94,4 @@ wants_past takes all wrap size h (Wrong place reason) same e = e
 pub error_answers : {P : Type 0} (takes : P → Bool) (all : Header × RedirPacket → Bool) (wrap : P → RedirPacket) (size : ℕ) (h : Header) (x : Found P Reason) (e d : ReadError) → ((p : P) → all (h, wrap p) ≡ takes p) →
     d ≡ error_past size e → AnswersBehind h takes (Err e) x → Answers all (Err d) (packet_past wrap size h x)
 error_answers takes all wrap size h x (error.Refused place reason) d same is a = subst (λ (y : ReadError). Answers all (Err y) (packet_past wrap size h x)) (sym is) (ap (packet_past wrap size h) a)
-error_answers takes all wrap size h x error.Memory d same is a = subst (λ (y : ReadError). Answers all (Err y) (packet_past wrap size h x)) (sym is) (wants_past takes all wrap size h x same a)
+error_answers takes all wrap size h x (error.Memory memory) d same is a = subst (λ (y : ReadError). Answers all (Err y) (packet_past wrap size h x)) (sym is) (wants_past takes all wrap size h x same a)

@@ -64,7 +64,7 @@ never_wants (Wrong place reason) e = e
 pub error_same : (first : Bool) (caps : Caps) (way : Way) (b : List ℕ) (takes : Header × RedirPacket → Bool) (e : ReadError) → Answers never (Err e) (reading (headers first caps way) b) →
     Answers takes (Err e) (reading (redir_packets first caps way) b)
 error_same first caps way b takes (error.Refused place reason) e = wrong_by first caps way b place reason (begins_plain b) refl e
-error_same first caps way b takes error.Memory e = absurd (never_wants (reading (headers first caps way) b) e)
+error_same first caps way b takes (error.Memory memory) e = absurd (never_wants (reading (headers first caps way) b) e)
 
 -- ---- with one
 

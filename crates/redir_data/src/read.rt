@@ -16,7 +16,7 @@ use crate::packet::RedirData;
 use packet_stream::{PacketBytes, ReadError};
 use redir_wire::{Caps, DataKind, Header, WIDE_BULK_LENGTH, Way, WireError};
 use std::alloc::Global;
-use usb_base::{Bytes, Memory, Reason, le_u16_at, le_u32_at};
+use usb_base::{Bytes, Reason, le_u16_at, le_u32_at};
 
 /// Reads the packet whose header this is, from the bytes behind it, as far as they have come: None where fewer than
 /// the header announces are there. Where the header doesn't announce the fixed fields and the data that belong to
@@ -77,7 +77,7 @@ pub(crate) fn take_data<B: PacketBytes>(
             packet.set_body(body);
             Ok(Some(packet))
         }
-        Err(Memory) => Err(ReadError::Memory),
+        Err(memory) => Err(ReadError::Memory(memory)),
     }
 }
 

@@ -137,6 +137,6 @@ fn past_header(size: usize, error: ReadError) -> ReadError
             place: size as u64 + place,
             reason,
         },
-        ReadError::Memory => ReadError::Memory,
+        ReadError::Memory(memory) => ReadError::Memory(memory),
     }
 }

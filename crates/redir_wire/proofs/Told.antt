@@ -14,4 +14,4 @@ pub told_stands : {P : Type 0} (f : Format P Reason) → IsSound f → (takes : 
 told_stands f sound takes b are (Ok (read.Whole p n)) e = subst (Stands f b) e (stands f sound b are)
 told_stands f sound takes b are (Ok read.Short) e = subst (Stands f b) e (stands f sound b are)
 told_stands f sound takes b are (Err (error.Refused place reason)) e = subst (Stands f b) e (stands f sound b are)
-told_stands f sound takes b are (Err error.Memory) e = tt
+told_stands f sound takes b are (Err (error.Memory memory)) e = tt

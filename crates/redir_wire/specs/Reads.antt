@@ -12,7 +12,7 @@ abbrev pub AnswersBehind : {P : Type 0} → Header → (P → Bool) → Result (
 AnswersBehind h takes (Ok (Some p)) found = found ≡ Whole p h.length
 AnswersBehind h takes (Ok None) found = found ≡ Short
 AnswersBehind h takes (Err (error.Refused place reason)) found = found ≡ Wrong place reason
-AnswersBehind h takes (Err error.Memory) found = WantsMemory takes found
+AnswersBehind h takes (Err (error.Memory memory)) found = WantsMemory takes found
 
 -- reading never takes memory
 abbrev pub never : {P : Type 0} → P → Bool

@@ -6,9 +6,10 @@ use std::alloc::{AllocError, AllocFailed};
 use std::error::Error;
 use std::fmt;
 
-/// No memory was left. What the call was lent is as before, unless its own text says otherwise.
-#[derive(Clone, Copy, Debug)]
-pub struct Memory;
+/// No memory was left. What the call was lent is as before, unless its own text says otherwise. It is made of the error
+/// of an allocation alone, and handed on from there.
+#[derive(Clone, Copy, Debug, PartialEq, Eq)]
+pub struct Memory(());
 
 impl fmt::Display for Memory {
     ghost output = { λ _. Some (codes "out of memory") };
@@ -22,12 +23,12 @@ impl Error for Memory {}
 
 impl From<AllocError> for Memory {
     fn from(_error: AllocError) -> Self {
-        Memory
+        Memory(())
     }
 }
 
 impl<T: Drop> From<AllocFailed<T>> for Memory {
     fn from(_failed: AllocFailed<T>) -> Self {
-        Memory
+        Memory(())
     }
 }

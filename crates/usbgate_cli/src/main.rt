@@ -10,7 +10,7 @@ ghost use Rattle.usbgate_commands.specs.Words.{texts};
 use gate_outside::{NoDoors, StdSink, StdSource};
 use gate_sockets::TcpDoors;
 use session_tape::FileTape;
-use std::alloc::Global;
+use std::alloc::{AllocError, Global};
 use std::net::Net;
 use std::process::ExitCode;
 use std::rt::{Clock, Env, Files};
@@ -45,11 +45,11 @@ fn run_args(
 ) -> Status {
     let args = match args(rt) {
         Ok(args) => args,
-        Err(Memory) => return Status::OutOfMemory,
+        Err(_) => return Status::OutOfMemory,
     };
     let words = match words_behind_the_name(rt.alloc(), &args) {
         Ok(words) => words,
-        Err(Memory) => return Status::OutOfMemory,
+        Err(_) => return Status::OutOfMemory,
     };
     let mut tape = StdSource::new(rt.reader());
     let mut out = StdSink::new(io::writer(rt));
@@ -89,7 +89,7 @@ fn run_args(
 fn args(rt: &(impl Env + AllocGlobal)) -> Result<Vec<String>, Memory> {
     match env::args(rt) {
         Ok(args) => Ok(args.collect(rt.alloc())?),
-        Err(error) if error.kind() == io::ErrorKind::OutOfMemory => Err(Memory),
+        Err(error) if error.kind() == io::ErrorKind::OutOfMemory => Err(AllocError.into()),
         Err(_) => Ok(Vec::new(rt.alloc())),
     }
 }

@@ -17,7 +17,7 @@ pub fn found<'a>(alloc: Global, words: &'a [&'a str]) -> Result<Option<ArgMatche
     match command_line(alloc)?.try_get_matches_from(words) {
         Ok(matches) => Ok(Some(matches)),
         Err(error) => match error.kind() {
-            ErrorKind::OutOfMemory => Err(Memory),
+            ErrorKind::OutOfMemory => Err(AllocError.into()),
             _ => Ok(None),
         },
     }

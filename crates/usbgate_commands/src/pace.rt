@@ -34,7 +34,7 @@ fn shortest<G: Gadget>(alloc: Global, mut gadget: G) -> Result<Option<Duration>,
     };
     let parts = match walk(alloc, outcome.body.as_slice()) {
         Ok(parts) => parts,
-        Err(WalkError::Memory) => return Err(Memory),
+        Err(WalkError::Memory(memory)) => return Err(memory),
         Err(WalkError::Bad { .. }) => return Ok(None),
     };
     let micros = shortest_micros(speed, parts.as_slice());

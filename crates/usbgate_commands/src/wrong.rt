@@ -4,7 +4,7 @@ use crate::command_line::command_line;
 use crate::command_table::Row;
 use crate::given::Given;
 use clap::error::ErrorKind;
-use std::alloc::Global;
+use std::alloc::{AllocError, Global};
 use std::fmt;
 use usb_base::Memory;
 
@@ -53,7 +53,7 @@ impl<'a> fmt::Display for Wrong<'a> {
 pub fn wrong_with<'a>(alloc: Global, words: &'a [&'a str]) -> Result<Wrong<'a>, Memory> {
     let matches = match command_line(alloc)?.try_get_matches_from(words) {
         Ok(matches) => matches,
-        Err(error) if error.kind() == ErrorKind::OutOfMemory => return Err(Memory),
+        Err(error) if error.kind() == ErrorKind::OutOfMemory => return Err(AllocError.into()),
         Err(error) => return Ok(Wrong::CommandLine(error)),
     };
     let given = Given::of(&matches);

@@ -20,7 +20,7 @@ pub wanting : {P : Type 0} (takes : P → Bool) (r : Result (Read P) ReadError) 
     Answers takes r (reading_by f b None)
 wanting takes (Ok x) f b is there some = absurd is
 wanting takes (Err (error.Refused place reason)) f b is there some = absurd cc
-wanting takes (Err error.Memory) f b is there some = let whole : nat_lt (length b) (f.size b) ≡ false = le-ltb (length b) (f.size b) there in rw whole some
+wanting takes (Err (error.Memory memory)) f b is there some = let whole : nat_lt (length b) (f.size b) ≡ false = le-ltb (length b) (f.size b) there in rw whole some
 
 -- where a body is told there is one
 pub body_wanting : (has_body : Bool) (b : List ℕ) → whole_size has_body b ≤ length b → 48 < descs_place has_body b →

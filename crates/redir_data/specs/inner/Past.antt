@@ -26,12 +26,12 @@ past_found caps way size h b =
 
 abbrev pub error_past : ℕ → ReadError → ReadError
 error_past size (error.Refused place reason) = error.Refused (size + place) reason
-error_past size error.Memory = error.Memory
+error_past size (error.Memory memory) = error.Memory memory
 
 -- a packet is refused within its fixed fields
 abbrev pub IsNear : ReadError → Type 0
 IsNear (error.Refused place reason) = place ≤ 8
-IsNear error.Memory = Unit {0}
+IsNear (error.Memory memory) = Unit {0}
 
 -- a packet that was read is with its header no more among the bytes, and else they stay
 abbrev pub behind_left : {P : Type 0} → ℕ → Header → Result (Option P) ReadError → List ℕ → List ℕ
