@@ -3,6 +3,9 @@ use Rattle.std.proofs.Common.{◌≡◌, ℕ, ◌+◌, ◌<◌, List, [], ◌∷
 use Rattle.std.specs.List.{join_with_byte}
 use Rattle.std.proofs.lemmas.List.{take_more, map-append}
 use Rattle.std.proofs.lemmas.Bool.Decides.{nat_tests}
+use Rattle.std.specs.Prelude.{flat_map}
+use Rattle.redir_wire.specs.Field.{Field}
+use Rattle.packet_show.specs.Redir.{field_words, words_of, field_text}
 use Rattle.packet_show.specs.Line.{SPACE, LF, decimal, line, spaced, spaced_words}
 
 pub spaced_words-nil : spaced_words [] ≡ []
@@ -17,6 +20,12 @@ pub spaced_words-append : (front back : List (List ℕ)) → spaced_words (front
 unfolding spaced_words
 spaced_words-append [] back = refl
 spaced_words-append (word ∷ words) back = ap (λ (rest : List ℕ). spaced word ++ rest) (spaced_words-append words back) ∙ sym (append_assoc (spaced word) (spaced_words words) (spaced_words back))
+
+-- fields, each as its words
+pub fields_spaced : (fs : List Field) → flat_map field_text fs ≡ spaced_words (words_of fs)
+unfolding field_text
+fields_spaced [] = sym spaced_words-nil
+fields_spaced (f ∷ fs) = ap (λ (rest : List ℕ). spaced_words (field_words f) ++ rest) (fields_spaced fs) ∙ sym (spaced_words-append (field_words f) (words_of fs))
 
 -- words that are known one by one
 pub ruleset spacing = (append_assoc, append-nil, spaced_words-nil, spaced_words-cons, spaced_words-append, nat_tests)

@@ -1,7 +1,5 @@
--- The fields of a packet that moves data, in wire order, numbers little-endian, and its data behind them ("Data packets").
-use Rattle.std.specs.Prelude.{ℕ, ◌+◌, ◌/◌, ◌%◌, Bool, not, if◌then◌else◌, List, [], ◌∷◌, ◌++◌, length}
-use Rattle.std.specs.Int.{w16, w32}
-use Rattle.usb_base.specs.Number.{le}
+-- The fields of a packet that moves data, in wire order, and its data behind them ("Data packets").
+use Rattle.std.specs.Prelude.{ℕ, ◌+◌, Bool, not, if◌then◌else◌, List, [], ◌∷◌, ◌++◌, length}
 use Rattle.usb_base.specs.Endpoint.{is_in_endpoint}
 use Rattle.redir_wire.specs.declared.packet.Caps.{Caps}
 use Rattle.redir_wire.specs.declared.packet.Way.{Way}
@@ -9,9 +7,8 @@ use Rattle.redir_wire.specs.declared.packet.Way.TheVariants.{ToGuest, ToHost}
 use Rattle.redir_wire.specs.declared.packet.Header.{Header}
 use Rattle.redir_wire.specs.declared.kind.DataKind.{DataKind}
 use Rattle.redir_wire.specs.declared.kind.DataKind.TheVariants as kinds
-use Rattle.redir_wire.specs.Capability.{has}
-use Rattle.redir_wire.specs.Table.{data_row, fixed_length}
-use Rattle.redir_wire.specs.Spelling.{if_sent}
+use Rattle.redir_wire.specs.Table.{data_row, has_more, fixed_length}
+use Rattle.redir_wire.specs.Field.{Field, Bytes, Shorts, Longs, Lower, Upper, wire_bytes, if_sent}
 use Rattle.redir_data.specs.declared.packet.RedirData.{RedirData}
 use Rattle.redir_data.specs.declared.packet.RedirData.TheVariants as moving
 
@@ -54,23 +51,27 @@ carries ToGuest endpoint = is_in_endpoint endpoint
 abbrev pub data_count : Way → ℕ → ℕ → ℕ
 data_count way endpoint told = if carries way endpoint then told else 0
 
--- ---- the bytes
+-- ---- the fields
 
 -- with capability 6 a bulk packet has the upper 16 bits of its length in a field of their own
-abbrev pub bulk : Bool → ℕ → ℕ → ℕ → ℕ → List ℕ
-bulk wide endpoint status told stream =
-    (endpoint ∷ status ∷ []) ++ le w16 (told % 65536) ++ le w32 stream ++ if_sent wide (le w16 (told / 65536))
+abbrev pub bulk : Bool → ℕ → ℕ → ℕ → ℕ → List Field
+bulk more endpoint status told stream = Bytes (endpoint ∷ status ∷ []) ∷ Lower told ∷ Longs (stream ∷ []) ∷ if_sent more (Upper told ∷ [])
 
 -- isochronous and interrupt packets
-abbrev pub periodic : ℕ → ℕ → ℕ → List ℕ
-periodic endpoint status told = (endpoint ∷ status ∷ []) ++ le w16 told
+abbrev pub periodic : ℕ → ℕ → ℕ → List Field
+periodic endpoint status told = Bytes (endpoint ∷ status ∷ []) ∷ Shorts (told ∷ []) ∷ []
+
+-- what stands before its data; `more` says that the fields are there that go with a capability
+abbrev pub fixed_of : Bool → RedirData → List Field
+fixed_of more (moving.Control endpoint request kind status value index told body) = Bytes (endpoint ∷ request ∷ kind ∷ status ∷ []) ∷ Shorts (value ∷ index ∷ told ∷ []) ∷ []
+fixed_of more (moving.Bulk endpoint status told stream body) = bulk more endpoint status told stream
+fixed_of more (moving.Iso endpoint status told body) = periodic endpoint status told
+fixed_of more (moving.Interrupt endpoint status told body) = periodic endpoint status told
+
+-- ---- the bytes
 
 abbrev pub fixed_fields : Caps → RedirData → List ℕ
-fixed_fields caps (moving.Control endpoint request kind status value index told body) =
-    (endpoint ∷ request ∷ kind ∷ status ∷ []) ++ le w16 value ++ le w16 index ++ le w16 told
-fixed_fields caps (moving.Bulk endpoint status told stream body) = bulk (has caps 6) endpoint status told stream
-fixed_fields caps (moving.Iso endpoint status told body) = periodic endpoint status told
-fixed_fields caps (moving.Interrupt endpoint status told body) = periodic endpoint status told
+fixed_fields caps d = wire_bytes (fixed_of (has_more caps (data_row (kind_of d))) d)
 
 abbrev pub fields : Caps → RedirData → List ℕ
 fields caps d = fixed_fields caps d ++ body_of d

@@ -1,13 +1,14 @@
 //! What packets that move data have in common.
 
-ghost use Rattle.std.specs.Prelude.{◌≡◌, ◌↔◌, IsTrue};
-ghost use Rattle.redir_data.specs.Spelling.{kind_of, endpoint_of, length_of, body_of, carries, data_count};
+ghost use Rattle.std.specs.Prelude.{◌≡◌, ◌↔◌, ◌++◌, IsTrue, flat_map};
+ghost use Rattle.packet_stream.specs.Writes.{AppendsSome};
+ghost use Rattle.redir_data.specs.Spelling.{kind_of, endpoint_of, length_of, body_of, carries, data_count, bulk, periodic, fixed_of};
 ghost use Rattle.redir_data.specs.Ranges.{HasItsData};
 ghost use Rattle.redir_data.specs.inner.Past.{with_body};
 
 use crate::packet::RedirData;
-use redir_wire::{DataKind, Way};
-use usb_base::Bytes;
+use redir_wire::{DataKind, FieldWriter, Way};
+use usb_base::{Bytes, Memory};
 
 impl RedirData {
     /// Its type.
@@ -89,6 +90,88 @@ impl RedirData {
     {
         self.body().len() == data_count(way, self.endpoint(), self.length()) as usize
     }
+
+    /// Appends the fields before its data in this form; `more` says that those are there that go with a capability.
+    /// For want of memory what was there still stands at the front.
+    pub fn write_fixed<W: FieldWriter>(
+        &self,
+        more: bool,
+        writer: &W,
+        out: &mut Bytes,
+    ) -> Result<(), Memory>
+        ensures { AppendsSome result out.old out.new (flat_map W.text (fixed_of more self.now)) }
+    {
+        match self {
+            RedirData::Control {
+                endpoint,
+                request,
+                kind,
+                status,
+                value,
+                index,
+                length,
+                ..
+            } => {
+                writer.bytes(&[*endpoint, *request, *kind, *status], out)?;
+                writer.shorts(&[*value, *index, *length], out)
+            }
+            RedirData::Bulk {
+                endpoint,
+                status,
+                length,
+                stream,
+                ..
+            } => write_bulk(more, *endpoint, *status, *length, *stream, writer, out),
+            RedirData::Iso {
+                endpoint,
+                status,
+                length,
+                ..
+            }
+            | RedirData::Interrupt {
+                endpoint,
+                status,
+                length,
+                ..
+            } => write_periodic(*endpoint, *status, *length, writer, out),
+        }
+    }
+}
+
+/// The fields of a bulk packet, with the upper 16 bits of its length where `more`.
+fn write_bulk<W: FieldWriter>(
+    more: bool,
+    endpoint: u8,
+    status: u8,
+    length: u32,
+    stream: u32,
+    writer: &W,
+    out: &mut Bytes,
+) -> Result<(), Memory>
+    ensures { AppendsSome result out.old out.new (flat_map W.text (bulk more endpoint status length stream)) }
+{
+    writer.bytes(&[endpoint, status], out)?;
+    writer.lower(length, out)?;
+    writer.longs(&[stream], out)?;
+    if more {
+        writer.upper(length, out)?;
+    }
+    Ok(())
+}
+
+/// The fields of an isochronous or interrupt packet.
+pub(crate) fn write_periodic<W: FieldWriter>(
+    endpoint: u8,
+    status: u8,
+    length: u16,
+    writer: &W,
+    out: &mut Bytes,
+) -> Result<(), Memory>
+    ensures { AppendsSome result out.old out.new (flat_map W.text (periodic endpoint status length)) }
+{
+    writer.bytes(&[endpoint, status], out)?;
+    writer.shorts(&[length], out)?;
+    Ok(())
 }
 
 /// Whether packets of this endpoint carry data this way: to the host those of OUT endpoints, to the guest those of

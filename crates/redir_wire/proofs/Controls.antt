@@ -1,13 +1,13 @@
 -- The fields of packets that move no data: spelled again where they stand, and read again where they are spelled.
-use Rattle.std.proofs.Common.{◌≡◌, ℕ, ◌+◌, ◌*◌, ◌-◌, ◌%◌, ◌^◌, ◌<◌, ◌≤◌, Bool, true, false, cond, List, [], ◌∷◌, ◌++◌, length, take, drop, refl, sym, ap, ◌∙◌, append_assoc, arith, length-drop, replicate}
+use Rattle.std.proofs.Common.{◌≡◌, ℕ, zero, suc, ◌+◌, ◌*◌, ◌-◌, ◌%◌, ◌^◌, ◌<◌, ◌≤◌, Bool, true, false, cond, List, [], ◌∷◌, ◌++◌, length, take, drop, refl, sym, ap, ◌∙◌, append_assoc, arith, length-drop, replicate}
 use Rattle.std.specs.Prelude.{nat_le, not, ◌&&◌, ◌||◌, ◌==◌}
 use Rattle.std.specs.Int.{w16, w32}
 use Rattle.std.proofs.lemmas.Bool.{eqb-true}
 use Rattle.std.proofs.lemmas.Grind.{common_steps}
-use Rattle.std.proofs.lemmas.List.{length-append, take_at, drop_at}
+use Rattle.std.proofs.lemmas.List.{append-nil, drop-drop, take_at, drop_at}
 use Rattle.std.proofs.lemmas.Nat.{from_le_bytes-to_le_bytes_2, from_le_bytes-to_le_bytes_4}
 use Rattle.usb_base.specs.Number.{le, le_at, byte_at, part, AreBytes}
-use Rattle.usb_base.proofs.Numbers.{AreBytes-drop, length-part, part_found, then, le_spelled_16, le_spelled_32, le_at-below_16}
+use Rattle.usb_base.proofs.Numbers.{AreBytes-drop, length-part, part_past, then, join, le_spelled_16, le_spelled_32, le_at-below_16}
 use Rattle.redir_wire.specs.declared.packet.Caps.{Caps}
 use Rattle.redir_wire.specs.declared.packet.Hello.{Hello}
 use Rattle.redir_wire.specs.declared.packet.Connect.{Connect}
@@ -20,46 +20,49 @@ use Rattle.redir_wire.specs.declared.kind.PlainKind.TheVariants as plain
 use Rattle.redir_wire.specs.Capability.{has}
 use Rattle.redir_wire.specs.Table.{plain_row, has_length}
 use Rattle.redir_wire.specs.Words.{words, words_of, halves, halves_of}
-use Rattle.redir_wire.specs.Spelling.{kind_of, number_of, if_sent, hello, connect, interface_info, ep_info, fields}
+use Rattle.redir_wire.specs.Field.{wire_bytes, if_sent}
+use Rattle.redir_wire.specs.Spelling.{kind_of, number_of, connect_fields, interface_fields, endpoint_fields, fields}
 use Rattle.redir_wire.specs.Ranges.{IsSent, IsWritable, Ranges, HelloRanges, ConnectRanges, InterfaceRanges, EpRanges, IsControl}
 use Rattle.redir_wire.specs.Places.{hello_at, version_at, connect_at, interface_info_at, max_packet_at, ep_info_at, word_count, fields_at}
-use Rattle.redir_wire.proofs.Words.{length-words, zeros_fit, length-words_of, words_spelled, words_ranges, words_again, length-halves_of, halves_spelled, halves_ranges, halves_again}
+use Rattle.redir_wire.proofs.Lengths.{length_fields}
+use Rattle.redir_wire.proofs.Words.{zeros_fit, length-words_of, words_spelled, words_ranges, words_again, length-halves_of, halves_spelled, halves_ranges, halves_again}
 
 -- ---- what stands at its place
 
-pub one : (b : List ℕ) → 1 ≤ length b → byte_at 0 b ∷ [] ≡ take 1 b
-one [] there = absurd (omega arith)
-one (x ∷ b) there = refl
+-- so many bytes from a place on, one by one
+abbrev pub bytes_at : ℕ → ℕ → List ℕ → List ℕ
+bytes_at p zero b = []
+bytes_at p (suc n) b = byte_at p b ∷ bytes_at (suc p) n b
 
-pub two : (b : List ℕ) → 2 ≤ length b → byte_at 0 b ∷ byte_at 1 b ∷ [] ≡ take 2 b
-two [] there = absurd (omega arith)
-two (x ∷ b) there = ap (λ (l : List ℕ). x ∷ l) (one b (omega arith))
+one_less : (n p x : ℕ) (b : List ℕ) → bytes_at (suc p) n (x ∷ b) ≡ bytes_at p n b
+one_less zero p x b = refl
+one_less (suc n) p x b = ap (λ (l : List ℕ). byte_at p b ∷ l) (one_less n (suc p) x b)
 
-pub three : (b : List ℕ) → 3 ≤ length b → byte_at 0 b ∷ byte_at 1 b ∷ byte_at 2 b ∷ [] ≡ take 3 b
-three [] there = absurd (omega arith)
-three (x ∷ b) there = ap (λ (l : List ℕ). x ∷ l) (two b (omega arith))
-
-pub four : (b : List ℕ) → 4 ≤ length b → byte_at 0 b ∷ byte_at 1 b ∷ byte_at 2 b ∷ byte_at 3 b ∷ [] ≡ take 4 b
-four [] there = absurd (omega arith)
-four (x ∷ b) there = ap (λ (l : List ℕ). x ∷ l) (three b (omega arith))
-
-version_spelled : (sent : Bool) (b : List ℕ) → AreBytes b → 8 + cond sent 2 0 ≤ length b → if_sent sent (le w16 (version_at sent b)) ≡ part 8 (cond sent 2 0) b
-version_spelled true b are there = le_spelled_16 8 b are there
-version_spelled false b are there = refl
+pub bytes_there : (n : ℕ) (b : List ℕ) → n ≤ length b → bytes_at 0 n b ≡ take n b
+bytes_there zero b there = refl
+bytes_there (suc n) [] there = absurd (omega arith)
+bytes_there (suc n) (x ∷ b) there = ap (λ (l : List ℕ). x ∷ l) (one_less n 0 x b ∙ bytes_there n b (omega arith))
 
 version_range : (sent : Bool) (b : List ℕ) → AreBytes b → (version_at sent b < 2 ^ 16) × IsSent sent 0 (version_at sent b)
 version_range true b are = (le_at-below_16 8 b are, tt)
 version_range false b are = (omega arith, refl)
 
-connect_spelled : (sent : Bool) (b : List ℕ) → AreBytes b → 8 + cond sent 2 0 ≤ length b → connect sent (connect_at sent b) ≡ take (8 + cond sent 2 0) b
-connect_spelled sent b are there =
-    then 8 (cond sent 2 0) b _ _ (then 6 2 b _ _ (then 4 2 b _ _ (four b (omega arith)) (le_spelled_16 4 b are (omega arith))) (le_spelled_16 6 b are (omega arith))) (version_spelled sent b are there)
+connect_spelled : (sent : Bool) (b : List ℕ) → AreBytes b → 8 + cond sent 2 0 ≤ length b → wire_bytes (connect_fields sent (connect_at sent b)) ≡ take (8 + cond sent 2 0) b
+connect_spelled true b are there =
+    let numbers = join 4 2 2 b _ _ (le_spelled_16 4 b are (omega arith)) (join 6 2 0 b _ _ (le_spelled_16 6 b are (omega arith)) refl) in
+    let version = join 8 2 0 b _ _ (join 8 2 0 b _ _ (le_spelled_16 8 b are there) refl) refl in
+    join 0 4 6 b _ _ (bytes_there 4 b (omega arith)) (join 4 4 2 b _ _ numbers version)
+connect_spelled false b are there =
+    let numbers = join 4 2 2 b _ _ (le_spelled_16 4 b are (omega arith)) (join 6 2 0 b _ _ (le_spelled_16 6 b are (omega arith)) refl) in
+    join 0 4 4 b _ _ (bytes_there 4 b (omega arith)) (join 4 4 0 b _ _ numbers refl)
 
 connect_ranges : (sent : Bool) (b : List ℕ) → AreBytes b → ConnectRanges (connect_at sent b)
 connect_ranges sent b are = record { vendor = le_at-below_16 4 b are; product = le_at-below_16 6 b are; version = (version_range sent b are).0 }
 
-interface_spelled : (b : List ℕ) → AreBytes b → 132 ≤ length b → interface_info (interface_info_at b) ≡ take 132 b
-interface_spelled b are there = then 100 32 b _ _ (then 68 32 b _ _ (then 36 32 b _ _ (then 4 32 b _ _ (le_spelled_32 0 b are (omega arith)) refl) refl) refl) refl
+interface_spelled : (b : List ℕ) → AreBytes b → 132 ≤ length b → wire_bytes (interface_fields (interface_info_at b)) ≡ take 132 b
+interface_spelled b are there =
+    let count = join 0 4 0 b _ _ (le_spelled_32 0 b are (omega arith)) refl in
+    join 0 4 128 b _ _ count (join 4 32 96 b _ _ refl (join 36 32 64 b _ _ refl (join 68 32 32 b _ _ refl (join 100 32 0 b _ _ refl refl))))
 
 interface_ranges : (b : List ℕ) → 132 ≤ length b → InterfaceRanges (interface_info_at b)
 interface_ranges b there = record {
@@ -69,12 +72,11 @@ interface_ranges b there = record {
   protocol = length-part 100 32 b (omega arith);
 }
 
-max_packet_spelled : (sent : Bool) (b : List ℕ) → AreBytes b → 96 + cond sent 64 0 ≤ length b → if_sent sent (halves (max_packet_at sent b)) ≡ part 96 (cond sent 64 0) b
-max_packet_spelled true b are there = halves_spelled 32 (drop 96 b) (AreBytes-drop 96 b are) (omega (arith, length-drop 96 b))
-max_packet_spelled false b are there = refl
-
-ep_spelled : (sent : Bool) (b : List ℕ) → AreBytes b → 96 + cond sent 64 0 ≤ length b → ep_info sent (ep_info_at sent b) ≡ take (96 + cond sent 64 0) b
-ep_spelled sent b are there = then 96 (cond sent 64 0) b _ _ (then 64 32 b _ _ (then 32 32 b _ _ refl refl) refl) (max_packet_spelled sent b are there)
+ep_spelled : (sent : Bool) (b : List ℕ) → AreBytes b → 96 + cond sent 64 0 ≤ length b → wire_bytes (endpoint_fields sent (ep_info_at sent b)) ≡ take (96 + cond sent 64 0) b
+ep_spelled true b are there =
+    let sizes = halves_spelled 32 (drop 96 b) (AreBytes-drop 96 b are) (omega (arith, length-drop 96 b)) in
+    join 0 32 128 b _ _ refl (join 32 32 96 b _ _ refl (join 64 32 64 b _ _ refl (join 96 64 0 b _ _ sizes refl)))
+ep_spelled false b are there = join 0 32 64 b _ _ refl (join 32 32 32 b _ _ refl (join 64 32 0 b _ _ refl refl))
 
 ep_ranges : (sent : Bool) (b : List ℕ) → AreBytes b → 96 + cond sent 64 0 ≤ length b → EpRanges (ep_info_at sent b) × IsSent sent (replicate 32 0) (max_packet_at sent b)
 ep_ranges true b are there = (
@@ -119,7 +121,9 @@ hello_found caps n b are h there =
     let count = word_count n in
     let is : 64 + count * 4 ≡ n = omega (arith, h.least, h.whole) in
     record {
-      spelled = then 64 (count * 4) b _ _ refl (words_spelled count (drop 64 b) (AreBytes-drop 64 b are) (omega (arith, length-drop 64 b))) ∙ ap (λ (m : ℕ). take m b) is;
+      spelled =
+          then 64 (count * 4) b _ _ refl (append-nil (words (words_of count (drop 64 b))) ∙ words_spelled count (drop 64 b) (AreBytes-drop 64 b are) (omega (arith, length-drop 64 b)))
+          ∙ ap (λ (m : ℕ). take m b) is;
       kind = refl;
       fits = record {
         ranges = record { version = length-part 0 64 b (omega (arith, h.least)); words = words_ranges count (drop 64 b) (AreBytes-drop 64 b are) };
@@ -130,9 +134,6 @@ hello_found caps n b are h there =
 -- fields of so many bytes
 of_length : (n m : ℕ) (b xs : List ℕ) → (n == m) ≡ true → n ≤ length b → (m ≤ length b → xs ≡ take m b) → xs ≡ take n b
 of_length n m b xs e there h = let is = eqb-true n m e in h (omega arith) ∙ ap (λ (x : ℕ). take x b) (sym is)
-
-nothing : (n : ℕ) (b : List ℕ) → (n == 0) ≡ true → [] ≡ take n b
-nothing n b e = ap (λ (x : ℕ). take x b) (sym (eqb-true n 0 e))
 
 plain_fits : (caps : Caps) (c : RedirControl) → Ranges c → IsWritable caps c → IsControl caps c
 plain_fits caps c r w = record { ranges = r; writable = w }
@@ -162,101 +163,98 @@ found_as caps n plain.EpInfo b are e there few =
       kind = refl;
       fits = record { ranges = r.0; writable = r.1 };
     }
-found_as caps n plain.SetConfiguration b are e there few = record { spelled = of_length n 1 b _ e there (one b); kind = refl; fits = record { ranges = tt; writable = tt } }
-found_as caps n plain.ConfigurationStatus b are e there few = record { spelled = of_length n 2 b _ e there (two b); kind = refl; fits = record { ranges = tt; writable = tt } }
-found_as caps n plain.SetAlt b are e there few = record { spelled = of_length n 2 b _ e there (two b); kind = refl; fits = record { ranges = tt; writable = tt } }
-found_as caps n plain.GetAlt b are e there few = record { spelled = of_length n 1 b _ e there (one b); kind = refl; fits = record { ranges = tt; writable = tt } }
-found_as caps n plain.AltStatus b are e there few = record { spelled = of_length n 3 b _ e there (three b); kind = refl; fits = record { ranges = tt; writable = tt } }
-found_as caps n plain.StartIso b are e there few = record { spelled = of_length n 3 b _ e there (three b); kind = refl; fits = record { ranges = tt; writable = tt } }
-found_as caps n plain.StopIso b are e there few = record { spelled = of_length n 1 b _ e there (one b); kind = refl; fits = record { ranges = tt; writable = tt } }
-found_as caps n plain.IsoStatus b are e there few = record { spelled = of_length n 2 b _ e there (two b); kind = refl; fits = record { ranges = tt; writable = tt } }
-found_as caps n plain.StartInterrupt b are e there few = record { spelled = of_length n 1 b _ e there (one b); kind = refl; fits = record { ranges = tt; writable = tt } }
-found_as caps n plain.StopInterrupt b are e there few = record { spelled = of_length n 1 b _ e there (one b); kind = refl; fits = record { ranges = tt; writable = tt } }
-found_as caps n plain.InterruptStatus b are e there few = record { spelled = of_length n 2 b _ e there (two b); kind = refl; fits = record { ranges = tt; writable = tt } }
-found_as caps n k b are e there few = record { spelled = nothing n b e; kind = refl; fits = record { ranges = tt; writable = tt } }
+found_as caps n k b are e there few = record { spelled = of_length n _ b _ e there (bytes_there _ b); kind = refl; fits = record { ranges = tt; writable = tt } }
 
 -- ---- what is spelled is read again
 
 count_of_length : (n : ℕ) → word_count (64 + n * 4) ≡ n
 count_of_length n = omega arith
 
-hello_again : (x : Hello) (more : List ℕ) (n : ℕ) → HelloRanges x → n ≡ 64 + length x.words * 4 → hello_at (word_count n) (hello x ++ more) ≡ x
+hello_again : (x : Hello) (more : List ℕ) (n : ℕ) → HelloRanges x → n ≡ 64 + length x.words * 4 → hello_at (word_count n) ((x.version ++ (words x.words ++ [])) ++ more) ≡ x
 hello_again x more n r e =
-    let all = append_assoc x.version (words x.words) more in
+    let all = append_assoc x.version (words x.words ++ []) more ∙ ap (λ (l : List ℕ). x.version ++ (l ++ more)) (append-nil (words x.words)) in
     let version = ap (take 64) all ∙ take_at x.version (words x.words ++ more) 64 r.version in
     let behind = ap (drop 64) all ∙ drop_at x.version (words x.words ++ more) 64 r.version in
     let found = (λ i. words_of ((ap word_count e ∙ count_of_length (length x.words)) i) (behind i)) ∙ words_again x.words more r.words in
     λ i. record { version = version i; words = found i }
 
-version_again : (sent : Bool) (c : Connect) (more : List ℕ) → c.version < 2 ^ 16 → IsSent sent 0 c.version → version_at sent (connect sent c ++ more) ≡ c.version
+version_again : (sent : Bool) (c : Connect) (more : List ℕ) → c.version < 2 ^ 16 → IsSent sent 0 c.version → version_at sent (wire_bytes (connect_fields sent c) ++ more) ≡ c.version
 unfolding le le_at
 version_again true c more fits is = from_le_bytes-to_le_bytes_2 c.version fits
 version_again false c more fits is = sym is
 
-vendor_again : (sent : Bool) (c : Connect) (more : List ℕ) → c.vendor < 2 ^ 16 → le_at w16 4 (connect sent c ++ more) ≡ c.vendor
+vendor_again : (sent : Bool) (c : Connect) (more : List ℕ) → c.vendor < 2 ^ 16 → le_at w16 4 (wire_bytes (connect_fields sent c) ++ more) ≡ c.vendor
 unfolding le le_at
 vendor_again true c more fits = from_le_bytes-to_le_bytes_2 c.vendor fits
 vendor_again false c more fits = from_le_bytes-to_le_bytes_2 c.vendor fits
 
-product_again : (sent : Bool) (c : Connect) (more : List ℕ) → c.product < 2 ^ 16 → le_at w16 6 (connect sent c ++ more) ≡ c.product
+product_again : (sent : Bool) (c : Connect) (more : List ℕ) → c.product < 2 ^ 16 → le_at w16 6 (wire_bytes (connect_fields sent c) ++ more) ≡ c.product
 unfolding le le_at
 product_again true c more fits = from_le_bytes-to_le_bytes_2 c.product fits
 product_again false c more fits = from_le_bytes-to_le_bytes_2 c.product fits
 
-connect_again : (sent : Bool) (c : Connect) (more : List ℕ) → ConnectRanges c → IsSent sent 0 c.version → connect_at sent (connect sent c ++ more) ≡ c
+connect_again : (sent : Bool) (c : Connect) (more : List ℕ) → ConnectRanges c → IsSent sent 0 c.version → connect_at sent (wire_bytes (connect_fields sent c) ++ more) ≡ c
 connect_again sent c more r is =
     let vendor = vendor_again sent c more r.vendor in
     let product = product_again sent c more r.product in
     let version = version_again sent c more r.version is in
     λ i. record { speed = c.speed; class = c.class; subclass = c.subclass; protocol = c.protocol; vendor = vendor i; product = product i; version = version i }
 
--- fields of 32 bytes, one behind another
-first_of : (a b c more : List ℕ) → length a ≡ 32 → take 32 (((a ++ b) ++ c) ++ more) ≡ a
-first_of a b c more la = ap (take 32) (append_assoc (a ++ b) c more ∙ append_assoc a b (c ++ more)) ∙ take_at a (b ++ (c ++ more)) 32 la
+-- fields behind others
+front : (a rest more : List ℕ) (n : ℕ) → length a ≡ n → take n ((a ++ rest) ++ more) ≡ a
+front a rest more n e = ap (take n) (append_assoc a rest more) ∙ take_at a (rest ++ more) n e
 
-second_of : (a b c more : List ℕ) → length a ≡ 32 → length b ≡ 32 → part 32 32 (((a ++ b) ++ c) ++ more) ≡ b
-second_of a b c more la lb = ap (part 32 32) (append_assoc (a ++ b) c more) ∙ part_found 32 32 a b (c ++ more) la lb
+past : (k p n : ℕ) (a rest more : List ℕ) → length a ≡ k → part (k + p) n ((a ++ rest) ++ more) ≡ part p n (rest ++ more)
+past k p n a rest more e = ap (part (k + p) n) (append_assoc a rest more) ∙ part_past k p n a (rest ++ more) e
 
-third_of : (a b c more : List ℕ) → length a ≡ 32 → length b ≡ 32 → length c ≡ 32 → part 64 32 (((a ++ b) ++ c) ++ more) ≡ c
-third_of a b c more la lb lc = part_found 64 32 (a ++ b) c more (omega (arith, length-append a b)) lc
+drop_past : (k p : ℕ) (a rest more : List ℕ) → length a ≡ k → drop (k + p) ((a ++ rest) ++ more) ≡ drop p (rest ++ more)
+drop_past k p a rest more e = ap (drop (k + p)) (append_assoc a rest more) ∙ sym (drop-drop p k (a ++ (rest ++ more))) ∙ ap (drop p) (drop_at a (rest ++ more) k e)
 
-count_again : (x : InterfaceInfo) (more : List ℕ) → x.count < 2 ^ 32 → le_at w32 0 (interface_info x ++ more) ≡ x.count
+count_again : (x : InterfaceInfo) (more : List ℕ) → x.count < 2 ^ 32 → le_at w32 0 (wire_bytes (interface_fields x) ++ more) ≡ x.count
 unfolding le le_at
 count_again x more fits = from_le_bytes-to_le_bytes_4 x.count fits
 
-interface_again : (x : InterfaceInfo) (more : List ℕ) → InterfaceRanges x → x.count ≤ 32 → interface_info_at (interface_info x ++ more) ≡ x
+interface_again : (x : InterfaceInfo) (more : List ℕ) → InterfaceRanges x → x.count ≤ 32 → interface_info_at (wire_bytes (interface_fields x) ++ more) ≡ x
 unfolding le
 interface_again x more r few =
-    let front = append_assoc ((x.interface ++ x.class) ++ x.subclass) x.protocol more in
-    let count = count_again x more (omega arith) in
-    let interface = ap (take 32) front ∙ first_of x.interface x.class x.subclass (x.protocol ++ more) r.interface in
-    let class = ap (part 32 32) front ∙ second_of x.interface x.class x.subclass (x.protocol ++ more) r.interface r.class in
-    let subclass = ap (part 64 32) front ∙ third_of x.interface x.class x.subclass (x.protocol ++ more) r.interface r.class r.subclass in
-    let before : length ((x.interface ++ x.class) ++ x.subclass) ≡ 96 =
-    omega (arith, length-append (x.interface ++ x.class) x.subclass, length-append x.interface x.class, r.interface, r.class, r.subclass) in
-    let protocol = part_found 96 32 ((x.interface ++ x.class) ++ x.subclass) x.protocol more before r.protocol in
-    λ i. record { count = count i; interface = interface i; class = class i; subclass = subclass i; protocol = protocol i }
+    let protocol = x.protocol ++ [] in
+    let subclass = x.subclass ++ protocol in
+    let class = x.class ++ subclass in
+    let count_is = count_again x more (omega arith) in
+    let interface_is = front x.interface class more 32 r.interface in
+    let class_is = past 32 0 32 x.interface class more r.interface ∙ front x.class subclass more 32 r.class in
+    let subclass_is = past 32 32 32 x.interface class more r.interface ∙ past 32 0 32 x.class subclass more r.class ∙ front x.subclass protocol more 32 r.subclass in
+    let protocol_is =
+    past 32 64 32 x.interface class more r.interface ∙ past 32 32 32 x.class subclass more r.class ∙ past 32 0 32 x.subclass protocol more r.subclass ∙ front x.protocol [] more 32 r.protocol in
+    λ i. record { count = count_is i; interface = interface_is i; class = class_is i; subclass = subclass_is i; protocol = protocol_is i }
 
-max_packet_again : (sent : Bool) (x : EpInfo) (more : List ℕ) → EpRanges x → IsSent sent (replicate 32 0) x.max_packet → max_packet_at sent (ep_info sent x ++ more) ≡ x.max_packet
-max_packet_again true x more r is =
-    let front = (x.kinds ++ x.interval) ++ x.interface in
-    let before : length front ≡ 96 = omega (arith, length-append (x.kinds ++ x.interval) x.interface, length-append x.kinds x.interval, r.kinds, r.interval, r.interface) in
-    let rest = ap (drop 96) (append_assoc front (halves x.max_packet) more) ∙ drop_at front (halves x.max_packet ++ more) 96 before in
-    ap (halves_of 32) rest ∙ ap (λ (n : ℕ). halves_of n (halves x.max_packet ++ more)) (sym r.max_packet_count) ∙ halves_again x.max_packet more r.max_packet
+sizes_again : (x : EpInfo) (more : List ℕ) → EpRanges x → halves_of 32 (drop 96 (wire_bytes (endpoint_fields true x) ++ more)) ≡ x.max_packet
+sizes_again x more r =
+    let sizes = halves x.max_packet ++ [] in
+    let interface = x.interface ++ sizes in
+    let interval = x.interval ++ interface in
+    let behind = drop_past 32 64 x.kinds interval more r.kinds ∙ drop_past 32 32 x.interval interface more r.interval ∙ drop_past 32 0 x.interface sizes more r.interface in
+    ap (halves_of 32) (behind ∙ ap (λ (l : List ℕ). l ++ more) (append-nil (halves x.max_packet)))
+    ∙ ap (λ (n : ℕ). halves_of n (halves x.max_packet ++ more)) (sym r.max_packet_count)
+    ∙ halves_again x.max_packet more r.max_packet
+
+max_packet_again : (sent : Bool) (x : EpInfo) (more : List ℕ) → EpRanges x → IsSent sent (replicate 32 0) x.max_packet → max_packet_at sent (wire_bytes (endpoint_fields sent x) ++ more) ≡ x.max_packet
+max_packet_again true x more r is = sizes_again x more r
 max_packet_again false x more r is = sym is
 
-ep_again : (sent : Bool) (x : EpInfo) (more : List ℕ) → EpRanges x → IsSent sent (replicate 32 0) x.max_packet → ep_info_at sent (ep_info sent x ++ more) ≡ x
+ep_again : (sent : Bool) (x : EpInfo) (more : List ℕ) → EpRanges x → IsSent sent (replicate 32 0) x.max_packet → ep_info_at sent (wire_bytes (endpoint_fields sent x) ++ more) ≡ x
 ep_again sent x more r is =
-    let last = if_sent sent (halves x.max_packet) in
-    let front = append_assoc ((x.kinds ++ x.interval) ++ x.interface) last more in
-    let kinds = ap (take 32) front ∙ first_of x.kinds x.interval x.interface (last ++ more) r.kinds in
-    let interval = ap (part 32 32) front ∙ second_of x.kinds x.interval x.interface (last ++ more) r.kinds r.interval in
-    let interface = ap (part 64 32) front ∙ third_of x.kinds x.interval x.interface (last ++ more) r.kinds r.interval r.interface in
-    let max_packet = max_packet_again sent x more r is in
-    λ i. record { kinds = kinds i; interval = interval i; interface = interface i; max_packet = max_packet i }
+    let sizes = halves (if_sent sent x.max_packet) ++ [] in
+    let interface = x.interface ++ sizes in
+    let interval = x.interval ++ interface in
+    let kinds_are = front x.kinds interval more 32 r.kinds in
+    let intervals_are = past 32 0 32 x.kinds interval more r.kinds ∙ front x.interval interface more 32 r.interval in
+    let interfaces_are = past 32 32 32 x.kinds interval more r.kinds ∙ past 32 0 32 x.interval interface more r.interval ∙ front x.interface sizes more 32 r.interface in
+    let sizes_are = max_packet_again sent x more r is in
+    λ i. record { kinds = kinds_are i; interval = intervals_are i; interface = interfaces_are i; max_packet = sizes_are i }
 
 pub fields_again : (caps : Caps) (n : ℕ) (c : RedirControl) (more : List ℕ) → IsControl caps c → n ≡ length (fields caps c) → fields_at caps n (kind_of c) (fields caps c ++ more) ≡ c
-fields_again caps n (controls.Hello x) more is e = ap controls.Hello (hello_again x more n is.ranges (omega (arith, e, length-append x.version (words x.words), length-words x.words, is.ranges.version)))
+fields_again caps n (controls.Hello x) more is e = ap controls.Hello (hello_again x more n is.ranges (e ∙ length_fields caps (controls.Hello x) is.ranges))
 fields_again caps n (controls.Connect x) more is e = ap controls.Connect (connect_again (has caps 1) x more is.ranges is.writable)
 fields_again caps n (controls.InterfaceInfo x) more is e = ap controls.InterfaceInfo (interface_again x more is.ranges is.writable)
 fields_again caps n (controls.EpInfo x) more is e = ap controls.EpInfo (ep_again (has caps 4) x more is.ranges is.writable)
@@ -270,5 +268,5 @@ few_by k n le = grind (arith, common_steps)
 pub count_passes : (caps : Caps) (k : ℕ) (c : RedirControl) (more : List ℕ) → k ≡ number_of c → IsControl caps c → (not (k == 4) || nat_le (le_at w32 0 (fields caps c ++ more)) 32) ≡ true
 count_passes caps k (controls.InterfaceInfo x) more e is =
     let count = count_again x more (omega (arith, is.writable)) in
-    few_by k (le_at w32 0 (interface_info x ++ more)) (omega (arith, count, is.writable))
+    few_by k (le_at w32 0 (wire_bytes (interface_fields x) ++ more)) (omega (arith, count, is.writable))
 count_passes caps k c more e is = ap (λ (n : ℕ). not (n == 4) || nat_le (le_at w32 0 (fields caps c ++ more)) 32) e

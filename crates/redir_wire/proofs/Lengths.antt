@@ -1,53 +1,65 @@
 -- How many bytes a packet's fields have.
-use Rattle.std.proofs.Common.{◌≡◌, ◌+◌, Bool, true, false, [], ◌++◌, length, arith, refl, cond, ◌∙◌}
+use Rattle.std.proofs.Common.{◌≡◌, ℕ, ◌+◌, ◌*◌, ◌%◌, ◌/◌, Bool, true, false, List, [], ◌∷◌, length, arith, refl, cond, ◌∙◌}
+use Rattle.std.specs.Int.{w16}
 use Rattle.std.proofs.lemmas.List.{length-append}
-use Rattle.usb_base.specs.Number.{le}
+use Rattle.usb_base.proofs.Numbers.{length-le}
 use Rattle.redir_wire.specs.declared.packet.Caps.{Caps}
 use Rattle.redir_wire.specs.declared.packet.Connect.{Connect}
-use Rattle.redir_wire.specs.declared.packet.InterfaceInfo.{InterfaceInfo}
 use Rattle.redir_wire.specs.declared.packet.EpInfo.{EpInfo}
 use Rattle.redir_wire.specs.declared.packet.RedirControl.{RedirControl}
 use Rattle.redir_wire.specs.declared.packet.RedirControl.TheVariants as controls
 use Rattle.redir_wire.specs.Capability.{has}
-use Rattle.redir_wire.specs.Words.{words, halves}
-use Rattle.redir_wire.specs.Spelling.{length_of, fields, connect, interface_info, ep_info}
-use Rattle.redir_wire.specs.Ranges.{Ranges, InterfaceRanges, EpRanges}
+use Rattle.redir_wire.specs.Field.{Field, Bytes, Shorts, Longs, ByteTable, ShortTable, Lower, Upper, field_bytes, wire_bytes}
+use Rattle.redir_wire.specs.Table.{plain_row, has_more}
+use Rattle.redir_wire.specs.Spelling.{kind_of, length_of, connect_fields, endpoint_fields, fields_of, fields}
+use Rattle.redir_wire.specs.Ranges.{Ranges, EpRanges}
 use Rattle.redir_wire.proofs.Words.{length-words, length-halves}
 
-length_connect : (sent : Bool) (c : Connect) → length (connect sent c) ≡ 8 + cond sent 2 0
-unfolding le
-length_connect true c = refl
-length_connect false c = refl
+-- ---- of any fields
 
-length_interfaces : (i : InterfaceInfo) → InterfaceRanges i → length (interface_info i) ≡ 132
-unfolding le
-length_interfaces i r =
-    omega (arith, length-append (((i.interface) ++ i.class) ++ i.subclass) i.protocol, length-append (i.interface ++ i.class) i.subclass, length-append i.interface i.class, r.interface, r.class, r.subclass, r.protocol)
+abbrev pub field_size : Field → ℕ
+field_size (Bytes ns) = length ns
+field_size (Shorts ns) = length ns * 2
+field_size (Longs ns) = length ns * 4
+field_size (ByteTable ns) = length ns
+field_size (ShortTable ns) = length ns * 2
+field_size (Lower n) = 2
+field_size (Upper n) = 2
 
-length_endpoints : (sent : Bool) (e : EpInfo) → EpRanges e → length (ep_info sent e) ≡ 96 + cond sent 64 0
-length_endpoints true e r =
-    omega (arith, length-append ((e.kinds ++ e.interval) ++ e.interface) (halves e.max_packet), length-append (e.kinds ++ e.interval) e.interface, length-append e.kinds e.interval, length-halves e.max_packet, r.max_packet_count, r.kinds, r.interval, r.interface)
-length_endpoints false e r = omega (arith, length-append ((e.kinds ++ e.interval) ++ e.interface) [], length-append (e.kinds ++ e.interval) e.interface, length-append e.kinds e.interval, r.kinds, r.interval, r.interface)
+abbrev pub size_of : List Field → ℕ
+size_of [] = 0
+size_of (f ∷ fs) = field_size f + size_of fs
+
+length_field : (f : Field) → length (field_bytes f) ≡ field_size f
+length_field (Bytes ns) = refl
+length_field (Shorts ns) = length-halves ns
+length_field (Longs ns) = length-words ns
+length_field (ByteTable ns) = refl
+length_field (ShortTable ns) = length-halves ns
+length_field (Lower n) = length-le w16 (n % 65536)
+length_field (Upper n) = length-le w16 (n / 65536)
+
+pub length_wire : (fs : List Field) → length (wire_bytes fs) ≡ size_of fs
+length_wire [] = refl
+length_wire (f ∷ fs) = omega (arith, length-append (field_bytes f) (wire_bytes fs), length_field f, length_wire fs)
+
+-- ---- of a packet
+
+size_connect : (sent : Bool) (c : Connect) → size_of (connect_fields sent c) ≡ 8 + cond sent 2 0
+size_connect true c = refl
+size_connect false c = refl
+
+size_endpoints : (sent : Bool) (e : EpInfo) → EpRanges e → size_of (endpoint_fields sent e) ≡ 96 + cond sent 64 0
+size_endpoints true e r = omega (arith, r.max_packet_count, r.kinds, r.interval, r.interface)
+size_endpoints false e r = omega (arith, r.kinds, r.interval, r.interface)
 
 -- as many as the table says, and a hello's words
+size_fields : (caps : Caps) (p : RedirControl) → Ranges p → size_of (fields_of (has_more caps (plain_row (kind_of p))) p) ≡ length_of caps p
+size_fields caps (controls.Hello h) r = omega (arith, r.version)
+size_fields caps (controls.Connect c) r = size_connect (has caps 1) c ∙ omega arith
+size_fields caps (controls.InterfaceInfo i) r = omega (arith, r.interface, r.class, r.subclass, r.protocol)
+size_fields caps (controls.EpInfo e) r = size_endpoints (has caps 4) e r ∙ omega arith
+size_fields caps p r = refl
+
 pub length_fields : (caps : Caps) (p : RedirControl) → Ranges p → length (fields caps p) ≡ length_of caps p
-length_fields caps (controls.Hello h) r = omega (arith, length-append h.version (words h.words), length-words h.words, r.version)
-length_fields caps (controls.Connect c) r = length_connect (has caps 1) c ∙ omega arith
-length_fields caps controls.Disconnect r = refl
-length_fields caps controls.Reset r = refl
-length_fields caps (controls.InterfaceInfo i) r = length_interfaces i r
-length_fields caps (controls.EpInfo e) r = length_endpoints (has caps 4) e r ∙ omega arith
-length_fields caps (controls.SetConfiguration configuration) r = refl
-length_fields caps controls.GetConfiguration r = refl
-length_fields caps (controls.ConfigurationStatus status configuration) r = refl
-length_fields caps (controls.SetAlt interface alt) r = refl
-length_fields caps (controls.GetAlt interface) r = refl
-length_fields caps (controls.AltStatus status interface alt) r = refl
-length_fields caps (controls.StartIso endpoint pkts_per_urb no_urbs) r = refl
-length_fields caps (controls.StopIso endpoint) r = refl
-length_fields caps (controls.IsoStatus status endpoint) r = refl
-length_fields caps (controls.StartInterrupt endpoint) r = refl
-length_fields caps (controls.StopInterrupt endpoint) r = refl
-length_fields caps (controls.InterruptStatus status endpoint) r = refl
-length_fields caps controls.Cancel r = refl
-length_fields caps controls.DisconnectAck r = refl
+length_fields caps p r = length_wire (fields_of (has_more caps (plain_row (kind_of p))) p) ∙ size_fields caps p r

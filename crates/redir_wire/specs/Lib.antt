@@ -1,6 +1,7 @@
 pub mod Capability
 pub mod Table
 pub mod Words
+pub mod Field
 pub mod Header
 pub mod Bodies
 pub mod Spelling

@@ -1,9 +1,6 @@
--- The fields of a packet that moves no data, in wire order, numbers little-endian ("Control packets").
-use Rattle.std.specs.Prelude.{ℕ, ◌+◌, ◌*◌, ◌==◌, Bool, true, false, List, [], ◌∷◌, ◌++◌, length}
-use Rattle.std.specs.Int.{w16, w32}
-use Rattle.usb_base.specs.Number.{le}
+-- The fields of a packet that moves no data, in wire order ("Control packets").
+use Rattle.std.specs.Prelude.{ℕ, ◌+◌, ◌*◌, ◌==◌, Bool, List, [], ◌∷◌, length}
 use Rattle.redir_wire.specs.declared.packet.Caps.{Caps}
-use Rattle.redir_wire.specs.declared.packet.Hello.{Hello}
 use Rattle.redir_wire.specs.declared.packet.Connect.{Connect}
 use Rattle.redir_wire.specs.declared.packet.InterfaceInfo.{InterfaceInfo}
 use Rattle.redir_wire.specs.declared.packet.EpInfo.{EpInfo}
@@ -12,9 +9,8 @@ use Rattle.redir_wire.specs.declared.packet.RedirControl.{RedirControl}
 use Rattle.redir_wire.specs.declared.packet.RedirControl.TheVariants as controls
 use Rattle.redir_wire.specs.declared.kind.PlainKind.{PlainKind}
 use Rattle.redir_wire.specs.declared.kind.PlainKind.TheVariants as plain
-use Rattle.redir_wire.specs.Capability.{has}
-use Rattle.redir_wire.specs.Table.{plain_row, fixed_length}
-use Rattle.redir_wire.specs.Words.{words, halves}
+use Rattle.redir_wire.specs.Table.{plain_row, has_more, fixed_length}
+use Rattle.redir_wire.specs.Field.{Field, Bytes, Shorts, Longs, ByteTable, ShortTable, wire_bytes, if_sent}
 
 abbrev pub kind_of : RedirControl → PlainKind
 kind_of (controls.Hello h) = plain.Hello
@@ -38,44 +34,41 @@ kind_of (controls.InterruptStatus status endpoint) = plain.InterruptStatus
 kind_of controls.Cancel = plain.Cancel
 kind_of controls.DisconnectAck = plain.DisconnectAck
 
--- a field that is there only with a capability
-abbrev pub if_sent : Bool → List ℕ → List ℕ
-if_sent true bytes = bytes
-if_sent false bytes = []
+abbrev pub connect_fields : Bool → Connect → List Field
+connect_fields more c = Bytes (c.speed ∷ c.class ∷ c.subclass ∷ c.protocol ∷ []) ∷ Shorts (c.vendor ∷ c.product ∷ []) ∷ if_sent more (Shorts (c.version ∷ []) ∷ [])
 
-abbrev pub hello : Hello → List ℕ
-hello h = h.version ++ words h.words
+abbrev pub interface_fields : InterfaceInfo → List Field
+interface_fields i = Longs (i.count ∷ []) ∷ ByteTable i.interface ∷ ByteTable i.class ∷ ByteTable i.subclass ∷ ByteTable i.protocol ∷ []
 
-abbrev pub connect : Bool → Connect → List ℕ
-connect sent c = (c.speed ∷ c.class ∷ c.subclass ∷ c.protocol ∷ []) ++ le w16 c.vendor ++ le w16 c.product ++ if_sent sent (le w16 c.version)
+abbrev pub endpoint_fields : Bool → EpInfo → List Field
+endpoint_fields more e = ByteTable e.kinds ∷ ByteTable e.interval ∷ ByteTable e.interface ∷ ShortTable (if_sent more e.max_packet) ∷ []
 
-abbrev pub interface_info : InterfaceInfo → List ℕ
-interface_info i = le w32 i.count ++ i.interface ++ i.class ++ i.subclass ++ i.protocol
+-- what it has behind its header; `more` says that the fields are there that go with a capability
+abbrev pub fields_of : Bool → RedirControl → List Field
+fields_of more (controls.Hello h) = ByteTable h.version ∷ Longs h.words ∷ []
+fields_of more (controls.Connect c) = connect_fields more c
+fields_of more controls.Disconnect = []
+fields_of more controls.Reset = []
+fields_of more (controls.InterfaceInfo i) = interface_fields i
+fields_of more (controls.EpInfo e) = endpoint_fields more e
+fields_of more (controls.SetConfiguration configuration) = Bytes (configuration ∷ []) ∷ []
+fields_of more controls.GetConfiguration = []
+fields_of more (controls.ConfigurationStatus status configuration) = Bytes (status ∷ configuration ∷ []) ∷ []
+fields_of more (controls.SetAlt interface alt) = Bytes (interface ∷ alt ∷ []) ∷ []
+fields_of more (controls.GetAlt interface) = Bytes (interface ∷ []) ∷ []
+fields_of more (controls.AltStatus status interface alt) = Bytes (status ∷ interface ∷ alt ∷ []) ∷ []
+fields_of more (controls.StartIso endpoint pkts_per_urb no_urbs) = Bytes (endpoint ∷ pkts_per_urb ∷ no_urbs ∷ []) ∷ []
+fields_of more (controls.StopIso endpoint) = Bytes (endpoint ∷ []) ∷ []
+fields_of more (controls.IsoStatus status endpoint) = Bytes (status ∷ endpoint ∷ []) ∷ []
+fields_of more (controls.StartInterrupt endpoint) = Bytes (endpoint ∷ []) ∷ []
+fields_of more (controls.StopInterrupt endpoint) = Bytes (endpoint ∷ []) ∷ []
+fields_of more (controls.InterruptStatus status endpoint) = Bytes (status ∷ endpoint ∷ []) ∷ []
+fields_of more controls.Cancel = []
+fields_of more controls.DisconnectAck = []
 
-abbrev pub ep_info : Bool → EpInfo → List ℕ
-ep_info sent e = e.kinds ++ e.interval ++ e.interface ++ if_sent sent (halves e.max_packet)
-
+-- the bytes behind its header with these capabilities
 abbrev pub fields : Caps → RedirControl → List ℕ
-fields caps (controls.Hello h) = hello h
-fields caps (controls.Connect c) = connect (has caps 1) c
-fields caps controls.Disconnect = []
-fields caps controls.Reset = []
-fields caps (controls.InterfaceInfo i) = interface_info i
-fields caps (controls.EpInfo e) = ep_info (has caps 4) e
-fields caps (controls.SetConfiguration configuration) = configuration ∷ []
-fields caps controls.GetConfiguration = []
-fields caps (controls.ConfigurationStatus status configuration) = status ∷ configuration ∷ []
-fields caps (controls.SetAlt interface alt) = interface ∷ alt ∷ []
-fields caps (controls.GetAlt interface) = interface ∷ []
-fields caps (controls.AltStatus status interface alt) = status ∷ interface ∷ alt ∷ []
-fields caps (controls.StartIso endpoint pkts_per_urb no_urbs) = endpoint ∷ pkts_per_urb ∷ no_urbs ∷ []
-fields caps (controls.StopIso endpoint) = endpoint ∷ []
-fields caps (controls.IsoStatus status endpoint) = status ∷ endpoint ∷ []
-fields caps (controls.StartInterrupt endpoint) = endpoint ∷ []
-fields caps (controls.StopInterrupt endpoint) = endpoint ∷ []
-fields caps (controls.InterruptStatus status endpoint) = status ∷ endpoint ∷ []
-fields caps controls.Cancel = []
-fields caps controls.DisconnectAck = []
+fields caps p = wire_bytes (fields_of (has_more caps (plain_row (kind_of p))) p)
 
 abbrev pub number_of : RedirControl → ℕ
 number_of p = (plain_row (kind_of p)).number

@@ -1,5 +1,5 @@
 -- The table of packets: each type's number, the way that it goes, the capability that it wants, and its length ("Packet types").
-use Rattle.std.specs.Prelude.{ℕ, ◌+◌, ◌-◌, ◌%◌, Bool, true, false, ◌==◌, ◌&&◌, ◌||◌, nat_le, List, [], ◌∷◌, Option, Some, None, find, ◌<◌, IfSome, if◌then◌else◌}
+use Rattle.std.specs.Prelude.{ℕ, ◌+◌, ◌-◌, ◌%◌, Bool, true, false, ◌==◌, ◌&&◌, ◌||◌, nat_le, nat_lt, List, [], ◌∷◌, Option, Some, None, find, ◌<◌, IfSome, if◌then◌else◌, codes}
 use Rattle.std.specs.Option.{option_map_or}
 use Rattle.redir_wire.specs.declared.packet.Caps.{Caps}
 use Rattle.redir_wire.specs.declared.packet.Way.{Way}
@@ -20,36 +20,49 @@ abbrev pub of_type : ℕ → Option Way → Option ℕ → ℕ → Option More �
 of_type number way wanted fixed more tail = record { number = number; way = way; wanted = wanted; fixed = fixed; more = more; tail = tail }
 
 -- so many bytes more with this capability
-abbrev with : ℕ → ℕ → Option More
+abbrev pub with : ℕ → ℕ → Option More
 with capability bytes = Some (record { capability = capability; bytes = bytes })
 
+-- a type's name in capitals, and what the protocol says of it
+abbrev pub plain_type : PlainKind → List ℕ × Row
+plain_type plain.Hello = (codes "HELLO", of_type 0 None None 64 None Words)
+plain_type plain.Connect = (codes "DEVICE_CONNECT", of_type 1 (Some ToGuest) None 8 (with 1 2) Nothing)
+plain_type plain.Disconnect = (codes "DEVICE_DISCONNECT", of_type 2 (Some ToGuest) None 0 None Nothing)
+plain_type plain.Reset = (codes "RESET", of_type 3 (Some ToHost) None 0 None Nothing)
+plain_type plain.InterfaceInfo = (codes "INTERFACE_INFO", of_type 4 (Some ToGuest) None 132 None Nothing)
+plain_type plain.EpInfo = (codes "EP_INFO", of_type 5 (Some ToGuest) None 96 (with 4 64) Nothing)
+plain_type plain.SetConfiguration = (codes "SET_CONFIGURATION", of_type 6 (Some ToHost) None 1 None Nothing)
+plain_type plain.GetConfiguration = (codes "GET_CONFIGURATION", of_type 7 (Some ToHost) None 0 None Nothing)
+plain_type plain.ConfigurationStatus = (codes "CONFIGURATION_STATUS", of_type 8 (Some ToGuest) None 2 None Nothing)
+plain_type plain.SetAlt = (codes "SET_ALT_SETTING", of_type 9 (Some ToHost) None 2 None Nothing)
+plain_type plain.GetAlt = (codes "GET_ALT_SETTING", of_type 10 (Some ToHost) None 1 None Nothing)
+plain_type plain.AltStatus = (codes "ALT_SETTING_STATUS", of_type 11 (Some ToGuest) None 3 None Nothing)
+plain_type plain.StartIso = (codes "START_ISO_STREAM", of_type 12 (Some ToHost) None 3 None Nothing)
+plain_type plain.StopIso = (codes "STOP_ISO_STREAM", of_type 13 (Some ToHost) None 1 None Nothing)
+plain_type plain.IsoStatus = (codes "ISO_STREAM_STATUS", of_type 14 (Some ToGuest) None 2 None Nothing)
+plain_type plain.StartInterrupt = (codes "START_INTERRUPT_RECEIVING", of_type 15 (Some ToHost) None 1 None Nothing)
+plain_type plain.StopInterrupt = (codes "STOP_INTERRUPT_RECEIVING", of_type 16 (Some ToHost) None 1 None Nothing)
+plain_type plain.InterruptStatus = (codes "INTERRUPT_RECEIVING_STATUS", of_type 17 (Some ToGuest) None 2 None Nothing)
+plain_type plain.Cancel = (codes "CANCEL_DATA_PACKET", of_type 21 (Some ToHost) None 0 None Nothing)
+plain_type plain.DisconnectAck = (codes "DEVICE_DISCONNECT_ACK", of_type 24 (Some ToHost) (Some 3) 0 None Nothing)
+
+abbrev pub data_type : DataKind → List ℕ × Row
+data_type moving.Control = (codes "CONTROL", of_type 100 None None 10 None Data)
+data_type moving.Bulk = (codes "BULK", of_type 101 None None 8 (with 6 2) Data)
+data_type moving.Iso = (codes "ISO", of_type 102 None None 4 None Data)
+data_type moving.Interrupt = (codes "INTERRUPT", of_type 103 None None 4 None Data)
+
 abbrev pub plain_row : PlainKind → Row
-plain_row plain.Hello = of_type 0 None None 64 None Words
-plain_row plain.Connect = of_type 1 (Some ToGuest) None 8 (with 1 2) Nothing
-plain_row plain.Disconnect = of_type 2 (Some ToGuest) None 0 None Nothing
-plain_row plain.Reset = of_type 3 (Some ToHost) None 0 None Nothing
-plain_row plain.InterfaceInfo = of_type 4 (Some ToGuest) None 132 None Nothing
-plain_row plain.EpInfo = of_type 5 (Some ToGuest) None 96 (with 4 64) Nothing
-plain_row plain.SetConfiguration = of_type 6 (Some ToHost) None 1 None Nothing
-plain_row plain.GetConfiguration = of_type 7 (Some ToHost) None 0 None Nothing
-plain_row plain.ConfigurationStatus = of_type 8 (Some ToGuest) None 2 None Nothing
-plain_row plain.SetAlt = of_type 9 (Some ToHost) None 2 None Nothing
-plain_row plain.GetAlt = of_type 10 (Some ToHost) None 1 None Nothing
-plain_row plain.AltStatus = of_type 11 (Some ToGuest) None 3 None Nothing
-plain_row plain.StartIso = of_type 12 (Some ToHost) None 3 None Nothing
-plain_row plain.StopIso = of_type 13 (Some ToHost) None 1 None Nothing
-plain_row plain.IsoStatus = of_type 14 (Some ToGuest) None 2 None Nothing
-plain_row plain.StartInterrupt = of_type 15 (Some ToHost) None 1 None Nothing
-plain_row plain.StopInterrupt = of_type 16 (Some ToHost) None 1 None Nothing
-plain_row plain.InterruptStatus = of_type 17 (Some ToGuest) None 2 None Nothing
-plain_row plain.Cancel = of_type 21 (Some ToHost) None 0 None Nothing
-plain_row plain.DisconnectAck = of_type 24 (Some ToHost) (Some 3) 0 None Nothing
+plain_row k = (plain_type k).1
 
 abbrev pub data_row : DataKind → Row
-data_row moving.Control = of_type 100 None None 10 None Data
-data_row moving.Bulk = of_type 101 None None 8 (with 6 2) Data
-data_row moving.Iso = of_type 102 None None 4 None Data
-data_row moving.Interrupt = of_type 103 None None 4 None Data
+data_row k = (data_type k).1
+
+abbrev pub plain_name : PlainKind → List ℕ
+plain_name k = (plain_type k).0
+
+abbrev pub data_name : DataKind → List ℕ
+data_name k = (data_type k).0
 
 abbrev pub row_of : Kind → Row
 row_of (Plain k) = plain_row k
@@ -98,6 +111,14 @@ goes way r = option_map_or (is_way way) r.way true
 
 abbrev pub has_wanted : Caps → Row → Bool
 has_wanted caps r = option_map_or (has caps) r.wanted true
+
+-- whether the fields are there that go with a capability
+abbrev pub has_more : Caps → Row → Bool
+has_more caps r = option_map_or (λ (m : More). has caps m.capability) r.more false
+
+-- so many bytes are more than the fixed fields have without it
+abbrev pub is_longer : Row → ℕ → Bool
+is_longer r length = nat_lt r.fixed length
 
 abbrev pub more_bytes : Caps → More → ℕ
 more_bytes caps m = if has caps m.capability then m.bytes else 0

@@ -1,7 +1,7 @@
 //! The types of packets, and what the protocol says of each: its number, its way, its capability, its length.
 
 ghost use Rattle.std.specs.Prelude.{◌≡◌, ◌<◌, ◌≤◌, IfSome};
-ghost use Rattle.redir_wire.specs.Table.{of_type, plain_row, data_row, row_of, plain_numbered, data_numbered, kind_numbered, goes, has_wanted, fixed_length, has_length, is_left_out, AreBits};
+ghost use Rattle.redir_wire.specs.Table.{of_type, with, plain_row, data_row, row_of, plain_numbered, data_numbered, kind_numbered, goes, has_wanted, has_more, is_longer, plain_name, data_name, fixed_length, has_length, is_left_out, AreBits};
 
 use crate::capability::{CONNECT_VERSION, DISCONNECT_ACK, MAX_PACKET_SIZE, WIDE_BULK_LENGTH};
 use crate::packet::{Caps, Way};
@@ -119,42 +119,45 @@ impl PlainKind {
     pub fn row(self) -> Row
         ensures { result ≡ plain_row self }
     {
+        self.entry().1
+    }
+
+    /// Its name, in capitals.
+    pub fn name(self) -> &'static str
+        ensures { result.now ≡ plain_name self }
+    {
+        self.entry().0
+    }
+
+    /// Its row of the table: its name, and what the protocol says of it.
+    fn entry(self) -> (&'static str, Row)
+        ensures name { result.0.now ≡ plain_name self }
+        ensures row { result.1 ≡ plain_row self }
+    {
         match self {
-            PlainKind::Hello => both_ways(0, 64, Tail::Words),
-            PlainKind::Connect => Row {
-                more: Some(More {
-                    capability: CONNECT_VERSION,
-                    bytes: 2,
-                }),
-                ..to_guest(1, 8)
-            },
-            PlainKind::Disconnect => to_guest(2, 0),
-            PlainKind::Reset => to_host(3, 0),
-            PlainKind::InterfaceInfo => to_guest(4, 132),
-            PlainKind::EpInfo => Row {
-                more: Some(More {
-                    capability: MAX_PACKET_SIZE,
-                    bytes: 64,
-                }),
-                ..to_guest(5, 96)
-            },
-            PlainKind::SetConfiguration => to_host(6, 1),
-            PlainKind::GetConfiguration => to_host(7, 0),
-            PlainKind::ConfigurationStatus => to_guest(8, 2),
-            PlainKind::SetAlt => to_host(9, 2),
-            PlainKind::GetAlt => to_host(10, 1),
-            PlainKind::AltStatus => to_guest(11, 3),
-            PlainKind::StartIso => to_host(12, 3),
-            PlainKind::StopIso => to_host(13, 1),
-            PlainKind::IsoStatus => to_guest(14, 2),
-            PlainKind::StartInterrupt => to_host(15, 1),
-            PlainKind::StopInterrupt => to_host(16, 1),
-            PlainKind::InterruptStatus => to_guest(17, 2),
-            PlainKind::Cancel => to_host(21, 0),
-            PlainKind::DisconnectAck => Row {
-                wanted: Some(DISCONNECT_ACK),
-                ..to_host(24, 0)
-            },
+            PlainKind::Hello => ("HELLO", both_ways(0, 64, Tail::Words)),
+            PlainKind::Connect => ("DEVICE_CONNECT", to_guest(1, 8).with(CONNECT_VERSION, 2)),
+            PlainKind::Disconnect => ("DEVICE_DISCONNECT", to_guest(2, 0)),
+            PlainKind::Reset => ("RESET", to_host(3, 0)),
+            PlainKind::InterfaceInfo => ("INTERFACE_INFO", to_guest(4, 132)),
+            PlainKind::EpInfo => ("EP_INFO", to_guest(5, 96).with(MAX_PACKET_SIZE, 64)),
+            PlainKind::SetConfiguration => ("SET_CONFIGURATION", to_host(6, 1)),
+            PlainKind::GetConfiguration => ("GET_CONFIGURATION", to_host(7, 0)),
+            PlainKind::ConfigurationStatus => ("CONFIGURATION_STATUS", to_guest(8, 2)),
+            PlainKind::SetAlt => ("SET_ALT_SETTING", to_host(9, 2)),
+            PlainKind::GetAlt => ("GET_ALT_SETTING", to_host(10, 1)),
+            PlainKind::AltStatus => ("ALT_SETTING_STATUS", to_guest(11, 3)),
+            PlainKind::StartIso => ("START_ISO_STREAM", to_host(12, 3)),
+            PlainKind::StopIso => ("STOP_ISO_STREAM", to_host(13, 1)),
+            PlainKind::IsoStatus => ("ISO_STREAM_STATUS", to_guest(14, 2)),
+            PlainKind::StartInterrupt => ("START_INTERRUPT_RECEIVING", to_host(15, 1)),
+            PlainKind::StopInterrupt => ("STOP_INTERRUPT_RECEIVING", to_host(16, 1)),
+            PlainKind::InterruptStatus => ("INTERRUPT_RECEIVING_STATUS", to_guest(17, 2)),
+            PlainKind::Cancel => ("CANCEL_DATA_PACKET", to_host(21, 0)),
+            PlainKind::DisconnectAck => (
+                "DEVICE_DISCONNECT_ACK",
+                to_host(24, 0).wanting(DISCONNECT_ACK),
+            ),
         }
     }
 }
@@ -179,17 +182,29 @@ impl DataKind {
     pub fn row(self) -> Row
         ensures { result ≡ data_row self }
     {
+        self.entry().1
+    }
+
+    /// Its name, in capitals.
+    pub fn name(self) -> &'static str
+        ensures { result.now ≡ data_name self }
+    {
+        self.entry().0
+    }
+
+    /// Its row of the table: its name, and what the protocol says of it.
+    fn entry(self) -> (&'static str, Row)
+        ensures name { result.0.now ≡ data_name self }
+        ensures row { result.1 ≡ data_row self }
+    {
         match self {
-            DataKind::Control => both_ways(100, 10, Tail::Data),
-            DataKind::Bulk => Row {
-                more: Some(More {
-                    capability: WIDE_BULK_LENGTH,
-                    bytes: 2,
-                }),
-                ..both_ways(101, 8, Tail::Data)
-            },
-            DataKind::Iso => both_ways(102, 4, Tail::Data),
-            DataKind::Interrupt => both_ways(103, 4, Tail::Data),
+            DataKind::Control => ("CONTROL", both_ways(100, 10, Tail::Data)),
+            DataKind::Bulk => (
+                "BULK",
+                both_ways(101, 8, Tail::Data).with(WIDE_BULK_LENGTH, 2),
+            ),
+            DataKind::Iso => ("ISO", both_ways(102, 4, Tail::Data)),
+            DataKind::Interrupt => ("INTERRUPT", both_ways(103, 4, Tail::Data)),
         }
     }
 }
@@ -250,6 +265,22 @@ const fn to_host(number: u32, fixed: u32) -> Row
 }
 
 impl Row {
+    /// The same with so many bytes more where this capability is there.
+    const fn with(self, capability: u32, bytes: u32) -> Row
+        ensures { result ≡ of_type self.number self.way self.wanted self.fixed (with capability bytes) self.tail }
+    {
+        let more = Some(More { capability, bytes });
+        Row { more, ..self }
+    }
+
+    /// The same, sent only with this capability.
+    const fn wanting(self, capability: u32) -> Row
+        ensures { result ≡ of_type self.number self.way (Some capability) self.fixed self.more self.tail }
+    {
+        let wanted = Some(capability);
+        Row { wanted, ..self }
+    }
+
     /// Whether such packets go this way.
     pub fn goes(&self, way: Way) -> bool
         ensures { result ≡ goes way self.now }
@@ -269,6 +300,24 @@ impl Row {
             None => true,
             Some(bit) => caps.has(bit),
         }
+    }
+
+    /// Whether the fields are there that go with a capability.
+    pub fn has_more(&self, caps: Caps) -> bool
+        requires { AreBits self.now }
+        ensures { result ≡ has_more caps self.now }
+    {
+        match self.more {
+            None => false,
+            Some(more) => caps.has(more.capability),
+        }
+    }
+
+    /// Whether so many bytes behind the header are more than the fixed fields have with no capability.
+    pub fn is_longer(&self, length: u32) -> bool
+        ensures { result ≡ is_longer self.now length }
+    {
+        length > self.fixed
     }
 
     /// How many bytes the fixed fields have.

@@ -2,7 +2,9 @@
 #![tactic(auto)]
 
 mod capability;
+mod control;
 mod ep_table;
+mod field;
 mod header;
 mod kind;
 mod laws;
@@ -14,6 +16,7 @@ mod write;
 pub use capability::{
     ANNOUNCED, CONNECT_VERSION, DISCONNECT_ACK, MAX_PACKET_SIZE, WIDE_BULK_LENGTH, WIDE_IDS,
 };
+pub use field::{FieldWriter, Wire};
 pub use header::{MAX_LENGTH, header_size, read_header};
 pub use kind::{DataKind, Kind, More, PlainKind, Row, Tail, is_left_out};
 pub use laws::{headers_sound, plain_sound, read_again, read_by_parts};

@@ -4,15 +4,16 @@ use Rattle.std.specs.Int.{w16, w32}
 use Rattle.std.proofs.lemmas.List.{length-append}
 use Rattle.std.proofs.lemmas.Nat.{from_le_bytes-to_le_bytes_2, from_le_bytes-to_le_bytes_4}
 use Rattle.usb_base.specs.Number.{le, le_at, byte_at, part, AreBytes}
-use Rattle.usb_base.proofs.Numbers.{part_found, then, le_spelled_16, le_spelled_32, le_at-below_16, le_at-below_32}
+use Rattle.usb_base.proofs.Numbers.{part_found, join, le_spelled_16, le_spelled_32, le_at-below_16, le_at-below_32}
 use Rattle.redir_wire.specs.declared.packet.Caps.{Caps}
 use Rattle.redir_wire.specs.declared.kind.DataKind.{DataKind}
 use Rattle.redir_wire.specs.declared.kind.DataKind.TheVariants as kinds
 use Rattle.redir_wire.specs.Capability.{has}
-use Rattle.redir_wire.proofs.Controls.{two, four}
+use Rattle.redir_wire.specs.Field.{wire_bytes}
+use Rattle.redir_wire.proofs.Controls.{bytes_there}
 use Rattle.redir_data.specs.declared.packet.RedirData.{RedirData}
 use Rattle.redir_data.specs.declared.packet.RedirData.TheVariants as moving
-use Rattle.redir_data.specs.Spelling.{kind_of, endpoint_of, length_of, body_of, bulk, fixed_fields, fields, size_of}
+use Rattle.redir_data.specs.Spelling.{kind_of, endpoint_of, length_of, body_of, bulk, periodic, fixed_fields, fields, size_of}
 use Rattle.redir_data.specs.Ranges.{Ranges, BulkLengthFits, LengthFits}
 use Rattle.redir_data.specs.Places.{fixed, bulk_length, told_length, fields_with, fields_at}
 
@@ -28,28 +29,35 @@ low_is low high less = omega arith
 high_is : (low high : ℕ) → low < 65536 → (low + 65536 * high) / 65536 ≡ high
 high_is low high less = omega arith
 
-bulk_spelled : (wide : Bool) (b : List ℕ) → AreBytes b → 8 + cond wide 2 0 ≤ length b → bulk wide (byte_at 0 b) (byte_at 1 b) (bulk_length wide b) (le_at w32 4 b) ≡ take (8 + cond wide 2 0) b
+bulk_spelled : (wide : Bool) (b : List ℕ) → AreBytes b → 8 + cond wide 2 0 ≤ length b → wire_bytes (bulk wide (byte_at 0 b) (byte_at 1 b) (bulk_length wide b) (le_at w32 4 b)) ≡ take (8 + cond wide 2 0) b
 bulk_spelled true b are there =
     let low = le_at w16 2 b in
     let high = le_at w16 8 b in
     let less = le_at-below_16 2 b are in
     let lower = ap (le w16) (low_is low high less) ∙ le_spelled_16 2 b are (omega arith) in
     let upper = ap (le w16) (high_is low high less) ∙ le_spelled_16 8 b are (omega arith) in
-    then 8 2 b _ _ (then 4 4 b _ _ (then 2 2 b _ _ (two b (omega arith)) lower) (le_spelled_32 4 b are (omega arith))) upper
+    let stream = join 4 4 0 b _ _ (le_spelled_32 4 b are (omega arith)) refl in
+    join 0 2 8 b _ _ (bytes_there 2 b (omega arith)) (join 2 2 6 b _ _ lower (join 4 4 2 b _ _ stream (join 8 2 0 b _ _ upper refl)))
 bulk_spelled false b are there =
     let low = le_at w16 2 b in
     let less = le_at-below_16 2 b are in
     let lower : le w16 (low % 65536) ≡ part 2 2 b = ap (le w16) (omega arith) ∙ le_spelled_16 2 b are (omega arith) in
-    then 8 0 b _ _ (then 4 4 b _ _ (then 2 2 b _ _ (two b (omega arith)) lower) (le_spelled_32 4 b are (omega arith))) refl
+    let stream = join 4 4 0 b _ _ (le_spelled_32 4 b are (omega arith)) refl in
+    join 0 2 6 b _ _ (bytes_there 2 b (omega arith)) (join 2 2 4 b _ _ lower (join 4 4 0 b _ _ stream refl))
+
+periodic_spelled : (b : List ℕ) → AreBytes b → 4 ≤ length b → wire_bytes (periodic (byte_at 0 b) (byte_at 1 b) (le_at w16 2 b)) ≡ take 4 b
+periodic_spelled b are there = join 0 2 2 b _ _ (bytes_there 2 b (omega arith)) (join 2 2 0 b _ _ (join 2 2 0 b _ _ (le_spelled_16 2 b are (omega arith)) refl) refl)
 
 -- ---- what stands at its place
 
 pub fixed_spelled : (caps : Caps) (k : DataKind) (b body : List ℕ) → AreBytes b → fixed caps k ≤ length b → fixed_fields caps (fields_with k b (told_length caps k b) body) ≡ take (fixed caps k) b
 fixed_spelled caps kinds.Control b body are there =
-    then 8 2 b _ _ (then 6 2 b _ _ (then 4 2 b _ _ (four b (omega arith)) (le_spelled_16 4 b are (omega arith))) (le_spelled_16 6 b are (omega arith))) (le_spelled_16 8 b are (omega arith))
+    let last = join 8 2 0 b _ _ (le_spelled_16 8 b are (omega arith)) refl in
+    let numbers = join 4 2 4 b _ _ (le_spelled_16 4 b are (omega arith)) (join 6 2 2 b _ _ (le_spelled_16 6 b are (omega arith)) last) in
+    join 0 4 6 b _ _ (bytes_there 4 b (omega arith)) (join 4 6 0 b _ _ numbers refl)
 fixed_spelled caps kinds.Bulk b body are there = bulk_spelled (has caps 6) b are there
-fixed_spelled caps kinds.Iso b body are there = then 2 2 b _ _ (two b (omega arith)) (le_spelled_16 2 b are (omega arith))
-fixed_spelled caps kinds.Interrupt b body are there = then 2 2 b _ _ (two b (omega arith)) (le_spelled_16 2 b are (omega arith))
+fixed_spelled caps kinds.Iso b body are there = periodic_spelled b are there
+fixed_spelled caps kinds.Interrupt b body are there = periodic_spelled b are there
 
 pub ranges_there : (caps : Caps) (k : DataKind) (b body : List ℕ) → AreBytes b → Ranges (fields_with k b (told_length caps k b) body)
 ranges_there caps kinds.Control b body are = record { value_fits = le_at-below_16 4 b are; index_fits = le_at-below_16 6 b are; length_fits = le_at-below_16 8 b are }
@@ -76,7 +84,7 @@ are_fields k b told body = record { kind = refl; endpoint = refl; length_is = re
 
 -- ---- what is spelled is read again
 
-length_bulk : (wide : Bool) (endpoint status told stream : ℕ) → length (bulk wide endpoint status told stream) ≡ 8 + cond wide 2 0
+length_bulk : (wide : Bool) (endpoint status told stream : ℕ) → length (wire_bytes (bulk wide endpoint status told stream)) ≡ 8 + cond wide 2 0
 unfolding le
 length_bulk true endpoint status told stream = refl
 length_bulk false endpoint status told stream = refl
@@ -95,7 +103,7 @@ pub endpoint_again : (caps : Caps) (d : RedirData) (more : List ℕ) → byte_at
 endpoint_again caps (moving.Control endpoint request kind status value index told body) more = refl
 endpoint_again caps d more = refl
 
-bulk_again : (wide : Bool) (endpoint status told stream : ℕ) (body more : List ℕ) → told < 2 ^ 32 → BulkLengthFits wide told → bulk_length wide ((bulk wide endpoint status told stream ++ body) ++ more) ≡ told
+bulk_again : (wide : Bool) (endpoint status told stream : ℕ) (body more : List ℕ) → told < 2 ^ 32 → BulkLengthFits wide told → bulk_length wide ((wire_bytes (bulk wide endpoint status told stream) ++ body) ++ more) ≡ told
 unfolding le le_at
 bulk_again true endpoint status told stream body more fits is =
     let low = from_le_bytes-to_le_bytes_2 (told % 65536) (omega arith) in
@@ -103,7 +111,7 @@ bulk_again true endpoint status told stream body more fits is =
     (λ i. low i + 65536 * high i) ∙ omega arith
 bulk_again false endpoint status told stream body more fits is = from_le_bytes-to_le_bytes_2 (told % 65536) (omega arith) ∙ omega arith
 
-stream_again : (wide : Bool) (endpoint status told stream : ℕ) (body more : List ℕ) → stream < 2 ^ 32 → le_at w32 4 ((bulk wide endpoint status told stream ++ body) ++ more) ≡ stream
+stream_again : (wide : Bool) (endpoint status told stream : ℕ) (body more : List ℕ) → stream < 2 ^ 32 → le_at w32 4 ((wire_bytes (bulk wide endpoint status told stream) ++ body) ++ more) ≡ stream
 unfolding le le_at
 stream_again true endpoint status told stream body more fits = from_le_bytes-to_le_bytes_4 stream fits
 stream_again false endpoint status told stream body more fits = from_le_bytes-to_le_bytes_4 stream fits
@@ -115,7 +123,7 @@ told_again caps (moving.Bulk endpoint status told stream body) more r l = bulk_a
 told_again caps (moving.Iso endpoint status told body) more r l = from_le_bytes-to_le_bytes_2 told r
 told_again caps (moving.Interrupt endpoint status told body) more r l = from_le_bytes-to_le_bytes_2 told r
 
-second_again : (wide : Bool) (endpoint status told stream : ℕ) (body more : List ℕ) → byte_at 1 ((bulk wide endpoint status told stream ++ body) ++ more) ≡ status
+second_again : (wide : Bool) (endpoint status told stream : ℕ) (body more : List ℕ) → byte_at 1 ((wire_bytes (bulk wide endpoint status told stream) ++ body) ++ more) ≡ status
 second_again wide endpoint status told stream body more = refl
 
 with_again : (caps : Caps) (d : RedirData) (more : List ℕ) → Ranges d → fields_with (kind_of d) (fields caps d ++ more) (length_of d) (body_of d) ≡ d

@@ -1,0 +1,167 @@
+//! What packets that move no data have in common: their type, their length, and their fields in the order of the wire.
+
+ghost use Rattle.std.specs.Prelude.{◌≡◌, ◌++◌, ◌≤◌, flat_map};
+ghost use Rattle.packet_stream.specs.Writes.{AppendsSome};
+ghost use Rattle.redir_wire.specs.Spelling.{kind_of, length_of, words_length, connect_fields, interface_fields, endpoint_fields, fields_of};
+ghost use Rattle.redir_wire.specs.Ranges.{IsWritable};
+
+use crate::field::FieldWriter;
+use crate::kind::PlainKind;
+use crate::packet::{Caps, Connect, EpInfo, InterfaceInfo, RedirControl};
+use usb_base::{Bytes, Memory};
+
+impl RedirControl {
+    /// Its type.
+    pub fn kind(&self) -> PlainKind
+        ensures { result ≡ kind_of self.now }
+    {
+        match self {
+            RedirControl::Hello(_) => PlainKind::Hello,
+            RedirControl::Connect(_) => PlainKind::Connect,
+            RedirControl::Disconnect => PlainKind::Disconnect,
+            RedirControl::Reset => PlainKind::Reset,
+            RedirControl::InterfaceInfo(_) => PlainKind::InterfaceInfo,
+            RedirControl::EpInfo(_) => PlainKind::EpInfo,
+            RedirControl::SetConfiguration { .. } => PlainKind::SetConfiguration,
+            RedirControl::GetConfiguration => PlainKind::GetConfiguration,
+            RedirControl::ConfigurationStatus { .. } => PlainKind::ConfigurationStatus,
+            RedirControl::SetAlt { .. } => PlainKind::SetAlt,
+            RedirControl::GetAlt { .. } => PlainKind::GetAlt,
+            RedirControl::AltStatus { .. } => PlainKind::AltStatus,
+            RedirControl::StartIso { .. } => PlainKind::StartIso,
+            RedirControl::StopIso { .. } => PlainKind::StopIso,
+            RedirControl::IsoStatus { .. } => PlainKind::IsoStatus,
+            RedirControl::StartInterrupt { .. } => PlainKind::StartInterrupt,
+            RedirControl::StopInterrupt { .. } => PlainKind::StopInterrupt,
+            RedirControl::InterruptStatus { .. } => PlainKind::InterruptStatus,
+            RedirControl::Cancel => PlainKind::Cancel,
+            RedirControl::DisconnectAck => PlainKind::DisconnectAck,
+        }
+    }
+
+    /// How many bytes follow its header.
+    pub(crate) fn length(&self, caps: Caps) -> u32
+        requires { IsWritable caps self.now }
+        ensures { result ≡ length_of caps self.now }
+    {
+        self.kind().row().fixed(caps) + self.words_length()
+    }
+
+    /// How many bytes a hello has behind its text.
+    fn words_length(&self) -> u32
+        requires { words_length self.now ≤ 128 }
+        ensures { result ≡ words_length self.now }
+    {
+        match self {
+            RedirControl::Hello(hello) => hello.words.len() as u32 * 4,
+            _ => 0,
+        }
+    }
+
+    /// Appends its fields in this form; `more` says that those are there that go with a capability. For want of memory
+    /// what was there still stands at the front.
+    pub fn write_fields<W: FieldWriter>(
+        &self,
+        more: bool,
+        writer: &W,
+        out: &mut Bytes,
+    ) -> Result<(), Memory>
+        ensures { AppendsSome result out.old out.new (flat_map W.text (fields_of more self.now)) }
+    {
+        match self {
+            RedirControl::Hello(hello) => {
+                writer.byte_table(&hello.version, out)?;
+                writer.longs(hello.words.as_slice(), out)
+            }
+            RedirControl::Connect(connect) => write_connect(connect, more, writer, out),
+            RedirControl::InterfaceInfo(info) => write_interface_info(info, writer, out),
+            RedirControl::EpInfo(info) => write_ep_info(info, more, writer, out),
+            RedirControl::SetConfiguration { configuration } => {
+                writer.bytes(&[*configuration], out)
+            }
+            RedirControl::ConfigurationStatus {
+                status,
+                configuration,
+            } => writer.bytes(&[*status, *configuration], out),
+            RedirControl::SetAlt { interface, alt } => writer.bytes(&[*interface, *alt], out),
+            RedirControl::GetAlt { interface } => writer.bytes(&[*interface], out),
+            RedirControl::AltStatus {
+                status,
+                interface,
+                alt,
+            } => writer.bytes(&[*status, *interface, *alt], out),
+            RedirControl::StartIso {
+                endpoint,
+                pkts_per_urb,
+                no_urbs,
+            } => writer.bytes(&[*endpoint, *pkts_per_urb, *no_urbs], out),
+            RedirControl::StopIso { endpoint } => writer.bytes(&[*endpoint], out),
+            RedirControl::IsoStatus { status, endpoint } => {
+                writer.bytes(&[*status, *endpoint], out)
+            }
+            RedirControl::StartInterrupt { endpoint } => writer.bytes(&[*endpoint], out),
+            RedirControl::StopInterrupt { endpoint } => writer.bytes(&[*endpoint], out),
+            RedirControl::InterruptStatus { status, endpoint } => {
+                writer.bytes(&[*status, *endpoint], out)
+            }
+            RedirControl::Disconnect
+            | RedirControl::Reset
+            | RedirControl::GetConfiguration
+            | RedirControl::Cancel
+            | RedirControl::DisconnectAck => Ok(()),
+        }
+    }
+}
+
+fn write_connect<W: FieldWriter>(
+    connect: &Connect,
+    more: bool,
+    writer: &W,
+    out: &mut Bytes,
+) -> Result<(), Memory>
+    ensures { AppendsSome result out.old out.new (flat_map W.text (connect_fields more connect.now)) }
+{
+    let codes = [
+        connect.speed,
+        connect.class,
+        connect.subclass,
+        connect.protocol,
+    ];
+    writer.bytes(&codes, out)?;
+    writer.shorts(&[connect.vendor, connect.product], out)?;
+    if more {
+        writer.shorts(&[connect.version], out)?;
+    }
+    Ok(())
+}
+
+fn write_interface_info<W: FieldWriter>(
+    info: &InterfaceInfo,
+    writer: &W,
+    out: &mut Bytes,
+) -> Result<(), Memory>
+    ensures { AppendsSome result out.old out.new (flat_map W.text (interface_fields info.now)) }
+{
+    writer.longs(&[info.count], out)?;
+    writer.byte_table(&info.interface, out)?;
+    writer.byte_table(&info.class, out)?;
+    writer.byte_table(&info.subclass, out)?;
+    writer.byte_table(&info.protocol, out)?;
+    Ok(())
+}
+
+fn write_ep_info<W: FieldWriter>(
+    info: &EpInfo,
+    more: bool,
+    writer: &W,
+    out: &mut Bytes,
+) -> Result<(), Memory>
+    ensures { AppendsSome result out.old out.new (flat_map W.text (endpoint_fields more info.now)) }
+{
+    writer.byte_table(&info.kinds, out)?;
+    writer.byte_table(&info.interval, out)?;
+    writer.byte_table(&info.interface, out)?;
+    let sizes: &[u16] = if more { &info.max_packet } else { &[] };
+    writer.short_table(sizes, out)?;
+    Ok(())
+}
