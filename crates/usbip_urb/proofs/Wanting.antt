@@ -6,6 +6,7 @@ use Rattle.std.specs.Result.{IsErrAnd}
 use Rattle.std.proofs.lemmas.Bool.{lt-ltb, le-ltb, or_left, or_right}
 use Rattle.usb_base.specs.Number.{be_at, part}
 use Rattle.usb_base.proofs.Numbers.{length-part}
+use Rattle.usb_base.specs.declared.memory.Memory.{Memory as NoMemory}
 use Rattle.usb_base.specs.declared.reason.Reason.{Reason}
 use Rattle.packet_stream.specs.declared.read.Read.{Read}
 use Rattle.packet_stream.specs.declared.read.ReadError.{ReadError}
@@ -16,7 +17,7 @@ use Rattle.usbip_urb.specs.Sizes.{body_size, count_of, descs_place, descs_size, 
 use Rattle.usbip_urb.specs.Fields.{body_at, descs_behind}
 use Rattle.usbip_urb.specs.Sound.Descriptors.{descs_counted}
 
-pub wanting : {P : Type 0} (takes : P → Bool) (r : Result (Read P) ReadError) (f : Format P Reason) (b : List ℕ) → IsErrAnd r (λ (e : ReadError). e ≡ error.Memory) → f.size b ≤ length b → takes (f.packet b) ≡ true →
+pub wanting : {P : Type 0} {memory : NoMemory} (takes : P → Bool) (r : Result (Read P) ReadError) (f : Format P Reason) (b : List ℕ) → IsErrAnd r (λ (e : ReadError). e ≡ error.Memory memory) → f.size b ≤ length b → takes (f.packet b) ≡ true →
     Answers takes r (reading_by f b None)
 wanting takes (Ok x) f b is there some = absurd is
 wanting takes (Err (error.Refused place reason)) f b is there some = absurd cc
