@@ -79,7 +79,7 @@ fn answer(
     ensures thrifty { OnErr result (0 < length (read_outcome setup.now.length wanted (given_by set.now parts.now state.now setup.now read)).body) }
 {
     let most = wanted.min(u32::from(setup.length));
-    let configured = state.configuration != 0;
+    let configured = state.is_configured();
     match read {
         ControlRead::DeviceStatus => given(alloc, &[0, 0], most),
         ControlRead::InterfaceStatus if configured && setup.index == 0 => {
@@ -161,7 +161,7 @@ fn endpoint_of(parts: &Parts, state: &DevState, address: u16) -> Option<EpAddr>
 fn is_setting(parts: &Parts, state: &DevState, setup: &Setup) -> bool
     ensures { result ≡ (is_configured state.now && setup.now.index == 0 && is_setting parts.now setup.now.value) }
 {
-    if state.configuration == 0 || setup.index != 0 || setup.value > 255 {
+    if !state.is_configured() || setup.index != 0 || setup.value > 255 {
         return false;
     }
     class_of(parts, setup.value as u8).is_some()

@@ -1,7 +1,7 @@
 //! What changes in a device by its requests on endpoint 0.
 
 ghost use Rattle.std.specs.Prelude.{◌≡◌, ◌<◌, ◌^◌};
-ghost use Rattle.chapter9.specs.State.{cleared, halted_bit, is_halted, unconfigured, with_halt};
+ghost use Rattle.chapter9.specs.State.{cleared, halted_bit, is_configured, is_halted, unconfigured, with_halt};
 
 use usb_base::EpAddr;
 
@@ -26,6 +26,13 @@ impl DevState {
             alt: 0,
             halted: 0,
         }
+    }
+
+    /// Whether a configuration is set.
+    pub fn is_configured(&self) -> bool
+        ensures { result ≡ is_configured self.now }
+    {
+        self.configuration != 0
     }
 
     /// Whether an endpoint is halted.

@@ -1,7 +1,7 @@
 //! Which endpoints a device has in a state, and of which class its interface is.
 
 ghost use Rattle.std.specs.Prelude.{◌≡◌};
-ghost use Rattle.chapter9.specs.Table.{class_of, endpoints_of, table_of, with_row, with_rows};
+ghost use Rattle.chapter9.specs.Table.{class_at, class_of, endpoints_of, interface_after, placed, table_of, with_row, with_rows};
 
 use crate::part::{Part, Parts};
 use crate::state::DevState;
@@ -31,7 +31,7 @@ pub fn table_of(parts: &Parts, state: &DevState) -> EpTable
     let mut table = EpTable::none();
     table.rows[0] = CONTROL;
     table.rows[16] = CONTROL;
-    if state.configuration != 0 {
+    if state.is_configured() {
         add_setting(&mut table, parts, state.alt);
     }
     table
@@ -43,35 +43,46 @@ fn add_setting(table: &mut EpTable, parts: &Parts, alt: u8)
 {
     let mut interface = None;
     for part in parts.as_slice() {
-        match *part {
-            Part::Interface {
-                number,
-                alt: other,
-                ..
-            } => {
-                interface = (other == alt).then_some(number);
-            }
-            Part::Endpoint {
-                ep,
-                kind,
-                max_packet,
-                interval,
-            } => {
-                if let Some(interface) = interface {
-                    put(
-                        table,
-                        ep,
-                        EpRow {
-                            kind,
-                            interval,
-                            interface,
-                            max_packet,
-                        },
-                    );
-                }
-            }
-            Part::Config { .. } | Part::Other { .. } => {}
-        }
+        add_endpoint(table, interface, part);
+        interface = interface_after(alt, interface, part);
+    }
+}
+
+// Adds the endpoint of a descriptor that stands behind one of this interface, if it is one.
+fn add_endpoint(table: &mut EpTable, interface: Option<u8>, part: &Part)
+    ensures { table.new.rows ≡ with_rows table.old.rows (placed interface part.now) }
+{
+    let Some(interface) = interface else {
+        return;
+    };
+    if let Part::Endpoint {
+        ep,
+        kind,
+        max_packet,
+        interval,
+    } = *part
+    {
+        let row = EpRow {
+            kind,
+            interval,
+            interface,
+            max_packet,
+        };
+        put(table, ep, row);
+    }
+}
+
+// The interface whose alternate setting the endpoints behind a descriptor belong to, where it is the wanted one.
+fn interface_after(alt: u8, before: Option<u8>, part: &Part) -> Option<u8>
+    ensures { result ≡ interface_after alt before part.now }
+{
+    match *part {
+        Part::Interface {
+            number,
+            alt: other,
+            ..
+        } => (other == alt).then_some(number),
+        Part::Config { .. } | Part::Endpoint { .. } | Part::Other { .. } => before,
     }
 }
 
@@ -90,22 +101,29 @@ pub fn class_of(parts: &Parts, alt: u8) -> Option<InterfaceClass>
     ensures { result ≡ class_of alt parts.now }
 {
     for part in parts.as_slice() {
-        match *part {
-            Part::Interface {
-                alt: other,
-                class,
-                subclass,
-                protocol,
-                ..
-            } if other == alt => {
-                return Some(InterfaceClass {
-                    class,
-                    subclass,
-                    protocol,
-                });
-            }
-            _ => {}
+        if let Some(class) = class_at(alt, part) {
+            return Some(class);
         }
     }
     None
+}
+
+// The class of a descriptor, if it is an interface's with this alternate setting.
+fn class_at(alt: u8, part: &Part) -> Option<InterfaceClass>
+    ensures { result ≡ class_at alt part.now }
+{
+    match *part {
+        Part::Interface {
+            alt: other,
+            class,
+            subclass,
+            protocol,
+            ..
+        } if other == alt => Some(InterfaceClass {
+            class,
+            subclass,
+            protocol,
+        }),
+        _ => None,
+    }
 }

@@ -1,5 +1,6 @@
 -- What the disk tells of itself, and what it is on endpoint 0 but for the two requests of its class.
 use Rattle.std.specs.Prelude.{[], ◌∷◌, Some, None}
+use Rattle.usb_base.specs.declared.speed.Speed.TheVariants.{High}
 use Rattle.chapter9.specs.declared.standard_requests.DescriptorSet.{DescriptorSet}
 use Rattle.chapter9.specs.Standard.{stall}
 use Rattle.model_device.specs.Device.{Device}
@@ -35,7 +36,7 @@ fresh = record { stage = Waits; sense = None }
 unfoldable pub described : Device Course
 described = record {
   set = disk_set;
-  identity = record { speed = 2; class = 0; subclass = 0; protocol = 0; vendor = 0xFFF0; product = 4; version = 0x0100 };
+  speed = High;
   first = fresh;
   transfer = λ course t. Some (course, stall);
   packet = λ course ep. None;

@@ -10,7 +10,7 @@ use Rattle.chapter9.specs.Requests.{is_request}
 use Rattle.chapter9.specs.State.{unconfigured, with_halt}
 use Rattle.chapter9.specs.Standard.{stall, success}
 use Rattle.chapter9.specs.Table.{table_of}
-use Rattle.model_device.specs.Device.{State, control, device_parts, interfaces_of, is_running}
+use Rattle.model_device.specs.Device.{State, control, device_parts, identity_of, interfaces_of, is_running}
 use Rattle.model_device.specs.Meaning.{Meaning}
 use Rattle.disk_gadget.specs.declared.class_request.ClassRequest.{ClassRequest}
 use Rattle.disk_gadget.specs.declared.class_request.ClassRequest.TheVariants.{Reset, MaxLun}
@@ -85,7 +85,7 @@ disk_step d t = on_blocks d.blocks (step (count_of d.blocks) d.state t)
 
 abbrev pub disk : Meaning DiskState
 disk = record {
-  identity = described.identity;
+  identity = identity_of described.speed described.set;
   configuration = λ d. d.state.device.configuration;
   interfaces = λ d. interfaces_of (device_parts described) d.state.device;
   table = λ d. table_of (device_parts described) d.state.device;

@@ -60,8 +60,8 @@ pub fn carry_out(
             *sense = None;
             Ok(act)
         }
-        Command::Inquiry(true, _) => Ok(fail(alloc, sense, Sense::InvalidField)),
-        Command::Inquiry(false, most) => text(alloc, &INQUIRY, most as usize),
+        Command::Inquiry { vital: true, .. } => Ok(fail(alloc, sense, Sense::InvalidField)),
+        Command::Inquiry { vital: false, most } => text(alloc, &INQUIRY, most as usize),
         Command::ReadCapacity => capacity(alloc, medium.count()),
         Command::Read(extent) => Ok(read(alloc, sense, medium.count(), extent)),
         Command::Write(extent) => Ok(write(alloc, sense, medium, wrapper.length, extent, bytes)),
@@ -79,7 +79,7 @@ fn is_crossed(wrapper: &Wrapper) -> bool
     match wrapper.command {
         Command::TestUnitReady | Command::Unknown => false,
         Command::RequestSense(_)
-        | Command::Inquiry(..)
+        | Command::Inquiry { .. }
         | Command::ReadCapacity
         | Command::Read(_) => !wrapper.is_in,
         Command::Write(_) => wrapper.is_in,
@@ -148,7 +148,11 @@ fn read(alloc: Global, sense: &mut Option<Sense>, blocks: u32, extent: Extent) -
     }
     Acted {
         status: Status::Passed,
-        answer: Answer::Blocks(extent.block, 0, BLOCK as u32 * u32::from(extent.count)),
+        answer: Answer::Blocks {
+            block: extent.block,
+            given: 0,
+            left: BLOCK as u32 * u32::from(extent.count),
+        },
     }
 }
 

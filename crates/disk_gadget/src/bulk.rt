@@ -1,6 +1,6 @@
 //! Transfers of the bulk endpoints, stage by stage (Bulk-Only Transport, 5.3).
 
-ghost use Rattle.std.specs.Prelude.{◌≡◌, ◌<◌, ◌≤◌, ◌+◌, ◌^◌, ◌++◌, ◌==◌, [], length, min, OnOk, OnErr, IfOk, if◌then◌else◌};
+ghost use Rattle.std.specs.Prelude.{◌≡◌, ◌<◌, ◌≤◌, ◌+◌, ◌^◌, ◌++◌, ◌==◌, [], length, min, OnOk, OnErr, IfOk, IsSome, if◌then◌else◌};
 ghost use Rattle.usb_base.specs.declared.status.UsbStatus.TheVariants.{Success};
 ghost use Rattle.chapter9.specs.Standard.{success};
 ghost use Rattle.disk_gadget.specs.Accesses.{blocks_after, count_of};
@@ -24,8 +24,8 @@ use usb_base::{Bytes, EpAddr, Memory, Outcome, UsbStatus};
 /// How many bytes a status has.
 const STATUS: u32 = 13;
 
-/// Takes a transfer to the device, or answers None where none is due. Then, and for want of memory, nothing
-/// has changed.
+/// Takes a transfer to the device, or answers None where none is due. Then, and for want of memory, which only one
+/// that is due takes, nothing has changed.
 pub fn take(
     alloc: Global,
     device: &mut DevState,
@@ -42,6 +42,7 @@ pub fn take(
     ensures same_device { OnErr result (device.new ≡ device.old) }
     ensures same_course { OnErr result (course.new ≡ course.old) }
     ensures same_blocks { OnErr result (medium.new ≡ medium.old) }
+    ensures thrifty { OnErr result (IsSome (taken_by (count_of medium.old) course.old.sense body.now course.old.stage)) }
 {
     match &mut course.stage {
         Stage::Waits => match Wrapper::read(body.as_slice()) {
@@ -74,8 +75,8 @@ pub fn take(
     }
 }
 
-/// Gives a transfer from the device its bytes, or answers None where none are due. Then, and for want of
-/// memory, nothing has changed.
+/// Gives a transfer from the device its bytes, or answers None where none are due. Then, and for want of memory, which
+/// only one that is due takes, nothing has changed.
 pub fn give(
     alloc: Global,
     course: &mut Course,
@@ -87,6 +88,7 @@ pub fn give(
     ensures outcome { IfOk result (λ outcome. outcome ≡ turn_outcome medium.now (given_by course.old.sense wanted course.old.stage)) }
     ensures course { OnOk result (course.new ≡ turn_course course.old (given_by course.old.sense wanted course.old.stage)) }
     ensures same_course { OnErr result (course.new ≡ course.old) }
+    ensures thrifty { OnErr result (IsSome (given_by course.old.sense wanted course.old.stage)) }
 {
     match &mut course.stage {
         Stage::Waits | Stage::Gathers(..) => Ok(None),

@@ -33,7 +33,7 @@ pub enum Command {
     /// REQUEST SENSE, of at most so many bytes.
     RequestSense(u8),
     /// INQUIRY: whether it asks for vital product data, and how many bytes at most.
-    Inquiry(bool, u16),
+    Inquiry { vital: bool, most: u16 },
     /// READ CAPACITY (10).
     ReadCapacity,
     /// READ (10).
@@ -52,7 +52,10 @@ impl Command {
         match bytes[0] {
             0x00 => Command::TestUnitReady,
             0x03 => Command::RequestSense(bytes[4]),
-            0x12 => Command::Inquiry(bytes[1] % 2 == 1, be_u16_at(bytes, 3)),
+            0x12 => Command::Inquiry {
+                vital: bytes[1] % 2 == 1,
+                most: be_u16_at(bytes, 3),
+            },
             0x25 => Command::ReadCapacity,
             0x28 => Command::Read(Extent::read(bytes)),
             0x2A => Command::Write(Extent::read(bytes)),

@@ -11,7 +11,7 @@ use crate::bulk;
 use crate::class_request::ClassRequest;
 use crate::medium::Medium;
 use crate::stage::{Course, Stage};
-use model_device::{Device, Gadget, is_done_change, stall};
+use model_device::{Framework, Gadget, is_done_change, stall};
 use redir_wire::{Connect, InterfaceInfo};
 use std::alloc::Global;
 use std::marker::Model;
@@ -41,7 +41,7 @@ const NAME: [u8; 10] = [0x0A, 0x03, 0x64, 0x00, 0x69, 0x00, 0x73, 0x00, 0x6B, 0x
 /// succeeds leaves the blocks.
 #[derive(Drop)]
 pub struct Disk {
-    device: Device,
+    framework: Framework,
     course: Course,
     medium: Medium,
 }
@@ -55,9 +55,9 @@ impl Model for Disk {
 
     ghost Value = { DiskState };
 
-    ghost view = { λ d. record { state = record { device = d.device.state; kept = d.course }; blocks = d.medium } };
+    ghost view = { λ d. record { state = record { device = d.framework.state; kept = d.course }; blocks = d.medium } };
 
-    ghost invariant = { λ d. HasSet disk_set d.device × IsWithin (length d.medium) d.course.stage };
+    ghost invariant = { λ d. HasSet disk_set d.framework × IsWithin (length d.medium) d.course.stage };
 }
 
 impl Disk {
@@ -69,7 +69,7 @@ impl Disk {
         ensures { IfOk result (λ made. made ≡ first_disk blocks) }
     {
         Ok(Disk {
-            device: Device::make(alloc, DEVICE, &CONFIG, &NAME)?,
+            framework: Framework::make(alloc, DEVICE, &CONFIG, &NAME)?,
             course: Course::fresh(),
             medium: Medium::zeros(alloc, blocks)?,
         })
@@ -82,41 +82,39 @@ impl Gadget for Disk {
     ghost meaning = { disk };
 
     fn identity(&self) -> Connect {
-        Connect {
-            speed: Speed::High.to_redir(),
-            class: 0,
-            subclass: 0,
-            protocol: 0,
-            vendor: 0xFFF0,
-            product: 4,
-            version: 0x0100,
-        }
+        self.framework.identity(Speed::High)
     }
 
     fn configuration(&self) -> u8 {
-        self.device.state.configuration
+        self.framework.state.configuration
     }
 
     fn interfaces(&self) -> InterfaceInfo {
-        self.device.interfaces()
+        self.framework.interfaces()
     }
 
     fn table(&self) -> EpTable {
-        self.device.table()
+        self.framework.table()
     }
 
     fn perform(&mut self, alloc: Global, transfer: &Transfer) -> Result<Option<Outcome>, Memory> {
         if let Some(setup) = &transfer.setup {
-            let outcome = request(alloc, &mut self.device, &mut self.course, transfer, setup)?;
+            let outcome = request(
+                alloc,
+                &mut self.framework,
+                &mut self.course,
+                transfer,
+                setup,
+            )?;
             return Ok(Some(outcome));
         }
-        if !self.device.is_running(transfer.ep) {
+        if !self.framework.is_running(transfer.ep) {
             return Ok(Some(stall(alloc)));
         }
         if transfer.ep.is_in() {
             bulk::give(alloc, &mut self.course, &self.medium, transfer.wanted)
         } else {
-            let device = &mut self.device.state;
+            let device = &mut self.framework.state;
             bulk::take(
                 alloc,
                 device,
@@ -137,18 +135,18 @@ impl Gadget for Disk {
 // Answers a transfer of endpoint 0.
 fn request(
     alloc: Global,
-    device: &mut Device,
+    framework: &mut Framework,
     course: &mut Course,
     transfer: &Transfer,
     setup: &Setup,
 ) -> Result<Outcome, Memory>
     requires setup { transfer.now.setup ≡ Some setup.now }
-    requires set { HasSet disk_set device.old }
-    ensures set { HasSet disk_set device.new }
-    ensures outcome { IfOk result (λ outcome. outcome ≡ (request_done device.old.state course.old transfer.now setup.now).1) }
-    ensures device { OnOk result (device.new.state ≡ (request_done device.old.state course.old transfer.now setup.now).0.device) }
-    ensures course { OnOk result (course.new ≡ (request_done device.old.state course.old transfer.now setup.now).0.kept) }
-    ensures same_device { OnErr result (device.new ≡ device.old) }
+    requires set { HasSet disk_set framework.old }
+    ensures set { HasSet disk_set framework.new }
+    ensures outcome { IfOk result (λ outcome. outcome ≡ (request_done framework.old.state course.old transfer.now setup.now).1) }
+    ensures device { OnOk result (framework.new.state ≡ (request_done framework.old.state course.old transfer.now setup.now).0.device) }
+    ensures course { OnOk result (course.new ≡ (request_done framework.old.state course.old transfer.now setup.now).0.kept) }
+    ensures same_device { OnErr result (framework.new ≡ framework.old) }
     ensures same_course { OnErr result (course.new ≡ course.old) }
 {
     match ClassRequest::of(setup) {
@@ -164,7 +162,7 @@ fn request(
             Ok(bulk::given(body))
         }
         None => {
-            let outcome = device.control(alloc, transfer)?;
+            let outcome = framework.control(alloc, transfer)?;
             if is_done_change(transfer, &outcome) {
                 *course = Course::fresh();
             }

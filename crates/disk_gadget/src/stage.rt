@@ -20,7 +20,7 @@ pub enum Answer {
     /// These bytes.
     Text(Bytes),
     /// Bytes of the blocks from this one on: how many were given, and how many are left.
-    Blocks(u32, u32, u32),
+    Blocks { block: u32, given: u32, left: u32 },
 }
 
 impl Answer {
@@ -30,7 +30,7 @@ impl Answer {
     {
         match self {
             Answer::Text(rest) => rest.len(),
-            Answer::Blocks(_, _, left) => *left as usize,
+            Answer::Blocks { left, .. } => *left as usize,
         }
     }
 
@@ -43,7 +43,7 @@ impl Answer {
     {
         let piece = match self {
             Answer::Text(rest) => &rest.as_slice()[..count as usize],
-            Answer::Blocks(block, given, _) => {
+            Answer::Blocks { block, given, .. } => {
                 medium.part(BLOCK * *block as usize + *given as usize, count as usize)
             }
         };
@@ -60,7 +60,7 @@ impl Answer {
     {
         match self {
             Answer::Text(rest) => rest.skip(count as usize),
-            Answer::Blocks(_, given, left) => {
+            Answer::Blocks { given, left, .. } => {
                 *given += count;
                 *left -= count;
             }
@@ -76,7 +76,11 @@ impl Answer {
                 rest.cut(rest.len().min(length as usize));
                 Answer::Text(rest)
             }
-            Answer::Blocks(block, given, left) => Answer::Blocks(block, given, left.min(length)),
+            Answer::Blocks { block, given, left } => Answer::Blocks {
+                block,
+                given,
+                left: left.min(length),
+            },
         }
     }
 }

@@ -1,6 +1,10 @@
 -- A device that answers endpoint 0 by its descriptors, and its other endpoints in a way of its own.
 use Rattle.std.specs.Prelude.{ℕ, ◌&&◌, not, Bool, true, false, List, replicate, slice_set, Option, Some, None, if◌then◌else◌}
+use Rattle.std.specs.Int.{w16}
 use Rattle.usb_base.specs.Endpoint.{row_of}
+use Rattle.usb_base.specs.Number.{byte_at, le_at}
+use Rattle.usb_base.specs.Speed.{redir_speed}
+use Rattle.usb_base.specs.declared.speed.Speed.{Speed}
 use Rattle.usb_base.specs.declared.setup.Setup.{Setup}
 use Rattle.usb_base.specs.declared.status.UsbStatus.{UsbStatus}
 use Rattle.usb_base.specs.declared.status.UsbStatus.TheVariants.{Success, Cancelled, Inval, IoError, Stall, Timeout, Babble, Other}
@@ -27,7 +31,7 @@ pub record State (X : Type 0) : Type 0 where
 
 pub record Device (X : Type 0) : Type 0 where
   pub set : DescriptorSet
-  pub identity : Connect
+  pub speed : Speed
   -- what it keeps at first, and after each change that succeeds
   pub first : X
   -- a transfer of an endpoint other than 0 that is there and isn't halted
@@ -39,6 +43,18 @@ abbrev pub device_parts : {X : Type 0} → Device X → List Part
 device_parts d = parts_of d.set.config
 
 -- ---- what it tells
+
+-- the fields of its device descriptor (USB 2.0, table 9-8), and its speed
+abbrev pub identity_of : Speed → DescriptorSet → Connect
+identity_of speed set = record {
+  speed = redir_speed speed;
+  class = byte_at 4 set.device;
+  subclass = byte_at 5 set.device;
+  protocol = byte_at 6 set.device;
+  vendor = le_at w16 8 set.device;
+  product = le_at w16 10 set.device;
+  version = le_at w16 12 set.device;
+}
 
 abbrev pub no_bytes : List ℕ
 no_bytes = replicate 32 0
@@ -90,7 +106,7 @@ offer d s ep = if is_running (device_parts d) s.device ep then with_kept s.devic
 
 abbrev pub meaning_of : {X : Type 0} → Device X → Meaning (State X)
 meaning_of d = record {
-  identity = d.identity;
+  identity = identity_of d.speed d.set;
   configuration = λ s. s.device.configuration;
   interfaces = λ s. interfaces_of (device_parts d) s.device;
   table = λ s. table_of (device_parts d) s.device;

@@ -1,6 +1,7 @@
 -- The keyboard: an interrupt IN endpoint, on which each offer is a boot keyboard's report (device class definition for
 -- human interface devices 1.11, appendix B.1) of one key, the keys in turn from A.
 use Rattle.std.specs.Prelude.{ℕ, ◌+◌, ◌%◌, ◌==◌, List, [], ◌∷◌, Some, None, if◌then◌else◌}
+use Rattle.usb_base.specs.declared.speed.Speed.TheVariants.{Full}
 use Rattle.usb_base.specs.declared.status.UsbStatus.TheVariants.{Success}
 use Rattle.chapter9.specs.declared.standard_requests.DescriptorSet.{DescriptorSet}
 use Rattle.chapter9.specs.Standard.{stall}
@@ -33,7 +34,7 @@ report key = 0 ∷ 0 ∷ (4 + key) ∷ 0 ∷ 0 ∷ 0 ∷ 0 ∷ 0 ∷ []
 unfoldable pub keyboard : Device ℕ
 keyboard = record {
   set = keyboard_set;
-  identity = record { speed = 1; class = 0; subclass = 0; protocol = 0; vendor = 0xFFF0; product = 1; version = 0x0100 };
+  speed = Full;
   first = 0;
   transfer = λ key t. Some (key, stall);
   packet = λ key ep. if ep == 0x81 then Some ((key + 1) % 26, record { status = Success; body = report key }) else None;

@@ -3,6 +3,7 @@ pub mod Meaning
 pub mod Gadget
 pub mod Submit
 pub mod Device
+pub mod Function
 pub mod Inside
 pub mod Keyboard
 pub mod Loopback

@@ -1,6 +1,7 @@
 -- The loop: a bulk endpoint each way, which gives back what came, in order.
 use Rattle.std.specs.Prelude.{ℕ, ◌+◌, ◌==◌, nat_lt, ◌&&◌, not, List, [], ◌∷◌, ◌++◌, length, take, drop, Option, Some, None, if◌then◌else◌}
 use Rattle.usb_base.specs.Endpoint.{is_in_endpoint}
+use Rattle.usb_base.specs.declared.speed.Speed.TheVariants.{High}
 use Rattle.usb_base.specs.declared.status.UsbStatus.TheVariants.{Success}
 use Rattle.usb_base.specs.declared.transfer.Outcome.{Outcome}
 use Rattle.chapter9.specs.declared.standard_requests.DescriptorSet.{DescriptorSet}
@@ -47,7 +48,7 @@ given_back held wanted = if length held == 0 && not (wanted == 0) then None else
 unfoldable pub loopback : Device (List ℕ)
 loopback = record {
   set = loop_set;
-  identity = record { speed = 2; class = 0; subclass = 0; protocol = 0; vendor = 0xFFF0; product = 2; version = 0x0100 };
+  speed = High;
   first = [];
   transfer = λ held t. if is_in_endpoint t.ep then given_back held t.wanted else taken_in held t.body;
   packet = λ held ep. None;

@@ -1,5 +1,6 @@
 -- The tone: an isochronous IN endpoint in alternate setting 1, on which each offer is a packet of one byte repeated.
 use Rattle.std.specs.Prelude.{ℕ, ◌+◌, ◌%◌, ◌==◌, List, [], ◌∷◌, replicate, Some, None, if◌then◌else◌}
+use Rattle.usb_base.specs.declared.speed.Speed.TheVariants.{Full}
 use Rattle.usb_base.specs.declared.status.UsbStatus.TheVariants.{Success}
 use Rattle.chapter9.specs.declared.standard_requests.DescriptorSet.{DescriptorSet}
 use Rattle.chapter9.specs.Standard.{stall}
@@ -34,7 +35,7 @@ samples sample = replicate 192 sample
 unfoldable pub tone : Device ℕ
 tone = record {
   set = tone_set;
-  identity = record { speed = 1; class = 0; subclass = 0; protocol = 0; vendor = 0xFFF0; product = 3; version = 0x0100 };
+  speed = Full;
   first = 0;
   transfer = λ sample t. Some (sample, stall);
   packet = λ sample ep. if ep == 0x81 then Some ((sample + 1) % 256, record { status = Success; body = samples sample }) else None;

@@ -1,126 +1,95 @@
-//! What devices have in common that answer endpoint 0 by their descriptors: those, and the answers.
+//! A device of one function, which answers endpoint 0 by its descriptors.
 
-ghost use Rattle.std.specs.Prelude.{◌≡◌, ◌&&◌, IsSome, IfOk, OnOk, OnErr, None};
-ghost use Rattle.chapter9.specs.Descriptors.{wrong_place};
-ghost use Rattle.chapter9.specs.State.{unconfigured};
-ghost use Rattle.chapter9.specs.Standard.{outcome_of, stall, state_after};
-ghost use Rattle.chapter9.specs.Table.{table_of};
-ghost use Rattle.model_device.specs.Device.{interfaces_of, is_running, is_success};
-ghost use Rattle.model_device.specs.Inside.{HasSet};
-ghost use Rattle.model_device.specs.Transfer.{asks_change};
+ghost use Rattle.std.specs.Prelude.{◌≡◌, IfOk};
+ghost use Rattle.model_device.specs.Device.{first_state};
 
-use chapter9::{DescriptorSet, DevState, Parts, WalkError, class_of, standard, table_of, walk};
-use control_route::{is_change, route_of};
-use redir_wire::InterfaceInfo;
+use crate::framework::{Framework, is_done_change, stall};
+use crate::function::Function;
+use crate::gadget::Gadget;
+use redir_wire::{Connect, InterfaceInfo};
 use std::alloc::Global;
-use usb_base::{Bytes, EpAddr, EpKind, EpTable, Memory, Outcome, Transfer, UsbStatus};
+use std::marker::Model;
+use usb_base::{EpAddr, EpTable, Memory, Outcome, StreamPacket, Transfer};
 
-/// A device's descriptors, with the parts of its configuration, and its state.
+/// A device whose endpoint 0 answers by its descriptors, and whose other endpoints are its function's. A change that
+/// succeeds begins the function anew.
 #[derive(Drop)]
-pub struct Device {
-    pub set: DescriptorSet,
-    /// The parts of the set's configuration.
-    pub parts: Parts,
-    pub state: DevState,
+pub struct Device<F: Function> {
+    framework: Framework,
+    function: F,
 }
 
-impl Device {
-    /// The device with these descriptors, as it is before a configuration is set.
-    pub fn make(
-        alloc: Global,
-        device: [u8; 18],
-        config: &[u8],
-        name: &[u8],
-    ) -> Result<Device, Memory>
-        requires { wrong_place config.now ≡ None }
-        ensures set { IfOk result (HasSet (record { device = device; config = config.now; name = name.now })) }
-        ensures state { IfOk result (λ made. made.state ≡ unconfigured) }
+impl<F: Function> Model for Device<F> {
+    ghost use Rattle.model_device.specs.Device.{State};
+    ghost use Rattle.model_device.specs.Inside.{HasSet};
+
+    ghost Value = { State F };
+
+    ghost view = { λ d. record { device = d.framework.state; kept = d.function } };
+
+    ghost invariant = { λ d. HasSet F.described.set d.framework };
+}
+
+impl<F: Function> Device<F> {
+    /// The device as it was just plugged in.
+    pub fn make(alloc: Global) -> Result<Device<F>, Memory>
+        ensures { IfOk result (λ made. made ≡ first_state F.described) }
     {
-        let mut set = DescriptorSet {
-            device,
-            config: Bytes::new(alloc),
-            name: Bytes::new(alloc),
-        };
-        set.config.append(config)?;
-        set.name.append(name)?;
-        let parts = match walk(alloc, config) {
-            Ok(parts) => parts,
-            Err(WalkError::Memory(memory)) => return Err(memory),
-            Err(WalkError::Bad { .. }) => unreachable!(),
-        };
+        let framework = Framework::make(
+            alloc,
+            F::device_descriptor(),
+            F::configuration_descriptors(),
+            F::name_descriptor(),
+        )?;
         Ok(Device {
-            set,
-            parts,
-            state: DevState::unconfigured(),
+            framework,
+            function: F::first(alloc),
         })
     }
+}
 
-    /// The endpoints that it has.
-    pub fn table(&self) -> EpTable
-        ensures { result ≡ table_of self.now.parts self.now.state }
-    {
-        table_of(&self.parts, &self.state)
+impl<F: Function> Gadget for Device<F> {
+    ghost use Rattle.model_device.specs.Device.{meaning_of};
+    ghost use Rattle.model_device.specs.inner.Lawful.{lawful};
+
+    ghost meaning = { meaning_of F.described };
+
+    fn identity(&self) -> Connect {
+        self.framework.identity(F::speed())
     }
 
-    /// The one interface that it has where a configuration is set.
-    pub fn interfaces(&self) -> InterfaceInfo
-        ensures { result ≡ interfaces_of self.now.parts self.now.state }
-    {
-        let mut info = InterfaceInfo {
-            count: 0,
-            interface: [0; 32],
-            class: [0; 32],
-            subclass: [0; 32],
-            protocol: [0; 32],
-        };
-        if self.state.configuration != 0 {
-            info.count = 1;
-            if let Some(class) = class_of(&self.parts, self.state.alt) {
-                info.class[0] = class.class;
-                info.subclass[0] = class.subclass;
-                info.protocol[0] = class.protocol;
+    fn configuration(&self) -> u8 {
+        self.framework.state.configuration
+    }
+
+    fn interfaces(&self) -> InterfaceInfo {
+        self.framework.interfaces()
+    }
+
+    fn table(&self) -> EpTable {
+        self.framework.table()
+    }
+
+    fn perform(&mut self, alloc: Global, transfer: &Transfer) -> Result<Option<Outcome>, Memory> {
+        if transfer.setup.is_some() {
+            let outcome = self.framework.control(alloc, transfer)?;
+            if is_done_change(transfer, &outcome) {
+                self.function = F::first(alloc);
             }
+            return Ok(Some(outcome));
         }
-        info
-    }
-
-    /// Whether the endpoint is there and isn't halted.
-    pub fn is_running(&self, ep: EpAddr) -> bool
-        ensures { result ≡ is_running self.now.parts self.now.state ep }
-    {
-        self.table().row(ep).kind != EpKind::Invalid && !self.state.is_halted(ep)
-    }
-
-    /// Answers a transfer of endpoint 0.
-    pub fn control(&mut self, alloc: Global, transfer: &Transfer) -> Result<Outcome, Memory>
-        requires { IsSome transfer.now.setup }
-        ensures outcome { IfOk result (λ outcome. outcome ≡ outcome_of self.old.set self.old.parts self.old.state transfer.now) }
-        ensures state { OnOk result (self.new ≡ record self.old { state = state_after self.old.parts self.old.state transfer.now }) }
-        ensures err { OnErr result (self.new ≡ self.old) }
-    {
-        standard(alloc, &self.set, &self.parts, &mut self.state, transfer)
-    }
-}
-
-/// Whether a transfer was a change that succeeded.
-pub fn is_done_change(transfer: &Transfer, outcome: &Outcome) -> bool
-    ensures { result ≡ (asks_change transfer.now && is_success outcome.now.status) }
-{
-    match &transfer.setup {
-        Some(setup) => {
-            is_change(&route_of(setup)) && matches!(outcome.status, UsbStatus::Success)
+        if !self.framework.is_running(transfer.ep) {
+            return Ok(Some(stall(alloc)));
         }
-        None => false,
+        self.function.perform(alloc, transfer)
     }
-}
 
-/// The refusal of a transfer.
-pub fn stall(alloc: Global) -> Outcome
-    ensures { result ≡ stall }
-{
-    Outcome {
-        status: UsbStatus::Stall,
-        done: 0,
-        body: Bytes::new(alloc),
+    fn offer(&mut self, alloc: Global, ep: EpAddr) -> Result<Option<StreamPacket>, Memory> {
+        if !self.framework.is_running(ep) {
+            return Ok(None);
+        }
+        self.function.offer(alloc, ep)
     }
+
+    ghost lawful = { lawful F.described F.lawful };
 }

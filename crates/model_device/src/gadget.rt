@@ -1,6 +1,6 @@
 //! What every modelled device is.
 
-ghost use Rattle.std.specs.Prelude.{◌≡◌, OnOk, OnErr, IfOk};
+ghost use Rattle.std.specs.Prelude.{◌≡◌, OnOk, OnErr, IfOk, IsSome};
 ghost use Rattle.model_device.specs.Gadget.{IsGadget};
 ghost use Rattle.model_device.specs.Meaning.{Meaning, given_in, state_in};
 ghost use Rattle.model_device.specs.Transfer.{IsTransfer};
@@ -30,20 +30,22 @@ pub trait Gadget: Drop {
     fn table(&self) -> EpTable
         ensures { result ≡ meaning.table self.now };
 
-    /// Performs a transfer, or answers None where it isn't ready for it yet. Then, and for want of memory,
-    /// nothing has changed.
+    /// Performs a transfer, or answers None where it isn't ready for it yet. Then, and for want of memory, which
+    /// only a transfer that it is ready for takes, nothing has changed.
     fn perform(&mut self, alloc: Global, transfer: &Transfer) -> Result<Option<Outcome>, Memory>
         requires { IsTransfer transfer.now }
         ensures outcome { IfOk result (λ outcome. outcome ≡ given_in (meaning.perform self.old transfer.now)) }
         ensures state { OnOk result (self.new ≡ state_in self.old (meaning.perform self.old transfer.now)) }
-        ensures err { OnErr result (self.new ≡ self.old) };
+        ensures err { OnErr result (self.new ≡ self.old) }
+        ensures thrifty { OnErr result (IsSome (meaning.perform self.old transfer.now)) };
 
-    /// The packet that an IN endpoint sends by itself, or None where it has none. Then, and for want of
-    /// memory, nothing has changed.
+    /// The packet that an IN endpoint sends by itself, or None where it has none. Then, and for want of memory, which
+    /// only a packet takes, nothing has changed.
     fn offer(&mut self, alloc: Global, ep: EpAddr) -> Result<Option<StreamPacket>, Memory>
         ensures packet { IfOk result (λ packet. packet ≡ given_in (meaning.offer self.old ep)) }
         ensures state { OnOk result (self.new ≡ state_in self.old (meaning.offer self.old ep)) }
-        ensures err { OnErr result (self.new ≡ self.old) };
+        ensures err { OnErr result (self.new ≡ self.old) }
+        ensures thrifty { OnErr result (IsSome (meaning.offer self.old ep)) };
 
     ghost lawful: { IsGadget meaning };
 }

@@ -1,16 +1,12 @@
 //! The keyboard: keys pressed one after another.
 #![tactic(auto, unfolding(crate::specs::Keyboard::keyboard))]
 
-ghost use Rattle.std.specs.Prelude.{◌≡◌, OnOk, IfOk};
-ghost use Rattle.model_device.specs.Device.{first_state};
-ghost use Rattle.model_device.specs.Keyboard.{keyboard};
-
-use crate::device::{Device, is_done_change, stall};
-use crate::gadget::Gadget;
-use redir_wire::{Connect, InterfaceInfo};
+use crate::device::Device;
+use crate::framework::stall;
+use crate::function::Function;
 use std::alloc::Global;
 use std::marker::Model;
-use usb_base::{Bytes, EpAddr, EpTable, Memory, Outcome, Speed, StreamPacket, Transfer, UsbStatus};
+use usb_base::{Bytes, EpAddr, Memory, Outcome, Speed, StreamPacket, Transfer, UsbStatus};
 
 /// The device descriptor (USB 2.0, table 9-8).
 const DEVICE: [u8; 18] = [
@@ -40,82 +36,56 @@ const KEYS: u8 = 26;
 
 /// A full-speed device with an interrupt IN endpoint, on which each offer is a report of the next key. A
 /// change that succeeds begins with A again.
+pub type Keyboard = Device<NextKey>;
+
+/// The key of the keyboard's next offer, counted from A.
 #[derive(Drop)]
-pub struct Keyboard {
-    device: Device,
-    /// The key of the next offer, counted from A.
+pub struct NextKey {
     key: u8,
 }
 
-impl Model for Keyboard {
+impl Model for NextKey {
     ghost use Rattle.std.specs.Prelude.{ℕ, ◌<◌};
-    ghost use Rattle.model_device.specs.Device.{State};
-    ghost use Rattle.model_device.specs.Inside.{HasSet};
-    ghost use Rattle.model_device.specs.Keyboard.{keyboard_set};
 
-    ghost Value = { State ℕ };
+    ghost Value = { ℕ };
 
-    ghost view = { λ k. record { device = k.device.state; kept = k.key } };
+    ghost view = { λ k. k.key };
 
-    ghost invariant = { λ k. HasSet keyboard_set k.device × (k.key < 26) };
+    ghost invariant = { λ k. k.key < 26 };
 }
 
-impl Keyboard {
-    /// A keyboard that was just plugged in.
-    #[tactic(auto, unfolding(usb_base::specs::Number::le_at, crate::specs::Keyboard::keyboard))]
-    pub fn make(alloc: Global) -> Result<Keyboard, Memory>
-        ensures { IfOk result (λ made. made ≡ first_state keyboard) }
-    {
-        Ok(Keyboard {
-            device: Device::make(alloc, DEVICE, &CONFIG, &NAME)?,
-            key: 0,
-        })
-    }
-}
-
-impl Gadget for Keyboard {
-    ghost use Rattle.model_device.specs.Device.{meaning_of};
+impl Function for NextKey {
+    ghost use Rattle.model_device.specs.Keyboard.{keyboard};
     ghost use Rattle.model_device.specs.inner.Three.{keyboard_lawful};
 
-    ghost meaning = { meaning_of keyboard };
+    ghost described = { keyboard };
 
-    fn identity(&self) -> Connect {
-        Connect {
-            speed: Speed::Full.to_redir(),
-            class: 0,
-            subclass: 0,
-            protocol: 0,
-            vendor: 0xFFF0,
-            product: 1,
-            version: 0x0100,
-        }
+    fn speed() -> Speed {
+        Speed::Full
     }
 
-    fn configuration(&self) -> u8 {
-        self.device.state.configuration
+    fn device_descriptor() -> [u8; 18] {
+        DEVICE
     }
 
-    fn interfaces(&self) -> InterfaceInfo {
-        self.device.interfaces()
+    fn configuration_descriptors() -> &'static [u8] {
+        &CONFIG
     }
 
-    fn table(&self) -> EpTable {
-        self.device.table()
+    fn name_descriptor() -> &'static [u8] {
+        &NAME
     }
 
-    fn perform(&mut self, alloc: Global, transfer: &Transfer) -> Result<Option<Outcome>, Memory> {
-        if transfer.setup.is_none() {
-            return Ok(Some(stall(alloc)));
-        }
-        let outcome = self.device.control(alloc, transfer)?;
-        if is_done_change(transfer, &outcome) {
-            self.key = 0;
-        }
-        Ok(Some(outcome))
+    fn first(_alloc: Global) -> NextKey {
+        NextKey { key: 0 }
+    }
+
+    fn perform(&mut self, alloc: Global, _transfer: &Transfer) -> Result<Option<Outcome>, Memory> {
+        Ok(Some(stall(alloc)))
     }
 
     fn offer(&mut self, alloc: Global, ep: EpAddr) -> Result<Option<StreamPacket>, Memory> {
-        if ep.byte() != 0x81 || !self.device.is_running(ep) {
+        if ep.byte() != 0x81 {
             return Ok(None);
         }
         let mut body = Bytes::new(alloc);

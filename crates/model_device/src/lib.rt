@@ -3,15 +3,19 @@
 #![tactic(auto)]
 
 mod device;
+mod framework;
+mod function;
 mod gadget;
 mod keyboard;
 mod loopback;
 mod submit;
 mod tone;
 
-pub use device::{Device, is_done_change, stall};
+pub use device::Device;
+pub use framework::{Framework, is_done_change, stall};
+pub use function::Function;
 pub use gadget::Gadget;
-pub use keyboard::Keyboard;
-pub use loopback::Loopback;
+pub use keyboard::{Keyboard, NextKey};
+pub use loopback::{Held, Loopback};
 pub use submit::submits_ask_transfers;
-pub use tone::Tone;
+pub use tone::{NextSample, Tone};

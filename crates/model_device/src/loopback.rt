@@ -1,17 +1,16 @@
 //! The loop: what comes is given back.
 #![tactic(auto, unfolding(crate::specs::Loopback::loopback))]
 
-ghost use Rattle.std.specs.Prelude.{◌≡◌, ◌≤◌, IfOk, OnOk, OnErr, length};
-ghost use Rattle.model_device.specs.Device.{first_state};
-ghost use Rattle.model_device.specs.Loopback.{given_back, limit, loopback, taken_in};
+ghost use Rattle.std.specs.Prelude.{◌≡◌, ◌≤◌, IfOk, IsSome, OnOk, OnErr, length};
+ghost use Rattle.model_device.specs.Loopback.{given_back, limit, taken_in};
 ghost use Rattle.model_device.specs.Meaning.{given_in, state_in};
 
-use crate::device::{Device, is_done_change, stall};
-use crate::gadget::Gadget;
-use redir_wire::{Connect, InterfaceInfo};
+use crate::device::Device;
+use crate::framework::stall;
+use crate::function::Function;
 use std::alloc::Global;
 use std::marker::Model;
-use usb_base::{Bytes, EpAddr, EpTable, Memory, Outcome, Speed, StreamPacket, Transfer, UsbStatus};
+use usb_base::{Bytes, EpAddr, Memory, Outcome, Speed, StreamPacket, Transfer, UsbStatus};
 
 /// The device descriptor (USB 2.0, table 9-8).
 const DEVICE: [u8; 18] = [
@@ -36,83 +35,58 @@ const LIMIT: usize = 1_048_576;
 
 /// A high-speed device with a bulk endpoint each way: bytes that come on one are given back on the other, in
 /// order, however they are cut. A change that succeeds drops what it holds.
+pub type Loopback = Device<Held>;
+
+/// The bytes that came and weren't given back.
 #[derive(Drop)]
-pub struct Loopback {
-    device: Device,
-    held: Bytes,
+pub struct Held {
+    bytes: Bytes,
 }
 
-impl Model for Loopback {
+impl Model for Held {
     ghost use Rattle.std.specs.Prelude.{ℕ, ◌≤◌, List, length};
-    ghost use Rattle.model_device.specs.Device.{State};
-    ghost use Rattle.model_device.specs.Inside.{HasSet};
-    ghost use Rattle.model_device.specs.Loopback.{limit, loop_set};
+    ghost use Rattle.model_device.specs.Loopback.{limit};
 
-    ghost Value = { State (List ℕ) };
+    ghost Value = { List ℕ };
 
-    ghost view = { λ l. record { device = l.device.state; kept = l.held } };
+    ghost view = { λ h. h.bytes };
 
-    ghost invariant = { λ l. HasSet loop_set l.device × (length l.held ≤ limit) };
+    ghost invariant = { λ h. length h.bytes ≤ limit };
 }
 
-impl Loopback {
-    /// A loop that was just plugged in. It holds no byte.
-    #[tactic(auto, unfolding(usb_base::specs::Number::le_at, crate::specs::Loopback::loopback))]
-    pub fn make(alloc: Global) -> Result<Loopback, Memory>
-        ensures { IfOk result (λ made. made ≡ first_state loopback) }
-    {
-        Ok(Loopback {
-            device: Device::make(alloc, DEVICE, &CONFIG, &NAME)?,
-            held: Bytes::new(alloc),
-        })
-    }
-}
-
-impl Gadget for Loopback {
-    ghost use Rattle.model_device.specs.Device.{meaning_of};
+impl Function for Held {
+    ghost use Rattle.model_device.specs.Loopback.{loopback};
     ghost use Rattle.model_device.specs.inner.Three.{loopback_lawful};
 
-    ghost meaning = { meaning_of loopback };
+    ghost described = { loopback };
 
-    fn identity(&self) -> Connect {
-        Connect {
-            speed: Speed::High.to_redir(),
-            class: 0,
-            subclass: 0,
-            protocol: 0,
-            vendor: 0xFFF0,
-            product: 2,
-            version: 0x0100,
+    fn speed() -> Speed {
+        Speed::High
+    }
+
+    fn device_descriptor() -> [u8; 18] {
+        DEVICE
+    }
+
+    fn configuration_descriptors() -> &'static [u8] {
+        &CONFIG
+    }
+
+    fn name_descriptor() -> &'static [u8] {
+        &NAME
+    }
+
+    fn first(alloc: Global) -> Held {
+        Held {
+            bytes: Bytes::new(alloc),
         }
-    }
-
-    fn configuration(&self) -> u8 {
-        self.device.state.configuration
-    }
-
-    fn interfaces(&self) -> InterfaceInfo {
-        self.device.interfaces()
-    }
-
-    fn table(&self) -> EpTable {
-        self.device.table()
     }
 
     fn perform(&mut self, alloc: Global, transfer: &Transfer) -> Result<Option<Outcome>, Memory> {
-        if transfer.setup.is_some() {
-            let outcome = self.device.control(alloc, transfer)?;
-            if is_done_change(transfer, &outcome) {
-                self.held.clear();
-            }
-            return Ok(Some(outcome));
-        }
-        if !self.device.is_running(transfer.ep) {
-            return Ok(Some(stall(alloc)));
-        }
         if transfer.ep.is_in() {
-            give_back(alloc, &mut self.held, transfer.wanted)
+            give_back(alloc, &mut self.bytes, transfer.wanted)
         } else {
-            take_in(alloc, &mut self.held, transfer.body.as_slice())
+            take_in(alloc, &mut self.bytes, transfer.body.as_slice())
         }
     }
 
@@ -130,6 +104,7 @@ fn take_in(alloc: Global, held: &mut Bytes, body: &[u8]) -> Result<Option<Outcom
     ensures outcome { IfOk result (λ outcome. outcome ≡ given_in (taken_in held.old body.now)) }
     ensures held { OnOk result (held.new ≡ state_in held.old (taken_in held.old body.now)) }
     ensures err { OnErr result (held.new ≡ held.old) }
+    ensures thrifty { OnErr result (IsSome (taken_in held.old body.now)) }
 {
     if body.len() > LIMIT {
         return Ok(Some(stall(alloc)));
@@ -150,6 +125,7 @@ fn give_back(alloc: Global, held: &mut Bytes, wanted: u32) -> Result<Option<Outc
     ensures outcome { IfOk result (λ outcome. outcome ≡ given_in (given_back held.old wanted)) }
     ensures held { OnOk result (held.new ≡ state_in held.old (given_back held.old wanted)) }
     ensures err { OnErr result (held.new ≡ held.old) }
+    ensures thrifty { OnErr result (IsSome (given_back held.old wanted)) }
 {
     if held.is_empty() && wanted != 0 {
         return Ok(None);

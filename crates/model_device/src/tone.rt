@@ -2,15 +2,14 @@
 #![tactic(auto, unfolding(crate::specs::Tone::tone))]
 
 ghost use Rattle.std.specs.Prelude.{◌≡◌, IfOk};
-ghost use Rattle.model_device.specs.Device.{first_state};
-ghost use Rattle.model_device.specs.Tone.{samples, tone};
+ghost use Rattle.model_device.specs.Tone.{samples};
 
-use crate::device::{Device, is_done_change, stall};
-use crate::gadget::Gadget;
-use redir_wire::{Connect, InterfaceInfo};
+use crate::device::Device;
+use crate::framework::stall;
+use crate::function::Function;
 use std::alloc::Global;
 use std::marker::Model;
-use usb_base::{Bytes, EpAddr, EpTable, Memory, Outcome, Speed, StreamPacket, Transfer, UsbStatus};
+use usb_base::{Bytes, EpAddr, Memory, Outcome, Speed, StreamPacket, Transfer, UsbStatus};
 
 /// The device descriptor (USB 2.0, table 9-8).
 const DEVICE: [u8; 18] = [
@@ -35,82 +34,54 @@ const PACKET: usize = 192;
 
 /// A full-speed device whose alternate setting 1 has an isochronous IN endpoint. Each offer there is a packet
 /// of one byte, which is 0 after a change that succeeds and then 1 more with each packet.
+pub type Tone = Device<NextSample>;
+
+/// The byte of the tone's next offer.
 #[derive(Drop)]
-pub struct Tone {
-    device: Device,
-    /// The byte of the next offer.
+pub struct NextSample {
     sample: u8,
 }
 
-impl Model for Tone {
+impl Model for NextSample {
     ghost use Rattle.std.specs.Prelude.{ℕ};
-    ghost use Rattle.model_device.specs.Device.{State};
-    ghost use Rattle.model_device.specs.Inside.{HasSet};
-    ghost use Rattle.model_device.specs.Tone.{tone_set};
 
-    ghost Value = { State ℕ };
+    ghost Value = { ℕ };
 
-    ghost view = { λ t. record { device = t.device.state; kept = t.sample } };
-
-    ghost invariant = { λ t. HasSet tone_set t.device };
+    ghost view = { λ s. s.sample };
 }
 
-impl Tone {
-    /// A tone that was just plugged in.
-    #[tactic(auto, unfolding(usb_base::specs::Number::le_at, crate::specs::Tone::tone))]
-    pub fn make(alloc: Global) -> Result<Tone, Memory>
-        ensures { IfOk result (λ made. made ≡ first_state tone) }
-    {
-        Ok(Tone {
-            device: Device::make(alloc, DEVICE, &CONFIG, &NAME)?,
-            sample: 0,
-        })
-    }
-}
-
-impl Gadget for Tone {
-    ghost use Rattle.model_device.specs.Device.{meaning_of};
+impl Function for NextSample {
+    ghost use Rattle.model_device.specs.Tone.{tone};
     ghost use Rattle.model_device.specs.inner.Three.{tone_lawful};
 
-    ghost meaning = { meaning_of tone };
+    ghost described = { tone };
 
-    fn identity(&self) -> Connect {
-        Connect {
-            speed: Speed::Full.to_redir(),
-            class: 0,
-            subclass: 0,
-            protocol: 0,
-            vendor: 0xFFF0,
-            product: 3,
-            version: 0x0100,
-        }
+    fn speed() -> Speed {
+        Speed::Full
     }
 
-    fn configuration(&self) -> u8 {
-        self.device.state.configuration
+    fn device_descriptor() -> [u8; 18] {
+        DEVICE
     }
 
-    fn interfaces(&self) -> InterfaceInfo {
-        self.device.interfaces()
+    fn configuration_descriptors() -> &'static [u8] {
+        &CONFIG
     }
 
-    fn table(&self) -> EpTable {
-        self.device.table()
+    fn name_descriptor() -> &'static [u8] {
+        &NAME
     }
 
-    fn perform(&mut self, alloc: Global, transfer: &Transfer) -> Result<Option<Outcome>, Memory> {
-        if transfer.setup.is_none() {
-            return Ok(Some(stall(alloc)));
-        }
-        let outcome = self.device.control(alloc, transfer)?;
-        if is_done_change(transfer, &outcome) {
-            self.sample = 0;
-        }
-        Ok(Some(outcome))
+    fn first(_alloc: Global) -> NextSample {
+        NextSample { sample: 0 }
+    }
+
+    fn perform(&mut self, alloc: Global, _transfer: &Transfer) -> Result<Option<Outcome>, Memory> {
+        Ok(Some(stall(alloc)))
     }
 
     fn offer(&mut self, alloc: Global, ep: EpAddr) -> Result<Option<StreamPacket>, Memory> {
-        if ep.byte() != 0x81 || !self.device.is_running(ep) {
+        if ep.byte() != 0x81 {
             return Ok(None);
         }
         let body = samples(alloc, self.sample)?;

@@ -5,6 +5,7 @@ ghost use Rattle.redir_host.specs.step.Machine.{first_host};
 ghost use Rattle.redir_host.specs.step.Makes.{Makes};
 ghost use Rattle.redir_host.specs.device.Offering.{offer_move, stream_packet, unplug_move, told_offered};
 ghost use Rattle.redir_host.specs.state.Sound.{IsSound};
+ghost use Rattle.redir_host.specs.step.Wants.{GivesSome};
 
 use crate::note::Offered;
 use crate::queue::Queue;
@@ -52,6 +53,7 @@ impl<G> Host<G> {
     pub fn unplug(&mut self, out: &mut Bytes) -> Result<bool, Memory>
         ensures told { IfOk result (λ told. told ≡ not self.old.unplugged) }
         ensures makes { OnOk result (Makes (unplug_move self.old) self.new out.old out.new) }
+        ensures wants { OnErr result (GivesSome self.old (unplug_move self.old)) }
         ensures err { OnErr result (self.new ≡ self.old) }
         ensures stands { OnErr result (out.new ≡ out.old) }
     {
@@ -76,6 +78,7 @@ impl<G: Gadget> Host<G> {
         requires { IsSound self.old }
         ensures told { IfOk result (λ told. told ≡ told_offered G.meaning self.old ep) }
         ensures makes { OnOk result (Makes (offer_move G.meaning self.old ep) self.new out.old out.new) }
+        ensures wants { OnErr result (GivesSome self.old (offer_move G.meaning self.old ep)) }
         ensures err { OnErr result (out.new ≡ out.old) }
     {
         if self.unplugged {

@@ -71,13 +71,15 @@ impl<G: Gadget> HostCore<G> {
         }
     }
 
-    /// Performs the first request of an endpoint, where the device is ready for it, and answers it. For want of memory
-    /// `out` stands.
+    /// Performs the first request of an endpoint, where the device is ready for it, and answers it. For want of memory,
+    /// which only a request that is performed takes, `out` stands.
     pub fn perform(&mut self, ep: EpAddr, out: &mut Bytes) -> Result<Performed, Memory>
         ensures told { IfOk result (λ told. (first : G) (past : List Act) → Stands G.meaning first self.old past
             → told ≡ told_performed G.meaning (host_of G.meaning first past) ep) }
         ensures does { OnOk result ((first : G) (past : List Act) → Stands G.meaning first self.old past
             → DoesAct G.meaning first self.new past (Perform ep) out.old out.new) }
+        ensures stops { OnErr result ((first : G) (past : List Act) → Stands G.meaning first self.old past
+            → Stops G.meaning first past (Perform ep) out.old out.new) }
         ensures err { OnErr result (out.new ≡ out.old) }
         ensures fails { OnErr result (HasFailed self.new) }
         ensures failed { HasFailed self.old → IsErr result × (self.new ≡ self.old) }
@@ -94,12 +96,15 @@ impl<G: Gadget> HostCore<G> {
         }
     }
 
-    /// Offers the guest what the device has for an endpoint whose stream runs. For want of memory `out` stands.
+    /// Offers the guest what the device has for an endpoint whose stream runs. For want of memory, which only a packet
+    /// takes, `out` stands.
     pub fn offer(&mut self, ep: EpAddr, out: &mut Bytes) -> Result<Offered, Memory>
         ensures told { IfOk result (λ told. (first : G) (past : List Act) → Stands G.meaning first self.old past
             → told ≡ told_offered G.meaning (host_of G.meaning first past) ep) }
         ensures does { OnOk result ((first : G) (past : List Act) → Stands G.meaning first self.old past
             → DoesAct G.meaning first self.new past (Offer ep) out.old out.new) }
+        ensures stops { OnErr result ((first : G) (past : List Act) → Stands G.meaning first self.old past
+            → Stops G.meaning first past (Offer ep) out.old out.new) }
         ensures err { OnErr result (out.new ≡ out.old) }
         ensures fails { OnErr result (HasFailed self.new) }
         ensures failed { HasFailed self.old → IsErr result × (self.new ≡ self.old) }
@@ -117,12 +122,14 @@ impl<G: Gadget> HostCore<G> {
     }
 
     /// Takes the device away, and tells so where the guest has sent its hello; false where it was taken away before.
-    /// For want of memory `out` stands.
+    /// For want of memory, which only that packet takes, `out` stands.
     pub fn unplug(&mut self, out: &mut Bytes) -> Result<bool, Memory>
         ensures told { IfOk result (λ told. (first : G) (past : List Act) → Stands G.meaning first self.old past
             → told ≡ not (host_of G.meaning first past).unplugged) }
         ensures does { OnOk result ((first : G) (past : List Act) → Stands G.meaning first self.old past
             → DoesAct G.meaning first self.new past Unplug out.old out.new) }
+        ensures stops { OnErr result ((first : G) (past : List Act) → Stands G.meaning first self.old past
+            → Stops G.meaning first past Unplug out.old out.new) }
         ensures err { OnErr result (out.new ≡ out.old) }
         ensures fails { OnErr result (HasFailed self.new) }
         ensures failed { HasFailed self.old → IsErr result × (self.new ≡ self.old) }

@@ -83,6 +83,8 @@ impl<G: Gadget> Kept<G> {
             → told ≡ told_performed G.meaning (host_of G.meaning first acts) ep) }
         ensures does { OnOk result ((first : G) (acts : List Act) → Stands G.meaning first (kept_of self.old) acts
             → DoesAct G.meaning first (kept_of self.new) acts (Perform ep) out.old out.new) }
+        ensures stops { OnErr result ((first : G) (acts : List Act) → Stands G.meaning first (kept_of self.old) acts
+            → Stops G.meaning first acts (Perform ep) out.old out.new) }
         ensures err { OnErr result (out.new ≡ out.old) }
     {
         let before = out.len();
@@ -102,6 +104,8 @@ impl<G: Gadget> Kept<G> {
             → told ≡ told_offered G.meaning (host_of G.meaning first acts) ep) }
         ensures does { OnOk result ((first : G) (acts : List Act) → Stands G.meaning first (kept_of self.old) acts
             → DoesAct G.meaning first (kept_of self.new) acts (Offer ep) out.old out.new) }
+        ensures stops { OnErr result ((first : G) (acts : List Act) → Stands G.meaning first (kept_of self.old) acts
+            → Stops G.meaning first acts (Offer ep) out.old out.new) }
         ensures err { OnErr result (out.new ≡ out.old) }
     {
         self.host.offer(self.alloc, ep, out)
@@ -113,6 +117,8 @@ impl<G: Gadget> Kept<G> {
         ensures told { IfOk result (λ told. told ≡ not self.old.host.unplugged) }
         ensures does { OnOk result ((first : G) (acts : List Act) → Stands G.meaning first (kept_of self.old) acts
             → DoesAct G.meaning first (kept_of self.new) acts Unplug out.old out.new) }
+        ensures stops { OnErr result ((first : G) (acts : List Act) → Stands G.meaning first (kept_of self.old) acts
+            → Stops G.meaning first acts Unplug out.old out.new) }
         ensures err { OnErr result (out.new ≡ out.old) }
     {
         self.host.unplug(out)

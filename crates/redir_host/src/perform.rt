@@ -13,7 +13,7 @@ ghost use Rattle.redir_host.specs.device.Facts.{facts_of};
 ghost use Rattle.redir_host.specs.step.Machine.{told_bytes};
 ghost use Rattle.redir_host.specs.step.Makes.{Makes, Performs, Tells};
 ghost use Rattle.redir_host.specs.guest.Asking.{routed};
-ghost use Rattle.redir_host.specs.device.Performing.{does, done_by, performs, performs_marked, perform_move, resets, told_performed, with_id};
+ghost use Rattle.redir_host.specs.device.Performing.{does, done_by, performed, performs, performs_marked, perform_move, resets, told_performed, with_id};
 ghost use Rattle.redir_host.specs.device.Resets.{PerformsNow, ResetsTo};
 ghost use Rattle.redir_host.specs.write.Readable.{InRange};
 ghost use Rattle.redir_host.specs.state.Queues.{is_at, without_first};
@@ -43,6 +43,7 @@ impl<G: Gadget> Host<G> {
         requires { IsSound self.old }
         ensures told { IfOk result (λ told. told ≡ told_performed G.meaning self.old ep) }
         ensures makes { OnOk result (Tells (perform_move G.meaning self.old ep) self.new out.old out.new) }
+        ensures wants { OnErr result (IsSome (performed G.meaning self.old ep)) }
         ensures err { OnErr result (Begins out.old out.new) }
     {
         if self.unplugged {
@@ -69,6 +70,7 @@ impl<G: Gadget> Host<G> {
         requires there { IsSome (find (is_at ep) self.old.queue) }
         ensures ok { IfOk result (λ told. (q : Asked) → find (is_at ep) self.old.queue ≡ Some q
             → Performs (with_id q (performs G.meaning (record self.old { queue = without_first (is_at ep) self.old.queue }) q)) self.old self.new told out.old out.new) }
+        ensures wants { OnErr result (IsSomeAnd (find (is_at ep) self.old.queue) (λ q. IsSome (G.meaning.perform self.old.gadget q.transfer))) }
         ensures err { OnErr result (Begins out.old out.new) }
     {
         let table = self.gadget.table();
@@ -160,8 +162,7 @@ impl<G: Gadget> Host<G> {
     {
         let table = self.gadget.table();
         let outcome = self.reset(alloc)?;
-        let success = is_success(outcome.status);
-        self.change(alloc, &Route::Reset, &table, success, out)?;
+        self.change(alloc, &Route::Reset, &table, outcome.status, out)?;
         self.perform_now(alloc, request, out)
     }
 
@@ -214,8 +215,8 @@ impl<G: Gadget> Host<G> {
     {
         match change {
             Some(route) => {
-                let success = is_success(outcome.status);
-                self.change(alloc, &route, table, success, out)?;
+                let status = outcome.status;
+                self.change(alloc, &route, table, status, out)?;
                 self.answer(request, outcome, out)
             }
             None => self.answer(request, outcome, out),
@@ -243,20 +244,20 @@ impl<G: Gadget> Host<G> {
         )
     }
 
-    /// Does what a change does that the device has carried out or refused. The table is that of before.
+    /// Does what a change does that came to this status. The table is that of before.
     fn change(
         &mut self,
         alloc: Global,
         route: &Route,
         table: &EpTable,
-        success: bool,
+        status: UsbStatus,
         out: &mut Bytes,
     ) -> Result<(), Memory>
         requires { IsSound self.old }
-        ensures ok { OnOk result (Tells (changed G.meaning route.now table.now success self.old) self.new out.old out.new) }
+        ensures ok { OnOk result (Tells (changed G.meaning route.now table.now (is_success_status status) self.old) self.new out.old out.new) }
         ensures err { OnErr result (Begins out.old out.new) }
     {
-        self.clear(alloc, route, table, success, out)?;
+        self.clear(alloc, route, table, status, out)?;
         self.tell_facts(out)
     }
 
@@ -282,14 +283,14 @@ impl<G> Host<G> {
         alloc: Global,
         route: &Route,
         table: &EpTable,
-        success: bool,
+        status: UsbStatus,
         out: &mut Bytes,
     ) -> Result<(), Memory>
         requires { IsSound self.old }
-        ensures ok { OnOk result (Makes (cleared success route.now table.now self.old) self.new out.old out.new) }
+        ensures ok { OnOk result (Makes (cleared (is_success_status status) route.now table.now self.old) self.new out.old out.new) }
         ensures err { OnErr result (Begins out.old out.new) }
     {
-        if !success {
+        if !matches!(status, UsbStatus::Success) {
             return Ok(());
         }
         write_flushed(alloc, &self.queue, route, table, self.guest.caps, out)?;
@@ -297,10 +298,4 @@ impl<G> Host<G> {
         self.running.flush(route, table);
         Ok(())
     }
-}
-
-fn is_success(status: UsbStatus) -> bool
-    ensures { result ≡ is_success_status status }
-{
-    matches!(status, UsbStatus::Success)
 }

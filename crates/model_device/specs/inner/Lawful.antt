@@ -23,18 +23,10 @@ use Rattle.chapter9.specs.Table.{class_of, table_of}
 use Rattle.chapter9.specs.Standard.{changed_by, given_by, outcome_by, read_outcome, stall, state_by, state_or, success, write_outcome}
 use Rattle.model_device.specs.Transfer.{IsTransfer, IsOutcome, is_in_setup, setup_changes}
 use Rattle.model_device.specs.Gadget.{IsGadget, IsNamed, SameFacts, is_get_configuration, is_port_reset}
+use Rattle.model_device.specs.Function.{IsFunction}
 use Rattle.model_device.specs.Device.{Device, State, device_parts, interfaces_of, is_running, is_success, meaning_of, offer, one_interface, perform, perform_by, with_kept}
 use Rattle.model_device.specs.inner.Asked.{SameSetting, get_configuration_asked, port_reset_asked, read_from_device, setting_kept}
-use Rattle.model_device.specs.inner.Tables.{no_iso_out, table_fine}
-
--- what a device owes of its own: outcomes and packets in their bounds, statuses that their bytes name, and no isochronous
--- endpoint to it
-pub record IsOwn {X : Type 0} (d : Device X) : Type 0 where
-  pub outcomes : (x : X) (t : Transfer) → IsTransfer t → t.setup ≡ None → IfSome (d.transfer x t) (λ done. IsOutcome t done.1)
-  pub packets : (x : X) (ep : ℕ) → IfSome (d.packet x ep) (λ sent. length sent.1.body ≤ 65535)
-  pub named : (x : X) (t : Transfer) → IfSome (d.transfer x t) (λ done. IsNamed done.1.status)
-  pub packets_named : (x : X) (ep : ℕ) → IfSome (d.packet x ep) (λ sent. IsNamed sent.1.status)
-  pub endpoints : no_iso_out (device_parts d) ≡ true
+use Rattle.model_device.specs.inner.Tables.{table_fine}
 
 -- ---- what stays where the setting does
 
@@ -151,14 +143,14 @@ with_kept_second : {X A : Type 0} (s : DevState) (r : Option (X × A)) (P : A �
 with_kept_second s None P h = tt
 with_kept_second s (Some r) P h = h
 
-outcomes_by : {X : Type 0} (d : Device X) (s : State X) (t : Transfer) (o : Option Setup) → IsOwn d → IsTransfer t → t.setup ≡ o → IfSome o (λ r. is_in_setup r ≡ is_in_endpoint t.ep) → IfSome (perform d s t) (λ done. IsOutcome t done.1)
+outcomes_by : {X : Type 0} (d : Device X) (s : State X) (t : Transfer) (o : Option Setup) → IsFunction d → IsTransfer t → t.setup ≡ o → IfSome o (λ r. is_in_setup r ≡ is_in_endpoint t.ep) → IfSome (perform d s t) (λ done. IsOutcome t done.1)
 outcomes_by d s t None own it e h =
     rw (not_ready d s t e)
     (cond_both (is_running (device_parts d) s.device t.ep) (with_kept s.device (d.transfer s.kept t)) (Some (s, stall)) (λ o. IfSome o (λ done. IsOutcome t done.1))
     (λ r. with_kept_second s.device (d.transfer s.kept t) (IsOutcome t) (own.outcomes s.kept t it e)) (λ r. stall_outcome t))
 outcomes_by d s t (Some r) own it e h = rw (performed d s t r e) (request_outcome d.set (device_parts d) s.device r t (request_of r) refl h)
 
-packets_by : {X : Type 0} (d : Device X) (s : State X) (ep : ℕ) → IsOwn d → IfSome (offer d s ep) (λ sent. length sent.1.body ≤ 65535)
+packets_by : {X : Type 0} (d : Device X) (s : State X) (ep : ℕ) → IsFunction d → IfSome (offer d s ep) (λ sent. length sent.1.body ≤ 65535)
 packets_by d s ep own =
     cond_both (is_running (device_parts d) s.device ep) (with_kept s.device (d.packet s.kept ep)) None (λ o. IfSome o (λ sent. length sent.1.body ≤ 65535))
     (λ r. with_kept_second s.device (d.packet s.kept ep) (λ p. length p.body ≤ 65535) (own.packets s.kept ep)) (λ r. tt)
@@ -178,19 +170,19 @@ request_named set parts s r wanted None = refl
 request_named set parts s r wanted (Some (Read read)) = read_named r.length wanted (given_by set parts s r read)
 request_named set parts s r wanted (Some (Write write)) = write_named (changed_by parts s r write)
 
-named_by : {X : Type 0} (d : Device X) (s : State X) (t : Transfer) (o : Option Setup) → IsOwn d → t.setup ≡ o → IfSome (perform d s t) (λ done. IsNamed done.1.status)
+named_by : {X : Type 0} (d : Device X) (s : State X) (t : Transfer) (o : Option Setup) → IsFunction d → t.setup ≡ o → IfSome (perform d s t) (λ done. IsNamed done.1.status)
 named_by d s t None own e =
     rw (not_ready d s t e)
     (cond_both (is_running (device_parts d) s.device t.ep) (with_kept s.device (d.transfer s.kept t)) (Some (s, stall)) (λ o. IfSome o (λ done. IsNamed done.1.status))
     (λ r. with_kept_second s.device (d.transfer s.kept t) (λ o. IsNamed o.status) (own.named s.kept t)) (λ r. refl))
 named_by d s t (Some r) own e = rw (performed d s t r e) (request_named d.set (device_parts d) s.device r t.wanted (request_of r))
 
-offer_named_by : {X : Type 0} (d : Device X) (s : State X) (ep : ℕ) → IsOwn d → IfSome (offer d s ep) (λ sent. IsNamed sent.1.status)
+offer_named_by : {X : Type 0} (d : Device X) (s : State X) (ep : ℕ) → IsFunction d → IfSome (offer d s ep) (λ sent. IsNamed sent.1.status)
 offer_named_by d s ep own =
     cond_both (is_running (device_parts d) s.device ep) (with_kept s.device (d.packet s.kept ep)) None (λ o. IfSome o (λ sent. IsNamed sent.1.status))
     (λ r. with_kept_second s.device (d.packet s.kept ep) (λ p. IsNamed p.status) (own.packets_named s.kept ep)) (λ r. tt)
 
-pub lawful : {X : Type 0} (d : Device X) → IsOwn d → IsGadget (meaning_of d)
+pub lawful : {X : Type 0} (d : Device X) → IsFunction d → IsGadget (meaning_of d)
 lawful d own = record {
   ready = λ s t it c. ready_by d s t t.setup (it.has_setup ∙ c);
   resets = λ s t r it e q. resets_by d s t r e q;

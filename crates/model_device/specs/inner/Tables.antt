@@ -7,32 +7,13 @@ use Rattle.std.proofs.lemmas.List.{get_or-replicate, set_past}
 use Rattle.usb_base.specs.Endpoint.{endpoint_index, is_in_endpoint, no_endpoint, no_endpoints}
 use Rattle.usb_base.specs.declared.endpoint.EpRow.{EpRow}
 use Rattle.usb_base.specs.declared.endpoint.EpKind.{EpKind}
-use Rattle.usb_base.specs.declared.endpoint.EpKind.TheVariants.{Control, Iso, Bulk, Interrupt, Invalid}
+use Rattle.usb_base.specs.declared.endpoint.EpKind.TheVariants.{Iso, Invalid}
 use Rattle.chapter9.specs.declared.part.Part.{Part}
 use Rattle.chapter9.specs.declared.part.Part.TheVariants.{Config, Interface, Endpoint, Other}
 use Rattle.chapter9.specs.declared.state.DevState.{DevState}
 use Rattle.chapter9.specs.State.{is_configured}
 use Rattle.chapter9.specs.Table.{Placed, control_in, control_out, control_row, control_rows, endpoints_after, endpoints_of, interface_after, placed, table_of, with_row, with_rows}
-
-abbrev pub is_iso : EpKind → Bool
-is_iso Iso = true
-is_iso Control = false
-is_iso Bulk = false
-is_iso Interrupt = false
-is_iso Invalid = false
-
--- an endpoint from the device, or one that isn't isochronous
-abbrev pub is_fine : ℕ → EpKind → Bool
-is_fine ep kind = is_in_endpoint ep || not (is_iso kind)
-
-abbrev pub is_fine_part : Part → Bool
-is_fine_part (Endpoint ep kind max_packet interval) = is_fine ep kind
-is_fine_part (Config value interfaces) = true
-is_fine_part (Interface number alt class subclass protocol) = true
-is_fine_part (Other kind) = true
-
-abbrev pub no_iso_out : List Part → Bool
-no_iso_out parts = list_all is_fine_part parts
+use Rattle.model_device.specs.Function.{is_fine, is_fine_part, is_iso, no_iso_out}
 
 -- rows of which none below 16 is isochronous
 abbrev Fine : List EpRow → Type 0

@@ -1,18 +1,34 @@
--- The keyboard, the loop and the tone are devices.
+-- What the keyboard, the loop and the tone do are functions.
 use Rattle.std.proofs.Common.{◌≡◌, ℕ, ◌+◌, ◌≤◌, true, false, List, length, None, refl, sym, ◌∙◌, arith}
 use Rattle.std.specs.Prelude.{◌==◌, ◌&&◌, nat_lt, not, IfSome}
 use Rattle.std.proofs.lemmas.Bool.{false≢true, cond_both}
 use Rattle.std.proofs.lemmas.List.{length-take, length-replicate}
 use Rattle.usb_base.specs.Endpoint.{is_in_endpoint}
+use Rattle.usb_base.specs.Number.{le_at}
 use Rattle.usb_base.specs.declared.transfer.Transfer.{Transfer}
+use Rattle.chapter9.specs.Descriptors.{wrong_place}
 use Rattle.model_device.specs.Transfer.{IsTransfer, IsOutcome}
-use Rattle.model_device.specs.Gadget.{IsGadget, IsNamed}
-use Rattle.model_device.specs.Device.{device_parts, meaning_of}
+use Rattle.model_device.specs.Gadget.{IsNamed}
+use Rattle.model_device.specs.Device.{device_parts}
+use Rattle.model_device.specs.Function.{IsFunction, no_iso_out}
 use Rattle.model_device.specs.Keyboard.{keyboard}
 use Rattle.model_device.specs.Loopback.{given_back, limit, loopback, taken_in}
 use Rattle.model_device.specs.Tone.{samples, tone}
-use Rattle.model_device.specs.inner.Lawful.{lawful, stall_outcome}
-use Rattle.model_device.specs.inner.Tables.{no_iso_out}
+use Rattle.model_device.specs.inner.Lawful.{stall_outcome}
+
+-- ---- each configuration is right
+
+keyboard_walks : wrong_place keyboard.set.config ≡ None
+unfolding keyboard le_at
+keyboard_walks = refl
+
+loopback_walks : wrong_place loopback.set.config ≡ None
+unfolding loopback le_at
+loopback_walks = refl
+
+tone_walks : wrong_place tone.set.config ≡ None
+unfolding tone le_at
+tone_walks = refl
 
 -- ---- no endpoint to the device is isochronous
 
@@ -79,14 +95,14 @@ loop_named held t = cond_both (is_in_endpoint t.ep) (given_back held t.wanted) (
 
 -- ---- the three
 
-pub keyboard_lawful : IsGadget (meaning_of keyboard)
+pub keyboard_lawful : IsFunction keyboard
 unfolding keyboard
-keyboard_lawful = lawful keyboard (record { outcomes = λ key t it e. stall_outcome t; packets = keyboard_packets; named = λ key t. refl; packets_named = keyboard_named; endpoints = keyboard_endpoints })
+keyboard_lawful = record { configuration = keyboard_walks; outcomes = λ key t it e. stall_outcome t; packets = keyboard_packets; named = λ key t. refl; packets_named = keyboard_named; endpoints = keyboard_endpoints }
 
-pub loopback_lawful : IsGadget (meaning_of loopback)
+pub loopback_lawful : IsFunction loopback
 unfolding loopback
-loopback_lawful = lawful loopback (record { outcomes = λ held t it e. loop_outcomes held t it; packets = λ held ep. tt; named = loop_named; packets_named = λ held ep. tt; endpoints = loop_endpoints })
+loopback_lawful = record { configuration = loopback_walks; outcomes = λ held t it e. loop_outcomes held t it; packets = λ held ep. tt; named = loop_named; packets_named = λ held ep. tt; endpoints = loop_endpoints }
 
-pub tone_lawful : IsGadget (meaning_of tone)
+pub tone_lawful : IsFunction tone
 unfolding tone
-tone_lawful = lawful tone (record { outcomes = λ sample t it e. stall_outcome t; packets = tone_packets; named = λ sample t. refl; packets_named = tone_named; endpoints = tone_endpoints })
+tone_lawful = record { configuration = tone_walks; outcomes = λ sample t it e. stall_outcome t; packets = tone_packets; named = λ sample t. refl; packets_named = tone_named; endpoints = tone_endpoints }

@@ -2,4 +2,5 @@
 pub mod Sound
 pub mod Each
 pub mod Numbered
+pub mod Queued
 pub mod Cancelled

@@ -3,7 +3,10 @@ pub mod Examples
 pub mod Acts
 pub mod Makes
 pub mod Stands
+pub mod Wanted
 pub mod Counted
+pub mod Paired
+pub mod Finished
 pub mod Replied
 pub mod InOrder
 pub mod Statuses

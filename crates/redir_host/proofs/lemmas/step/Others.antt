@@ -39,7 +39,8 @@ use Rattle.redir_host.specs.step.Moves.{Move, quiet}
 use Rattle.redir_host.specs.write.Answers.{answer, cancelled, ended}
 use Rattle.redir_host.proofs.lemmas.state.Each.{each_filtered, each_found, each_joined}
 use Rattle.redir_host.proofs.lemmas.state.Sound.{each-without, unplugged-by}
-use Rattle.redir_host.proofs.lemmas.step.Replied.{Answers, AsksAnswers, Same, data-answers, queue-answers, run-queue}
+use Rattle.redir_host.proofs.lemmas.step.Paired.{Answers, Same, queue-answers}
+use Rattle.redir_host.proofs.lemmas.step.Replied.{AsksAnswers, data-answers, run-queue}
 
 -- each request of the queue has answers that are told as such
 abbrev IsAnswered : Request → Type 0

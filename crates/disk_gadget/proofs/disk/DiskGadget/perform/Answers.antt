@@ -13,9 +13,9 @@ pub returns-else-is_in-clause-outcome : goal.returns-else-is_in-clause-outcome
 unfolding described
 returns-else-is_in-clause-outcome c =
     let t = c.args.transfer.now in
-    let d = disk_of c.self.inside.device.state c.self.inside.course c.self.inside.medium in
+    let d = disk_of c.self.inside.framework.state c.self.inside.course c.self.inside.medium in
     let s : c.args.transfer.now.setup ≡ None = search rules in
-    let r : is_running (device_parts described) c.self.inside.device.state c.args.transfer.now.ep ≡ true = search rules in
+    let r : is_running (device_parts described) c.self.inside.framework.state c.args.transfer.now.ep ≡ true = search rules in
     let i : is_in_endpoint c.args.transfer.now.ep ≡ false = search rules in
     subst (λ d. IfOk c.take.result (λ outcome. outcome ≡ given_in (disk_step d t))) c.self.view_is
     (subst (λ x. IfOk c.take.result (λ outcome. outcome ≡ x)) (sym (ap given_in (step_out d t s r i) ∙ outcome_turned d.blocks d.state.device (turn_out d t))) c.take.ensures.outcome)
@@ -24,9 +24,9 @@ pub returns-else-is_in-clause-state : goal.returns-else-is_in-clause-state
 unfolding described
 returns-else-is_in-clause-state c =
     let t = c.args.transfer.now in
-    let d = disk_of c.self.inside.device.state c.self.inside.course c.self.inside.medium in
+    let d = disk_of c.self.inside.framework.state c.self.inside.course c.self.inside.medium in
     let s : c.args.transfer.now.setup ≡ None = search rules in
-    let r : is_running (device_parts described) c.self.inside.device.state c.args.transfer.now.ep ≡ true = search rules in
+    let r : is_running (device_parts described) c.self.inside.framework.state c.args.transfer.now.ep ≡ true = search rules in
     let i : is_in_endpoint c.args.transfer.now.ep ≡ false = search rules in
     subst (λ d. OnOk c.take.result (disk_of c.take.new.device c.take.new.course c.take.new.medium ≡ state_in d (disk_step d t))) c.self.view_is
     (subst (λ x. OnOk c.take.result (disk_of c.take.new.device c.take.new.course c.take.new.medium ≡ x)) (sym (ap (state_in d) (step_out d t s r i) ∙ state_turned d (turn_out d t)))

@@ -1,8 +1,12 @@
 use Rattle.std.proofs.Common.{◌≡◌, true, false, sym, subst}
 use Rattle.std.specs.Prelude.{Option, IsSomeAnd}
-use Rattle.std.proofs.lemmas.Result.{IfOk-weaker}
+use Rattle.std.proofs.lemmas.Result.{IfOk-weaker, on_err_weaker}
 use Rattle.redir_host.specs.declared.request.Request.{Request}
+use Rattle.redir_host.specs.state.Queues.{is_at}
+use Rattle.redir_host.specs.state.Sound.{IsRequest}
+use Rattle.redir_host.proofs.lemmas.state.Each.{each_found}
 use Rattle.redir_host.proofs.lemmas.step.Makes.{first_done, first_none, on_ok_from}
+use Rattle.redir_host.proofs.lemmas.step.Wanted.{marked-some, on_err_from, unmarked-some}
 use Rattle.redir_host.proofs.host.Host.perform.Goals as goal
 
 pub perform_marked-requires-clause-marked : goal.perform_marked-requires-clause-marked
@@ -33,3 +37,15 @@ returns-in_default-clause-told g c = (first_none g.G.Gadget.meaning c.args.self.
 
 pub returns-in_default-clause-makes : goal.returns-in_default-clause-makes
 returns-in_default-clause-makes g c = (first_none g.G.Gadget.meaning c.args.self.now c.args.ep c.args.out.now c.if-self.false (sym c.in_default.ensures)).1
+
+pub returns-then-request-clause-wants : goal.returns-then-request-clause-wants
+returns-then-request-clause-wants g c =
+    let h = c.args.self.now in
+    let here = sym c.in-Some.ensures in
+    let is = (each_found (IsRequest h.guest) (is_at c.args.ep) h.queue c.in-Some.request.now c.requires.requests here).0 in
+    on_err_from c.perform_marked.result _ (marked-some g.G.Gadget.meaning g.met.G.Gadget.lawful h c.args.ep c.in-Some.request.now c.if-self.false here c.if-request.true is)
+
+pub returns-else-request-clause-wants : goal.returns-else-request-clause-wants
+returns-else-request-clause-wants g c =
+    let h = c.args.self.now in
+    on_err_weaker c.perform_unmarked.result (unmarked-some g.G.Gadget.meaning h c.args.ep c.in-Some.request.now c.if-self.false (sym c.in-Some.ensures) c.if-request.false) c.perform_unmarked.ensures.wants

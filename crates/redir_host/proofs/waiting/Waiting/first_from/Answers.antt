@@ -7,7 +7,7 @@ use Rattle.std.specs.BTreeSet.{contains}
 use Rattle.std.specs.declared.ops.Bound.TheVariants.{Included}
 use Rattle.std.proofs.Common.{◌≡◌, true}
 use Rattle.redir_host.specs.inner.Waiting.{key_cmp}
-use Rattle.redir_host.proofs.lemmas.state.Numbered.{none_between, some_between}
+use Rattle.redir_host.proofs.lemmas.state.Queued.{none_between, some_between}
 use Rattle.redir_host.proofs.waiting.Waiting.first_from.Goals as goal
 
 pub returns-in_err-first : goal.returns-in_err-first

@@ -5,7 +5,8 @@ use Rattle.std.proofs.lemmas.Fn.{filter_same}
 use Rattle.std.proofs.lemmas.Map.Entries.{filter_from_retain_pairs}
 use Rattle.redir_host.specs.declared.request.Request.{Request}
 use Rattle.redir_host.specs.device.Changes.{stays}
-use Rattle.redir_host.proofs.lemmas.state.Numbered.{Below, below_filtered, waits_filtered}
+use Rattle.redir_host.proofs.lemmas.state.Numbered.{Below}
+use Rattle.redir_host.proofs.lemmas.state.Queued.{below_filtered, waits_filtered}
 use Rattle.redir_host.proofs.waiting.Waiting.flush.Goals as goal
 
 pub returns-clause-rest : goal.returns-clause-rest

@@ -6,7 +6,8 @@ use Rattle.std.specs.Map.{lookup, set_value}
 use Rattle.redir_host.specs.declared.request.Request.{Request}
 use Rattle.redir_host.specs.state.Queues.{marked}
 use Rattle.std.specs.Ordering.{nat_cmp}
-use Rattle.redir_host.proofs.lemmas.state.Numbered.{Below, any_found, below_set, found_lookup, mark_set, mark_unset, numbered, still_waits, unnumbered}
+use Rattle.redir_host.proofs.lemmas.state.Numbered.{Below, found_lookup, numbered, unnumbered}
+use Rattle.redir_host.proofs.lemmas.state.Queued.{any_found, below_set, mark_set, mark_unset, still_waits}
 use Rattle.redir_host.specs.inner.Waiting.{is_from}
 use Rattle.redir_host.proofs.waiting.Waiting.mark_from.Goals as goal
 

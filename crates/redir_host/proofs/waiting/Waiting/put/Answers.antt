@@ -6,7 +6,8 @@ use Rattle.std.specs.Ordering.{nat_cmp}
 use Rattle.std.proofs.lemmas.Bool.{eq-eqb}
 use Rattle.redir_host.specs.inner.Waiting.{key_cmp, waits_in}
 use Rattle.redir_host.specs.state.Queues.{queue_of}
-use Rattle.redir_host.proofs.lemmas.state.Numbered.{Below, inserted, all_below, none_at, moved, only_own, undone}
+use Rattle.redir_host.proofs.lemmas.state.Numbered.{Below, inserted, all_below, none_at}
+use Rattle.redir_host.proofs.lemmas.state.Queued.{moved, only_own, undone}
 use Rattle.redir_host.proofs.waiting.Waiting.put.Goals as goal
 
 pub returns-in-Ok-clause-ok : goal.returns-in-Ok-clause-ok

@@ -4,7 +4,8 @@ use Rattle.std.specs.BTreeSet.{contains}
 use Rattle.std.specs.Ordering.{nat_cmp}
 use Rattle.redir_host.specs.inner.Waiting.{key_cmp}
 use Rattle.redir_host.specs.state.Queues.{queue_of}
-use Rattle.redir_host.proofs.lemmas.state.Numbered.{Below, below_removed, moved, only_own}
+use Rattle.redir_host.proofs.lemmas.state.Numbered.{Below}
+use Rattle.redir_host.proofs.lemmas.state.Queued.{below_removed, moved, only_own}
 use Rattle.redir_host.proofs.waiting.Waiting.remove.Goals as goal
 
 pub returns-clause-indexed : goal.returns-clause-indexed
