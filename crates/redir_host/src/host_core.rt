@@ -58,14 +58,14 @@ impl<G: Gadget> HostCore<G> {
         ensures fails { OnErr result (HasFailed self.new) }
         ensures failed { HasFailed self.old → IsErr result × (self.new ≡ self.old) × (out.new ≡ out.old) }
     {
-        if self.kept.failed {
-            return Err(Memory);
+        if let Some(memory) = self.kept.want {
+            return Err(memory);
         }
         let mut notes = HostNotes::new(self.kept.alloc);
         match self.kept.take(bytes, out, &mut notes) {
             Ok(()) => Ok(notes),
             Err(memory) => {
-                self.kept.failed = true;
+                self.kept.want = Some(memory);
                 Err(memory)
             }
         }
@@ -84,13 +84,13 @@ impl<G: Gadget> HostCore<G> {
         ensures fails { OnErr result (HasFailed self.new) }
         ensures failed { HasFailed self.old → IsErr result × (self.new ≡ self.old) }
     {
-        if self.kept.failed {
-            return Err(Memory);
+        if let Some(memory) = self.kept.want {
+            return Err(memory);
         }
         match self.kept.perform(ep, out) {
             Ok(told) => Ok(told),
             Err(memory) => {
-                self.kept.failed = true;
+                self.kept.want = Some(memory);
                 Err(memory)
             }
         }
@@ -109,13 +109,13 @@ impl<G: Gadget> HostCore<G> {
         ensures fails { OnErr result (HasFailed self.new) }
         ensures failed { HasFailed self.old → IsErr result × (self.new ≡ self.old) }
     {
-        if self.kept.failed {
-            return Err(Memory);
+        if let Some(memory) = self.kept.want {
+            return Err(memory);
         }
         match self.kept.offer(ep, out) {
             Ok(told) => Ok(told),
             Err(memory) => {
-                self.kept.failed = true;
+                self.kept.want = Some(memory);
                 Err(memory)
             }
         }
@@ -134,13 +134,13 @@ impl<G: Gadget> HostCore<G> {
         ensures fails { OnErr result (HasFailed self.new) }
         ensures failed { HasFailed self.old → IsErr result × (self.new ≡ self.old) }
     {
-        if self.kept.failed {
-            return Err(Memory);
+        if let Some(memory) = self.kept.want {
+            return Err(memory);
         }
         match self.kept.unplug(out) {
             Ok(told) => Ok(told),
             Err(memory) => {
-                self.kept.failed = true;
+                self.kept.want = Some(memory);
                 Err(memory)
             }
         }

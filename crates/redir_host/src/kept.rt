@@ -31,8 +31,8 @@ pub struct Kept<G> {
     pub alloc: Global,
     pub stream: Stream<FromGuest>,
     pub host: Host<G>,
-    /// Memory ran out in an earlier call.
-    pub failed: bool,
+    /// What was told as memory ran out in an earlier call.
+    pub want: Option<Memory>,
 }
 
 impl<G: Gadget> Kept<G> {
@@ -44,7 +44,7 @@ impl<G: Gadget> Kept<G> {
             alloc,
             stream: Stream::new(alloc, RedirState::start()),
             host: Host::new(alloc, gadget),
-            failed: false,
+            want: None,
         }
     }
 
@@ -72,7 +72,7 @@ impl<G: Gadget> Kept<G> {
                 notes.push(HostNote::Refused { place, reason })?;
                 Ok(())
             }
-            Err(ReadError::Memory) => Err(Memory),
+            Err(ReadError::Memory(memory)) => Err(memory),
         }
     }
 

@@ -107,9 +107,9 @@ impl Waiting {
                 self.next += 1;
                 Ok(())
             }
-            Err(_) => {
+            Err(error) => {
                 self.queues.remove(&key);
-                Err(Memory)
+                Err(error.into())
             }
         }
     }

@@ -47,13 +47,13 @@ pub record LeavesOne {S : Type 0} (m : Meaning S) (old : Host S) (old_out new_ou
 abbrev pub LeavesWanted : {T S : Type 0} → Result T ReadError → Meaning S → Stream RedirState → Host S → List ℕ → List ℕ → Type 0
 LeavesWanted (Ok v) m stream old old_out new_out = Unit {0}
 LeavesWanted (Err (Refused place reason)) m stream old old_out new_out = Unit {0}
-LeavesWanted (Err Memory) m stream old old_out new_out = (bytes : List ℕ) (given : List (ℕ × (Header × RedirPacket))) → Follows guest_reader guest_start stream bytes given → LeavesOne m old old_out new_out bytes given
+LeavesWanted (Err (Memory memory)) m stream old old_out new_out = (bytes : List ℕ) (given : List (ℕ × (Header × RedirPacket))) → Follows guest_reader guest_start stream bytes given → LeavesOne m old old_out new_out bytes given
 
 -- unless memory ran out
 abbrev pub OnRead : {T : Type 0} → Result T ReadError → Type 0 → Type 0
 OnRead (Ok v) P = P
 OnRead (Err (Refused place reason)) P = P
-OnRead (Err Memory) P = Unit {0}
+OnRead (Err (Memory memory)) P = Unit {0}
 
 -- the host was given these packets, and what they send was sent
 pub record TookPackets {T S : Type 0} (result : Result T ReadError) (m : Meaning S) (old new : Host S) (old_out new_out : List ℕ) (old_notes new_notes : List HostNote) (more : List (ℕ × (Header × RedirPacket))) : Type 0 where

@@ -1,6 +1,5 @@
 use Rattle.std.proofs.Common.{Ok, ap, ◌∙◌}
 use Rattle.packet_stream.proofs.Loops.{goes-more, goes-none, takes-all, takes-err, takes-memory, takes-weaker}
-use Rattle.packet_stream.specs.declared.read.ReadError.TheVariants.{Memory}
 use Rattle.redir_data.specs.Packets.{takes_memory}
 use Rattle.redir_host.specs.guest.Guest.{guest_reader}
 use Rattle.redir_host.specs.guest.Takings.{TookPackets}
@@ -71,6 +70,6 @@ pub returns-in_err-take_packet-clause-wants : goal.returns-in_err-take_packet-cl
 returns-in_err-take_packet-clause-wants g c =
     let m = g.G.Gadget.meaning in
     let l = c.loop-header in
-    leaves-wanted c.from_residual-in_err-take_packet.result Memory m c.args.stream.now c.args.host.now c.args.out.now c.take_packet.new.out c.from_residual-in_err-take_packet.ensures.1
-    (λ same. leaves-taken m c.args.stream.now l.stream c.next.new.self c.args.host.now l.host c.args.out.now l.out c.take_packet.new.out c.args.notes.now l.notes c.next.result (c.in-Some.field-0-0, (c.in-Some.header, c.in-Some.packet)) l.invariant c.next.ensures.follows (c.in_ok-header.was ∙ ap (λ o. Ok o) c.in-Some.is)
+    leaves-wanted c.from_residual-in_err-take_packet.result _ m c.args.stream.now c.args.host.now c.args.out.now c.take_packet.new.out c.from_residual-in_err-take_packet.ensures.1
+    (λ memory same. leaves-taken m c.args.stream.now l.stream c.next.new.self c.args.host.now l.host c.args.out.now l.out c.take_packet.new.out c.args.notes.now l.notes c.next.result (c.in-Some.field-0-0, (c.in-Some.header, c.in-Some.packet)) l.invariant c.next.ensures.follows (c.in_ok-header.was ∙ ap (λ o. Ok o) c.in-Some.is)
     c.in_err-take_packet.ensures.err c.in_err-take_packet.ensures.wants)

@@ -9,6 +9,7 @@ use Rattle.packet_stream.specs.Loops.{TakesPackets}
 use Rattle.packet_stream.specs.Split.{Splitting, further_by}
 use Rattle.packet_stream.specs.Streams.{Kept as Stream, after_piece, Drained, Puts, capped}
 use Rattle.packet_stream.specs.declared.read.ReadError.{ReadError}
+use Rattle.usb_base.specs.declared.memory.Memory.{Memory as NoMemory}
 use Rattle.packet_stream.specs.declared.read.ReadError.TheVariants.{Refused as IsRefused, Memory}
 use Rattle.packet_stream.proofs.Laws.{split-more}
 use Rattle.packet_stream.proofs.Pieces.{added-more, added-front}
@@ -166,8 +167,8 @@ stops-first m s old acts piece o stands wants =
 
 -- for a packet
 pub stops-packet : {S : Type 0} (m : Meaning S) (s : S) (old : HostKept S) (stream : Stream RedirState) (acts : List Act) (piece o0 o1 : List ℕ) → AreBytes piece → Stands m s old acts → old.stream.over ≡ false → stream ≡ after_piece old.stream piece → Puts guest_reader piece old.stream stream →
-    (e : ReadError) → e ≡ Memory → LeavesWanted {T = Unit {0}} (Err e) m stream old.host o0 o1 → Stops m s acts (Piece piece) o0 o1
-stops-packet {S = S} m s old stream acts piece o0 o1 are stands going is puts e same leaves =
+    (e : ReadError) (memory : NoMemory) → e ≡ Memory memory → LeavesWanted {T = Unit {0}} (Err e) m stream old.host o0 o1 → Stops m s acts (Piece piece) o0 o1
+stops-packet {S = S} m s old stream acts piece o0 o1 are stands going is puts e memory same leaves =
     let bytes = guest_bytes acts in
     let x = guest_split bytes in
     let y = guest_split (bytes ++ piece) in

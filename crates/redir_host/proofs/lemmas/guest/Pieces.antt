@@ -10,6 +10,7 @@ use Rattle.packet_stream.specs.Items.{SideStream}
 use Rattle.packet_stream.specs.Loops.{Goes}
 use Rattle.packet_stream.specs.Split.{Position, past, Spells}
 use Rattle.packet_stream.specs.Streams.{Kept as Stream, after_piece, Follows, Drained, Gives, Answered, Nexts, Puts, Wants as StreamWants, capped}
+use Rattle.usb_base.specs.declared.memory.Memory.{Memory as NoMemory}
 use Rattle.packet_stream.specs.declared.read.ReadError.{ReadError}
 use Rattle.packet_stream.specs.declared.read.ReadError.TheVariants.{Refused as IsRefused, Memory}
 use Rattle.packet_stream.proofs.Following.{drained-follows, follows-front, over_after}
@@ -135,18 +136,18 @@ going-given m first kept old mid o0 o1 n0 n1 bytes given goes is =
 took-any : {T : Type 0} (r : Result T ReadError) (P : Type 0) → P → OnRead r P
 took-any (Ok v) P p = p
 took-any (Err (IsRefused place reason)) P p = p
-took-any (Err Memory) P p = tt
+took-any (Err (Memory memory)) P p = tt
 
 pub going-ended : {S : Type 0} (r : Result (Unit {0}) ReadError) (m : Meaning S) (old new : Host S) (o0 o1 : List ℕ) (n0 n1 : List HostNote) (more : List Found) → Going m old new o0 o1 n0 n1 more → TookPackets r m old new o0 o1 n0 n1 more
 going-ended r m old new o0 o1 n0 n1 more g = record { sent = g.sent; took = took-any r (Took m old new n0 n1 more) g.took }
 
-no-memory : {T : Type 0} (r : Result T ReadError) (P : Type 0) → IsErrAnd r (λ y. y ≡ Memory) → OnRead r P
+no-memory : {T : Type 0} {memory : NoMemory} (r : Result T ReadError) (P : Type 0) → IsErrAnd r (λ y. y ≡ Memory memory) → OnRead r P
 no-memory (Ok v) P is = absurd is
-no-memory (Err (IsRefused place reason)) P is = absurd (let no : IsRefused place reason ≡ Memory = is in cc)
-no-memory (Err Memory) P is = tt
+no-memory (Err (IsRefused place reason)) P is = absurd cc
+no-memory (Err (Memory memory)) P is = tt
 
 -- memory ran out for a packet, and the output was cut to what was there before it
-pub going-stopped : {S : Type 0} (r : Result (Unit {0}) ReadError) (m : Meaning S) (old mid new : Host S) (o0 o1 o2 : List ℕ) (n0 n1 n2 : List HostNote) → IsErrAnd r (λ y. y ≡ Memory) → o2 ≡ o1 →
+pub going-stopped : {S : Type 0} {memory : NoMemory} (r : Result (Unit {0}) ReadError) (m : Meaning S) (old mid new : Host S) (o0 o1 o2 : List ℕ) (n0 n1 n2 : List HostNote) → IsErrAnd r (λ y. y ≡ Memory memory) → o2 ≡ o1 →
     (more : List Found) → Going m old mid o0 o1 n0 n1 more → TookPackets r m old new o0 o2 n0 n2 more
 going-stopped r m old mid new o0 o1 o2 n0 n1 n2 is cut more g = record { sent = cut ∙ g.sent; took = no-memory r (Took m old new n0 n2 more) is }
 
@@ -158,8 +159,8 @@ asks-memory header (Carrying p) takes = takes
 
 -- for a packet that is read
 pub leaves-read : {S : Type 0} (m : Meaning S) (first kept new : Stream RedirState) (old mid : Host S) (o0 o1 : List ℕ) (n0 n1 : List HostNote) (result : Result (Option Found) ReadError) (e : ReadError) →
-    Goes guest_reader first kept (Going m old mid o0 o1 n0 n1) → Nexts guest_reader redir_takes_memory result kept new → result ≡ Err e → e ≡ Memory → (bytes : List ℕ) (given : List Found) → Follows guest_reader guest_start first bytes given → LeavesOne m old o0 o1 bytes given
-leaves-read m first kept new old mid o0 o1 n0 n1 result e goes nexts answered same bytes given f =
+    Goes guest_reader first kept (Going m old mid o0 o1 n0 n1) → Nexts guest_reader redir_takes_memory result kept new → result ≡ Err e → (memory : NoMemory) → e ≡ Memory memory → (bytes : List ℕ) (given : List Found) → Follows guest_reader guest_start first bytes given → LeavesOne m old o0 o1 bytes given
+leaves-read m first kept new old mid o0 o1 n0 n1 result e goes nexts answered memory same bytes given f =
     let w = goes.goes guest_start bytes given f in
     let n : StreamWants redir_takes_memory (guest_split bytes) (given ++ w.more) =
     subst (λ (x : Result (Option Found) ReadError). Answered guest_reader redir_takes_memory guest_start x new bytes (given ++ w.more)) (answered ∙ ap (λ (x : ReadError). Err x) same) (nexts guest_start bytes (given ++ w.more) w.follows) in
@@ -184,10 +185,10 @@ leaves-taken {S = S} m first kept new old mid o0 o1 o2 n0 n1 result i goes nexts
     }
 
 pub leaves-wanted : {T S : Type 0} (r : Result T ReadError) (e : ReadError) (m : Meaning S) (stream : Stream RedirState) (old : Host S) (o0 o1 : List ℕ) → IsErrAnd r (λ y. y ≡ e) →
-    (e ≡ Memory → (bytes : List ℕ) (given : List Found) → Follows guest_reader guest_start stream bytes given → LeavesOne m old o0 o1 bytes given) → LeavesWanted r m stream old o0 o1
+    ((memory : NoMemory) → e ≡ Memory memory → (bytes : List ℕ) (given : List Found) → Follows guest_reader guest_start stream bytes given → LeavesOne m old o0 o1 bytes given) → LeavesWanted r m stream old o0 o1
 leaves-wanted (Ok v) e m stream old o0 o1 is leaves = tt
 leaves-wanted (Err (IsRefused place reason)) e m stream old o0 o1 is leaves = tt
-leaves-wanted (Err Memory) e m stream old o0 o1 is leaves = leaves (sym is)
+leaves-wanted (Err (Memory memory)) e m stream old o0 o1 is leaves = leaves memory (sym is)
 
 -- ---- what a piece brings
 

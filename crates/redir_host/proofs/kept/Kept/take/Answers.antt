@@ -37,7 +37,7 @@ returns-in_ok-push-in-Err-Refused-clause-ok g c first acts stands =
 pub returns-in-Err-Memory-clause-err : goal.returns-in-Err-Memory-clause-err
 returns-in-Err-Memory-clause-err g c first acts stands =
     stops-packet g.G.Gadget.meaning first (kept_of c.args.self.now) c.put.new.self acts c.args.piece.now c.args.out.now c.take_packets.new.out
-    (λ i. omega (arith, c.type_inv.piece i)) stands (sym c.is_over.ensures ∙ c.if-is_over.false) c.in_ok-put.ensures.ok c.in_ok-put.ensures.follows c.in-Err-Memory.field-0 c.in-Err-Memory.field-0-is c.in-Err-Memory.ensures.wants
+    (λ i. omega (arith, c.type_inv.piece i)) stands (sym c.is_over.ensures ∙ c.if-is_over.false) c.in_ok-put.ensures.ok c.in_ok-put.ensures.follows c.in-Err-Memory.field-0 _ c.in-Err-Memory.field-0-is c.in-Err-Memory.ensures.wants
 
 pub returns-in_err-put-clause-err : goal.returns-in_err-put-clause-err
 returns-in_err-put-clause-err g c =
