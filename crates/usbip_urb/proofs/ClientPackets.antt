@@ -61,7 +61,7 @@ wants_as takes takes' to same (Wrong place reason) wants = absurd wants
 error_as : {P X : Type 0} (takes : P → Bool) (takes' : X → Bool) (to : P → X) → ((p : P) → takes' (to p) ≡ takes p) → (e : ReadError) (found : Found P Reason) →
     Answers takes (Err e) found → Answers takes' (Err e) (found_as to found)
 error_as takes takes' to same (Refused place reason) found h = ap (found_as to) h
-error_as takes takes' to same Memory found h = wants_as takes takes' to same found h
+error_as takes takes' to same (Memory memory) found h = wants_as takes takes' to same found h
 
 pub handed_on : {P X : Type 0} (takes : P → Bool) (takes' : X → Bool) (to : P → X) → ((p : P) → takes' (to p) ≡ takes p) → (e : ReadError) (r : Result (Read X) ReadError) (found : Found P Reason) →
     IsErrAnd r (λ (x : ReadError). x ≡ e) → Answers takes (Err e) found → Answers takes' r (found_as to found)
