@@ -241,13 +241,27 @@ fn status_outcome(alloc: Global, status: u8, tells: bool, value: u8) -> Result<O
     })
 }
 
-/// The IN endpoint of whose stream a packet is, and whether it is an isochronous one.
-pub fn stream_in(packet: &RedirData) -> Option<(u8, bool)>
+/// Of whose stream a packet is, as it says itself.
+#[derive(Clone, Copy)]
+pub struct StreamIn {
+    /// The byte of an IN endpoint, which may be no address.
+    pub endpoint: u8,
+    pub is_iso: bool,
+}
+
+/// The IN endpoint of whose stream a packet is, if it is one's.
+pub fn stream_in(packet: &RedirData) -> Option<StreamIn>
     ensures { result ≡ stream_in packet.now }
 {
     match packet {
-        RedirData::Interrupt { endpoint, .. } if *endpoint >= 0x80 => Some((*endpoint, false)),
-        RedirData::Iso { endpoint, .. } if *endpoint >= 0x80 => Some((*endpoint, true)),
+        RedirData::Interrupt { endpoint, .. } if *endpoint >= 0x80 => Some(StreamIn {
+            endpoint: *endpoint,
+            is_iso: false,
+        }),
+        RedirData::Iso { endpoint, .. } if *endpoint >= 0x80 => Some(StreamIn {
+            endpoint: *endpoint,
+            is_iso: true,
+        }),
         _ => None,
     }
 }
