@@ -1,5 +1,6 @@
 //! One item, one event, and all of them.
 
 pub mod inner;
+pub mod side;
 pub mod take;
 pub mod translator;

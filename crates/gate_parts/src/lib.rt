@@ -10,7 +10,7 @@ pub use client::reply::{failed_import, import_reply, is_exported, list_reply};
 pub use client::verdict::decide;
 pub use host::fill::{finish_fronts, write_fillings};
 pub use host::response::{
-    Response, data_of, head_size, mismatch, status_of, stream_in, stream_packet,
+    Response, StreamIn, data_of, head_size, mismatch, status_of, stream_in, stream_packet,
 };
 pub use state::calls::{Called, Calls, lifted};
 pub use state::id::draw;

@@ -1,5 +1,5 @@
 -- One descriptor and its packet more.
-use Rattle.std.proofs.Common.{◌≡◌, ℕ, ◌+◌, ◌<◌, zero, suc, List, [], ◌∷◌, ◌++◌, length, take, get_or, filter, pos, refl, ap, ◌∙◌, sym, arith}
+use Rattle.std.proofs.Common.{◌≡◌, ℕ, ◌+◌, ◌<◌, ◌≤◌, zero, suc, List, [], ◌∷◌, ◌++◌, length, take, get_or, filter, pos, refl, ap, ◌∙◌, sym, arith}
 use Rattle.std.proofs.Math.Numerals.{add-one}
 use Rattle.std.proofs.lemmas.List.{append-nil, append_assoc, length-append}
 use Rattle.usb_base.specs.declared.transfer.StreamPacket.{StreamPacket}
@@ -29,6 +29,19 @@ pieces_more ds xs ps i p same in_ds in_ps is =
     ap (λ n. pieces (take n ds) ps) (add-one i) ∙ pieces_suc ds ps i none p in_ds in_ps
     ∙ ap (λ (l : List IsoDesc). pieces (take i ds) ps ++ piece (get_or l i none) (get_or ps i p)) (sym same)
     ∙ ap (λ x. pieces (take i ds) ps ++ piece (get_or xs i none) x) (sym (there ps i p in_ps is))
+
+front_fits : (n : ℕ) (ds : List IsoDesc) (ps : List StreamPacket) → length (pieces (take n ds) ps) ≤ length (pieces ds ps)
+front_fits zero ds ps = omega arith
+front_fits (suc n) [] ps = omega arith
+front_fits (suc n) (d ∷ ds) [] = omega arith
+front_fits (suc n) (d ∷ ds) (p ∷ ps) = omega (arith, front_fits n ds ps, length-append (piece d p) (pieces (take n ds) ps), length-append (piece d p) (pieces ds ps))
+
+-- there is a byte where one of the packets has one that fits
+pub some_fits : (ds xs : List IsoDesc) (ps : List StreamPacket) (i : ℕ) (p : StreamPacket) → xs ≡ ds → i < length ds → i < length ps → p ≡ packet_at ps i →
+    0 < length (piece (get_or xs i none) p) → 0 < length (pieces ds ps)
+some_fits ds xs ps i p same in_ds in_ps is some =
+    let one_more = ap length (pieces_more ds xs ps i p same in_ds in_ps is) ∙ length-append (pieces (take i ds) ps) (piece (get_or xs i none) p) in
+    omega (arith, one_more, some, front_fits (i + 1) ds ps)
 
 filled_suc : (ds : List IsoDesc) (ps : List StreamPacket) (i : ℕ) (d : IsoDesc) (p : StreamPacket) → i < length ds → i < length ps → all_filled (take (suc i) ds) ps ≡ all_filled (take i ds) ps ++ filled (get_or ds i d) (get_or ps i p) ∷ []
 filled_suc [] ps i d p in_ds in_ps = absurd (omega arith)

@@ -1,6 +1,6 @@
 //! The packets that are held of one receiving stream.
 
-ghost use Rattle.std.specs.Prelude.{◌≡◌, ◌+◌, ◌≤◌, ◌-◌, ℕ, [], length, take, drop, not, false, None, IsTrue, MatchOption, IfSome, IsSome, IfOk, OnOk, OnErr};
+ghost use Rattle.std.specs.Prelude.{◌≡◌, ◌+◌, ◌<◌, ◌≤◌, ◌-◌, ℕ, [], length, take, drop, not, false, None, IsTrue, MatchOption, IfSome, IsSome, IfOk, OnOk, OnErr};
 ghost use Rattle.std.specs.Option.{option_map};
 ghost use Rattle.packet_stream.specs.Writes.{AppendsSome};
 ghost use Rattle.usbip_urb.specs.Buffers.{laid};
@@ -85,11 +85,12 @@ impl Inbox {
     /// What an interrupt request for so many bytes is given: the fewest packets, at least one, of which the last
     /// has a status other than success or is shorter than the largest packet, or which have as many bytes as are
     /// wanted (USB 2.0, 5.7.3). Bytes beyond those are dropped, and are babble. None where there are no such packets;
-    /// then, and for want of memory, nothing changes.
+    /// then, and for want of memory, nothing changes. It takes no memory where no byte is given.
     pub fn cut_interrupt(&mut self, wanted: u32) -> Result<Option<Outcome>, Memory>
         ensures gives { IfOk result (λ outcome. outcome ≡ given (interrupt_cut self.old.max_packet wanted self.old.packets)) }
         ensures leaves { OnOk result (self.new ≡ record self.old { packets = left self.old.packets (interrupt_cut self.old.max_packet wanted self.old.packets) }) }
         ensures err { OnErr result ((self.new ≡ self.old) × IsSome (interrupt_cut self.old.max_packet wanted self.old.packets)) }
+        ensures wants { OnErr result (IfSome (interrupt_cut self.old.max_packet wanted self.old.packets) (λ cut. 0 < length cut.gives.body)) }
     {
         let Some(filling) = self.filling(0, wanted) else {
             return Ok(None);
@@ -139,7 +140,7 @@ impl Inbox {
     }
 
     /// Appends what fits of the packets behind the first `from` that fill an interrupt request. Each is copied once. For
-    /// want of memory some of the bytes may be there, which the caller cuts off.
+    /// want of memory some of the bytes may be there, which the caller cuts off; it takes none where they have no byte.
     pub fn append_bodies(
         &self,
         from: usize,
@@ -147,18 +148,20 @@ impl Inbox {
         out: &mut Bytes,
     ) -> Result<(), Memory>
         requires { from + filling.count ≤ length self.now.packets }
-        ensures { AppendsSome result out.old out.new (filling_body (drop from self.now.packets) filling) }
+        ensures sent { AppendsSome result out.old out.new (filling_body (drop from self.now.packets) filling) }
+        ensures wants { OnErr result (0 < length (filling_body (drop from self.now.packets) filling)) }
     {
         append_bodies(&self.packets, from, filling, out)
     }
 
     /// What an isochronous request is given: one packet for each descriptor, as far as it fits, joined without gaps.
     /// A packet that is longer than its descriptor has the status -75. None where fewer packets are held than there
-    /// are descriptors; then, and for want of memory, nothing changes.
+    /// are descriptors; then, and for want of memory, nothing changes. It takes no memory where there is no descriptor.
     pub fn cut_iso(&mut self, descs: &Descs) -> Result<Option<IsoOutcome>, Memory>
         ensures gives { IfOk result (λ outcome. outcome ≡ given (iso_cut descs.now self.old.packets)) }
         ensures leaves { OnOk result (self.new ≡ record self.old { packets = left self.old.packets (iso_cut descs.now self.old.packets) }) }
         ensures err { OnErr result ((self.new ≡ self.old) × IsSome (iso_cut descs.now self.old.packets)) }
+        ensures wants { OnErr result (0 < length descs.now) }
     {
         let count = descs.len();
         if self.packets.len() < count {
@@ -182,19 +185,22 @@ impl Inbox {
     }
 
     /// Appends what fits of the packets behind the first `from`, one for each descriptor, without gaps. Each is copied
-    /// once. For want of memory some of the bytes may be there, which the caller cuts off.
+    /// once. For want of memory some of the bytes may be there, which the caller cuts off; it takes none where they have
+    /// no byte.
     pub fn append_pieces(&self, from: usize, descs: &Descs, out: &mut Bytes) -> Result<(), Memory>
         requires { from + length descs.now ≤ length self.now.packets }
-        ensures { AppendsSome result out.old out.new (pieces descs.now (drop from self.now.packets)) }
+        ensures sent { AppendsSome result out.old out.new (pieces descs.now (drop from self.now.packets)) }
+        ensures wants { OnErr result (0 < length (pieces descs.now (drop from self.now.packets))) }
     {
         append_pieces(descs, &self.packets, from, out)
     }
 
     /// Appends the descriptors with what came of each of the packets behind the first `from`. For want of memory some of
-    /// the bytes may be there, which the caller cuts off.
+    /// the bytes may be there, which the caller cuts off; it takes none where there are no descriptors.
     pub fn append_filled(&self, from: usize, descs: &Descs, out: &mut Bytes) -> Result<(), Memory>
         requires { from + length descs.now ≤ length self.now.packets }
-        ensures { AppendsSome result out.old out.new (descs_bytes (all_filled descs.now (drop from self.now.packets))) }
+        ensures sent { AppendsSome result out.old out.new (descs_bytes (all_filled descs.now (drop from self.now.packets))) }
+        ensures wants { OnErr result (0 < length descs.now) }
     {
         append_filled(descs, &self.packets, from, out)
     }

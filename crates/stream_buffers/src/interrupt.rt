@@ -47,7 +47,7 @@ pub(crate) fn filling_by(
 }
 
 /// Takes the packets that fill a request, and gives what fits of them. One packet alone is handed on; of several each is
-/// copied once, and for want of memory all stay.
+/// copied once, and for want of memory all stay; it takes none where no byte is given.
 pub(crate) fn take_filling(
     alloc: Global,
     packets: &mut VecDeque<StreamPacket>,
@@ -58,6 +58,7 @@ pub(crate) fn take_filling(
     ensures gives { IfOk result (λ outcome. outcome ≡ (cut_by packets.old.items filling).gives) }
     ensures leaves { OnOk result (packets.new.items ≡ drop filling.count packets.old.items) }
     ensures err { OnErr result (packets.new.items ≡ packets.old.items) }
+    ensures wants { OnErr result (0 < length (filling_body packets.old.items filling)) }
 {
     if filling.count == 1 {
         let Some(packet) = packets.pop_front() else {
@@ -90,7 +91,8 @@ fn fitted(packet: StreamPacket, filling: Filling) -> Outcome
     }
 }
 
-/// Appends what fits of the packets behind the first `from` that fill a request. Each is copied once.
+/// Appends what fits of the packets behind the first `from` that fill a request. Each is copied once. It takes no memory
+/// where they have no byte.
 pub(crate) fn append_bodies(
     packets: &VecDeque<StreamPacket>,
     from: usize,
@@ -98,7 +100,8 @@ pub(crate) fn append_bodies(
     out: &mut Bytes,
 ) -> Result<(), Memory>
     requires { from + filling.count ≤ length packets.now.items }
-    ensures { AppendsSome result out.old out.new (filling_body (drop from packets.now.items) filling) }
+    ensures sent { AppendsSome result out.old out.new (filling_body (drop from packets.now.items) filling) }
+    ensures wants { OnErr result (0 < length (filling_body (drop from packets.now.items) filling)) }
 {
     let mut room = filling.done as usize;
     for place in 0..filling.count {

@@ -1,6 +1,6 @@
 //! What an isochronous request is given: of each of its packets what fits into its descriptor.
 
-ghost use Rattle.std.specs.Prelude.{◌≡◌, ◌+◌, ◌≤◌, ◌<◌, ◌^◌, ◌∷◌, [], drop, length, IfOk};
+ghost use Rattle.std.specs.Prelude.{◌≡◌, ◌+◌, ◌≤◌, ◌<◌, ◌^◌, ◌∷◌, [], drop, length, IfOk, OnErr};
 ghost use Rattle.packet_stream.specs.Writes.{AppendsSome};
 ghost use Rattle.usbip_urb.specs.declared.code.TheConstants.{MAX_PACKETS};
 ghost use Rattle.usbip_urb.specs.Spelling.{descs_bytes};
@@ -60,6 +60,7 @@ fn errors_of(desc: &IsoDesc) -> u32
 }
 
 /// Appends what fits of the packets behind the first `from`, one for each descriptor, without gaps. Each is copied once.
+/// It takes no memory where they have no byte.
 pub(crate) fn append_pieces(
     descs: &Descs,
     packets: &VecDeque<StreamPacket>,
@@ -67,7 +68,8 @@ pub(crate) fn append_pieces(
     out: &mut Bytes,
 ) -> Result<(), Memory>
     requires { from + length descs.now ≤ length packets.now.items }
-    ensures { AppendsSome result out.old out.new (pieces descs.now (drop from packets.now.items)) }
+    ensures sent { AppendsSome result out.old out.new (pieces descs.now (drop from packets.now.items)) }
+    ensures wants { OnErr result (0 < length (pieces descs.now (drop from packets.now.items))) }
 {
     for (place, desc) in descs.as_slice().iter().enumerate() {
         out.append(piece(desc, packet_behind(packets, from, place)))?;
@@ -75,7 +77,7 @@ pub(crate) fn append_pieces(
     Ok(())
 }
 
-/// Appends the descriptors with what came of each.
+/// Appends the descriptors with what came of each. It takes no memory where there are none.
 pub(crate) fn append_filled(
     descs: &Descs,
     packets: &VecDeque<StreamPacket>,
@@ -83,7 +85,8 @@ pub(crate) fn append_filled(
     out: &mut Bytes,
 ) -> Result<(), Memory>
     requires { from + length descs.now ≤ length packets.now.items }
-    ensures { AppendsSome result out.old out.new (descs_bytes (all_filled descs.now (drop from packets.now.items))) }
+    ensures sent { AppendsSome result out.old out.new (descs_bytes (all_filled descs.now (drop from packets.now.items))) }
+    ensures wants { OnErr result (0 < length descs.now) }
 {
     for (place, desc) in descs.as_slice().iter().enumerate() {
         push_desc(&filled_by(desc, packet_behind(packets, from, place)), out)?;
@@ -91,14 +94,16 @@ pub(crate) fn append_filled(
     Ok(())
 }
 
-/// What the first packets, one for each descriptor, give. Each is copied once.
+/// What the first packets, one for each descriptor, give. Each is copied once. It takes no memory where there is no
+/// descriptor.
 pub(crate) fn iso_outcome(
     alloc: Global,
     descs: &Descs,
     packets: &VecDeque<StreamPacket>,
 ) -> Result<IsoOutcome, Memory>
     requires { length descs.now ≤ length packets.now.items }
-    ensures { IfOk result (λ outcome. outcome ≡ iso_outcome descs.now packets.now.items) }
+    ensures ok { IfOk result (λ outcome. outcome ≡ iso_outcome descs.now packets.now.items) }
+    ensures wants { OnErr result (0 < length descs.now) }
 {
     let mut body = Bytes::new(alloc);
     append_pieces(descs, packets, 0, &mut body)?;

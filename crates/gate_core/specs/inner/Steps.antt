@@ -1,25 +1,19 @@
 -- What the gate's own steps do.
 use Rattle.std.specs.Prelude.{◌≡◌, ◌∷◌, ◌+◌, ℕ, Bool, true, false, if◌then◌else◌, List, length, Option, Some, None, Result, Ok, Err, IfOk, IfSome}
-use Rattle.usb_base.specs.Number.{AreBytes}
 use Rattle.usb_base.specs.declared.memory.Memory.{Memory}
 use Rattle.usb_base.specs.declared.reason.Reason.{Reason}
 use Rattle.packet_stream.specs.declared.read.ReadError.{ReadError}
 use Rattle.packet_stream.specs.declared.read.ReadError.TheVariants.{Refused, Memory as OutOfMemory}
 use Rattle.packet_stream.specs.Split.{Reader}
-use Rattle.packet_stream.specs.Streams.{Kept, ended, Nexts, Changes, capped}
-use Rattle.packet_stream.specs.Items.{SideStream}
-use Rattle.usbip_urb.specs.declared.client.ClientPacket.{ClientPacket}
+use Rattle.packet_stream.specs.Streams.{Kept, ended, Nexts, Changes}
 use Rattle.redir_wire.specs.declared.packet.Header.{Header}
 use Rattle.redir_data.specs.declared.packet.RedirPacket.{RedirPacket}
-use Rattle.redir_data.specs.declared.state.RedirState.{RedirState}
 use Rattle.gate_history.specs.declared.item.Item.{Item as RawItem}
 use Rattle.gate_history.specs.declared.item.Item.TheVariants as raw
 use Rattle.gate_history.specs.declared.note.Note.{Note}
 use Rattle.gate_core.specs.declared.step.inner.Inner.{Inner}
-use Rattle.gate_history.specs.step.Items.{Item, Asked, ClientWrong, Told, HostWrong}
-use Rattle.gate_history.specs.step.Streams.{client_reader, client_start, host_reader, host_start}
+use Rattle.gate_history.specs.step.Items.{Item}
 use Rattle.gate_history.specs.step.Events.{Event}
-use Rattle.gate_history.specs.state.Sides.{client_over, host_over}
 use Rattle.gate_history.specs.step.Past.{past}
 use Rattle.gate_history.specs.step.History.{arrivals}
 use Rattle.gate_history.specs.write.Notes.{notes_of}
@@ -33,14 +27,6 @@ use Rattle.gate_core.specs.inner.Holds.{items_of}
 -- what the gate keeps, without its allocators
 abbrev pub kept_of : Inner → GateKept
 kept_of g = record { items = items_of g.translator; client = g.client; host = g.host; failed = g.failed }
-
--- ---- both streams
-
-abbrev pub client_stream : ℕ → SideStream (Unit {0}) ClientPacket Reason Item
-client_stream first = record { reader = client_reader; start = client_start; packet = Asked; wrong = ClientWrong; over = λ xs. client_over (past first xs) }
-
-abbrev pub host_stream : ℕ → SideStream RedirState (Header × RedirPacket) Reason Item
-host_stream first = record { reader = host_reader; start = host_start; packet = λ place p. Told place p.0 p.1; wrong = HostWrong; over = λ xs. host_over (past first xs) }
 
 -- ---- the next item of a stream
 
@@ -61,14 +47,6 @@ pub record NextItem {S P : Type 0} (r : Reader S P Reason) (takes : P → Bool) 
 
 abbrev pub raw_told : ℕ → Header × RedirPacket → RawItem
 raw_told place p = raw.Told place p.0 p.1
-
--- its bytes are bytes, and its place is one
-abbrev pub IsReadable : {S : Type 0} → Kept S → Type 0
-IsReadable kept = kept.over ≡ false → AreBytes kept.rest × (kept.place ≡ capped kept.place)
-
--- an item is there, of which this holds
-abbrev pub IfNext : Result (Option RawItem) Memory → (RawItem → Type 0) → Type 0
-IfNext result Holds = IfOk result (λ o. IfSome o Holds)
 
 -- how much is left to be read
 abbrev pub left_of : {S : Type 0} → Kept S → ℕ

@@ -14,15 +14,14 @@ ghost use Rattle.gate_parts.specs.write.Extends.{Extends};
 
 use crate::state::kept::Kept;
 use gate_history::{Note, Notes};
-use gate_parts::{Up, finish_fronts, write_fillings};
+use gate_parts::{StreamIn, Up, finish_fronts, write_fillings};
 use usb_base::{Bytes, EpAddr, Memory, StreamPacket};
 
 impl Kept {
-    /// A packet comes from the endpoint with this address. It means nothing where no stream of it is up.
+    /// A packet comes from an endpoint. It means nothing where no stream of that is up.
     pub fn arrive(
         &mut self,
-        endpoint: u8,
-        iso: bool,
+        stream: StreamIn,
         packet: StreamPacket,
         to_client: &mut Bytes,
         notes: &mut Notes,
@@ -30,17 +29,17 @@ impl Kept {
         requires kept { IsKept self.old }
         ensures kept { IsKept self.new }
         ensures ok { (st : State) (host : List ℕ) → Holds self.old st → IsSound st
-            → OnOk result (Does st (mark_as st (arrives st endpoint iso packet (stream_of st.streams endpoint)) None) self.old self.new to_client.old to_client.new host host notes.old notes.new) }
+            → OnOk result (Does st (mark_as st (arrives st stream.endpoint stream.is_iso packet (stream_of st.streams stream.endpoint)) None) self.old self.new to_client.old to_client.new host host notes.old notes.new) }
         ensures err { (host : List ℕ) → OnErr result (Leaves self.old self.new to_client.old to_client.new host host notes.old notes.new) }
-        ensures wants { (st : State) → Holds self.old st → OnErr result (GivesSome st (mark_as st (arrives st endpoint iso packet (stream_of st.streams endpoint)) None)) }
+        ensures wants { (st : State) → Holds self.old st → OnErr result (GivesSome st (mark_as st (arrives st stream.endpoint stream.is_iso packet (stream_of st.streams stream.endpoint)) None)) }
     {
-        let Some(ep) = EpAddr::new(endpoint) else {
+        let Some(ep) = EpAddr::new(stream.endpoint) else {
             return Ok(());
         };
         let Some(mut up) = self.streams.take(ep) else {
             return Ok(());
         };
-        let received = self.receive(ep, &mut up, iso, packet, to_client, notes);
+        let received = self.receive(ep, &mut up, stream.is_iso, packet, to_client, notes);
         self.streams.put(ep, up);
         received
     }
@@ -50,23 +49,23 @@ impl Kept {
         &mut self,
         ep: EpAddr,
         up: &mut Up,
-        iso: bool,
+        is_iso: bool,
         packet: StreamPacket,
         to_client: &mut Bytes,
         notes: &mut Notes,
     ) -> Result<(), Memory>
         requires kept { IsKept self.old }
         ensures kept { IsKept self.new }
-        ensures received { OnOk result (HasReceived ep iso packet up.old up.new self.old self.new) }
-        ensures sent { OnOk result (to_client.new ≡ to_client.old ++ received_bytes ep iso packet up.old self.old.lives.live) }
-        ensures told { OnOk result (notes.new ≡ notes.old ++ Arrived ep ∷ received_notes ep iso packet up.old self.old.lives.live) }
+        ensures received { OnOk result (HasReceived ep is_iso packet up.old up.new self.old self.new) }
+        ensures sent { OnOk result (to_client.new ≡ to_client.old ++ received_bytes ep is_iso packet up.old self.old.lives.live) }
+        ensures told { OnOk result (notes.new ≡ notes.old ++ Arrived ep ∷ received_notes ep is_iso packet up.old self.old.lives.live) }
         ensures same { OnErr result (self.new ≡ self.old) }
         ensures same_up { OnErr result (up.new ≡ up.old) }
         ensures err { OnErr result (Extends to_client.old to_client.new) }
         ensures err_notes { OnErr result (Extends notes.old notes.new) }
     {
         notes.push(Note::Arrived { ep })?;
-        if up.is_iso() != iso || !up.receive(packet)? {
+        if up.is_iso() != is_iso || !up.receive(packet)? {
             return Ok(());
         }
         match self.fill(ep, up, to_client, notes) {

@@ -81,10 +81,10 @@ impl Kept {
         ensures err { (host : List ℕ) → OnErr result (Leaves self.old self.new to_client.old to_client.new host host notes.old notes.new) }
         ensures wants { (st : State) (at : ℕ) → place ≡ capped at → Holds self.old st → IsSound st → OnErr result (GivesSome st (mark_as st (data_meaning st at header.now packet) None)) }
     {
-        let Some((endpoint, iso)) = stream_in(&packet) else {
+        let Some(stream) = stream_in(&packet) else {
             return self.respond(place, header, data_of(packet), to_client, notes);
         };
-        self.arrive(endpoint, iso, stream_packet(packet), to_client, notes)
+        self.arrive(stream, stream_packet(packet), to_client, notes)
     }
 
     /// Takes a packet that moves no data.

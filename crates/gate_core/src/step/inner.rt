@@ -1,16 +1,15 @@
 //! What the gate keeps, and how an event changes it.
 
-ghost use Rattle.std.specs.Prelude.{◌≡◌, ◌≤◌, [], IfOk};
-ghost use Rattle.redir_wire.specs.declared.packet.Caps.{Caps};
-ghost use Rattle.redir_data.specs.Packets.{takes_memory as told_takes_memory};
-ghost use Rattle.usbip_urb.specs.ClientPackets.{takes_memory as asked_takes_memory};
-ghost use Rattle.gate_history.specs.declared.item.Item.TheVariants as raw;
-ghost use Rattle.gate_history.specs.step.Events.{ClientPiece, ClientEnd, HostPiece, HostEnd, event_of};
-ghost use Rattle.gate_history.specs.step.Streams.{client_reader, host_reader};
+ghost use Rattle.std.specs.Prelude.{◌≡◌, ◌≤◌, ℕ, List, [], IfOk};
+ghost use Rattle.packet_stream.specs.Split.{reads};
+ghost use Rattle.gate_history.specs.step.Events.{ClientEnd, HostEnd, event_of};
+ghost use Rattle.gate_history.specs.step.Items.{Item as PastItem};
 ghost use Rattle.gate_core.specs.step.Stands.{HasPast, Stands};
-ghost use Rattle.gate_history.specs.step.Fits.{ItemFits};
-ghost use Rattle.gate_core.specs.inner.Steps.{NextItem, IfNext, IsReadable, TakesEvent, kept_of, ended_if, raw_told};
+ghost use Rattle.gate_core.specs.inner.Steps.{NextItem, TakesEvent, kept_of, ended_if};
+ghost use Rattle.gate_core.specs.inner.Sides.{IsSide, IsAt, FitsNext, TakesPiece};
 
+use crate::state::kept::Kept;
+use crate::step::side::GateSide;
 use crate::step::translator::Translator;
 use gate_history::{Event, Item, Notes};
 use packet_stream::{ReadError, Stream};
@@ -58,49 +57,27 @@ impl Inner {
         ensures { TakesEvent result self.old self.new (event_of event.entry) to_client.old to_client.new to_host.old to_host.new notes.old notes.new }
     {
         match event {
-            Event::ClientPiece(piece) => self.take_asked(piece, to_client, to_host, notes),
+            Event::ClientPiece(piece) => take_piece(
+                self.alloc,
+                &mut self.client,
+                &mut self.translator,
+                piece,
+                to_client,
+                to_host,
+                notes,
+            ),
             Event::ClientEnd => self.change_client(to_client, to_host, notes),
-            Event::HostPiece(piece) => self.take_told(piece, to_client, to_host, notes),
+            Event::HostPiece(piece) => take_piece(
+                self.alloc,
+                &mut self.host,
+                &mut self.translator,
+                piece,
+                to_client,
+                to_host,
+                notes,
+            ),
             Event::HostEnd => self.end_host(to_client, to_host, notes),
         }
-    }
-
-    /// Takes a piece of the client's stream.
-    fn take_asked(
-        &mut self,
-        piece: &[u8],
-        to_client: &mut Bytes,
-        to_host: &mut Bytes,
-        notes: &mut Notes,
-    ) -> Result<(), Memory>
-        requires { HasPast (kept_of self.old) }
-        ensures { TakesEvent result self.old self.new (ClientPiece piece.now) to_client.old to_client.new to_host.old to_host.new notes.old notes.new }
-    {
-        self.client.put(piece)?;
-        'items: while let Some(item) = next_asked(self.alloc, &mut self.client)? {
-            self.translator.take(item, to_client, to_host, notes)?;
-            self.close_client();
-        }
-        Ok(())
-    }
-
-    /// Takes a piece of the host's stream.
-    fn take_told(
-        &mut self,
-        piece: &[u8],
-        to_client: &mut Bytes,
-        to_host: &mut Bytes,
-        notes: &mut Notes,
-    ) -> Result<(), Memory>
-        requires { HasPast (kept_of self.old) }
-        ensures { TakesEvent result self.old self.new (HostPiece piece.now) to_client.old to_client.new to_host.old to_host.new notes.old notes.new }
-    {
-        self.host.put(piece)?;
-        'items: while let Some(item) = next_told(self.alloc, &mut self.host)? {
-            self.translator.take(item, to_client, to_host, notes)?;
-            self.close_host();
-        }
-        Ok(())
     }
 
     /// Takes the client's end. The next client may come.
@@ -137,51 +114,48 @@ impl Inner {
         self.host.end();
         Ok(())
     }
-
-    /// Ends the client's stream where the client was refused.
-    fn close_client(&mut self)
-        ensures { self.new ≡ record self.old { client = ended_if self.old.translator.client_over self.old.client } }
-    {
-        if self.translator.kept().client_over {
-            self.client.end();
-        }
-    }
-
-    /// Ends the host's stream where the host was refused.
-    fn close_host(&mut self)
-        ensures { self.new ≡ record self.old { host = ended_if self.old.translator.host_over self.old.host } }
-    {
-        if self.translator.kept().host_over {
-            self.host.end();
-        }
-    }
 }
 
-/// The next item of a client's stream.
-fn next_asked(alloc: Global, client: &mut Stream<ClientFormat>) -> Result<Option<Item>, Memory>
-    ensures next { NextItem client_reader asked_takes_memory raw.Asked raw.ClientWrong result client.old client.new }
-    ensures fits { IsReadable client.old → (caps : Caps) → IfNext result (ItemFits caps) }
+/// Takes a piece of a side's stream, item by item.
+fn take_piece<S: GateSide>(
+    alloc: Global,
+    stream: &mut Stream<S>,
+    translator: &mut Translator,
+    piece: &[u8],
+    to_client: &mut Bytes,
+    to_host: &mut Bytes,
+    notes: &mut Notes,
+) -> Result<(), Memory>
+    requires side { (first : ℕ) → IsSide first (S.half first) (reads S.format S.after) S.takes_memory S.over_in S.raw_packet S.raw_wrong }
+    requires fits { FitsNext S.half (reads S.format S.after) S.takes_memory S.raw_packet S.raw_wrong }
+    requires past { ∥ ((first : ℕ) × ((bytes : List ℕ) × ((before : List PastItem) × IsAt first (S.half first) stream.old translator.old bytes before))) ∥₁ }
+    ensures { TakesPiece result S.half stream.old stream.new translator.old translator.new piece.now to_client.old to_client.new to_host.old to_host.new notes.old notes.new }
 {
-    match client.next(alloc) {
-        Ok(Some((place, packet))) => Ok(Some(Item::Asked { place, packet })),
+    stream.put(piece)?;
+    'items: while let Some(item) = next_item(alloc, stream)? {
+        translator.take(item, to_client, to_host, notes)?;
+        close(stream, translator.kept());
+    }
+    Ok(())
+}
+
+/// The next item of a side's stream.
+fn next_item<S: GateSide>(alloc: Global, stream: &mut Stream<S>) -> Result<Option<Item>, Memory>
+    ensures { NextItem (reads S.format S.after) S.takes_memory S.raw_packet S.raw_wrong result stream.old stream.new }
+{
+    match stream.next(alloc) {
+        Ok(Some((place, packet))) => Ok(Some(S::packet(place, packet))),
         Ok(None) => Ok(None),
-        Err(ReadError::Refused { place, reason }) => Ok(Some(Item::ClientWrong { place, reason })),
+        Err(ReadError::Refused { place, reason }) => Ok(Some(S::wrong(place, reason))),
         Err(ReadError::Memory) => Err(Memory),
     }
 }
 
-/// The next item of the host's stream.
-fn next_told(alloc: Global, host: &mut Stream<FromHost>) -> Result<Option<Item>, Memory>
-    ensures { NextItem host_reader told_takes_memory raw_told raw.HostWrong result host.old host.new }
+/// Ends a side's stream where the side was refused.
+fn close<S: GateSide>(stream: &mut Stream<S>, kept: &Kept)
+    ensures { stream.new ≡ ended_if (S.over_in kept.now) stream.old }
 {
-    match host.next(alloc) {
-        Ok(Some((place, (header, packet)))) => Ok(Some(Item::Told {
-            place,
-            header,
-            packet,
-        })),
-        Ok(None) => Ok(None),
-        Err(ReadError::Refused { place, reason }) => Ok(Some(Item::HostWrong { place, reason })),
-        Err(ReadError::Memory) => Err(Memory),
+    if S::is_over(kept) {
+        stream.end();
     }
 }

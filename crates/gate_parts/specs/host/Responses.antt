@@ -17,6 +17,7 @@ use Rattle.unlink_race.specs.declared.ending.Ending.{Ending}
 use Rattle.unlink_race.specs.declared.ending.Ending.TheVariants.{Completed, Unlinked, CompletedThenLate}
 use Rattle.gate_parts.specs.declared.host.response.Response.{Response as RawResponse}
 use Rattle.gate_parts.specs.declared.host.response.Response.TheVariants as raw
+use Rattle.gate_parts.specs.declared.host.response.StreamIn.{StreamIn}
 use Rattle.gate_history.specs.step.Marks.{Submission, Effect, Idle, Answers}
 use Rattle.gate_history.specs.host.Responses.{Response, Data, Status, route_answer, route_gets, mismatched, got, seen}
 use Rattle.gate_history.specs.write.All.{is_ret_submit, is_won_unlink}
@@ -33,11 +34,11 @@ status_outcome status tells value = got (status_of status) (if tells then value 
 -- ---- packets of streams
 
 -- the IN endpoint of whose stream a packet is, and whether it is an isochronous one
-abbrev pub stream_in : RedirData → Option (ℕ × Bool)
+abbrev pub stream_in : RedirData → Option StreamIn
 stream_in (data_packet.Control endpoint request kind status value index length body) = None
 stream_in (data_packet.Bulk endpoint status length stream body) = None
-stream_in (data_packet.Interrupt endpoint status length body) = if is_in_endpoint endpoint then Some (endpoint, false) else None
-stream_in (data_packet.Iso endpoint status length body) = if is_in_endpoint endpoint then Some (endpoint, true) else None
+stream_in (data_packet.Interrupt endpoint status length body) = if is_in_endpoint endpoint then Some (record { endpoint = endpoint; is_iso = false }) else None
+stream_in (data_packet.Iso endpoint status length body) = if is_in_endpoint endpoint then Some (record { endpoint = endpoint; is_iso = true }) else None
 
 abbrev pub packet_in : RedirData → StreamPacket
 packet_in (data_packet.Control endpoint request kind status value index length body) = record { status = status_of status; body = body }

@@ -1,6 +1,6 @@
 //! The requests that the packets of their stream fill: their answers first, and then they go.
 
-ghost use Rattle.std.specs.Prelude.{◌≡◌, ◌++◌, ◌+◌, ◌<◌, ◌≤◌, [], OnOk, OnErr, IfOk};
+ghost use Rattle.std.specs.Prelude.{◌≡◌, ◌++◌, ◌+◌, ◌<◌, ◌≤◌, [], length, OnOk, OnErr, IfOk};
 ghost use Rattle.std.specs.List.{AllByRecursion};
 ghost use Rattle.usbip_urb.specs.declared.code.TheConstants.{MAX_LIVE};
 ghost use Rattle.stream_buffers.specs.declared.inbox.TheConstants.{MAX_HELD};
@@ -39,7 +39,7 @@ impl Filled {
 }
 
 /// Appends the answers of the requests that the packets of their endpoint's stream fill, the earliest first, and tells
-/// of each. It gives how many these are; requests and packets stay.
+/// of each. It gives how many these are; requests and packets stay. Where they fill none it takes no memory.
 pub fn write_fillings(
     alloc: Global,
     lives: &Lives,
@@ -55,12 +55,13 @@ pub fn write_fillings(
     ensures told { OnOk result (notes.new ≡ notes.old ++ filled_notes (up_fill ep up.old lives.now.live)) }
     ensures err { OnErr result (Extends to_client.old to_client.new) }
     ensures err_notes { OnErr result (Extends notes.old notes.new) }
+    ensures wants { OnErr result (0 < length (up_fill ep up.old lives.now.live).fillings) }
 {
     let mut filled = Filled {
         requests: 0,
         packets: 0,
     };
-    let held = up.len();
+    let held = up.inbox().len();
     for nth in 0..lives.len() {
         if filled.packets == held {
             return Ok(filled);

@@ -1,6 +1,6 @@
 //! The answer of a request that the packets of its stream fill: its bytes go straight from those packets to the client.
 
-ghost use Rattle.std.specs.Prelude.{◌≡◌, ◌++◌, ◌+◌, ◌≤◌, [], drop, IsTrue, length, OnOk, OnErr, IfOk};
+ghost use Rattle.std.specs.Prelude.{◌≡◌, ◌++◌, ◌+◌, ◌≤◌, [], drop, IsTrue, length, IsSome, OnOk, OnErr, IfOk};
 ghost use Rattle.packet_stream.specs.Writes.{AppendsSome};
 ghost use Rattle.usbip_urb.specs.declared.code.TheConstants.{MAX_LENGTH};
 ghost use Rattle.usbip_urb.specs.Buffers.{laid};
@@ -24,7 +24,8 @@ use usb_base::{Bytes, Memory};
 use usbip_urb::{Descs, push_ret_fields};
 
 /// Appends the answer of a request that the packets of its stream behind the first `from` fill, and gives how many it
-/// takes. None where they don't fill it; then, and for want of memory, nothing is appended.
+/// takes. None where they don't fill it; then, and for want of memory, nothing is appended. It takes memory only where they
+/// fill it.
 pub fn write_filling(
     alloc: Global,
     live: &Live,
@@ -40,6 +41,7 @@ pub fn write_filling(
     ensures taken { IfOk result (λ taken. HasTaken taken (drop from up.old.held) (row_cut up.old.row.max_packet live.now (drop from up.old.held))) }
     ensures sent { OnOk result (out.new ≡ out.old ++ cut_bytes live.now (row_cut up.old.row.max_packet live.now (drop from up.old.held))) }
     ensures err { OnErr result (out.new ≡ out.old) }
+    ensures wants { OnErr result (IsSome (row_cut up.old.row.max_packet live.now (drop from up.old.held))) }
 {
     let before = out.len();
     match push_filling(alloc, live, up, from, out) {
@@ -65,6 +67,7 @@ fn push_filling(
     ensures same { up.new ≡ up.old }
     ensures taken { IfOk result (λ taken. HasTaken taken (drop from up.old.held) (row_cut up.old.row.max_packet live.now (drop from up.old.held))) }
     ensures sent { AppendsSome result out.old out.new (cut_bytes live.now (row_cut up.old.row.max_packet live.now (drop from up.old.held))) }
+    ensures wants { OnErr result (IsSome (row_cut up.old.row.max_packet live.now (drop from up.old.held))) }
 {
     if live.descs.is_empty() {
         push_interrupt(alloc, live, up, from, out)
@@ -86,6 +89,7 @@ fn push_interrupt(
     ensures same { up.new ≡ up.old }
     ensures taken { IfOk result (λ taken. HasTaken taken (drop from up.old.held) (interrupt_given up.old.row.max_packet live.now (drop from up.old.held))) }
     ensures sent { AppendsSome result out.old out.new (cut_bytes live.now (interrupt_given up.old.row.max_packet live.now (drop from up.old.held))) }
+    ensures wants { OnErr result (IsSome (interrupt_given up.old.row.max_packet live.now (drop from up.old.held))) }
 {
     let Some(filling) = up.filling(from, live.wanted) else {
         return Ok(None);
@@ -108,7 +112,7 @@ fn push_transferred(
     ensures { AppendsSome result out.old out.new (spelling (with_given (row_request live.now) (Transferred (cut_by (drop from up.now.held) filling).gives))) }
 {
     push_front(alloc, live, filling.status.errno(), filling.done, 0, out)?;
-    up.append_bodies(from, filling, out)?;
+    up.inbox().append_bodies(from, filling, out)?;
     Ok(())
 }
 
@@ -125,8 +129,9 @@ fn push_iso(
     requires lies { IsTrue (laid live.now.descs live.now.wanted) }
     ensures taken { IfOk result (λ taken. HasTaken taken (drop from up.now.held) (iso_given live.now (drop from up.now.held))) }
     ensures sent { AppendsSome result out.old out.new (cut_bytes live.now (iso_given live.now (drop from up.now.held))) }
+    ensures wants { OnErr result (IsSome (iso_given live.now (drop from up.now.held))) }
 {
-    let Some(filling) = up.iso_filling(from, &live.descs) else {
+    let Some(filling) = up.inbox().iso_filling(from, &live.descs) else {
         return Ok(None);
     };
     push_pieces(alloc, live, up, from, filling, out)?;
@@ -148,8 +153,8 @@ fn push_pieces(
     ensures { AppendsSome result out.old out.new (spelling (with_given (row_request live.now) (Isochronous (iso_outcome live.now.descs (drop from up.now.held))))) }
 {
     push_front(alloc, live, 0, filling.done as u32, filling.errors, out)?;
-    up.append_pieces(from, &live.descs, out)?;
-    up.append_filled(from, &live.descs, out)?;
+    up.inbox().append_pieces(from, &live.descs, out)?;
+    up.inbox().append_filled(from, &live.descs, out)?;
     Ok(())
 }
 

@@ -9,11 +9,12 @@ ghost use Rattle.redir_data.specs.declared.packet.RedirPacket.TheVariants.{Plain
 ghost use Rattle.gate_history.specs.host.Responses.{Data, outcome, response_of, route_answer, mismatched, route_gets, gets as gets_value, seen};
 ghost use Rattle.gate_parts.specs.host.Responses.{response_view, status_outcome, wire_answer, row_answer, row_ep, row_gets, row_mismatch, stream_in, packet_in};
 ghost use Rattle.redir_wire.specs.Header.{head_size};
+ghost use Rattle.redir_wire.specs.Table.{data_row, plain_row};
 ghost use Rattle.gate_history.specs.state.Flight.{wide_ids};
 
 use control_route::Route;
 use redir_data::RedirData;
-use redir_wire::{Caps, RedirControl, WIDE_IDS};
+use redir_wire::{Caps, DataKind, PlainKind, RedirControl, WIDE_IDS};
 use std::alloc::Global;
 use unlink_race::{Live, LiveKind};
 use usb_base::{Bytes, EpKind, Memory, Outcome, Reason, Refusal, Side, StreamPacket, UsbStatus};
@@ -105,30 +106,30 @@ fn answer_kind(kind: &LiveKind) -> u32
     ensures { result ≡ row_answer kind.now }
 {
     match kind {
-        LiveKind::Wire { kind, .. } => wire_answer(*kind),
-        LiveKind::Routed(route) => route_answer(route),
+        LiveKind::Wire { kind, .. } => wire_answer(*kind).row().number,
+        LiveKind::Routed(route) => route_answer(route).row().number,
         LiveKind::Stream { .. } => 0,
     }
 }
 
 // The type of the packet that answers a transfer on the wire.
-fn wire_answer(kind: EpKind) -> u32
-    ensures { result ≡ wire_answer kind }
+fn wire_answer(kind: EpKind) -> DataKind
+    ensures { (data_row result).number ≡ wire_answer kind }
 {
     match kind {
-        EpKind::Control => 100,
-        EpKind::Interrupt => 103,
-        EpKind::Bulk | EpKind::Iso | EpKind::Invalid => 101,
+        EpKind::Control => DataKind::Control,
+        EpKind::Interrupt => DataKind::Interrupt,
+        EpKind::Bulk | EpKind::Iso | EpKind::Invalid => DataKind::Bulk,
     }
 }
 
 // The type of the packet that answers a route's.
-fn route_answer(route: &Route) -> u32
-    ensures { result ≡ route_answer route.now }
+fn route_answer(route: &Route) -> PlainKind
+    ensures { (plain_row result).number ≡ route_answer route.now }
 {
     match route {
-        Route::SetAlt { .. } | Route::GetAlt(_) => 11,
-        _ => 8,
+        Route::SetAlt { .. } | Route::GetAlt(_) => PlainKind::AltStatus,
+        _ => PlainKind::ConfigurationStatus,
     }
 }
 
@@ -240,13 +241,27 @@ fn status_outcome(alloc: Global, status: u8, tells: bool, value: u8) -> Result<O
     })
 }
 
-/// The IN endpoint of whose stream a packet is, and whether it is an isochronous one.
-pub fn stream_in(packet: &RedirData) -> Option<(u8, bool)>
+/// Of whose stream a packet is, as it says itself.
+#[derive(Clone, Copy)]
+pub struct StreamIn {
+    /// The byte of an IN endpoint, which may be no address.
+    pub endpoint: u8,
+    pub is_iso: bool,
+}
+
+/// The IN endpoint of whose stream a packet is, if it is one's.
+pub fn stream_in(packet: &RedirData) -> Option<StreamIn>
     ensures { result ≡ stream_in packet.now }
 {
     match packet {
-        RedirData::Interrupt { endpoint, .. } if *endpoint >= 0x80 => Some((*endpoint, false)),
-        RedirData::Iso { endpoint, .. } if *endpoint >= 0x80 => Some((*endpoint, true)),
+        RedirData::Interrupt { endpoint, .. } if *endpoint >= 0x80 => Some(StreamIn {
+            endpoint: *endpoint,
+            is_iso: false,
+        }),
+        RedirData::Iso { endpoint, .. } if *endpoint >= 0x80 => Some(StreamIn {
+            endpoint: *endpoint,
+            is_iso: true,
+        }),
         _ => None,
     }
 }

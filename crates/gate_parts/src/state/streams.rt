@@ -1,25 +1,19 @@
 //! The streams of endpoints that are up, with the packets that they hold.
 
-ghost use Rattle.std.specs.Prelude.{◌≡◌, ◌+◌, ◌≤◌, ◌-◌, ℕ, [], Some, None, length, take, drop, not, IsTrue, option_copied, slice_set, OnOk, OnErr, IfOk, IfSome, MatchOption};
+ghost use Rattle.std.specs.Prelude.{◌≡◌, ◌+◌, ◌≤◌, ◌-◌, [], Some, None, length, take, drop, not, option_copied, slice_set, OnOk, OnErr, IfOk, IfSome};
 ghost use Rattle.std.specs.Option.{option_map};
-ghost use Rattle.packet_stream.specs.Writes.{AppendsSome};
-ghost use Rattle.usbip_urb.specs.Spelling.{descs_bytes};
-ghost use Rattle.usbip_urb.specs.Buffers.{laid};
 ghost use Rattle.usb_base.specs.Endpoint.{endpoint_index};
-ghost use Rattle.stream_buffers.specs.declared.inbox.TheConstants.{MAX_HELD};
 ghost use Rattle.stream_buffers.specs.Held.{is_full, receive};
 ghost use Rattle.stream_buffers.specs.Interrupt.{interrupt_cut};
-ghost use Rattle.stream_buffers.specs.Iso.{iso_cut, pieces, all_filled};
-ghost use Rattle.stream_buffers.specs.Fillings.{cut_by, filling_body, FillsIso};
+ghost use Rattle.stream_buffers.specs.Fillings.{cut_by};
 ghost use Rattle.gate_history.specs.client.Verdict.{is_iso};
 ghost use Rattle.gate_history.specs.state.Ups.{no_streams, stream_at, raise, lower, lower_at, unless, is_ended};
 
 use control_route::{Route, touches};
 use std::alloc::Global;
 use std::marker::Model;
-use stream_buffers::{Filling, Inbox, IsoFilling};
-use usb_base::{Bytes, EpAddr, EpKind, EpRow, Memory, StreamPacket};
-use usbip_urb::Descs;
+use stream_buffers::{Filling, Inbox};
+use usb_base::{EpAddr, EpKind, EpRow, Memory, StreamPacket};
 
 /// How many places a table of endpoints has.
 const PLACES: usize = 32;
@@ -96,12 +90,11 @@ impl Up {
         self.row.kind == EpKind::Iso
     }
 
-    /// How many packets it holds.
-    pub fn len(&self) -> usize
-        ensures len { result ≡ length self.now.held }
-        ensures bound { result ≤ MAX_HELD }
+    /// The packets that it holds.
+    pub fn inbox(&self) -> &Inbox
+        ensures { result.now ≡ record { packets = self.now.held; max_packet = self.now.row.max_packet } }
     {
-        self.inbox.len()
+        &self.inbox
     }
 
     /// Gives up the packet that came last.
@@ -127,47 +120,6 @@ impl Up {
         ensures there { IfSome result (λ filling. from + filling.count ≤ length self.old.held) }
     {
         self.inbox.filling(from, wanted)
-    }
-
-    /// Appends what fits of the packets behind the first `from` that fill an interrupt request. For want of memory some
-    /// of the bytes may be there, which the caller cuts off.
-    pub fn append_bodies(
-        &self,
-        from: usize,
-        filling: Filling,
-        out: &mut Bytes,
-    ) -> Result<(), Memory>
-        requires { from + filling.count ≤ length self.now.held }
-        ensures { AppendsSome result out.old out.new (filling_body (drop from self.now.held) filling) }
-    {
-        self.inbox.append_bodies(from, filling, out)
-    }
-
-    /// What an isochronous request is given of the packets behind the first `from`, which stay.
-    pub fn iso_filling(&self, from: usize, descs: &Descs) -> Option<IsoFilling>
-        requires { from ≤ length self.now.held }
-        ensures cut { MatchOption result (iso_cut descs.now (drop from self.now.held) ≡ None) (FillsIso descs.now (drop from self.now.held)) }
-        ensures fits { (size : ℕ) → IsTrue (laid descs.now size) → IfSome result (λ filling. filling.done ≤ size) }
-    {
-        self.inbox.iso_filling(from, descs)
-    }
-
-    /// Appends what fits of the packets behind the first `from`, one for each descriptor, without gaps. For want of
-    /// memory some of the bytes may be there, which the caller cuts off.
-    pub fn append_pieces(&self, from: usize, descs: &Descs, out: &mut Bytes) -> Result<(), Memory>
-        requires { from + length descs.now ≤ length self.now.held }
-        ensures { AppendsSome result out.old out.new (pieces descs.now (drop from self.now.held)) }
-    {
-        self.inbox.append_pieces(from, descs, out)
-    }
-
-    /// Appends the descriptors with what came of each of the packets behind the first `from`. For want of memory some of
-    /// the bytes may be there, which the caller cuts off.
-    pub fn append_filled(&self, from: usize, descs: &Descs, out: &mut Bytes) -> Result<(), Memory>
-        requires { from + length descs.now ≤ length self.now.held }
-        ensures { AppendsSome result out.old out.new (descs_bytes (all_filled descs.now (drop from self.now.held))) }
-    {
-        self.inbox.append_filled(from, descs, out)
     }
 }
 

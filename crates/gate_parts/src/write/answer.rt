@@ -2,7 +2,7 @@
 
 ghost use Rattle.usbip_urb.specs.declared.code.TheConstants.{MAX_LENGTH, MAX_PACKETS};
 ghost use Rattle.usbip_urb.specs.Buffers.{laid};
-ghost use Rattle.std.specs.Prelude.{◌≡◌, false, IsTrue, ◌++◌, ◌≤◌, ◌<◌, filter, length, not, OnOk, OnErr, IfOk};
+ghost use Rattle.std.specs.Prelude.{◌≡◌, ◌==◌, ◌%◌, false, IsTrue, ◌++◌, ◌≤◌, ◌<◌, filter, length, not, OnOk, OnErr, IfOk};
 ghost use Rattle.usbip_urb.specs.Spelling.{spelling};
 ghost use Rattle.usbip_urb.specs.declared.packet.UrbPacket.TheVariants.{RetSubmit as RetSubmitPacket};
 ghost use Rattle.gate_history.specs.write.Errno.{is_zero};
@@ -118,11 +118,18 @@ fn told_status(asked: &Asked, status: i32, actual: u32) -> i32
     ensures { result ≡ told_status (asked_view asked.now) status actual }
 {
     let is_short = asked.is_in && asked.descs.is_empty() && status == 0 && actual < asked.wanted;
-    if is_short && asked.flags % 2 == URB_SHORT_NOT_OK {
+    if is_short && fails_if_short(asked.flags) {
         EREMOTEIO
     } else {
         status
     }
+}
+
+// Whether these transfer flags say that a short read has failed.
+fn fails_if_short(flags: u32) -> bool
+    ensures { result ≡ (flags % 2 == 1) }
+{
+    flags % 2 == URB_SHORT_NOT_OK
 }
 
 // How many isochronous packets have a status other than 0.

@@ -31,7 +31,7 @@ use Rattle.gate_history.proofs.lemmas.step.Apart.{left-host, left-client}
 use Rattle.gate_history.proofs.lemmas.step.Capabilities.{left-over}
 use Rattle.gate_core.proofs.lemmas.step.Translator.{sends-none, translates-past, sends-past, past-skipped, translates-item, sends-item}
 use Rattle.gate_core.proofs.lemmas.step.Pieces.{TakesItem}
-use Rattle.gate_core.proofs.lemmas.step.Event.{all-same, stops-before, stands-for}
+use Rattle.gate_core.proofs.lemmas.step.Event.{all-same, stops-before, stops-still, stands-for}
 use Rattle.gate_history.proofs.lemmas.step.Empty.{split-empty}
 
 -- ---- a stream of which nothing has come
@@ -146,7 +146,4 @@ ends-host first old t kept events client_old client_new host_old host_new notes_
 pub stops-end : (first : ℕ) (old : Inner) (t : Translator) (events : List Event) (e : Event) (client_old client_new host_old host_new : List ℕ) (notes_old notes_new : List Note) → Stands first (kept_of old) events →
     DoesNothing old.translator t client_old client_new host_old host_new notes_old notes_new → FirstWants first (arrivals events) (brought events e) → Stops first (kept_of (record old { translator = t })) events e client_old client_new host_old host_new
 stops-end first old t events e client_old client_new host_old host_new notes_old notes_new stands nothing wants =
-    subst (λ (x : Translator). Stops first (kept_of (record old { translator = x })) events e client_old client_new host_old host_new) (sym nothing.same)
-    (subst (λ (x : List ℕ). Stops first (kept_of old) events e client_old x host_old host_new) (sym nothing.client)
-    (subst (λ (x : List ℕ). Stops first (kept_of old) events e client_old client_old host_old x) (sym nothing.host)
-    (stops-before first old events e client_old host_old (stands-for first old events stands) (inr wants))))
+    stops-still first old t events e client_old client_new host_old host_new notes_old notes_new nothing (stops-before first old events e client_old host_old (stands-for first old events stands) (inr wants))

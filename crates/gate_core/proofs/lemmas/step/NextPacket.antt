@@ -1,14 +1,18 @@
 -- A packet that is next in a stream fits its format.
-use Rattle.std.proofs.Common.{◌≡◌, ℕ, Bool, List, [], ◌∷◌, Option, Some, Result, Ok, refl, sym, subst}
+use Rattle.std.proofs.Common.{◌≡◌, ℕ, Bool, false, List, [], ◌∷◌, Option, Some, Result, Ok, refl, sym, subst}
+use Rattle.usb_base.specs.Number.{AreBytes}
 use Rattle.usb_base.specs.declared.reason.Reason.{Reason}
 use Rattle.packet_stream.specs.Format.{Format, IsSound}
 use Rattle.packet_stream.specs.Split.{Position, Spells, reads, split}
 use Rattle.packet_stream.specs.declared.read.ReadError.{ReadError}
-use Rattle.packet_stream.specs.Streams.{Kept, Left, FollowsBy, Follows, Gives, Answered, Nexts, Changes}
+use Rattle.packet_stream.specs.Streams.{Kept, Left, FollowsBy, Follows, Gives, Answered, Nexts, Changes, capped}
 use Rattle.packet_stream.proofs.Following.{follows-front}
 use Rattle.packet_stream.proofs.Splits.{is_splitting}
 use Rattle.packet_stream.proofs.Loops.{changed_to}
-use Rattle.gate_core.specs.inner.Steps.{IsReadable}
+
+-- the bytes of a stream are bytes, and its place is one
+abbrev pub IsReadable : {S : Type 0} → Kept S → Type 0
+IsReadable kept = kept.over ≡ false → AreBytes kept.rest × (kept.place ≡ capped kept.place)
 
 first-fits : {S P : Type 0} (format : S → Format P Reason) (next : S → P → S) (a z : Position S) (bytes rest : List ℕ) (ps left : List (ℕ × P)) (i : ℕ × P) → ps ≡ i ∷ left →
     Spells format next a bytes ps z rest → (format a.state).Fits i.1

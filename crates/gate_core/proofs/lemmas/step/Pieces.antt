@@ -1,6 +1,6 @@
 -- A piece of either side, item by item: the translator takes each, until the side is over.
 use Rattle.std.proofs.Common.{◌≡◌, ℕ, zero, suc, Bool, true, false, inl, inr, List, [], ◌∷◌, ◌++◌, length, Option, Some, None, Result, Ok, Err, refl, sym, ap, subst, ◌∙◌, append_assoc}
-use Rattle.std.specs.Prelude.{drop}
+use Rattle.std.specs.Prelude.{◌⊎◌, IsErr, drop}
 use Rattle.std.proofs.lemmas.Bool.{true≢false}
 use Rattle.std.proofs.lemmas.List.{append-nil}
 use Rattle.usb_base.specs.Number.{AreBytes}
@@ -10,7 +10,7 @@ use Rattle.usb_base.proofs.Numbers.{AreBytes-append}
 use Rattle.packet_stream.specs.declared.read.ReadError.{ReadError}
 use Rattle.packet_stream.specs.declared.read.ReadError.TheVariants.{Refused, Memory as OutOfMemory}
 use Rattle.packet_stream.specs.Split.{Splitting, split}
-use Rattle.packet_stream.specs.Streams.{Kept, passed, after_piece, Nexts, Puts, Changes}
+use Rattle.packet_stream.specs.Streams.{Kept, passed, after_piece, Follows, Nexts, Puts, Changes}
 use Rattle.packet_stream.specs.Items.{packets, wrongs, items, added}
 use Rattle.packet_stream.proofs.Loops.{changed_to}
 use Rattle.gate_history.specs.declared.item.Item.{Item as RawItem}
@@ -23,7 +23,7 @@ use Rattle.gate_history.specs.step.Meaning.{mark_of}
 use Rattle.gate_history.specs.step.Past.{is_left_out, past}
 use Rattle.gate_history.specs.step.History.{onto}
 use Rattle.gate_history.specs.step.Wants.{takes_memory, GivesSome, Wants}
-use Rattle.gate_core.specs.step.Stands.{Translates, StreamStands, HasAll, IsLeftBy}
+use Rattle.gate_core.specs.step.Stands.{Translates, HasAll, IsLeftBy}
 use Rattle.gate_core.specs.inner.Holds.{items_of, Holds, Does, DoesNothing}
 use Rattle.gate_history.specs.step.Fits.{IsItem}
 use Rattle.gate_core.specs.inner.Steps.{Sends, item_next, ended_if}
@@ -31,34 +31,35 @@ use Rattle.gate_history.proofs.lemmas.Lists.{Each, Each-append}
 use Rattle.gate_history.proofs.lemmas.state.Sound.{state-sound}
 use Rattle.gate_core.proofs.lemmas.step.Take.{Taken, over-put, taken-put, taken-packet, taken-wrong, taken-ended, taken-all, cut-passed, IsMore, IsNextBy, taken-stuck}
 use Rattle.gate_core.proofs.lemmas.step.Translator.{sends-none, translates-past, sends-past, past-skipped, translates-item, sends-item}
+use Rattle.gate_core.specs.inner.Sides.{Half, IsAt, GoesOn, Finished, Halted, IsUnput, TakesPiece}
 use Rattle.gate_core.proofs.lemmas.step.Sides.{Side}
 use Rattle.gate_history.proofs.lemmas.step.Piece.{onto-append}
 
 -- ---- lists of items
 
-pub came-onto : {S P Q : Type 0} (first : ℕ) (d : Side S P Q first) (more : List (ℕ × P)) (xs : List Item) → d.came (onto (packets d.stream more) xs) ≡ d.came xs ++ more
-came-onto first d [] xs = sym (append-nil (d.came xs))
+pub came-onto : {S P : Type 0} (first : ℕ) (d : Side S P first) (more : List (ℕ × P)) (xs : List Item) → d.half.came (onto (packets d.half.stream more) xs) ≡ d.half.came xs ++ more
+came-onto first d [] xs = sym (append-nil (d.half.came xs))
 came-onto {P = P} first d (i ∷ more) xs =
-    came-onto first d more (d.stream.packet i.0 i.1 ∷ xs)
-    ∙ ap (λ (l : List (ℕ × P)). l ++ more) (d.came_packet xs i.0 i.1)
-    ∙ append_assoc (d.came xs) (i ∷ []) more
+    came-onto first d more (d.half.stream.packet i.0 i.1 ∷ xs)
+    ∙ ap (λ (l : List (ℕ × P)). l ++ more) (d.laws.came_packet xs i.0 i.1)
+    ∙ append_assoc (d.half.came xs) (i ∷ []) more
 
 -- ---- what is left out of a side that is over
 
-record Skips {S P Q : Type 0} (first : ℕ) (d : Side S P Q first) (x : Item) : Type 0 where
-  pub out : (xs : List Item) → is_left_out (state_of first (past first xs)) x ≡ d.stream.over xs
-  pub others : (xs : List Item) → d.others (x ∷ xs) ≡ d.others xs
+record Skips {S P : Type 0} (first : ℕ) (d : Side S P first) (x : Item) : Type 0 where
+  pub out : (xs : List Item) → is_left_out (state_of first (past first xs)) x ≡ d.half.stream.over xs
+  pub others : (xs : List Item) → d.half.others (x ∷ xs) ≡ d.half.others xs
 
-each-packet : {S P Q : Type 0} (first : ℕ) (d : Side S P Q first) (found : List (ℕ × P)) → Each (Skips first d) (packets d.stream found)
+each-packet : {S P : Type 0} (first : ℕ) (d : Side S P first) (found : List (ℕ × P)) → Each (Skips first d) (packets d.half.stream found)
 each-packet first d [] = tt
-each-packet first d (i ∷ found) = (record { out = λ xs. d.out_packet xs i.0 i.1; others = λ xs. d.others_packet xs i.0 i.1 }, each-packet first d found)
+each-packet first d (i ∷ found) = (record { out = λ xs. d.laws.out_packet xs i.0 i.1; others = λ xs. d.laws.others_packet xs i.0 i.1 }, each-packet first d found)
 
-each-wrong : {S P Q : Type 0} (first : ℕ) (d : Side S P Q first) (o : Option (ℕ × Reason)) → Each (Skips first d) (wrongs d.stream o)
+each-wrong : {S P : Type 0} (first : ℕ) (d : Side S P first) (o : Option (ℕ × Reason)) → Each (Skips first d) (wrongs d.half.stream o)
 each-wrong first d None = tt
-each-wrong first d (Some w) = (record { out = λ xs. d.out_wrong xs w.0 w.1; others = λ xs. d.others_wrong xs w.0 w.1 }, tt)
+each-wrong first d (Some w) = (record { out = λ xs. d.laws.out_wrong xs w.0 w.1; others = λ xs. d.laws.others_wrong xs w.0 w.1 }, tt)
 
-each-item : {S P Q : Type 0} (first : ℕ) (d : Side S P Q first) (x : Splitting S P Reason) → Each (Skips first d) (items d.stream x)
-each-item first d x = Each-append (Skips first d) (packets d.stream x.packets) (wrongs d.stream x.wrong) (each-packet first d x.packets) (each-wrong first d x.wrong)
+each-item : {S P : Type 0} (first : ℕ) (d : Side S P first) (x : Splitting S P Reason) → Each (Skips first d) (items d.half.stream x)
+each-item first d x = Each-append (Skips first d) (packets d.half.stream x.packets) (wrongs d.half.stream x.wrong) (each-packet first d x.packets) (each-wrong first d x.wrong)
 
 each-drop : {X : Type 0} (P : X → Type 0) (n : ℕ) (xs : List X) → Each P xs → Each P (drop n xs)
 each-drop P zero xs e = e
@@ -69,46 +70,60 @@ each-right : {X : Type 0} (P : X → Type 0) (xs ys : List X) → Each P (xs ++ 
 each-right P [] ys e = e
 each-right P (x ∷ xs) ys e = each-right P xs ys e.1
 
-each-later : {S P Q : Type 0} (first : ℕ) (d : Side S P Q first) (bytes piece : List ℕ) (taken later : List Item) → added d.stream bytes piece ≡ taken ++ later → Each (Skips first d) later
+each-later : {S P : Type 0} (first : ℕ) (d : Side S P first) (bytes piece : List ℕ) (taken later : List Item) → added d.half.stream bytes piece ≡ taken ++ later → Each (Skips first d) later
 each-later first d bytes piece taken later parts =
     each-right (Skips first d) taken later (subst (Each (Skips first d)) parts
-    (each-drop (Skips first d) (length (items d.stream (split d.stream.reader d.stream.start bytes))) (items d.stream (split d.stream.reader d.stream.start (bytes ++ piece)))
-    (each-item first d (split d.stream.reader d.stream.start (bytes ++ piece)))))
+    (each-drop (Skips first d) (length (items d.half.stream (split d.half.stream.reader d.half.stream.start bytes))) (items d.half.stream (split d.half.stream.reader d.half.stream.start (bytes ++ piece)))
+    (each-item first d (split d.half.stream.reader d.half.stream.start (bytes ++ piece)))))
 
-record Skipped {S P Q : Type 0} (first : ℕ) (d : Side S P Q first) (xs ys : List Item) : Type 0 where
+record Skipped {S P : Type 0} (first : ℕ) (d : Side S P first) (xs ys : List Item) : Type 0 where
   pub past-is : past first ys ≡ past first xs
-  pub others-are : d.others ys ≡ d.others xs
+  pub others-are : d.half.others ys ≡ d.half.others xs
 
-skip-all : {S P Q : Type 0} (first : ℕ) (d : Side S P Q first) (later xs : List Item) → d.stream.over xs ≡ true → Each (Skips first d) later → Skipped first d xs (onto later xs)
+skip-all : {S P : Type 0} (first : ℕ) (d : Side S P first) (later xs : List Item) → d.half.stream.over xs ≡ true → Each (Skips first d) later → Skipped first d xs (onto later xs)
 skip-all first d [] xs over e = record { past-is = refl; others-are = refl }
 skip-all first d (x ∷ later) xs over e =
     let same : past first (x ∷ xs) ≡ past first xs = past-skipped first xs x (e.0.out xs ∙ over) in
-    let rest = skip-all first d later (x ∷ xs) (d.over_past (x ∷ xs) xs same ∙ over) e.1 in
+    let rest = skip-all first d later (x ∷ xs) (d.laws.over_past (x ∷ xs) xs same ∙ over) e.1 in
     record { past-is = rest.past-is ∙ same; others-are = rest.others-are ∙ e.0.others xs }
 
 -- ---- within the piece
 
-pub record Taking {S P Q : Type 0} (first : ℕ) (d : Side S P Q first) (kept : Kept S) (t : Translator) (bytes piece : List ℕ) (before : List Item) (client_old client_new host_old host_new : List ℕ) (notes_old notes_new : List Note) : Type 0 where
+pub record Taking {S P : Type 0} (first : ℕ) (h : Half S P) (kept : Kept S) (t : Translator) (bytes piece : List ℕ) (before : List Item) (client_old client_new host_old host_new : List ℕ) (notes_old notes_new : List Note) : Type 0 where
   pub taken : List Item
-  pub stream : Taken d.stream kept bytes piece (d.came before) taken
-  pub over_is : kept.over ≡ d.stream.over (onto taken before)
+  pub stream : Taken h.stream kept bytes piece (h.came before) taken
+  pub over_is : kept.over ≡ h.stream.over (onto taken before)
   pub translates : Translates first (items_of t) (onto taken before)
   pub sends : Sends first client_old client_new host_old host_new notes_old notes_new before (onto taken before)
-  pub others_are : d.others (onto taken before) ≡ d.others before
-  pub other_over : d.other_over (onto taken before) ≡ d.other_over before
+  pub others_are : h.others (onto taken before) ≡ h.others before
+  pub other_over : h.other_over (onto taken before) ≡ h.other_over before
 
-pub taking-first : {S P Q : Type 0} (first : ℕ) (d : Side S P Q first) (old new : Kept S) (t : Translator) (bytes piece : List ℕ) (before : List Item) (client host : List ℕ) (notes : List Note) → AreBytes piece →
-    HasAll d.stream.reader d.stream.start old bytes (d.came before) (d.stream.over before) → Translates first (items_of t) before → new ≡ after_piece old piece → Puts d.stream.reader piece old new →
-    Taking first d new t bytes piece before client client host host notes notes
+pub taking-first : {S P : Type 0} (first : ℕ) (d : Side S P first) (old new : Kept S) (t : Translator) (bytes piece : List ℕ) (before : List Item) (client host : List ℕ) (notes : List Note) → AreBytes piece →
+    HasAll d.half.stream.reader d.half.stream.start old bytes (d.half.came before) (d.half.stream.over before) → Translates first (items_of t) before → new ≡ after_piece old piece → Puts d.half.stream.reader piece old new →
+    Taking first d.half new t bytes piece before client client host host notes notes
 taking-first first d old new t bytes piece before client host notes are all translates is puts = record {
   taken = [];
-  stream = taken-put d.stream d.steady old new bytes piece (d.came before) (d.stream.over before) are all is puts;
+  stream = taken-put d.half.stream d.steady old new bytes piece (d.half.came before) (d.half.stream.over before) are all is puts;
   over_is = over-put old new piece is ∙ all.over_is;
   translates = translates;
   sends = sends-none first client host notes before;
   others_are = refl;
   other_over = refl;
 }
+
+-- the stream goes on behind what was taken
+pub goes-on : {S P : Type 0} (first : ℕ) (d : Side S P first) (kept : Kept S) (t : Translator) (bytes piece : List ℕ) (before : List Item) (client_old client_new host_old host_new : List ℕ) (notes_old notes_new : List Note) →
+    Taking first d.half kept t bytes piece before client_old client_new host_old host_new notes_old notes_new → kept.over ≡ false → GoesOn first d.half kept t
+goes-on {P = P} first d kept t bytes piece before client_old client_new host_old host_new notes_old notes_new k runs =
+    let g = k.stream.going runs in
+    let came : d.half.came (onto k.taken before) ≡ d.half.came before ++ g.more = ap (λ (l : List Item). d.half.came (onto l before)) g.are ∙ came-onto first d g.more before in
+    record {
+      items = onto k.taken before;
+      bytes = bytes ++ piece;
+      follows = subst (λ (l : List (ℕ × P)). Follows d.half.stream.reader d.half.stream.start kept (bytes ++ piece) l) (sym came) g.follows;
+      runs = sym k.over_is ∙ runs;
+      translates = k.translates;
+    }
 
 -- what the translator says of an item that it took
 abbrev pub TakesItem : Translator → Translator → RawItem → List ℕ → List ℕ → List ℕ → List ℕ → List Note → List Note → Type 0
@@ -119,11 +134,11 @@ ended-over : {S : Type 0} (kept : Kept S) (flag over : Bool) → flag ≡ over �
 ended-over kept true over e going = e
 ended-over kept false over e going = going (sym e) ∙ e
 
-taking-one : {S P Q : Type 0} (first : ℕ) (d : Side S P Q first) (old new : Kept S) (t u : Translator) (bytes piece : List ℕ) (before : List Item) (client_old client client_new host_old host host_new : List ℕ) (notes_old notes notes_new : List Note) (item : RawItem) (x : Item) →
-    (k : Taking first d old t bytes piece before client_old client host_old host notes_old notes) → old.over ≡ false → Taken d.stream new bytes piece (d.came before) (k.taken ++ x ∷ []) → IsItem item x →
-    ((xs : List Item) → is_left_out (state_of first (past first xs)) x ≡ d.stream.over xs) → ((xs : List Item) → d.others (x ∷ xs) ≡ d.others xs) → ((xs : List Item) → d.other_over (x ∷ xs) ≡ d.other_over xs) →
-    ((xs : List Item) → d.stream.over (x ∷ xs) ≡ false → new.over ≡ false) →
-    TakesItem t u item client client_new host host_new notes notes_new → Taking first d (ended_if (d.flag u) new) u bytes piece before client_old client_new host_old host_new notes_old notes_new
+taking-one : {S P : Type 0} (first : ℕ) (d : Side S P first) (old new : Kept S) (t u : Translator) (bytes piece : List ℕ) (before : List Item) (client_old client client_new host_old host host_new : List ℕ) (notes_old notes notes_new : List Note) (item : RawItem) (x : Item) →
+    (k : Taking first d.half old t bytes piece before client_old client host_old host notes_old notes) → old.over ≡ false → Taken d.half.stream new bytes piece (d.half.came before) (k.taken ++ x ∷ []) → IsItem item x →
+    ((xs : List Item) → is_left_out (state_of first (past first xs)) x ≡ d.half.stream.over xs) → ((xs : List Item) → d.half.others (x ∷ xs) ≡ d.half.others xs) → ((xs : List Item) → d.half.other_over (x ∷ xs) ≡ d.half.other_over xs) →
+    ((xs : List Item) → d.half.stream.over (x ∷ xs) ≡ false → new.over ≡ false) →
+    TakesItem t u item client client_new host host_new notes notes_new → Taking first d.half (ended_if (d.flag u) new) u bytes piece before client_old client_new host_old host_new notes_old notes_new
 taking-one first d old new t u bytes piece before client_old client client_new host_old host host_new notes_old notes notes_new item x k runs stream is out others other going takes =
     let xs = onto k.taken before in
     let st = state_of first (past first xs) in
@@ -133,79 +148,71 @@ taking-one first d old new t u bytes piece before client_old client client_new h
     let behind : onto (k.taken ++ x ∷ []) before ≡ x ∷ xs = onto-append k.taken (x ∷ []) before in
     record {
       taken = k.taken ++ x ∷ [];
-      stream = taken-ended d.stream new bytes piece (d.came before) (k.taken ++ x ∷ []) stream (d.flag u);
-      over_is = ended-over new (d.flag u) (d.stream.over (x ∷ xs)) (d.flag_is u (x ∷ xs) translates) (going xs) ∙ ap d.stream.over (sym behind);
+      stream = taken-ended d.half.stream new bytes piece (d.half.came before) (k.taken ++ x ∷ []) stream (d.flag u);
+      over_is = ended-over new (d.flag u) (d.half.stream.over (x ∷ xs)) (d.laws.over_is u (x ∷ xs) translates) (going xs) ∙ ap d.half.stream.over (sym behind);
       translates = subst (Translates first (items_of u)) (sym behind) translates;
       sends = subst (Sends first client_old client_new host_old host_new notes_old notes_new before) (sym behind)
           (sends-item first t u before xs x client_old client client_new host_old host host_new notes_old notes notes_new k.sends taken does);
-      others_are = ap d.others behind ∙ others xs ∙ k.others_are;
-      other_over = ap d.other_over behind ∙ other xs ∙ k.other_over;
+      others_are = ap d.half.others behind ∙ others xs ∙ k.others_are;
+      other_over = ap d.half.other_over behind ∙ other xs ∙ k.other_over;
     }
 
 pub same-item : (a b : RawItem) → ◌≡◌ {A = Result (Option RawItem) Memory} (Ok (Some a)) (Ok (Some b)) → a ≡ b
 same-item a b e = cc
 
-pub taking-item : {S P Q : Type 0} (first : ℕ) (d : Side S P Q first) (takes : P → Bool) (old new : Kept S) (t u : Translator) (bytes piece : List ℕ) (before : List Item) (client_old client client_new host_old host host_new : List ℕ) (notes_old notes notes_new : List Note) (item : RawItem) (answer : Result (Option (ℕ × P)) ReadError) →
-    item_next d.raw_packet d.raw_wrong answer ≡ Ok (Some item) → Changes answer old new → Nexts d.stream.reader takes answer old new → TakesItem t u item client client_new host host_new notes notes_new →
-    Taking first d old t bytes piece before client_old client host_old host notes_old notes →
-    Taking first d (ended_if (d.flag u) new) u bytes piece before client_old client_new host_old host_new notes_old notes_new
+pub taking-item : {S P : Type 0} (first : ℕ) (d : Side S P first) (takes : P → Bool) (old new : Kept S) (t u : Translator) (bytes piece : List ℕ) (before : List Item) (client_old client client_new host_old host host_new : List ℕ) (notes_old notes notes_new : List Note) (item : RawItem) (answer : Result (Option (ℕ × P)) ReadError) →
+    item_next d.raw_packet d.raw_wrong answer ≡ Ok (Some item) → Changes answer old new → Nexts d.half.stream.reader takes answer old new → TakesItem t u item client client_new host host_new notes notes_new →
+    Taking first d.half old t bytes piece before client_old client host_old host notes_old notes →
+    Taking first d.half (ended_if (d.flag u) new) u bytes piece before client_old client_new host_old host_new notes_old notes_new
 taking-item first d takes old new t u bytes piece before client_old client client_new host_old host host_new notes_old notes notes_new item (Ok None) is changes nexts translator k = absurd cc
 taking-item first d takes old new t u bytes piece before client_old client client_new host_old host host_new notes_old notes notes_new item (Ok (Some i)) is changes nexts translator k =
-    let a = taken-packet d.stream takes old new bytes piece (d.came before) k.taken i k.stream changes nexts in
-    let x = d.stream.packet a.at i.1 in
-    let it : IsItem item x = subst (λ (y : RawItem). IsItem y x) (same-item (d.raw_packet i.0 i.1) item is) (d.is_packet i.0 a.at i.1 a.place-is) in
+    let a = taken-packet d.half.stream takes old new bytes piece (d.half.came before) k.taken i k.stream changes nexts in
+    let x = d.half.stream.packet a.at i.1 in
+    let it : IsItem item x = subst (λ (y : RawItem). IsItem y x) (same-item (d.raw_packet i.0 i.1) item is) (d.laws.is_packet i.0 a.at i.1 a.place-is) in
     taking-one first d old new t u bytes piece before client_old client client_new host_old host host_new notes_old notes notes_new item x k changes.1 a.stream it
-    (λ xs. d.out_packet xs a.at i.1) (λ xs. d.others_packet xs a.at i.1) (λ xs. d.other_packet xs a.at i.1) (λ xs _. changes.2) translator
+    (λ xs. d.laws.out_packet xs a.at i.1) (λ xs. d.laws.others_packet xs a.at i.1) (λ xs. d.laws.other_packet xs a.at i.1) (λ xs _. changes.2) translator
 taking-item first d takes old new t u bytes piece before client_old client client_new host_old host host_new notes_old notes notes_new item (Err (Refused place why)) is changes nexts translator k =
-    let a = taken-wrong d.stream takes old new bytes piece (d.came before) k.taken place why k.stream changes nexts in
-    let x = d.stream.wrong a.at why in
-    let it : IsItem item x = subst (λ (y : RawItem). IsItem y x) (same-item (d.raw_wrong place why) item is) (d.is_wrong place a.at why a.place-is) in
+    let a = taken-wrong d.half.stream takes old new bytes piece (d.half.came before) k.taken place why k.stream changes nexts in
+    let x = d.half.stream.wrong a.at why in
+    let it : IsItem item x = subst (λ (y : RawItem). IsItem y x) (same-item (d.raw_wrong place why) item is) (d.laws.is_wrong place a.at why a.place-is) in
     taking-one first d old new t u bytes piece before client_old client client_new host_old host host_new notes_old notes notes_new item x k changes.0 a.stream it
-    (λ xs. d.out_wrong xs a.at why) (λ xs. d.others_wrong xs a.at why) (λ xs. d.other_wrong xs a.at why) (λ xs e. absurd (true≢false (sym (d.over_wrong xs a.at why) ∙ e))) translator
+    (λ xs. d.laws.out_wrong xs a.at why) (λ xs. d.laws.others_wrong xs a.at why) (λ xs. d.laws.other_wrong xs a.at why) (λ xs e. absurd (true≢false (sym (d.laws.over_wrong xs a.at why) ∙ e))) translator
 taking-item first d takes old new t u bytes piece before client_old client client_new host_old host host_new notes_old notes notes_new item (Err OutOfMemory) is changes nexts translator k = absurd cc
 
 -- ---- nothing more is there
 
--- all that the piece brought was taken or is left out
-pub record Finished {S P Q : Type 0} (first : ℕ) (d : Side S P Q first) (kept : Kept S) (t : Translator) (bytes piece : List ℕ) (before : List Item) (client_old client_new host_old host_new : List ℕ) (notes_old notes_new : List Note) : Type 0 where
-  pub all : HasAll d.stream.reader d.stream.start kept (bytes ++ piece) (d.came (onto (added d.stream bytes piece) before)) (d.stream.over (onto (added d.stream bytes piece) before))
-  pub translates : Translates first (items_of t) (onto (added d.stream bytes piece) before)
-  pub sends : Sends first client_old client_new host_old host_new notes_old notes_new before (onto (added d.stream bytes piece) before)
-  pub others_are : d.others (onto (added d.stream bytes piece) before) ≡ d.others before
-  pub other_over : d.other_over (onto (added d.stream bytes piece) before) ≡ d.other_over before
-
-finished-going : {S P Q : Type 0} (first : ℕ) (d : Side S P Q first) (takes : P → Bool) (old new : Kept S) (t : Translator) (bytes piece : List ℕ) (before : List Item) (client_old client_new host_old host_new : List ℕ) (notes_old notes_new : List Note) →
-    Changes {P = P} (Ok None) old new → Nexts d.stream.reader takes (Ok None) old new → Taking first d old t bytes piece before client_old client_new host_old host_new notes_old notes_new → old.over ≡ false →
-    Finished first d new t bytes piece before client_old client_new host_old host_new notes_old notes_new
+finished-going : {S P : Type 0} (first : ℕ) (d : Side S P first) (takes : P → Bool) (old new : Kept S) (t : Translator) (bytes piece : List ℕ) (before : List Item) (client_old client_new host_old host_new : List ℕ) (notes_old notes_new : List Note) →
+    Changes {P = P} (Ok None) old new → Nexts d.half.stream.reader takes (Ok None) old new → Taking first d.half old t bytes piece before client_old client_new host_old host_new notes_old notes_new → old.over ≡ false →
+    Finished first d.half new t bytes piece before client_old client_new host_old host_new notes_old notes_new
 finished-going {S = S} {P = P} first d takes old new t bytes piece before client_old client_new host_old host_new notes_old notes_new changes nexts k runs =
-    let a = taken-all d.stream takes old new bytes piece (d.came before) k.taken k.stream changes nexts runs in
+    let a = taken-all d.half.stream takes old new bytes piece (d.half.came before) k.taken k.stream changes nexts runs in
     let xs = onto k.taken before in
-    let same : onto (added d.stream bytes piece) before ≡ xs = ap (λ (l : List Item). onto l before) a.parts in
-    let came : d.came xs ≡ d.came before ++ a.more = ap (λ (l : List Item). d.came (onto l before)) a.are ∙ came-onto first d a.more before in
-    let over : d.stream.over xs ≡ false = sym k.over_is ∙ runs in
-    let all : HasAll d.stream.reader d.stream.start new (bytes ++ piece) (d.came xs) (d.stream.over xs) =
-    subst (λ (l : List (ℕ × P)). HasAll d.stream.reader d.stream.start new (bytes ++ piece) l (d.stream.over xs)) (sym came)
-    (subst (HasAll d.stream.reader d.stream.start new (bytes ++ piece) (d.came before ++ a.more)) (sym over) a.all) in
+    let same : onto (added d.half.stream bytes piece) before ≡ xs = ap (λ (l : List Item). onto l before) a.parts in
+    let came : d.half.came xs ≡ d.half.came before ++ a.more = ap (λ (l : List Item). d.half.came (onto l before)) a.are ∙ came-onto first d a.more before in
+    let over : d.half.stream.over xs ≡ false = sym k.over_is ∙ runs in
+    let all : HasAll d.half.stream.reader d.half.stream.start new (bytes ++ piece) (d.half.came xs) (d.half.stream.over xs) =
+    subst (λ (l : List (ℕ × P)). HasAll d.half.stream.reader d.half.stream.start new (bytes ++ piece) l (d.half.stream.over xs)) (sym came)
+    (subst (HasAll d.half.stream.reader d.half.stream.start new (bytes ++ piece) (d.half.came before ++ a.more)) (sym over) a.all) in
     record {
-      all = subst (λ (l : List Item). HasAll d.stream.reader d.stream.start new (bytes ++ piece) (d.came l) (d.stream.over l)) (sym same) all;
+      all = subst (λ (l : List Item). HasAll d.half.stream.reader d.half.stream.start new (bytes ++ piece) (d.half.came l) (d.half.stream.over l)) (sym same) all;
       translates = subst (Translates first (items_of t)) (sym same) k.translates;
       sends = subst (Sends first client_old client_new host_old host_new notes_old notes_new before) (sym same) k.sends;
-      others_are = ap d.others same ∙ k.others_are;
-      other_over = ap d.other_over same ∙ k.other_over;
+      others_are = ap d.half.others same ∙ k.others_are;
+      other_over = ap d.half.other_over same ∙ k.other_over;
     }
 
-finished-over : {S P Q : Type 0} (first : ℕ) (d : Side S P Q first) (old new : Kept S) (t : Translator) (bytes piece : List ℕ) (before : List Item) (client_old client_new host_old host_new : List ℕ) (notes_old notes_new : List Note) →
-    AreBytes bytes → AreBytes piece → new ≡ passed old → Taking first d old t bytes piece before client_old client_new host_old host_new notes_old notes_new → old.over ≡ true →
-    Finished first d new t bytes piece before client_old client_new host_old host_new notes_old notes_new
+finished-over : {S P : Type 0} (first : ℕ) (d : Side S P first) (old new : Kept S) (t : Translator) (bytes piece : List ℕ) (before : List Item) (client_old client_new host_old host_new : List ℕ) (notes_old notes_new : List Note) →
+    AreBytes bytes → AreBytes piece → new ≡ passed old → Taking first d.half old t bytes piece before client_old client_new host_old host_new notes_old notes_new → old.over ≡ true →
+    Finished first d.half new t bytes piece before client_old client_new host_old host_new notes_old notes_new
 finished-over {S = S} first d old new t bytes piece before client_old client_new host_old host_new notes_old notes_new are more is k ends =
-    let cut = cut-passed d.stream old new bytes piece k.taken is (k.stream.cut ends) in
+    let cut = cut-passed d.half.stream old new bytes piece k.taken is (k.stream.cut ends) in
     let xs = onto k.taken before in
-    let over : d.stream.over xs ≡ true = sym k.over_is ∙ ends in
+    let over : d.half.stream.over xs ≡ true = sym k.over_is ∙ ends in
     let skipped = skip-all first d cut.later xs over (each-later first d bytes piece k.taken cut.later cut.parts) in
-    let ys = onto (added d.stream bytes piece) before in
+    let ys = onto (added d.half.stream bytes piece) before in
     let same : ys ≡ onto cut.later xs = ap (λ (l : List Item). onto l before) cut.parts ∙ onto-append k.taken cut.later before in
     let past-is : past first ys ≡ past first xs = ap (past first) same ∙ skipped.past-is in
-    let still : d.stream.over ys ≡ true = d.over_past ys xs past-is ∙ over in
+    let still : d.half.stream.over ys ≡ true = d.laws.over_past ys xs past-is ∙ over in
     record {
       all = record {
         over_is = ap (λ (k : Kept S). k.over) is ∙ ends ∙ sym still;
@@ -218,13 +225,13 @@ finished-over {S = S} first d old new t bytes piece before client_old client_new
       };
       translates = translates-past first t xs ys past-is k.translates;
       sends = sends-past first client_old client_new host_old host_new notes_old notes_new before xs ys past-is k.sends;
-      others_are = ap d.others same ∙ skipped.others-are ∙ k.others_are;
-      other_over = d.other_past ys xs past-is ∙ k.other_over;
+      others_are = ap d.half.others same ∙ skipped.others-are ∙ k.others_are;
+      other_over = d.laws.other_past ys xs past-is ∙ k.other_over;
     }
 
-finished-by : {S P Q : Type 0} (first : ℕ) (d : Side S P Q first) (takes : P → Bool) (old new : Kept S) (t : Translator) (bytes piece : List ℕ) (before : List Item) (client_old client_new host_old host_new : List ℕ) (notes_old notes_new : List Note) →
-    AreBytes bytes → AreBytes piece → Changes {P = P} (Ok None) old new → Nexts d.stream.reader takes (Ok None) old new → Taking first d old t bytes piece before client_old client_new host_old host_new notes_old notes_new →
-    (over : Bool) → old.over ≡ over → Finished first d new t bytes piece before client_old client_new host_old host_new notes_old notes_new
+finished-by : {S P : Type 0} (first : ℕ) (d : Side S P first) (takes : P → Bool) (old new : Kept S) (t : Translator) (bytes piece : List ℕ) (before : List Item) (client_old client_new host_old host_new : List ℕ) (notes_old notes_new : List Note) →
+    AreBytes bytes → AreBytes piece → Changes {P = P} (Ok None) old new → Nexts d.half.stream.reader takes (Ok None) old new → Taking first d.half old t bytes piece before client_old client_new host_old host_new notes_old notes_new →
+    (over : Bool) → old.over ≡ over → Finished first d.half new t bytes piece before client_old client_new host_old host_new notes_old notes_new
 finished-by first d takes old new t bytes piece before client_old client_new host_old host_new notes_old notes_new are more changes nexts k false runs =
     finished-going first d takes old new t bytes piece before client_old client_new host_old host_new notes_old notes_new changes nexts k runs
 finished-by first d takes old new t bytes piece before client_old client_new host_old host_new notes_old notes_new are more changes nexts k true ends =
@@ -236,28 +243,15 @@ no-item packet wrong (Ok (Some i)) e = absurd cc
 no-item packet wrong (Err (Refused place why)) e = absurd cc
 no-item packet wrong (Err OutOfMemory) e = absurd cc
 
-pub taking-all : {S P Q : Type 0} (first : ℕ) (d : Side S P Q first) (takes : P → Bool) (old new : Kept S) (t : Translator) (bytes piece : List ℕ) (before : List Item) (client_old client_new host_old host_new : List ℕ) (notes_old notes_new : List Note) (answer : Result (Option (ℕ × P)) ReadError) →
-    AreBytes bytes → AreBytes piece → item_next d.raw_packet d.raw_wrong answer ≡ Ok None → Changes answer old new → Nexts d.stream.reader takes answer old new →
-    Taking first d old t bytes piece before client_old client_new host_old host_new notes_old notes_new → Finished first d new t bytes piece before client_old client_new host_old host_new notes_old notes_new
+pub taking-all : {S P : Type 0} (first : ℕ) (d : Side S P first) (takes : P → Bool) (old new : Kept S) (t : Translator) (bytes piece : List ℕ) (before : List Item) (client_old client_new host_old host_new : List ℕ) (notes_old notes_new : List Note) (answer : Result (Option (ℕ × P)) ReadError) →
+    AreBytes bytes → AreBytes piece → item_next d.raw_packet d.raw_wrong answer ≡ Ok None → Changes answer old new → Nexts d.half.stream.reader takes answer old new →
+    Taking first d.half old t bytes piece before client_old client_new host_old host_new notes_old notes_new → Finished first d.half new t bytes piece before client_old client_new host_old host_new notes_old notes_new
 taking-all {P = P} first d takes old new t bytes piece before client_old client_new host_old host_new notes_old notes_new answer are more is changes nexts k =
     let none = no-item d.raw_packet d.raw_wrong answer is in
     finished-by first d takes old new t bytes piece before client_old client_new host_old host_new notes_old notes_new are more (changed_to old new answer (Ok None) changes none)
-    (subst (λ (x : Result (Option (ℕ × P)) ReadError). Nexts d.stream.reader takes x old new) none nexts) k old.over refl
+    (subst (λ (x : Result (Option (ℕ × P)) ReadError). Nexts d.half.stream.reader takes x old new) none nexts) k old.over refl
 
 -- ---- memory ran out
-
--- some of the items that the piece brought were taken
-pub record Halted {S P Q : Type 0} (first : ℕ) (d : Side S P Q first) (kept : Kept S) (t : Translator) (bytes piece : List ℕ) (before : List Item) (client_old client_new host_old host_new : List ℕ) (notes_old notes_new : List Note) : Type 0 where
-  pub taken : List Item
-  pub next : Item
-  pub behind : List Item
-  pub parts : added d.stream bytes piece ≡ taken ++ next ∷ behind
-  pub wants : Wants first (onto taken before) next
-  pub stands : StreamStands d.stream.reader d.stream.start kept (bytes ++ piece) (d.came (onto taken before)) (d.stream.over (onto taken before))
-  pub translates : Translates first (items_of t) (onto taken before)
-  pub sends : Sends first client_old client_new host_old host_new notes_old notes_new before (onto taken before)
-  pub others_are : d.others (onto taken before) ≡ d.others before
-  pub other_over : d.other_over (onto taken before) ≡ d.other_over before
 
 more-runs : {S P : Type 0} (old new : Kept S) (answer : Result (Option (ℕ × P)) ReadError) → IsMore answer → Changes answer old new → old.over ≡ false
 more-runs old new (Ok None) more changes = absurd more
@@ -276,38 +270,38 @@ wants-more packet wrong t (Ok None) w = w
 wants-more packet wrong t (Ok (Some i)) w = tt
 wants-more packet wrong t (Err e) w = tt
 
-wants-by : {S P Q : Type 0} (first : ℕ) (d : Side S P Q first) (takes : P → Bool) → ((n : ℕ) (p : P) → takes p ≡ takes_memory (d.stream.packet n p)) → (t : Translator) (xs : List Item) (answer : Result (Option (ℕ × P)) ReadError) (x : Item) →
-    IsNextBy d.stream takes answer x → WantsItem t (item_next d.raw_packet d.raw_wrong answer) → Translates first (items_of t) xs → d.stream.over xs ≡ false → Wants first xs x
+wants-by : {S P : Type 0} (first : ℕ) (d : Side S P first) (takes : P → Bool) → ((n : ℕ) (p : P) → takes p ≡ takes_memory (d.half.stream.packet n p)) → (t : Translator) (xs : List Item) (answer : Result (Option (ℕ × P)) ReadError) (x : Item) →
+    IsNextBy d.half.stream takes answer x → WantsItem t (item_next d.raw_packet d.raw_wrong answer) → Translates first (items_of t) xs → d.half.stream.over xs ≡ false → Wants first xs x
 wants-by first d takes same t xs (Ok None) x is w translates over = absurd is
 wants-by {P = P} first d takes same t xs (Ok (Some i)) x is w translates over =
     let st = state_of first (past first xs) in
     subst (Wants first xs) (sym is.2) (record {
-      comes = d.out_packet xs is.0 i.1 ∙ over;
-      some = inr (w st (d.stream.packet is.0 i.1) (d.is_packet i.0 is.0 i.1 is.1) translates.state (state-sound first xs));
+      comes = d.laws.out_packet xs is.0 i.1 ∙ over;
+      some = inr (w st (d.half.stream.packet is.0 i.1) (d.laws.is_packet i.0 is.0 i.1 is.1) translates.state (state-sound first xs));
     })
 wants-by first d takes same t xs (Err (Refused place why)) x is w translates over =
     let st = state_of first (past first xs) in
     subst (Wants first xs) (sym is.2) (record {
-      comes = d.out_wrong xs is.0 why ∙ over;
-      some = inr (w st (d.stream.wrong is.0 why) (d.is_wrong place is.0 why is.1) translates.state (state-sound first xs));
+      comes = d.laws.out_wrong xs is.0 why ∙ over;
+      some = inr (w st (d.half.stream.wrong is.0 why) (d.laws.is_wrong place is.0 why is.1) translates.state (state-sound first xs));
     })
 wants-by first d takes same t xs (Err OutOfMemory) x is w translates over =
     subst (Wants first xs) (sym is.1) (record {
-      comes = d.out_packet xs is.0.0 is.0.1 ∙ over;
+      comes = d.laws.out_packet xs is.0.0 is.0.1 ∙ over;
       some = inl (sym (same is.0.0 is.0.1) ∙ is.2);
     })
 
-pub taking-halted : {S P Q : Type 0} (first : ℕ) (d : Side S P Q first) (takes : P → Bool) → ((n : ℕ) (p : P) → takes p ≡ takes_memory (d.stream.packet n p)) →
+pub taking-halted : {S P : Type 0} (first : ℕ) (d : Side S P first) (takes : P → Bool) → ((n : ℕ) (p : P) → takes p ≡ takes_memory (d.half.stream.packet n p)) →
     (old new : Kept S) (t : Translator) (bytes piece : List ℕ) (before : List Item) (client_old client_new host_old host_new : List ℕ) (notes_old notes_new : List Note) (answer : Result (Option (ℕ × P)) ReadError) →
-    WantsItem t (item_next d.raw_packet d.raw_wrong answer) → Changes answer old new → Nexts d.stream.reader takes answer old new →
-    Taking first d old t bytes piece before client_old client_new host_old host_new notes_old notes_new → Halted first d new t bytes piece before client_old client_new host_old host_new notes_old notes_new
+    WantsItem t (item_next d.raw_packet d.raw_wrong answer) → Changes answer old new → Nexts d.half.stream.reader takes answer old new →
+    Taking first d.half old t bytes piece before client_old client_new host_old host_new notes_old notes_new → Halted first d.half new t bytes piece before client_old client_new host_old host_new notes_old notes_new
 taking-halted {S = S} {P = P} first d takes same old new t bytes piece before client_old client_new host_old host_new notes_old notes_new answer wants changes nexts k =
     let more = wants-more d.raw_packet d.raw_wrong t answer wants in
     let runs = more-runs old new answer more changes in
-    let stuck = taken-stuck d.stream takes old new bytes piece (d.came before) k.taken answer more k.stream changes nexts in
+    let stuck = taken-stuck d.half.stream takes old new bytes piece (d.half.came before) k.taken answer more k.stream changes nexts in
     let xs = onto k.taken before in
-    let came : d.came xs ≡ d.came before ++ stuck.more = ap (λ (l : List Item). d.came (onto l before)) stuck.are ∙ came-onto first d stuck.more before in
-    let over : d.stream.over xs ≡ false = sym k.over_is ∙ runs in
+    let came : d.half.came xs ≡ d.half.came before ++ stuck.more = ap (λ (l : List Item). d.half.came (onto l before)) stuck.are ∙ came-onto first d stuck.more before in
+    let over : d.half.stream.over xs ≡ false = sym k.over_is ∙ runs in
     record {
       taken = k.taken;
       next = stuck.next;
@@ -315,7 +309,7 @@ taking-halted {S = S} {P = P} first d takes same old new t bytes piece before cl
       parts = stuck.parts;
       wants = wants-by first d takes same t xs answer stuck.next stuck.next-is wants k.translates over;
       stands = record {
-        going = λ _. subst (λ (l : List (ℕ × P)). IsLeftBy d.stream.reader new (split d.stream.reader d.stream.start (bytes ++ piece)) l new.over) (sym came) stuck.left;
+        going = λ _. subst (λ (l : List (ℕ × P)). IsLeftBy d.half.stream.reader new (split d.half.stream.reader d.half.stream.start (bytes ++ piece)) l new.over) (sym came) stuck.left;
         ended = λ ends. absurd (true≢false (sym ends ∙ over));
         none = stuck.none;
       };
@@ -329,10 +323,17 @@ pub nothing-done : (t : Translator) (client host : List ℕ) (notes : List Note)
 nothing-done t client host notes = record { same = refl; client = refl; host = refl; notes = refl }
 
 -- for want of memory the translator has changed nothing
-pub halted-still : {S P Q : Type 0} (first : ℕ) (d : Side S P Q first) (kept : Kept S) (t u : Translator) (bytes piece : List ℕ) (before : List Item) (client_old client client_new host_old host host_new : List ℕ) (notes_old notes notes_new : List Note) →
-    DoesNothing t u client client_new host host_new notes notes_new → Halted first d kept t bytes piece before client_old client host_old host notes_old notes → Halted first d kept u bytes piece before client_old client_new host_old host_new notes_old notes_new
+pub halted-still : {S P : Type 0} (first : ℕ) (d : Side S P first) (kept : Kept S) (t u : Translator) (bytes piece : List ℕ) (before : List Item) (client_old client client_new host_old host host_new : List ℕ) (notes_old notes notes_new : List Note) →
+    DoesNothing t u client client_new host host_new notes notes_new → Halted first d.half kept t bytes piece before client_old client host_old host notes_old notes → Halted first d.half kept u bytes piece before client_old client_new host_old host_new notes_old notes_new
 halted-still first d kept t u bytes piece before client_old client client_new host_old host host_new notes_old notes notes_new nothing h =
-    subst (λ (x : Translator). Halted first d kept x bytes piece before client_old client_new host_old host_new notes_old notes_new) (sym nothing.same)
-    (subst (λ (x : List ℕ). Halted first d kept t bytes piece before client_old x host_old host_new notes_old notes_new) (sym nothing.client)
-    (subst (λ (x : List ℕ). Halted first d kept t bytes piece before client_old client host_old x notes_old notes_new) (sym nothing.host)
-    (subst (λ (x : List Note). Halted first d kept t bytes piece before client_old client host_old host notes_old x) (sym nothing.notes) h)))
+    subst (λ (x : Translator). Halted first d.half kept x bytes piece before client_old client_new host_old host_new notes_old notes_new) (sym nothing.same)
+    (subst (λ (x : List ℕ). Halted first d.half kept t bytes piece before client_old x host_old host_new notes_old notes_new) (sym nothing.client)
+    (subst (λ (x : List ℕ). Halted first d.half kept t bytes piece before client_old client host_old x notes_old notes_new) (sym nothing.host)
+    (subst (λ (x : List Note). Halted first d.half kept t bytes piece before client_old client host_old host notes_old x) (sym nothing.notes) h)))
+
+pub err-piece : {S P : Type 0} (r : Result (Unit {0}) Memory) (half : ℕ → Half S P) (old new : Kept S) (t u : Translator) (piece client_old client_new host_old host_new : List ℕ) (notes_old notes_new : List Note) → IsErr r →
+    ((first : ℕ) (bytes : List ℕ) (before : List Item) → IsAt first (half first) old t bytes before →
+    IsUnput old new t u piece client_old client_new host_old host_new notes_old notes_new ⊎ Halted first (half first) new u bytes piece before client_old client_new host_old host_new notes_old notes_new) →
+    TakesPiece r half old new t u piece client_old client_new host_old host_new notes_old notes_new
+err-piece (Ok v) half old new t u piece client_old client_new host_old host_new notes_old notes_new is stops = absurd (true≢false (sym is))
+err-piece (Err memory) half old new t u piece client_old client_new host_old host_new notes_old notes_new is stops = stops

@@ -1,6 +1,6 @@
 -- The loop that answers the requests which a stream's packets fill: what is so far, and one row more.
 use Rattle.std.proofs.Common.{◌≡◌, ◌≤◌, ◌+◌, ℕ, zero, suc, Bool, true, cond, List, [], ◌∷◌, ◌++◌, length, map, drop, Option, Some, None, refl, sym, ap, ◌∙◌, subst, append_assoc, arith, inl, inr}
-use Rattle.std.specs.Prelude.{slice_get}
+use Rattle.std.specs.Prelude.{◌<◌, Result, Ok, Err, OnErr, IsSome, slice_get}
 use Rattle.std.specs.Option.{option_map}
 use Rattle.std.proofs.lemmas.List.{append-nil, drop-drop, length-drop}
 use Rattle.std.proofs.lemmas.List.Sums.{length-filter, count_by-le-length}
@@ -28,6 +28,11 @@ use Rattle.gate_history.specs.host.Fillings.{Given, Transferred, Isochronous, Fi
 use Rattle.gate_parts.specs.state.Rows.{row_request}
 use Rattle.gate_parts.specs.host.Fill.{row_cut, cut_bytes, HasTaken, rows_fill, bytes_by, filled_bytes, filled_notes, waiting_rows}
 use Rattle.gate_parts.specs.write.Extends.{Extends}
+
+-- what holds holds of a failure
+pub on-err : {A E : Type 0} (r : Result A E) (P : Type 0) → P → OnErr r P
+on-err (Ok v) P h = tt
+on-err (Err e) P h = h
 
 -- ---- the rows that are left behind the first so many
 
@@ -181,6 +186,23 @@ stopped {max_packet = max_packet} {held = held} {rest = rest} {f = f} {client = 
   where
     plus-zero : (n : ℕ) → n + 0 ≡ n
     plus-zero n = omega arith
+
+-- it is filled, and so one is
+some-by : (max_packet : ℕ) (l : Live) (rest : List Live) (packets : List StreamPacket) (cut : Option (Cut Given)) → IsSome cut → 0 < length (by-cut max_packet l rest packets cut).fillings
+some-by max_packet l rest packets None is = absurd (false≢true is)
+some-by max_packet l rest packets (Some cut) is = omega arith
+
+pub some-filled : {max_packet : ℕ} {held : List StreamPacket} {all : Fill} {sent_all : List ℕ} {told_all : List Note} {rows rest : List Live} {f : Filled} {client : List ℕ} {notes : List Note}
+    → SoFar max_packet held all sent_all told_all rows f client notes → (l : Live) → rows ≡ l ∷ rest → IsSome (row_cut max_packet l (drop f.packets held)) → 0 < length all.fillings
+some-filled {max_packet = max_packet} {held = held} {rest = rest} {f = f} s l e is =
+    let packets = drop f.packets held in
+    let some = some-by max_packet l rest packets (row_cut max_packet l packets) is in
+    let same = ap (λ (ls : List Live). length (rows_fill max_packet ls packets).fillings) e in
+    omega (arith, some, same, s.requests)
+
+pub cut-some : (count : ℕ) (packets : List StreamPacket) (cut : Option (Cut Given)) → HasTaken (Some count) packets cut → IsSome cut
+cut-some count packets None h = absurd (none-some _ h.1)
+cut-some count packets (Some cut) h = refl
 
 -- it is filled with so many packets
 abbrev taken-by : (max_packet : ℕ) (held : List StreamPacket) (all : Fill) (sent_all : List ℕ) (told_all : List Note) (l : Live) (rest : List Live) (requests packets count : ℕ) (client : List ℕ) (notes : List Note) → Option (Cut Given) → Type 0

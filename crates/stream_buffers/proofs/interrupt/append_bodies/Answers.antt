@@ -1,6 +1,6 @@
-use Rattle.std.proofs.Common.{◌≡◌, ℕ, List, ◌++◌, ◌<◌, length, sym, ap, ◌∙◌, take, drop, length-drop, length-append, length-take, append_assoc, arith}
+use Rattle.std.proofs.Common.{◌≡◌, ℕ, List, ◌++◌, ◌<◌, ◌≤◌, length, sym, ap, ◌∙◌, take, drop, length-drop, length-append, length-take, append_assoc, arith}
 use Rattle.stream_buffers.specs.Interrupt.{bodies, bodies_to}
-use Rattle.stream_buffers.proofs.Joining.{fit_more}
+use Rattle.stream_buffers.proofs.Joining.{fit_more, some_fits, on-err}
 use Rattle.stream_buffers.proofs.interrupt.append_bodies.Goals as goal
 
 pub loop-place-preserved : goal.loop-place-preserved
@@ -24,3 +24,12 @@ loop-place-preserved c =
           ∙ ap (λ (l : List ℕ). c.args.out.now ++ l) (sym one_more);
       room = omega (arith, long, short, c.loop-place.invariant.room);
     }
+
+pub returns-in_err-append-clause-wants : goal.returns-in_err-append-clause-wants
+returns-in_err-append-clause-wants c =
+    let ps = drop c.args.from c.args.packets.now.items in
+    let fits = c.fitting-fitting.ensures ∙ ap (take c.loop-place.room) c.as_slice.ensures in
+    let some : 0 < length (take c.loop-place.room c.packet_behind.result.now.body) = omega (arith, c.in_err-append.ensures.wants, ap length fits) in
+    let there : c.args.filling.count ≤ length ps = omega (arith, c.requires, length-drop c.args.from c.args.packets.now.items) in
+    on-err c.from_residual.result _
+    (some_fits c.args.filling.done c.loop-place.room ps c.loop-place.place c.args.filling.count c.packet_behind.result.now c.loop-place-test.true there c.packet_behind.ensures c.loop-place.invariant.room some)

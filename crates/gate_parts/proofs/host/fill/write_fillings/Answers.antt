@@ -1,22 +1,24 @@
 use Rattle.std.proofs.Common.{◌++◌, ◌∷◌, ◌≤◌, [], Some, drop, length, sym, ap, ◌∙◌, subst, arith}
+use Rattle.std.specs.Prelude.{IsSome}
+use Rattle.stream_buffers.specs.Held.{Held}
 use Rattle.gate_history.specs.declared.note.Note.TheVariants as note
 use Rattle.gate_parts.specs.declared.host.fill.Filled.{Filled}
 use Rattle.gate_history.specs.state.Ups.{Up}
 use Rattle.gate_parts.specs.state.Rows.{IsFine}
 use Rattle.gate_parts.specs.host.Fill.{row_cut, cut_bytes, HasTaken, waiting_rows}
-use Rattle.gate_parts.proofs.lemmas.host.FillLoop.{waiting-at, left-next, left-none, left-all, none-left, none-held, stopped, taken, moved, extended}
+use Rattle.gate_parts.proofs.lemmas.host.FillLoop.{waiting-at, left-next, left-none, left-all, none-left, none-held, stopped, taken, moved, extended, some-filled, cut-some, on-err}
 use Rattle.gate_parts.proofs.host.fill.write_fillings.Goals as goal
 
 pub returns-then-filled-held-clause-filled : goal.returns-then-filled-held-clause-filled
 returns-then-filled-held-clause-filled c =
-    let all = none-held c.loop-nth.invariant.so_far (c.if-filled-held.true ∙ c.len-held.ensures.len) in
+    let all = none-held c.loop-nth.invariant.so_far (c.if-filled-held.true ∙ c.len-held.ensures.len ∙ ap (λ (b : Held). length b.packets) c.inbox.ensures) in
     record { requests = all.requests; few = all.few; left = all.left }
 
 pub returns-then-filled-held-clause-sent : goal.returns-then-filled-held-clause-sent
-returns-then-filled-held-clause-sent c = (none-held c.loop-nth.invariant.so_far (c.if-filled-held.true ∙ c.len-held.ensures.len)).sent
+returns-then-filled-held-clause-sent c = (none-held c.loop-nth.invariant.so_far (c.if-filled-held.true ∙ c.len-held.ensures.len ∙ ap (λ (b : Held). length b.packets) c.inbox.ensures)).sent
 
 pub returns-then-filled-held-clause-told : goal.returns-then-filled-held-clause-told
-returns-then-filled-held-clause-told c = (none-held c.loop-nth.invariant.so_far (c.if-filled-held.true ∙ c.len-held.ensures.len)).told
+returns-then-filled-held-clause-told c = (none-held c.loop-nth.invariant.so_far (c.if-filled-held.true ∙ c.len-held.ensures.len ∙ ap (λ (b : Held). length b.packets) c.inbox.ensures)).told
 
 -- no more wait
 pub returns-in_default-clause-filled : goal.returns-in_default-clause-filled
@@ -108,3 +110,22 @@ pub returns-clause-told : goal.returns-clause-told
 returns-clause-told c =
     let past : length c.args.lives.now.live ≤ c.loop-nth.nth = omega (arith, c.loop-nth-test.false, c.len-nth-end.ensures.len) in
     (none-left c.loop-nth.invariant.so_far (left-all c.args.ep c.args.lives.now.live c.loop-nth.nth past)).told
+
+-- memory ran out for one that is filled
+pub returns-in_err-taken-clause-wants : goal.returns-in_err-taken-clause-wants
+returns-in_err-taken-clause-wants c =
+    let l = c.in-Some.live.now in
+    let k = c.loop-nth.filled.packets in
+    let cut-at = λ (u : Up). row_cut u.row.max_packet l (drop k u.held) in
+    on-err c.from_residual.result _
+    (some-filled c.loop-nth.invariant.so_far l (left-next (waiting_rows c.args.ep c.args.lives.now.live) c.loop-nth.nth l (sym c.in-Some.ensures)) (subst (λ (u : Up). IsSome (cut-at u)) c.loop-nth.invariant.same c.in_err-taken.ensures.wants))
+
+pub returns-in_err-push-clause-wants : goal.returns-in_err-push-clause-wants
+returns-in_err-push-clause-wants c =
+    let l = c.in-Some.live.now in
+    let k = c.loop-nth.filled.packets in
+    let cut-at = λ (u : Up). row_cut u.row.max_packet l (drop k u.held) in
+    let got = subst (λ t. HasTaken t (drop k c.loop-nth.up.held) (cut-at c.loop-nth.up)) c.in-Some-2.is c.in_ok-taken.ensures.taken in
+    let some = cut-some c.in-Some-2.taken (drop k c.loop-nth.up.held) (cut-at c.loop-nth.up) got in
+    on-err c.from_residual-in_err-push.result _
+    (some-filled c.loop-nth.invariant.so_far l (left-next (waiting_rows c.args.ep c.args.lives.now.live) c.loop-nth.nth l (sym c.in-Some.ensures)) (subst (λ (u : Up). IsSome (cut-at u)) c.loop-nth.invariant.same some))

@@ -1,6 +1,7 @@
 use Rattle.std.proofs.Common.{◌++◌, ◌∙◌, ℕ, List, drop, sym, ap, append_assoc}
 use Rattle.std.specs.Prelude.{ℤ}
 use Rattle.std.specs.Int.{w32, cast_signed, cast_unsigned}
+use Rattle.stream_buffers.specs.Held.{Held}
 use Rattle.stream_buffers.specs.Fillings.{cut_by, filling_body}
 use Rattle.gate_parts.specs.host.FillAnswer.{front_bytes}
 use Rattle.gate_parts.specs.state.Rows.{row_request}
@@ -16,7 +17,8 @@ returns c =
     let body = filling_body ps f in
     let sent = cast_signed w32 (cast_unsigned w32 c.errno.result) in
     let status = ap (λ (z : ℤ). cast_signed w32 (cast_unsigned w32 z)) c.errno.ensures ∙ errno_back f.status in
-    c.in_ok-append_bodies.ensures
+    c.in_ok-append_bodies.ensures.sent
+    ∙ ap (λ (b : Held). c.push_front.new.out ++ filling_body (drop c.args.from b.packets) f) c.inbox.ensures
     ∙ ap (λ (x : List ℕ). x ++ body) c.in_ok-push_front.ensures
     ∙ append_assoc before (front_bytes (row_request l) sent f.done 0) body
     ∙ ap (λ (z : ℤ). before ++ (front_bytes (row_request l) z f.done 0 ++ body)) status

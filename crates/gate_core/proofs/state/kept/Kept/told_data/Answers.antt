@@ -16,11 +16,10 @@ returns-in_default-clause-ok c st at host place h sound =
 
 pub returns-clause-ok : goal.returns-clause-ok
 returns-clause-ok c st at host place h sound =
-    let ep = c.in-Some.endpoint in
-    let iso = c.in-Some.iso in
+    let x = c.in-Some.stream in
     subst (λ (e : Effect). OnOk c.arrive.result (Does st (mark_as st e None) c.args.self.now c.arrive.new.self c.args.to_client.now c.arrive.new.to_client host host c.args.notes.now c.arrive.new.notes))
-    (ap (λ (p : StreamPacket). arrives st ep iso p (stream_of st.streams ep)) c.stream_packet.ensures
-    ∙ arrives-so st at c.args.header.now c.args.packet (ep, iso) (sym c.in-Some.is ∙ c.stream_in.ensures))
+    (ap (λ (p : StreamPacket). arrives st x.endpoint x.is_iso p (stream_of st.streams x.endpoint)) c.stream_packet.ensures
+    ∙ arrives-so st at c.args.header.now c.args.packet x (sym c.in-Some.is ∙ c.stream_in.ensures))
     (c.arrive.ensures.ok st host h sound)
 
 pub returns-in_default-clause-wants : goal.returns-in_default-clause-wants
@@ -31,9 +30,8 @@ returns-in_default-clause-wants c st at place h sound =
 
 pub returns-clause-wants : goal.returns-clause-wants
 returns-clause-wants c st at place h sound =
-    let ep = c.in-Some.endpoint in
-    let iso = c.in-Some.iso in
+    let x = c.in-Some.stream in
     subst (λ (e : Effect). OnErr c.arrive.result (GivesSome st (mark_as st e None)))
-    (ap (λ (p : StreamPacket). arrives st ep iso p (stream_of st.streams ep)) c.stream_packet.ensures
-    ∙ arrives-so st at c.args.header.now c.args.packet (ep, iso) (sym c.in-Some.is ∙ c.stream_in.ensures))
+    (ap (λ (p : StreamPacket). arrives st x.endpoint x.is_iso p (stream_of st.streams x.endpoint)) c.stream_packet.ensures
+    ∙ arrives-so st at c.args.header.now c.args.packet x (sym c.in-Some.is ∙ c.stream_in.ensures))
     (c.arrive.ensures.wants st h)
