@@ -13,7 +13,8 @@ use Rattle.bridge_run.specs.declared.serve_end.ServeEnd.{ServeEnd}
 use Rattle.bridge_run.specs.declared.serve_end.ServeEnd.TheVariants as end
 use Rattle.bridge_run.specs.Prescribed.{Prescribed, first_of}
 use Rattle.bridge_run.specs.Calls.{piece, end_of, ends_next}
-use Rattle.bridge_run.specs.Ups.{client_behind, host_since, to_clients, sent_to_host, told_of}
+use Rattle.bridge_run.specs.Ups.{client_at, host_at, client_behind, host_since, to_clients, sent_to_host, told_of}
+use Rattle.bridge_run.specs.RanOut.{RanOut}
 use Rattle.bridge_run.specs.Asks.{asks_of, taken, quiet_rounds, last_fault}
 
 -- ---- which events came, the latest first
@@ -54,11 +55,13 @@ events_of (call ∷ calls) = behind_call call (events_of calls)
 
 -- ---- what was asked of it
 
--- the address of the host, where one is dialled, and that of the door; and how long it goes on: after how many rounds
--- in a row that bring nothing it ends, and how many bytes may come, where each client counts as one
+-- the address of the host, where one is dialled, and that of the door; whether there is a tape, on which the events are
+-- recorded; and how long it goes on: after how many rounds in a row that bring nothing it ends, and how many bytes may
+-- come, where each client counts as one
 pub record Terms : Type 0 where
   pub host : Option (List ℕ)
   pub door : List ℕ
+  pub taped : Bool
   pub idle : ℕ
   pub budget : ℕ
 
@@ -143,18 +146,28 @@ pub record WroteInPart (tells : List ℕ → Type 0) (terms : Terms) (p : Prescr
   pub links : IsWrittenInPart terms p events calls
   pub told : InPart tells (told_of p events)
 
--- memory ran out before all, or as the latest event was taken: of that nothing is written, and all for those before it
-abbrev pub WroteBefore : (List ℕ → Type 0) → Terms → Prescribed → List Event → List Call → Type 0
-WroteBefore tells terms p [] calls = (calls ≡ []) × tells []
-WroteBefore tells terms p (e ∷ events) calls = Wrote tells terms p events calls
+-- all that the events before the latest send, and of that what it had sent before memory ran out, to each side whose link
+-- was up; and no line for it
+pub record WroteSent (runs_out : List Event → Event → List ℕ → List ℕ → Type 0) (tells : List ℕ → Type 0) (terms : Terms) (p : Prescribed) (e : Event) (events : List Event) (calls : List Call) : Type 0 where
+  pub to_client : List ℕ
+  pub to_host : List ℕ
+  pub ran_out : RanOut runs_out terms.taped p events e to_client to_host
+  pub client : went Client calls ≡ to_clients p events ++ (if client_at e (client_behind p events) then to_client else [])
+  pub host : went Host calls ≡ sent_to_host (is_some terms.host) p events ++ (if host_at e (host_since (is_some terms.host) p events) then to_host else [])
+  pub told : tells (told_of p events)
 
-abbrev pub HasWritten : ServeEnd → (List ℕ → Type 0) → Terms → Prescribed → List Event → List Call → Type 0
-HasWritten (end.Ended refused) tells terms p events calls = Wrote tells terms p events calls
-HasWritten end.Idle tells terms p events calls = Wrote tells terms p events calls
-HasWritten end.Spent tells terms p events calls = Wrote tells terms p events calls
-HasWritten (end.LinkFault side) tells terms p events calls = WroteInPart tells terms p events calls
-HasWritten end.WriteFault tells terms p events calls = WroteInPart tells terms p events calls
-HasWritten end.Memory tells terms p events calls = WroteBefore tells terms p events calls
+-- memory ran out before all, or as the latest event was taken
+abbrev pub WroteBefore : (List Event → Event → List ℕ → List ℕ → Type 0) → (List ℕ → Type 0) → Terms → Prescribed → List Event → List Call → Type 0
+WroteBefore runs_out tells terms p [] calls = (calls ≡ []) × tells []
+WroteBefore runs_out tells terms p (e ∷ events) calls = WroteSent runs_out tells terms p e events calls
+
+abbrev pub HasWritten : ServeEnd → (List Event → Event → List ℕ → List ℕ → Type 0) → (List ℕ → Type 0) → Terms → Prescribed → List Event → List Call → Type 0
+HasWritten (end.Ended refused) runs_out tells terms p events calls = Wrote tells terms p events calls
+HasWritten end.Idle runs_out tells terms p events calls = Wrote tells terms p events calls
+HasWritten end.Spent runs_out tells terms p events calls = Wrote tells terms p events calls
+HasWritten (end.LinkFault side) runs_out tells terms p events calls = WroteInPart tells terms p events calls
+HasWritten end.WriteFault runs_out tells terms p events calls = WroteInPart tells terms p events calls
+HasWritten end.Memory runs_out tells terms p events calls = WroteBefore runs_out tells terms p events calls
 
 -- Why it ended. No link is up any more, and this is the first refusal; so many rounds in a row have brought nothing, no
 -- more and no fewer; as much has come as may; or the last call failed, which was of this side.
@@ -167,9 +180,9 @@ HasEnded end.WriteFault terms p calls = Unit {0}
 HasEnded end.Memory terms p calls = Unit {0}
 
 -- the calls that were made, one after the other, what they wrote and what the sink was told, and why it ended
-pub record Logged {D : Type 0} (e : ServeEnd) (gives : D → Call → D → Type 0) (tells : List ℕ → Type 0) (terms : Terms) (p : Prescribed) (old new : D) : Type 0 where
+pub record Logged {D : Type 0} (e : ServeEnd) (gives : D → Call → D → Type 0) (runs_out : List Event → Event → List ℕ → List ℕ → Type 0) (tells : List ℕ → Type 0) (terms : Terms) (p : Prescribed) (old new : D) : Type 0 where
   pub calls : List Call
   pub called : Called gives calls old new
   pub settled : Settled terms p calls
-  pub written : HasWritten e tells terms p (events_of calls) calls
+  pub written : HasWritten e runs_out tells terms p (events_of calls) calls
   pub ended : HasEnded e terms p calls

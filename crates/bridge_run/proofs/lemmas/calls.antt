@@ -5,6 +5,7 @@ pub mod Open
 pub mod Idle
 pub mod Sink
 pub mod Log
+pub mod Stop
 pub mod Rounds
 pub mod Opening
 pub mod Shared

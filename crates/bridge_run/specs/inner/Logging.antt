@@ -55,18 +55,18 @@ abbrev pub IsBehind : {D : Type 0} → Bool → (D → Call → D → Type 0) �
 IsBehind true gives stands tells terms p asks k begun now = IsTaking gives stands tells terms p asks ClientEnd k begun now
 IsBehind false gives stands tells terms p asks k begun now = HasTaken gives stands tells terms p asks k begun now
 
-abbrev pub PutLogs : {D : Type 0} → Result Bool ServeEnd → (D → Call → D → Type 0) → (List Event → Type 0) → (List ℕ → Type 0) → Terms → Prescribed → List Ask → Event → Kept → D → D → Type 0
-PutLogs (Ok dropped) gives stands tells terms p asks e k begun now = IsBehind (ends_next e dropped) gives stands tells terms p asks k begun now
-PutLogs (Err x) gives stands tells terms p asks e k begun now = Logged x gives tells terms p begun now
+abbrev pub PutLogs : {D : Type 0} → Result Bool ServeEnd → (D → Call → D → Type 0) → (List Event → Type 0) → (List Event → Event → List ℕ → List ℕ → Type 0) → (List ℕ → Type 0) → Terms → Prescribed → List Ask → Event → Kept → D → D → Type 0
+PutLogs (Ok dropped) gives stands runs_out tells terms p asks e k begun now = IsBehind (ends_next e dropped) gives stands tells terms p asks k begun now
+PutLogs (Err x) gives stands runs_out tells terms p asks e k begun now = Logged x gives runs_out tells terms p begun now
 
 -- nothing is still to be taken, and more may come
 pub record IsOn {D : Type 0} (gives : D → Call → D → Type 0) (stands : List Event → Type 0) (tells : List ℕ → Type 0) (terms : Terms) (p : Prescribed) (asks : List Ask) (k : Kept) (begun now : D) : Type 0 where
   pub at : IsAt gives stands tells terms p asks k begun now
   pub goes_on : GoesOn terms p at.calls
 
-abbrev pub HappenLogs : {T D : Type 0} → Result T ServeEnd → (D → Call → D → Type 0) → (List Event → Type 0) → (List ℕ → Type 0) → Terms → Prescribed → List Ask → Kept → D → D → Type 0
-HappenLogs (Ok _) gives stands tells terms p asks k begun now = IsOn gives stands tells terms p asks k begun now
-HappenLogs (Err e) gives stands tells terms p asks k begun now = Logged e gives tells terms p begun now
+abbrev pub HappenLogs : {T D : Type 0} → Result T ServeEnd → (D → Call → D → Type 0) → (List Event → Type 0) → (List Event → Event → List ℕ → List ℕ → Type 0) → (List ℕ → Type 0) → Terms → Prescribed → List Ask → Kept → D → D → Type 0
+HappenLogs (Ok _) gives stands runs_out tells terms p asks k begun now = IsOn gives stands tells terms p asks k begun now
+HappenLogs (Err e) gives stands runs_out tells terms p asks k begun now = Logged e gives runs_out tells terms p begun now
 
 -- a side had nothing
 abbrev pub IsResting : {D : Type 0} → Side → (D → Call → D → Type 0) → (List Event → Type 0) → (List ℕ → Type 0) → Terms → Prescribed → List Ask → Kept → D → D → Type 0
@@ -109,9 +109,9 @@ pub record IsAsking {D : Type 0} (stage : Stage) (gives : D → Call → D → T
   pub patient : IsPatient terms k
   pub waited : Waits stage terms k asks
 
-abbrev pub Logs : {T D : Type 0} → Result T ServeEnd → Stage → (D → Call → D → Type 0) → (List Event → Type 0) → (List ℕ → Type 0) → Terms → Prescribed → Kept → D → D → Type 0
-Logs (Ok _) stage gives stands tells terms p k begun now = IsAsking stage gives stands tells terms p k begun now
-Logs (Err e) stage gives stands tells terms p k begun now = Logged e gives tells terms p begun now
+abbrev pub Logs : {T D : Type 0} → Result T ServeEnd → Stage → (D → Call → D → Type 0) → (List Event → Type 0) → (List Event → Event → List ℕ → List ℕ → Type 0) → (List ℕ → Type 0) → Terms → Prescribed → Kept → D → D → Type 0
+Logs (Ok _) stage gives stands runs_out tells terms p k begun now = IsAsking stage gives stands tells terms p k begun now
+Logs (Err e) stage gives stands runs_out tells terms p k begun now = Logged e gives runs_out tells terms p begun now
 
 -- ---- a link
 

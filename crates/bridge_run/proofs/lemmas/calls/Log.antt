@@ -7,7 +7,6 @@ use Rattle.usb_base.specs.declared.refusal.Refusal.{Refusal}
 use Rattle.gate_outside.specs.declared.fault.Failed.{Failed as Fault}
 use Rattle.gate_outside.specs.Calls.{Call, Write, Close, Called, front_of, went}
 use Rattle.gate_history.specs.state.Sides.{or_else}
-use Rattle.session_tape.specs.Tapes.{Counts}
 use Rattle.bridge_run.specs.Events.{Event, ClientComes, ClientPiece, ClientQuiet, ClientEnd, HostPiece, HostEnd}
 use Rattle.bridge_run.specs.declared.kept.Kept.{Kept}
 use Rattle.bridge_run.specs.declared.sent.Sent.{Sent}
@@ -17,11 +16,10 @@ use Rattle.bridge_run.specs.Prescribed.{Prescribed, gained, refuses, first_of}
 use Rattle.bridge_run.specs.Calls.{ends_next}
 use Rattle.bridge_run.specs.Ups.{client_at, client_behind, host_at, host_since, to_clients, sent_to_host, told_of}
 use Rattle.bridge_run.specs.Asks.{Ask, asks_of, taken, last_fault}
-use Rattle.bridge_run.specs.Log.{Terms, events_of, behind_close, IsWritten, IsFront, IsWrittenInPart, InPart, is_over, Settled, WroteInPart, WroteBefore, Logged}
+use Rattle.bridge_run.specs.Log.{Terms, events_of, behind_close, IsWritten, IsFront, IsWrittenInPart, InPart, is_over, Settled, WroteInPart, Logged}
 use Rattle.bridge_run.specs.inner.Follows.{Prepared}
 use Rattle.bridge_run.specs.inner.Keeping.{refusing, Settles, is_over as none_up}
 use Rattle.bridge_run.specs.inner.Logging.{IsAt, IsTaking, HasTaken, IsBehind, PutLogs, HappenLogs, WroteMore, all_if, FailedBehind, closing}
-use Rattle.bridge_run.specs.inner.Recording.{TapeFaults}
 use Rattle.bridge_run.proofs.lemmas.calls.Sink.{told-all, part-more}
 use Rattle.bridge_run.proofs.lemmas.events.Put.{dropped-is, first_of-append}
 
@@ -258,20 +256,20 @@ refused-kept p e events k k' sent lines prepared kept is =
 
 -- ---- in part
 
-front-whole : (all written : List ℕ) → written ≡ all → IsFront written all
+pub front-whole : (all written : List ℕ) → written ≡ all → IsFront written all
 front-whole all written is = ([], sym is ∙ sym (append-nil written))
 
-front-of-more : (all more written : List ℕ) → written ≡ all → IsFront written (all ++ more)
+pub front-of-more : (all more written : List ℕ) → written ≡ all → IsFront written (all ++ more)
 front-of-more all more written is = (more, ap (λ (l : List ℕ). l ++ more) (sym is))
 
 whole-part : (terms : Terms) (p : Prescribed) (events : List Event) (calls : List Call) → IsWritten terms p events calls → IsWrittenInPart terms p events calls
 whole-part terms p events calls w = record { client = front-whole _ _ w.client; host = front-whole _ _ w.host }
 
 -- all is written, and the last call failed
-pub failed-logs : {D : Type 0} → (gives : D → Call → D → Type 0) (stands : List Event → Type 0) (tells : List ℕ → Type 0) (terms : Terms) (p : Prescribed) (asks : List Ask) (side : Side) (call : Call) (k : Kept) (begun d0 d1 : D)
+pub failed-logs : {D : Type 0} → (gives : D → Call → D → Type 0) (stands : List Event → Type 0) (runs_out : List Event → Event → List ℕ → List ℕ → Type 0) (tells : List ℕ → Type 0) (terms : Terms) (p : Prescribed) (asks : List Ask) (side : Side) (call : Call) (k : Kept) (begun d0 d1 : D)
     → (a : IsAt gives stands tells terms p asks k begun d0) → Called gives (call ∷ a.calls) begun d1 → Settled terms p (call ∷ a.calls) → events_of (call ∷ a.calls) ≡ events_of a.calls → IsWritten terms p (events_of a.calls) (call ∷ a.calls) → last_fault (call ∷ a.calls) ≡ Some side
-    → Logged (end.LinkFault side) gives tells terms p begun d1
-failed-logs gives stands tells terms p asks side call k begun d0 d1 a called settled same w failed = record {
+    → Logged (end.LinkFault side) gives runs_out tells terms p begun d1
+failed-logs gives stands runs_out tells terms p asks side call k begun d0 d1 a called settled same w failed = record {
   calls = call ∷ a.calls;
   called = called;
   settled = settled;
@@ -280,9 +278,9 @@ failed-logs gives stands tells terms p asks side call k begun d0 d1 a called set
 }
 
 -- all is written, but for lines to the sink or to the tape
-at-fault : {D : Type 0} → (gives : D → Call → D → Type 0) (stands : List Event → Type 0) (tells some : List ℕ → Type 0) (terms : Terms) (p : Prescribed) (asks : List Ask) (k : Kept) (begun now : D) → ((bytes : List ℕ) → some bytes → InPart tells bytes) → IsAt gives stands some terms p asks k begun now
-    → Logged end.WriteFault gives tells terms p begun now
-at-fault gives stands tells some terms p asks k begun now part a = record {
+at-fault : {D : Type 0} → (gives : D → Call → D → Type 0) (stands : List Event → Type 0) (runs_out : List Event → Event → List ℕ → List ℕ → Type 0) (tells some : List ℕ → Type 0) (terms : Terms) (p : Prescribed) (asks : List Ask) (k : Kept) (begun now : D) → ((bytes : List ℕ) → some bytes → InPart tells bytes) → IsAt gives stands some terms p asks k begun now
+    → Logged end.WriteFault gives runs_out tells terms p begun now
+at-fault gives stands runs_out tells some terms p asks k begun now part a = record {
   calls = a.calls;
   called = a.called;
   settled = a.settled;
@@ -290,14 +288,14 @@ at-fault gives stands tells some terms p asks k begun now part a = record {
   ended = tt;
 }
 
-pub lines-fault : {D : Type 0} → (gives : D → Call → D → Type 0) (stands : List Event → Type 0) (tells : List ℕ → Type 0) (terms : Terms) (p : Prescribed) (asks : List Ask) (k : Kept) (begun now : D) → IsAt gives stands tells terms p asks k begun now
-    → Logged end.WriteFault gives tells terms p begun now
-lines-fault gives stands tells terms p asks k begun now a = at-fault gives stands tells tells terms p asks k begun now (told-all tells) a
+pub lines-fault : {D : Type 0} → (gives : D → Call → D → Type 0) (stands : List Event → Type 0) (runs_out : List Event → Event → List ℕ → List ℕ → Type 0) (tells : List ℕ → Type 0) (terms : Terms) (p : Prescribed) (asks : List Ask) (k : Kept) (begun now : D) → IsAt gives stands tells terms p asks k begun now
+    → Logged end.WriteFault gives runs_out tells terms p begun now
+lines-fault gives stands runs_out tells terms p asks k begun now a = at-fault gives stands runs_out tells tells terms p asks k begun now (told-all tells) a
 
 -- of the last event nothing is sent yet
-taking-fault : {D : Type 0} → (gives : D → Call → D → Type 0) (stands : List Event → Type 0) (tells some : List ℕ → Type 0) (terms : Terms) (p : Prescribed) (asks : List Ask) (e : Event) (k : Kept) (begun now : D) → ((bytes : List ℕ) → some bytes → InPart tells bytes)
-    → IsTaking gives stands some terms p asks e k begun now → Logged end.WriteFault gives tells terms p begun now
-taking-fault gives stands tells some terms p asks e k begun now part t = record {
+pub taking-fault : {D : Type 0} → (gives : D → Call → D → Type 0) (stands : List Event → Type 0) (runs_out : List Event → Event → List ℕ → List ℕ → Type 0) (tells some : List ℕ → Type 0) (terms : Terms) (p : Prescribed) (asks : List Ask) (e : Event) (k : Kept) (begun now : D) → ((bytes : List ℕ) → some bytes → InPart tells bytes)
+    → IsTaking gives stands some terms p asks e k begun now → Logged end.WriteFault gives runs_out tells terms p begun now
+taking-fault gives stands runs_out tells some terms p asks e k begun now part t = record {
   calls = t.calls;
   called = t.called;
   settled = t.settled;
@@ -312,19 +310,19 @@ taking-fault gives stands tells some terms p asks e k begun now part t = record 
 }
 
 -- the links were closed, and a front of the lines was told
-pub behind-part : {D : Type 0} → (gives : D → Call → D → Type 0) (stands : List Event → Type 0) (tells : List ℕ → Type 0) (terms : Terms) (p : Prescribed) (asks : List Ask) (k : Kept) (b : Bool) (begun now : D) → IsBehind b gives stands (InPart tells) terms p asks k begun now
-    → Logged end.WriteFault gives tells terms p begun now
-behind-part gives stands tells terms p asks k true begun now t = taking-fault gives stands tells (InPart tells) terms p asks ClientEnd k begun now (λ bytes x. x) t
-behind-part gives stands tells terms p asks k false begun now h = at-fault gives stands tells (InPart tells) terms p asks k begun now (λ bytes x. x) h.at
+pub behind-part : {D : Type 0} → (gives : D → Call → D → Type 0) (stands : List Event → Type 0) (runs_out : List Event → Event → List ℕ → List ℕ → Type 0) (tells : List ℕ → Type 0) (terms : Terms) (p : Prescribed) (asks : List Ask) (k : Kept) (b : Bool) (begun now : D) → IsBehind b gives stands (InPart tells) terms p asks k begun now
+    → Logged end.WriteFault gives runs_out tells terms p begun now
+behind-part gives stands runs_out tells terms p asks k true begun now t = taking-fault gives stands runs_out tells (InPart tells) terms p asks ClientEnd k begun now (λ bytes x. x) t
+behind-part gives stands runs_out tells terms p asks k false begun now h = at-fault gives stands runs_out tells (InPart tells) terms p asks k begun now (λ bytes x. x) h.at
 
 -- a front of what it sends was written to a side that is up
-front-in : (all front back more written : List ℕ) → written ≡ all ++ front → more ≡ front ++ back → IsFront written (all ++ more)
+pub front-in : (all front back more written : List ℕ) → written ≡ all ++ front → more ≡ front ++ back → IsFront written (all ++ more)
 front-in all front back more written is parts = (back, ap (λ (l : List ℕ). all ++ l) parts ∙ sym (append_assoc all front back) ∙ ap (λ (l : List ℕ). l ++ back) (sym is))
 
-pub client-part : {D : Type 0} → (gives : D → Call → D → Type 0) (stands : List Event → Type 0) (tells : List ℕ → Type 0) (terms : Terms) (p : Prescribed) (asks : List Ask) (e : Event) (k k1 : Kept) (sent : Sent) (lines bytes : List ℕ) (begun d0 d1 : D)
+pub client-part : {D : Type 0} → (gives : D → Call → D → Type 0) (stands : List Event → Type 0) (runs_out : List Event → Event → List ℕ → List ℕ → Type 0) (tells : List ℕ → Type 0) (terms : Terms) (p : Prescribed) (asks : List Ask) (e : Event) (k k1 : Kept) (sent : Sent) (lines bytes : List ℕ) (begun d0 d1 : D)
     → (t : IsTaking gives stands tells terms p asks e k begun d0) → Prepared p t.events e sent lines → k1 ≡ k → bytes ≡ sent.to_client
-    → FailedBehind gives Client k1.client_up bytes t.calls begun d1 → Logged (end.LinkFault Client) gives tells terms p begun d1
-client-part gives stands tells terms p asks e k k1 sent lines bytes begun d0 d1 t prepared same is f = record {
+    → FailedBehind gives Client k1.client_up bytes t.calls begun d1 → Logged (end.LinkFault Client) gives runs_out tells terms p begun d1
+client-part gives stands runs_out tells terms p asks e k k1 sent lines bytes begun d0 d1 t prepared same is f = record {
   calls = f.wrote.behind;
   called = f.wrote.called;
   settled = f.wrote.settled terms p t.settled;
@@ -339,10 +337,10 @@ client-part gives stands tells terms p asks e k k1 sent lines bytes begun d0 d1 
   ended = f.failed;
 }
 
-pub host-part : {D : Type 0} → (gives : D → Call → D → Type 0) (stands : List Event → Type 0) (tells : List ℕ → Type 0) (terms : Terms) (p : Prescribed) (asks : List Ask) (e : Event) (k k1 : Kept) (sent : Sent) (lines bytes : List ℕ) (begun d0 d1 d2 : D)
+pub host-part : {D : Type 0} → (gives : D → Call → D → Type 0) (stands : List Event → Type 0) (runs_out : List Event → Event → List ℕ → List ℕ → Type 0) (tells : List ℕ → Type 0) (terms : Terms) (p : Prescribed) (asks : List Ask) (e : Event) (k k1 : Kept) (sent : Sent) (lines bytes : List ℕ) (begun d0 d1 d2 : D)
     → (t : IsTaking gives stands tells terms p asks e k begun d0) → Prepared p t.events e sent lines → k1 ≡ k → bytes ≡ sent.to_host
-    → (w1 : WroteMore gives Client (all_if k1.client_up sent.to_client) t.calls begun d1) → FailedBehind gives Host k1.host_up bytes w1.behind begun d2 → Logged (end.LinkFault Host) gives tells terms p begun d2
-host-part gives stands tells terms p asks e k k1 sent lines bytes begun d0 d1 d2 t prepared same is w1 f = record {
+    → (w1 : WroteMore gives Client (all_if k1.client_up sent.to_client) t.calls begun d1) → FailedBehind gives Host k1.host_up bytes w1.behind begun d2 → Logged (end.LinkFault Host) gives runs_out tells terms p begun d2
+host-part gives stands runs_out tells terms p asks e k k1 sent lines bytes begun d0 d1 d2 t prepared same is w1 f = record {
   calls = f.wrote.behind;
   called = f.wrote.called;
   settled = f.wrote.settled terms p (w1.settled terms p t.settled);
@@ -369,54 +367,33 @@ some-left b t l is some = omega arith
 none-left : (b t l : ℕ) → l ≡ b - t → l ≡ 0 → b ≤ t
 none-left b t l is none = omega arith
 
--- memory ran out as the event is taken
-pub memory-logs : {D : Type 0} → (gives : D → Call → D → Type 0) (stands : List Event → Type 0) (tells : List ℕ → Type 0) (terms : Terms) (p : Prescribed) (asks : List Ask) (e : Event) (k : Kept) (begun now : D) → IsTaking gives stands tells terms p asks e k begun now
-    → Logged end.Memory gives tells terms p begun now
-memory-logs gives stands tells terms p asks e k begun now t = record {
-  calls = t.calls;
-  called = t.called;
-  settled = t.settled;
-  written = subst (λ (es : List Event). WroteBefore tells terms p es t.calls) (sym t.events-are) (record { links = t.written; told = t.told });
-  ended = tt;
-}
-
--- what is recorded couldn't be, before anything is written
-pub tape-logs : {D : Type 0} → (x : ServeEnd) (old new : Counts) (gives : D → Call → D → Type 0) (stands : List Event → Type 0) (tells : List ℕ → Type 0) (terms : Terms) (p : Prescribed) (asks : List Ask) (e : Event) (k : Kept) (begun now : D) → TapeFaults {T = Unit {0}} (Err x) old new
-    → IsTaking gives stands tells terms p asks e k begun now → Logged x gives tells terms p begun now
-tape-logs (end.Ended refused) old new gives stands tells terms p asks e k begun now is t = absurd is
-tape-logs end.Idle old new gives stands tells terms p asks e k begun now is t = absurd is
-tape-logs end.Spent old new gives stands tells terms p asks e k begun now is t = absurd is
-tape-logs (end.LinkFault side) old new gives stands tells terms p asks e k begun now is t = absurd is
-tape-logs end.WriteFault old new gives stands tells terms p asks e k begun now is t = taking-fault gives stands tells tells terms p asks e k begun now (told-all tells) t
-tape-logs end.Memory old new gives stands tells terms p asks e k begun now is t = memory-logs gives stands tells terms p asks e k begun now t
-
 -- an error that a `?` hands on
-pub put-err : {D : Type 0} → (Q : ServeEnd → Type 0) (result : Result Bool ServeEnd) (gives : D → Call → D → Type 0) (stands : List Event → Type 0) (tells : List ℕ → Type 0) (terms : Terms) (p : Prescribed) (asks : List Ask) (e : Event) (k : Kept) (begun now : D) → IsErrAnd result Q
-    → ((x : ServeEnd) → Q x → Logged x gives tells terms p begun now) → PutLogs result gives stands tells terms p asks e k begun now
-put-err Q (Ok x) gives stands tells terms p asks e k begun now is logs = absurd is
-put-err Q (Err x) gives stands tells terms p asks e k begun now is logs = logs x is
+pub put-err : {D : Type 0} → (Q : ServeEnd → Type 0) (result : Result Bool ServeEnd) (gives : D → Call → D → Type 0) (stands : List Event → Type 0) (runs_out : List Event → Event → List ℕ → List ℕ → Type 0) (tells : List ℕ → Type 0) (terms : Terms) (p : Prescribed) (asks : List Ask) (e : Event) (k : Kept) (begun now : D) → IsErrAnd result Q
+    → ((x : ServeEnd) → Q x → Logged x gives runs_out tells terms p begun now) → PutLogs result gives stands runs_out tells terms p asks e k begun now
+put-err Q (Ok x) gives stands runs_out tells terms p asks e k begun now is logs = absurd is
+put-err Q (Err x) gives stands runs_out tells terms p asks e k begun now is logs = logs x is
 
-pub settled-logs : {D : Type 0} → (result : Result (Unit {0}) ServeEnd) (gives : D → Call → D → Type 0) (stands : List Event → Type 0) (tells : List ℕ → Type 0) (terms : Terms) (p : Prescribed) (asks : List Ask) (k : Kept) (begun now : D) → Settles result k
-    → HasTaken gives stands tells terms p asks k begun now → HappenLogs result gives stands tells terms p asks k begun now
-settled-logs (Ok x) gives stands tells terms p asks k begun now s h = record {
+pub settled-logs : {D : Type 0} → (result : Result (Unit {0}) ServeEnd) (gives : D → Call → D → Type 0) (stands : List Event → Type 0) (runs_out : List Event → Event → List ℕ → List ℕ → Type 0) (tells : List ℕ → Type 0) (terms : Terms) (p : Prescribed) (asks : List Ask) (k : Kept) (begun now : D) → Settles result k
+    → HasTaken gives stands tells terms p asks k begun now → HappenLogs result gives stands runs_out tells terms p asks k begun now
+settled-logs (Ok x) gives stands runs_out tells terms p asks k begun now s h = record {
   at = h.at;
   goes_on = record { links = h.over ∙ s.0; left = subst (λ (l : List Ask). taken l < terms.budget) (sym h.at.asks-are) (some-left terms.budget (taken asks) k.left h.at.left s.1) };
 }
-settled-logs (Err (end.Ended refused)) gives stands tells terms p asks k begun now s h = record {
+settled-logs (Err (end.Ended refused)) gives stands runs_out tells terms p asks k begun now s h = record {
   calls = h.at.calls;
   called = h.at.called;
   settled = h.at.settled;
   written = record { links = h.at.written; told = h.at.told };
   ended = (h.over ∙ s.0, s.1 ∙ h.at.refused);
 }
-settled-logs (Err end.Spent) gives stands tells terms p asks k begun now s h = record {
+settled-logs (Err end.Spent) gives stands runs_out tells terms p asks k begun now s h = record {
   calls = h.at.calls;
   called = h.at.called;
   settled = h.at.settled;
   written = record { links = h.at.written; told = h.at.told };
   ended = (h.over ∙ s.0, subst (λ (l : List Ask). terms.budget ≤ taken l) (sym h.at.asks-are) (none-left terms.budget (taken asks) k.left h.at.left s.1));
 }
-settled-logs (Err (end.LinkFault side)) gives stands tells terms p asks k begun now s h = absurd s
-settled-logs (Err end.WriteFault) gives stands tells terms p asks k begun now s h = absurd s
-settled-logs (Err end.Idle) gives stands tells terms p asks k begun now s h = absurd s
-settled-logs (Err end.Memory) gives stands tells terms p asks k begun now s h = absurd s
+settled-logs (Err (end.LinkFault side)) gives stands runs_out tells terms p asks k begun now s h = absurd s
+settled-logs (Err end.WriteFault) gives stands runs_out tells terms p asks k begun now s h = absurd s
+settled-logs (Err end.Idle) gives stands runs_out tells terms p asks k begun now s h = absurd s
+settled-logs (Err end.Memory) gives stands runs_out tells terms p asks k begun now s h = absurd s

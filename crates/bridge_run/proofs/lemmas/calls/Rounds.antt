@@ -85,21 +85,21 @@ rested-busy false gives stands tells terms p k k' begun now is r a =
 last-wait : (w q i w' : ℕ) → w + q ≡ i + 1 → w' ≡ w - 1 → w' ≡ 0 → 0 < w → q ≡ i
 last-wait w q i w' is less none some = omega arith
 
-pub rested-logs : {D : Type 0} → (result : Result (Unit {0}) ServeEnd) (gives : D → Call → D → Type 0) (stands : List Event → Type 0) (tells : List ℕ → Type 0) (terms : Terms) (p : Prescribed) (k k' : Kept) (begun now : D) → Rests result k k'
-    → IsAsking ClientAsked gives stands tells terms p k begun now → Logs result RoundBegins gives stands tells terms p k' begun now
-rested-logs (Ok x) gives stands tells terms p k k' begun now r a = rested-busy k.busy gives stands tells terms p k k' begun now refl r a
-rested-logs (Err end.Idle) gives stands tells terms p k k' begun now r a = record {
+pub rested-logs : {D : Type 0} → (result : Result (Unit {0}) ServeEnd) (gives : D → Call → D → Type 0) (stands : List Event → Type 0) (runs_out : List Event → Event → List ℕ → List ℕ → Type 0) (tells : List ℕ → Type 0) (terms : Terms) (p : Prescribed) (k k' : Kept) (begun now : D) → Rests result k k'
+    → IsAsking ClientAsked gives stands tells terms p k begun now → Logs result RoundBegins gives stands runs_out tells terms p k' begun now
+rested-logs (Ok x) gives stands runs_out tells terms p k k' begun now r a = rested-busy k.busy gives stands tells terms p k k' begun now refl r a
+rested-logs (Err end.Idle) gives stands runs_out tells terms p k k' begun now r a = record {
   calls = a.on.at.calls;
   called = a.on.at.called;
   settled = a.on.at.settled;
   written = record { links = a.on.at.written; told = a.on.at.told };
   ended = (a.on.goes_on, ap quiet_rounds a.on.at.asks-are ∙ last-wait k.waits (quiet_rounds a.asks) terms.idle k'.waits (a.waited.quiet r.0) (ap (λ (q : Kept). q.waits) r.1) r.2 a.patient.waits);
 }
-rested-logs (Err (end.Ended refused)) gives stands tells terms p k k' begun now r a = absurd r
-rested-logs (Err end.Spent) gives stands tells terms p k k' begun now r a = absurd r
-rested-logs (Err (end.LinkFault side)) gives stands tells terms p k k' begun now r a = absurd r
-rested-logs (Err end.WriteFault) gives stands tells terms p k k' begun now r a = absurd r
-rested-logs (Err end.Memory) gives stands tells terms p k k' begun now r a = absurd r
+rested-logs (Err (end.Ended refused)) gives stands runs_out tells terms p k k' begun now r a = absurd r
+rested-logs (Err end.Spent) gives stands runs_out tells terms p k k' begun now r a = absurd r
+rested-logs (Err (end.LinkFault side)) gives stands runs_out tells terms p k k' begun now r a = absurd r
+rested-logs (Err end.WriteFault) gives stands runs_out tells terms p k k' begun now r a = absurd r
+rested-logs (Err end.Memory) gives stands runs_out tells terms p k k' begun now r a = absurd r
 
 -- where it is asked for a client fewer rounds than may have brought nothing
 door-begins : (terms : Terms) (k : Kept) (asks : List Ask) → IsPatient terms k → Waits RoundBegins terms k asks → quiet_rounds asks < terms.idle
@@ -246,10 +246,10 @@ end-taking gives stands tells terms p Host buf k k' begun d0 d1 a up g kept = re
   refused = ap (λ (q : Kept). q.refused) kept ∙ a.on.at.refused;
 }
 
-pub poll-failed : {D : Type 0} → (gives : D → Call → D → Type 0) (stands : List Event → Type 0) (tells : List ℕ → Type 0) (terms : Terms) (p : Prescribed) (side : Side) (buf : List ℕ) (k : Kept) (begun d0 d1 : D) → IsAsking (stage_of side) gives stands tells terms p k begun d0
-    → up_of side k ≡ true → gives d0 (Poll side Failed buf) d1 → Logged (end.LinkFault side) gives tells terms p begun d1
-poll-failed gives stands tells terms p side buf k begun d0 d1 a up g =
-    failed-logs gives stands tells terms p a.asks side (Poll side Failed buf) k begun d0 d1 a.on.at (d0, (a.on.at.called, g)) (a.on.at.settled, may-poll side gives stands tells terms p k begun d0 up a) refl
+pub poll-failed : {D : Type 0} → (gives : D → Call → D → Type 0) (stands : List Event → Type 0) (runs_out : List Event → Event → List ℕ → List ℕ → Type 0) (tells : List ℕ → Type 0) (terms : Terms) (p : Prescribed) (side : Side) (buf : List ℕ) (k : Kept) (begun d0 d1 : D) → IsAsking (stage_of side) gives stands tells terms p k begun d0
+    → up_of side k ≡ true → gives d0 (Poll side Failed buf) d1 → Logged (end.LinkFault side) gives runs_out tells terms p begun d1
+poll-failed gives stands runs_out tells terms p side buf k begun d0 d1 a up g =
+    failed-logs gives stands runs_out tells terms p a.asks side (Poll side Failed buf) k begun d0 d1 a.on.at (d0, (a.on.at.called, g)) (a.on.at.settled, may-poll side gives stands tells terms p k begun d0 up a) refl
     (quiet-written terms p (events_of a.on.at.calls) a.on.at.calls (Poll side Failed buf) refl refl a.on.at.written) refl
 
 pub came-taking : {D : Type 0} → (gives : D → Call → D → Type 0) (stands : List Event → Type 0) (tells : List ℕ → Type 0) (terms : Terms) (p : Prescribed) (k k' : Kept) (begun d0 d1 : D) → (a : IsAsking RoundBegins gives stands tells terms p k begun d0) → gives d0 (Accept (Ok true)) d1
@@ -301,10 +301,10 @@ nobody-at gives stands tells terms p k begun d0 d1 a down g = record {
   };
 }
 
-pub accept-failed : {D : Type 0} → (gives : D → Call → D → Type 0) (stands : List Event → Type 0) (tells : List ℕ → Type 0) (terms : Terms) (p : Prescribed) (failed : Fault) (k : Kept) (begun d0 d1 : D) → IsAsking RoundBegins gives stands tells terms p k begun d0
-    → gives d0 (Accept (Err failed)) d1 → Logged (end.LinkFault Client) gives tells terms p begun d1
-accept-failed gives stands tells terms p failed k begun d0 d1 a g =
-    failed-logs gives stands tells terms p a.asks Client (Accept (Err failed)) k begun d0 d1 a.on.at (d0, (a.on.at.called, g)) (a.on.at.settled, may-accept gives stands tells terms p k begun d0 a) refl
+pub accept-failed : {D : Type 0} → (gives : D → Call → D → Type 0) (stands : List Event → Type 0) (runs_out : List Event → Event → List ℕ → List ℕ → Type 0) (tells : List ℕ → Type 0) (terms : Terms) (p : Prescribed) (failed : Fault) (k : Kept) (begun d0 d1 : D) → IsAsking RoundBegins gives stands tells terms p k begun d0
+    → gives d0 (Accept (Err failed)) d1 → Logged (end.LinkFault Client) gives runs_out tells terms p begun d1
+accept-failed gives stands runs_out tells terms p failed k begun d0 d1 a g =
+    failed-logs gives stands runs_out tells terms p a.asks Client (Accept (Err failed)) k begun d0 d1 a.on.at (d0, (a.on.at.called, g)) (a.on.at.settled, may-accept gives stands tells terms p k begun d0 a) refl
     (quiet-written terms p (events_of a.on.at.calls) a.on.at.calls (Accept (Err failed)) refl refl a.on.at.written) refl
 
 -- ---- behind an answer
@@ -358,28 +358,28 @@ worn-patient : (terms : Terms) (k k1 k2 : Kept) → IsPatient terms k → k1.idl
 worn-patient terms k k1 k2 patient idle waits w = record { idle = w.idle ∙ idle ∙ patient.idle; some = patient.some; waits = subst (λ (n : ℕ). 0 < n) (sym (w.waits ∙ waits)) patient.waits }
 
 -- something has come of a side
-pub came-logs : {D : Type 0} → (result : Result (Unit {0}) ServeEnd) (gives : D → Call → D → Type 0) (stands : List Event → Type 0) (tells : List ℕ → Type 0) (terms : Terms) (p : Prescribed) (side : Side) (polled : Polled) (asks : List Ask) (k k1 k2 : Kept) (begun now : D)
-    → HappenLogs result gives stands tells terms p (OfSide side polled ∷ asks) k2 begun now → quiet_rounds (OfSide side polled ∷ asks) ≡ 0 → IsPatient terms k → k1.busy ≡ true → k1.idle ≡ k.idle → k1.waits ≡ k.waits → Wears k1 k2
-    → Logs result ClientAsked gives stands tells terms p k2 begun now
-came-logs (Ok x) gives stands tells terms p side polled asks k k1 k2 begun now h none patient busy idle waits w = record {
+pub came-logs : {D : Type 0} → (result : Result (Unit {0}) ServeEnd) (gives : D → Call → D → Type 0) (stands : List Event → Type 0) (runs_out : List Event → Event → List ℕ → List ℕ → Type 0) (tells : List ℕ → Type 0) (terms : Terms) (p : Prescribed) (side : Side) (polled : Polled) (asks : List Ask) (k k1 k2 : Kept) (begun now : D)
+    → HappenLogs result gives stands runs_out tells terms p (OfSide side polled ∷ asks) k2 begun now → quiet_rounds (OfSide side polled ∷ asks) ≡ 0 → IsPatient terms k → k1.busy ≡ true → k1.idle ≡ k.idle → k1.waits ≡ k.waits → Wears k1 k2
+    → Logs result ClientAsked gives stands runs_out tells terms p k2 begun now
+came-logs (Ok x) gives stands runs_out tells terms p side polled asks k k1 k2 begun now h none patient busy idle waits w = record {
   asks = OfSide side polled ∷ asks;
   on = h;
   patient = worn-patient terms k k1 k2 patient idle waits w;
   waited = record { came = λ up. refl; busy = λ b. none; quiet = λ f. absurd (false≢true (sym f ∙ still-busy k1 k2 busy w)) };
 }
-came-logs (Err e) gives stands tells terms p side polled asks k k1 k2 begun now h none patient busy idle waits w = h
+came-logs (Err e) gives stands runs_out tells terms p side polled asks k k1 k2 begun now h none patient busy idle waits w = h
 
 -- a client has come
-pub client-logs : {D : Type 0} → (result : Result (Unit {0}) ServeEnd) (gives : D → Call → D → Type 0) (stands : List Event → Type 0) (tells : List ℕ → Type 0) (terms : Terms) (p : Prescribed) (asks : List Ask) (k k1 k2 : Kept) (begun now : D)
-    → HappenLogs result gives stands tells terms p (ForClient (Ok true) ∷ asks) k2 begun now → IsPatient terms k → k1.busy ≡ true → k1.idle ≡ k.idle → k1.waits ≡ k.waits → Wears k1 k2
-    → Logs result DoorAsked gives stands tells terms p k2 begun now
-client-logs (Ok x) gives stands tells terms p asks k k1 k2 begun now h patient busy idle waits w = record {
+pub client-logs : {D : Type 0} → (result : Result (Unit {0}) ServeEnd) (gives : D → Call → D → Type 0) (stands : List Event → Type 0) (runs_out : List Event → Event → List ℕ → List ℕ → Type 0) (tells : List ℕ → Type 0) (terms : Terms) (p : Prescribed) (asks : List Ask) (k k1 k2 : Kept) (begun now : D)
+    → HappenLogs result gives stands runs_out tells terms p (ForClient (Ok true) ∷ asks) k2 begun now → IsPatient terms k → k1.busy ≡ true → k1.idle ≡ k.idle → k1.waits ≡ k.waits → Wears k1 k2
+    → Logs result DoorAsked gives stands runs_out tells terms p k2 begun now
+client-logs (Ok x) gives stands runs_out tells terms p asks k k1 k2 begun now h patient busy idle waits w = record {
   asks = ForClient (Ok true) ∷ asks;
   on = h;
   patient = worn-patient terms k k1 k2 patient idle waits w;
   waited = record { came = λ up. sym (still-busy k1 k2 busy w); busy = λ b. refl; quiet = λ f. absurd (false≢true (sym f ∙ still-busy k1 k2 busy w)) };
 }
-client-logs (Err e) gives stands tells terms p asks k k1 k2 begun now h patient busy idle waits w = h
+client-logs (Err e) gives stands runs_out tells terms p asks k k1 k2 begun now h patient busy idle waits w = h
 
 -- a side had nothing
 quiet-waited : (side : Side) (terms : Terms) (k : Kept) (asks : List Ask) → Waits (stage_of side) terms k asks → up_of side k ≡ true → HasWaited true false terms k (OfSide side NotYet ∷ asks)
@@ -391,13 +391,13 @@ quiet-waited Client terms k asks w up = record {
 }
 quiet-waited Host terms k asks w up = record { came = λ there. refl; busy = w.busy; quiet = w.quiet }
 
-pub quiet-logs : {D : Type 0} → (result : Result (Unit {0}) ServeEnd) (gives : D → Call → D → Type 0) (stands : List Event → Type 0) (tells : List ℕ → Type 0) (terms : Terms) (p : Prescribed) (side : Side) (asks : List Ask) (k k1 : Kept) (begun now : D)
-    → HappenLogs result gives stands tells terms p (OfSide side NotYet ∷ asks) k1 begun now → IsPatient terms k → Waits (stage_of side) terms k asks → up_of side k ≡ true → OnOk result (k1 ≡ k)
-    → Logs result ClientAsked gives stands tells terms p k1 begun now
-quiet-logs (Ok x) gives stands tells terms p side asks k k1 begun now h patient w up same = record {
+pub quiet-logs : {D : Type 0} → (result : Result (Unit {0}) ServeEnd) (gives : D → Call → D → Type 0) (stands : List Event → Type 0) (runs_out : List Event → Event → List ℕ → List ℕ → Type 0) (tells : List ℕ → Type 0) (terms : Terms) (p : Prescribed) (side : Side) (asks : List Ask) (k k1 : Kept) (begun now : D)
+    → HappenLogs result gives stands runs_out tells terms p (OfSide side NotYet ∷ asks) k1 begun now → IsPatient terms k → Waits (stage_of side) terms k asks → up_of side k ≡ true → OnOk result (k1 ≡ k)
+    → Logs result ClientAsked gives stands runs_out tells terms p k1 begun now
+quiet-logs (Ok x) gives stands runs_out tells terms p side asks k k1 begun now h patient w up same = record {
   asks = OfSide side NotYet ∷ asks;
   on = h;
   patient = subst (λ (q : Kept). IsPatient terms q) (sym same) patient;
   waited = subst (λ (q : Kept). HasWaited true false terms q (OfSide side NotYet ∷ asks)) (sym same) (quiet-waited side terms k asks w up);
 }
-quiet-logs (Err e) gives stands tells terms p side asks k k1 begun now h patient w up same = h
+quiet-logs (Err e) gives stands runs_out tells terms p side asks k k1 begun now h patient w up same = h
