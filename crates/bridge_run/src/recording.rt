@@ -57,6 +57,7 @@ pub fn write_waiting<T: Tape>(due: bool, waiting: &mut Bytes, tape: &mut T) -> R
     ensures cause { TapeFaults result (T.counts tape.old) (T.counts tape.new) }
     ensures cut { IfErr result IsCutEnd }
     ensures fault { IfErr result (λ end. end ≡ ServeEnd.WriteFault) }
+    ensures wanted { OnErr result ((due ≡ true) × (T.made tape.old ≡ true)) }
 {
     if !due || !tape.is_made() {
         return Ok(());

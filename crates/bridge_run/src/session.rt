@@ -4,7 +4,7 @@ ghost use Rattle.std.specs.Prelude.{◌≡◌, ℕ, ◌<◌, ◌||◌, List, [],
 ghost use Rattle.bridge_run.specs.Events.{Event as PastEvent, ClientComes, event_of, is_quiet};
 ghost use Rattle.bridge_run.specs.Course.{Course, Next};
 ghost use Rattle.bridge_run.specs.Course.{AtDoor, AtClient, Takes};
-ghost use Rattle.bridge_run.specs.Calls.{Goes, put, ends_next as has_end_next, piece as piece_of, end_of as past_end_of, quiet};
+ghost use Rattle.bridge_run.specs.Calls.{Goes, put, quiet};
 ghost use Rattle.bridge_run.specs.Outside.{outside, gathering, written, faults, Tells, Cut};
 ghost use Rattle.bridge_run.specs.Recorded.{sends_any, is_last};
 ghost use Rattle.bridge_run.specs.Serves.{Leaves};
@@ -13,14 +13,14 @@ ghost use Rattle.bridge_run.specs.inner.Follows.{Prepared, Follows, HasFaults, I
 ghost use Rattle.bridge_run.specs.Outside.{HasCause, HasReason};
 ghost use Rattle.bridge_run.specs.Asks.{Ask};
 ghost use Rattle.bridge_run.specs.Log.{Terms, Told, Logged};
-ghost use Rattle.bridge_run.specs.inner.Logging.{IsTaking, IsResting, IsAsking, RoundBegins, DoorAsked, ClientAsked, stage_of, PutLogs, HappenLogs, Logs};
+ghost use Rattle.bridge_run.specs.inner.Logging.{IsTaking, IsResting, IsAsking, RoundBegins, DoorAsked, stage_of, stage_behind, PutLogs, HappenLogs, Logs};
 ghost use Rattle.bridge_run.specs.inner.Sends.{IsPart};
 ghost use Rattle.bridge_run.specs.inner.Stopping.{AreUp, IsStopping, StopLogs};
 ghost use Rattle.bridge_run.specs.inner.Idling.{NotIdle, Asked, EndsWithin, RoundIdles};
 ghost use Rattle.usb_base.specs.declared.side.Side.TheVariants.{Client, Host};
 ghost use Rattle.gate_outside.specs.Link.{other};
 
-use crate::event::Event;
+use crate::event::{Event, end_of, ends_next, piece};
 use crate::kept::Kept;
 use crate::link::{close_link, write_link};
 use crate::recording::{record_event, write_waiting};
@@ -288,7 +288,7 @@ impl<C: Served + Drop> Session<C> {
         ensures course { (first : C.First) (c : Course) → Follows (C.stands first self.old.core) (C.sends first) self.old.kept (outside (D.link doors.old) (D.door doors.old)) (gathering (K.contents out.old) (T.contents tape.old) self.old.waiting) c
             → Runs result (C.stands first self.new.core) (setting (C.sends first) self.old.kept) self.new.kept (outside (D.link doors.new) (D.door doors.new)) (gathering (K.contents out.new) (T.contents tape.new) self.new.waiting) (Goes (polls side) c) (behind side) }
         ensures log { (first : C.First) (terms : Terms) (begun : D) (begun_out : K) → terms.taped ≡ T.made tape.old → IsAsking (stage_of side) D.call_gives (C.stands first self.old.core) (Told K.write_gives begun_out out.old) terms (C.sends first) self.old.kept begun doors.old
-            → Logs result ClientAsked D.call_gives (C.stands first self.new.core) (C.runs_out first) (Told K.write_gives begun_out out.new) terms (C.sends first) self.new.kept begun doors.new }
+            → Logs result (stage_behind side) D.call_gives (C.stands first self.new.core) (C.runs_out first) (Told K.write_gives begun_out out.new) terms (C.sends first) self.new.kept begun doors.new }
         ensures faults { HasFaults result (outside (D.link doors.old) (D.door doors.old)) (outside (D.link doors.new) (D.door doors.new)) (faults (K.faults out.old) (T.counts tape.old)) (faults (K.faults out.new) (T.counts tape.new)) }
         ensures agrees { OnOk result (Agrees self.new.kept (outside (D.link doors.new) (D.door doors.new))) }
         ensures wears { Wears self.old.kept self.new.kept }
@@ -369,35 +369,5 @@ impl<C: Served + Drop> Session<C> {
                 return end;
             }
         }
-    }
-}
-
-/// Whether a client's end comes behind the event that closed its link.
-fn ends_next(event: Event, dropped: bool) -> bool
-    ensures { result ≡ has_end_next (event_of event.entry) dropped }
-{
-    match event {
-        Event::ClientEnd => false,
-        _ => dropped,
-    }
-}
-
-/// A piece of a side's stream.
-fn piece(side: Side, bytes: &[u8]) -> Event<'_>
-    ensures { event_of result ≡ piece_of side bytes.now }
-{
-    match side {
-        Side::Client => Event::ClientPiece(bytes),
-        Side::Host => Event::HostPiece(bytes),
-    }
-}
-
-/// The end of a side.
-fn end_of(side: Side) -> Event<'static>
-    ensures { event_of result ≡ past_end_of side }
-{
-    match side {
-        Side::Client => Event::ClientEnd,
-        Side::Host => Event::HostEnd,
     }
 }

@@ -12,7 +12,7 @@ use Rattle.bridge_run.specs.Course.{Course}
 use Rattle.bridge_run.specs.Ups.{client_at, client_behind, host_at, host_since, to_clients, sent_to_host}
 use Rattle.bridge_run.specs.Asks.{last_fault}
 use Rattle.bridge_run.specs.RanOut.{RanOut}
-use Rattle.bridge_run.specs.Log.{Terms, events_of, IsWritten, IsWrittenInPart, Settled}
+use Rattle.bridge_run.specs.Log.{Terms, events_of, IsWritten, IsWrittenInPart, Settled, JustCame}
 
 -- what is kept of the links is the course's
 pub record AreUp (k : Kept) (c : Course) : Type 0 where
@@ -25,6 +25,7 @@ pub record IsStopping {D : Type 0} (gives : D → Call → D → Type 0) (terms 
   pub called : Called gives calls begun now
   pub settled : Settled terms p calls
   pub events-are : events_of calls ≡ e ∷ events
+  pub just_came : JustCame calls
   pub written : IsWritten terms p events calls
   pub client_up : k.client_up ≡ client_at e (client_behind p events)
   pub host_up : k.host_up ≡ host_at e (host_since (is_some terms.host) p events)
@@ -35,6 +36,7 @@ pub record HasStopped {D : Type 0} (gives : D → Call → D → Type 0) (runs_o
   pub called : Called gives calls begun now
   pub settled : Settled terms p calls
   pub events-are : events_of calls ≡ e ∷ events
+  pub just_came : JustCame calls
   pub to_client : List ℕ
   pub to_host : List ℕ
   pub ran_out : RanOut runs_out terms.taped p events e to_client to_host
@@ -47,6 +49,7 @@ pub record StopFailed {D : Type 0} (gives : D → Call → D → Type 0) (terms 
   pub called : Called gives calls begun now
   pub settled : Settled terms p calls
   pub events-are : events_of calls ≡ e ∷ events
+  pub just_came : JustCame calls
   pub written : IsWrittenInPart terms p (e ∷ events) calls
 
 -- which was that of a link

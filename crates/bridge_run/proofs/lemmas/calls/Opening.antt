@@ -1,5 +1,5 @@
 -- A session's log, as it begins.
-use Rattle.std.proofs.Common.{◌≡◌, ℕ, ◌+◌, ◌-◌, ◌<◌, Bool, true, false, List, [], ◌∷◌, ◌++◌, Some, None, is_some, Result, Ok, Err, refl, sym, ap, ◌∙◌, subst, arith, append-nil}
+use Rattle.std.proofs.Common.{◌≡◌, ℕ, ◌+◌, ◌-◌, ◌<◌, ◌≤◌, Bool, true, false, List, [], ◌∷◌, ◌++◌, Some, None, is_some, Result, Ok, Err, refl, sym, ap, ◌∙◌, subst, arith, append-nil}
 use Rattle.std.specs.Result.{IsErrAnd}
 use Rattle.usb_base.specs.declared.side.Side.TheVariants.{Client, Host}
 use Rattle.gate_outside.specs.declared.fault.Failed.{Failed as Fault}
@@ -103,6 +103,9 @@ all-left budget left is = omega arith
 all-waits : (idle waits : ℕ) → waits ≡ idle → waits + 0 ≡ idle + 0
 all-waits idle waits is = omega arith
 
+same-waits : (idle waits : ℕ) → waits ≡ idle → waits ≤ idle
+same-waits idle waits is = omega arith
+
 -- nothing has come
 begun-asking : {D : Type 0} → (gives : D → Call → D → Type 0) (stands : List Event → Type 0) (tells : List ℕ → Type 0) (terms : Terms) (p : Prescribed) (up : Bool) (k : Kept) (begun now : D) (calls : List Call) → Called gives calls begun now → Settled terms p calls → asks_of calls ≡ [] → events_of calls ≡ []
     → IsWritten terms p [] calls → stands [] → tells [] → p.refusals [] ≡ [] → up ≡ is_some terms.host → 0 < terms.idle → 0 < terms.budget → k ≡ fresh up terms.idle terms.budget → IsAsking RoundBegins gives stands tells terms p k begun now
@@ -124,8 +127,9 @@ begun-asking gives stands tells terms p up k begun now calls called settled asks
     };
     goes_on = record { links = ap (is_over terms p) none; left = subst (λ (l : List Ask). taken l < terms.budget) (sym asks) budget };
   };
-  patient = record { idle = ap (λ (q : Kept). q.idle) kept; some = idle; waits = subst (λ (n : ℕ). 0 < n) (sym (ap (λ (q : Kept). q.waits) kept)) idle };
+  patient = record { idle = ap (λ (q : Kept). q.idle) kept; some = idle; waits = subst (λ (n : ℕ). 0 < n) (sym (ap (λ (q : Kept). q.waits) kept)) idle; within = same-waits terms.idle k.waits (ap (λ (q : Kept). q.waits) kept) };
   waited = (ap (λ (q : Kept). q.busy) kept, record { came = λ there. refl; busy = λ b. refl; quiet = λ f. all-waits terms.idle k.waits (ap (λ (q : Kept). q.waits) kept) });
+  turn = λ up. refl;
 }
 
 pub opened-at : {D : Type 0} → (gives : D → Call → D → Type 0) (stands : List Event → Type 0) (tells : List ℕ → Type 0) (host door : List ℕ) (taped : Bool) (idle budget : ℕ) (p : Prescribed) (k : Kept) (begun now : D) → HasOpened gives (with_host host door taped idle budget) p begun now → stands [] → tells []

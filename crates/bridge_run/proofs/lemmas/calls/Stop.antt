@@ -15,7 +15,7 @@ use Rattle.bridge_run.specs.Recorded.{has_any}
 use Rattle.bridge_run.specs.Ups.{client_at, client_behind, host_at, host_since, to_clients, sent_to_host, told_of}
 use Rattle.bridge_run.specs.Asks.{Ask}
 use Rattle.bridge_run.specs.RanOut.{Untold, is_recorded, RanOut}
-use Rattle.bridge_run.specs.Log.{Terms, IsFront, WroteInPart, WroteBefore, Logged}
+use Rattle.bridge_run.specs.Log.{Terms, IsFront, JustCame, CameOrNone, WroteInPart, WroteBefore, Logged}
 use Rattle.bridge_run.specs.inner.Follows.{Prepared}
 use Rattle.bridge_run.specs.inner.Logging.{IsTaking, WroteMore, all_if, FailedBehind}
 use Rattle.bridge_run.specs.inner.Recording.{TapeFaults}
@@ -57,6 +57,7 @@ stopping gives stands tells terms p asks e k k1 begun now same t = record {
   called = t.called;
   settled = t.settled;
   events-are = t.events-are;
+  just_came = t.just_came;
   written = t.written;
   client_up = ap (λ (q : Kept). q.client_up) same ∙ t.client_up;
   host_up = ap (λ (q : Kept). q.host_up) same ∙ t.host_up;
@@ -70,6 +71,7 @@ none-written gives runs_out terms p e events k client host begun now none-client
   called = s.called;
   settled = s.settled;
   events-are = s.events-are;
+  just_came = s.just_came;
   to_client = client;
   to_host = host;
   ran_out = why;
@@ -90,6 +92,7 @@ stop-failed gives terms p e events k begun now s = record {
   called = s.called;
   settled = s.settled;
   events-are = s.events-are;
+  just_came = s.just_came;
   written = record {
     client = front-of-more (to_clients p events) _ (went Client s.calls) s.written.client;
     host = front-of-more (sent_to_host (is_some terms.host) p events) _ (went Host s.calls) s.written.host;
@@ -128,6 +131,7 @@ stop-client gives runs_out terms p e events k client host bytes begun d0 d1 part
     called = f.wrote.called;
     settled = f.wrote.settled terms p s.settled;
     events-are = f.wrote.events-are ∙ s.events-are;
+    just_came = f.wrote.just_came s.just_came;
     written = record {
       client = front-in (to_clients p events) f.front (f.back ++ part.to_client.0) _ (went Client f.wrote.behind) (f.wrote.side-is ∙ ap (λ (l : List ℕ). l ++ f.front) s.written.client)
           (ap (λ (u : Bool). cond u (gained p.to_client events e) []) (sym s.client_up ∙ f.is_up) ∙ part.to_client.1 ∙ ap (λ (l : List ℕ). l ++ part.to_client.0) (sym is ∙ f.parts) ∙ append_assoc f.front f.back part.to_client.0);
@@ -154,6 +158,7 @@ stop-host gives runs_out terms p e events k client host bytes1 bytes2 begun d0 d
     called = f.wrote.called;
     settled = f.wrote.settled terms p (w1.settled terms p s.settled);
     events-are = f.wrote.events-are ∙ w1.events-are ∙ s.events-are;
+    just_came = f.wrote.just_came (w1.just_came s.just_came);
     written = record {
       client = longer-front (client_at e (client_behind p events)) (to_clients p events) (went Client f.wrote.behind) client (gained p.to_client events e) part.to_client.0
           (sent-in (client_at e (client_behind p events)) k.client_up (to_clients p events) (went Client f.wrote.behind) bytes1 client (f.wrote.other-is ∙ w1.side-is ∙ ap (λ (l : List ℕ). l ++ all_if k.client_up bytes1) s.written.client) s.client_up is1) part.to_client.1;
@@ -173,6 +178,7 @@ stop-all gives runs_out terms p e events k client host bytes1 bytes2 begun d0 d1
   called = w2.called;
   settled = w2.settled terms p (w1.settled terms p s.settled);
   events-are = w2.events-are ∙ w1.events-are ∙ s.events-are;
+  just_came = w2.just_came (w1.just_came s.just_came);
   to_client = client;
   to_host = host;
   ran_out = why runs_out terms.taped p events e client host part.ran_out;
@@ -182,6 +188,10 @@ stop-all gives runs_out terms p e events k client host bytes1 bytes2 begun d0 d1
 }
 
 -- ---- the end
+
+came-or-none : (calls : List Call) → JustCame calls → CameOrNone calls
+came-or-none [] j = tt
+came-or-none (call ∷ calls) j = j
 
 pub stop-logs : {D : Type 0} → (x : ServeEnd) (gives : D → Call → D → Type 0) (runs_out : List Event → Event → List ℕ → List ℕ → Type 0) (tells : List ℕ → Type 0) (terms : Terms) (p : Prescribed) (e : Event) (events : List Event) (begun now : D) → tells (told_of p events)
     → StopLogs x gives runs_out terms p e events begun now → Logged x gives runs_out tells terms p begun now
@@ -193,14 +203,14 @@ stop-logs end.Memory gives runs_out tells terms p e events begun now told s = re
   called = s.called;
   settled = s.settled;
   written = subst (λ (es : List Event). WroteBefore runs_out tells terms p es s.calls) (sym s.events-are) (record { to_client = s.to_client; to_host = s.to_host; ran_out = s.ran_out; client = s.client; host = s.host; told = told });
-  ended = tt;
+  ended = came-or-none s.calls s.just_came;
 }
 stop-logs end.WriteFault gives runs_out tells terms p e events begun now told s = record {
   calls = s.calls;
   called = s.called;
   settled = s.settled;
   written = subst (λ (es : List Event). WroteInPart tells terms p es s.calls) (sym s.events-are) (record { links = s.written; told = part-more tells (told_of p events) _ (told-all tells (told_of p events) told) });
-  ended = tt;
+  ended = inl s.just_came;
 }
 stop-logs (end.LinkFault side) gives runs_out tells terms p e events begun now told s = record {
   calls = s.part.calls;

@@ -11,8 +11,7 @@ use Rattle.bridge_run.proofs.lemmas.calls.Idle.{cut-within, ends-idles, round-id
 use Rattle.bridge_run.proofs.lemmas.events.Rest.{faults-then, rests, rest-cut, rests-faults, wears-then, fewer-if_ok, goes-on}
 use Rattle.bridge_run.specs.inner.Logging.{RoundBegins, Logs}
 use Rattle.bridge_run.specs.Log.{Told, Logged}
-use Rattle.bridge_run.proofs.lemmas.calls.Log.{lines-fault}
-use Rattle.bridge_run.proofs.lemmas.calls.Rounds.{rested-logs}
+use Rattle.bridge_run.proofs.lemmas.calls.Resting.{rested-logs, rest-fault}
 use Rattle.bridge_run.proofs.session.Session.round.Goals as goal
 
 pub returns-in_err-ask-clause-course : goal.returns-in_err-ask-clause-course
@@ -120,7 +119,7 @@ returns-in_err-write_waiting-clause-log g c = λ first terms begun begun_out tap
     let asked = c.in_ok-ask-2.ensures.log first terms begun begun_out (taped ∙ sym c.ask_door.ensures.made ∙ sym c.ask.ensures.made) (c.in_ok-ask.ensures.log first terms begun begun_out (taped ∙ sym c.ask_door.ensures.made) (c.in_ok-ask_door.ensures.log first terms begun begun_out taped a)) in
     let runs_out = g.C.Served.runs_out first in
     subst (λ (r : Result (Unit {0}) ServeEnd). Logs r RoundBegins gives stands runs_out tells terms p k begun c.ask-2.new.doors) (sym (is-err c.from_residual-in_err-write_waiting.result c.in_err-write_waiting.field-0.0 c.from_residual-in_err-write_waiting.ensures.1))
-    (subst (λ (x : ServeEnd). Logged x gives runs_out tells terms p begun c.ask-2.new.doors) (sym c.in_err-write_waiting.ensures.fault) (lines-fault gives stands runs_out tells terms p asked.asks k begun c.ask-2.new.doors asked.on.at))
+    (subst (λ (x : ServeEnd). Logged x gives runs_out tells terms p begun c.ask-2.new.doors) (sym c.in_err-write_waiting.ensures.fault) (rest-fault gives stands runs_out tells terms p k begun c.ask-2.new.doors asked c.in_err-write_waiting.ensures.wanted.0 (taped ∙ sym c.ask_door.ensures.made ∙ sym c.ask.ensures.made ∙ sym c.ask-2.ensures.made ∙ c.in_err-write_waiting.ensures.wanted.1)))
 
 pub returns-clause-course : goal.returns-clause-course
 returns-clause-course g c = λ first k f.
