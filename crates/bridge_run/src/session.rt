@@ -113,17 +113,12 @@ impl<C: Served + Drop> Session<C> {
         ) {
             return end;
         }
-        let Kept {
-            client_up,
-            host_up,
-            ..
-        } = self.kept;
         let to_client = self.sent.to_client.as_slice();
-        if let Err(end) = write_link(doors, Side::Client, client_up, to_client) {
+        if let Err(end) = write_link(doors, Side::Client, self.kept.client_up, to_client) {
             return end;
         }
         let to_host = self.sent.to_host.as_slice();
-        if let Err(end) = write_link(doors, Side::Host, host_up, to_host) {
+        if let Err(end) = write_link(doors, Side::Host, self.kept.host_up, to_host) {
             return end;
         }
         ServeEnd::Memory
