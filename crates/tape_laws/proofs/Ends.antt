@@ -1,5 +1,5 @@
 -- What a run of `serve` has recorded, by how it ended.
-use Rattle.std.proofs.Common.{◌≡◌, ◌⊎◌, ◌+◌, ◌≤◌, ℕ, Bool, inl, inr, List, [], ◌∷◌, ◌++◌, length, Option, Some, None, IfSome, refl, sym, ap, ◌∙◌, subst, append_assoc, append-nil, arith}
+use Rattle.std.proofs.Common.{◌≡◌, ◌⊎◌, ◌≤◌, ℕ, Bool, inl, inr, List, [], ◌∷◌, ◌++◌, length, Option, Some, None, IfSome, refl, sym, ap, ◌∙◌, subst, append_assoc, append-nil, arith}
 use Rattle.std.proofs.lemmas.List.{length-append}
 use Rattle.gate_history.specs.step.Events.{Event as GateEvent}
 use Rattle.gate_history.specs.step.History.{history}
@@ -30,7 +30,7 @@ use Rattle.tape_laws.specs.Ups.{host_behind, to_host}
 use Rattle.tape_laws.specs.Begun.{IsFresh}
 use Rattle.tape_laws.specs.Plays.{read_of, Plays, WroteFront, PlaysInPart, Replays}
 use Rattle.tape_laws.proofs.Reading.{with_text}
-use Rattle.tape_laws.proofs.Events.{AllFit, Comes}
+use Rattle.tape_laws.proofs.Events.{AllFit}
 use Rattle.tape_laws.proofs.Courses.{Holds, Stands, At, IsMaking, call-comes, calls-come}
 use Rattle.tape_laws.proofs.Courses as course
 use Rattle.tape_laws.proofs.Recording.{recording, recording-comes, line-comes, rest_read, front-read, all-read, front-text}

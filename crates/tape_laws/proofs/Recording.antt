@@ -1,9 +1,8 @@
 -- What is read of a recording, and of a front of one.
-use Rattle.std.proofs.Common.{◌≡◌, ◌+◌, ◌≤◌, ℕ, false, List, [], ◌∷◌, ◌++◌, length, refl, sym, ap, ◌∙◌, append_assoc, append-nil, arith}
+use Rattle.std.proofs.Common.{◌≡◌, ◌≤◌, ℕ, false, List, [], ◌∷◌, ◌++◌, length, refl, sym, ap, ◌∙◌, append_assoc, append-nil, arith}
 use Rattle.std.proofs.lemmas.List.{length-append}
 use Rattle.gate_history.specs.step.Events.{Event as GateEvent}
 use Rattle.session_tape.specs.Lines.{first_comment}
-use Rattle.bridge_run.specs.declared.serve_end.ServeEnd.TheVariants as end
 use Rattle.bridge_run.specs.Events.{Event}
 use Rattle.bridge_run.specs.Gate.{gate_events}
 use Rattle.usbgate_tapes.specs.Tape.{lines_of}
@@ -22,7 +21,6 @@ use Rattle.tape_laws.specs.Plays.{read_of}
 use Rattle.tape_laws.proofs.Spelled.{no-lf-tested, no-lf-decimal}
 use Rattle.tape_laws.proofs.Reading.{with_text, reads-both, reads-line}
 use Rattle.tape_laws.proofs.Events.{AllFit, Comes, event-comes, events-come}
-use Rattle.tape_laws.proofs.Courses as course
 
 -- the words of the first line
 abbrev first_words : ℕ → List ℕ
