@@ -82,6 +82,22 @@ quiet_rounds [] = 0
 quiet_rounds (ForClient answer ∷ asks) = quiet_at_door answer (quiet_rounds asks)
 quiet_rounds (OfSide side polled ∷ asks) = quiet_behind side polled (has_just_come asks) (quiet_rounds asks)
 
+-- ---- whose turn it is
+
+-- the host was asked last, or nobody yet
+abbrev pub is_behind_host : List Ask → Bool
+is_behind_host [] = true
+is_behind_host (ForClient answer ∷ asks) = false
+is_behind_host (OfSide Client polled ∷ asks) = false
+is_behind_host (OfSide Host polled ∷ asks) = true
+
+-- the client's side was: a client was asked for, or polled
+abbrev pub is_behind_client : List Ask → Bool
+is_behind_client [] = false
+is_behind_client (ForClient answer ∷ asks) = true
+is_behind_client (OfSide Client polled ∷ asks) = true
+is_behind_client (OfSide Host polled ∷ asks) = false
+
 -- ---- which call has failed
 
 abbrev pub failing : {T : Type 0} → Side → Result T Fault → Option Side

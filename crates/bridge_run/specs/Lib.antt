@@ -10,5 +10,8 @@ pub mod Serves
 pub mod inner
 pub mod Ups
 pub mod Asks
+pub mod RanOut
+pub mod GateStops
+pub mod LentStops
 pub mod Log
 pub mod Clients

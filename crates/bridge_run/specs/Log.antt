@@ -1,6 +1,6 @@
 -- What serving has done, by the log of the doors' calls: which events came, that what was written is what they send,
 -- and why it ended. It holds over any doors and any sink, since it speaks of nothing but what their calls answered.
-use Rattle.std.specs.Prelude.{◌≡◌, ◌<◌, ◌≤◌, ℕ, ◌&&◌, not, Bool, true, false, if◌then◌else◌, List, [], ◌∷◌, ◌++◌, take, Option, Some, None, is_some, Result, Ok, Err}
+use Rattle.std.specs.Prelude.{◌≡◌, ◌⊎◌, ◌<◌, ◌≤◌, ℕ, ◌&&◌, not, Bool, true, false, if◌then◌else◌, List, [], ◌∷◌, ◌++◌, take, Option, Some, None, is_some, Result, Ok, Err}
 use Rattle.usb_base.specs.declared.side.Side.{Side}
 use Rattle.usb_base.specs.declared.side.Side.TheVariants.{Client, Host}
 use Rattle.gate_outside.specs.declared.fault.Failed.{Failed as Fault}
@@ -13,8 +13,9 @@ use Rattle.bridge_run.specs.declared.serve_end.ServeEnd.{ServeEnd}
 use Rattle.bridge_run.specs.declared.serve_end.ServeEnd.TheVariants as end
 use Rattle.bridge_run.specs.Prescribed.{Prescribed, first_of}
 use Rattle.bridge_run.specs.Calls.{piece, end_of, ends_next}
-use Rattle.bridge_run.specs.Ups.{client_behind, host_since, to_clients, sent_to_host, told_of}
-use Rattle.bridge_run.specs.Asks.{asks_of, taken, quiet_rounds, last_fault}
+use Rattle.bridge_run.specs.Ups.{client_at, host_at, client_behind, host_since, to_clients, sent_to_host, told_of}
+use Rattle.bridge_run.specs.RanOut.{RanOut}
+use Rattle.bridge_run.specs.Asks.{asks_of, taken, has_just_come, quiet_rounds, is_behind_host, is_behind_client, last_fault}
 
 -- ---- which events came, the latest first
 
@@ -54,11 +55,13 @@ events_of (call ∷ calls) = behind_call call (events_of calls)
 
 -- ---- what was asked of it
 
--- the address of the host, where one is dialled, and that of the door; and how long it goes on: after how many rounds
--- in a row that bring nothing it ends, and how many bytes may come, where each client counts as one
+-- the address of the host, where one is dialled, and that of the door; whether there is a tape, on which the events are
+-- recorded; and how long it goes on: after how many rounds in a row that bring nothing it ends, and how many bytes may
+-- come, where each client counts as one
 pub record Terms : Type 0 where
   pub host : Option (List ℕ)
   pub door : List ℕ
+  pub taped : Bool
   pub idle : ℕ
   pub budget : ℕ
 
@@ -109,13 +112,22 @@ pub record MayAsk (side : Side) (terms : Terms) (p : Prescribed) (calls : List C
   pub goes_on : GoesOn terms p calls
   pub round : MayBegin side terms calls
 
+-- behind the one before it: the host was polled in that, where its link is up
+abbrev pub BeginsRound : Terms → Prescribed → List Call → Type 0
+BeginsRound terms p calls = host_since (is_some terms.host) p (events_of calls) ≡ true → is_behind_host (asks_of calls) ≡ true
+
+-- a round polls the client first that is there, or has just come, and then the host
+abbrev pub IsTurnOf : Side → Terms → Prescribed → List Call → Type 0
+IsTurnOf Client terms p calls = (has_just_come (asks_of calls) ≡ true) ⊎ BeginsRound terms p calls
+IsTurnOf Host terms p calls = is_behind_client (asks_of calls) ≡ true
+
 -- The host is dialled first, and once, and then the door is made, once. Nobody is asked for anything before all is
--- written, nor once it is to end.
+-- written, nor once it is to end, and both sides are asked in turn.
 abbrev pub AsksSettled : Terms → Prescribed → Call → List Call → Type 0
 AsksSettled terms p (Dial addr answer) calls = IsAddress terms.host addr × (calls ≡ [])
 AsksSettled terms p (Listen addr answer) calls = (addr ≡ terms.door) × IsDialled terms.host calls
-AsksSettled terms p (Accept answer) calls = MayAsk Client terms p calls
-AsksSettled terms p (Poll side polled buf) calls = MayAsk side terms p calls
+AsksSettled terms p (Accept answer) calls = MayAsk Client terms p calls × BeginsRound terms p calls
+AsksSettled terms p (Poll side polled buf) calls = MayAsk side terms p calls × IsTurnOf side terms p calls
 AsksSettled terms p (Write side bytes answer) calls = Unit {0}
 AsksSettled terms p (Close side) calls = Unit {0}
 
@@ -143,33 +155,89 @@ pub record WroteInPart (tells : List ℕ → Type 0) (terms : Terms) (p : Prescr
   pub links : IsWrittenInPart terms p events calls
   pub told : InPart tells (told_of p events)
 
--- memory ran out before all, or as the latest event was taken: of that nothing is written, and all for those before it
-abbrev pub WroteBefore : (List ℕ → Type 0) → Terms → Prescribed → List Event → List Call → Type 0
-WroteBefore tells terms p [] calls = (calls ≡ []) × tells []
-WroteBefore tells terms p (e ∷ events) calls = Wrote tells terms p events calls
+-- all that the events before the latest send, and of that what it had sent before memory ran out, to each side whose link
+-- was up; and no line for it
+pub record WroteSent (runs_out : List Event → Event → List ℕ → List ℕ → Type 0) (tells : List ℕ → Type 0) (terms : Terms) (p : Prescribed) (e : Event) (events : List Event) (calls : List Call) : Type 0 where
+  pub to_client : List ℕ
+  pub to_host : List ℕ
+  pub ran_out : RanOut runs_out terms.taped p events e to_client to_host
+  pub client : went Client calls ≡ to_clients p events ++ (if client_at e (client_behind p events) then to_client else [])
+  pub host : went Host calls ≡ sent_to_host (is_some terms.host) p events ++ (if host_at e (host_since (is_some terms.host) p events) then to_host else [])
+  pub told : tells (told_of p events)
 
-abbrev pub HasWritten : ServeEnd → (List ℕ → Type 0) → Terms → Prescribed → List Event → List Call → Type 0
-HasWritten (end.Ended refused) tells terms p events calls = Wrote tells terms p events calls
-HasWritten end.Idle tells terms p events calls = Wrote tells terms p events calls
-HasWritten end.Spent tells terms p events calls = Wrote tells terms p events calls
-HasWritten (end.LinkFault side) tells terms p events calls = WroteInPart tells terms p events calls
-HasWritten end.WriteFault tells terms p events calls = WroteInPart tells terms p events calls
-HasWritten end.Memory tells terms p events calls = WroteBefore tells terms p events calls
+-- memory ran out before all, or as the latest event was taken
+abbrev pub WroteBefore : (List Event → Event → List ℕ → List ℕ → Type 0) → (List ℕ → Type 0) → Terms → Prescribed → List Event → List Call → Type 0
+WroteBefore runs_out tells terms p [] calls = (calls ≡ []) × tells []
+WroteBefore runs_out tells terms p (e ∷ events) calls = WroteSent runs_out tells terms p e events calls
+
+abbrev pub HasWritten : ServeEnd → (List Event → Event → List ℕ → List ℕ → Type 0) → (List ℕ → Type 0) → Terms → Prescribed → List Event → List Call → Type 0
+HasWritten (end.Ended refused) runs_out tells terms p events calls = Wrote tells terms p events calls
+HasWritten end.Idle runs_out tells terms p events calls = Wrote tells terms p events calls
+HasWritten end.Spent runs_out tells terms p events calls = Wrote tells terms p events calls
+HasWritten (end.LinkFault side) runs_out tells terms p events calls = WroteInPart tells terms p events calls
+HasWritten end.WriteFault runs_out tells terms p events calls = WroteInPart tells terms p events calls
+HasWritten end.Memory runs_out tells terms p events calls = WroteBefore runs_out tells terms p events calls
+
+-- a client came
+abbrev pub Came : Result Bool Fault → Type 0
+Came (Ok true) = Unit {0}
+Came (Ok false) = ⊥
+Came (Err _) = ⊥
+
+abbrev pub RestBrings : Side → Type 0
+RestBrings Client = Unit {0}
+RestBrings Host = ⊥
+
+abbrev pub PollBrings : Side → Polled → Type 0
+PollBrings side (Took n) = Unit {0}
+PollBrings side NotYet = RestBrings side
+PollBrings side Ended = Unit {0}
+PollBrings side Failed = ⊥
+
+abbrev pub CloseBrings : Side → Type 0 → Type 0
+CloseBrings Client before = Unit {0}
+CloseBrings Host before = before
+
+-- behind the answer that made the latest event, or the closing of a client's link, nothing was called but writes, and the
+-- closing of the host's link
+abbrev pub JustCame : List Call → Type 0
+JustCame [] = ⊥
+JustCame (Dial addr answer ∷ calls) = ⊥
+JustCame (Listen addr answer ∷ calls) = ⊥
+JustCame (Accept answer ∷ calls) = Came answer
+JustCame (Poll side polled buf ∷ calls) = PollBrings side polled
+JustCame (Write side bytes answer ∷ calls) = JustCame calls
+JustCame (Close side ∷ calls) = CloseBrings side (JustCame calls)
+
+-- a round is over that brought nothing, all is written to the links, and the lines that wait are due on the tape
+pub record IsAtRest (terms : Terms) (p : Prescribed) (calls : List Call) : Type 0 where
+  pub written : IsWritten terms p (events_of calls) calls
+  pub goes_on : GoesOn terms p calls
+  pub begins : BeginsRound terms p calls
+  pub quiet : 0 < quiet_rounds (asks_of calls)
+  pub is_taped : terms.taped ≡ true
+
+-- before all, or behind the event that it was wanted for
+abbrev pub CameOrNone : List Call → Type 0
+CameOrNone [] = Unit {0}
+CameOrNone (call ∷ calls) = JustCame (call ∷ calls)
 
 -- Why it ended. No link is up any more, and this is the first refusal; so many rounds in a row have brought nothing, no
--- more and no fewer; as much has come as may; or the last call failed, which was of this side.
+-- more and no fewer, in each of which both sides were asked; as much has come as may; or the last call failed, which was
+-- of this side. A sink or a tape fails, and memory runs out, behind the event that something is written for, or that is
+-- taken; a tape fails too where lines are due behind a quiet round.
 abbrev pub HasEnded : ServeEnd → Terms → Prescribed → List Call → Type 0
 HasEnded (end.Ended refused) terms p calls = (is_over terms p (events_of calls) ≡ true) × (refused ≡ first_of (p.refusals (events_of calls)))
-HasEnded end.Idle terms p calls = GoesOn terms p calls × (quiet_rounds (asks_of calls) ≡ terms.idle)
+HasEnded end.Idle terms p calls = GoesOn terms p calls × (quiet_rounds (asks_of calls) ≡ terms.idle) × BeginsRound terms p calls
 HasEnded end.Spent terms p calls = (is_over terms p (events_of calls) ≡ false) × (terms.budget ≤ taken (asks_of calls))
 HasEnded (end.LinkFault side) terms p calls = last_fault calls ≡ Some side
-HasEnded end.WriteFault terms p calls = Unit {0}
-HasEnded end.Memory terms p calls = Unit {0}
+HasEnded end.WriteFault terms p calls = JustCame calls ⊎ IsAtRest terms p calls
+HasEnded end.Memory terms p calls = CameOrNone calls
 
 -- the calls that were made, one after the other, what they wrote and what the sink was told, and why it ended
-pub record Logged {D : Type 0} (e : ServeEnd) (gives : D → Call → D → Type 0) (tells : List ℕ → Type 0) (terms : Terms) (p : Prescribed) (old new : D) : Type 0 where
+pub record Logged {D : Type 0} (e : ServeEnd) (gives : D → Call → D → Type 0) (runs_out : List Event → Event → List ℕ → List ℕ → Type 0) (tells : List ℕ → Type 0) (terms : Terms) (p : Prescribed) (old new : D) : Type 0 where
   pub calls : List Call
   pub called : Called gives calls old new
   pub settled : Settled terms p calls
-  pub written : HasWritten e tells terms p (events_of calls) calls
+  pub written : HasWritten e runs_out tells terms p (events_of calls) calls
   pub ended : HasEnded e terms p calls

@@ -1,5 +1,5 @@
 -- What is known of the doors, and what they tell.
-use Rattle.std.specs.Prelude.{◌≡◌, ◌⊎◌, ◌≤◌, ◌+◌, ◌-◌, ◌^◌, ℕ, min, Bool, true, false, List, [], ◌++◌, Option, Some, IfSome}
+use Rattle.std.specs.Prelude.{◌≡◌, ◌⊎◌, ◌≤◌, ◌+◌, ◌-◌, ◌^◌, ℕ, min, Bool, true, false, List, [], ◌∷◌, ◌++◌, Option, Some, IfSome}
 use Rattle.usb_base.specs.declared.side.Side.{Side}
 use Rattle.usb_base.specs.declared.side.Side.TheVariants.{Client, Host}
 use Rattle.gate_outside.specs.declared.turn.Turn.{Turn}
@@ -8,6 +8,8 @@ use Rattle.gate_outside.specs.Link.{Link, Door}
 use Rattle.session_tape.specs.Tapes.{Counts, OneFault}
 use Rattle.bridge_run.specs.declared.serve_end.ServeEnd.{ServeEnd}
 use Rattle.bridge_run.specs.declared.serve_end.ServeEnd.TheVariants.{Ended, LinkFault, WriteFault, Idle, Spent, Memory}
+use Rattle.bridge_run.specs.Events.{Event}
+use Rattle.bridge_run.specs.Recorded.{event_line}
 use Rattle.bridge_run.specs.Course.{Course}
 
 pub record Outside : Type 0 where
@@ -142,8 +144,21 @@ pub record IsRecordedInPart (w : Outside) (out : Written) (before behind : Cours
   pub to_host : w.host.written ≡ Some before.to_host
   pub told : out.told ≡ Some before.told
 
+-- the lines that waited are there, and that of the event which the call takes, without those of its refusals: memory ran
+-- out as it was taken
+pub record IsRecordedUntold (before behind : Course) (held : List ℕ) : Type 0 where
+  pub event : Event
+  pub takes : behind.events ≡ event ∷ before.events
+  pub held-is : held ≡ before.recorded ++ (before.waiting ++ event_line event)
+  pub lost : List ℕ
+  pub all-is : behind.recorded ≡ held ++ lost
+
+-- what a tape has of a call that was cut
+abbrev pub HasLines : Outside → Written → Course → Course → List ℕ → Type 0
+HasLines w out before behind held = (held ≡ behind.recorded) ⊎ (IsRecordedInPart w out before behind held ⊎ IsRecordedUntold before behind held)
+
 -- a call that the first course makes and that leads to the second was cut: what it writes is written in part, and not
--- before all of it is recorded
+-- before the line of its event is recorded
 pub record Cut (w : Outside) (out : Written) (before behind : Course) : Type 0 where
   pub client : IsOneOf before.client w.client.turns behind.client
   pub host : IsOneOf before.host w.host.turns behind.host
@@ -151,4 +166,4 @@ pub record Cut (w : Outside) (out : Written) (before behind : Course) : Type 0 w
   pub to_client : IsBetween before.to_client w.client.written behind.to_client
   pub to_host : IsBetween before.to_host w.host.written behind.to_host
   pub told : IsBetween before.told out.told behind.told
-  pub tape : IfSome out.tape (λ held. (held ≡ behind.recorded) ⊎ IsRecordedInPart w out before behind held)
+  pub tape : IfSome out.tape (λ held. HasLines w out before behind held)

@@ -7,3 +7,4 @@ pub mod Follows
 pub mod Idling
 pub mod Lending
 pub mod Logging
+pub mod Stopping

@@ -1,10 +1,11 @@
 //! The gate as what is served.
 
-ghost use Rattle.std.specs.Prelude.{◌≡◌, ◌++◌, ◌||◌, OnOk, option_map};
+ghost use Rattle.std.specs.Prelude.{◌≡◌, ◌++◌, ◌||◌, true, OnOk, OnErr, option_map};
 ghost use Rattle.std.specs.List.{flat_map, list_any};
 ghost use Rattle.gate_history.specs.step.Events.{event_of as told_of};
 ghost use Rattle.bridge_run.specs.Events.{event_of};
 ghost use Rattle.bridge_run.specs.Gate.{gate_event, refusal_in, is_loss, lets_go};
+ghost use Rattle.bridge_run.specs.Recorded.{has_any};
 
 use crate::after_loss::AfterLoss;
 use crate::event::Event;
@@ -26,6 +27,7 @@ impl Served for Gateway {
     ghost use Rattle.bridge_run.specs.declared.after_loss.AfterLoss.{AfterLoss as Setting};
     ghost use Rattle.gate_core.specs.step.Stands.{Stands};
     ghost use Rattle.bridge_run.specs.Gate.{gate_event, gate_events, gate_sends};
+    ghost use Rattle.bridge_run.specs.GateStops.{gate_runs_out};
 
     // what becomes of such a client, and the first id
     ghost First = { Setting × ℕ };
@@ -33,6 +35,8 @@ impl Served for Gateway {
     ghost sends = { λ first. gate_sends first.0 first.1 };
 
     ghost stands = { λ first gateway events. (gateway.after_loss ≡ first.0) × Stands first.1 gateway.gate (gate_events events) };
+
+    ghost runs_out = { λ first. gate_runs_out first.1 };
 
     // none at an event that is none to a gate
     ghost takes_memory = { λ e. is_some (gate_event e) };
@@ -86,7 +90,8 @@ fn has_loss(notes: &Notes) -> bool
 
 /// Appends the refusals among the notes.
 fn push_refusals(notes: &Notes, refusals: &mut List<Refusal>) -> Result<(), Memory>
-    ensures { OnOk result (refusals.new ≡ refusals.old ++ flat_map refusal_in notes.now) }
+    ensures pushed { OnOk result (refusals.new ≡ refusals.old ++ flat_map refusal_in notes.now) }
+    ensures wants { OnErr result (has_any (flat_map refusal_in notes.now) ≡ true) }
 {
     for note in notes.as_slice() {
         if let Note::Refused(refusal) = note {

@@ -8,6 +8,7 @@ ghost use Rattle.bridge_run.specs.Calls.{Goes};
 ghost use Rattle.bridge_run.specs.Outside.{outside, written, faults, Tells, HasCause, HasReason};
 ghost use Rattle.bridge_run.specs.Log.{Told, Logged};
 ghost use Rattle.bridge_run.specs.Lent.{lent_sends};
+ghost use Rattle.bridge_run.specs.LentStops.{LentStops};
 ghost use Rattle.bridge_run.specs.Serves.{Begins, Leaves};
 
 use crate::kept::Kept;
@@ -44,7 +45,7 @@ pub fn serve_host<G: Gadget, D: Doors, K: Sink>(
     ensures leaves { (c : Course) → Begins idle budget c → Tells (outside (D.link doors.old) (D.door doors.old)) (written (K.contents out.old) None) c
         → Leaves result (record { served = lent_sends G.meaning gadget; idle = idle }) (Goes AtDoor c) (outside (D.link doors.new) (D.door doors.new)) (written (K.contents out.new) None) }
     // Over any doors, and any sink.
-    ensures log { Logged result D.call_gives (Told K.write_gives out.old out.new) (record { host = None; door = listen.now; idle = idle; budget = budget }) (lent_sends G.meaning gadget) doors.old doors.new }
+    ensures log { Logged result D.call_gives (LentStops G.meaning gadget) (Told K.write_gives out.old out.new) (record { host = None; door = listen.now; taped = false; idle = idle; budget = budget }) (lent_sends G.meaning gadget) doors.old doors.new }
     ensures cause { HasCause result (outside (D.link doors.old) (D.door doors.old)) (outside (D.link doors.new) (D.door doors.new)) (faults (K.faults out.old) (counts 0 0)) (faults (K.faults out.new) (counts 0 0)) }
     ensures reason { HasReason result idle (outside (D.link doors.old) (D.door doors.old)) (outside (D.link doors.new) (D.door doors.new)) }
 {

@@ -1,6 +1,6 @@
 //! A modelled device, lent to a guest, as what is served.
 
-ghost use Rattle.std.specs.Prelude.{◌≡◌, ◌∷◌, ◌++◌, ◌||◌, [], true, if◌then◌else◌, List as ListOf, OnOk, IfOk};
+ghost use Rattle.std.specs.Prelude.{◌≡◌, ◌∷◌, ◌++◌, ◌||◌, [], true, if◌then◌else◌, List as ListOf, OnOk, OnErr, IfOk};
 ghost use Rattle.std.specs.List.{flat_map, list_any};
 ghost use Rattle.usb_base.specs.Endpoint.{IsEndpoint};
 ghost use Rattle.redir_host.specs.step.Acts.{Act, Piece};
@@ -9,7 +9,8 @@ ghost use Rattle.redir_host.specs.step.Stands.{DoesAct, Stands};
 ghost use Rattle.redir_host.specs.write.Output.{act_notes};
 ghost use Rattle.bridge_run.specs.Events.{event_of, is_quiet};
 ghost use Rattle.bridge_run.specs.Lent.{each, used, behind_piece, acts_behind, is_coming, refused_by, refusal_in, is_refusal};
-ghost use Rattle.bridge_run.specs.inner.Lending.{Acts, IsLent, act_of};
+ghost use Rattle.bridge_run.specs.inner.Lending.{Acts, StopsIn, Halts, IsLent, act_of};
+ghost use Rattle.bridge_run.specs.Recorded.{has_any};
 
 use crate::event::Event;
 use crate::sent::Sent;
@@ -17,6 +18,7 @@ use crate::served::Served;
 use model_device::Gadget;
 use redir_host::{HostCore, HostNote, HostNotes};
 use std::alloc::Global;
+use std::mem;
 use usb_base::{Bytes, EpAddr, List, Memory, Refusal, Side};
 
 /// The addresses of the OUT endpoints, and of endpoint 0.
@@ -66,6 +68,8 @@ impl<G: Gadget> Lent<G> {
             → Acts G.meaning first self.new.core past (acts_behind G.meaning first past (event_of event.entry)) self.old.waiting self.new.waiting) }
         ensures refusals { OnOk result ((first : G) (past : ListOf Act) → Stands G.meaning first self.old.core past
             → refusals.new ≡ refusals.old ++ refused_by G.meaning first past (event_of event.entry)) }
+        ensures stops { OnErr result ((first : G) (past : ListOf Act) → Stands G.meaning first self.old.core past
+            → Halts G.meaning first past (acts_behind G.meaning first past (event_of event.entry)) (refused_by G.meaning first past (event_of event.entry)) self.old.waiting self.new.waiting) }
         ensures come { self.new.has_come ≡ (is_coming (event_of event.entry) || self.old.has_come) }
         ensures quiet { OnOk result (is_quiet (event_of event.entry) ≡ true → refusals.new ≡ refusals.old) }
     {
@@ -82,23 +86,22 @@ impl<G: Gadget> Lent<G> {
         }
     }
 
-    /// Hands on what waits, once the guest has come.
-    fn hand_on(&mut self, to_client: &mut Bytes) -> Result<(), Memory>
-        ensures sent { OnOk result (to_client.new ≡ to_client.old ++ (if self.old.has_come then self.old.waiting else [])) }
-        ensures kept { OnOk result (self.new ≡ record self.old { waiting = if self.old.has_come then [] else self.old.waiting }) }
+    /// Hands over what waits, once the guest has come. No byte of it is copied.
+    fn hand_on(&mut self, to_client: &mut Bytes)
+        requires { to_client.old ≡ [] }
+        ensures sent { to_client.new ≡ (if self.old.has_come then self.old.waiting else []) }
+        ensures kept { self.new ≡ record self.old { waiting = if self.old.has_come then [] else self.old.waiting } }
     {
-        if !self.has_come {
-            return Ok(());
+        if self.has_come {
+            mem::swap(&mut self.waiting, to_client);
         }
-        to_client.append(self.waiting.as_slice())?;
-        self.waiting.clear();
-        Ok(())
     }
 }
 
 impl<G: Gadget> Served for Lent<G> {
     ghost use Rattle.std.specs.Prelude.{true};
     ghost use Rattle.bridge_run.specs.Lent.{lent_sends};
+    ghost use Rattle.bridge_run.specs.LentStops.{LentStops};
     ghost use Rattle.bridge_run.specs.inner.Lending.{IsLent};
 
     // the device's first state
@@ -108,12 +111,15 @@ impl<G: Gadget> Served for Lent<G> {
 
     ghost stands = { λ first lent events. IsLent G.meaning first lent events };
 
+    ghost runs_out = { λ first. LentStops G.meaning first };
+
     // a quiet guest's device is used, too
     ghost takes_memory = { λ e. true };
 
     fn take(&mut self, event: Event, sent: &mut Sent) -> Result<(), Memory> {
-        self.act(event, &mut sent.refusals)?;
-        self.hand_on(&mut sent.to_client)
+        let acted = self.act(event, &mut sent.refusals);
+        self.hand_on(&mut sent.to_client);
+        acted
     }
 }
 
@@ -128,6 +134,8 @@ fn hear<G: Gadget>(
         → Acts G.meaning first core.new past (behind_piece (act_notes G.meaning first past (Piece bytes.now)) (Piece bytes.now ∷ past)) out.old out.new) }
     ensures refusals { OnOk result ((first : G) (past : ListOf Act) → Stands G.meaning first core.old past
         → refusals.new ≡ refusals.old ++ flat_map refusal_in (act_notes G.meaning first past (Piece bytes.now))) }
+    ensures stops { OnErr result ((first : G) (past : ListOf Act) → Stands G.meaning first core.old past
+        → Halts G.meaning first past (behind_piece (act_notes G.meaning first past (Piece bytes.now)) (Piece bytes.now ∷ past)) (flat_map refusal_in (act_notes G.meaning first past (Piece bytes.now))) out.old out.new) }
 {
     let notes = core.take(bytes, out)?;
     push_refusals(&notes, refusals)?;
@@ -139,8 +147,10 @@ fn hear<G: Gadget>(
 
 /// Performs the first request of each endpoint, and then offers the streams of all IN endpoints.
 fn use_device<G: Gadget>(core: &mut HostCore<G>, out: &mut Bytes) -> Result<(), Memory>
-    ensures { OnOk result ((first : G) (past : ListOf Act) → Stands G.meaning first core.old past
+    ensures acts { OnOk result ((first : G) (past : ListOf Act) → Stands G.meaning first core.old past
         → Acts G.meaning first core.new past (used past) out.old out.new) }
+    ensures stops { OnErr result ((first : G) (past : ListOf Act) → Stands G.meaning first core.old past
+        → StopsIn G.meaning first past (used past) out.old out.new) }
 {
     use_each(core, Use::Perform, &OUT_ADDRESSES, out)?;
     use_each(core, Use::Perform, &IN_ADDRESSES, out)?;
@@ -155,8 +165,10 @@ fn use_each<G: Gadget>(
     out: &mut Bytes,
 ) -> Result<(), Memory>
     requires { Each IsEndpoint addresses.now }
-    ensures { OnOk result ((first : G) (past : ListOf Act) → Stands G.meaning first core.old past
+    ensures acts { OnOk result ((first : G) (past : ListOf Act) → Stands G.meaning first core.old past
         → Acts G.meaning first core.new past (each (act_of how) addresses.now past) out.old out.new) }
+    ensures stops { OnErr result ((first : G) (past : ListOf Act) → Stands G.meaning first core.old past
+        → StopsIn G.meaning first past (each (act_of how) addresses.now past) out.old out.new) }
 {
     for address in addresses {
         match EpAddr::new(*address) {
@@ -174,8 +186,9 @@ fn use_endpoint<G: Gadget>(
     ep: EpAddr,
     out: &mut Bytes,
 ) -> Result<(), Memory>
-    ensures { OnOk result ((first : G) (past : ListOf Act) → Stands G.meaning first core.old past
+    ensures does { OnOk result ((first : G) (past : ListOf Act) → Stands G.meaning first core.old past
         → DoesAct G.meaning first core.new past (act_of how ep) out.old out.new) }
+    ensures err { OnErr result (out.new ≡ out.old) }
 {
     match how {
         Use::Perform => {
@@ -200,7 +213,8 @@ fn has_refusal(notes: &HostNotes) -> bool
 
 /// Appends the refusals among the notes, which are of the client's side.
 fn push_refusals(notes: &HostNotes, refusals: &mut List<Refusal>) -> Result<(), Memory>
-    ensures { OnOk result (refusals.new ≡ refusals.old ++ flat_map refusal_in notes.now) }
+    ensures pushed { OnOk result (refusals.new ≡ refusals.old ++ flat_map refusal_in notes.now) }
+    ensures wants { OnErr result (has_any (flat_map refusal_in notes.now) ≡ true) }
 {
     for note in notes.as_slice() {
         if let HostNote::Refused { place, reason } = *note {

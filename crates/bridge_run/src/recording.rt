@@ -1,12 +1,13 @@
 //! What is recorded of an event.
 
-ghost use Rattle.std.specs.Prelude.{◌≡◌, ◌++◌, ◌||◌, OnOk, OnErr, IfErr, IfSome};
+ghost use Rattle.std.specs.Prelude.{◌≡◌, ◌++◌, ◌||◌, true, OnOk, OnErr, IfErr, IfSome};
 ghost use Rattle.std.specs.List.{flat_map};
 ghost use Rattle.std.specs.Io.KnownBytes.{append_known};
 ghost use Rattle.session_tape.specs.Lines.{refusal_comment};
 ghost use Rattle.session_tape.specs.Tapes.{GrowsInPart};
 ghost use Rattle.bridge_run.specs.Events.{event_of};
-ghost use Rattle.bridge_run.specs.Recorded.{event_line, lines_of, is_full as are_full, written_if, waiting_if};
+ghost use Rattle.bridge_run.specs.RanOut.{is_recorded};
+ghost use Rattle.bridge_run.specs.Recorded.{has_any, event_line, lines_of, is_full as are_full, written_if, waiting_if};
 ghost use Rattle.bridge_run.specs.inner.Follows.{IsCutEnd};
 ghost use Rattle.bridge_run.specs.inner.Recording.{TapeFaults};
 
@@ -33,8 +34,10 @@ pub fn record_event<T: Tape>(
     ensures ok { OnOk result (T.contents tape.new ≡ append_known (T.contents tape.old) (written_if (due || are_full (waiting.old ++ lines_of (event_of event.entry) sent.now.refusals)) (waiting.old ++ lines_of (event_of event.entry) sent.now.refusals))) }
     ensures waits { OnOk result (IfSome (T.contents tape.new) (λ held. waiting.new ≡ waiting_if (due || are_full (waiting.old ++ lines_of (event_of event.entry) sent.now.refusals)) (waiting.old ++ lines_of (event_of event.entry) sent.now.refusals))) }
     ensures err { OnErr result (GrowsInPart (T.contents tape.old) (T.contents tape.new) (written_if (due || are_full (waiting.old ++ lines_of (event_of event.entry) sent.now.refusals)) (waiting.old ++ lines_of (event_of event.entry) sent.now.refusals))) }
+    ensures made { T.made tape.new ≡ T.made tape.old }
     ensures cause { TapeFaults result (T.counts tape.old) (T.counts tape.new) }
     ensures cut { IfErr result IsCutEnd }
+    ensures wants { IfErr result (λ end. end ≡ ServeEnd.Memory → (T.made tape.old ≡ true) × ((is_recorded (event_of event.entry) || has_any sent.now.refusals) ≡ true)) }
 {
     if !tape.is_made() {
         return Ok(());
@@ -50,9 +53,11 @@ pub fn write_waiting<T: Tape>(due: bool, waiting: &mut Bytes, tape: &mut T) -> R
     ensures ok { OnOk result (T.contents tape.new ≡ append_known (T.contents tape.old) (written_if due waiting.old)) }
     ensures waits { OnOk result (IfSome (T.contents tape.new) (λ held. waiting.new ≡ waiting_if due waiting.old)) }
     ensures err { OnErr result (GrowsInPart (T.contents tape.old) (T.contents tape.new) (written_if due waiting.old)) }
+    ensures made { T.made tape.new ≡ T.made tape.old }
     ensures cause { TapeFaults result (T.counts tape.old) (T.counts tape.new) }
     ensures cut { IfErr result IsCutEnd }
     ensures fault { IfErr result (λ end. end ≡ ServeEnd.WriteFault) }
+    ensures wanted { OnErr result ((due ≡ true) × (T.made tape.old ≡ true)) }
 {
     if !due || !tape.is_made() {
         return Ok(());
@@ -74,7 +79,8 @@ fn is_full(waiting: &Bytes) -> bool
 }
 
 fn push_event(event: Event, text: &mut Bytes) -> Result<(), Memory>
-    ensures { OnOk result (text.new ≡ text.old ++ event_line (event_of event.entry)) }
+    ensures pushed { OnOk result (text.new ≡ text.old ++ event_line (event_of event.entry)) }
+    ensures wants { OnErr result (is_recorded (event_of event.entry) ≡ true) }
 {
     match event {
         Event::ClientComes | Event::ClientQuiet => Ok(()),
@@ -86,7 +92,8 @@ fn push_event(event: Event, text: &mut Bytes) -> Result<(), Memory>
 }
 
 fn push_refusals(alloc: Global, refusals: &List<Refusal>, text: &mut Bytes) -> Result<(), Memory>
-    ensures { OnOk result (text.new ≡ text.old ++ flat_map refusal_comment refusals.now) }
+    ensures pushed { OnOk result (text.new ≡ text.old ++ flat_map refusal_comment refusals.now) }
+    ensures wants { OnErr result (has_any refusals.now ≡ true) }
 {
     for refusal in refusals.as_slice() {
         push_refusal(alloc, refusal, text)?;

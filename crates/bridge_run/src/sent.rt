@@ -1,6 +1,6 @@
 //! What an event sends.
 
-ghost use Rattle.std.specs.Prelude.{◌≡◌, ◌++◌, ◌||◌, [], OnOk, false};
+ghost use Rattle.std.specs.Prelude.{◌≡◌, ◌++◌, ◌||◌, [], OnOk, OnErr, false, true};
 ghost use Rattle.usb_base.specs.declared.side.Side.TheVariants.{Client};
 ghost use Rattle.std.specs.List.{flat_map};
 ghost use Rattle.usb_base.specs.Refusal.{refusal_line};
@@ -52,10 +52,14 @@ impl Sent {
     pub fn is_any(&self) -> bool
         ensures { result ≡ sends_any self.now.to_client self.now.to_host self.now.refusals self.now.lets_go }
     {
-        has_any(self.to_client.as_slice())
-            || has_any(self.to_host.as_slice())
-            || has_any(self.refusals.as_slice())
-            || self.lets_go
+        self.has_bytes() || has_any(self.refusals.as_slice()) || self.lets_go
+    }
+
+    /// Whether bytes go to a side.
+    pub fn has_bytes(&self) -> bool
+        ensures { result ≡ (any_in self.now.to_client || any_in self.now.to_host) }
+    {
+        has_any(self.to_client.as_slice()) || has_any(self.to_host.as_slice())
     }
 
     /// Whether the side is refused.
@@ -81,7 +85,8 @@ impl Sent {
 
     /// Appends the lines of the refusals.
     pub fn lines(&self, alloc: Global, text: &mut Bytes) -> Result<(), Memory>
-        ensures { OnOk result (text.new ≡ text.old ++ flat_map refusal_line self.now.refusals) }
+        ensures written { OnOk result (text.new ≡ text.old ++ flat_map refusal_line self.now.refusals) }
+        ensures wants { OnErr result (any_in self.now.refusals ≡ true) }
     {
         for refusal in self.refusals.as_slice() {
             refusal.line(alloc, text)?;

@@ -1,12 +1,13 @@
 //! The gateway between a host that is dialled and clients that come to a door.
 
-ghost use Rattle.std.specs.Prelude.{◌≡◌, ◌≤◌, ℕ, [], false, true, Some, OnOk, IfErr};
+ghost use Rattle.std.specs.Prelude.{◌≡◌, ◌≤◌, ℕ, Bool, [], false, true, Some, OnOk, IfErr};
 ghost use Rattle.usb_base.specs.declared.side.Side.TheVariants.{Client, Host};
 ghost use Rattle.bridge_run.specs.Prescribed.{Prescribed};
 ghost use Rattle.bridge_run.specs.Course.{Course, Making};
 ghost use Rattle.bridge_run.specs.Calls.{Goes};
 ghost use Rattle.bridge_run.specs.Outside.{Written, Faults, outside, written, faults, Tells, HasCause, HasReason};
 ghost use Rattle.bridge_run.specs.Gate.{gate_sends};
+ghost use Rattle.bridge_run.specs.GateStops.{gate_runs_out};
 ghost use Rattle.bridge_run.specs.Serves.{Begins, Leaves};
 ghost use Rattle.bridge_run.specs.Log.{Told, Logged};
 ghost use Rattle.bridge_run.specs.inner.Logging.{OpenLogs};
@@ -57,7 +58,7 @@ pub fn serve<D: Doors, K: Sink, T: Tape>(
     ensures leaves { (c : Course) → Begins idle budget c → Tells (outside (D.link doors.old) (D.door doors.old)) (written (K.contents out.old) (T.contents tape.old)) c
         → Leaves result (record { served = gate_sends after_loss first_id; idle = idle }) (Goes Making c) (outside (D.link doors.new) (D.door doors.new)) (written (K.contents out.new) (T.contents tape.new)) }
     // Over any doors, any sink and any tape.
-    ensures log { Logged result D.call_gives (Told K.write_gives out.old out.new) (record { host = Some host.now; door = listen.now; idle = idle; budget = budget }) (gate_sends after_loss first_id) doors.old doors.new }
+    ensures log { Logged result D.call_gives (gate_runs_out first_id) (Told K.write_gives out.old out.new) (record { host = Some host.now; door = listen.now; taped = T.made tape.old; idle = idle; budget = budget }) (gate_sends after_loss first_id) doors.old doors.new }
     ensures cause { HasCause result (outside (D.link doors.old) (D.door doors.old)) (outside (D.link doors.new) (D.door doors.new)) (faults (K.faults out.old) (T.counts tape.old)) (faults (K.faults out.new) (T.counts tape.new)) }
     ensures reason { HasReason result idle (outside (D.link doors.old) (D.door doors.old)) (outside (D.link doors.new) (D.door doors.new)) }
 {
@@ -87,7 +88,7 @@ fn open<D: Doors>(host: &str, listen: &str, hello: &[u8], doors: &mut D) -> Resu
     requires host_down { (D.link doors.old Host).up ≡ false }
     ensures course { (p : Prescribed) (c : Course) (out : Written) → hello.now ≡ p.to_host [] → c.client_up ≡ false → Tells (outside (D.link doors.old) (D.door doors.old)) out c
         → Opens result p (outside (D.link doors.new) (D.door doors.new)) out c }
-    ensures log { (idle budget : ℕ) (p : Prescribed) → hello.now ≡ p.to_host [] → OpenLogs result D.call_gives (record { host = Some host.now; door = listen.now; idle = idle; budget = budget }) p doors.old doors.new }
+    ensures log { (taped : Bool) (idle budget : ℕ) (p : Prescribed) → hello.now ≡ p.to_host [] → OpenLogs result D.call_gives (record { host = Some host.now; door = listen.now; taped = taped; idle = idle; budget = budget }) p doors.old doors.new }
     ensures faults { (sink : Faults) → HasFaults result (outside (D.link doors.old) (D.door doors.old)) (outside (D.link doors.new) (D.door doors.new)) sink sink }
     ensures cut { IfErr result IsCutEnd }
     ensures idles { OnOk result (NotIdle (outside (D.link doors.old) (D.door doors.old)) (outside (D.link doors.new) (D.door doors.new))) }

@@ -1,11 +1,11 @@
 //! Serving, once both sides can come.
 
-ghost use Rattle.std.specs.Prelude.{◌≡◌, ◌<◌, ◌||◌, List, [], ◌∷◌, not, true, false, OnOk, IfOk, IfErr, length};
+ghost use Rattle.std.specs.Prelude.{◌≡◌, ℕ, ◌<◌, ◌||◌, List, [], ◌∷◌, not, true, false, Option, OnOk, OnErr, IfOk, IfErr, length};
 ghost use Rattle.bridge_run.specs.Events.{Event as PastEvent, ClientComes, event_of, is_quiet};
 ghost use Rattle.bridge_run.specs.Course.{Course, Next};
 ghost use Rattle.bridge_run.specs.Course.{AtDoor, AtClient, Takes};
-ghost use Rattle.bridge_run.specs.Calls.{Goes, ends_next as has_end_next, piece as piece_of, end_of as past_end_of, quiet};
-ghost use Rattle.bridge_run.specs.Outside.{outside, gathering, written, faults};
+ghost use Rattle.bridge_run.specs.Calls.{Goes, put, quiet};
+ghost use Rattle.bridge_run.specs.Outside.{outside, gathering, written, faults, Tells, Cut};
 ghost use Rattle.bridge_run.specs.Recorded.{sends_any, is_last};
 ghost use Rattle.bridge_run.specs.Serves.{Leaves};
 ghost use Rattle.bridge_run.specs.inner.Keeping.{Agrees, Wears, IsLive, rounds_of, up_of};
@@ -13,12 +13,14 @@ ghost use Rattle.bridge_run.specs.inner.Follows.{Prepared, Follows, HasFaults, I
 ghost use Rattle.bridge_run.specs.Outside.{HasCause, HasReason};
 ghost use Rattle.bridge_run.specs.Asks.{Ask};
 ghost use Rattle.bridge_run.specs.Log.{Terms, Told, Logged};
-ghost use Rattle.bridge_run.specs.inner.Logging.{IsTaking, IsResting, IsAsking, RoundBegins, DoorAsked, ClientAsked, stage_of, PutLogs, HappenLogs, Logs};
+ghost use Rattle.bridge_run.specs.inner.Logging.{IsTaking, IsResting, IsAsking, RoundBegins, DoorAsked, stage_of, stage_behind, PutLogs, HappenLogs, Logs};
+ghost use Rattle.bridge_run.specs.inner.Sends.{IsPart};
+ghost use Rattle.bridge_run.specs.inner.Stopping.{AreUp, IsStopping, StopLogs};
 ghost use Rattle.bridge_run.specs.inner.Idling.{NotIdle, Asked, EndsWithin, RoundIdles};
 ghost use Rattle.usb_base.specs.declared.side.Side.TheVariants.{Client, Host};
 ghost use Rattle.gate_outside.specs.Link.{other};
 
-use crate::event::Event;
+use crate::event::{Event, end_of, ends_next, piece};
 use crate::kept::Kept;
 use crate::link::{close_link, write_link};
 use crate::recording::{record_event, write_waiting};
@@ -64,6 +66,7 @@ impl<C: Served + Drop> Session<C> {
     fn prepare(&mut self, event: Event) -> Result<(), Memory>
         ensures stands { OnOk result ((first : C.First) (past : List PastEvent) → C.stands first self.old.core past → C.stands first self.new.core (event_of event.entry ∷ past)) }
         ensures prepared { OnOk result ((first : C.First) (past : List PastEvent) → C.stands first self.old.core past → Prepared (C.sends first) past (event_of event.entry) self.new.sent self.new.lines) }
+        ensures stops { OnErr result ((first : C.First) (past : List PastEvent) → C.stands first self.old.core past → IsPart (C.runs_out first) (C.sends first) past (event_of event.entry) self.new.sent.to_client self.new.sent.to_host) }
         ensures quiet { OnOk result (is_quiet (event_of event.entry) ≡ true → self.new.sent.refusals ≡ []) }
         ensures stays { OnOk result (is_quiet (event_of event.entry) ≡ true → self.new.sent.lets_go ≡ false) }
         ensures kept { self.new.kept ≡ self.old.kept }
@@ -82,9 +85,48 @@ impl<C: Served + Drop> Session<C> {
         self.sent.is_any() || self.kept.is_last()
     }
 
+    /// Memory ran out as the event was taken. If it had sent bytes by then, its line is recorded, behind those that wait,
+    /// and they are written to each side whose link is up. None of its refusals is told. Says how serving ends.
+    fn stop<D: Doors, T: Tape>(&mut self, event: Event, doors: &mut D, tape: &mut T) -> ServeEnd
+        requires { Agrees self.old.kept (outside (D.link doors.old) (D.door doors.old)) }
+        ensures course { (first : C.First) (told : Option (List ℕ)) (c : Course) → IsPart (C.runs_out first) (C.sends first) c.events (event_of event.entry) self.old.sent.to_client self.old.sent.to_host → AreUp self.old.kept c
+            → Tells (outside (D.link doors.old) (D.door doors.old)) (gathering told (T.contents tape.old) self.old.waiting) c
+            → Cut (outside (D.link doors.new) (D.door doors.new)) (gathering told (T.contents tape.new) self.new.waiting) c (put (C.sends first) (event_of event.entry) c) }
+        ensures log { (first : C.First) (terms : Terms) (events : List PastEvent) (begun : D) → terms.taped ≡ T.made tape.old → IsPart (C.runs_out first) (C.sends first) events (event_of event.entry) self.old.sent.to_client self.old.sent.to_host
+            → IsStopping D.call_gives terms (C.sends first) (event_of event.entry) events self.old.kept begun doors.old → StopLogs result D.call_gives (C.runs_out first) terms (C.sends first) (event_of event.entry) events begun doors.new }
+        ensures faults { (sink : ℕ) → HasCause result (outside (D.link doors.old) (D.door doors.old)) (outside (D.link doors.new) (D.door doors.new)) (faults sink (T.counts tape.old)) (faults sink (T.counts tape.new)) }
+        ensures cut { IsCutEnd result }
+        ensures kept { self.new.kept ≡ self.old.kept }
+        ensures made { T.made tape.new ≡ T.made tape.old }
+    {
+        if !self.sent.has_bytes() {
+            return ServeEnd::Memory;
+        }
+        self.sent.refusals.clear();
+        if let Err(end) = record_event(
+            self.alloc,
+            event,
+            &self.sent,
+            true,
+            &mut self.waiting,
+            tape,
+        ) {
+            return end;
+        }
+        let to_client = self.sent.to_client.as_slice();
+        if let Err(end) = write_link(doors, Side::Client, self.kept.client_up, to_client) {
+            return end;
+        }
+        let to_host = self.sent.to_host.as_slice();
+        if let Err(end) = write_link(doors, Side::Host, self.kept.host_up, to_host) {
+            return end;
+        }
+        ServeEnd::Memory
+    }
+
     /// Takes one event: its lines are recorded, or wait, what it sends is written to each side whose link is up, then a
     /// side that it refuses has its link closed, or a client that it lets go, and the lines of refusals are written. Says
-    /// whether the client's link was closed.
+    /// whether the client's link was closed. For want of memory it ends as `stop` says.
     fn put<D: Doors, K: Sink, T: Tape>(
         &mut self,
         event: Event,
@@ -95,17 +137,20 @@ impl<C: Served + Drop> Session<C> {
         requires { Agrees self.old.kept (outside (D.link doors.old) (D.door doors.old)) }
         ensures course { (first : C.First) (c : Course) → Follows (C.stands first self.old.core) (C.sends first) self.old.kept (outside (D.link doors.old) (D.door doors.old)) (gathering (K.contents out.old) (T.contents tape.old) self.old.waiting) c
             → Puts result (C.stands first self.new.core) (C.sends first) (event_of event.entry) self.new.kept (outside (D.link doors.new) (D.door doors.new)) (gathering (K.contents out.new) (T.contents tape.new) self.new.waiting) c }
-        ensures log { (first : C.First) (terms : Terms) (asks : List Ask) (begun : D) (begun_out : K) → IsTaking D.call_gives (C.stands first self.old.core) (Told K.write_gives begun_out out.old) terms (C.sends first) asks (event_of event.entry) self.old.kept begun doors.old
-            → PutLogs result D.call_gives (C.stands first self.new.core) (Told K.write_gives begun_out out.new) terms (C.sends first) asks (event_of event.entry) self.new.kept begun doors.new }
+        ensures log { (first : C.First) (terms : Terms) (asks : List Ask) (begun : D) (begun_out : K) → terms.taped ≡ T.made tape.old → IsTaking D.call_gives (C.stands first self.old.core) (Told K.write_gives begun_out out.old) terms (C.sends first) asks (event_of event.entry) self.old.kept begun doors.old
+            → PutLogs result D.call_gives (C.stands first self.new.core) (C.runs_out first) (Told K.write_gives begun_out out.new) terms (C.sends first) asks (event_of event.entry) self.new.kept begun doors.new }
         ensures faults { HasFaults result (outside (D.link doors.old) (D.door doors.old)) (outside (D.link doors.new) (D.door doors.new)) (faults (K.faults out.old) (T.counts tape.old)) (faults (K.faults out.new) (T.counts tape.new)) }
         ensures cut { IfErr result IsCutEnd }
         ensures agrees { OnOk result (Agrees self.new.kept (outside (D.link doors.new) (D.door doors.new))) }
         ensures wears { Wears self.old.kept self.new.kept }
+        ensures made { T.made tape.new ≡ T.made tape.old }
         ensures left { self.new.kept.left ≡ self.old.kept.left }
         ensures quiet { IfOk result (λ dropped. is_quiet (event_of event.entry) ≡ true → (dropped ≡ false) × (self.new.kept ≡ self.old.kept)) }
         ensures idles { OnOk result (NotIdle (outside (D.link doors.old) (D.door doors.old)) (outside (D.link doors.new) (D.door doors.new))) }
     {
-        self.prepare(event)?;
+        if let Err(_) = self.prepare(event) {
+            return Err(self.stop(event, doors, tape));
+        }
         let due = self.is_due();
         record_event(self.alloc, event, &self.sent, due, &mut self.waiting, tape)?;
         let Kept {
@@ -141,11 +186,12 @@ impl<C: Served + Drop> Session<C> {
         requires { Agrees self.old.kept (outside (D.link doors.old) (D.door doors.old)) }
         ensures course { (first : C.First) (next : Next) (c : Course) → Follows (C.stands first self.old.core) (C.sends first) self.old.kept (outside (D.link doors.old) (D.door doors.old)) (gathering (K.contents out.old) (T.contents tape.old) self.old.waiting) c
             → Runs result (C.stands first self.new.core) (setting (C.sends first) self.old.kept) self.new.kept (outside (D.link doors.new) (D.door doors.new)) (gathering (K.contents out.new) (T.contents tape.new) self.new.waiting) (Goes (Takes (event_of event.entry) next) c) next }
-        ensures log { (first : C.First) (terms : Terms) (asks : List Ask) (begun : D) (begun_out : K) → IsTaking D.call_gives (C.stands first self.old.core) (Told K.write_gives begun_out out.old) terms (C.sends first) asks (event_of event.entry) self.old.kept begun doors.old
-            → HappenLogs result D.call_gives (C.stands first self.new.core) (Told K.write_gives begun_out out.new) terms (C.sends first) asks self.new.kept begun doors.new }
+        ensures log { (first : C.First) (terms : Terms) (asks : List Ask) (begun : D) (begun_out : K) → terms.taped ≡ T.made tape.old → IsTaking D.call_gives (C.stands first self.old.core) (Told K.write_gives begun_out out.old) terms (C.sends first) asks (event_of event.entry) self.old.kept begun doors.old
+            → HappenLogs result D.call_gives (C.stands first self.new.core) (C.runs_out first) (Told K.write_gives begun_out out.new) terms (C.sends first) asks self.new.kept begun doors.new }
         ensures faults { HasFaults result (outside (D.link doors.old) (D.door doors.old)) (outside (D.link doors.new) (D.door doors.new)) (faults (K.faults out.old) (T.counts tape.old)) (faults (K.faults out.new) (T.counts tape.new)) }
         ensures agrees { OnOk result (Agrees self.new.kept (outside (D.link doors.new) (D.door doors.new))) }
         ensures wears { Wears self.old.kept self.new.kept }
+        ensures made { T.made tape.new ≡ T.made tape.old }
         ensures left { OnOk result (0 < self.new.kept.left) }
         ensures quiet { OnOk result (is_quiet (event_of event.entry) ≡ true → self.new.kept ≡ self.old.kept) }
         ensures idles { OnOk result (NotIdle (outside (D.link doors.old) (D.door doors.old)) (outside (D.link doors.new) (D.door doors.new))) }
@@ -170,11 +216,12 @@ impl<C: Served + Drop> Session<C> {
         requires left { 0 < self.old.kept.left }
         ensures course { (first : C.First) (c : Course) → Follows (C.stands first self.old.core) (C.sends first) self.old.kept (outside (D.link doors.old) (D.door doors.old)) (gathering (K.contents out.old) (T.contents tape.old) self.old.waiting) c
             → Runs result (C.stands first self.new.core) (setting (C.sends first) self.old.kept) self.new.kept (outside (D.link doors.new) (D.door doors.new)) (gathering (K.contents out.new) (T.contents tape.new) self.new.waiting) (Goes AtDoor c) AtClient }
-        ensures log { (first : C.First) (terms : Terms) (begun : D) (begun_out : K) → IsAsking RoundBegins D.call_gives (C.stands first self.old.core) (Told K.write_gives begun_out out.old) terms (C.sends first) self.old.kept begun doors.old
-            → Logs result DoorAsked D.call_gives (C.stands first self.new.core) (Told K.write_gives begun_out out.new) terms (C.sends first) self.new.kept begun doors.new }
+        ensures log { (first : C.First) (terms : Terms) (begun : D) (begun_out : K) → terms.taped ≡ T.made tape.old → IsAsking RoundBegins D.call_gives (C.stands first self.old.core) (Told K.write_gives begun_out out.old) terms (C.sends first) self.old.kept begun doors.old
+            → Logs result DoorAsked D.call_gives (C.stands first self.new.core) (C.runs_out first) (Told K.write_gives begun_out out.new) terms (C.sends first) self.new.kept begun doors.new }
         ensures faults { HasFaults result (outside (D.link doors.old) (D.door doors.old)) (outside (D.link doors.new) (D.door doors.new)) (faults (K.faults out.old) (T.counts tape.old)) (faults (K.faults out.new) (T.counts tape.new)) }
         ensures agrees { OnOk result (Agrees self.new.kept (outside (D.link doors.new) (D.door doors.new))) }
         ensures wears { Wears self.old.kept self.new.kept }
+        ensures made { T.made tape.new ≡ T.made tape.old }
         ensures left { OnOk result (0 < self.new.kept.left) }
         ensures idles { OnOk result (Asked (not self.old.kept.client_up) self.old.kept self.new.kept (D.link doors.old Client).idle (D.link doors.new Client).idle) }
         ensures other { OnOk result ((D.link doors.new Host).idle ≡ (D.link doors.old Host).idle) }
@@ -205,11 +252,12 @@ impl<C: Served + Drop> Session<C> {
         requires left { 0 < self.old.kept.left }
         ensures course { (first : C.First) (next : Next) (c : Course) → Follows (C.stands first self.old.core) (C.sends first) self.old.kept (outside (D.link doors.old) (D.door doors.old)) (gathering (K.contents out.old) (T.contents tape.old) self.old.waiting) c
             → Runs result (C.stands first self.new.core) (setting (C.sends first) self.old.kept) self.new.kept (outside (D.link doors.new) (D.door doors.new)) (gathering (K.contents out.new) (T.contents tape.new) self.new.waiting) (Goes (quiet side next) c) next }
-        ensures log { (first : C.First) (terms : Terms) (asks : List Ask) (begun : D) (begun_out : K) → IsResting side D.call_gives (C.stands first self.old.core) (Told K.write_gives begun_out out.old) terms (C.sends first) asks self.old.kept begun doors.old
-            → HappenLogs result D.call_gives (C.stands first self.new.core) (Told K.write_gives begun_out out.new) terms (C.sends first) asks self.new.kept begun doors.new }
+        ensures log { (first : C.First) (terms : Terms) (asks : List Ask) (begun : D) (begun_out : K) → terms.taped ≡ T.made tape.old → IsResting side D.call_gives (C.stands first self.old.core) (Told K.write_gives begun_out out.old) terms (C.sends first) asks self.old.kept begun doors.old
+            → HappenLogs result D.call_gives (C.stands first self.new.core) (C.runs_out first) (Told K.write_gives begun_out out.new) terms (C.sends first) asks self.new.kept begun doors.new }
         ensures faults { HasFaults result (outside (D.link doors.old) (D.door doors.old)) (outside (D.link doors.new) (D.door doors.new)) (faults (K.faults out.old) (T.counts tape.old)) (faults (K.faults out.new) (T.counts tape.new)) }
         ensures agrees { OnOk result (Agrees self.new.kept (outside (D.link doors.new) (D.door doors.new))) }
         ensures wears { Wears self.old.kept self.new.kept }
+        ensures made { T.made tape.new ≡ T.made tape.old }
         ensures kept { OnOk result (self.new.kept ≡ self.old.kept) }
         ensures idles { OnOk result (NotIdle (outside (D.link doors.old) (D.door doors.old)) (outside (D.link doors.new) (D.door doors.new))) }
         ensures within { EndsWithin result (outside (D.link doors.new) (D.door doors.new)) }
@@ -234,11 +282,12 @@ impl<C: Served + Drop> Session<C> {
         requires room { length buf.old ≡ 65536 }
         ensures course { (first : C.First) (c : Course) → Follows (C.stands first self.old.core) (C.sends first) self.old.kept (outside (D.link doors.old) (D.door doors.old)) (gathering (K.contents out.old) (T.contents tape.old) self.old.waiting) c
             → Runs result (C.stands first self.new.core) (setting (C.sends first) self.old.kept) self.new.kept (outside (D.link doors.new) (D.door doors.new)) (gathering (K.contents out.new) (T.contents tape.new) self.new.waiting) (Goes (polls side) c) (behind side) }
-        ensures log { (first : C.First) (terms : Terms) (begun : D) (begun_out : K) → IsAsking (stage_of side) D.call_gives (C.stands first self.old.core) (Told K.write_gives begun_out out.old) terms (C.sends first) self.old.kept begun doors.old
-            → Logs result ClientAsked D.call_gives (C.stands first self.new.core) (Told K.write_gives begun_out out.new) terms (C.sends first) self.new.kept begun doors.new }
+        ensures log { (first : C.First) (terms : Terms) (begun : D) (begun_out : K) → terms.taped ≡ T.made tape.old → IsAsking (stage_of side) D.call_gives (C.stands first self.old.core) (Told K.write_gives begun_out out.old) terms (C.sends first) self.old.kept begun doors.old
+            → Logs result (stage_behind side) D.call_gives (C.stands first self.new.core) (C.runs_out first) (Told K.write_gives begun_out out.new) terms (C.sends first) self.new.kept begun doors.new }
         ensures faults { HasFaults result (outside (D.link doors.old) (D.door doors.old)) (outside (D.link doors.new) (D.door doors.new)) (faults (K.faults out.old) (T.counts tape.old)) (faults (K.faults out.new) (T.counts tape.new)) }
         ensures agrees { OnOk result (Agrees self.new.kept (outside (D.link doors.new) (D.door doors.new))) }
         ensures wears { Wears self.old.kept self.new.kept }
+        ensures made { T.made tape.new ≡ T.made tape.old }
         ensures left { OnOk result (0 < self.new.kept.left) }
         ensures idles { OnOk result (Asked (up_of side self.old.kept) self.old.kept self.new.kept (D.link doors.old side).idle (D.link doors.new side).idle) }
         ensures other { OnOk result ((D.link doors.new (other side)).idle ≡ (D.link doors.old (other side)).idle) }
@@ -274,12 +323,13 @@ impl<C: Served + Drop> Session<C> {
         requires room { length buf.old ≡ 65536 }
         ensures course { (first : C.First) (c : Course) → Follows (C.stands first self.old.core) (C.sends first) self.old.kept (outside (D.link doors.old) (D.door doors.old)) (gathering (K.contents out.old) (T.contents tape.old) self.old.waiting) c
             → Runs result (C.stands first self.new.core) (setting (C.sends first) self.old.kept) self.new.kept (outside (D.link doors.new) (D.door doors.new)) (gathering (K.contents out.new) (T.contents tape.new) self.new.waiting) (Goes AtDoor c) AtDoor }
-        ensures log { (first : C.First) (terms : Terms) (begun : D) (begun_out : K) → IsAsking RoundBegins D.call_gives (C.stands first self.old.core) (Told K.write_gives begun_out out.old) terms (C.sends first) self.old.kept begun doors.old
-            → Logs result RoundBegins D.call_gives (C.stands first self.new.core) (Told K.write_gives begun_out out.new) terms (C.sends first) self.new.kept begun doors.new }
+        ensures log { (first : C.First) (terms : Terms) (begun : D) (begun_out : K) → terms.taped ≡ T.made tape.old → IsAsking RoundBegins D.call_gives (C.stands first self.old.core) (Told K.write_gives begun_out out.old) terms (C.sends first) self.old.kept begun doors.old
+            → Logs result RoundBegins D.call_gives (C.stands first self.new.core) (C.runs_out first) (Told K.write_gives begun_out out.new) terms (C.sends first) self.new.kept begun doors.new }
         ensures faults { HasFaults result (outside (D.link doors.old) (D.door doors.old)) (outside (D.link doors.new) (D.door doors.new)) (faults (K.faults out.old) (T.counts tape.old)) (faults (K.faults out.new) (T.counts tape.new)) }
         ensures agrees { OnOk result (Agrees self.new.kept (outside (D.link doors.new) (D.door doors.new))) }
         ensures live { OnOk result (IsLive self.new.kept) }
         ensures idle { OnOk result (self.new.kept.idle ≡ self.old.kept.idle) }
+        ensures made { T.made tape.new ≡ T.made tape.old }
         ensures idles { RoundIdles result self.old.kept self.new.kept (outside (D.link doors.old) (D.door doors.old)) (outside (D.link doors.new) (D.door doors.new)) }
         ensures fewer { OnOk result (rounds_of self.new.kept < rounds_of self.old.kept) }
     {
@@ -304,8 +354,8 @@ impl<C: Served + Drop> Session<C> {
         requires fresh { self.old.kept.waits ≡ self.old.kept.idle }
         ensures course { (first : C.First) (c : Course) → Follows (C.stands first self.old.core) (C.sends first) self.old.kept (outside (D.link doors.old) (D.door doors.old)) (gathering (K.contents out.old) (T.contents tape.old) self.old.waiting) c
             → Leaves result (setting (C.sends first) self.old.kept) (Goes AtDoor c) (outside (D.link doors.new) (D.door doors.new)) (written (K.contents out.new) (T.contents tape.new)) }
-        ensures log { (first : C.First) (terms : Terms) (begun : D) (begun_out : K) → IsAsking RoundBegins D.call_gives (C.stands first self.old.core) (Told K.write_gives begun_out out.old) terms (C.sends first) self.old.kept begun doors.old
-            → Logged result D.call_gives (Told K.write_gives begun_out out.new) terms (C.sends first) begun doors.new }
+        ensures log { (first : C.First) (terms : Terms) (begun : D) (begun_out : K) → terms.taped ≡ T.made tape.old → IsAsking RoundBegins D.call_gives (C.stands first self.old.core) (Told K.write_gives begun_out out.old) terms (C.sends first) self.old.kept begun doors.old
+            → Logged result D.call_gives (C.runs_out first) (Told K.write_gives begun_out out.new) terms (C.sends first) begun doors.new }
         ensures cause { HasCause result (outside (D.link doors.old) (D.door doors.old)) (outside (D.link doors.new) (D.door doors.new)) (faults (K.faults out.old) (T.counts tape.old)) (faults (K.faults out.new) (T.counts tape.new)) }
         ensures reason { HasReason result self.old.kept.idle (outside (D.link doors.old) (D.door doors.old)) (outside (D.link doors.new) (D.door doors.new)) }
     {
@@ -314,35 +364,5 @@ impl<C: Served + Drop> Session<C> {
                 return end;
             }
         }
-    }
-}
-
-/// Whether a client's end comes behind the event that closed its link.
-fn ends_next(event: Event, dropped: bool) -> bool
-    ensures { result ≡ has_end_next (event_of event.entry) dropped }
-{
-    match event {
-        Event::ClientEnd => false,
-        _ => dropped,
-    }
-}
-
-/// A piece of a side's stream.
-fn piece(side: Side, bytes: &[u8]) -> Event<'_>
-    ensures { event_of result ≡ piece_of side bytes.now }
-{
-    match side {
-        Side::Client => Event::ClientPiece(bytes),
-        Side::Host => Event::HostPiece(bytes),
-    }
-}
-
-/// The end of a side.
-fn end_of(side: Side) -> Event<'static>
-    ensures { event_of result ≡ past_end_of side }
-{
-    match side {
-        Side::Client => Event::ClientEnd,
-        Side::Host => Event::HostEnd,
     }
 }

@@ -8,13 +8,12 @@ use Rattle.usb_base.specs.declared.side.Side.TheVariants.{Client, Host}
 use Rattle.gate_outside.specs.declared.turn.Turn.{Turn}
 use Rattle.gate_outside.specs.declared.turn.Turn.TheVariants.{Piece, Wait, Fail}
 use Rattle.gate_outside.specs.Turns.{pending, answer, given, after}
-use Rattle.bridge_run.specs.declared.serve_end.ServeEnd.{ServeEnd}
 use Rattle.bridge_run.specs.declared.serve_end.ServeEnd.TheVariants as end
 use Rattle.bridge_run.specs.Events.{Event, ClientComes, ClientPiece, ClientQuiet, ClientEnd, HostPiece, HostEnd}
 use Rattle.bridge_run.specs.Prescribed.{Prescribed, gained, refuses, drops, first_of}
 use Rattle.bridge_run.specs.Recorded.{lines_of, has_any, is_last, is_full, written_if, waiting_if}
 use Rattle.bridge_run.specs.Course.{Setting, Course, Next, Making, AtDoor, AtClient, AtHost, AtEnd, Takes}
-use Rattle.bridge_run.specs.Calls.{Outcome, Goes, Stops, room, is_due, lines_with, put, settle, ends_next, take_event, come, heard, poll, gathered, rest, make, call, and_then, calls}
+use Rattle.bridge_run.specs.Calls.{Outcome, Goes, Stops, room, is_due, lines_with, put, settle, ends_next, take_event, come, heard, poll, gathered, make, call, and_then, calls}
 use Rattle.bridge_run.specs.Gate.{gate_events}
 use Rattle.usbgate_tapes.specs.Tape.{host_ended}
 use Rattle.bridge_run.specs.Ups.{client_at, host_at, client_behind, to_clients}

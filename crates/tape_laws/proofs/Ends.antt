@@ -1,8 +1,6 @@
 -- What a run of `serve` has recorded, by how it ended.
-use Rattle.std.proofs.Common.{◌≡◌, ◌⊎◌, ◌+◌, ◌≤◌, ℕ, Bool, true, false, cond, inl, inr, List, [], ◌∷◌, ◌++◌, length, Option, Some, None, IfSome, refl, sym, ap, ◌∙◌, subst, append_assoc, append-nil, arith}
+use Rattle.std.proofs.Common.{◌≡◌, ◌⊎◌, ◌≤◌, ℕ, Bool, inl, inr, List, [], ◌∷◌, ◌++◌, length, Option, Some, None, IfSome, refl, sym, ap, ◌∙◌, subst, append_assoc, append-nil, arith}
 use Rattle.std.proofs.lemmas.List.{length-append}
-use Rattle.std.proofs.lemmas.Option.{same_Some}
-use Rattle.usb_base.specs.declared.side.Side.{Side}
 use Rattle.gate_history.specs.step.Events.{Event as GateEvent}
 use Rattle.gate_history.specs.step.History.{history}
 use Rattle.gate_history.specs.write.All.{counts_of}
@@ -11,90 +9,31 @@ use Rattle.session_tape.specs.Lines.{first_comment}
 use Rattle.bridge_run.specs.declared.serve_end.ServeEnd.{ServeEnd}
 use Rattle.bridge_run.specs.declared.serve_end.ServeEnd.TheVariants as end
 use Rattle.bridge_run.specs.Events.{Event}
-use Rattle.bridge_run.specs.Prescribed.{Prescribed}
-use Rattle.bridge_run.specs.Course.{Setting, Course, Next, Making, AtDoor, AtClient, AtHost, AtEnd, Takes}
-use Rattle.bridge_run.specs.Calls.{Outcome, Goes, Stops, make, call, calls, course_of}
-use Rattle.bridge_run.specs.Outside.{Outside, Written, Faults, written, Tells, IsBetween, IsRecordedInPart, Cut}
+use Rattle.bridge_run.specs.Course.{Course, Next, Making, AtDoor, AtClient, AtHost, AtEnd, Takes}
+use Rattle.bridge_run.specs.Calls.{Outcome, Goes, Stops, call, course_of}
+use Rattle.bridge_run.specs.Outside.{Outside, Written, Faults, written, Tells, IsBetween, IsRecordedInPart, IsRecordedUntold, HasLines, Cut}
 use Rattle.bridge_run.specs.Serves.{Reaches, NoneWaits, EndsSo, CutShort, Leaves}
-use Rattle.bridge_run.specs.Gate.{gate_events}
 use Rattle.bridge_run.proofs.lemmas.events.Gather.{ended-waiting}
 use Rattle.usbgate_tapes.specs.declared.status.Status.{Status}
 use Rattle.usbgate_tapes.specs.declared.status.Status.TheVariants.{Done, Usage, Refused, ReadFault, WriteFault, LinkFault, OutOfMemory, BadTape, Idle, Spent}
-use Rattle.usbgate_tapes.specs.Tape.{lines_of}
 use Rattle.usbgate_tapes.specs.Text.{made_text, counts_line}
-use Rattle.usbgate_tapes.specs.TapeCommand.{tape_limit, Progress, begin, one_further, Reading, read_lines, last_text}
+use Rattle.usbgate_tapes.specs.TapeCommand.{tape_limit, Reading, last_text}
 use Rattle.usbgate_tapes.specs.EventCommand.{over_events}
 use Rattle.usbgate_tapes.specs.Replay.{replay}
 use Rattle.usbgate_commands.specs.Recording.{IsUnmade}
 use Rattle.usbgate_commands.specs.Serving.{Asked}
-use Rattle.usbgate_commands.specs.Serves.{setting_of, ended_as, EndsOf, IsUnrecorded, IsRecorded, Serves, ServesBy}
-use Rattle.usbgate_tapes.specs.Run.{HasNoLF}
-use Rattle.usbgate_tapes.proofs.Lines.{HasNoLF-append}
-use Rattle.std.specs.Prelude.{codes}
-use Rattle.std.specs.Fmt.{decimal}
+use Rattle.usbgate_commands.specs.Serves.{setting_of, ended_as, IsUnrecorded, IsRecorded, Serves, ServesBy}
+use Rattle.bridge_run.specs.Recorded.{event_line, lines_of as event_lines}
 use Rattle.tape_laws.specs.Recordings.{recorded, served, all_replayed}
 use Rattle.bridge_run.specs.Ups.{client_at, host_at, client_behind, to_clients}
 use Rattle.tape_laws.specs.Ups.{host_behind, to_host}
 use Rattle.tape_laws.specs.Begun.{IsFresh}
-use Rattle.tape_laws.specs.Plays.{read_of, text_of, Plays, WroteFront, PlaysInPart, Replays}
-use Rattle.tape_laws.proofs.Spelled.{no-lf-tested, no-lf-decimal}
-use Rattle.tape_laws.proofs.Reading.{with_text, Reads, reads-both, reads-line}
-use Rattle.tape_laws.proofs.Events.{AllFit, Comes, events-come}
-use Rattle.tape_laws.proofs.Courses.{Holds, Stands, At, IsMaking, IsTaking, call-comes, calls-come}
+use Rattle.tape_laws.specs.Plays.{read_of, Plays, WroteFront, PlaysInPart, Replays}
+use Rattle.tape_laws.proofs.Reading.{with_text}
+use Rattle.tape_laws.proofs.Events.{AllFit}
+use Rattle.tape_laws.proofs.Courses.{Holds, Stands, At, IsMaking, call-comes, calls-come}
 use Rattle.tape_laws.proofs.Courses as course
-
--- ---- the whole recording
-
--- the words of the first line
-abbrev first_words : ℕ → List ℕ
-first_words first_id = codes "# --first-id " ++ decimal first_id
-
-first-whole : (first_id : ℕ) → HasNoLF (first_words first_id)
-first-whole first_id = HasNoLF-append (codes "# --first-id ") (decimal first_id) (no-lf-tested (codes "# --first-id ") refl) (no-lf-decimal first_id)
-
--- the first line, and then the lines of all events
-abbrev recording : Asked → List Event → List ℕ
-recording asked events = first_comment asked.first_id ++ recorded (served asked) events
-
-recording-comes : (asked : Asked) (events : List Event) → AllFit events → length (recording asked events) ≤ tape_limit
-    → Comes asked (begin (over_events (replay asked.first_id))) (recording asked events) (all_replayed asked events) (gate_events events)
-recording-comes asked events fit room =
-    let command = over_events (replay asked.first_id) in
-    let long = length-append (first_comment asked.first_id) (recorded (served asked) events) in
-    let none : List ℕ × List GateEvent = ([], []) in
-    let mid = (one_further (begin command) (first_comment asked.first_id) none).1 in
-    let one = reads-line command (begin command) (first_words asked.first_id) none (first-whole asked.first_id) refl (omega (arith, room, long)) in
-    let others = events-come asked events mid fit refl (omega (arith, room, long)) in
-    record {
-      to = others.to;
-      reads = reads-both command (begin command) mid others.to (first_comment asked.first_id) (recorded (served asked) events) [] (all_replayed asked events) one others.reads;
-      kept-is = others.kept-is;
-    }
-
--- what is read of a tape that begins with a recording
-abbrev rest_read : Asked → (to : Progress (List GateEvent)) → List ℕ → Reading (List GateEvent)
-rest_read asked to later = read_lines (over_events (replay asked.first_id)) to (lines_of later)
-
-front-read : (asked : Asked) (events : List Event) (later held : List ℕ) (c : Comes asked (begin (over_events (replay asked.first_id))) (recording asked events) (all_replayed asked events) (gate_events events))
-    → held ≡ recording asked events ++ later → read_of asked held ≡ with_text (all_replayed asked events) (rest_read asked c.to later)
-front-read asked events later held c is = ap (read_of asked) is ∙ c.reads.goes_on later
-
-all-read : (asked : Asked) (events : List Event) (held : List ℕ) (c : Comes asked (begin (over_events (replay asked.first_id))) (recording asked events) (all_replayed asked events) (gate_events events))
-    → held ≡ recording asked events → read_of asked held ≡ record { text = all_replayed asked events; after = c.to; bad = false }
-all-read asked events held c is =
-    front-read asked events [] held c (is ∙ sym (append-nil (recording asked events)))
-    ∙ ap (λ (l : List ℕ). record { text = l; after = c.to; bad = false }) (append-nil (all_replayed asked events))
-
--- its text begins with that of the events
-front-text : (asked : Asked) (events : List Event) (x y : Reading (List GateEvent)) → x ≡ with_text (all_replayed asked events) y
-    → made_text asked.first_id ++ x.text ++ last_text (over_events (replay asked.first_id)) x ≡ made_text asked.first_id ++ all_replayed asked events ++ (y.text ++ last_text (over_events (replay asked.first_id)) (with_text (all_replayed asked events) y))
-front-text asked events x y is =
-    let command = over_events (replay asked.first_id) in
-    let made = made_text asked.first_id in
-    let all = all_replayed asked events in
-    ap (λ (z : Reading (List GateEvent)). made ++ z.text ++ last_text command z) is
-    ∙ ap (λ (l : List ℕ). l ++ last_text command (with_text all y)) (sym (append_assoc made all y.text))
-    ∙ append_assoc (made ++ all) y.text (last_text command (with_text all y))
+use Rattle.tape_laws.proofs.Recording.{recording, recording-comes, line-comes, rest_read, front-read, all-read, front-text}
 
 -- ---- a run that has ended by itself
 
@@ -226,16 +165,85 @@ recorded-some asked c before behind next new out held reaches part room f =
       host = front-of new.host.written (to_host (served asked) f.taped) before.to_host f.lost part.to_host f.host-is;
     }
 
+-- ---- memory ran out in an event
+
+-- the lines of all events of a course and its links have what these record and send
+record Whole (asked : Asked) (d : Course) : Type 0 where
+  pub fit : AllFit d.events
+  pub lines-are : recording asked d.events ≡ d.recorded ++ d.waiting
+  pub client-is : to_clients (served asked) d.events ≡ d.to_client
+  pub lost : List ℕ
+  pub host-is : to_host (served asked) d.events ≡ d.to_host ++ lost
+
+stands-whole : (asked : Asked) (d : Course) (up host_up : Bool) → Holds (served asked) (first_comment asked.first_id) up host_up (course.seen d) → Whole asked d
+stands-whole asked d up host_up h = record {
+  fit = h.fit;
+  lines-are = h.gathers.all-is;
+  client-is = sym h.to_client-is;
+  lost = [];
+  host-is = sym h.to_host-is ∙ sym (append-nil d.to_host);
+}
+
+making-whole : (asked : Asked) (d : Course) → IsMaking (served asked) (first_comment asked.first_id) d → Whole asked d
+making-whole asked d h = record {
+  fit = subst AllFit (sym h.events-are) tt;
+  lines-are = ap (λ (l : List Event). recording asked l) h.events-are ∙ append-nil (first_comment asked.first_id) ∙ sym h.recorded-is ∙ sym (append-nil d.recorded) ∙ ap (λ (l : List ℕ). d.recorded ++ l) (sym h.none_waits);
+  client-is = ap (to_clients (served asked)) h.events-are ∙ sym h.to_client-is;
+  lost = (served asked).to_host [];
+  host-is = ap (to_host (served asked)) h.events-are ∙ sym (ap (λ (l : List ℕ). l ++ (served asked).to_host []) h.to_host-is);
+}
+
+at-whole : (asked : Asked) (next : Next) (d : Course) → At (served asked) (first_comment asked.first_id) next d → Whole asked d
+at-whole asked Making d h = making-whole asked d h
+at-whole asked AtDoor d h = stands-whole asked d (client_behind (served asked) d.events) (host_behind (served asked) d.events) h
+at-whole asked AtClient d h = stands-whole asked d (client_behind (served asked) d.events) (host_behind (served asked) d.events) h
+at-whole asked AtHost d h = stands-whole asked d (client_behind (served asked) d.events) (host_behind (served asked) d.events) h
+at-whole asked AtEnd d h = stands-whole asked d (client_behind (served asked) d.events) (host_behind (served asked) d.events) h
+at-whole asked (Takes e next) d h = stands-whole asked d (client_at e (client_behind (served asked) d.events)) (host_at e (host_behind (served asked) d.events)) h.holds
+
+outcome-whole : (asked : Asked) (o : Outcome) → course.Comes (served asked) (first_comment asked.first_id) o → Whole asked (course_of o)
+outcome-whole asked (Goes next d) h = at-whole asked next d h
+outcome-whole asked (Stops e d) h = stands-whole asked d (client_behind (served asked) d.events) (host_behind (served asked) d.events) h
+
+-- the event's own line is there
+recorded-line : (asked : Asked) (c before : Course) (next : Next) (new : Outside) (out : Written) (held : List ℕ) → Reaches (setting_of asked) (Goes Making c) (Goes next before)
+    → Cut new out before (course_of (call (setting_of asked) next before)) → IsRecordedUntold before (course_of (call (setting_of asked) next before)) held → length held ≤ tape_limit → Whole asked before → Whole asked (course_of (call (setting_of asked) next before))
+    → PlaysInPart asked c new held
+recorded-line asked c before next new out held reaches cut line room b f =
+    let behind = course_of (call (setting_of asked) next before) in
+    let events = line.event ∷ before.events in
+    let held-is : held ≡ recording asked before.events ++ event_lines line.event [] =
+    line.held-is ∙ sym (append_assoc before.recorded before.waiting (event_line line.event)) ∙ ap (λ (l : List ℕ). l ++ event_line line.event) (sym b.lines-are) ∙ ap (λ (l : List ℕ). recording asked before.events ++ l) (sym (append-nil (event_line line.event))) in
+    let fits : length (recording asked before.events ++ event_lines line.event []) ≤ tape_limit = subst (λ (l : List ℕ). length l ≤ tape_limit) held-is room in
+    let comes = line-comes asked before.events line.event (subst AllFit line.takes f.fit) fits in
+    let end = rest_read asked comes.to [] in
+    record {
+      next = next;
+      course = before;
+      reaches = reaches;
+      events = events;
+      later = [];
+      events-are = inr line.takes;
+      rest = end.text ++ last_text (over_events (replay asked.first_id)) (with_text (all_replayed asked events) end);
+      prints = front-text asked events (read_of asked held) end (ap (read_of asked) (held-is ∙ sym (append-nil (recording asked before.events ++ event_lines line.event []))) ∙ comes.reads.goes_on []);
+      client = front-between new.client.written before.to_client behind.to_client (to_clients (served asked) events) [] cut.to_client (ap (to_clients (served asked)) (sym line.takes) ∙ f.client-is ∙ sym (append-nil behind.to_client));
+      host = front-between new.host.written before.to_host behind.to_host (to_host (served asked) events) f.lost cut.to_host (ap (to_host (served asked)) (sym line.takes) ∙ f.host-is);
+    }
+
 cut-plays : (asked : Asked) (c before : Course) (next : Next) (new : Outside) (out : Written) (held : List ℕ) → Reaches (setting_of asked) (Goes Making c) (Goes next before)
     → Cut new out before (course_of (call (setting_of asked) next before)) → out.tape ≡ Some held → length held ≤ tape_limit → At (served asked) (first_comment asked.first_id) next before → PlaysInPart asked c new held
-cut-plays asked c before next new out held reaches cut tape-is room at-next = go parts
+cut-plays asked c before next new out held reaches cut tape-is room at-next = go (subst (λ (o : Option (List ℕ)). IfSome o (λ (l : List ℕ). HasLines new out before behind l)) tape-is cut.tape)
   where
-    parts : (held ≡ (course_of (call (setting_of asked) next before)).recorded) ⊎ IsRecordedInPart new out before (course_of (call (setting_of asked) next before)) held
-    parts = subst (λ (o : Option (List ℕ)). IfSome o (λ (l : List ℕ). (l ≡ (course_of (call (setting_of asked) next before)).recorded) ⊎ IsRecordedInPart new out before (course_of (call (setting_of asked) next before)) l)) tape-is cut.tape
+    behind : Course
+    behind = course_of (call (setting_of asked) next before)
 
-    go : (held ≡ (course_of (call (setting_of asked) next before)).recorded) ⊎ IsRecordedInPart new out before (course_of (call (setting_of asked) next before)) held → PlaysInPart asked c new held
-    go (inl is) = recorded-all asked c before next new out held reaches cut is room (outcome-facts asked (call (setting_of asked) next before) (call-comes (setting_of asked) (first_comment asked.first_id) next before at-next))
-    go (inr part) = recorded-some asked c before (course_of (call (setting_of asked) next before)) next new out held reaches part room (at-facts asked next before at-next)
+    comes : course.Comes (served asked) (first_comment asked.first_id) (call (setting_of asked) next before)
+    comes = call-comes (setting_of asked) (first_comment asked.first_id) next before at-next
+
+    go : HasLines new out before behind held → PlaysInPart asked c new held
+    go (inl is) = recorded-all asked c before next new out held reaches cut is room (outcome-facts asked (call (setting_of asked) next before) comes)
+    go (inr (inl part)) = recorded-some asked c before behind next new out held reaches part room (at-facts asked next before at-next)
+    go (inr (inr line)) = recorded-line asked c before next new out held reaches cut line room (at-whole asked next before at-next) (outcome-whole asked (call (setting_of asked) next before) comes)
 
 -- ---- each end
 

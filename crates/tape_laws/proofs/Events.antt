@@ -1,5 +1,5 @@
 -- The lines that are recorded of events are read as these events.
-use Rattle.std.proofs.Common.{◌≡◌, ℕ, ◌+◌, ◌≤◌, Bool, true, false, cond, not, List, [], ◌∷◌, ◌++◌, length, drop, Option, Some, None, Result, Ok, refl, sym, ap, ◌∙◌, subst, append_assoc, append-nil, arith}
+use Rattle.std.proofs.Common.{◌≡◌, ℕ, ◌+◌, ◌≤◌, Bool, false, cond, not, List, [], ◌∷◌, ◌++◌, length, drop, Option, Some, None, Result, Ok, refl, sym, ap, ◌∙◌, subst, append-nil, arith}
 use Rattle.std.proofs.lemmas.List.{length-append, drop_all}
 use Rattle.std.specs.List.{flat_map}
 use Rattle.std.specs.Prelude.{option_map}
@@ -7,7 +7,6 @@ use Rattle.hex.specs.Hex.{encode_lower}
 use Rattle.hex.specs.declared.error.FromHexError.{FromHexError}
 use Rattle.hex.proofs.HexLemmas.{decode_of-encode_lower}
 use Rattle.usb_base.specs.Number.{AreBytes}
-use Rattle.usb_base.specs.declared.side.Side.TheVariants.{Client, Host}
 use Rattle.usb_base.specs.declared.refusal.Refusal.{Refusal}
 use Rattle.gate_history.specs.declared.note.Note.{Note}
 use Rattle.gate_history.specs.step.Events.{Event as GateEvent}
@@ -18,13 +17,13 @@ use Rattle.packet_show.specs.declared.tape.TapeLine.TheVariants as tape
 use Rattle.packet_show.specs.declared.tape.TapeKind.TheVariants.{Replay}
 use Rattle.packet_show.specs.Tape.{tape_line, bytes_of, some_bytes}
 use Rattle.bridge_run.specs.Events.{Event, ClientComes, ClientPiece, ClientQuiet, ClientEnd, HostPiece, HostEnd}
-use Rattle.bridge_run.specs.Recorded.{event_line, lines_of}
-use Rattle.bridge_run.specs.Prescribed.{Prescribed, gained}
+use Rattle.bridge_run.specs.Recorded.{lines_of}
+use Rattle.bridge_run.specs.Prescribed.{gained}
 use Rattle.bridge_run.specs.Gate.{gate_events, gate_notes}
 use Rattle.usbgate_tapes.specs.Tape.{host_ended}
-use Rattle.usbgate_tapes.specs.Text.{sent_text, event_text}
+use Rattle.usbgate_tapes.specs.Text.{sent_text}
 use Rattle.usbgate_tapes.specs.TapeCommand.{TapeCommand, tape_limit, Progress, one_further}
-use Rattle.usbgate_tapes.specs.EventCommand.{EventCommand, on_event, on_said, over_events}
+use Rattle.usbgate_tapes.specs.EventCommand.{EventCommand, on_said, over_events}
 use Rattle.usbgate_tapes.specs.Replay.{replay}
 use Rattle.usbgate_tapes.specs.Run.{HasNoLF}
 use Rattle.usbgate_commands.specs.Serving.{Asked}

@@ -2,4 +2,5 @@ mod Spelled
 mod Reading
 mod Events
 mod Courses
+mod Recording
 mod Ends

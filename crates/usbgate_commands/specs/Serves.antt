@@ -5,7 +5,9 @@ use Rattle.bridge_run.specs.declared.serve_end.ServeEnd.TheVariants as end
 use Rattle.bridge_run.specs.Course.{Setting, Course, Next, Making, AtDoor}
 use Rattle.bridge_run.specs.Calls.{Goes}
 use Rattle.bridge_run.specs.Gate.{gate_sends}
+use Rattle.bridge_run.specs.Events.{Event}
 use Rattle.bridge_run.specs.Lent.{lent_sends}
+use Rattle.bridge_run.specs.LentStops.{LentStops}
 use Rattle.session_tape.specs.Tapes.{counts}
 use Rattle.session_tape.specs.Lines.{first_comment}
 use Rattle.bridge_run.specs.Outside.{Outside, Written, Faults, written, faults, Tells, HasCause, HasReason}
@@ -38,6 +40,13 @@ device_sends Keyboard = lent_sends (meaning_of keyboard) (first_state keyboard)
 device_sends Loopback = lent_sends (meaning_of loopback) (first_state loopback)
 device_sends Tone = lent_sends (meaning_of tone) (first_state tone)
 device_sends Disk = lent_sends disk (first_disk 64)
+
+-- where memory runs out in it
+abbrev pub device_runs_out : Device → List Event → Event → List ℕ → List ℕ → Type 0
+device_runs_out Keyboard = LentStops (meaning_of keyboard) (first_state keyboard)
+device_runs_out Loopback = LentStops (meaning_of loopback) (first_state loopback)
+device_runs_out Tone = LentStops (meaning_of tone) (first_state tone)
+device_runs_out Disk = LentStops disk (first_disk 64)
 
 abbrev pub setting_lent : AskedLent → Setting
 setting_lent asked = record { served = device_sends asked.device; idle = asked.idle }

@@ -4,6 +4,7 @@ ghost use Rattle.std.specs.Prelude.{◌≡◌, ◌≤◌, false, None};
 ghost use Rattle.usb_base.specs.declared.side.Side.TheVariants.{Client, Host};
 ghost use Rattle.bridge_run.specs.Course.{AtDoor};
 ghost use Rattle.bridge_run.specs.Lent.{lent_sends};
+ghost use Rattle.bridge_run.specs.LentStops.{LentStops};
 ghost use Rattle.bridge_run.specs.Log.{Told};
 ghost use Rattle.session_tape.specs.Tapes.{counts};
 ghost use Rattle.bridge_run.specs.Outside.{outside, written, faults};
@@ -65,7 +66,7 @@ fn lend<G: Gadget, D: Doors, K: Sink>(
     requires client_down { (D.link doors.old Client).up ≡ false }
     requires host_down { (D.link doors.old Host).up ≡ false }
     requires idle { 1 ≤ lending.now.idle }
-    ensures log { HasLog D.call_gives (Told K.write_gives out.old out.new) (terms_lent lending.now) (lent_sends G.meaning gadget) result doors.old doors.new }
+    ensures log { HasLog D.call_gives (LentStops G.meaning gadget) (Told K.write_gives out.old out.new) (terms_lent lending.now) (lent_sends G.meaning gadget) result doors.old doors.new }
     ensures ends { EndsOf (record { served = lent_sends G.meaning gadget; idle = lending.now.idle }) AtDoor result (outside (D.link doors.old) (D.door doors.old)) (outside (D.link doors.new) (D.door doors.new))
         (faults (K.faults out.old) (counts 0 0)) (faults (K.faults out.new) (counts 0 0)) (written (K.contents out.old) None) (written (K.contents out.new) None) }
 {

@@ -8,6 +8,7 @@ ghost use Rattle.bridge_run.specs.Course.{Making};
 ghost use Rattle.bridge_run.specs.Outside.{outside, written, faults};
 ghost use Rattle.usbgate_commands.specs.Recording.{IsUnmade, HasServed};
 ghost use Rattle.bridge_run.specs.Gate.{gate_sends};
+ghost use Rattle.bridge_run.specs.GateStops.{gate_runs_out};
 ghost use Rattle.bridge_run.specs.Log.{Told};
 ghost use Rattle.usbgate_commands.specs.Logs.{HasLog, ServesByLog, terms_of};
 ghost use Rattle.usbgate_commands.specs.Serves.{Serves, EndsOf, setting_of};
@@ -60,6 +61,7 @@ fn begin<T: MakeTape>(
     first_id: u32,
     recording: &mut T,
 ) -> Result<(), Status>
+    ensures made { OnOk result (T.made recording.new ≡ true) }
     ensures first_line { OnOk result (IfSome (T.contents recording.new) (λ held. held ≡ first_comment first_id)) }
     ensures stands { OnOk result (T.counts recording.new ≡ T.counts recording.old) }
     ensures cause { IfErr result (λ status. IsUnmade status (T.counts recording.old) (T.counts recording.new)) }
@@ -90,7 +92,8 @@ fn between<D: Doors, K: Sink, T: Tape>(
     requires host_down { (D.link doors.old Host).up ≡ false }
     requires idle { 1 ≤ serving.now.idle }
     requires first_id { (1 ≤ serving.now.first_id) × (serving.now.first_id < 2 ^ 32) }
-    ensures log { HasLog D.call_gives (Told K.write_gives out.old out.new) (terms_of serving.now) (gate_sends serving.now.after_loss serving.now.first_id) result doors.old doors.new }
+    requires made { T.made tape.old ≡ is_some serving.now.recording }
+    ensures log { HasLog D.call_gives (gate_runs_out serving.now.first_id) (Told K.write_gives out.old out.new) (terms_of serving.now) (gate_sends serving.now.after_loss serving.now.first_id) result doors.old doors.new }
     ensures ends { EndsOf (setting_of serving.now) Making result (outside (D.link doors.old) (D.door doors.old)) (outside (D.link doors.new) (D.door doors.new))
         (faults (K.faults out.old) (T.counts tape.old)) (faults (K.faults out.new) (T.counts tape.new)) (written (K.contents out.old) (T.contents tape.old)) (written (K.contents out.new) (T.contents tape.new)) }
 {

@@ -1,8 +1,10 @@
 -- What an event has sent.
-use Rattle.std.specs.Prelude.{◌≡◌, ◌++◌, ◌∷◌, ◌||◌, List}
+use Rattle.std.specs.Prelude.{◌≡◌, ◌⊎◌, ℕ, ◌++◌, ◌∷◌, ◌||◌, List}
 use Rattle.bridge_run.specs.Events.{Event}
 use Rattle.bridge_run.specs.declared.sent.Sent.{Sent}
 use Rattle.bridge_run.specs.Prescribed.{Prescribed, gained}
+use Rattle.bridge_run.specs.RanOut.{Untold}
+use Rattle.bridge_run.specs.Log.{IsFront}
 
 pub record Sends (p : Prescribed) (events : List Event) (e : Event) (old new : Sent) : Type 0 where
   pub client : new.to_client ≡ old.to_client ++ gained p.to_client events e
@@ -11,3 +13,18 @@ pub record Sends (p : Prescribed) (events : List Event) (e : Event) (old new : S
   pub lets_go : new.lets_go ≡ (old.lets_go || p.lets_go (e ∷ events))
   -- no refusal that was before is lost
   pub grows : p.refusals (e ∷ events) ≡ p.refusals events ++ gained p.refusals events e
+
+-- ---- memory ran out within it
+
+-- of what the event sends to each side this is a front, and here memory ran out
+pub record IsPart (runs_out : List Event → Event → List ℕ → List ℕ → Type 0) (p : Prescribed) (events : List Event) (e : Event) (client host : List ℕ) : Type 0 where
+  pub to_client : IsFront client (gained p.to_client events e)
+  pub to_host : IsFront host (gained p.to_host events e)
+  pub ran_out : runs_out events e client host ⊎ Untold p events e client host
+
+pub record SendsPart (runs_out : List Event → Event → List ℕ → List ℕ → Type 0) (p : Prescribed) (events : List Event) (e : Event) (old new : Sent) : Type 0 where
+  pub client : List ℕ
+  pub host : List ℕ
+  pub to_client : new.to_client ≡ old.to_client ++ client
+  pub to_host : new.to_host ≡ old.to_host ++ host
+  pub part : IsPart runs_out p events e client host

@@ -15,7 +15,7 @@ use Rattle.bridge_run.specs.Prescribed.{Prescribed}
 use Rattle.bridge_run.specs.Course.{Setting, Course, Next, AtDoor, AtClient, AtHost, AtEnd, Takes}
 use Rattle.bridge_run.specs.Calls.{Goes, room, come, down, heard, poll, call, course_of}
 use Rattle.bridge_run.specs.Calls.{turned as passed}
-use Rattle.bridge_run.specs.Outside.{Outside, outside, NoFault, Shows, Tells, IsBetween, IsOneOf, IsRecordedInPart, IsTaped, Cut, Written, Faults}
+use Rattle.bridge_run.specs.Outside.{Outside, outside, NoFault, Shows, Tells, IsBetween, IsOneOf, HasLines, IsTaped, Cut, Written, Faults}
 use Rattle.bridge_run.specs.inner.Keeping.{up_of, with_up}
 use Rattle.bridge_run.specs.inner.Follows.{Follows, setting, polls, behind}
 use Rattle.bridge_run.proofs.lemmas.events.Put.{between-none, all-recorded}
@@ -122,7 +122,7 @@ pub between-same : (x : List ℕ) (known : Option (List ℕ)) (y : List ℕ) →
 between-same x known y e f = between-none x known y [] e (f ∙ sym (append-nil x))
 
 -- nothing was recorded either
-pub same-recorded : (P : Type 0) (w : Outside) (out : Written) (c d : Course) (known : Option (List ℕ)) → IfSome known (λ held. (held ≡ c.recorded) × P) → d.recorded ≡ c.recorded → IfSome known (λ held. (held ≡ d.recorded) ⊎ IsRecordedInPart w out c d held)
+pub same-recorded : (P : Type 0) (w : Outside) (out : Written) (c d : Course) (known : Option (List ℕ)) → IfSome known (λ held. (held ≡ c.recorded) × P) → d.recorded ≡ c.recorded → IfSome known (λ held. HasLines w out c d held)
 same-recorded P w out c d known is same = all-recorded P w out c d known (subst (λ (r : List ℕ). IfSome known (λ held. (held ≡ r) × P)) (sym same) is)
 
 come-writes : (clients : List (List Turn)) (c : Course) → WroteNothing c (course_of (come clients c))

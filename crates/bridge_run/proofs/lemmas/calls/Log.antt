@@ -1,13 +1,11 @@
 -- A session's log, as an event is taken.
-use Rattle.std.proofs.Common.{◌≡◌, ℕ, ◌-◌, ◌<◌, ◌≤◌, ◌&&◌, ◌||◌, not, Bool, true, false, cond, List, [], ◌∷◌, ◌++◌, Option, Some, is_some, Result, Ok, Err, refl, sym, ap, ◌∙◌, subst, arith, append-nil, append_assoc}
+use Rattle.std.proofs.Common.{◌≡◌, ℕ, ◌-◌, ◌<◌, ◌≤◌, ◌&&◌, ◌||◌, not, Bool, true, false, cond, inl, List, [], ◌∷◌, ◌++◌, Option, Some, is_some, Result, Ok, Err, refl, sym, ap, ◌∙◌, subst, arith, append-nil, append_assoc}
 use Rattle.std.specs.Result.{IsErrAnd}
 use Rattle.usb_base.specs.declared.side.Side.{Side}
 use Rattle.usb_base.specs.declared.side.Side.TheVariants.{Client, Host}
 use Rattle.usb_base.specs.declared.refusal.Refusal.{Refusal}
-use Rattle.gate_outside.specs.declared.fault.Failed.{Failed as Fault}
-use Rattle.gate_outside.specs.Calls.{Call, Write, Close, Called, front_of, went}
+use Rattle.gate_outside.specs.Calls.{Call, Called, went}
 use Rattle.gate_history.specs.state.Sides.{or_else}
-use Rattle.session_tape.specs.Tapes.{Counts}
 use Rattle.bridge_run.specs.Events.{Event, ClientComes, ClientPiece, ClientQuiet, ClientEnd, HostPiece, HostEnd}
 use Rattle.bridge_run.specs.declared.kept.Kept.{Kept}
 use Rattle.bridge_run.specs.declared.sent.Sent.{Sent}
@@ -17,105 +15,13 @@ use Rattle.bridge_run.specs.Prescribed.{Prescribed, gained, refuses, first_of}
 use Rattle.bridge_run.specs.Calls.{ends_next}
 use Rattle.bridge_run.specs.Ups.{client_at, client_behind, host_at, host_since, to_clients, sent_to_host, told_of}
 use Rattle.bridge_run.specs.Asks.{Ask, asks_of, taken, last_fault}
-use Rattle.bridge_run.specs.Log.{Terms, events_of, behind_close, IsWritten, IsFront, IsWrittenInPart, InPart, is_over, Settled, WroteInPart, WroteBefore, Logged}
+use Rattle.bridge_run.specs.Log.{Terms, events_of, behind_close, IsWritten, IsFront, IsWrittenInPart, InPart, is_over, Settled, JustCame, WroteInPart, HasEnded, Logged}
 use Rattle.bridge_run.specs.inner.Follows.{Prepared}
 use Rattle.bridge_run.specs.inner.Keeping.{refusing, Settles, is_over as none_up}
 use Rattle.bridge_run.specs.inner.Logging.{IsAt, IsTaking, HasTaken, IsBehind, PutLogs, HappenLogs, WroteMore, all_if, FailedBehind, closing}
-use Rattle.bridge_run.specs.inner.Recording.{TapeFaults}
 use Rattle.bridge_run.proofs.lemmas.calls.Sink.{told-all, part-more}
 use Rattle.bridge_run.proofs.lemmas.events.Put.{dropped-is, first_of-append}
-
--- ---- writes to a link
-
-pub wrote-none : {D : Type 0} → (gives : D → Call → D → Type 0) (side : Side) (calls : List Call) (begun now : D) → Called gives calls begun now → WroteMore gives side [] calls begun now
-wrote-none gives side calls begun now called = record {
-  behind = calls;
-  called = called;
-  settled = λ terms p settled. settled;
-  asks-are = refl;
-  events-are = refl;
-  side-is = sym (append-nil (went side calls));
-  other-is = refl;
-}
-
-pub wrote-call : {D : Type 0} → (gives : D → Call → D → Type 0) (side : Side) (bytes sent : List ℕ) (answer : Result ℕ Fault) (calls : List Call) (begun mid now : D) → WroteMore gives side bytes calls begun mid
-    → gives mid (Write side sent answer) now → WroteMore gives side (bytes ++ front_of answer sent) calls begun now
-wrote-call gives Client bytes sent answer calls begun mid now w g = record {
-  behind = Write Client sent answer ∷ w.behind;
-  called = (mid, (w.called, g));
-  settled = λ terms p settled. (w.settled terms p settled, tt);
-  asks-are = w.asks-are;
-  events-are = w.events-are;
-  side-is = ap (λ (l : List ℕ). l ++ front_of answer sent) w.side-is ∙ append_assoc (went Client calls) bytes (front_of answer sent);
-  other-is = append-nil (went Host w.behind) ∙ w.other-is;
-}
-wrote-call gives Host bytes sent answer calls begun mid now w g = record {
-  behind = Write Host sent answer ∷ w.behind;
-  called = (mid, (w.called, g));
-  settled = λ terms p settled. (w.settled terms p settled, tt);
-  asks-are = w.asks-are;
-  events-are = w.events-are;
-  side-is = ap (λ (l : List ℕ). l ++ front_of answer sent) w.side-is ∙ append_assoc (went Host calls) bytes (front_of answer sent);
-  other-is = append-nil (went Client w.behind) ∙ w.other-is;
-}
-
--- a write failed, which wrote nothing
-pub failed-behind : {D : Type 0} → (gives : D → Call → D → Type 0) (side : Side) (up : Bool) (bytes front back sent : List ℕ) (failed : Fault) (calls : List Call) (begun mid now : D) → up ≡ true → bytes ≡ front ++ back
-    → WroteMore gives side front calls begun mid → gives mid (Write side sent (Err failed)) now → FailedBehind gives side up bytes calls begun now
-failed-behind gives Client up bytes front back sent failed calls begun mid now is parts w g = record {
-  front = front;
-  back = back;
-  is_up = is;
-  parts = parts;
-  wrote = record {
-    behind = Write Client sent (Err failed) ∷ w.behind;
-    called = (mid, (w.called, g));
-    settled = λ terms p settled. (w.settled terms p settled, tt);
-    asks-are = w.asks-are;
-    events-are = w.events-are;
-    side-is = append-nil (went Client w.behind) ∙ w.side-is;
-    other-is = append-nil (went Host w.behind) ∙ w.other-is;
-  };
-  failed = refl;
-}
-failed-behind gives Host up bytes front back sent failed calls begun mid now is parts w g = record {
-  front = front;
-  back = back;
-  is_up = is;
-  parts = parts;
-  wrote = record {
-    behind = Write Host sent (Err failed) ∷ w.behind;
-    called = (mid, (w.called, g));
-    settled = λ terms p settled. (w.settled terms p settled, tt);
-    asks-are = w.asks-are;
-    events-are = w.events-are;
-    side-is = append-nil (went Host w.behind) ∙ w.side-is;
-    other-is = append-nil (went Client w.behind) ∙ w.other-is;
-  };
-  failed = refl;
-}
-
--- ---- links that are closed
-
-went-closing : (r : Bool) (of side : Side) (calls : List Call) → went side (closing r of calls) ≡ went side calls
-went-closing true of Client calls = append-nil (went Client calls)
-went-closing true of Host calls = append-nil (went Host calls)
-went-closing false of side calls = refl
-
-settled-closing : (r : Bool) (of : Side) (terms : Terms) (p : Prescribed) (calls : List Call) → Settled terms p calls → Settled terms p (closing r of calls)
-settled-closing true of terms p calls s = (s, tt)
-settled-closing false of terms p calls s = s
-
-events-closing : (r : Bool) (calls : List Call) → events_of (closing r Host calls) ≡ events_of calls
-events-closing true calls = refl
-events-closing false calls = refl
-
-asks-closing : (r : Bool) (of : Side) (calls : List Call) → asks_of (closing r of calls) ≡ asks_of calls
-asks-closing true of calls = refl
-asks-closing false of calls = refl
-
-pub closed : {D : Type 0} → (gives : D → Call → D → Type 0) (side : Side) (calls : List Call) (begun mid now : D) → Called gives calls begun mid → gives mid (Close side) now → Called gives (closing true side calls) begun now
-closed gives side calls begun mid now called g = (mid, (called, g))
+use Rattle.bridge_run.proofs.lemmas.calls.Writing.{went-closing, settled-closing, events-closing, asks-closing, just-host}
 
 -- ---- an event is taken
 
@@ -124,6 +30,7 @@ pub record HasSent (terms : Terms) (p : Prescribed) (asks : List Ask) (calls : L
   pub asks-are : asks_of calls ≡ asks
   pub settled : Settled terms p calls
   pub events-are : events_of calls ≡ e ∷ events
+  pub just_came : JustCame calls
   pub written : IsWritten terms p (e ∷ events) calls
 
 sent-closing : (r : Bool) (of : Side) (terms : Terms) (p : Prescribed) (calls : List Call) (events : List Event) → IsWritten terms p events calls → IsWritten terms p events (closing r of calls)
@@ -137,6 +44,7 @@ has-sent gives stands tells terms p asks e k k1 sent lines begun d0 d1 d2 t prep
   asks-are = w2.asks-are ∙ w1.asks-are ∙ t.asks-are;
   settled = w2.settled terms p (w1.settled terms p t.settled);
   events-are = w2.events-are ∙ w1.events-are ∙ t.events-are;
+  just_came = w2.just_came (w1.just_came t.just_came);
   written = record {
     client = w2.other-is ∙ w1.side-is ∙ ap (λ (l : List ℕ). l ++ all_if k1.client_up sent.to_client) t.written.client
         ∙ ap (λ (u : Bool). to_clients p t.events ++ all_if u sent.to_client) (ap (λ (q : Kept). q.client_up) same ∙ t.client_up)
@@ -170,8 +78,8 @@ pub record TakenBy (stands : List Event → Type 0) (tells : List ℕ → Type 0
 
 -- an event was taken, by these calls
 has-taken : {D : Type 0} → (gives : D → Call → D → Type 0) (stands : List Event → Type 0) (tells : List ℕ → Type 0) (terms : Terms) (p : Prescribed) (asks : List Ask) (k : Kept) (begun now : D) (calls : List Call) (e : Event) (events : List Event) → events_of calls ≡ e ∷ events
-    → Called gives calls begun now → Settled terms p calls → asks_of calls ≡ asks → IsWritten terms p (e ∷ events) calls → TakenBy stands tells terms p asks k (e ∷ events) → HasTaken gives stands tells terms p asks k begun now
-has-taken gives stands tells terms p asks k begun now calls e events is called settled asked w t = record {
+    → JustCame calls → Called gives calls begun now → Settled terms p calls → asks_of calls ≡ asks → IsWritten terms p (e ∷ events) calls → TakenBy stands tells terms p asks k (e ∷ events) → HasTaken gives stands tells terms p asks k begun now
+has-taken gives stands tells terms p asks k begun now calls e events is just called settled asked w t = record {
   at = record {
     calls = calls;
     called = called;
@@ -185,6 +93,7 @@ has-taken gives stands tells terms p asks k begun now calls e events is called s
     host_up = t.host_up ∙ ap (host_since (is_some terms.host) p) (sym is);
     refused = t.refused ∙ ap (λ (es : List Event). first_of (p.refusals es)) (sym is);
   };
+  just_came = just;
   over = over-of terms p e events (events_of calls) k is t.client_up t.host_up;
 }
 
@@ -193,7 +102,7 @@ pub put-behind : {D : Type 0} → (gives : D → Call → D → Type 0) (stands 
     → (dropped ≡ true → k.client_up ≡ false) → IsBehind (ends_next e dropped) gives stands tells terms p asks k begun now
 put-behind gives stands tells terms p asks e events k begun now calls refused false h called t down =
     subst (λ (b : Bool). IsBehind b gives stands tells terms p asks k begun now) (sym (ends-none e))
-    (has-taken gives stands tells terms p asks k begun now (closing refused Host calls) e events (events-closing refused calls ∙ h.events-are) called (settled-closing refused Host terms p calls h.settled) (asks-closing refused Host calls ∙ h.asks-are)
+    (has-taken gives stands tells terms p asks k begun now (closing refused Host calls) e events (events-closing refused calls ∙ h.events-are) (just-host refused calls h.just_came) called (settled-closing refused Host terms p calls h.settled) (asks-closing refused Host calls ∙ h.asks-are)
     (sent-closing refused Host terms p calls (e ∷ events) h.written) t)
 put-behind {D = D} gives stands tells terms p asks e events k begun now calls refused true h called t down = go (ends_next e true) refl
   where
@@ -212,6 +121,9 @@ put-behind {D = D} gives stands tells terms p asks e events k begun now calls re
     behind : events_of all ≡ cond (ends_next e true) (ClientEnd ∷ e ∷ events) (e ∷ events)
     behind = events-closing refused (closing true Client calls) ∙ ap (behind_close Client) h.events-are
 
+    just : JustCame all
+    just = just-host refused (closing true Client calls) tt
+
     go : (b : Bool) → ends_next e true ≡ b → IsBehind (ends_next e true) gives stands tells terms p asks k begun now
     go true is = subst (λ (b : Bool). IsBehind b gives stands tells terms p asks k begun now) (sym is) (record {
       calls = all;
@@ -219,6 +131,7 @@ put-behind {D = D} gives stands tells terms p asks e events k begun now calls re
       settled = settled;
       asks-are = asked;
       events = e ∷ events;
+      just_came = just;
       events-are = behind ∙ ap (λ (b : Bool). cond b (ClientEnd ∷ e ∷ events) (e ∷ events)) is;
       stands_for = t.stands_for;
       written = written;
@@ -229,7 +142,7 @@ put-behind {D = D} gives stands tells terms p asks e events k begun now calls re
       refused = t.refused;
     })
     go false is = subst (λ (b : Bool). IsBehind b gives stands tells terms p asks k begun now) (sym is)
-        (has-taken gives stands tells terms p asks k begun now all e events (behind ∙ ap (λ (b : Bool). cond b (ClientEnd ∷ e ∷ events) (e ∷ events)) is) called settled asked written t)
+        (has-taken gives stands tells terms p asks k begun now all e events (behind ∙ ap (λ (b : Bool). cond b (ClientEnd ∷ e ∷ events) (e ∷ events)) is) just called settled asked written t)
 
 -- the links that are up behind it
 pub client-kept : (p : Prescribed) (e : Event) (events : List Event) (k k' : Kept) (sent : Sent) (lines : List ℕ) → Prepared p events e sent lines → k' ≡ refusing sent.refusals sent.lets_go k
@@ -258,20 +171,20 @@ refused-kept p e events k k' sent lines prepared kept is =
 
 -- ---- in part
 
-front-whole : (all written : List ℕ) → written ≡ all → IsFront written all
+pub front-whole : (all written : List ℕ) → written ≡ all → IsFront written all
 front-whole all written is = ([], sym is ∙ sym (append-nil written))
 
-front-of-more : (all more written : List ℕ) → written ≡ all → IsFront written (all ++ more)
+pub front-of-more : (all more written : List ℕ) → written ≡ all → IsFront written (all ++ more)
 front-of-more all more written is = (more, ap (λ (l : List ℕ). l ++ more) (sym is))
 
 whole-part : (terms : Terms) (p : Prescribed) (events : List Event) (calls : List Call) → IsWritten terms p events calls → IsWrittenInPart terms p events calls
 whole-part terms p events calls w = record { client = front-whole _ _ w.client; host = front-whole _ _ w.host }
 
 -- all is written, and the last call failed
-pub failed-logs : {D : Type 0} → (gives : D → Call → D → Type 0) (stands : List Event → Type 0) (tells : List ℕ → Type 0) (terms : Terms) (p : Prescribed) (asks : List Ask) (side : Side) (call : Call) (k : Kept) (begun d0 d1 : D)
+pub failed-logs : {D : Type 0} → (gives : D → Call → D → Type 0) (stands : List Event → Type 0) (runs_out : List Event → Event → List ℕ → List ℕ → Type 0) (tells : List ℕ → Type 0) (terms : Terms) (p : Prescribed) (asks : List Ask) (side : Side) (call : Call) (k : Kept) (begun d0 d1 : D)
     → (a : IsAt gives stands tells terms p asks k begun d0) → Called gives (call ∷ a.calls) begun d1 → Settled terms p (call ∷ a.calls) → events_of (call ∷ a.calls) ≡ events_of a.calls → IsWritten terms p (events_of a.calls) (call ∷ a.calls) → last_fault (call ∷ a.calls) ≡ Some side
-    → Logged (end.LinkFault side) gives tells terms p begun d1
-failed-logs gives stands tells terms p asks side call k begun d0 d1 a called settled same w failed = record {
+    → Logged (end.LinkFault side) gives runs_out tells terms p begun d1
+failed-logs gives stands runs_out tells terms p asks side call k begun d0 d1 a called settled same w failed = record {
   calls = call ∷ a.calls;
   called = called;
   settled = settled;
@@ -280,24 +193,24 @@ failed-logs gives stands tells terms p asks side call k begun d0 d1 a called set
 }
 
 -- all is written, but for lines to the sink or to the tape
-at-fault : {D : Type 0} → (gives : D → Call → D → Type 0) (stands : List Event → Type 0) (tells some : List ℕ → Type 0) (terms : Terms) (p : Prescribed) (asks : List Ask) (k : Kept) (begun now : D) → ((bytes : List ℕ) → some bytes → InPart tells bytes) → IsAt gives stands some terms p asks k begun now
-    → Logged end.WriteFault gives tells terms p begun now
-at-fault gives stands tells some terms p asks k begun now part a = record {
+at-fault : {D : Type 0} → (gives : D → Call → D → Type 0) (stands : List Event → Type 0) (runs_out : List Event → Event → List ℕ → List ℕ → Type 0) (tells some : List ℕ → Type 0) (terms : Terms) (p : Prescribed) (asks : List Ask) (k : Kept) (begun now : D) → ((bytes : List ℕ) → some bytes → InPart tells bytes) → (a : IsAt gives stands some terms p asks k begun now) → HasEnded end.WriteFault terms p a.calls
+    → Logged end.WriteFault gives runs_out tells terms p begun now
+at-fault gives stands runs_out tells some terms p asks k begun now part a ended = record {
   calls = a.calls;
   called = a.called;
   settled = a.settled;
   written = record { links = whole-part terms p (events_of a.calls) a.calls a.written; told = part (told_of p (events_of a.calls)) a.told };
-  ended = tt;
+  ended = ended;
 }
 
-pub lines-fault : {D : Type 0} → (gives : D → Call → D → Type 0) (stands : List Event → Type 0) (tells : List ℕ → Type 0) (terms : Terms) (p : Prescribed) (asks : List Ask) (k : Kept) (begun now : D) → IsAt gives stands tells terms p asks k begun now
-    → Logged end.WriteFault gives tells terms p begun now
-lines-fault gives stands tells terms p asks k begun now a = at-fault gives stands tells tells terms p asks k begun now (told-all tells) a
+pub lines-fault : {D : Type 0} → (gives : D → Call → D → Type 0) (stands : List Event → Type 0) (runs_out : List Event → Event → List ℕ → List ℕ → Type 0) (tells : List ℕ → Type 0) (terms : Terms) (p : Prescribed) (asks : List Ask) (k : Kept) (begun now : D) → (a : IsAt gives stands tells terms p asks k begun now) → HasEnded end.WriteFault terms p a.calls
+    → Logged end.WriteFault gives runs_out tells terms p begun now
+lines-fault gives stands runs_out tells terms p asks k begun now a ended = at-fault gives stands runs_out tells tells terms p asks k begun now (told-all tells) a ended
 
 -- of the last event nothing is sent yet
-taking-fault : {D : Type 0} → (gives : D → Call → D → Type 0) (stands : List Event → Type 0) (tells some : List ℕ → Type 0) (terms : Terms) (p : Prescribed) (asks : List Ask) (e : Event) (k : Kept) (begun now : D) → ((bytes : List ℕ) → some bytes → InPart tells bytes)
-    → IsTaking gives stands some terms p asks e k begun now → Logged end.WriteFault gives tells terms p begun now
-taking-fault gives stands tells some terms p asks e k begun now part t = record {
+pub taking-fault : {D : Type 0} → (gives : D → Call → D → Type 0) (stands : List Event → Type 0) (runs_out : List Event → Event → List ℕ → List ℕ → Type 0) (tells some : List ℕ → Type 0) (terms : Terms) (p : Prescribed) (asks : List Ask) (e : Event) (k : Kept) (begun now : D) → ((bytes : List ℕ) → some bytes → InPart tells bytes)
+    → IsTaking gives stands some terms p asks e k begun now → Logged end.WriteFault gives runs_out tells terms p begun now
+taking-fault gives stands runs_out tells some terms p asks e k begun now part t = record {
   calls = t.calls;
   called = t.called;
   settled = t.settled;
@@ -308,23 +221,23 @@ taking-fault gives stands tells some terms p asks e k begun now part t = record 
     };
     told = part-more tells (told_of p t.events) _ (part (told_of p t.events) t.told);
   });
-  ended = tt;
+  ended = inl t.just_came;
 }
 
 -- the links were closed, and a front of the lines was told
-pub behind-part : {D : Type 0} → (gives : D → Call → D → Type 0) (stands : List Event → Type 0) (tells : List ℕ → Type 0) (terms : Terms) (p : Prescribed) (asks : List Ask) (k : Kept) (b : Bool) (begun now : D) → IsBehind b gives stands (InPart tells) terms p asks k begun now
-    → Logged end.WriteFault gives tells terms p begun now
-behind-part gives stands tells terms p asks k true begun now t = taking-fault gives stands tells (InPart tells) terms p asks ClientEnd k begun now (λ bytes x. x) t
-behind-part gives stands tells terms p asks k false begun now h = at-fault gives stands tells (InPart tells) terms p asks k begun now (λ bytes x. x) h.at
+pub behind-part : {D : Type 0} → (gives : D → Call → D → Type 0) (stands : List Event → Type 0) (runs_out : List Event → Event → List ℕ → List ℕ → Type 0) (tells : List ℕ → Type 0) (terms : Terms) (p : Prescribed) (asks : List Ask) (k : Kept) (b : Bool) (begun now : D) → IsBehind b gives stands (InPart tells) terms p asks k begun now
+    → Logged end.WriteFault gives runs_out tells terms p begun now
+behind-part gives stands runs_out tells terms p asks k true begun now t = taking-fault gives stands runs_out tells (InPart tells) terms p asks ClientEnd k begun now (λ bytes x. x) t
+behind-part gives stands runs_out tells terms p asks k false begun now h = at-fault gives stands runs_out tells (InPart tells) terms p asks k begun now (λ bytes x. x) h.at (inl h.just_came)
 
 -- a front of what it sends was written to a side that is up
-front-in : (all front back more written : List ℕ) → written ≡ all ++ front → more ≡ front ++ back → IsFront written (all ++ more)
+pub front-in : (all front back more written : List ℕ) → written ≡ all ++ front → more ≡ front ++ back → IsFront written (all ++ more)
 front-in all front back more written is parts = (back, ap (λ (l : List ℕ). all ++ l) parts ∙ sym (append_assoc all front back) ∙ ap (λ (l : List ℕ). l ++ back) (sym is))
 
-pub client-part : {D : Type 0} → (gives : D → Call → D → Type 0) (stands : List Event → Type 0) (tells : List ℕ → Type 0) (terms : Terms) (p : Prescribed) (asks : List Ask) (e : Event) (k k1 : Kept) (sent : Sent) (lines bytes : List ℕ) (begun d0 d1 : D)
+pub client-part : {D : Type 0} → (gives : D → Call → D → Type 0) (stands : List Event → Type 0) (runs_out : List Event → Event → List ℕ → List ℕ → Type 0) (tells : List ℕ → Type 0) (terms : Terms) (p : Prescribed) (asks : List Ask) (e : Event) (k k1 : Kept) (sent : Sent) (lines bytes : List ℕ) (begun d0 d1 : D)
     → (t : IsTaking gives stands tells terms p asks e k begun d0) → Prepared p t.events e sent lines → k1 ≡ k → bytes ≡ sent.to_client
-    → FailedBehind gives Client k1.client_up bytes t.calls begun d1 → Logged (end.LinkFault Client) gives tells terms p begun d1
-client-part gives stands tells terms p asks e k k1 sent lines bytes begun d0 d1 t prepared same is f = record {
+    → FailedBehind gives Client k1.client_up bytes t.calls begun d1 → Logged (end.LinkFault Client) gives runs_out tells terms p begun d1
+client-part gives stands runs_out tells terms p asks e k k1 sent lines bytes begun d0 d1 t prepared same is f = record {
   calls = f.wrote.behind;
   called = f.wrote.called;
   settled = f.wrote.settled terms p t.settled;
@@ -339,10 +252,10 @@ client-part gives stands tells terms p asks e k k1 sent lines bytes begun d0 d1 
   ended = f.failed;
 }
 
-pub host-part : {D : Type 0} → (gives : D → Call → D → Type 0) (stands : List Event → Type 0) (tells : List ℕ → Type 0) (terms : Terms) (p : Prescribed) (asks : List Ask) (e : Event) (k k1 : Kept) (sent : Sent) (lines bytes : List ℕ) (begun d0 d1 d2 : D)
+pub host-part : {D : Type 0} → (gives : D → Call → D → Type 0) (stands : List Event → Type 0) (runs_out : List Event → Event → List ℕ → List ℕ → Type 0) (tells : List ℕ → Type 0) (terms : Terms) (p : Prescribed) (asks : List Ask) (e : Event) (k k1 : Kept) (sent : Sent) (lines bytes : List ℕ) (begun d0 d1 d2 : D)
     → (t : IsTaking gives stands tells terms p asks e k begun d0) → Prepared p t.events e sent lines → k1 ≡ k → bytes ≡ sent.to_host
-    → (w1 : WroteMore gives Client (all_if k1.client_up sent.to_client) t.calls begun d1) → FailedBehind gives Host k1.host_up bytes w1.behind begun d2 → Logged (end.LinkFault Host) gives tells terms p begun d2
-host-part gives stands tells terms p asks e k k1 sent lines bytes begun d0 d1 d2 t prepared same is w1 f = record {
+    → (w1 : WroteMore gives Client (all_if k1.client_up sent.to_client) t.calls begun d1) → FailedBehind gives Host k1.host_up bytes w1.behind begun d2 → Logged (end.LinkFault Host) gives runs_out tells terms p begun d2
+host-part gives stands runs_out tells terms p asks e k k1 sent lines bytes begun d0 d1 d2 t prepared same is w1 f = record {
   calls = f.wrote.behind;
   called = f.wrote.called;
   settled = f.wrote.settled terms p (w1.settled terms p t.settled);
@@ -369,54 +282,33 @@ some-left b t l is some = omega arith
 none-left : (b t l : ℕ) → l ≡ b - t → l ≡ 0 → b ≤ t
 none-left b t l is none = omega arith
 
--- memory ran out as the event is taken
-pub memory-logs : {D : Type 0} → (gives : D → Call → D → Type 0) (stands : List Event → Type 0) (tells : List ℕ → Type 0) (terms : Terms) (p : Prescribed) (asks : List Ask) (e : Event) (k : Kept) (begun now : D) → IsTaking gives stands tells terms p asks e k begun now
-    → Logged end.Memory gives tells terms p begun now
-memory-logs gives stands tells terms p asks e k begun now t = record {
-  calls = t.calls;
-  called = t.called;
-  settled = t.settled;
-  written = subst (λ (es : List Event). WroteBefore tells terms p es t.calls) (sym t.events-are) (record { links = t.written; told = t.told });
-  ended = tt;
-}
-
--- what is recorded couldn't be, before anything is written
-pub tape-logs : {D : Type 0} → (x : ServeEnd) (old new : Counts) (gives : D → Call → D → Type 0) (stands : List Event → Type 0) (tells : List ℕ → Type 0) (terms : Terms) (p : Prescribed) (asks : List Ask) (e : Event) (k : Kept) (begun now : D) → TapeFaults {T = Unit {0}} (Err x) old new
-    → IsTaking gives stands tells terms p asks e k begun now → Logged x gives tells terms p begun now
-tape-logs (end.Ended refused) old new gives stands tells terms p asks e k begun now is t = absurd is
-tape-logs end.Idle old new gives stands tells terms p asks e k begun now is t = absurd is
-tape-logs end.Spent old new gives stands tells terms p asks e k begun now is t = absurd is
-tape-logs (end.LinkFault side) old new gives stands tells terms p asks e k begun now is t = absurd is
-tape-logs end.WriteFault old new gives stands tells terms p asks e k begun now is t = taking-fault gives stands tells tells terms p asks e k begun now (told-all tells) t
-tape-logs end.Memory old new gives stands tells terms p asks e k begun now is t = memory-logs gives stands tells terms p asks e k begun now t
-
 -- an error that a `?` hands on
-pub put-err : {D : Type 0} → (Q : ServeEnd → Type 0) (result : Result Bool ServeEnd) (gives : D → Call → D → Type 0) (stands : List Event → Type 0) (tells : List ℕ → Type 0) (terms : Terms) (p : Prescribed) (asks : List Ask) (e : Event) (k : Kept) (begun now : D) → IsErrAnd result Q
-    → ((x : ServeEnd) → Q x → Logged x gives tells terms p begun now) → PutLogs result gives stands tells terms p asks e k begun now
-put-err Q (Ok x) gives stands tells terms p asks e k begun now is logs = absurd is
-put-err Q (Err x) gives stands tells terms p asks e k begun now is logs = logs x is
+pub put-err : {D : Type 0} → (Q : ServeEnd → Type 0) (result : Result Bool ServeEnd) (gives : D → Call → D → Type 0) (stands : List Event → Type 0) (runs_out : List Event → Event → List ℕ → List ℕ → Type 0) (tells : List ℕ → Type 0) (terms : Terms) (p : Prescribed) (asks : List Ask) (e : Event) (k : Kept) (begun now : D) → IsErrAnd result Q
+    → ((x : ServeEnd) → Q x → Logged x gives runs_out tells terms p begun now) → PutLogs result gives stands runs_out tells terms p asks e k begun now
+put-err Q (Ok x) gives stands runs_out tells terms p asks e k begun now is logs = absurd is
+put-err Q (Err x) gives stands runs_out tells terms p asks e k begun now is logs = logs x is
 
-pub settled-logs : {D : Type 0} → (result : Result (Unit {0}) ServeEnd) (gives : D → Call → D → Type 0) (stands : List Event → Type 0) (tells : List ℕ → Type 0) (terms : Terms) (p : Prescribed) (asks : List Ask) (k : Kept) (begun now : D) → Settles result k
-    → HasTaken gives stands tells terms p asks k begun now → HappenLogs result gives stands tells terms p asks k begun now
-settled-logs (Ok x) gives stands tells terms p asks k begun now s h = record {
+pub settled-logs : {D : Type 0} → (result : Result (Unit {0}) ServeEnd) (gives : D → Call → D → Type 0) (stands : List Event → Type 0) (runs_out : List Event → Event → List ℕ → List ℕ → Type 0) (tells : List ℕ → Type 0) (terms : Terms) (p : Prescribed) (asks : List Ask) (k : Kept) (begun now : D) → Settles result k
+    → HasTaken gives stands tells terms p asks k begun now → HappenLogs result gives stands runs_out tells terms p asks k begun now
+settled-logs (Ok x) gives stands runs_out tells terms p asks k begun now s h = record {
   at = h.at;
   goes_on = record { links = h.over ∙ s.0; left = subst (λ (l : List Ask). taken l < terms.budget) (sym h.at.asks-are) (some-left terms.budget (taken asks) k.left h.at.left s.1) };
 }
-settled-logs (Err (end.Ended refused)) gives stands tells terms p asks k begun now s h = record {
+settled-logs (Err (end.Ended refused)) gives stands runs_out tells terms p asks k begun now s h = record {
   calls = h.at.calls;
   called = h.at.called;
   settled = h.at.settled;
   written = record { links = h.at.written; told = h.at.told };
   ended = (h.over ∙ s.0, s.1 ∙ h.at.refused);
 }
-settled-logs (Err end.Spent) gives stands tells terms p asks k begun now s h = record {
+settled-logs (Err end.Spent) gives stands runs_out tells terms p asks k begun now s h = record {
   calls = h.at.calls;
   called = h.at.called;
   settled = h.at.settled;
   written = record { links = h.at.written; told = h.at.told };
   ended = (h.over ∙ s.0, subst (λ (l : List Ask). terms.budget ≤ taken l) (sym h.at.asks-are) (none-left terms.budget (taken asks) k.left h.at.left s.1));
 }
-settled-logs (Err (end.LinkFault side)) gives stands tells terms p asks k begun now s h = absurd s
-settled-logs (Err end.WriteFault) gives stands tells terms p asks k begun now s h = absurd s
-settled-logs (Err end.Idle) gives stands tells terms p asks k begun now s h = absurd s
-settled-logs (Err end.Memory) gives stands tells terms p asks k begun now s h = absurd s
+settled-logs (Err (end.LinkFault side)) gives stands runs_out tells terms p asks k begun now s h = absurd s
+settled-logs (Err end.WriteFault) gives stands runs_out tells terms p asks k begun now s h = absurd s
+settled-logs (Err end.Idle) gives stands runs_out tells terms p asks k begun now s h = absurd s
+settled-logs (Err end.Memory) gives stands runs_out tells terms p asks k begun now s h = absurd s

@@ -1,5 +1,5 @@
 -- A session's log, as it begins.
-use Rattle.std.proofs.Common.{◌≡◌, ℕ, ◌+◌, ◌-◌, ◌<◌, Bool, true, false, List, [], ◌∷◌, ◌++◌, Some, None, is_some, Result, Ok, Err, refl, sym, ap, ◌∙◌, subst, arith, append-nil}
+use Rattle.std.proofs.Common.{◌≡◌, ℕ, ◌+◌, ◌-◌, ◌<◌, ◌≤◌, Bool, true, false, List, [], ◌∷◌, ◌++◌, Some, None, is_some, Result, Ok, Err, refl, sym, ap, ◌∙◌, subst, arith, append-nil}
 use Rattle.std.specs.Result.{IsErrAnd}
 use Rattle.usb_base.specs.declared.side.Side.TheVariants.{Client, Host}
 use Rattle.gate_outside.specs.declared.fault.Failed.{Failed as Fault}
@@ -16,47 +16,47 @@ use Rattle.bridge_run.specs.inner.Keeping.{begun as fresh}
 use Rattle.bridge_run.specs.inner.Logging.{RoundBegins, IsAsking, WroteMore, FailedBehind, HasOpened, OpenFailed, OpenLogs}
 use Rattle.bridge_run.proofs.lemmas.calls.Sink.{told-all}
 
--- whom it dials, its door, and how long it goes on
-abbrev pub with_host : (host door : List ℕ) (idle budget : ℕ) → Terms
-with_host host door idle budget = record { host = Some host; door = door; idle = idle; budget = budget }
+-- whom it dials, its door, whether there is a tape, and how long it goes on
+abbrev pub with_host : (host door : List ℕ) (taped : Bool) (idle budget : ℕ) → Terms
+with_host host door taped idle budget = record { host = Some host; door = door; taped = taped; idle = idle; budget = budget }
 
 abbrev pub no_host : (door : List ℕ) (idle budget : ℕ) → Terms
-no_host door idle budget = record { host = None; door = door; idle = idle; budget = budget }
+no_host door idle budget = record { host = None; door = door; taped = false; idle = idle; budget = budget }
 
-pub nothing-before : {D : Type 0} → (gives : D → Call → D → Type 0) (tells : List ℕ → Type 0) (terms : Terms) (p : Prescribed) (now : D) → tells [] → Logged end.Memory gives tells terms p now now
-nothing-before gives tells terms p now none = record { calls = []; called = refl; settled = tt; written = (refl, none); ended = tt }
+pub nothing-before : {D : Type 0} → (gives : D → Call → D → Type 0) (runs_out : List Event → Event → List ℕ → List ℕ → Type 0) (tells : List ℕ → Type 0) (terms : Terms) (p : Prescribed) (now : D) → tells [] → Logged end.Memory gives runs_out tells terms p now now
+nothing-before gives runs_out tells terms p now none = record { calls = []; called = refl; settled = tt; written = (refl, none); ended = tt }
 
-pub dial-failed : {D : Type 0} → (gives : D → Call → D → Type 0) (p : Prescribed) (host door : List ℕ) (idle budget : ℕ) (failed : Fault) (begun now : D) → gives begun (Dial host (Err failed)) now → OpenFailed Host gives (with_host host door idle budget) p begun now
-dial-failed gives p host door idle budget failed begun now g = record { calls = Dial host (Err failed) ∷ []; called = (begun, (refl, g)); settled = (tt, (refl, refl)); none = refl; written = record { client = ([], refl); host = (_, refl) }; failed = refl }
+pub dial-failed : {D : Type 0} → (gives : D → Call → D → Type 0) (p : Prescribed) (host door : List ℕ) (taped : Bool) (idle budget : ℕ) (failed : Fault) (begun now : D) → gives begun (Dial host (Err failed)) now → OpenFailed Host gives (with_host host door taped idle budget) p begun now
+dial-failed gives p host door taped idle budget failed begun now g = record { calls = Dial host (Err failed) ∷ []; called = (begun, (refl, g)); settled = (tt, (refl, refl)); none = refl; written = record { client = ([], refl); host = (_, refl) }; failed = refl }
 
 -- the host was dialled, and the door is asked for
 abbrev pub asked : (host door : List ℕ) → Result (Unit {0}) Fault → List Call
 asked host door answer = Listen door answer ∷ Dial host (Ok tt) ∷ []
 
-asked-settled : (host door : List ℕ) (idle budget : ℕ) (p : Prescribed) (answer : Result (Unit {0}) Fault) → Settled (with_host host door idle budget) p (asked host door answer)
-asked-settled host door idle budget p answer = ((tt, (refl, refl)), (refl, refl))
+asked-settled : (host door : List ℕ) (taped : Bool) (idle budget : ℕ) (p : Prescribed) (answer : Result (Unit {0}) Fault) → Settled (with_host host door taped idle budget) p (asked host door answer)
+asked-settled host door taped idle budget p answer = ((tt, (refl, refl)), (refl, refl))
 
 pub was-asked : {D : Type 0} → (gives : D → Call → D → Type 0) (host door : List ℕ) (answer : Result (Unit {0}) Fault) (begun mid now : D) → gives begun (Dial host (Ok tt)) mid → gives mid (Listen door answer) now
     → Called gives (asked host door answer) begun now
 was-asked gives host door answer begun mid now g g2 = (mid, ((begun, (refl, g)), g2))
 
-pub listen-failed : {D : Type 0} → (gives : D → Call → D → Type 0) (p : Prescribed) (host door : List ℕ) (idle budget : ℕ) (failed : Fault) (begun mid now : D) → gives begun (Dial host (Ok tt)) mid → gives mid (Listen door (Err failed)) now
-    → OpenFailed Client gives (with_host host door idle budget) p begun now
-listen-failed gives p host door idle budget failed begun mid now g g2 = record {
+pub listen-failed : {D : Type 0} → (gives : D → Call → D → Type 0) (p : Prescribed) (host door : List ℕ) (taped : Bool) (idle budget : ℕ) (failed : Fault) (begun mid now : D) → gives begun (Dial host (Ok tt)) mid → gives mid (Listen door (Err failed)) now
+    → OpenFailed Client gives (with_host host door taped idle budget) p begun now
+listen-failed gives p host door taped idle budget failed begun mid now g g2 = record {
   calls = asked host door (Err failed);
   called = was-asked gives host door (Err failed) begun mid now g g2;
-  settled = asked-settled host door idle budget p (Err failed);
+  settled = asked-settled host door taped idle budget p (Err failed);
   none = refl;
   written = record { client = ([], refl); host = (_, refl) };
   failed = refl;
 }
 
-pub hello-failed : {D : Type 0} → (gives : D → Call → D → Type 0) (p : Prescribed) (host door : List ℕ) (idle budget : ℕ) (up : Bool) (hello : List ℕ) (begun now : D) → hello ≡ p.to_host []
-    → FailedBehind gives Host up hello (asked host door (Ok tt)) begun now → OpenFailed Host gives (with_host host door idle budget) p begun now
-hello-failed gives p host door idle budget up hello begun now is f = record {
+pub hello-failed : {D : Type 0} → (gives : D → Call → D → Type 0) (p : Prescribed) (host door : List ℕ) (taped : Bool) (idle budget : ℕ) (up : Bool) (hello : List ℕ) (begun now : D) → hello ≡ p.to_host []
+    → FailedBehind gives Host up hello (asked host door (Ok tt)) begun now → OpenFailed Host gives (with_host host door taped idle budget) p begun now
+hello-failed gives p host door taped idle budget up hello begun now is f = record {
   calls = f.wrote.behind;
   called = f.wrote.called;
-  settled = f.wrote.settled (with_host host door idle budget) p (asked-settled host door idle budget p (Ok tt));
+  settled = f.wrote.settled (with_host host door taped idle budget) p (asked-settled host door taped idle budget p (Ok tt));
   none = f.wrote.events-are;
   written = record {
     client = ([], sym f.wrote.other-is ∙ sym (append-nil (went Client f.wrote.behind)));
@@ -65,12 +65,12 @@ hello-failed gives p host door idle budget up hello begun now is f = record {
   failed = f.failed;
 }
 
-pub hello-sent : {D : Type 0} → (gives : D → Call → D → Type 0) (p : Prescribed) (host door : List ℕ) (idle budget : ℕ) (hello : List ℕ) (begun now : D) → hello ≡ p.to_host [] → WroteMore gives Host hello (asked host door (Ok tt)) begun now
-    → HasOpened gives (with_host host door idle budget) p begun now
-hello-sent gives p host door idle budget hello begun now is w = record {
+pub hello-sent : {D : Type 0} → (gives : D → Call → D → Type 0) (p : Prescribed) (host door : List ℕ) (taped : Bool) (idle budget : ℕ) (hello : List ℕ) (begun now : D) → hello ≡ p.to_host [] → WroteMore gives Host hello (asked host door (Ok tt)) begun now
+    → HasOpened gives (with_host host door taped idle budget) p begun now
+hello-sent gives p host door taped idle budget hello begun now is w = record {
   calls = w.behind;
   called = w.called;
-  settled = w.settled (with_host host door idle budget) p (asked-settled host door idle budget p (Ok tt));
+  settled = w.settled (with_host host door taped idle budget) p (asked-settled host door taped idle budget p (Ok tt));
   asked = w.asks-are;
   none = w.events-are;
   written = record { client = w.other-is; host = w.side-is ∙ is };
@@ -83,25 +83,28 @@ open-err Q (Ok x) gives terms p begun now is logs = absurd is
 open-err Q (Err x) gives terms p begun now is logs = logs x is
 
 -- it ends at the opening, and no line was told
-pub open-logged : {D : Type 0} → (x : ServeEnd) (gives : D → Call → D → Type 0) (tells : List ℕ → Type 0) (terms : Terms) (p : Prescribed) (begun now : D) → tells [] → OpenLogs {T = Unit {0}} (Err x) gives terms p begun now → Logged x gives tells terms p begun now
-open-logged (end.LinkFault side) gives tells terms p begun now none o = record {
+pub open-logged : {D : Type 0} → (x : ServeEnd) (gives : D → Call → D → Type 0) (runs_out : List Event → Event → List ℕ → List ℕ → Type 0) (tells : List ℕ → Type 0) (terms : Terms) (p : Prescribed) (begun now : D) → tells [] → OpenLogs {T = Unit {0}} (Err x) gives terms p begun now → Logged x gives runs_out tells terms p begun now
+open-logged (end.LinkFault side) gives runs_out tells terms p begun now none o = record {
   calls = o.calls;
   called = o.called;
   settled = o.settled;
   written = subst (λ (es : List Event). WroteInPart tells terms p es o.calls) (sym o.none) (record { links = o.written; told = told-all tells [] none });
   ended = o.failed;
 }
-open-logged (end.Ended refused) gives tells terms p begun now none o = absurd o
-open-logged end.WriteFault gives tells terms p begun now none o = absurd o
-open-logged end.Idle gives tells terms p begun now none o = absurd o
-open-logged end.Spent gives tells terms p begun now none o = absurd o
-open-logged end.Memory gives tells terms p begun now none o = absurd o
+open-logged (end.Ended refused) gives runs_out tells terms p begun now none o = absurd o
+open-logged end.WriteFault gives runs_out tells terms p begun now none o = absurd o
+open-logged end.Idle gives runs_out tells terms p begun now none o = absurd o
+open-logged end.Spent gives runs_out tells terms p begun now none o = absurd o
+open-logged end.Memory gives runs_out tells terms p begun now none o = absurd o
 
 all-left : (budget left : ℕ) → left ≡ budget → left ≡ budget - 0
 all-left budget left is = omega arith
 
 all-waits : (idle waits : ℕ) → waits ≡ idle → waits + 0 ≡ idle + 0
 all-waits idle waits is = omega arith
+
+same-waits : (idle waits : ℕ) → waits ≡ idle → waits ≤ idle
+same-waits idle waits is = omega arith
 
 -- nothing has come
 begun-asking : {D : Type 0} → (gives : D → Call → D → Type 0) (stands : List Event → Type 0) (tells : List ℕ → Type 0) (terms : Terms) (p : Prescribed) (up : Bool) (k : Kept) (begun now : D) (calls : List Call) → Called gives calls begun now → Settled terms p calls → asks_of calls ≡ [] → events_of calls ≡ []
@@ -124,19 +127,20 @@ begun-asking gives stands tells terms p up k begun now calls called settled asks
     };
     goes_on = record { links = ap (is_over terms p) none; left = subst (λ (l : List Ask). taken l < terms.budget) (sym asks) budget };
   };
-  patient = record { idle = ap (λ (q : Kept). q.idle) kept; some = idle; waits = subst (λ (n : ℕ). 0 < n) (sym (ap (λ (q : Kept). q.waits) kept)) idle };
+  patient = record { idle = ap (λ (q : Kept). q.idle) kept; some = idle; waits = subst (λ (n : ℕ). 0 < n) (sym (ap (λ (q : Kept). q.waits) kept)) idle; within = same-waits terms.idle k.waits (ap (λ (q : Kept). q.waits) kept) };
   waited = (ap (λ (q : Kept). q.busy) kept, record { came = λ there. refl; busy = λ b. refl; quiet = λ f. all-waits terms.idle k.waits (ap (λ (q : Kept). q.waits) kept) });
+  turn = λ up. refl;
 }
 
-pub opened-at : {D : Type 0} → (gives : D → Call → D → Type 0) (stands : List Event → Type 0) (tells : List ℕ → Type 0) (host door : List ℕ) (idle budget : ℕ) (p : Prescribed) (k : Kept) (begun now : D) → HasOpened gives (with_host host door idle budget) p begun now → stands [] → tells []
-    → p.refusals [] ≡ [] → 0 < idle → 0 < budget → k ≡ fresh true idle budget → IsAsking RoundBegins gives stands tells (with_host host door idle budget) p k begun now
-opened-at gives stands tells host door idle budget p k begun now o st told refusals some much kept =
-    begun-asking gives stands tells (with_host host door idle budget) p true k begun now o.calls o.called o.settled o.asked o.none o.written st told refusals refl some much kept
+pub opened-at : {D : Type 0} → (gives : D → Call → D → Type 0) (stands : List Event → Type 0) (tells : List ℕ → Type 0) (host door : List ℕ) (taped : Bool) (idle budget : ℕ) (p : Prescribed) (k : Kept) (begun now : D) → HasOpened gives (with_host host door taped idle budget) p begun now → stands [] → tells []
+    → p.refusals [] ≡ [] → 0 < idle → 0 < budget → k ≡ fresh true idle budget → IsAsking RoundBegins gives stands tells (with_host host door taped idle budget) p k begun now
+opened-at gives stands tells host door taped idle budget p k begun now o st told refusals some much kept =
+    begun-asking gives stands tells (with_host host door taped idle budget) p true k begun now o.calls o.called o.settled o.asked o.none o.written st told refusals refl some much kept
 
 -- with no host the door is made, and that is all
-pub door-failed : {D : Type 0} → (gives : D → Call → D → Type 0) (tells : List ℕ → Type 0) (p : Prescribed) (door : List ℕ) (idle budget : ℕ) (failed : Fault) (begun now : D) → gives begun (Listen door (Err failed)) now → tells []
-    → Logged (end.LinkFault Client) gives tells (no_host door idle budget) p begun now
-door-failed gives tells p door idle budget failed begun now g none = record {
+pub door-failed : {D : Type 0} → (gives : D → Call → D → Type 0) (runs_out : List Event → Event → List ℕ → List ℕ → Type 0) (tells : List ℕ → Type 0) (p : Prescribed) (door : List ℕ) (idle budget : ℕ) (failed : Fault) (begun now : D) → gives begun (Listen door (Err failed)) now → tells []
+    → Logged (end.LinkFault Client) gives runs_out tells (no_host door idle budget) p begun now
+door-failed gives runs_out tells p door idle budget failed begun now g none = record {
   calls = Listen door (Err failed) ∷ [];
   called = (begun, (refl, g));
   settled = (tt, (refl, refl));

@@ -15,91 +15,14 @@ use Rattle.bridge_run.specs.declared.serve_end.ServeEnd.TheVariants as end
 use Rattle.bridge_run.specs.Prescribed.{Prescribed}
 use Rattle.bridge_run.specs.Calls.{piece, end_of}
 use Rattle.bridge_run.specs.Ups.{client_at, client_behind, host_at, host_since}
-use Rattle.bridge_run.specs.Asks.{Ask, ForClient, OfSide, asks_of, taken, quiet_rounds}
-use Rattle.bridge_run.specs.Log.{Terms, events_of, IsWritten, MayBegin, MayAsk, Logged}
-use Rattle.bridge_run.specs.inner.Keeping.{up_of, with_up, chances_of, Wears, RestsBusy, Rests, one_if}
-use Rattle.bridge_run.specs.inner.Logging.{IsTaking, IsOn, HappenLogs, IsResting, RoundBegins, DoorAsked, ClientAsked, IsPatient, HasWaited, Waits, stage_of, IsAsking, Logs}
+use Rattle.bridge_run.specs.Asks.{Ask, ForClient, OfSide, asks_of, taken, has_just_come, quiet_rounds, is_behind_host, is_behind_client}
+use Rattle.bridge_run.specs.Log.{Terms, events_of, IsWritten, MayBegin, MayAsk, BeginsRound, IsTurnOf, Logged}
+use Rattle.bridge_run.specs.inner.Keeping.{up_of, with_up, chances_of, Wears, one_if}
+use Rattle.bridge_run.specs.inner.Logging.{IsTaking, HappenLogs, IsResting, RoundBegins, DoorAsked, IsPatient, HasWaited, Waits, DoorTurn, HasTurn, stage_of, stage_behind, IsAsking, Logs}
 use Rattle.bridge_run.proofs.lemmas.calls.Log.{failed-logs}
+use Rattle.bridge_run.proofs.lemmas.calls.Resting.{begins-of}
 
--- ---- the end of a round
-
--- what was kept of the links is the same
-at-kept : {D : Type 0} → (gives : D → Call → D → Type 0) (stands : List Event → Type 0) (tells : List ℕ → Type 0) (terms : Terms) (p : Prescribed) (asks : List Ask) (k k' : Kept) (begun now : D) → k'.left ≡ k.left → k'.client_up ≡ k.client_up → k'.host_up ≡ k.host_up → k'.refused ≡ k.refused
-    → IsOn gives stands tells terms p asks k begun now → IsOn gives stands tells terms p asks k' begun now
-at-kept gives stands tells terms p asks k k' begun now left client host refused a = record {
-  at = record {
-    calls = a.at.calls;
-    called = a.at.called;
-    settled = a.at.settled;
-    asks-are = a.at.asks-are;
-    stands_for = a.at.stands_for;
-    written = a.at.written;
-    told = a.at.told;
-    left = left ∙ a.at.left;
-    client_up = client ∙ a.at.client_up;
-    host_up = host ∙ a.at.host_up;
-    refused = refused ∙ a.at.refused;
-  };
-  goes_on = a.goes_on;
-}
-
-more-waits : (w q i w' : ℕ) → w + q ≡ i + 1 → w' ≡ w - 1 → 0 < w → w' + q ≡ i + 0
-more-waits w q i w' is less some = omega arith
-
-fresh-waits : (w q i : ℕ) → w ≡ i → q ≡ 0 → w + q ≡ i + 0
-fresh-waits w q i is none = omega arith
-
-rested-busy : {D : Type 0} → (busy : Bool) (gives : D → Call → D → Type 0) (stands : List Event → Type 0) (tells : List ℕ → Type 0) (terms : Terms) (p : Prescribed) (k k' : Kept) (begun now : D) → k.busy ≡ busy → RestsBusy busy k k'
-    → IsAsking ClientAsked gives stands tells terms p k begun now → IsAsking RoundBegins gives stands tells terms p k' begun now
-rested-busy true gives stands tells terms p k k' begun now is r a =
-    let waits : k'.waits ≡ terms.idle = ap (λ (q : Kept). q.waits) r ∙ a.patient.idle in
-    record {
-      asks = a.asks;
-      on = at-kept gives stands tells terms p a.asks k k' begun now (ap (λ (q : Kept). q.left) r) (ap (λ (q : Kept). q.client_up) r) (ap (λ (q : Kept). q.host_up) r) (ap (λ (q : Kept). q.refused) r) a.on;
-      patient = record { idle = ap (λ (q : Kept). q.idle) r ∙ a.patient.idle; some = a.patient.some; waits = subst (λ (n : ℕ). 0 < n) (sym waits) a.patient.some };
-      waited = (
-        ap (λ (q : Kept). q.busy) r,
-        record {
-          came = λ up. a.waited.came (sym (ap (λ (q : Kept). q.client_up) r) ∙ up);
-          busy = λ b. absurd (false≢true (sym (ap (λ (q : Kept). q.busy) r) ∙ b));
-          quiet = λ f. fresh-waits k'.waits (quiet_rounds a.asks) terms.idle waits (a.waited.busy is);
-        },
-      );
-    }
-rested-busy false gives stands tells terms p k k' begun now is r a =
-    let quiet = ap (λ (q : Kept). q.busy) r.0 ∙ is in
-    record {
-      asks = a.asks;
-      on = at-kept gives stands tells terms p a.asks k k' begun now (ap (λ (q : Kept). q.left) r.0) (ap (λ (q : Kept). q.client_up) r.0) (ap (λ (q : Kept). q.host_up) r.0) (ap (λ (q : Kept). q.refused) r.0) a.on;
-      patient = record { idle = ap (λ (q : Kept). q.idle) r.0 ∙ a.patient.idle; some = a.patient.some; waits = r.1 };
-      waited = (
-        quiet,
-        record {
-          came = λ up. a.waited.came (sym (ap (λ (q : Kept). q.client_up) r.0) ∙ up);
-          busy = λ b. absurd (false≢true (sym quiet ∙ b));
-          quiet = λ f. more-waits k.waits (quiet_rounds a.asks) terms.idle k'.waits (a.waited.quiet is) (ap (λ (q : Kept). q.waits) r.0) a.patient.waits;
-        },
-      );
-    }
-
-last-wait : (w q i w' : ℕ) → w + q ≡ i + 1 → w' ≡ w - 1 → w' ≡ 0 → 0 < w → q ≡ i
-last-wait w q i w' is less none some = omega arith
-
-pub rested-logs : {D : Type 0} → (result : Result (Unit {0}) ServeEnd) (gives : D → Call → D → Type 0) (stands : List Event → Type 0) (tells : List ℕ → Type 0) (terms : Terms) (p : Prescribed) (k k' : Kept) (begun now : D) → Rests result k k'
-    → IsAsking ClientAsked gives stands tells terms p k begun now → Logs result RoundBegins gives stands tells terms p k' begun now
-rested-logs (Ok x) gives stands tells terms p k k' begun now r a = rested-busy k.busy gives stands tells terms p k k' begun now refl r a
-rested-logs (Err end.Idle) gives stands tells terms p k k' begun now r a = record {
-  calls = a.on.at.calls;
-  called = a.on.at.called;
-  settled = a.on.at.settled;
-  written = record { links = a.on.at.written; told = a.on.at.told };
-  ended = (a.on.goes_on, ap quiet_rounds a.on.at.asks-are ∙ last-wait k.waits (quiet_rounds a.asks) terms.idle k'.waits (a.waited.quiet r.0) (ap (λ (q : Kept). q.waits) r.1) r.2 a.patient.waits);
-}
-rested-logs (Err (end.Ended refused)) gives stands tells terms p k k' begun now r a = absurd r
-rested-logs (Err end.Spent) gives stands tells terms p k k' begun now r a = absurd r
-rested-logs (Err (end.LinkFault side)) gives stands tells terms p k k' begun now r a = absurd r
-rested-logs (Err end.WriteFault) gives stands tells terms p k k' begun now r a = absurd r
-rested-logs (Err end.Memory) gives stands tells terms p k k' begun now r a = absurd r
+-- ---- whom a round asks
 
 -- where it is asked for a client fewer rounds than may have brought nothing
 door-begins : (terms : Terms) (k : Kept) (asks : List Ask) → IsPatient terms k → Waits RoundBegins terms k asks → quiet_rounds asks < terms.idle
@@ -126,14 +49,23 @@ may-begin : (side : Side) (terms : Terms) (k : Kept) (asks : List Ask) (calls : 
 may-begin Client terms k asks calls is patient w up = subst (λ (l : List Ask). quiet_rounds l < terms.idle) (sym is) (client-begins terms k asks patient w up)
 may-begin Host terms k asks calls is patient w up = tt
 
+-- it is the side's turn
+turn-of : (side : Side) (terms : Terms) (p : Prescribed) (k : Kept) (asks : List Ask) (calls : List Call) → k.host_up ≡ host_since (is_some terms.host) p (events_of calls) → asks_of calls ≡ asks → HasTurn (stage_of side) k asks → up_of side k ≡ true → IsTurnOf side terms p calls
+turn-of Client terms p k asks calls host is turn up = go (subst (λ (b : Bool). DoorTurn b k asks) up turn)
+  where
+    go : (has_just_come asks ≡ true) ⊎ (k.host_up ≡ true → is_behind_host asks ≡ true) → IsTurnOf Client terms p calls
+    go (inl came) = inl (ap has_just_come is ∙ came)
+    go (inr behind) = inr (begins-of terms p k asks calls host is behind)
+turn-of Host terms p k asks calls host is turn up = ap is_behind_client is ∙ turn
+
 -- a side is polled
 pub may-poll : {D : Type 0} → (side : Side) (gives : D → Call → D → Type 0) (stands : List Event → Type 0) (tells : List ℕ → Type 0) (terms : Terms) (p : Prescribed) (k : Kept) (begun now : D) → up_of side k ≡ true
-    → (a : IsAsking (stage_of side) gives stands tells terms p k begun now) → MayAsk side terms p a.on.at.calls
-may-poll side gives stands tells terms p k begun now up a = record { written = a.on.at.written; goes_on = a.on.goes_on; round = may-begin side terms k a.asks a.on.at.calls a.on.at.asks-are a.patient a.waited up }
+    → (a : IsAsking (stage_of side) gives stands tells terms p k begun now) → MayAsk side terms p a.on.at.calls × IsTurnOf side terms p a.on.at.calls
+may-poll side gives stands tells terms p k begun now up a = (record { written = a.on.at.written; goes_on = a.on.goes_on; round = may-begin side terms k a.asks a.on.at.calls a.on.at.asks-are a.patient a.waited up }, turn-of side terms p k a.asks a.on.at.calls a.on.at.host_up a.on.at.asks-are a.turn up)
 
-pub may-accept : {D : Type 0} → (gives : D → Call → D → Type 0) (stands : List Event → Type 0) (tells : List ℕ → Type 0) (terms : Terms) (p : Prescribed) (k : Kept) (begun now : D) → (a : IsAsking RoundBegins gives stands tells terms p k begun now) → MayAsk Client terms p a.on.at.calls
+pub may-accept : {D : Type 0} → (gives : D → Call → D → Type 0) (stands : List Event → Type 0) (tells : List ℕ → Type 0) (terms : Terms) (p : Prescribed) (k : Kept) (begun now : D) → (a : IsAsking RoundBegins gives stands tells terms p k begun now) → MayAsk Client terms p a.on.at.calls × BeginsRound terms p a.on.at.calls
 may-accept gives stands tells terms p k begun now a =
-    record { written = a.on.at.written; goes_on = a.on.goes_on; round = subst (λ (l : List Ask). quiet_rounds l < terms.idle) (sym a.on.at.asks-are) (door-begins terms k a.asks a.patient a.waited) }
+    (record { written = a.on.at.written; goes_on = a.on.goes_on; round = subst (λ (l : List Ask). quiet_rounds l < terms.idle) (sym a.on.at.asks-are) (door-begins terms k a.asks a.patient a.waited) }, begins-of terms p k a.asks a.on.at.calls a.on.at.host_up a.on.at.asks-are a.turn)
 
 -- ---- what the doors answered
 
@@ -167,6 +99,7 @@ took-taking gives stands tells terms p side n buf k k' begun d0 d1 a up g kept =
   asks-are = ap (λ (l : List Ask). OfSide side (Took n) ∷ l) a.on.at.asks-are;
   events = events_of a.on.at.calls;
   events-are = refl;
+  just_came = tt;
   stands_for = a.on.at.stands_for;
   written = quiet-written terms p (events_of a.on.at.calls) a.on.at.calls (Poll side (Took n) buf) refl refl a.on.at.written;
   told = a.on.at.told;
@@ -188,6 +121,7 @@ rest-resting gives stands tells terms p Client buf k begun d0 d1 a up g = record
   asks-are = ap (λ (l : List Ask). OfSide Client NotYet ∷ l) a.on.at.asks-are;
   events = events_of a.on.at.calls;
   events-are = refl;
+  just_came = tt;
   stands_for = a.on.at.stands_for;
   written = quiet-written terms p (events_of a.on.at.calls) a.on.at.calls (Poll Client NotYet buf) refl refl a.on.at.written;
   told = a.on.at.told;
@@ -222,6 +156,7 @@ end-taking gives stands tells terms p Client buf k k' begun d0 d1 a up g kept = 
   asks-are = ap (λ (l : List Ask). OfSide Client Ended ∷ l) a.on.at.asks-are;
   events = events_of a.on.at.calls;
   events-are = refl;
+  just_came = tt;
   stands_for = a.on.at.stands_for;
   written = quiet-written terms p (events_of a.on.at.calls) a.on.at.calls (Poll Client Ended buf) refl refl a.on.at.written;
   told = a.on.at.told;
@@ -237,6 +172,7 @@ end-taking gives stands tells terms p Host buf k k' begun d0 d1 a up g kept = re
   asks-are = ap (λ (l : List Ask). OfSide Host Ended ∷ l) a.on.at.asks-are;
   events = events_of a.on.at.calls;
   events-are = refl;
+  just_came = tt;
   stands_for = a.on.at.stands_for;
   written = quiet-written terms p (events_of a.on.at.calls) a.on.at.calls (Poll Host Ended buf) refl refl a.on.at.written;
   told = a.on.at.told;
@@ -246,10 +182,10 @@ end-taking gives stands tells terms p Host buf k k' begun d0 d1 a up g kept = re
   refused = ap (λ (q : Kept). q.refused) kept ∙ a.on.at.refused;
 }
 
-pub poll-failed : {D : Type 0} → (gives : D → Call → D → Type 0) (stands : List Event → Type 0) (tells : List ℕ → Type 0) (terms : Terms) (p : Prescribed) (side : Side) (buf : List ℕ) (k : Kept) (begun d0 d1 : D) → IsAsking (stage_of side) gives stands tells terms p k begun d0
-    → up_of side k ≡ true → gives d0 (Poll side Failed buf) d1 → Logged (end.LinkFault side) gives tells terms p begun d1
-poll-failed gives stands tells terms p side buf k begun d0 d1 a up g =
-    failed-logs gives stands tells terms p a.asks side (Poll side Failed buf) k begun d0 d1 a.on.at (d0, (a.on.at.called, g)) (a.on.at.settled, may-poll side gives stands tells terms p k begun d0 up a) refl
+pub poll-failed : {D : Type 0} → (gives : D → Call → D → Type 0) (stands : List Event → Type 0) (runs_out : List Event → Event → List ℕ → List ℕ → Type 0) (tells : List ℕ → Type 0) (terms : Terms) (p : Prescribed) (side : Side) (buf : List ℕ) (k : Kept) (begun d0 d1 : D) → IsAsking (stage_of side) gives stands tells terms p k begun d0
+    → up_of side k ≡ true → gives d0 (Poll side Failed buf) d1 → Logged (end.LinkFault side) gives runs_out tells terms p begun d1
+poll-failed gives stands runs_out tells terms p side buf k begun d0 d1 a up g =
+    failed-logs gives stands runs_out tells terms p a.asks side (Poll side Failed buf) k begun d0 d1 a.on.at (d0, (a.on.at.called, g)) (a.on.at.settled, may-poll side gives stands tells terms p k begun d0 up a) refl
     (quiet-written terms p (events_of a.on.at.calls) a.on.at.calls (Poll side Failed buf) refl refl a.on.at.written) refl
 
 pub came-taking : {D : Type 0} → (gives : D → Call → D → Type 0) (stands : List Event → Type 0) (tells : List ℕ → Type 0) (terms : Terms) (p : Prescribed) (k k' : Kept) (begun d0 d1 : D) → (a : IsAsking RoundBegins gives stands tells terms p k begun d0) → gives d0 (Accept (Ok true)) d1
@@ -261,6 +197,7 @@ came-taking gives stands tells terms p k k' begun d0 d1 a g kept = record {
   asks-are = ap (λ (l : List Ask). ForClient (Ok true) ∷ l) a.on.at.asks-are;
   events = events_of a.on.at.calls;
   events-are = refl;
+  just_came = tt;
   stands_for = a.on.at.stands_for;
   written = quiet-written terms p (events_of a.on.at.calls) a.on.at.calls (Accept (Ok true)) refl refl a.on.at.written;
   told = a.on.at.told;
@@ -299,12 +236,13 @@ nobody-at gives stands tells terms p k begun d0 d1 a down g = record {
     busy = λ b. absurd (false≢true (sym a.waited.0 ∙ b));
     quiet = λ f. asked-more k.waits (quiet_rounds a.asks) terms.idle (one_if (not k.client_up)) (a.waited.1.quiet f) (ap (λ (u : Bool). one_if (not u)) down);
   };
+  turn = subst (λ (b : Bool). DoorTurn b k (ForClient (Ok false) ∷ a.asks)) (sym down) refl;
 }
 
-pub accept-failed : {D : Type 0} → (gives : D → Call → D → Type 0) (stands : List Event → Type 0) (tells : List ℕ → Type 0) (terms : Terms) (p : Prescribed) (failed : Fault) (k : Kept) (begun d0 d1 : D) → IsAsking RoundBegins gives stands tells terms p k begun d0
-    → gives d0 (Accept (Err failed)) d1 → Logged (end.LinkFault Client) gives tells terms p begun d1
-accept-failed gives stands tells terms p failed k begun d0 d1 a g =
-    failed-logs gives stands tells terms p a.asks Client (Accept (Err failed)) k begun d0 d1 a.on.at (d0, (a.on.at.called, g)) (a.on.at.settled, may-accept gives stands tells terms p k begun d0 a) refl
+pub accept-failed : {D : Type 0} → (gives : D → Call → D → Type 0) (stands : List Event → Type 0) (runs_out : List Event → Event → List ℕ → List ℕ → Type 0) (tells : List ℕ → Type 0) (terms : Terms) (p : Prescribed) (failed : Fault) (k : Kept) (begun d0 d1 : D) → IsAsking RoundBegins gives stands tells terms p k begun d0
+    → gives d0 (Accept (Err failed)) d1 → Logged (end.LinkFault Client) gives runs_out tells terms p begun d1
+accept-failed gives stands runs_out tells terms p failed k begun d0 d1 a g =
+    failed-logs gives stands runs_out tells terms p a.asks Client (Accept (Err failed)) k begun d0 d1 a.on.at (d0, (a.on.at.called, g)) (a.on.at.settled, may-accept gives stands tells terms p k begun d0 a) refl
     (quiet-written terms p (events_of a.on.at.calls) a.on.at.calls (Accept (Err failed)) refl refl a.on.at.written) refl
 
 -- ---- behind an answer
@@ -321,11 +259,12 @@ there-asking gives stands tells terms p k begun now there a = record {
     busy = λ b. absurd (false≢true (sym a.waited.0 ∙ b));
     quiet = λ f. a.waited.1.quiet f ∙ sym (ap (λ (u : Bool). terms.idle + one_if (not u)) there);
   };
+  turn = subst (λ (b : Bool). DoorTurn b k a.asks) (sym there) (inr a.turn);
 }
 
 -- the side isn't there, and isn't polled
 pub gone-asking : {D : Type 0} → (side : Side) (gives : D → Call → D → Type 0) (stands : List Event → Type 0) (tells : List ℕ → Type 0) (terms : Terms) (p : Prescribed) (k : Kept) (begun now : D) → up_of side k ≡ false → IsAsking (stage_of side) gives stands tells terms p k begun now
-    → IsAsking ClientAsked gives stands tells terms p k begun now
+    → IsAsking (stage_behind side) gives stands tells terms p k begun now
 gone-asking Client gives stands tells terms p k begun now down a = record {
   asks = a.asks;
   on = a.on;
@@ -335,8 +274,9 @@ gone-asking Client gives stands tells terms p k begun now down a = record {
     busy = a.waited.busy;
     quiet = λ f. a.waited.quiet f ∙ ap (λ (u : Bool). terms.idle + one_if (not u)) down;
   };
+  turn = subst (λ (b : Bool). DoorTurn b k a.asks) down a.turn;
 }
-gone-asking Host gives stands tells terms p k begun now down a = a
+gone-asking Host gives stands tells terms p k begun now down a = record { asks = a.asks; on = a.on; patient = a.patient; waited = a.waited; turn = λ up. absurd (false≢true (sym down ∙ up)) }
 
 -- a side's end leaves how long it waits
 pub down-idle : (side : Side) (k k' : Kept) → k' ≡ record (with_up side k) { busy = true } → k'.idle ≡ k.idle
@@ -355,31 +295,45 @@ still-busy k k' is w = go w.fewer
     go (inr x) = x.0 ∙ is
 
 worn-patient : (terms : Terms) (k k1 k2 : Kept) → IsPatient terms k → k1.idle ≡ k.idle → k1.waits ≡ k.waits → Wears k1 k2 → IsPatient terms k2
-worn-patient terms k k1 k2 patient idle waits w = record { idle = w.idle ∙ idle ∙ patient.idle; some = patient.some; waits = subst (λ (n : ℕ). 0 < n) (sym (w.waits ∙ waits)) patient.waits }
+worn-patient terms k k1 k2 patient idle waits w = record { idle = w.idle ∙ idle ∙ patient.idle; some = patient.some; waits = subst (λ (n : ℕ). 0 < n) (sym (w.waits ∙ waits)) patient.waits; within = subst (λ (n : ℕ). n ≤ terms.idle) (sym (w.waits ∙ waits)) patient.within }
+
+waits-behind : (side : Side) (terms : Terms) (k : Kept) (asks : List Ask) → HasWaited true false terms k asks → Waits (stage_behind side) terms k asks
+waits-behind Client terms k asks w = w
+waits-behind Host terms k asks w = w
+
+asked-turn : (side : Side) (polled : Polled) (k : Kept) (asks : List Ask) → HasTurn (stage_behind side) k (OfSide side polled ∷ asks)
+asked-turn Client polled k asks = refl
+asked-turn Host polled k asks = λ up. refl
+
+came-turn : (b : Bool) (k : Kept) (asks : List Ask) → DoorTurn b k (ForClient (Ok true) ∷ asks)
+came-turn true k asks = inl refl
+came-turn false k asks = refl
 
 -- something has come of a side
-pub came-logs : {D : Type 0} → (result : Result (Unit {0}) ServeEnd) (gives : D → Call → D → Type 0) (stands : List Event → Type 0) (tells : List ℕ → Type 0) (terms : Terms) (p : Prescribed) (side : Side) (polled : Polled) (asks : List Ask) (k k1 k2 : Kept) (begun now : D)
-    → HappenLogs result gives stands tells terms p (OfSide side polled ∷ asks) k2 begun now → quiet_rounds (OfSide side polled ∷ asks) ≡ 0 → IsPatient terms k → k1.busy ≡ true → k1.idle ≡ k.idle → k1.waits ≡ k.waits → Wears k1 k2
-    → Logs result ClientAsked gives stands tells terms p k2 begun now
-came-logs (Ok x) gives stands tells terms p side polled asks k k1 k2 begun now h none patient busy idle waits w = record {
+pub came-logs : {D : Type 0} → (result : Result (Unit {0}) ServeEnd) (gives : D → Call → D → Type 0) (stands : List Event → Type 0) (runs_out : List Event → Event → List ℕ → List ℕ → Type 0) (tells : List ℕ → Type 0) (terms : Terms) (p : Prescribed) (side : Side) (polled : Polled) (asks : List Ask) (k k1 k2 : Kept) (begun now : D)
+    → HappenLogs result gives stands runs_out tells terms p (OfSide side polled ∷ asks) k2 begun now → quiet_rounds (OfSide side polled ∷ asks) ≡ 0 → IsPatient terms k → k1.busy ≡ true → k1.idle ≡ k.idle → k1.waits ≡ k.waits → Wears k1 k2
+    → Logs result (stage_behind side) gives stands runs_out tells terms p k2 begun now
+came-logs (Ok x) gives stands runs_out tells terms p side polled asks k k1 k2 begun now h none patient busy idle waits w = record {
   asks = OfSide side polled ∷ asks;
   on = h;
   patient = worn-patient terms k k1 k2 patient idle waits w;
-  waited = record { came = λ up. refl; busy = λ b. none; quiet = λ f. absurd (false≢true (sym f ∙ still-busy k1 k2 busy w)) };
+  waited = waits-behind side terms k2 (OfSide side polled ∷ asks) (record { came = λ up. refl; busy = λ b. none; quiet = λ f. absurd (false≢true (sym f ∙ still-busy k1 k2 busy w)) });
+  turn = asked-turn side polled k2 asks;
 }
-came-logs (Err e) gives stands tells terms p side polled asks k k1 k2 begun now h none patient busy idle waits w = h
+came-logs (Err e) gives stands runs_out tells terms p side polled asks k k1 k2 begun now h none patient busy idle waits w = h
 
 -- a client has come
-pub client-logs : {D : Type 0} → (result : Result (Unit {0}) ServeEnd) (gives : D → Call → D → Type 0) (stands : List Event → Type 0) (tells : List ℕ → Type 0) (terms : Terms) (p : Prescribed) (asks : List Ask) (k k1 k2 : Kept) (begun now : D)
-    → HappenLogs result gives stands tells terms p (ForClient (Ok true) ∷ asks) k2 begun now → IsPatient terms k → k1.busy ≡ true → k1.idle ≡ k.idle → k1.waits ≡ k.waits → Wears k1 k2
-    → Logs result DoorAsked gives stands tells terms p k2 begun now
-client-logs (Ok x) gives stands tells terms p asks k k1 k2 begun now h patient busy idle waits w = record {
+pub client-logs : {D : Type 0} → (result : Result (Unit {0}) ServeEnd) (gives : D → Call → D → Type 0) (stands : List Event → Type 0) (runs_out : List Event → Event → List ℕ → List ℕ → Type 0) (tells : List ℕ → Type 0) (terms : Terms) (p : Prescribed) (asks : List Ask) (k k1 k2 : Kept) (begun now : D)
+    → HappenLogs result gives stands runs_out tells terms p (ForClient (Ok true) ∷ asks) k2 begun now → IsPatient terms k → k1.busy ≡ true → k1.idle ≡ k.idle → k1.waits ≡ k.waits → Wears k1 k2
+    → Logs result DoorAsked gives stands runs_out tells terms p k2 begun now
+client-logs (Ok x) gives stands runs_out tells terms p asks k k1 k2 begun now h patient busy idle waits w = record {
   asks = ForClient (Ok true) ∷ asks;
   on = h;
   patient = worn-patient terms k k1 k2 patient idle waits w;
   waited = record { came = λ up. sym (still-busy k1 k2 busy w); busy = λ b. refl; quiet = λ f. absurd (false≢true (sym f ∙ still-busy k1 k2 busy w)) };
+  turn = came-turn k2.client_up k2 asks;
 }
-client-logs (Err e) gives stands tells terms p asks k k1 k2 begun now h patient busy idle waits w = h
+client-logs (Err e) gives stands runs_out tells terms p asks k k1 k2 begun now h patient busy idle waits w = h
 
 -- a side had nothing
 quiet-waited : (side : Side) (terms : Terms) (k : Kept) (asks : List Ask) → Waits (stage_of side) terms k asks → up_of side k ≡ true → HasWaited true false terms k (OfSide side NotYet ∷ asks)
@@ -391,13 +345,14 @@ quiet-waited Client terms k asks w up = record {
 }
 quiet-waited Host terms k asks w up = record { came = λ there. refl; busy = w.busy; quiet = w.quiet }
 
-pub quiet-logs : {D : Type 0} → (result : Result (Unit {0}) ServeEnd) (gives : D → Call → D → Type 0) (stands : List Event → Type 0) (tells : List ℕ → Type 0) (terms : Terms) (p : Prescribed) (side : Side) (asks : List Ask) (k k1 : Kept) (begun now : D)
-    → HappenLogs result gives stands tells terms p (OfSide side NotYet ∷ asks) k1 begun now → IsPatient terms k → Waits (stage_of side) terms k asks → up_of side k ≡ true → OnOk result (k1 ≡ k)
-    → Logs result ClientAsked gives stands tells terms p k1 begun now
-quiet-logs (Ok x) gives stands tells terms p side asks k k1 begun now h patient w up same = record {
+pub quiet-logs : {D : Type 0} → (result : Result (Unit {0}) ServeEnd) (gives : D → Call → D → Type 0) (stands : List Event → Type 0) (runs_out : List Event → Event → List ℕ → List ℕ → Type 0) (tells : List ℕ → Type 0) (terms : Terms) (p : Prescribed) (side : Side) (asks : List Ask) (k k1 : Kept) (begun now : D)
+    → HappenLogs result gives stands runs_out tells terms p (OfSide side NotYet ∷ asks) k1 begun now → IsPatient terms k → Waits (stage_of side) terms k asks → up_of side k ≡ true → OnOk result (k1 ≡ k)
+    → Logs result (stage_behind side) gives stands runs_out tells terms p k1 begun now
+quiet-logs (Ok x) gives stands runs_out tells terms p side asks k k1 begun now h patient w up same = record {
   asks = OfSide side NotYet ∷ asks;
   on = h;
   patient = subst (λ (q : Kept). IsPatient terms q) (sym same) patient;
-  waited = subst (λ (q : Kept). HasWaited true false terms q (OfSide side NotYet ∷ asks)) (sym same) (quiet-waited side terms k asks w up);
+  waited = waits-behind side terms k1 (OfSide side NotYet ∷ asks) (subst (λ (q : Kept). HasWaited true false terms q (OfSide side NotYet ∷ asks)) (sym same) (quiet-waited side terms k asks w up));
+  turn = asked-turn side NotYet k1 asks;
 }
-quiet-logs (Err e) gives stands tells terms p side asks k k1 begun now h patient w up same = h
+quiet-logs (Err e) gives stands runs_out tells terms p side asks k k1 begun now h patient w up same = h

@@ -72,7 +72,7 @@ same-earlier terms p [] s = refl
 same-earlier terms p (Dial addr answer ∷ calls) s = same-earlier terms p calls s.0
 same-earlier terms p (Listen addr answer ∷ calls) s = same-earlier terms p calls s.0
 same-earlier terms p (Accept (Ok true) ∷ calls) s =
-    ap (λ (x : Shares). x.latest ∷ x.earlier) (written-shares terms p (events_of calls) calls (same-earlier terms p calls s.0) s.1.written)
+    ap (λ (x : Shares). x.latest ∷ x.earlier) (written-shares terms p (events_of calls) calls (same-earlier terms p calls s.0) s.1.0.written)
 same-earlier terms p (Accept (Ok false) ∷ calls) s = same-earlier terms p calls s.0
 same-earlier terms p (Accept (Err e) ∷ calls) s = same-earlier terms p calls s.0
 same-earlier terms p (Poll side (Took n) buf ∷ calls) s = same-earlier terms p calls s.0 ∙ piece-earlier side p (take n buf) (events_of calls)

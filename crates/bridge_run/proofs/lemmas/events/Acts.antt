@@ -72,13 +72,17 @@ pub on-ok : {T E : Type 0} (r : Result T E) (P Q : Type 0) → (P → Q) → OnO
 on-ok (Ok x) P Q f p = f p
 on-ok (Err e) P Q f p = tt
 
+pub on-both : {T E : Type 0} (r : Result T E) (P Q R : Type 0) → (P → Q → R) → OnOk r P → OnOk r Q → OnOk r R
+on-both (Ok x) P Q R f p q = f p q
+on-both (Err e) P Q R f p q = tt
+
 -- ---- events
 
 pub gained-is : {X : Type 0} (before more behind : List X) → behind ≡ before ++ more → drop (length before) behind ≡ more
 gained-is before more behind is = ap (drop (length before)) is ∙ drop-append_seam before more
 
 -- what goes to the guest, whether it had come or comes now
-handed-is : (came comes : Bool) (before given behind waiting later : List ℕ) → behind ≡ before ++ given → waiting ≡ cond came [] before → later ≡ waiting ++ given
+pub handed-is : (came comes : Bool) (before given behind waiting later : List ℕ) → behind ≡ before ++ given → waiting ≡ cond came [] before → later ≡ waiting ++ given
     → cond (comes || came) later [] ≡ drop (length (cond came before [])) (cond (comes || came) behind [])
 handed-is true true before given behind waiting later is w l = l ∙ ap (λ (b : List ℕ). b ++ given) w ∙ sym (gained-is before given behind is)
 handed-is true false before given behind waiting later is w l = l ∙ ap (λ (b : List ℕ). b ++ given) w ∙ sym (gained-is before given behind is)

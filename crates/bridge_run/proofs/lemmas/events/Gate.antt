@@ -17,7 +17,7 @@ use Rattle.bridge_run.specs.inner.Sends.{Sends}
 use Rattle.bridge_run.proofs.lemmas.events.Acts.{gained-is}
 
 -- of an output that has gained as much
-gained-of : (all : List Event → List ℕ) (past : List Event) (e : Event) (old new after : List ℕ) → all (e ∷ past) ≡ after → Gains old new (all past) after → new ≡ old ++ gained all past e
+pub gained-of : (all : List Event → List ℕ) (past : List Event) (e : Event) (old new after : List ℕ) → all (e ∷ past) ≡ after → Gains old new (all past) after → new ≡ old ++ gained all past e
 gained-of all past e old new after is g = g.new-is ∙ ap (λ (l : List ℕ). old ++ l) (sym (gained-is (all past) g.more (all (e ∷ past)) (is ∙ g.after-is)))
 
 pub gate-sends : (setting was : AfterLoss) (first : ℕ) (past : List Event) (e : Event) (ge : GateEvent) (kept : GateKept) (old : Sent) (client host : List ℕ) (refusals : List Refusal) (gone : Bool) (notes : List Note)

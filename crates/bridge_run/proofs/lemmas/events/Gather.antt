@@ -1,5 +1,5 @@
 -- What waits to be written to the tape: little, and nothing at each end that is no fault.
-use Rattle.std.proofs.Common.{◌≡◌, ℕ, zero, suc, ◌-◌, ◌==◌, ◌<◌, ltb, ◌&&◌, ◌||◌, not, Bool, true, false, cond, List, [], ◌∷◌, length, Option, Some, None, IfSome, ◌⊎◌, refl, sym, ap, ◌∙◌, subst, inl, inr, lit<}
+use Rattle.std.proofs.Common.{◌≡◌, ℕ, zero, suc, ◌-◌, ◌==◌, ◌<◌, ltb, ◌&&◌, ◌||◌, not, Bool, true, false, cond, List, [], ◌∷◌, length, Option, Some, None, IfSome, refl, sym, ap, ◌∙◌, subst, inl, inr, lit<}
 use Rattle.std.proofs.lemmas.Bool.{false≢true, cond_both, ltb-true}
 use Rattle.usb_base.specs.declared.side.Side.{Side}
 use Rattle.usb_base.specs.declared.side.Side.TheVariants.{Client, Host}
@@ -15,7 +15,7 @@ use Rattle.bridge_run.specs.Prescribed.{Prescribed, gained, refuses, drops, firs
 use Rattle.bridge_run.specs.Recorded.{has_any, sends_any, is_last, piece, is_full, waiting_if}
 use Rattle.bridge_run.specs.Course.{Setting, Course, Next, Making, AtDoor, AtClient, AtHost, AtEnd, Takes}
 use Rattle.bridge_run.specs.Calls.{Outcome, Goes, Stops, course_of, room, sends_now, is_due, lines_with, put, settle, ends_next, take_event, come, turned, heard, poll, gathered, rest, call, and_then, calls}
-use Rattle.bridge_run.specs.Outside.{Outside, gathering, written, IsRecordedInPart}
+use Rattle.bridge_run.specs.Outside.{Outside, gathering, written, HasLines}
 use Rattle.bridge_run.specs.Serves.{Reaches, NoneWaits, EndsSo, CutShort, Leaves}
 
 -- ---- an event behind which it ends
@@ -214,14 +214,15 @@ ends-so s next c e w told tape waiting none x = record {
   };
 }
 
-part-of : (w : Outside) (told tape known : Option (List ℕ)) (waiting : List ℕ) (c d : Course) → IfSome known (λ held. (held ≡ d.recorded) ⊎ IsRecordedInPart w (gathering told tape waiting) c d held)
-    → IfSome known (λ held. (held ≡ d.recorded) ⊎ IsRecordedInPart w (written told tape) c d held)
+part-of : (w : Outside) (told tape known : Option (List ℕ)) (waiting : List ℕ) (c d : Course) → IfSome known (λ held. HasLines w (gathering told tape waiting) c d held)
+    → IfSome known (λ held. HasLines w (written told tape) c d held)
 part-of w told tape None waiting c d is = tt
 part-of w told tape (Some held) waiting c d is = go is
   where
-    go : (held ≡ d.recorded) ⊎ IsRecordedInPart w (gathering told tape waiting) c d held → (held ≡ d.recorded) ⊎ IsRecordedInPart w (written told tape) c d held
+    go : HasLines w (gathering told tape waiting) c d held → HasLines w (written told tape) c d held
     go (inl all) = inl all
-    go (inr part) = inr (record { more = part.more; lost = part.lost; held-is = part.held-is; all-is = part.all-is; to_client = part.to_client; to_host = part.to_host; told = part.told })
+    go (inr (inr untold)) = inr (inr untold)
+    go (inr (inl part)) = inr (inl (record { more = part.more; lost = part.lost; held-is = part.held-is; all-is = part.all-is; to_client = part.to_client; to_host = part.to_host; told = part.told }))
 
 cut-short : (s : Setting) (next : Next) (c : Course) (w : Outside) (told tape : Option (List ℕ)) (waiting : List ℕ) → CutShort s (Goes next c) w (gathering told tape waiting) → CutShort s (Goes next c) w (written told tape)
 cut-short s next c w told tape waiting x = record {

@@ -1,5 +1,5 @@
 -- What one event makes of the links and of what they tell.
-use Rattle.std.proofs.Common.{◌≡◌, ℕ, ◌&&◌, ◌||◌, not, Bool, true, false, cond, List, [], ◌∷◌, ◌++◌, Option, Some, None, IfSome, Result, Ok, Err, ◌⊎◌, refl, sym, ap, ◌∙◌, subst, inl, inr, append-nil, append_assoc}
+use Rattle.std.proofs.Common.{◌≡◌, ℕ, ◌&&◌, ◌||◌, not, Bool, true, false, cond, List, [], ◌∷◌, ◌++◌, Option, Some, None, IfSome, Result, Ok, Err, refl, sym, ap, ◌∙◌, subst, inl, inr, append-nil, append_assoc}
 use Rattle.std.proofs.lemmas.Bool.{false≢true}
 use Rattle.std.specs.Io.KnownBytes.{append_known, Appends}
 use Rattle.std.specs.List.{flat_map}
@@ -23,14 +23,14 @@ use Rattle.bridge_run.specs.Course.{Course}
 use Rattle.session_tape.specs.Tapes.{Counts, GrowsInPart}
 use Rattle.bridge_run.specs.Recorded.{lines_of, sends_any, is_last, is_full, written_if, waiting_if}
 use Rattle.bridge_run.specs.Calls.{put, sends_now}
-use Rattle.bridge_run.specs.Outside.{Outside, Shows, Tells, IsBetween, IsOneOf, IsRecordedInPart, IsTaped, Cut, Written, HasCause, faults}
+use Rattle.bridge_run.specs.Outside.{Outside, Shows, Tells, IsBetween, IsOneOf, HasLines, IsTaped, Cut, Written, HasCause, faults}
 use Rattle.bridge_run.specs.inner.Links.{wrote_if, WritesFront, closed_if}
 use Rattle.bridge_run.specs.inner.Keeping.{refusing}
 use Rattle.bridge_run.specs.inner.Follows.{Prepared, Follows, Puts}
 
 -- ---- a link
 
-wrote-shows : (u : Bool) (b : List ℕ) (l : Link) (t : List Turn) (x : List ℕ) → Shows l u t x → Shows (wrote_if u b l) u t (cond u (x ++ b) x)
+pub wrote-shows : (u : Bool) (b : List ℕ) (l : Link) (t : List Turn) (x : List ℕ) → Shows l u t x → Shows (wrote_if u b l) u t (cond u (x ++ b) x)
 wrote-shows true b l t x s = record { up-is = s.up-is; turns-is = s.turns-is; written-is = ap (λ (k : Option (List ℕ)). append_known k b) s.written-is }
 wrote-shows false b l t x s = s
 
@@ -54,7 +54,7 @@ between-all x known y more e f = record { more = more; lost = []; known-is = e �
 pub between-none : (x : List ℕ) (known : Option (List ℕ)) (y more : List ℕ) → known ≡ Some x → y ≡ x ++ more → IsBetween x known y
 between-none x known y more e f = record { more = []; lost = more; known-is = e ∙ ap Some (sym (append-nil x)); most-is = f ∙ ap (λ (l : List ℕ). l ++ more) (sym (append-nil x)) }
 
-more_if : (u : Bool) (x b : List ℕ) → cond u (x ++ b) x ≡ x ++ cond u b []
+pub more_if : (u : Bool) (x b : List ℕ) → cond u (x ++ b) x ≡ x ++ cond u b []
 more_if true x b = refl
 more_if false x b = sym (append-nil x)
 
@@ -168,15 +168,15 @@ taped p c e sent lines due out out' prepared is recorded =
     (moved (λ (l : List ℕ). written_if (due || is_full (l ++ lines_of e sent.refusals)) (l ++ lines_of e sent.refusals)) (λ (l : List ℕ). waiting_if (due || is_full (l ++ lines_of e sent.refusals)) (l ++ lines_of e sent.refusals))
     out.tape out'.tape out.waiting out'.waiting c.recorded c.waiting is recorded.tape-is recorded.waits))
 
-pub all-recorded : (P : Type 0) (w : Outside) (out : Written) (c d : Course) (known : Option (List ℕ)) → IfSome known (λ held. (held ≡ d.recorded) × P) → IfSome known (λ held. (held ≡ d.recorded) ⊎ IsRecordedInPart w out c d held)
+pub all-recorded : (P : Type 0) (w : Outside) (out : Written) (c d : Course) (known : Option (List ℕ)) → IfSome known (λ held. (held ≡ d.recorded) × P) → IfSome known (λ held. HasLines w out c d held)
 all-recorded P w out c d None is = tt
 all-recorded P w out c d (Some held) is = inl is.0
 
 -- a front of them is recorded, and nothing is sent
 recorded-front : (P : Type 0) (w : Outside) (out : Written) (c d : Course) (front back : List ℕ) → d.recorded ≡ c.recorded ++ (front ++ back) → w.client.written ≡ Some c.to_client → w.host.written ≡ Some c.to_host → out.told ≡ Some c.told
-    → (known : Option (List ℕ)) → IfSome known (λ held. (held ≡ c.recorded) × P) → IfSome (append_known known front) (λ held. (held ≡ d.recorded) ⊎ IsRecordedInPart w out c d held)
+    → (known : Option (List ℕ)) → IfSome known (λ held. (held ≡ c.recorded) × P) → IfSome (append_known known front) (λ held. HasLines w out c d held)
 recorded-front P w out c d front back all client host told None is = tt
-recorded-front P w out c d front back all client host told (Some held) is = inr (record {
+recorded-front P w out c d front back all client host told (Some held) is = inr (inl (record {
   more = front;
   lost = back;
   held-is = ap (λ (l : List ℕ). l ++ front) is.0;
@@ -184,15 +184,15 @@ recorded-front P w out c d front back all client host told (Some held) is = inr 
   to_client = client;
   to_host = host;
   told = told;
-})
+}))
 
 -- of what a call writes of those that wait a front is written
 pub written-front : (writes : List ℕ → List ℕ) (w : Outside) (out : Written) (c d : Course) (known known' : Option (List ℕ)) (waiting : List ℕ) → GrowsInPart known known' (writes waiting) → IfSome known (λ held. (held ≡ c.recorded) × (waiting ≡ c.waiting))
-    → d.recorded ≡ c.recorded ++ writes c.waiting → w.client.written ≡ Some c.to_client → w.host.written ≡ Some c.to_host → out.told ≡ Some c.told → IfSome known' (λ held. (held ≡ d.recorded) ⊎ IsRecordedInPart w out c d held)
-written-front writes w out c d None known' waiting grows has all client host told = subst (λ (k : Option (List ℕ)). IfSome k (λ held. (held ≡ d.recorded) ⊎ IsRecordedInPart w out c d held)) (sym grows.grows) tt
+    → d.recorded ≡ c.recorded ++ writes c.waiting → w.client.written ≡ Some c.to_client → w.host.written ≡ Some c.to_host → out.told ≡ Some c.told → IfSome known' (λ held. HasLines w out c d held)
+written-front writes w out c d None known' waiting grows has all client host told = subst (λ (k : Option (List ℕ)). IfSome k (λ held. HasLines w out c d held)) (sym grows.grows) tt
 written-front writes w out c d (Some held) known' waiting grows has all client host told =
     let whole : d.recorded ≡ c.recorded ++ (grows.front ++ grows.back) = all ∙ ap (λ (l : List ℕ). c.recorded ++ writes l) (sym has.1) ∙ ap (λ (l : List ℕ). c.recorded ++ l) grows.parts in
-    subst (λ (k : Option (List ℕ)). IfSome k (λ (l : List ℕ). (l ≡ d.recorded) ⊎ IsRecordedInPart w out c d l)) (sym grows.grows) (recorded-front _ w out c d grows.front grows.back whole client host told (Some held) has)
+    subst (λ (k : Option (List ℕ)). IfSome k (λ (l : List ℕ). HasLines w out c d l)) (sym grows.grows) (recorded-front _ w out c d grows.front grows.back whole client host told (Some held) has)
 
 none-recorded : (known : Option (List ℕ)) → append_known known [] ≡ known
 none-recorded None = refl
@@ -234,7 +234,7 @@ client-before p c e l s = (inl s.turns-is, between-none c.to_client l.written (p
 host-before : (p : Prescribed) (c : Course) (e : Event) (l : Link) → Shows l c.host_up c.host c.to_host → IsOneOf c.host l.turns (put p e c).host × IsBetween c.to_host l.written (put p e c).to_host
 host-before p c e l s = (inl s.turns-is, between-none c.to_host l.written (put p e c).to_host _ s.written-is (more_if c.host_up c.to_host (gained p.to_host c.events e)))
 
-told-before : (p : Prescribed) (c : Course) (e : Event) (out : Option (List ℕ)) → out ≡ Some c.told → IsBetween c.told out (put p e c).told
+pub told-before : (p : Prescribed) (c : Course) (e : Event) (out : Option (List ℕ)) → out ≡ Some c.told → IsBetween c.told out (put p e c).told
 told-before p c e out s = between-none c.told out (put p e c).told _ s refl
 
 -- while its lines are recorded
@@ -270,7 +270,7 @@ put-before p c e w out t =
       to_client = client.1;
       to_host = host.1;
       told = told-before p c e out.told t.told;
-      tape = subst (λ (known : Option (List ℕ)). IfSome known (λ held. (held ≡ (put p e c).recorded) ⊎ IsRecordedInPart w out c (put p e c) held)) (none-recorded out.tape)
+      tape = subst (λ (known : Option (List ℕ)). IfSome known (λ held. HasLines w out c (put p e c) held)) (none-recorded out.tape)
           (recorded-front _ w out c (put p e c) [] _ refl t.client.written-is t.host.written-is t.told out.tape t.tape);
     }
 

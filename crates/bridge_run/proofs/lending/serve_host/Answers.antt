@@ -2,6 +2,7 @@ use Rattle.std.proofs.Common.{ℕ, false, List, [], None, Err, refl, sym, ◌∙
 use Rattle.gate_outside.specs.Link.{Link}
 use Rattle.session_tape.specs.Tapes.{counts}
 use Rattle.bridge_run.specs.Events.{Event}
+use Rattle.bridge_run.specs.LentStops.{LentStops}
 use Rattle.bridge_run.specs.Lent.{lent_sends}
 use Rattle.bridge_run.specs.Outside.{outside, HasReason, gathering, written, faults}
 use Rattle.bridge_run.specs.Course.{AtDoor}
@@ -64,14 +65,14 @@ returns-clause-reason g c =
     (subst (λ (q : Kept). HasReason c.run.result q.idle w ends) (c.new-session.ensures.kept ∙ c.new.ensures) c.run.ensures.reason)
 
 pub returns-in-Err-clause-log : goal.returns-in-Err-clause-log
-returns-in-Err-clause-log g c = nothing-before g.D.Doors.call_gives (Told g.K.Sink.write_gives c.args.out.now c.args.out.now) (no_host c.args.listen.now c.args.idle c.args.budget) (lent_sends g.G.Gadget.meaning c.args.gadget) c.args.doors.now (told-none g.K.Sink.write_gives c.args.out.now)
+returns-in-Err-clause-log g c = nothing-before g.D.Doors.call_gives (LentStops g.G.Gadget.meaning c.args.gadget) (Told g.K.Sink.write_gives c.args.out.now c.args.out.now) (no_host c.args.listen.now c.args.idle c.args.budget) (lent_sends g.G.Gadget.meaning c.args.gadget) c.args.doors.now (told-none g.K.Sink.write_gives c.args.out.now)
 
 pub returns-in-Err-vec-clause-log : goal.returns-in-Err-vec-clause-log
-returns-in-Err-vec-clause-log g c = nothing-before g.D.Doors.call_gives (Told g.K.Sink.write_gives c.args.out.now c.args.out.now) (no_host c.args.listen.now c.args.idle c.args.budget) (lent_sends g.G.Gadget.meaning c.args.gadget) c.args.doors.now (told-none g.K.Sink.write_gives c.args.out.now)
+returns-in-Err-vec-clause-log g c = nothing-before g.D.Doors.call_gives (LentStops g.G.Gadget.meaning c.args.gadget) (Told g.K.Sink.write_gives c.args.out.now c.args.out.now) (no_host c.args.listen.now c.args.idle c.args.budget) (lent_sends g.G.Gadget.meaning c.args.gadget) c.args.doors.now (told-none g.K.Sink.write_gives c.args.out.now)
 
 pub returns-in-Err-listen-clause-log : goal.returns-in-Err-listen-clause-log
 returns-in-Err-listen-clause-log g c =
-    door-failed g.D.Doors.call_gives (Told g.K.Sink.write_gives c.args.out.now c.args.out.now) (lent_sends g.G.Gadget.meaning c.args.gadget) c.args.listen.now c.args.idle c.args.budget _ c.args.doors.now c.listen.new.self c.in-Err-listen.ensures.gives
+    door-failed g.D.Doors.call_gives (LentStops g.G.Gadget.meaning c.args.gadget) (Told g.K.Sink.write_gives c.args.out.now c.args.out.now) (lent_sends g.G.Gadget.meaning c.args.gadget) c.args.listen.now c.args.idle c.args.budget _ c.args.doors.now c.listen.new.self c.in-Err-listen.ensures.gives
     (told-none g.K.Sink.write_gives c.args.out.now)
 
 pub returns-clause-log : goal.returns-clause-log
@@ -79,6 +80,6 @@ returns-clause-log g c =
     let m = g.G.Gadget.meaning in
     let first = c.args.gadget in
     let core = c.new-session.result.core in
-    c.run.ensures.log first (no_host c.args.listen.now c.args.idle c.args.budget) c.args.doors.now c.args.out.now
+    c.run.ensures.log first (no_host c.args.listen.now c.args.idle c.args.budget) c.args.doors.now c.args.out.now refl
     (door-at g.D.Doors.call_gives (λ events. IsLent m first core events) (Told g.K.Sink.write_gives c.args.out.now c.args.out.now) (lent_sends m first) c.new-session.result.kept c.args.idle c.args.budget c.args.listen.now _ c.args.doors.now c.listen.new.self c.in_default.ensures.gives
     (subst (λ x. IsLent m first x []) (sym c.new-session.ensures.core) c.in-Ok.ensures) (told-none g.K.Sink.write_gives c.args.out.now) refl c.requires.idle c.requires.budget (c.new-session.ensures.kept ∙ c.new.ensures))

@@ -4,6 +4,7 @@ use Rattle.usb_base.specs.Endpoint.{IsEndpoint}
 use Rattle.redir_host.specs.state.Sound.{Each}
 use Rattle.bridge_run.specs.inner.Lending.{act_of}
 use Rattle.bridge_run.proofs.lemmas.events.Acts.{midway-none, midway-more}
+use Rattle.bridge_run.proofs.lemmas.events.Halts.{stop-endpoint, err-all}
 use Rattle.bridge_run.proofs.lent.use_each.Goals as goal
 
 pub loop-address-init : goal.loop-address-init
@@ -23,5 +24,13 @@ loop-address-preserved g c =
           let x = l.invariant.midway first past stands in
           midway-more (act_of c.args.how) g.G.Gadget.meaning first l.core c.use_endpoint.new.core past xs (drop i xs) c.in-Some.ep (drop (i + 1) xs) c.args.out.now l.out c.use_endpoint.new.out
           (drop_more xs i _ c.loop-address-test.true ∙ ap (λ (b : ℕ). b ∷ drop (i + 1) xs) (sym c.in-Some.ensures.byte)) x
-          (c.in_ok-use_endpoint-in-Some.ensures first x.acts x.done.stands);
+          (c.in_ok-use_endpoint-in-Some.ensures.does first x.acts x.done.stands);
     }
+
+pub returns-in_err-use_endpoint-in-Some-clause-stops : goal.returns-in_err-use_endpoint-in-Some-clause-stops
+returns-in_err-use_endpoint-in-Some-clause-stops g c = err-all c.from_residual.result _ (λ first past stands.
+    let l = c.loop-address in
+    let xs = c.args.addresses.now in
+    let i = l.address-index in
+    stop-endpoint c.args.how g.G.Gadget.meaning first l.core past xs (drop i xs) c.in-Some.ep (drop (i + 1) xs) c.args.out.now l.out c.use_endpoint.new.out
+    (drop_more xs i _ c.loop-address-test.true ∙ ap (λ (b : ℕ). b ∷ drop (i + 1) xs) (sym c.in-Some.ensures.byte)) c.in_err-use_endpoint-in-Some.ensures.err (l.invariant.midway first past stands))

@@ -6,7 +6,7 @@ use Rattle.gate_outside.specs.Doors.{faulted}
 use Rattle.bridge_run.specs.inner.Links.{wrote}
 use Rattle.bridge_run.specs.inner.Logging.{WroteMore}
 use Rattle.bridge_run.proofs.lemmas.events.Links.{wrote-twice}
-use Rattle.bridge_run.proofs.lemmas.calls.Log.{wrote-call, failed-behind}
+use Rattle.bridge_run.proofs.lemmas.calls.Writing.{wrote-call, failed-behind}
 use Rattle.bridge_run.proofs.link.write_link.Goals as goal
 
 pub loop-done-preserved : goal.loop-done-preserved

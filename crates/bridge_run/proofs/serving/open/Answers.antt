@@ -29,26 +29,26 @@ returns-in_err-write_link-clause-course g c = λ p k out hello up t. let a = c.i
     (c.in_err-write_link.ensures.door ∙ c.in_default-listen.ensures.listens.0 ∙ ap (λ (d : Door). record d { made = true }) c.in_default.ensures.door))
 
 pub returns-in-Err-clause-log : goal.returns-in-Err-clause-log
-returns-in-Err-clause-log g c = λ idle budget p hello. dial-failed g.D.Doors.call_gives p c.args.host.now c.args.listen.now idle budget _ c.args.doors.now c.dial.new.self c.in-Err.ensures.gives
+returns-in-Err-clause-log g c = λ taped idle budget p hello. dial-failed g.D.Doors.call_gives p c.args.host.now c.args.listen.now taped idle budget _ c.args.doors.now c.dial.new.self c.in-Err.ensures.gives
 
 pub returns-in-Err-listen-clause-log : goal.returns-in-Err-listen-clause-log
-returns-in-Err-listen-clause-log g c = λ idle budget p hello. listen-failed g.D.Doors.call_gives p c.args.host.now c.args.listen.now idle budget _ c.args.doors.now c.dial.new.self c.listen.new.self c.in_default.ensures.gives c.in-Err-listen.ensures.gives
+returns-in-Err-listen-clause-log g c = λ taped idle budget p hello. listen-failed g.D.Doors.call_gives p c.args.host.now c.args.listen.now taped idle budget _ c.args.doors.now c.dial.new.self c.listen.new.self c.in_default.ensures.gives c.in-Err-listen.ensures.gives
 
 pub returns-in_err-write_link-clause-log : goal.returns-in_err-write_link-clause-log
-returns-in_err-write_link-clause-log g c = λ idle budget p hello.
+returns-in_err-write_link-clause-log g c = λ taped idle budget p hello.
     let gives = g.D.Doors.call_gives in
     let host = c.args.host.now in
     let door = c.args.listen.now in
-    let terms = with_host host door idle budget in
+    let terms = with_host host door taped idle budget in
     let failed = c.in_err-write_link.ensures.log c.args.doors.now (asked host door (Ok tt)) (was-asked gives host door (Ok tt) c.args.doors.now c.dial.new.self c.listen.new.self c.in_default.ensures.gives c.in_default-listen.ensures.gives) in
     open-err _ c.from_residual.result gives terms p c.args.doors.now c.write_link.new.doors c.from_residual.ensures.1
     (λ x is. subst (λ (y : ServeEnd). OpenLogs {T = Unit {0}} (Err y) gives terms p c.args.doors.now c.write_link.new.doors) (sym (is ∙ c.in_err-write_link.ensures.fault))
-    (hello-failed gives p host door idle budget true c.args.hello.now c.args.doors.now c.write_link.new.doors hello failed))
+    (hello-failed gives p host door taped idle budget true c.args.hello.now c.args.doors.now c.write_link.new.doors hello failed))
 
 pub returns-clause-log : goal.returns-clause-log
-returns-clause-log g c = λ idle budget p hello.
+returns-clause-log g c = λ taped idle budget p hello.
     let gives = g.D.Doors.call_gives in
     let host = c.args.host.now in
     let door = c.args.listen.now in
-    hello-sent gives p host door idle budget c.args.hello.now c.args.doors.now c.write_link.new.doors hello
+    hello-sent gives p host door taped idle budget c.args.hello.now c.args.doors.now c.write_link.new.doors hello
     (c.in_ok-write_link.ensures.log c.args.doors.now (asked host door (Ok tt)) (was-asked gives host door (Ok tt) c.args.doors.now c.dial.new.self c.listen.new.self c.in_default.ensures.gives c.in_default-listen.ensures.gives))

@@ -11,6 +11,7 @@ use Rattle.bridge_run.specs.declared.gate.Gateway.{Gateway}
 use Rattle.bridge_run.specs.inner.Keeping.{begun}
 use Rattle.bridge_run.specs.inner.Follows.{Follows, setting}
 use Rattle.bridge_run.specs.Gate.{gate_events, gate_sends}
+use Rattle.bridge_run.specs.GateStops.{gate_runs_out}
 use Rattle.bridge_run.proofs.lemmas.calls.Course.{reaches-none, reaches-call, leaves-then, cut-leaves, cut-next}
 use Rattle.bridge_run.proofs.lemmas.events.Rest.{faults-then}
 use Rattle.bridge_run.proofs.lemmas.calls.Idle.{cut-reason, reason-from}
@@ -68,18 +69,18 @@ returns-clause-reason g c =
     (subst (λ (q : Kept). HasReason c.run.result q.idle w ends) (c.new-session.ensures.kept ∙ c.new.ensures) c.run.ensures.reason)
 
 pub returns-in-Err-clause-log : goal.returns-in-Err-clause-log
-returns-in-Err-clause-log g c = nothing-before g.D.Doors.call_gives (Told g.K.Sink.write_gives c.args.out.now c.args.out.now) (with_host c.args.host.now c.args.listen.now c.args.idle c.args.budget) (gate_sends c.args.after_loss c.args.first_id) c.args.doors.now
+returns-in-Err-clause-log g c = nothing-before g.D.Doors.call_gives (gate_runs_out c.args.first_id) (Told g.K.Sink.write_gives c.args.out.now c.args.out.now) (with_host c.args.host.now c.args.listen.now (g.T.Tape.made c.args.tape.now) c.args.idle c.args.budget) (gate_sends c.args.after_loss c.args.first_id) c.args.doors.now
     (told-none g.K.Sink.write_gives c.args.out.now)
 
 pub returns-in-Err-vec-clause-log : goal.returns-in-Err-vec-clause-log
-returns-in-Err-vec-clause-log g c = nothing-before g.D.Doors.call_gives (Told g.K.Sink.write_gives c.args.out.now c.args.out.now) (with_host c.args.host.now c.args.listen.now c.args.idle c.args.budget) (gate_sends c.args.after_loss c.args.first_id) c.args.doors.now
+returns-in-Err-vec-clause-log g c = nothing-before g.D.Doors.call_gives (gate_runs_out c.args.first_id) (Told g.K.Sink.write_gives c.args.out.now c.args.out.now) (with_host c.args.host.now c.args.listen.now (g.T.Tape.made c.args.tape.now) c.args.idle c.args.budget) (gate_sends c.args.after_loss c.args.first_id) c.args.doors.now
     (told-none g.K.Sink.write_gives c.args.out.now)
 
 pub returns-in-Err-open-clause-log : goal.returns-in-Err-open-clause-log
 returns-in-Err-open-clause-log g c =
     let p = gate_sends c.args.after_loss c.args.first_id in
-    open-logged c.in-Err-open.end g.D.Doors.call_gives (Told g.K.Sink.write_gives c.args.out.now c.args.out.now) (with_host c.args.host.now c.args.listen.now c.args.idle c.args.budget) p c.args.doors.now c.open.new.doors (told-none g.K.Sink.write_gives c.args.out.now)
-    (c.in-Err-open.ensures.log c.args.idle c.args.budget p (c.as_slice.ensures ∙ c.in-Ok.ensures.sent ∙ ap (λ (l : List ℕ). l ++ out_host c.args.first_id []) c.new-hello.ensures))
+    open-logged c.in-Err-open.end g.D.Doors.call_gives (gate_runs_out c.args.first_id) (Told g.K.Sink.write_gives c.args.out.now c.args.out.now) (with_host c.args.host.now c.args.listen.now (g.T.Tape.made c.args.tape.now) c.args.idle c.args.budget) p c.args.doors.now c.open.new.doors (told-none g.K.Sink.write_gives c.args.out.now)
+    (c.in-Err-open.ensures.log (g.T.Tape.made c.args.tape.now) c.args.idle c.args.budget p (c.as_slice.ensures ∙ c.in-Ok.ensures.sent ∙ ap (λ (l : List ℕ). l ++ out_host c.args.first_id []) c.new-hello.ensures))
 
 pub returns-clause-log : goal.returns-clause-log
 returns-clause-log g c =
@@ -88,8 +89,8 @@ returns-clause-log g c =
     let core = c.new-session.result.core in
     let stands : List Event → Type 0 = λ events. (core.after_loss ≡ c.args.after_loss) × Stands first core.gate (gate_events events) in
     let tells = Told g.K.Sink.write_gives c.args.out.now c.args.out.now in
-    c.run.ensures.log (c.args.after_loss, first) (with_host c.args.host.now c.args.listen.now c.args.idle c.args.budget) c.args.doors.now c.args.out.now
-    (opened-at g.D.Doors.call_gives stands tells c.args.host.now c.args.listen.now c.args.idle c.args.budget p c.new-session.result.kept c.args.doors.now c.open.new.doors
-    (c.in_default.ensures.log c.args.idle c.args.budget p (c.as_slice.ensures ∙ c.in-Ok.ensures.sent ∙ ap (λ (l : List ℕ). l ++ out_host first []) c.new-hello.ensures))
+    c.run.ensures.log (c.args.after_loss, first) (with_host c.args.host.now c.args.listen.now (g.T.Tape.made c.args.tape.now) c.args.idle c.args.budget) c.args.doors.now c.args.out.now refl
+    (opened-at g.D.Doors.call_gives stands tells c.args.host.now c.args.listen.now (g.T.Tape.made c.args.tape.now) c.args.idle c.args.budget p c.new-session.result.kept c.args.doors.now c.open.new.doors
+    (c.in_default.ensures.log (g.T.Tape.made c.args.tape.now) c.args.idle c.args.budget p (c.as_slice.ensures ∙ c.in-Ok.ensures.sent ∙ ap (λ (l : List ℕ). l ++ out_host first []) c.new-hello.ensures))
     (subst (λ (x : Gateway). (x.after_loss ≡ c.args.after_loss) × Stands first x.gate (gate_events [])) (sym c.new-session.ensures.core) (refl, c.in-Ok.ensures.made))
     (told-none g.K.Sink.write_gives c.args.out.now) refl c.requires.idle c.requires.budget (c.new-session.ensures.kept ∙ c.new.ensures))

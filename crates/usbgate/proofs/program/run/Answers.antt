@@ -16,7 +16,8 @@ use Rattle.usbgate_tapes.proofs.Simulated.{unsimulated, unsimulated_log}
 use Rattle.usbgate_tapes.proofs.Unread.{logs-none, logs-unread}
 use Rattle.usbgate.proofs.Simulated.{simulates-device, simulates-device_log, simulates-count}
 use Rattle.bridge_run.specs.Gate.{gate_sends}
-use Rattle.usbgate_commands.specs.Serves.{device_sends}
+use Rattle.bridge_run.specs.GateStops.{gate_runs_out}
+use Rattle.usbgate_commands.specs.Serves.{device_sends, device_runs_out}
 use Rattle.usbgate_commands.specs.Logs.{terms_of, terms_lent}
 use Rattle.usbgate_commands.proofs.Logs.{unlogged}
 use Rattle.usbgate.proofs.program.run.Goals as goal
@@ -90,10 +91,10 @@ pub returns-in-Load-clause-load_simulates : goal.returns-in-Load-clause-load_sim
 returns-in-Load-clause-load_simulates g c = λ count is done. simulates-count c.in-Load.count count (sym c.in-Load.is ∙ c.in-Ok.ensures.value ∙ is) (c.load.ensures.simulates done)
 
 pub returns-in_default-clause-serves_log : goal.returns-in_default-clause-serves_log
-returns-in_default-clause-serves_log g c = λ asked is. inr (unlogged g.D.Doors.call_gives g.K.Sink.write_gives (terms_of asked) (gate_sends asked.after_loss asked.first_id) c.args.doors.now c.args.out.now)
+returns-in_default-clause-serves_log g c = λ asked is. inr (unlogged g.D.Doors.call_gives (gate_runs_out asked.first_id) g.K.Sink.write_gives (terms_of asked) (gate_sends asked.after_loss asked.first_id) c.args.doors.now c.args.out.now)
 
 pub returns-in_default-clause-lends_log : goal.returns-in_default-clause-lends_log
-returns-in_default-clause-lends_log g c = λ asked is. unlogged g.D.Doors.call_gives g.K.Sink.write_gives (terms_lent asked) (device_sends asked.device) c.args.doors.now c.args.out.now
+returns-in_default-clause-lends_log g c = λ asked is. unlogged g.D.Doors.call_gives (device_runs_out asked.device) g.K.Sink.write_gives (terms_lent asked) (device_sends asked.device) c.args.doors.now c.args.out.now
 
 pub returns-in_default-clause-leaves_log : goal.returns-in_default-clause-leaves_log
 returns-in_default-clause-leaves_log g c = λ p is. logs-none g.S.Source.read_gives g.K.Sink.write_gives p c.args.tape.now c.args.out.now

@@ -5,6 +5,8 @@ use Rattle.bridge_run.specs.Events.{event_of}
 use Rattle.bridge_run.specs.Gate.{gate_events}
 use Rattle.bridge_run.proofs.lemmas.events.Acts.{on-ok}
 use Rattle.bridge_run.proofs.lemmas.events.Gate.{gate-sends}
+use Rattle.bridge_run.proofs.lemmas.events.GateStops.{gate-stops, gate-untold}
+use Rattle.bridge_run.proofs.lemmas.events.Halts.{on-err, err-all}
 use Rattle.bridge_run.proofs.gate.GatewayServed.take.Goals as goal
 
 pub returns-in_ok-notes-in-Some-clause-sends : goal.returns-in_ok-notes-in-Some-clause-sends
@@ -12,4 +14,18 @@ returns-in_ok-notes-in-Some-clause-sends c =
     on-ok c.push_refusals.result _ _ (λ pushed first past at.
     gate-sends first.0 c.args.self.now.after_loss first.1 past (event_of c.args.event) (told_of c.in-Some.event) c.take.new.self c.args.sent.now c.take.new.to_client c.take.new.to_host c.push_refusals.new.refusals
     c.lets_go.result c.in_ok-notes-in-Some.notes (sym c.gate_event.ensures ∙ ap (option_map told_of) c.in-Some.is) (c.in_ok-notes-in-Some.ensures.takes first.1 (gate_events past) at.1) pushed c.lets_go.ensures at.0)
-    c.push_refusals.ensures
+    c.push_refusals.ensures.pushed
+
+pub returns-in_err-notes-in-Some-clause-stops : goal.returns-in_err-notes-in-Some-clause-stops
+returns-in_err-notes-in-Some-clause-stops c = err-all c.from_residual.result _ (λ first past at.
+    gate-stops first.0 first.1 past (event_of c.args.event) (told_of c.in-Some.event) c.take.new.self c.args.sent.now (record c.args.sent.now { to_client = c.take.new.to_client; to_host = c.take.new.to_host })
+    (sym c.gate_event.ensures ∙ ap (option_map told_of) c.in-Some.is) (c.in_err-notes-in-Some.ensures.stops first.1 (gate_events past) at.1))
+
+pub returns-in_ok-notes-in-Some-clause-stops : goal.returns-in_ok-notes-in-Some-clause-stops
+returns-in_ok-notes-in-Some-clause-stops c =
+    on-err c.push_refusals.result _ _
+    (λ some first past at.
+    gate-untold first.0 first.1 past (event_of c.args.event) (told_of c.in-Some.event) c.take.new.self c.args.sent.now
+    (record c.args.sent.now { to_client = c.take.new.to_client; to_host = c.take.new.to_host; refusals = c.push_refusals.new.refusals; lets_go = _ })
+    c.in_ok-notes-in-Some.notes (sym c.gate_event.ensures ∙ ap (option_map told_of) c.in-Some.is) (c.in_ok-notes-in-Some.ensures.takes first.1 (gate_events past) at.1) some)
+    c.push_refusals.ensures.wants

@@ -138,11 +138,11 @@ returns-in-Ended-clause-wears g c =
     wears-then c.args.self.now.kept c.end.new.self c.happen-in-Ended.new.self.kept (end-wears c.args.side c.args.self.now.kept c.end.new.self (sym c.is_up.ensures ∙ c.if-not-is_up.false) c.end.ensures) c.happen-in-Ended.ensures.wears
 
 pub returns-then-not-is_up-clause-log : goal.returns-then-not-is_up-clause-log
-returns-then-not-is_up-clause-log g c = λ first terms begun begun_out a.
+returns-then-not-is_up-clause-log g c = λ first terms begun begun_out taped a.
     gone-asking c.args.side g.D.Doors.call_gives (g.C.Served.stands first c.args.self.now.core) (Told g.K.Sink.write_gives begun_out c.args.out.now) terms (g.C.Served.sends first) c.args.self.now.kept begun c.args.doors.now (sym c.is_up.ensures ∙ c.if-not-is_up.true) a
 
 pub returns-in-Took-clause-log : goal.returns-in-Took-clause-log
-returns-in-Took-clause-log g c = λ first terms begun begun_out a.
+returns-in-Took-clause-log g c = λ first terms begun begun_out taped a.
     let gives = g.D.Doors.call_gives in
     let p = g.C.Served.sends first in
     let stands = g.C.Served.stands first c.args.self.now.core in
@@ -150,34 +150,34 @@ returns-in-Took-clause-log g c = λ first terms begun begun_out a.
     let k = c.args.self.now.kept in
     let polled = Took c.in-Took.n in
     let asks = OfSide c.args.side polled ∷ a.asks in
-    let h = c.happen.ensures.log first terms asks begun begun_out (subst (λ (e : Event). IsTaking gives stands tells terms p asks e c.take.new.self begun c.poll.new.self) (sym c.piece.ensures)
+    let h = c.happen.ensures.log first terms asks begun begun_out taped (subst (λ (e : Event). IsTaking gives stands tells terms p asks e c.take.new.self begun c.poll.new.self) (sym c.piece.ensures)
     (took-taking gives stands tells terms p c.args.side c.in-Took.n c.poll.new.buf k c.take.new.self begun c.args.doors.now c.poll.new.self a (sym c.is_up.ensures ∙ c.if-not-is_up.false) c.in-Took.ensures.gives c.take.ensures)) in
-    came-logs c.happen.result gives (g.C.Served.stands first c.happen.new.self.core) (Told g.K.Sink.write_gives begun_out c.happen.new.out) terms p c.args.side polled a.asks k c.take.new.self c.happen.new.self.kept begun c.happen.new.doors h refl a.patient
+    came-logs c.happen.result gives (g.C.Served.stands first c.happen.new.self.core) (g.C.Served.runs_out first) (Told g.K.Sink.write_gives begun_out c.happen.new.out) terms p c.args.side polled a.asks k c.take.new.self c.happen.new.self.kept begun c.happen.new.doors h refl a.patient
     (ap (λ (q : Kept). q.busy) c.take.ensures) (ap (λ (q : Kept). q.idle) c.take.ensures) (ap (λ (q : Kept). q.waits) c.take.ensures) c.happen.ensures.wears
 
 pub returns-in-NotYet-clause-log : goal.returns-in-NotYet-clause-log
-returns-in-NotYet-clause-log g c = λ first terms begun begun_out a.
+returns-in-NotYet-clause-log g c = λ first terms begun begun_out taped a.
     let gives = g.D.Doors.call_gives in
     let p = g.C.Served.sends first in
     let k = c.args.self.now.kept in
     let up = sym c.is_up.ensures ∙ c.if-not-is_up.false in
-    let h = c.be_quiet.ensures.log first terms (OfSide c.args.side NotYet ∷ a.asks) begun begun_out
+    let h = c.be_quiet.ensures.log first terms (OfSide c.args.side NotYet ∷ a.asks) begun begun_out taped
     (rest-resting gives (g.C.Served.stands first c.args.self.now.core) (Told g.K.Sink.write_gives begun_out c.args.out.now) terms p c.args.side c.poll.new.buf k begun c.args.doors.now c.poll.new.self a up c.in-NotYet.ensures.gives) in
-    quiet-logs c.be_quiet.result gives (g.C.Served.stands first c.be_quiet.new.self.core) (Told g.K.Sink.write_gives begun_out c.be_quiet.new.out) terms p c.args.side a.asks k c.be_quiet.new.self.kept begun c.be_quiet.new.doors h a.patient a.waited up c.be_quiet.ensures.kept
+    quiet-logs c.be_quiet.result gives (g.C.Served.stands first c.be_quiet.new.self.core) (g.C.Served.runs_out first) (Told g.K.Sink.write_gives begun_out c.be_quiet.new.out) terms p c.args.side a.asks k c.be_quiet.new.self.kept begun c.be_quiet.new.doors h a.patient a.waited up c.be_quiet.ensures.kept
 
 pub returns-in-Ended-clause-log : goal.returns-in-Ended-clause-log
-returns-in-Ended-clause-log g c = λ first terms begun begun_out a.
+returns-in-Ended-clause-log g c = λ first terms begun begun_out taped a.
     let gives = g.D.Doors.call_gives in
     let p = g.C.Served.sends first in
     let stands = g.C.Served.stands first c.args.self.now.core in
     let tells = Told g.K.Sink.write_gives begun_out c.args.out.now in
     let k = c.args.self.now.kept in
     let asks = OfSide c.args.side Ended ∷ a.asks in
-    let h = c.happen-in-Ended.ensures.log first terms asks begun begun_out (subst (λ (e : Event). IsTaking gives stands tells terms p asks e c.end.new.self begun c.poll.new.self) (sym c.end_of.ensures)
+    let h = c.happen-in-Ended.ensures.log first terms asks begun begun_out taped (subst (λ (e : Event). IsTaking gives stands tells terms p asks e c.end.new.self begun c.poll.new.self) (sym c.end_of.ensures)
     (end-taking gives stands tells terms p c.args.side c.poll.new.buf k c.end.new.self begun c.args.doors.now c.poll.new.self a (sym c.is_up.ensures ∙ c.if-not-is_up.false) c.in-Ended.ensures.gives c.end.ensures)) in
-    came-logs c.happen-in-Ended.result gives (g.C.Served.stands first c.happen-in-Ended.new.self.core) (Told g.K.Sink.write_gives begun_out c.happen-in-Ended.new.out) terms p c.args.side Ended a.asks k c.end.new.self c.happen-in-Ended.new.self.kept begun c.happen-in-Ended.new.doors h refl a.patient
+    came-logs c.happen-in-Ended.result gives (g.C.Served.stands first c.happen-in-Ended.new.self.core) (g.C.Served.runs_out first) (Told g.K.Sink.write_gives begun_out c.happen-in-Ended.new.out) terms p c.args.side Ended a.asks k c.end.new.self c.happen-in-Ended.new.self.kept begun c.happen-in-Ended.new.doors h refl a.patient
     (ap (λ (q : Kept). q.busy) c.end.ensures) (down-idle c.args.side k c.end.new.self c.end.ensures) (down-waits c.args.side k c.end.new.self c.end.ensures) c.happen-in-Ended.ensures.wears
 
 pub returns-in-Failed-clause-log : goal.returns-in-Failed-clause-log
-returns-in-Failed-clause-log g c = λ first terms begun begun_out a.
-    poll-failed g.D.Doors.call_gives (g.C.Served.stands first c.args.self.now.core) (Told g.K.Sink.write_gives begun_out c.args.out.now) terms (g.C.Served.sends first) c.args.side c.poll.new.buf c.args.self.now.kept begun c.args.doors.now c.poll.new.self a (sym c.is_up.ensures ∙ c.if-not-is_up.false) c.in-Failed.ensures.gives
+returns-in-Failed-clause-log g c = λ first terms begun begun_out taped a.
+    poll-failed g.D.Doors.call_gives (g.C.Served.stands first c.args.self.now.core) (g.C.Served.runs_out first) (Told g.K.Sink.write_gives begun_out c.args.out.now) terms (g.C.Served.sends first) c.args.side c.poll.new.buf c.args.self.now.kept begun c.args.doors.now c.poll.new.self a (sym c.is_up.ensures ∙ c.if-not-is_up.false) c.in-Failed.ensures.gives

@@ -65,26 +65,26 @@ returns-in-Err-clause-course g c = λ first k f.
     (not_accepted w w' out k f.tells c.in-Err.ensures.accepts.0 c.in-Err.ensures.other c.in-Err.ensures.accepts.1)
 
 pub returns-then-self-clause-log : goal.returns-then-self-clause-log
-returns-then-self-clause-log g c = λ first terms begun begun_out a.
+returns-then-self-clause-log g c = λ first terms begun begun_out taped a.
     there-asking g.D.Doors.call_gives (g.C.Served.stands first c.args.self.now.core) (Told g.K.Sink.write_gives begun_out c.args.out.now) terms (g.C.Served.sends first) c.args.self.now.kept begun c.args.doors.now c.if-self.true a
 
 pub returns-in-Ok-true-clause-log : goal.returns-in-Ok-true-clause-log
-returns-in-Ok-true-clause-log g c = λ first terms begun begun_out a.
+returns-in-Ok-true-clause-log g c = λ first terms begun begun_out taped a.
     let gives = g.D.Doors.call_gives in
     let p = g.C.Served.sends first in
     let k = c.args.self.now.kept in
     let answered = subst (λ (b : Bool). gives c.args.doors.now (Accept (Ok b)) c.accept.new.self) c.in-Ok-true.field-0-test c.in-Ok-true.ensures.gives in
-    let h = c.happen.ensures.log first terms (ForClient (Ok true) ∷ a.asks) begun begun_out
+    let h = c.happen.ensures.log first terms (ForClient (Ok true) ∷ a.asks) begun begun_out taped
     (came-taking gives (g.C.Served.stands first c.args.self.now.core) (Told g.K.Sink.write_gives begun_out c.args.out.now) terms p k c.come.new.self begun c.args.doors.now c.accept.new.self a answered c.come.ensures) in
-    client-logs c.happen.result gives (g.C.Served.stands first c.happen.new.self.core) (Told g.K.Sink.write_gives begun_out c.happen.new.out) terms p a.asks k c.come.new.self c.happen.new.self.kept begun c.happen.new.doors h a.patient
+    client-logs c.happen.result gives (g.C.Served.stands first c.happen.new.self.core) (g.C.Served.runs_out first) (Told g.K.Sink.write_gives begun_out c.happen.new.out) terms p a.asks k c.come.new.self c.happen.new.self.kept begun c.happen.new.doors h a.patient
     (ap (λ (q : Kept). q.busy) c.come.ensures) (ap (λ (q : Kept). q.idle) c.come.ensures) (ap (λ (q : Kept). q.waits) c.come.ensures) c.happen.ensures.wears
 
 pub returns-in-Ok-false-clause-log : goal.returns-in-Ok-false-clause-log
-returns-in-Ok-false-clause-log g c = λ first terms begun begun_out a.
+returns-in-Ok-false-clause-log g c = λ first terms begun begun_out taped a.
     let gives = g.D.Doors.call_gives in
     nobody-at gives (g.C.Served.stands first c.args.self.now.core) (Told g.K.Sink.write_gives begun_out c.args.out.now) terms (g.C.Served.sends first) c.args.self.now.kept begun c.args.doors.now c.accept.new.self a c.if-self.false
     (subst (λ (b : Bool). gives c.args.doors.now (Accept (Ok b)) c.accept.new.self) c.in-Ok-false.field-0-test c.in-Ok-false.ensures.gives)
 
 pub returns-in-Err-clause-log : goal.returns-in-Err-clause-log
-returns-in-Err-clause-log g c = λ first terms begun begun_out a.
-    accept-failed g.D.Doors.call_gives (g.C.Served.stands first c.args.self.now.core) (Told g.K.Sink.write_gives begun_out c.args.out.now) terms (g.C.Served.sends first) _ c.args.self.now.kept begun c.args.doors.now c.accept.new.self a c.in-Err.ensures.gives
+returns-in-Err-clause-log g c = λ first terms begun begun_out taped a.
+    accept-failed g.D.Doors.call_gives (g.C.Served.stands first c.args.self.now.core) (g.C.Served.runs_out first) (Told g.K.Sink.write_gives begun_out c.args.out.now) terms (g.C.Served.sends first) _ c.args.self.now.kept begun c.args.doors.now c.accept.new.self a c.in-Err.ensures.gives

@@ -74,32 +74,32 @@ returns-clause-quiet g c = on-all c.settle-2.result _
     (λ quiet. absurd (false≢true (sym (quiet-on (event_of c.args.event) c.in_ok-dropped.dropped (c.in_ok-dropped.ensures.quiet quiet).0) ∙ sym c.ends_next.ensures ∙ c.if-not-ends_next.false)))
 
 pub returns-in_err-dropped-clause-log : goal.returns-in_err-dropped-clause-log
-returns-in_err-dropped-clause-log g c = λ first terms asks begun begun_out t.
-    subst (λ (r : Result (Unit {0}) ServeEnd). HappenLogs r g.D.Doors.call_gives (g.C.Served.stands first c.put.new.self.core) (Told g.K.Sink.write_gives begun_out c.put.new.out) terms (g.C.Served.sends first) asks c.put.new.self.kept begun c.put.new.doors) (sym (is-err c.from_residual.result c.in_err-dropped.field-0.0 c.from_residual.ensures.1))
-    (c.in_err-dropped.ensures.log first terms asks begun begun_out t)
+returns-in_err-dropped-clause-log g c = λ first terms asks begun begun_out taped t.
+    subst (λ (r : Result (Unit {0}) ServeEnd). HappenLogs r g.D.Doors.call_gives (g.C.Served.stands first c.put.new.self.core) (g.C.Served.runs_out first) (Told g.K.Sink.write_gives begun_out c.put.new.out) terms (g.C.Served.sends first) asks c.put.new.self.kept begun c.put.new.doors) (sym (is-err c.from_residual.result c.in_err-dropped.field-0.0 c.from_residual.ensures.1))
+    (c.in_err-dropped.ensures.log first terms asks begun begun_out taped t)
 
 pub returns-in_err-put-clause-log : goal.returns-in_err-put-clause-log
-returns-in_err-put-clause-log g c = λ first terms asks begun begun_out t.
+returns-in_err-put-clause-log g c = λ first terms asks begun begun_out taped t.
     let gives = g.D.Doors.call_gives in
     let p = g.C.Served.sends first in
     let taking = subst (λ (b : Bool). IsBehind b gives (g.C.Served.stands first c.put.new.self.core) (Told g.K.Sink.write_gives begun_out c.put.new.out) terms p asks c.put.new.self.kept begun c.put.new.doors) (sym c.ends_next.ensures ∙ c.if-not-ends_next.false)
-    (c.in_ok-dropped.ensures.log first terms asks begun begun_out t) in
-    subst (λ (r : Result (Unit {0}) ServeEnd). HappenLogs r gives (g.C.Served.stands first c.put-2.new.self.core) (Told g.K.Sink.write_gives begun_out c.put-2.new.out) terms p asks c.put-2.new.self.kept begun c.put-2.new.doors) (sym (is-err c.from_residual-in_err-put.result c.in_err-put.field-0.0 c.from_residual-in_err-put.ensures.1))
-    (c.in_err-put.ensures.log first terms asks begun begun_out taking)
+    (c.in_ok-dropped.ensures.log first terms asks begun begun_out taped t) in
+    subst (λ (r : Result (Unit {0}) ServeEnd). HappenLogs r gives (g.C.Served.stands first c.put-2.new.self.core) (g.C.Served.runs_out first) (Told g.K.Sink.write_gives begun_out c.put-2.new.out) terms p asks c.put-2.new.self.kept begun c.put-2.new.doors) (sym (is-err c.from_residual-in_err-put.result c.in_err-put.field-0.0 c.from_residual-in_err-put.ensures.1))
+    (c.in_err-put.ensures.log first terms asks begun begun_out (taped ∙ sym c.put.ensures.made) taking)
 
 pub returns-then-not-ends_next-clause-log : goal.returns-then-not-ends_next-clause-log
-returns-then-not-ends_next-clause-log g c = λ first terms asks begun begun_out t.
+returns-then-not-ends_next-clause-log g c = λ first terms asks begun begun_out taped t.
     let gives = g.D.Doors.call_gives in
     let p = g.C.Served.sends first in
     let tells = Told g.K.Sink.write_gives begun_out c.put.new.out in
     let taken = subst (λ (b : Bool). IsBehind b gives (g.C.Served.stands first c.put.new.self.core) tells terms p asks c.put.new.self.kept begun c.put.new.doors) (sym c.ends_next.ensures ∙ c.if-not-ends_next.true)
-    (c.in_ok-dropped.ensures.log first terms asks begun begun_out t) in
-    settled-logs c.settle.result gives (g.C.Served.stands first c.put.new.self.core) tells terms p asks c.put.new.self.kept begun c.put.new.doors c.settle.ensures taken
+    (c.in_ok-dropped.ensures.log first terms asks begun begun_out taped t) in
+    settled-logs c.settle.result gives (g.C.Served.stands first c.put.new.self.core) (g.C.Served.runs_out first) tells terms p asks c.put.new.self.kept begun c.put.new.doors c.settle.ensures taken
 
 pub returns-clause-log : goal.returns-clause-log
-returns-clause-log g c = λ first terms asks begun begun_out t.
+returns-clause-log g c = λ first terms asks begun begun_out taped t.
     let gives = g.D.Doors.call_gives in
     let p = g.C.Served.sends first in
     let taking = subst (λ (b : Bool). IsBehind b gives (g.C.Served.stands first c.put.new.self.core) (Told g.K.Sink.write_gives begun_out c.put.new.out) terms p asks c.put.new.self.kept begun c.put.new.doors) (sym c.ends_next.ensures ∙ c.if-not-ends_next.false)
-    (c.in_ok-dropped.ensures.log first terms asks begun begun_out t) in
-    settled-logs c.settle-2.result gives (g.C.Served.stands first c.put-2.new.self.core) (Told g.K.Sink.write_gives begun_out c.put-2.new.out) terms p asks c.put-2.new.self.kept begun c.put-2.new.doors c.settle-2.ensures (c.in_ok-put.ensures.log first terms asks begun begun_out taking)
+    (c.in_ok-dropped.ensures.log first terms asks begun begun_out taped t) in
+    settled-logs c.settle-2.result gives (g.C.Served.stands first c.put-2.new.self.core) (g.C.Served.runs_out first) (Told g.K.Sink.write_gives begun_out c.put-2.new.out) terms p asks c.put-2.new.self.kept begun c.put-2.new.doors c.settle-2.ensures (c.in_ok-put.ensures.log first terms asks begun begun_out (taped ∙ sym c.put.ensures.made) taking)

@@ -7,24 +7,36 @@ use Rattle.gate_outside.specs.Link.{Link}
 use Rattle.bridge_run.specs.Events.{event_of}
 use Rattle.bridge_run.specs.declared.kept.Kept.{Kept}
 use Rattle.bridge_run.specs.Prescribed.{refuses}
-use Rattle.bridge_run.specs.Outside.{outside, Cut, gathering, faults}
+use Rattle.bridge_run.specs.Outside.{outside, Tells, gathering, faults}
 use Rattle.bridge_run.specs.declared.serve_end.ServeEnd.{ServeEnd}
 use Rattle.bridge_run.specs.Log.{Logged, Told, InPart}
 use Rattle.bridge_run.specs.inner.Follows.{HasFaults}
 use Rattle.bridge_run.proofs.lemmas.calls.Course.{is-err}
 use Rattle.bridge_run.specs.inner.Links.{wrote_if, WritesFront, closed_if}
 use Rattle.bridge_run.specs.inner.Keeping.{refusing}
-use Rattle.bridge_run.proofs.lemmas.events.Put.{due-of, recorded-by, tape-faults, cut-puts, dropped-is, put-client, put-host, put-follows, put-before, put-in_entry, put-in_client, put-in_host, put-in_lines, refusing-none}
-use Rattle.bridge_run.specs.Calls.{put, ends_next}
+use Rattle.bridge_run.proofs.lemmas.events.Put.{due-of, recorded-by, tape-faults, cut-puts, dropped-is, put-client, put-host, put-follows, put-in_entry, put-in_client, put-in_host, put-in_lines, refusing-none}
+use Rattle.bridge_run.specs.Calls.{ends_next}
 use Rattle.bridge_run.specs.inner.Logging.{WroteMore, all_if, closing}
 use Rattle.bridge_run.proofs.lemmas.calls.Sink.{told-event, told-front}
-use Rattle.bridge_run.proofs.lemmas.calls.Log.{has-sent, put-behind, client-kept, host-kept, refused-kept, dropped-down, memory-logs, tape-logs, client-part, host-part, behind-part, put-err}
+use Rattle.bridge_run.proofs.lemmas.calls.Log.{has-sent, put-behind, client-kept, host-kept, refused-kept, dropped-down, client-part, host-part, behind-part, put-err}
+use Rattle.bridge_run.proofs.lemmas.calls.Stop.{stopping, stop-logs, tape-logs}
 use Rattle.bridge_run.proofs.session.Session.put.Goals as goal
 
-pub returns-in_err-prepare-clause-course : goal.returns-in_err-prepare-clause-course
-returns-in_err-prepare-clause-course g c = λ first k f. cut-puts _ c.from_residual.result (g.C.Served.stands first c.prepare.new.self.core) (g.C.Served.sends first) (event_of c.args.event) c.prepare.new.self.kept (outside (g.D.Doors.link c.args.doors.now) (g.D.Doors.door c.args.doors.now)) (gathering (g.K.Sink.contents c.args.out.now) (g.T.Tape.contents c.args.tape.now) c.prepare.new.self.waiting) k c.from_residual.ensures.1
-    (subst (λ (l : List ℕ). Cut (outside (g.D.Doors.link c.args.doors.now) (g.D.Doors.door c.args.doors.now)) (gathering (g.K.Sink.contents c.args.out.now) (g.T.Tape.contents c.args.tape.now) l) k (put (g.C.Served.sends first) (event_of c.args.event) k)) (sym c.prepare.ensures.waiting)
-    (put-before (g.C.Served.sends first) k (event_of c.args.event) (outside (g.D.Doors.link c.args.doors.now) (g.D.Doors.door c.args.doors.now)) (gathering (g.K.Sink.contents c.args.out.now) (g.T.Tape.contents c.args.tape.now) c.args.self.now.waiting) f.tells))
+pub returns-in-Err-clause-course : goal.returns-in-Err-clause-course
+returns-in-Err-clause-course g c = λ first k f.
+    c.stop.ensures.course first (g.K.Sink.contents c.args.out.now) k (c.in-Err.ensures.stops first k.events f.stands_for)
+    (record { client = ap (λ (q : Kept). q.client_up) c.prepare.ensures.kept ∙ f.client_up; host = ap (λ (q : Kept). q.host_up) c.prepare.ensures.kept ∙ f.host_up })
+    (subst (λ (l : List ℕ). Tells (outside (g.D.Doors.link c.args.doors.now) (g.D.Doors.door c.args.doors.now)) (gathering (g.K.Sink.contents c.args.out.now) (g.T.Tape.contents c.args.tape.now) l) k) (sym c.prepare.ensures.waiting) f.tells)
+
+pub returns-in-Err-clause-log : goal.returns-in-Err-clause-log
+returns-in-Err-clause-log g c = λ first terms asks begun begun_out taped t.
+    let gives = g.D.Doors.call_gives in
+    let tells = Told g.K.Sink.write_gives begun_out c.args.out.now in
+    let p = g.C.Served.sends first in
+    let e = event_of c.args.event in
+    stop-logs c.stop.result gives (g.C.Served.runs_out first) tells terms p e t.events begun c.stop.new.doors t.told
+    (c.stop.ensures.log first terms t.events begun taped (c.in-Err.ensures.stops first t.events t.stands_for)
+    (stopping gives (g.C.Served.stands first c.args.self.now.core) tells terms p asks e c.args.self.now.kept c.prepare.new.self.kept begun c.args.doors.now c.prepare.ensures.kept t))
 
 pub returns-in_err-record_event-clause-course : goal.returns-in_err-record_event-clause-course
 returns-in_err-record_event-clause-course g c = λ first k f.
@@ -32,13 +44,13 @@ returns-in_err-record_event-clause-course g c = λ first k f.
     let e = event_of c.args.event in
     let w = outside (g.D.Doors.link c.args.doors.now) (g.D.Doors.door c.args.doors.now) in
     let out = (gathering (g.K.Sink.contents c.args.out.now) (g.T.Tape.contents c.record_event.new.tape) c.record_event.new.waiting) in
-    let prepared = c.in_ok-prepare.ensures.prepared first k.events f.stands_for in
-    let up_client = ap (λ (k : Kept). k.client_up) c.in_ok-prepare.ensures.kept ∙ f.client_up in
-    let up_host = ap (λ (k : Kept). k.host_up) c.in_ok-prepare.ensures.kept ∙ f.host_up in
-    let left = ap (λ (k : Kept). k.left) c.in_ok-prepare.ensures.kept ∙ f.left in
+    let prepared = c.in_default.ensures.prepared first k.events f.stands_for in
+    let up_client = ap (λ (k : Kept). k.client_up) c.prepare.ensures.kept ∙ f.client_up in
+    let up_host = ap (λ (k : Kept). k.host_up) c.prepare.ensures.kept ∙ f.host_up in
+    let left = ap (λ (k : Kept). k.left) c.prepare.ensures.kept ∙ f.left in
     let due = due-of p k e c.prepare.new.self.sent c.prepare.new.self.lines c.prepare.new.self.kept c.is_due-due.result prepared up_client up_host left c.is_due-due.ensures in
-    cut-puts _ c.from_residual-in_err-record_event.result (g.C.Served.stands first c.prepare.new.self.core) p e c.prepare.new.self.kept w out k c.from_residual-in_err-record_event.ensures.1
-    (put-in_entry p k e c.prepare.new.self.sent c.prepare.new.self.lines c.is_due-due.result w (gathering (g.K.Sink.contents c.args.out.now) (g.T.Tape.contents c.args.tape.now) c.args.self.now.waiting) out c.prepare.new.self.waiting prepared f.tells refl due c.in_ok-prepare.ensures.waiting c.in_err-record_event.ensures.err)
+    cut-puts _ c.from_residual.result (g.C.Served.stands first c.prepare.new.self.core) p e c.prepare.new.self.kept w out k c.from_residual.ensures.1
+    (put-in_entry p k e c.prepare.new.self.sent c.prepare.new.self.lines c.is_due-due.result w (gathering (g.K.Sink.contents c.args.out.now) (g.T.Tape.contents c.args.tape.now) c.args.self.now.waiting) out c.prepare.new.self.waiting prepared f.tells refl due c.prepare.ensures.waiting c.in_err-record_event.ensures.err)
 
 pub returns-in_err-record_event-clause-faults : goal.returns-in_err-record_event-clause-faults
 returns-in_err-record_event-clause-faults g c =
@@ -47,7 +59,7 @@ returns-in_err-record_event-clause-faults g c =
     let old = g.T.Tape.counts c.args.tape.now in
     let new = g.T.Tape.counts c.record_event.new.tape in
     let end = c.in_err-record_event.field-0.0 in
-    subst (λ (r : Result Bool ServeEnd). HasFaults r w w (faults sink old) (faults sink new)) (sym (is-err c.from_residual-in_err-record_event.result end c.from_residual-in_err-record_event.ensures.1))
+    subst (λ (r : Result Bool ServeEnd). HasFaults r w w (faults sink old) (faults sink new)) (sym (is-err c.from_residual.result end c.from_residual.ensures.1))
     (tape-faults end w sink old new c.in_err-record_event.ensures.cause)
 
 pub returns-in_err-write_link-clause-course : goal.returns-in_err-write_link-clause-course
@@ -56,12 +68,12 @@ returns-in_err-write_link-clause-course g c = λ first k f.
     let e = event_of c.args.event in
     let sent = c.prepare.new.self.sent in
     let lines = c.prepare.new.self.lines in
-    let prepared = c.in_ok-prepare.ensures.prepared first k.events f.stands_for in
-    let up_client = ap (λ (k : Kept). k.client_up) c.in_ok-prepare.ensures.kept ∙ f.client_up in
-    let up_host = ap (λ (k : Kept). k.host_up) c.in_ok-prepare.ensures.kept ∙ f.host_up in
-    let left = ap (λ (k : Kept). k.left) c.in_ok-prepare.ensures.kept ∙ f.left in
+    let prepared = c.in_default.ensures.prepared first k.events f.stands_for in
+    let up_client = ap (λ (k : Kept). k.client_up) c.prepare.ensures.kept ∙ f.client_up in
+    let up_host = ap (λ (k : Kept). k.host_up) c.prepare.ensures.kept ∙ f.host_up in
+    let left = ap (λ (k : Kept). k.left) c.prepare.ensures.kept ∙ f.left in
     let due = due-of p k e c.prepare.new.self.sent c.prepare.new.self.lines c.prepare.new.self.kept c.is_due-due.result prepared up_client up_host left c.is_due-due.ensures in
-    let recorded = recorded-by p k e sent c.is_due-due.result (gathering (g.K.Sink.contents c.args.out.now) (g.T.Tape.contents c.args.tape.now) c.args.self.now.waiting) (gathering (g.K.Sink.contents c.args.out.now) (g.T.Tape.contents c.record_event.new.tape) c.record_event.new.waiting) c.prepare.new.self.waiting c.in_ok-prepare.ensures.waiting due c.in_ok-record_event.ensures.ok c.in_ok-record_event.ensures.waits in
+    let recorded = recorded-by p k e sent c.is_due-due.result (gathering (g.K.Sink.contents c.args.out.now) (g.T.Tape.contents c.args.tape.now) c.args.self.now.waiting) (gathering (g.K.Sink.contents c.args.out.now) (g.T.Tape.contents c.record_event.new.tape) c.record_event.new.waiting) c.prepare.new.self.waiting c.prepare.ensures.waiting due c.in_ok-record_event.ensures.ok c.in_ok-record_event.ensures.waits in
     cut-puts _ c.from_residual-in_err-write_link.result (g.C.Served.stands first c.prepare.new.self.core) p e c.prepare.new.self.kept (outside (g.D.Doors.link c.write_link.new.doors) (g.D.Doors.door c.write_link.new.doors)) (gathering (g.K.Sink.contents c.args.out.now) (g.T.Tape.contents c.record_event.new.tape) c.record_event.new.waiting) k c.from_residual-in_err-write_link.ensures.1
     (put-in_client p k e sent lines c.is_due-due.result (outside (g.D.Doors.link c.args.doors.now) (g.D.Doors.door c.args.doors.now)) (outside (g.D.Doors.link c.write_link.new.doors) (g.D.Doors.door c.write_link.new.doors)) (gathering (g.K.Sink.contents c.args.out.now) (g.T.Tape.contents c.args.tape.now) c.args.self.now.waiting) (gathering (g.K.Sink.contents c.args.out.now) (g.T.Tape.contents c.record_event.new.tape) c.record_event.new.waiting) c.prepare.new.self.kept.client_up prepared f.tells refl recorded up_client
     (subst (λ (b : List ℕ). WritesFront c.prepare.new.self.kept.client_up b (g.D.Doors.link c.args.doors.now Client) (g.D.Doors.link c.write_link.new.doors Client)) c.as_slice.ensures c.in_err-write_link.ensures.link)
@@ -73,12 +85,12 @@ returns-in_err-write_link-2-clause-course g c = λ first k f.
     let e = event_of c.args.event in
     let sent = c.prepare.new.self.sent in
     let lines = c.prepare.new.self.lines in
-    let prepared = c.in_ok-prepare.ensures.prepared first k.events f.stands_for in
-    let up_client = ap (λ (k : Kept). k.client_up) c.in_ok-prepare.ensures.kept ∙ f.client_up in
-    let up_host = ap (λ (k : Kept). k.host_up) c.in_ok-prepare.ensures.kept ∙ f.host_up in
-    let left = ap (λ (k : Kept). k.left) c.in_ok-prepare.ensures.kept ∙ f.left in
+    let prepared = c.in_default.ensures.prepared first k.events f.stands_for in
+    let up_client = ap (λ (k : Kept). k.client_up) c.prepare.ensures.kept ∙ f.client_up in
+    let up_host = ap (λ (k : Kept). k.host_up) c.prepare.ensures.kept ∙ f.host_up in
+    let left = ap (λ (k : Kept). k.left) c.prepare.ensures.kept ∙ f.left in
     let due = due-of p k e c.prepare.new.self.sent c.prepare.new.self.lines c.prepare.new.self.kept c.is_due-due.result prepared up_client up_host left c.is_due-due.ensures in
-    let recorded = recorded-by p k e sent c.is_due-due.result (gathering (g.K.Sink.contents c.args.out.now) (g.T.Tape.contents c.args.tape.now) c.args.self.now.waiting) (gathering (g.K.Sink.contents c.args.out.now) (g.T.Tape.contents c.record_event.new.tape) c.record_event.new.waiting) c.prepare.new.self.waiting c.in_ok-prepare.ensures.waiting due c.in_ok-record_event.ensures.ok c.in_ok-record_event.ensures.waits in
+    let recorded = recorded-by p k e sent c.is_due-due.result (gathering (g.K.Sink.contents c.args.out.now) (g.T.Tape.contents c.args.tape.now) c.args.self.now.waiting) (gathering (g.K.Sink.contents c.args.out.now) (g.T.Tape.contents c.record_event.new.tape) c.record_event.new.waiting) c.prepare.new.self.waiting c.prepare.ensures.waiting due c.in_ok-record_event.ensures.ok c.in_ok-record_event.ensures.waits in
     let wrote_client = c.in_ok-write_link.ensures.link ∙ ap (λ (b : List ℕ). wrote_if c.prepare.new.self.kept.client_up b (g.D.Doors.link c.args.doors.now Client)) c.as_slice.ensures in
     cut-puts _ c.from_residual-in_err-write_link-2.result (g.C.Served.stands first c.prepare.new.self.core) p e c.prepare.new.self.kept (outside (g.D.Doors.link c.write_link-2.new.doors) (g.D.Doors.door c.write_link-2.new.doors)) (gathering (g.K.Sink.contents c.args.out.now) (g.T.Tape.contents c.record_event.new.tape) c.record_event.new.waiting) k c.from_residual-in_err-write_link-2.ensures.1
     (put-in_host p k e sent lines c.is_due-due.result (outside (g.D.Doors.link c.args.doors.now) (g.D.Doors.door c.args.doors.now)) (outside (g.D.Doors.link c.write_link-2.new.doors) (g.D.Doors.door c.write_link-2.new.doors)) (gathering (g.K.Sink.contents c.args.out.now) (g.T.Tape.contents c.args.tape.now) c.args.self.now.waiting) (gathering (g.K.Sink.contents c.args.out.now) (g.T.Tape.contents c.record_event.new.tape) c.record_event.new.waiting) c.prepare.new.self.kept.client_up c.prepare.new.self.kept.host_up prepared f.tells refl recorded up_client up_host
@@ -87,18 +99,18 @@ returns-in_err-write_link-2-clause-course g c = λ first k f.
     (subst (λ (b : List ℕ). WritesFront c.prepare.new.self.kept.host_up b (g.D.Doors.link c.write_link.new.doors Host) (g.D.Doors.link c.write_link-2.new.doors Host)) c.as_slice-2.ensures c.in_err-write_link-2.ensures.link))
     (c.in_err-write_link-2.ensures.door ∙ c.in_ok-write_link.ensures.door))
 
-pub returns-in-Err-clause-course : goal.returns-in-Err-clause-course
-returns-in-Err-clause-course g c = λ first k f.
+pub returns-in-Err-write_all-clause-course : goal.returns-in-Err-write_all-clause-course
+returns-in-Err-write_all-clause-course g c = λ first k f.
     let p = g.C.Served.sends first in
     let e = event_of c.args.event in
     let sent = c.prepare.new.self.sent in
     let lines = c.prepare.new.self.lines in
-    let prepared = c.in_ok-prepare.ensures.prepared first k.events f.stands_for in
-    let up_client = ap (λ (k : Kept). k.client_up) c.in_ok-prepare.ensures.kept ∙ f.client_up in
-    let up_host = ap (λ (k : Kept). k.host_up) c.in_ok-prepare.ensures.kept ∙ f.host_up in
-    let left = ap (λ (k : Kept). k.left) c.in_ok-prepare.ensures.kept ∙ f.left in
+    let prepared = c.in_default.ensures.prepared first k.events f.stands_for in
+    let up_client = ap (λ (k : Kept). k.client_up) c.prepare.ensures.kept ∙ f.client_up in
+    let up_host = ap (λ (k : Kept). k.host_up) c.prepare.ensures.kept ∙ f.host_up in
+    let left = ap (λ (k : Kept). k.left) c.prepare.ensures.kept ∙ f.left in
     let due = due-of p k e c.prepare.new.self.sent c.prepare.new.self.lines c.prepare.new.self.kept c.is_due-due.result prepared up_client up_host left c.is_due-due.ensures in
-    let recorded = recorded-by p k e sent c.is_due-due.result (gathering (g.K.Sink.contents c.args.out.now) (g.T.Tape.contents c.args.tape.now) c.args.self.now.waiting) (gathering (g.K.Sink.contents c.write_all.new.sink) (g.T.Tape.contents c.record_event.new.tape) c.record_event.new.waiting) c.prepare.new.self.waiting c.in_ok-prepare.ensures.waiting due c.in_ok-record_event.ensures.ok c.in_ok-record_event.ensures.waits in
+    let recorded = recorded-by p k e sent c.is_due-due.result (gathering (g.K.Sink.contents c.args.out.now) (g.T.Tape.contents c.args.tape.now) c.args.self.now.waiting) (gathering (g.K.Sink.contents c.write_all.new.sink) (g.T.Tape.contents c.record_event.new.tape) c.record_event.new.waiting) c.prepare.new.self.waiting c.prepare.ensures.waiting due c.in_ok-record_event.ensures.ok c.in_ok-record_event.ensures.waits in
     let rc = refuses Client sent.refusals || sent.lets_go in
     let rh = refuses Host sent.refusals in
     let wrote_client = c.in_ok-write_link.ensures.link ∙ ap (λ (b : List ℕ). wrote_if c.prepare.new.self.kept.client_up b (g.D.Doors.link c.args.doors.now Client)) c.as_slice.ensures in
@@ -113,7 +125,7 @@ returns-in-Err-clause-course g c = λ first k f.
     let shows_client = put-client p k e sent lines (g.D.Doors.link c.args.doors.now Client) (g.D.Doors.link c.close_link-2.new.doors Client) c.prepare.new.self.kept.client_up prepared f.tells.client up_client client in
     let shows_host = put-host p k e sent lines (g.D.Doors.link c.args.doors.now Host) (g.D.Doors.link c.close_link-2.new.doors Host) c.prepare.new.self.kept.host_up prepared f.tells.host up_host host in
     put-in_lines p k e sent lines c.is_due-due.result (outside (g.D.Doors.link c.args.doors.now) (g.D.Doors.door c.args.doors.now)) (outside (g.D.Doors.link c.close_link-2.new.doors) (g.D.Doors.door c.close_link-2.new.doors)) (gathering (g.K.Sink.contents c.args.out.now) (g.T.Tape.contents c.args.tape.now) c.args.self.now.waiting) (gathering (g.K.Sink.contents c.write_all.new.sink) (g.T.Tape.contents c.record_event.new.tape) c.record_event.new.waiting) prepared f.tells shows_client shows_host door
-    (subst (λ (b : List ℕ). AppendsFront (g.K.Sink.contents c.args.out.now) (g.K.Sink.contents c.write_all.new.sink) b) c.as_slice-3.ensures c.in-Err.ensures.err) recorded
+    (subst (λ (b : List ℕ). AppendsFront (g.K.Sink.contents c.args.out.now) (g.K.Sink.contents c.write_all.new.sink) b) c.as_slice-3.ensures c.in-Err-write_all.ensures.err) recorded
 
 pub returns-in-Ok-clause-course : goal.returns-in-Ok-clause-course
 returns-in-Ok-clause-course g c = λ first k f.
@@ -121,12 +133,12 @@ returns-in-Ok-clause-course g c = λ first k f.
     let e = event_of c.args.event in
     let sent = c.prepare.new.self.sent in
     let lines = c.prepare.new.self.lines in
-    let prepared = c.in_ok-prepare.ensures.prepared first k.events f.stands_for in
-    let up_client = ap (λ (k : Kept). k.client_up) c.in_ok-prepare.ensures.kept ∙ f.client_up in
-    let up_host = ap (λ (k : Kept). k.host_up) c.in_ok-prepare.ensures.kept ∙ f.host_up in
-    let left = ap (λ (k : Kept). k.left) c.in_ok-prepare.ensures.kept ∙ f.left in
+    let prepared = c.in_default.ensures.prepared first k.events f.stands_for in
+    let up_client = ap (λ (k : Kept). k.client_up) c.prepare.ensures.kept ∙ f.client_up in
+    let up_host = ap (λ (k : Kept). k.host_up) c.prepare.ensures.kept ∙ f.host_up in
+    let left = ap (λ (k : Kept). k.left) c.prepare.ensures.kept ∙ f.left in
     let due = due-of p k e c.prepare.new.self.sent c.prepare.new.self.lines c.prepare.new.self.kept c.is_due-due.result prepared up_client up_host left c.is_due-due.ensures in
-    let recorded = recorded-by p k e sent c.is_due-due.result (gathering (g.K.Sink.contents c.args.out.now) (g.T.Tape.contents c.args.tape.now) c.args.self.now.waiting) (gathering (g.K.Sink.contents c.write_all.new.sink) (g.T.Tape.contents c.record_event.new.tape) c.record_event.new.waiting) c.prepare.new.self.waiting c.in_ok-prepare.ensures.waiting due c.in_ok-record_event.ensures.ok c.in_ok-record_event.ensures.waits in
+    let recorded = recorded-by p k e sent c.is_due-due.result (gathering (g.K.Sink.contents c.args.out.now) (g.T.Tape.contents c.args.tape.now) c.args.self.now.waiting) (gathering (g.K.Sink.contents c.write_all.new.sink) (g.T.Tape.contents c.record_event.new.tape) c.record_event.new.waiting) c.prepare.new.self.waiting c.prepare.ensures.waiting due c.in_ok-record_event.ensures.ok c.in_ok-record_event.ensures.waits in
     let rc = refuses Client sent.refusals || sent.lets_go in
     let rh = refuses Host sent.refusals in
     let wrote_client = c.in_ok-write_link.ensures.link ∙ ap (λ (b : List ℕ). wrote_if c.prepare.new.self.kept.client_up b (g.D.Doors.link c.args.doors.now Client)) c.as_slice.ensures in
@@ -141,7 +153,7 @@ returns-in-Ok-clause-course g c = λ first k f.
     let shows_client = put-client p k e sent lines (g.D.Doors.link c.args.doors.now Client) (g.D.Doors.link c.close_link-2.new.doors Client) c.prepare.new.self.kept.client_up prepared f.tells.client up_client client in
     let shows_host = put-host p k e sent lines (g.D.Doors.link c.args.doors.now Host) (g.D.Doors.link c.close_link-2.new.doors Host) c.prepare.new.self.kept.host_up prepared f.tells.host up_host host in (
       put-follows (g.C.Served.stands first c.prepare.new.self.core) p c.args.self.now.kept c.refuse.new.self (outside (g.D.Doors.link c.args.doors.now) (g.D.Doors.door c.args.doors.now)) (outside (g.D.Doors.link c.close_link-2.new.doors) (g.D.Doors.door c.close_link-2.new.doors)) (gathering (g.K.Sink.contents c.args.out.now) (g.T.Tape.contents c.args.tape.now) c.args.self.now.waiting) (gathering (g.K.Sink.contents c.write_all.new.sink) (g.T.Tape.contents c.record_event.new.tape) c.record_event.new.waiting) k e sent lines c.is_due-due.result
-          (g.C.Served.stands first c.args.self.now.core) f prepared (c.in_ok-prepare.ensures.stands first k.events f.stands_for) (c.refuse.ensures ∙ ap (refusing sent.refusals sent.lets_go) c.in_ok-prepare.ensures.kept) shows_client shows_host door
+          (g.C.Served.stands first c.args.self.now.core) f prepared (c.in_default.ensures.stands first k.events f.stands_for) (c.refuse.ensures ∙ ap (refusing sent.refusals sent.lets_go) c.prepare.ensures.kept) shows_client shows_host door
           (subst (λ (b : List ℕ). Appends (g.K.Sink.contents c.args.out.now) (g.K.Sink.contents c.write_all.new.sink) b) c.as_slice-3.ensures c.in-Ok.ensures.ok) recorded,
       c.drops_client-dropped.ensures ∙ dropped-is p k.events e sent lines prepared,
     )
@@ -149,33 +161,27 @@ returns-in-Ok-clause-course g c = λ first k f.
 pub returns-in-Ok-clause-quiet : goal.returns-in-Ok-clause-quiet
 returns-in-Ok-clause-quiet g c = λ quiet.
     let sent = c.prepare.new.self.sent in
-    let none = c.in_ok-prepare.ensures.quiet quiet in
-    let stays = c.in_ok-prepare.ensures.stays quiet in (
+    let none = c.in_default.ensures.quiet quiet in
+    let stays = c.in_default.ensures.stays quiet in (
       c.drops_client-dropped.ensures ∙ ap (λ (rs : List Refusal). refuses Client rs || sent.lets_go) none ∙ stays,
-      refusing-none sent.refusals sent.lets_go c.args.self.now.kept c.refuse.new.self none stays (c.refuse.ensures ∙ ap (refusing sent.refusals sent.lets_go) c.in_ok-prepare.ensures.kept),
+      refusing-none sent.refusals sent.lets_go c.args.self.now.kept c.refuse.new.self none stays (c.refuse.ensures ∙ ap (refusing sent.refusals sent.lets_go) c.prepare.ensures.kept),
     )
 
-pub returns-in_err-prepare-clause-log : goal.returns-in_err-prepare-clause-log
-returns-in_err-prepare-clause-log g c = λ first terms asks begun begun_out t.
-    let gives = g.D.Doors.call_gives in
-    let tells = Told g.K.Sink.write_gives begun_out c.args.out.now in
-    let p = g.C.Served.sends first in
-    let e = event_of c.args.event in
-    put-err _ c.from_residual.result gives (g.C.Served.stands first c.prepare.new.self.core) tells terms p asks e c.prepare.new.self.kept begun c.args.doors.now c.from_residual.ensures.1
-    (λ x is. subst (λ (y : ServeEnd). Logged y gives tells terms p begun c.args.doors.now) (sym is) (memory-logs gives (g.C.Served.stands first c.args.self.now.core) tells terms p asks e c.args.self.now.kept begun c.args.doors.now t))
-
 pub returns-in_err-record_event-clause-log : goal.returns-in_err-record_event-clause-log
-returns-in_err-record_event-clause-log g c = λ first terms asks begun begun_out t.
+returns-in_err-record_event-clause-log g c = λ first terms asks begun begun_out taped t.
     let gives = g.D.Doors.call_gives in
+    let runs_out = g.C.Served.runs_out first in
     let tells = Told g.K.Sink.write_gives begun_out c.args.out.now in
     let p = g.C.Served.sends first in
     let e = event_of c.args.event in
-    put-err _ c.from_residual-in_err-record_event.result gives (g.C.Served.stands first c.prepare.new.self.core) tells terms p asks e c.prepare.new.self.kept begun c.args.doors.now c.from_residual-in_err-record_event.ensures.1
-    (λ x is. subst (λ (y : ServeEnd). Logged y gives tells terms p begun c.args.doors.now) (sym is)
-    (tape-logs c.in_err-record_event.field-0.0 (g.T.Tape.counts c.args.tape.now) (g.T.Tape.counts c.record_event.new.tape) gives (g.C.Served.stands first c.args.self.now.core) tells terms p asks e c.args.self.now.kept begun c.args.doors.now c.in_err-record_event.ensures.cause t))
+    let end = c.in_err-record_event.field-0.0 in
+    put-err _ c.from_residual.result gives (g.C.Served.stands first c.prepare.new.self.core) runs_out tells terms p asks e c.prepare.new.self.kept begun c.args.doors.now c.from_residual.ensures.1
+    (λ x is. subst (λ (y : ServeEnd). Logged y gives runs_out tells terms p begun c.args.doors.now) (sym is)
+    (tape-logs end (g.T.Tape.counts c.args.tape.now) (g.T.Tape.counts c.record_event.new.tape) gives (g.C.Served.stands first c.args.self.now.core) runs_out tells terms p asks e c.args.self.now.kept c.prepare.new.self.sent c.prepare.new.self.lines (g.T.Tape.made c.args.tape.now) begun c.args.doors.now
+    c.in_err-record_event.ensures.cause c.in_err-record_event.ensures.wants taped t (c.in_default.ensures.prepared first t.events t.stands_for)))
 
 pub returns-in_err-write_link-clause-log : goal.returns-in_err-write_link-clause-log
-returns-in_err-write_link-clause-log g c = λ first terms asks begun begun_out t.
+returns-in_err-write_link-clause-log g c = λ first terms asks begun begun_out taped t.
     let gives = g.D.Doors.call_gives in
     let tells = Told g.K.Sink.write_gives begun_out c.args.out.now in
     let p = g.C.Served.sends first in
@@ -185,14 +191,14 @@ returns-in_err-write_link-clause-log g c = λ first terms asks begun begun_out t
     let sent = c.prepare.new.self.sent in
     let lines = c.prepare.new.self.lines in
     let stands = g.C.Served.stands first c.args.self.now.core in
-    let prepared = c.in_ok-prepare.ensures.prepared first t.events t.stands_for in
-    let same = c.in_ok-prepare.ensures.kept in
-    put-err _ c.from_residual-in_err-write_link.result gives (g.C.Served.stands first c.prepare.new.self.core) tells terms p asks e k1 begun c.write_link.new.doors c.from_residual-in_err-write_link.ensures.1
-    (λ x is. subst (λ (y : ServeEnd). Logged y gives tells terms p begun c.write_link.new.doors) (sym (is ∙ c.in_err-write_link.ensures.fault))
-    (client-part gives stands tells terms p asks e old k1 sent lines c.as_slice.result.now begun c.args.doors.now c.write_link.new.doors t prepared same c.as_slice.ensures (c.in_err-write_link.ensures.log begun t.calls t.called)))
+    let prepared = c.in_default.ensures.prepared first t.events t.stands_for in
+    let same = c.prepare.ensures.kept in
+    put-err _ c.from_residual-in_err-write_link.result gives (g.C.Served.stands first c.prepare.new.self.core) (g.C.Served.runs_out first) tells terms p asks e k1 begun c.write_link.new.doors c.from_residual-in_err-write_link.ensures.1
+    (λ x is. subst (λ (y : ServeEnd). Logged y gives (g.C.Served.runs_out first) tells terms p begun c.write_link.new.doors) (sym (is ∙ c.in_err-write_link.ensures.fault))
+    (client-part gives stands (g.C.Served.runs_out first) tells terms p asks e old k1 sent lines c.as_slice.result.now begun c.args.doors.now c.write_link.new.doors t prepared same c.as_slice.ensures (c.in_err-write_link.ensures.log begun t.calls t.called)))
 
 pub returns-in_err-write_link-2-clause-log : goal.returns-in_err-write_link-2-clause-log
-returns-in_err-write_link-2-clause-log g c = λ first terms asks begun begun_out t.
+returns-in_err-write_link-2-clause-log g c = λ first terms asks begun begun_out taped t.
     let gives = g.D.Doors.call_gives in
     let tells = Told g.K.Sink.write_gives begun_out c.args.out.now in
     let p = g.C.Served.sends first in
@@ -202,15 +208,15 @@ returns-in_err-write_link-2-clause-log g c = λ first terms asks begun begun_out
     let sent = c.prepare.new.self.sent in
     let lines = c.prepare.new.self.lines in
     let stands = g.C.Served.stands first c.args.self.now.core in
-    let prepared = c.in_ok-prepare.ensures.prepared first t.events t.stands_for in
-    let same = c.in_ok-prepare.ensures.kept in
+    let prepared = c.in_default.ensures.prepared first t.events t.stands_for in
+    let same = c.prepare.ensures.kept in
     let w1 = subst (λ (b : List ℕ). WroteMore gives Client (all_if k1.client_up b) t.calls begun c.write_link.new.doors) c.as_slice.ensures (c.in_ok-write_link.ensures.log begun t.calls t.called) in
-    put-err _ c.from_residual-in_err-write_link-2.result gives (g.C.Served.stands first c.prepare.new.self.core) tells terms p asks e k1 begun c.write_link-2.new.doors c.from_residual-in_err-write_link-2.ensures.1
-    (λ x is. subst (λ (y : ServeEnd). Logged y gives tells terms p begun c.write_link-2.new.doors) (sym (is ∙ c.in_err-write_link-2.ensures.fault))
-    (host-part gives stands tells terms p asks e old k1 sent lines c.as_slice-2.result.now begun c.args.doors.now c.write_link.new.doors c.write_link-2.new.doors t prepared same c.as_slice-2.ensures w1 (c.in_err-write_link-2.ensures.log begun w1.behind w1.called)))
+    put-err _ c.from_residual-in_err-write_link-2.result gives (g.C.Served.stands first c.prepare.new.self.core) (g.C.Served.runs_out first) tells terms p asks e k1 begun c.write_link-2.new.doors c.from_residual-in_err-write_link-2.ensures.1
+    (λ x is. subst (λ (y : ServeEnd). Logged y gives (g.C.Served.runs_out first) tells terms p begun c.write_link-2.new.doors) (sym (is ∙ c.in_err-write_link-2.ensures.fault))
+    (host-part gives stands (g.C.Served.runs_out first) tells terms p asks e old k1 sent lines c.as_slice-2.result.now begun c.args.doors.now c.write_link.new.doors c.write_link-2.new.doors t prepared same c.as_slice-2.ensures w1 (c.in_err-write_link-2.ensures.log begun w1.behind w1.called)))
 
-pub returns-in-Err-clause-log : goal.returns-in-Err-clause-log
-returns-in-Err-clause-log g c = λ first terms asks begun begun_out t.
+pub returns-in-Err-write_all-clause-log : goal.returns-in-Err-write_all-clause-log
+returns-in-Err-write_all-clause-log g c = λ first terms asks begun begun_out taped t.
     let gives = g.D.Doors.call_gives in
     let writes = g.K.Sink.write_gives in
     let before = Told writes begun_out c.args.out.now in
@@ -223,8 +229,8 @@ returns-in-Err-clause-log g c = λ first terms asks begun begun_out t.
     let lines = c.prepare.new.self.lines in
     let stands = g.C.Served.stands first c.args.self.now.core in
     let stands' = g.C.Served.stands first c.prepare.new.self.core in
-    let prepared = c.in_ok-prepare.ensures.prepared first t.events t.stands_for in
-    let same = c.in_ok-prepare.ensures.kept in
+    let prepared = c.in_default.ensures.prepared first t.events t.stands_for in
+    let same = c.prepare.ensures.kept in
     let w1 = subst (λ (b : List ℕ). WroteMore gives Client (all_if k1.client_up b) t.calls begun c.write_link.new.doors) c.as_slice.ensures (c.in_ok-write_link.ensures.log begun t.calls t.called) in
     let w2 = subst (λ (b : List ℕ). WroteMore gives Host (all_if k1.host_up b) w1.behind begun c.write_link-2.new.doors) c.as_slice-2.ensures (c.in_ok-write_link-2.ensures.log begun w1.behind w1.called) in
     let dropped = c.drops_client-dropped.result in
@@ -233,18 +239,18 @@ returns-in-Err-clause-log g c = λ first terms asks begun begun_out t.
     let behind = put-behind gives stands' (InPart tells) terms p asks e t.events c.refuse.new.self begun c.close_link-2.new.doors w2.behind c.refuses.result dropped
     (has-sent gives stands before terms p asks e old k1 sent lines begun c.args.doors.now c.write_link.new.doors c.write_link-2.new.doors t prepared same w1 w2) called
     (record {
-      stands_for = c.in_ok-prepare.ensures.stands first t.events t.stands_for;
-      told = told-front writes p t.events e sent lines c.as_slice-3.result.now begun_out c.args.out.now c.write_all.new.sink prepared c.as_slice-3.ensures t.told c.in-Err.ensures.writes_front;
+      stands_for = c.in_default.ensures.stands first t.events t.stands_for;
+      told = told-front writes p t.events e sent lines c.as_slice-3.result.now begun_out c.args.out.now c.write_all.new.sink prepared c.as_slice-3.ensures t.told c.in-Err-write_all.ensures.writes_front;
       left = ap (λ (k : Kept). k.left) kept ∙ t.left;
       client_up = client-kept p e t.events old c.refuse.new.self sent lines prepared kept t.client_up;
       host_up = host-kept terms p e t.events old c.refuse.new.self sent lines prepared kept t.host_up;
       refused = refused-kept p e t.events old c.refuse.new.self sent lines prepared kept t.refused;
     })
     (dropped-down old c.refuse.new.self sent dropped kept c.drops_client-dropped.ensures) in
-    behind-part gives stands' tells terms p asks c.refuse.new.self (ends_next e dropped) begun c.close_link-2.new.doors behind
+    behind-part gives stands' (g.C.Served.runs_out first) tells terms p asks c.refuse.new.self (ends_next e dropped) begun c.close_link-2.new.doors behind
 
 pub returns-in-Ok-clause-log : goal.returns-in-Ok-clause-log
-returns-in-Ok-clause-log g c = λ first terms asks begun begun_out t.
+returns-in-Ok-clause-log g c = λ first terms asks begun begun_out taped t.
     let gives = g.D.Doors.call_gives in
     let writes = g.K.Sink.write_gives in
     let before = Told writes begun_out c.args.out.now in
@@ -257,8 +263,8 @@ returns-in-Ok-clause-log g c = λ first terms asks begun begun_out t.
     let lines = c.prepare.new.self.lines in
     let stands = g.C.Served.stands first c.args.self.now.core in
     let stands' = g.C.Served.stands first c.prepare.new.self.core in
-    let prepared = c.in_ok-prepare.ensures.prepared first t.events t.stands_for in
-    let same = c.in_ok-prepare.ensures.kept in
+    let prepared = c.in_default.ensures.prepared first t.events t.stands_for in
+    let same = c.prepare.ensures.kept in
     let w1 = subst (λ (b : List ℕ). WroteMore gives Client (all_if k1.client_up b) t.calls begun c.write_link.new.doors) c.as_slice.ensures (c.in_ok-write_link.ensures.log begun t.calls t.called) in
     let w2 = subst (λ (b : List ℕ). WroteMore gives Host (all_if k1.host_up b) w1.behind begun c.write_link-2.new.doors) c.as_slice-2.ensures (c.in_ok-write_link-2.ensures.log begun w1.behind w1.called) in
     let dropped = c.drops_client-dropped.result in
@@ -267,7 +273,7 @@ returns-in-Ok-clause-log g c = λ first terms asks begun begun_out t.
     let behind = put-behind gives stands' tells terms p asks e t.events c.refuse.new.self begun c.close_link-2.new.doors w2.behind c.refuses.result dropped
     (has-sent gives stands before terms p asks e old k1 sent lines begun c.args.doors.now c.write_link.new.doors c.write_link-2.new.doors t prepared same w1 w2) called
     (record {
-      stands_for = c.in_ok-prepare.ensures.stands first t.events t.stands_for;
+      stands_for = c.in_default.ensures.stands first t.events t.stands_for;
       told = told-event writes p t.events e sent lines c.as_slice-3.result.now begun_out c.args.out.now c.write_all.new.sink prepared c.as_slice-3.ensures t.told c.in-Ok.ensures.writes;
       left = ap (λ (k : Kept). k.left) kept ∙ t.left;
       client_up = client-kept p e t.events old c.refuse.new.self sent lines prepared kept t.client_up;

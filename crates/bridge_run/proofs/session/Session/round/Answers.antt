@@ -11,8 +11,7 @@ use Rattle.bridge_run.proofs.lemmas.calls.Idle.{cut-within, ends-idles, round-id
 use Rattle.bridge_run.proofs.lemmas.events.Rest.{faults-then, rests, rest-cut, rests-faults, wears-then, fewer-if_ok, goes-on}
 use Rattle.bridge_run.specs.inner.Logging.{RoundBegins, Logs}
 use Rattle.bridge_run.specs.Log.{Told, Logged}
-use Rattle.bridge_run.proofs.lemmas.calls.Log.{lines-fault}
-use Rattle.bridge_run.proofs.lemmas.calls.Rounds.{rested-logs}
+use Rattle.bridge_run.proofs.lemmas.calls.Resting.{rested-logs, rest-fault}
 use Rattle.bridge_run.proofs.session.Session.round.Goals as goal
 
 pub returns-in_err-ask-clause-course : goal.returns-in_err-ask-clause-course
@@ -111,15 +110,16 @@ returns-in_err-write_waiting-clause-idles g c = let e = c.in_err-write_waiting.f
     (ends-idles e c.args.self.now.kept c.ask-2.new.self.kept (outside (g.D.Doors.link c.args.doors.now) (g.D.Doors.door c.args.doors.now)) (outside (g.D.Doors.link c.ask-2.new.doors) (g.D.Doors.door c.ask-2.new.doors)) (cut-within e (outside (g.D.Doors.link c.ask-2.new.doors) (g.D.Doors.door c.ask-2.new.doors)) c.in_err-write_waiting.ensures.cut))
 
 pub returns-in_err-write_waiting-clause-log : goal.returns-in_err-write_waiting-clause-log
-returns-in_err-write_waiting-clause-log g c = λ first terms begun begun_out a.
+returns-in_err-write_waiting-clause-log g c = λ first terms begun begun_out taped a.
     let gives = g.D.Doors.call_gives in
     let tells = Told g.K.Sink.write_gives begun_out c.ask-2.new.out in
     let p = g.C.Served.sends first in
     let stands = g.C.Served.stands first c.ask-2.new.self.core in
     let k = c.ask-2.new.self.kept in
-    let asked = c.in_ok-ask-2.ensures.log first terms begun begun_out (c.in_ok-ask.ensures.log first terms begun begun_out (c.in_ok-ask_door.ensures.log first terms begun begun_out a)) in
-    subst (λ (r : Result (Unit {0}) ServeEnd). Logs r RoundBegins gives stands tells terms p k begun c.ask-2.new.doors) (sym (is-err c.from_residual-in_err-write_waiting.result c.in_err-write_waiting.field-0.0 c.from_residual-in_err-write_waiting.ensures.1))
-    (subst (λ (x : ServeEnd). Logged x gives tells terms p begun c.ask-2.new.doors) (sym c.in_err-write_waiting.ensures.fault) (lines-fault gives stands tells terms p asked.asks k begun c.ask-2.new.doors asked.on.at))
+    let asked = c.in_ok-ask-2.ensures.log first terms begun begun_out (taped ∙ sym c.ask_door.ensures.made ∙ sym c.ask.ensures.made) (c.in_ok-ask.ensures.log first terms begun begun_out (taped ∙ sym c.ask_door.ensures.made) (c.in_ok-ask_door.ensures.log first terms begun begun_out taped a)) in
+    let runs_out = g.C.Served.runs_out first in
+    subst (λ (r : Result (Unit {0}) ServeEnd). Logs r RoundBegins gives stands runs_out tells terms p k begun c.ask-2.new.doors) (sym (is-err c.from_residual-in_err-write_waiting.result c.in_err-write_waiting.field-0.0 c.from_residual-in_err-write_waiting.ensures.1))
+    (subst (λ (x : ServeEnd). Logged x gives runs_out tells terms p begun c.ask-2.new.doors) (sym c.in_err-write_waiting.ensures.fault) (rest-fault gives stands runs_out tells terms p k begun c.ask-2.new.doors asked c.in_err-write_waiting.ensures.wanted.0 (taped ∙ sym c.ask_door.ensures.made ∙ sym c.ask.ensures.made ∙ sym c.ask-2.ensures.made ∙ c.in_err-write_waiting.ensures.wanted.1)))
 
 pub returns-clause-course : goal.returns-clause-course
 returns-clause-course g c = λ first k f.
@@ -191,21 +191,21 @@ returns-clause-idles g c = round-idles c.rest.result c.args.self.now.kept c.ask_
     }) c.rest.ensures
 
 pub returns-in_err-ask_door-clause-log : goal.returns-in_err-ask_door-clause-log
-returns-in_err-ask_door-clause-log g c = λ first terms begun begun_out a.
-    subst (λ (r : Result (Unit {0}) ServeEnd). Logs r RoundBegins g.D.Doors.call_gives (g.C.Served.stands first c.ask_door.new.self.core) (Told g.K.Sink.write_gives begun_out c.ask_door.new.out) terms (g.C.Served.sends first) c.ask_door.new.self.kept begun c.ask_door.new.doors) (sym (is-err c.from_residual.result c.in_err-ask_door.field-0.0 c.from_residual.ensures.1))
-    (c.in_err-ask_door.ensures.log first terms begun begun_out a)
+returns-in_err-ask_door-clause-log g c = λ first terms begun begun_out taped a.
+    subst (λ (r : Result (Unit {0}) ServeEnd). Logs r RoundBegins g.D.Doors.call_gives (g.C.Served.stands first c.ask_door.new.self.core) (g.C.Served.runs_out first) (Told g.K.Sink.write_gives begun_out c.ask_door.new.out) terms (g.C.Served.sends first) c.ask_door.new.self.kept begun c.ask_door.new.doors) (sym (is-err c.from_residual.result c.in_err-ask_door.field-0.0 c.from_residual.ensures.1))
+    (c.in_err-ask_door.ensures.log first terms begun begun_out taped a)
 
 pub returns-in_err-ask-clause-log : goal.returns-in_err-ask-clause-log
-returns-in_err-ask-clause-log g c = λ first terms begun begun_out a.
-    subst (λ (r : Result (Unit {0}) ServeEnd). Logs r RoundBegins g.D.Doors.call_gives (g.C.Served.stands first c.ask.new.self.core) (Told g.K.Sink.write_gives begun_out c.ask.new.out) terms (g.C.Served.sends first) c.ask.new.self.kept begun c.ask.new.doors) (sym (is-err c.from_residual-in_err-ask.result c.in_err-ask.field-0.0 c.from_residual-in_err-ask.ensures.1))
-    (c.in_err-ask.ensures.log first terms begun begun_out (c.in_ok-ask_door.ensures.log first terms begun begun_out a))
+returns-in_err-ask-clause-log g c = λ first terms begun begun_out taped a.
+    subst (λ (r : Result (Unit {0}) ServeEnd). Logs r RoundBegins g.D.Doors.call_gives (g.C.Served.stands first c.ask.new.self.core) (g.C.Served.runs_out first) (Told g.K.Sink.write_gives begun_out c.ask.new.out) terms (g.C.Served.sends first) c.ask.new.self.kept begun c.ask.new.doors) (sym (is-err c.from_residual-in_err-ask.result c.in_err-ask.field-0.0 c.from_residual-in_err-ask.ensures.1))
+    (c.in_err-ask.ensures.log first terms begun begun_out (taped ∙ sym c.ask_door.ensures.made) (c.in_ok-ask_door.ensures.log first terms begun begun_out taped a))
 
 pub returns-in_err-ask-2-clause-log : goal.returns-in_err-ask-2-clause-log
-returns-in_err-ask-2-clause-log g c = λ first terms begun begun_out a.
-    subst (λ (r : Result (Unit {0}) ServeEnd). Logs r RoundBegins g.D.Doors.call_gives (g.C.Served.stands first c.ask-2.new.self.core) (Told g.K.Sink.write_gives begun_out c.ask-2.new.out) terms (g.C.Served.sends first) c.ask-2.new.self.kept begun c.ask-2.new.doors) (sym (is-err c.from_residual-in_err-ask-2.result c.in_err-ask-2.field-0.0 c.from_residual-in_err-ask-2.ensures.1))
-    (c.in_err-ask-2.ensures.log first terms begun begun_out (c.in_ok-ask.ensures.log first terms begun begun_out (c.in_ok-ask_door.ensures.log first terms begun begun_out a)))
+returns-in_err-ask-2-clause-log g c = λ first terms begun begun_out taped a.
+    subst (λ (r : Result (Unit {0}) ServeEnd). Logs r RoundBegins g.D.Doors.call_gives (g.C.Served.stands first c.ask-2.new.self.core) (g.C.Served.runs_out first) (Told g.K.Sink.write_gives begun_out c.ask-2.new.out) terms (g.C.Served.sends first) c.ask-2.new.self.kept begun c.ask-2.new.doors) (sym (is-err c.from_residual-in_err-ask-2.result c.in_err-ask-2.field-0.0 c.from_residual-in_err-ask-2.ensures.1))
+    (c.in_err-ask-2.ensures.log first terms begun begun_out (taped ∙ sym c.ask_door.ensures.made ∙ sym c.ask.ensures.made) (c.in_ok-ask.ensures.log first terms begun begun_out (taped ∙ sym c.ask_door.ensures.made) (c.in_ok-ask_door.ensures.log first terms begun begun_out taped a)))
 
 pub returns-clause-log : goal.returns-clause-log
-returns-clause-log g c = λ first terms begun begun_out a.
-    rested-logs c.rest.result g.D.Doors.call_gives (g.C.Served.stands first c.ask-2.new.self.core) (Told g.K.Sink.write_gives begun_out c.ask-2.new.out) terms (g.C.Served.sends first) c.ask-2.new.self.kept c.rest.new.self begun c.ask-2.new.doors c.rest.ensures
-    (c.in_ok-ask-2.ensures.log first terms begun begun_out (c.in_ok-ask.ensures.log first terms begun begun_out (c.in_ok-ask_door.ensures.log first terms begun begun_out a)))
+returns-clause-log g c = λ first terms begun begun_out taped a.
+    rested-logs c.rest.result g.D.Doors.call_gives (g.C.Served.stands first c.ask-2.new.self.core) (g.C.Served.runs_out first) (Told g.K.Sink.write_gives begun_out c.ask-2.new.out) terms (g.C.Served.sends first) c.ask-2.new.self.kept c.rest.new.self begun c.ask-2.new.doors c.rest.ensures
+    (c.in_ok-ask-2.ensures.log first terms begun begun_out (taped ∙ sym c.ask_door.ensures.made ∙ sym c.ask.ensures.made) (c.in_ok-ask.ensures.log first terms begun begun_out (taped ∙ sym c.ask_door.ensures.made) (c.in_ok-ask_door.ensures.log first terms begun begun_out taped a)))

@@ -1,4 +1,4 @@
-use Rattle.std.proofs.Common.{Ok, Err, refl, ◌∙◌, arith}
+use Rattle.std.proofs.Common.{Ok, Err, refl, sym, ◌∙◌, arith}
 use Rattle.bridge_run.specs.Course.{AtDoor}
 use Rattle.bridge_run.specs.Calls.{Goes}
 use Rattle.bridge_run.specs.Outside.{outside, gathering, faults}
@@ -28,7 +28,8 @@ rounds-preserved g c = record {
       let a = c.rounds.invariant.comes first k f in
       goes-on {T = Unit {0}} (Ok tt) (g.C.Served.stands first c.rounds.self.core) (g.C.Served.stands first c.round.new.self.core) (g.C.Served.sends first) c.args.self.now.kept c.rounds.self.kept c.round.new.self.kept (outside (g.D.Doors.link c.rounds.doors) (g.D.Doors.door c.rounds.doors)) (outside (g.D.Doors.link c.round.new.doors) (g.D.Doors.door c.round.new.doors))
       (gathering (g.K.Sink.contents c.rounds.out) (g.T.Tape.contents c.rounds.tape) c.rounds.self.waiting) (gathering (g.K.Sink.contents c.round.new.out) (g.T.Tape.contents c.round.new.tape) c.round.new.self.waiting) (Goes AtDoor k) AtDoor AtDoor a c.rounds.invariant.idle (c.in_default.ensures.course first a.course a.follows);
-  log = λ first terms begun begun_out a. c.in_default.ensures.log first terms begun begun_out (c.rounds.invariant.log first terms begun begun_out a);
+  log = λ first terms begun begun_out taped a. c.in_default.ensures.log first terms begun begun_out (taped ∙ sym c.rounds.invariant.made) (c.rounds.invariant.log first terms begun begun_out taped a);
+  made = c.round.ensures.made ∙ c.rounds.invariant.made;
 }
 
 pub returns-in-Err-clause-reason : goal.returns-in-Err-clause-reason
@@ -43,8 +44,9 @@ rounds-init g c = record {
   waited = waited-none c.args.self.now.kept.idle c.args.self.now.kept (outside (g.D.Doors.link c.args.doors.now) (g.D.Doors.door c.args.doors.now)) c.requires.fresh;
   faults = no-fault (outside (g.D.Doors.link c.args.doors.now) (g.D.Doors.door c.args.doors.now)) (faults (g.K.Sink.faults c.args.out.now) (g.T.Tape.counts c.args.tape.now));
   comes = λ first k f. record { course = k; reaches = reaches-none (setting (g.C.Served.sends first) c.args.self.now.kept) (Goes AtDoor k); follows = f };
-  log = λ first terms begun begun_out a. a;
+  log = λ first terms begun begun_out taped a. a;
+  made = refl;
 }
 
 pub returns-in-Err-clause-log : goal.returns-in-Err-clause-log
-returns-in-Err-clause-log g c = λ first terms begun begun_out a. c.in-Err.ensures.log first terms begun begun_out (c.rounds.invariant.log first terms begun begun_out a)
+returns-in-Err-clause-log g c = λ first terms begun begun_out taped a. c.in-Err.ensures.log first terms begun begun_out (taped ∙ sym c.rounds.invariant.made) (c.rounds.invariant.log first terms begun begun_out taped a)

@@ -1,0 +1,111 @@
+-- A session's log, as bytes are written to a link, and links are closed.
+use Rattle.std.proofs.Common.{◌≡◌, ℕ, Bool, true, false, List, [], ◌∷◌, ◌++◌, Result, Err, refl, sym, ap, ◌∙◌, append-nil, append_assoc}
+use Rattle.usb_base.specs.declared.side.Side.{Side}
+use Rattle.usb_base.specs.declared.side.Side.TheVariants.{Client, Host}
+use Rattle.gate_outside.specs.declared.fault.Failed.{Failed as Fault}
+use Rattle.gate_outside.specs.Calls.{Call, Write, Close, Called, front_of, went}
+use Rattle.bridge_run.specs.Prescribed.{Prescribed}
+use Rattle.bridge_run.specs.Asks.{asks_of}
+use Rattle.bridge_run.specs.Log.{Terms, events_of, Settled, JustCame}
+use Rattle.bridge_run.specs.inner.Logging.{WroteMore, FailedBehind, closing}
+
+-- ---- writes to a link
+
+pub wrote-none : {D : Type 0} → (gives : D → Call → D → Type 0) (side : Side) (calls : List Call) (begun now : D) → Called gives calls begun now → WroteMore gives side [] calls begun now
+wrote-none gives side calls begun now called = record {
+  behind = calls;
+  called = called;
+  settled = λ terms p settled. settled;
+  asks-are = refl;
+  events-are = refl;
+  just_came = λ j. j;
+  side-is = sym (append-nil (went side calls));
+  other-is = refl;
+}
+
+pub wrote-call : {D : Type 0} → (gives : D → Call → D → Type 0) (side : Side) (bytes sent : List ℕ) (answer : Result ℕ Fault) (calls : List Call) (begun mid now : D) → WroteMore gives side bytes calls begun mid
+    → gives mid (Write side sent answer) now → WroteMore gives side (bytes ++ front_of answer sent) calls begun now
+wrote-call gives Client bytes sent answer calls begun mid now w g = record {
+  behind = Write Client sent answer ∷ w.behind;
+  called = (mid, (w.called, g));
+  settled = λ terms p settled. (w.settled terms p settled, tt);
+  asks-are = w.asks-are;
+  events-are = w.events-are;
+  just_came = w.just_came;
+  side-is = ap (λ (l : List ℕ). l ++ front_of answer sent) w.side-is ∙ append_assoc (went Client calls) bytes (front_of answer sent);
+  other-is = append-nil (went Host w.behind) ∙ w.other-is;
+}
+wrote-call gives Host bytes sent answer calls begun mid now w g = record {
+  behind = Write Host sent answer ∷ w.behind;
+  called = (mid, (w.called, g));
+  settled = λ terms p settled. (w.settled terms p settled, tt);
+  asks-are = w.asks-are;
+  events-are = w.events-are;
+  just_came = w.just_came;
+  side-is = ap (λ (l : List ℕ). l ++ front_of answer sent) w.side-is ∙ append_assoc (went Host calls) bytes (front_of answer sent);
+  other-is = append-nil (went Client w.behind) ∙ w.other-is;
+}
+
+-- a write failed, which wrote nothing
+pub failed-behind : {D : Type 0} → (gives : D → Call → D → Type 0) (side : Side) (up : Bool) (bytes front back sent : List ℕ) (failed : Fault) (calls : List Call) (begun mid now : D) → up ≡ true → bytes ≡ front ++ back
+    → WroteMore gives side front calls begun mid → gives mid (Write side sent (Err failed)) now → FailedBehind gives side up bytes calls begun now
+failed-behind gives Client up bytes front back sent failed calls begun mid now is parts w g = record {
+  front = front;
+  back = back;
+  is_up = is;
+  parts = parts;
+  wrote = record {
+    behind = Write Client sent (Err failed) ∷ w.behind;
+    called = (mid, (w.called, g));
+    settled = λ terms p settled. (w.settled terms p settled, tt);
+    asks-are = w.asks-are;
+    events-are = w.events-are;
+    just_came = w.just_came;
+    side-is = append-nil (went Client w.behind) ∙ w.side-is;
+    other-is = append-nil (went Host w.behind) ∙ w.other-is;
+  };
+  failed = refl;
+}
+failed-behind gives Host up bytes front back sent failed calls begun mid now is parts w g = record {
+  front = front;
+  back = back;
+  is_up = is;
+  parts = parts;
+  wrote = record {
+    behind = Write Host sent (Err failed) ∷ w.behind;
+    called = (mid, (w.called, g));
+    settled = λ terms p settled. (w.settled terms p settled, tt);
+    asks-are = w.asks-are;
+    events-are = w.events-are;
+    just_came = w.just_came;
+    side-is = append-nil (went Host w.behind) ∙ w.side-is;
+    other-is = append-nil (went Client w.behind) ∙ w.other-is;
+  };
+  failed = refl;
+}
+
+-- ---- links that are closed
+
+pub went-closing : (r : Bool) (of side : Side) (calls : List Call) → went side (closing r of calls) ≡ went side calls
+went-closing true of Client calls = append-nil (went Client calls)
+went-closing true of Host calls = append-nil (went Host calls)
+went-closing false of side calls = refl
+
+pub settled-closing : (r : Bool) (of : Side) (terms : Terms) (p : Prescribed) (calls : List Call) → Settled terms p calls → Settled terms p (closing r of calls)
+settled-closing true of terms p calls s = (s, tt)
+settled-closing false of terms p calls s = s
+
+pub events-closing : (r : Bool) (calls : List Call) → events_of (closing r Host calls) ≡ events_of calls
+events-closing true calls = refl
+events-closing false calls = refl
+
+pub asks-closing : (r : Bool) (of : Side) (calls : List Call) → asks_of (closing r of calls) ≡ asks_of calls
+asks-closing true of calls = refl
+asks-closing false of calls = refl
+
+pub just-host : (r : Bool) (calls : List Call) → JustCame calls → JustCame (closing r Host calls)
+just-host true calls j = j
+just-host false calls j = j
+
+pub closed : {D : Type 0} → (gives : D → Call → D → Type 0) (side : Side) (calls : List Call) (begun mid now : D) → Called gives calls begun mid → gives mid (Close side) now → Called gives (closing true side calls) begun now
+closed gives side calls begun mid now called g = (mid, (called, g))
