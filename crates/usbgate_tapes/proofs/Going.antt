@@ -16,9 +16,12 @@ use Rattle.usbgate_tapes.specs.Prescribed.{Prescribed, over_tape}
 use Rattle.usbgate_tapes.specs.Causes.{HasCauses}
 use Rattle.usbgate_tapes.specs.Run.{ReadInPart, WrittenInPart, WrittenWhole, LeavesTold, Leaves, OpensNoLink, ComesToEnd}
 use Rattle.usbgate_tapes.specs.Logs.{LeavesByLog}
-use Rattle.usbgate_tapes.specs.inner.TapeReader.{IsKept, Stage, Closes, ReadsTo, ReadsToByLog}
+use Rattle.usbgate_tapes.specs.Wants.{ReadWants}
+use Rattle.usbgate_tapes.specs.inner.TapeReader.{IsKept, Stage, Closes, Runs, end_text}
 use Rattle.usbgate_tapes.proofs.Stages.{text_begins}
 use Rattle.usbgate_tapes.proofs.Moving.{moves-none, moves-append, at_end}
+use Rattle.usbgate_tapes.proofs.Unread.{leaves-none, logs-none, write-memory}
+use Rattle.usbgate_tapes.proofs.Wanting.{whole-read}
 use Rattle.usbgate_tapes.proofs.Told.{remaining_told, at_end_told, leaves-told}
 
 -- ---- in the middle
@@ -126,23 +129,39 @@ closes-remembers {T = T} command Keeps {piece = piece} read c e =
     let x = read_lines command (begin command) (lines_of ((read ++ piece) ++ [])) in
     remembers x.bad (command.refused x.after.kept) (x.after.lines + 1) (c.outcome [] (λ _. refl) ∙ e)
 
-module _ {C T S K : Type 0} (command : TapeCommand T) (Keeps : C → T → Type 0) (read_gives : S → List ℕ → Result ℕ Failed → S → Type 0) (write_gives : K → List ℕ → Result ℕ Failed → K → Type 0) (remaining : S → Option (List ℕ)) (contents : K → Option (List ℕ)) where
-  abbrev Going : S → S → K → K → TapeReader C → Type 0
-  Going tape_old tape out_old out p = Goes command Keeps read_gives write_gives remaining contents tape_old tape out_old out p
+module _ {C T : Type 0} {command : TapeCommand T} {Keeps : C → T → Type 0} where
+  -- all text is written
+  end-whole : {status : Status} {q : TapeReader C} {bytes written : List ℕ} (piece read : List ℕ) → Closes command Keeps status q piece read written → bytes ≡ q.text ++ end_text status → (later : List ℕ) → (piece ≡ [] → later ≡ [])
+      → LeavesTold status (over_tape command) ((read ++ piece) ++ later) [] (Some later) (Some (written ++ bytes))
+  end-whole {status = status} {bytes = bytes} {written = written} piece read c bytes-is later none =
+      ends_by status (over_tape command) ((read ++ piece) ++ later) [] (Some later) (Some (written ++ bytes)) (closes-is_quiet command Keeps read c) (record {
+        contents-is = ap (λ (l : List ℕ). Some l) (ap (λ (l : List ℕ). written ++ l) bytes-is ∙ sym (c.text later none));
+        status-is = sym (c.outcome later none);
+      }) (closed piece later status (Some later) c.bad none refl)
 
-  abbrev LeavesBytes : Status → S → S → K → K → Type 0
-  LeavesBytes status tape_old tape out_old out = Leaves status (over_tape command) (remaining tape_old) (remaining tape) (contents out_old) (contents out)
+  -- a front of it is
+  last-part : {status : Status} {q : TapeReader C} {written : List ℕ} (piece read front back : List ℕ) → Closes command Keeps status q piece read written → q.text ++ end_text status ≡ front ++ back → (later : List ℕ) → (piece ≡ [] → later ≡ [])
+      → WrittenInPart (over_tape command) ((read ++ piece) ++ later) [] (Some (written ++ front))
+  last-part {written = written} piece read front back c parts later none = record {
+    front = written ++ front;
+    back = back;
+    parts = c.text later none ∙ ap (λ (l : List ℕ). written ++ l) parts ∙ sym (append_assoc written front back);
+    contents-is = refl;
+  }
 
-  abbrev LeavesLog : Status → S → S → K → K → Type 0
-  LeavesLog status tape_old tape out_old out = LeavesByLog read_gives write_gives status (over_tape command) tape_old tape out_old out
+-- ---- a run
 
-  pub goes-none : (tape : S) (out : K) (p : TapeReader C) → Stage command Keeps p [] [] → Going tape tape out out p
-  goes-none tape out p s = record { reads = []; written = []; read = refl; writes = moves-none write_gives out; consumed = Consumes-nil (remaining tape); wrote = Appends-nil (contents out); stage = s }
+read-memory : {A : Type 0} → ReadFault ≡ OutOfMemory → A
+read-memory e = cc
+
+module _ {C T S K : Type 0} {command : TapeCommand T} {Keeps : C → T → Type 0} {read_gives : S → List ℕ → Result ℕ Failed → S → Type 0} {write_gives : K → List ℕ → Result ℕ Failed → K → Type 0} {remaining : S → Option (List ℕ)} {contents : K → Option (List ℕ)} where
+  pub goes-none : {tape : S} {out : K} {p : TapeReader C} → Stage command Keeps p [] [] → Goes command Keeps read_gives write_gives remaining contents tape tape out out p
+  goes-none {tape = tape} {out = out} s = record { reads = []; written = []; read = refl; writes = moves-none write_gives out; consumed = Consumes-nil (remaining tape); wrote = Appends-nil (contents out); stage = s }
 
   -- all text is written
-  pub goes-written : (tape_old tape : S) (out_old out new : K) (p : TapeReader C) (text none : List ℕ) → Going tape_old tape out_old out p → text ≡ p.text → Appends (contents out) (contents new) text → Moves write_gives text out new → none ≡ []
-      → Going tape_old tape out_old new (record p { text = none })
-  goes-written tape_old tape out_old out new p text none g is a m e = record {
+  pub goes-written : {tape_old tape : S} {out_old out new : K} {p : TapeReader C} {text none : List ℕ} → Goes command Keeps read_gives write_gives remaining contents tape_old tape out_old out p → text ≡ p.text → Appends (contents out) (contents new) text → Moves write_gives text out new → none ≡ []
+      → Goes command Keeps read_gives write_gives remaining contents tape_old tape out_old new (record p { text = none })
+  goes-written {out_old = out_old} {out = out} {new = new} {p = p} g is a m e = record {
     reads = g.reads;
     written = g.written ++ p.text;
     read = g.read;
@@ -165,9 +184,9 @@ module _ {C T S K : Type 0} (command : TapeCommand T) (Keeps : C → T → Type 
   }
 
   -- a piece more was read
-  pub goes-read : (tape_old tape new : S) (out_old out : K) (p q : TapeReader C) (n : ℕ) (buf : List ℕ) (g : Going tape_old tape out_old out p) → read_gives tape buf (Ok n) new → Consumes (remaining tape) (remaining new) (take n buf)
-      → Stage command Keeps q (moved g.reads ++ take n buf) g.written → Going tape_old new out_old out q
-  goes-read tape_old tape new out_old out p q n buf g gives read s = record {
+  pub goes-read : {tape_old tape new : S} {out_old out : K} {p q : TapeReader C} (n : ℕ) (buf : List ℕ) (g : Goes command Keeps read_gives write_gives remaining contents tape_old tape out_old out p) → read_gives tape buf (Ok n) new → Consumes (remaining tape) (remaining new) (take n buf)
+      → Stage command Keeps q (moved g.reads ++ take n buf) g.written → Goes command Keeps read_gives write_gives remaining contents tape_old new out_old out q
+  goes-read {tape_old = tape_old} {tape = tape} {new = new} n buf g gives read s = record {
     reads = record { bytes = buf; answer = Ok n } ∷ g.reads;
     written = g.written;
     read = (tape, (g.read, gives));
@@ -179,9 +198,13 @@ module _ {C T S K : Type 0} (command : TapeCommand T) (Keeps : C → T → Type 
 
   -- ---- ends in the middle
 
+  -- memory runs out before anything was read
+  pub runs-none : (tape : S) (out : K) → Runs command Keeps read_gives write_gives remaining contents OutOfMemory tape tape out out
+  runs-none tape out = record { leaves = leaves-none (over_tape command) (remaining tape) (contents out); leaves_log = logs-none read_gives write_gives (over_tape command) tape out; kept = tt; kept_log = tt }
+
   -- a front of the text is written
-  in_part : (tape_old tape : S) (out_old out : K) (p : TapeReader C) (g : Going tape_old tape out_old out p) (front back : List ℕ) → p.text ≡ front ++ back → (later : List ℕ) → WrittenInPart (over_tape command) (moved g.reads ++ later) [] (Some (g.written ++ front))
-  in_part tape_old tape out_old out p g front back parts later =
+  in_part : {tape_old tape : S} {out_old out : K} {p : TapeReader C} (g : Goes command Keeps read_gives write_gives remaining contents tape_old tape out_old out p) (front back : List ℕ) → p.text ≡ front ++ back → (later : List ℕ) → WrittenInPart (over_tape command) (moved g.reads ++ later) [] (Some (g.written ++ front))
+  in_part g front back parts later =
       let begins = text_begins command Keeps g.stage later in
       record {
         front = g.written ++ front;
@@ -191,51 +214,26 @@ module _ {C T S K : Type 0} (command : TapeCommand T) (Keeps : C → T → Type 
       }
 
   -- the write of the text fails
-  pub ran-write : (tape_old tape : S) (out_old out new : K) (p : TapeReader C) (bytes : List ℕ) → Going tape_old tape out_old out p → bytes ≡ p.text → AppendsFront (contents out) (contents new) bytes → LeavesBytes WriteFault tape_old tape out_old new
-  ran-write tape_old tape out_old out new p bytes g bytes-is f =
-      leaves-told WriteFault (over_tape command) (remaining tape_old) (remaining tape) (contents out_old) (contents new) (moved g.reads) (g.written ++ f.front) g.consumed
-      (Appends-trans (contents out_old) (contents out) (contents new) g.written f.front g.wrote f.appends) (λ later told. in_part tape_old tape out_old out p g f.front f.back (sym bytes-is ∙ f.parts) later)
-
-  pub logs-write : (tape_old tape : S) (out_old out new : K) (p : TapeReader C) (bytes : List ℕ) → Going tape_old tape out_old out p → bytes ≡ p.text → MovesFront write_gives bytes out new → LeavesLog WriteFault tape_old tape out_old new
-  logs-write tape_old tape out_old out new p bytes g bytes-is f = record {
-    reads = g.reads;
-    read = g.read;
-    written = g.written ++ f.front;
-    writes = moves-append write_gives g.written f.front out_old out new g.writes f.moves;
-    leaves = λ later follows. in_part tape_old tape out_old out p g f.front f.back (sym bytes-is ∙ f.parts) later;
+  pub runs-write : {tape_old tape : S} {out_old out new : K} {p : TapeReader C} {bytes : List ℕ} → Goes command Keeps read_gives write_gives remaining contents tape_old tape out_old out p → bytes ≡ p.text → AppendsFront (contents out) (contents new) bytes → MovesFront write_gives bytes out new → Runs command Keeps read_gives write_gives remaining contents WriteFault tape_old tape out_old new
+  runs-write {tape_old = tape_old} {tape = tape} {out_old = out_old} {out = out} {new = new} g bytes-is f m = record {
+    leaves = leaves-told WriteFault (over_tape command) (remaining tape_old) (remaining tape) (contents out_old) (contents new) (moved g.reads) (g.written ++ f.front) g.consumed
+        (Appends-trans (contents out_old) (contents out) (contents new) g.written f.front g.wrote f.appends) (λ later told. in_part g f.front f.back (sym bytes-is ∙ f.parts) later);
+    leaves_log = record {
+      reads = g.reads;
+      read = g.read;
+      written = g.written ++ m.front;
+      writes = moves-append write_gives g.written m.front out_old out new g.writes m.moves;
+      leaves = λ later follows. in_part g m.front m.back (sym bytes-is ∙ m.parts) later;
+      wants = λ e. write-memory e;
+    };
+    kept = tt;
+    kept_log = tt;
   }
 
-  -- memory runs out after a piece was read
-  memory-part : (tape_old tape : S) (out_old out : K) (p : TapeReader C) (g : Going tape_old tape out_old out p) (piece later : List ℕ) → WrittenInPart (over_tape command) ((moved g.reads ++ piece) ++ later) [] (Some g.written)
-  memory-part tape_old tape out_old out p g piece later =
-      let begins = text_begins command Keeps g.stage (piece ++ later) in
-      record {
-        front = g.written;
-        back = p.text ++ begins.0;
-        parts = ap (tape_text command) (append_assoc (moved g.reads) piece later) ∙ begins.1 ∙ append_assoc g.written p.text begins.0;
-        contents-is = refl;
-      }
-
-  pub ran-memory : (tape_old tape new : S) (out_old out : K) (p : TapeReader C) (piece : List ℕ) → Going tape_old tape out_old out p → Consumes (remaining tape) (remaining new) piece → LeavesBytes OutOfMemory tape_old new out_old out
-  ran-memory tape_old tape new out_old out p piece g read =
-      leaves-told OutOfMemory (over_tape command) (remaining tape_old) (remaining new) (contents out_old) (contents out) (moved g.reads ++ piece) g.written
-      (Consumes-trans (remaining tape_old) (remaining tape) (remaining new) (moved g.reads) piece g.consumed read) g.wrote (λ later told. memory-part tape_old tape out_old out p g piece later)
-
-  pub logs-memory : (tape_old tape new : S) (out_old out : K) (p : TapeReader C) (n : ℕ) (buf : List ℕ) → Going tape_old tape out_old out p → read_gives tape buf (Ok n) new → LeavesLog OutOfMemory tape_old new out_old out
-  logs-memory tape_old tape new out_old out p n buf g gives = record {
-    reads = record { bytes = buf; answer = Ok n } ∷ g.reads;
-    read = (tape, (g.read, gives));
-    written = g.written;
-    writes = g.writes;
-    leaves = λ later follows. memory-part tape_old tape out_old out p g (take n buf) later;
-  }
-
-  -- a read fails, and all text is written
-  read-part : (tape_old tape : S) (out_old out : K) (p : TapeReader C) (g : Going tape_old tape out_old out p) → p.text ≡ [] → (later : List ℕ) → ReadInPart (over_tape command) (moved g.reads ++ later) [] (Some later) (Some g.written)
-  read-part tape_old tape out_old out p g none later =
+  -- the text of whole lines is written
+  read-part : {tape_old tape : S} {out_old out : K} {p : TapeReader C} (g : Goes command Keeps read_gives write_gives remaining contents tape_old tape out_old out p) → p.text ≡ [] → (later : List ℕ) → ReadInPart (over_tape command) (moved g.reads ++ later) [] (Some later) (Some g.written)
+  read-part {p = p} g none later =
       let s = g.stage in
-      let plays : read_lines command (begin command) (lines_of s.whole) ≡ record { text = s.text; after = s.at; bad = false } =
-      ap (λ (l : List ℕ). read_lines command (begin command) (lines_of l)) (sym (append-nil s.whole)) ∙ s.reads [] ∙ ap (λ (l : List ℕ). record { text = l; after = s.at; bad = false }) (append-nil s.text) in
       let written : g.written ≡ command.opening ++ s.text = sym (append-nil g.written) ∙ ap (λ (l : List ℕ). g.written ++ l) (sym none) ∙ s.text-is in
       record {
         whole = s.whole;
@@ -245,97 +243,110 @@ module _ {C T S K : Type 0} (command : TapeCommand T) (Keeps : C → T → Type 
         tape-is = ap (λ (l : List ℕ). l ++ later) s.read-is;
         whole_lines = s.whole_lines;
         part_of_line = s.part_of_line;
-        good = ap (λ (x : Reading T). if x.bad then None else Some (command.opening ++ x.text)) plays;
+        good = ap (λ (x : Reading T). if x.bad then None else Some (command.opening ++ x.text)) (whole-read command Keeps s);
         within = subst (λ (n : ℕ). n + length p.pending ≤ tape_limit) s.bytes-is s.within;
         remaining-is = refl;
         contents-is = ap (λ (l : List ℕ). Some l) written;
       }
 
-  pub ran-read : (tape_old tape new : S) (out_old out : K) (p : TapeReader C) → Going tape_old tape out_old out p → p.text ≡ [] → KeepsBytes (remaining tape) (remaining new) → LeavesBytes ReadFault tape_old new out_old out
-  ran-read tape_old tape new out_old out p g none kept =
-      leaves-told ReadFault (over_tape command) (remaining tape_old) (remaining new) (contents out_old) (contents out) (moved g.reads) g.written
-      (Consumes-kept (remaining tape_old) (remaining tape) (remaining new) (moved g.reads) g.consumed kept) g.wrote (λ later told. read-part tape_old tape out_old out p g none later)
+  -- what was read before, and nothing behind it
+  part-alone : {tape_old tape : S} {out_old out : K} {p : TapeReader C} (g : Goes command Keeps read_gives write_gives remaining contents tape_old tape out_old out p) → p.text ≡ [] → (later : List ℕ) → ReadInPart (over_tape command) ((moved g.reads ++ []) ++ later) [] (Some later) (Some g.written)
+  part-alone g none later = subst (λ (l : List ℕ). ReadInPart (over_tape command) (l ++ later) [] (Some later) (Some g.written)) (sym (append-nil (moved g.reads))) (read-part g none later)
 
-  pub logs-read : (tape_old tape new : S) (out_old out : K) (p : TapeReader C) (buf : List ℕ) (failed : Failed) → Going tape_old tape out_old out p → p.text ≡ [] → read_gives tape buf (Err failed) new → LeavesLog ReadFault tape_old new out_old out
-  logs-read tape_old tape new out_old out p buf failed g none gives = record {
-    reads = record { bytes = buf; answer = Err failed } ∷ g.reads;
-    read = (tape, (g.read, gives));
-    written = g.written;
-    writes = g.writes;
-    leaves = λ later follows. subst (λ (l : List ℕ). ReadInPart (over_tape command) (l ++ later) [] (Some later) (Some g.written)) (sym (append-nil (moved g.reads))) (read-part tape_old tape out_old out p g none later);
+  -- the read fails
+  pub runs-read : {tape_old tape new : S} {out_old out : K} {p : TapeReader C} (buf : List ℕ) (failed : Failed) → Goes command Keeps read_gives write_gives remaining contents tape_old tape out_old out p → p.text ≡ [] → KeepsBytes (remaining tape) (remaining new) → read_gives tape buf (Err failed) new
+      → Runs command Keeps read_gives write_gives remaining contents ReadFault tape_old new out_old out
+  runs-read {tape_old = tape_old} {tape = tape} {new = new} {out_old = out_old} {out = out} buf failed g none kept gives = record {
+    leaves = leaves-told ReadFault (over_tape command) (remaining tape_old) (remaining new) (contents out_old) (contents out) (moved g.reads) g.written
+        (Consumes-kept (remaining tape_old) (remaining tape) (remaining new) (moved g.reads) g.consumed kept) g.wrote (λ later told. read-part g none later);
+    leaves_log = record {
+      reads = record { bytes = buf; answer = Err failed } ∷ g.reads;
+      read = (tape, (g.read, gives));
+      written = g.written;
+      writes = g.writes;
+      leaves = λ later follows. part-alone g none later;
+      wants = λ e. read-memory e;
+    };
+    kept = tt;
+    kept_log = tt;
+  }
+
+  -- memory runs out after a piece was read
+  memory-part : {tape_old tape : S} {out_old out : K} {p : TapeReader C} (g : Goes command Keeps read_gives write_gives remaining contents tape_old tape out_old out p) (piece later : List ℕ) → WrittenInPart (over_tape command) ((moved g.reads ++ piece) ++ later) [] (Some g.written)
+  memory-part {p = p} g piece later =
+      let begins = text_begins command Keeps g.stage (piece ++ later) in
+      record {
+        front = g.written;
+        back = p.text ++ begins.0;
+        parts = ap (tape_text command) (append_assoc (moved g.reads) piece later) ∙ begins.1 ∙ append_assoc g.written p.text begins.0;
+        contents-is = refl;
+      }
+
+  pub runs-memory : {tape_old tape new : S} {out_old out : K} {p : TapeReader C} (n : ℕ) (buf : List ℕ) (g : Goes command Keeps read_gives write_gives remaining contents tape_old tape out_old out p) → p.text ≡ [] → Consumes (remaining tape) (remaining new) (take n buf) → read_gives tape buf (Ok n) new
+      → ReadWants (over_tape command) (moved g.reads) (take n buf) → Runs command Keeps read_gives write_gives remaining contents OutOfMemory tape_old new out_old out
+  runs-memory {tape_old = tape_old} {tape = tape} {new = new} {out_old = out_old} {out = out} n buf g none read gives wants = record {
+    leaves = leaves-told OutOfMemory (over_tape command) (remaining tape_old) (remaining new) (contents out_old) (contents out) (moved g.reads ++ take n buf) g.written
+        (Consumes-trans (remaining tape_old) (remaining tape) (remaining new) (moved g.reads) (take n buf) g.consumed read) g.wrote (λ later told. memory-part g (take n buf) later);
+    leaves_log = record {
+      reads = record { bytes = buf; answer = Ok n } ∷ g.reads;
+      read = (tape, (g.read, gives));
+      written = g.written;
+      writes = g.writes;
+      leaves = λ later follows. memory-part g (take n buf) later;
+      wants = λ e. (subst (λ (l : List ℕ). ReadInPart (over_tape command) l [] (Some []) (Some g.written)) (append-nil (moved g.reads)) (read-part g none []), wants);
+    };
+    kept = tt;
+    kept_log = tt;
   }
 
   -- ---- the end
 
-  -- all text is written
-  end-whole : (status : Status) (q : TapeReader C) (piece bytes read written : List ℕ) → Closes command Keeps status q piece read written → bytes ≡ q.text → (later : List ℕ) → (piece ≡ [] → later ≡ [])
-      → LeavesTold status (over_tape command) ((read ++ piece) ++ later) [] (Some later) (Some (written ++ bytes))
-  end-whole status q piece bytes read written c bytes-is later none =
-      ends_by status (over_tape command) ((read ++ piece) ++ later) [] (Some later) (Some (written ++ bytes)) (closes-is_quiet command Keeps read c) (record {
-        contents-is = ap (λ (l : List ℕ). Some l) (ap (λ (l : List ℕ). written ++ l) bytes-is ∙ sym (c.text later none));
-        status-is = sym (c.outcome later none);
-      }) (closed piece later status (Some later) c.bad none refl)
-
-  -- all text is written, and the run ends
-  pub ran-end : (tape_old tape new : S) (out_old out last : K) (p q : TapeReader C) (status : Status) (piece bytes : List ℕ) (g : Going tape_old tape out_old out p) → Consumes (remaining tape) (remaining new) piece → (piece ≡ [] → IsAtEnd (remaining new))
-      → Closes command Keeps status q piece (moved g.reads) g.written → bytes ≡ q.text → Appends (contents out) (contents last) bytes → LeavesBytes status tape_old new out_old last
-  ran-end tape_old tape new out_old out last p q status piece bytes g read end c bytes-is a =
-      leaves-told status (over_tape command) (remaining tape_old) (remaining new) (contents out_old) (contents last) (moved g.reads ++ piece) (g.written ++ bytes)
-      (Consumes-trans (remaining tape_old) (remaining tape) (remaining new) (moved g.reads) piece g.consumed read) (Appends-trans (contents out_old) (contents out) (contents last) g.written bytes g.wrote a)
-      (λ later told. end-whole status q piece bytes (moved g.reads) g.written c bytes-is later (λ e. at_end_told (remaining new) later (end e) told))
-
-  pub logs-end : (tape_old tape new : S) (out_old out last : K) (p q : TapeReader C) (status : Status) (n : ℕ) (buf bytes : List ℕ) (g : Going tape_old tape out_old out p) → read_gives tape buf (Ok n) new → n ≤ length buf
-      → Closes command Keeps status q (take n buf) (moved g.reads) g.written → bytes ≡ q.text → Moves write_gives bytes out last → LeavesLog status tape_old new out_old last
-  logs-end tape_old tape new out_old out last p q status n buf bytes g gives bound c bytes-is m = record {
-    reads = record { bytes = buf; answer = Ok n } ∷ g.reads;
-    read = (tape, (g.read, gives));
-    written = g.written ++ bytes;
-    writes = moves-append write_gives g.written bytes out_old out last g.writes m;
-    leaves = λ later follows. end-whole status q (take n buf) bytes (moved g.reads) g.written c bytes-is later (at_end n buf g.reads later bound follows);
-  }
+  -- all text is written, and the run ends; what the command then keeps
+  pub runs-end : {tape_old tape new : S} {out_old out last : K} {p q : TapeReader C} {status : Status} {bytes : List ℕ} (n : ℕ) (buf : List ℕ) (g : Goes command Keeps read_gives write_gives remaining contents tape_old tape out_old out p) → n ≤ length buf → Consumes (remaining tape) (remaining new) (take n buf)
+      → (take n buf ≡ [] → IsAtEnd (remaining new)) → read_gives tape buf (Ok n) new → Closes command Keeps status q (take n buf) (moved g.reads) g.written → bytes ≡ q.text ++ end_text status → Appends (contents out) (contents last) bytes → Moves write_gives bytes out last
+      → Runs command Keeps read_gives write_gives remaining contents status tape_old new out_old last
+  runs-end {tape_old = tape_old} {tape = tape} {new = new} {out_old = out_old} {out = out} {last = last} {status = status} {bytes = bytes} n buf g bound read end gives c bytes-is a m =
+      let piece = take n buf in
+      let consumed = Consumes-trans (remaining tape_old) (remaining tape) (remaining new) (moved g.reads) piece g.consumed read in
+      let reads = record { bytes = buf; answer = Ok n } ∷ g.reads in
+      record {
+        leaves = leaves-told status (over_tape command) (remaining tape_old) (remaining new) (contents out_old) (contents last) (moved g.reads ++ piece) (g.written ++ bytes) consumed
+            (Appends-trans (contents out_old) (contents out) (contents last) g.written bytes g.wrote a) (λ later told. end-whole piece (moved g.reads) c bytes-is later (λ e. at_end_told (remaining new) later (end e) told));
+        leaves_log = record {
+          reads = reads;
+          read = (tape, (g.read, gives));
+          written = g.written ++ bytes;
+          writes = moves-append write_gives g.written bytes out_old out last g.writes m;
+          leaves = λ later follows. end-whole piece (moved g.reads) c bytes-is later (at_end n buf g.reads later bound follows);
+          wants = λ e. absurd (closes-remembers command Keeps (moved g.reads) c e);
+        };
+        kept = comes-to status (λ whole told.
+            let t = remaining_told (remaining tape_old) (remaining new) (moved g.reads ++ piece) whole consumed told in
+            subst (λ (l : List ℕ). IsKept Keeps (read_tape command l).after.kept) (sym t.2) (c.kept t.0 (λ e. at_end_told (remaining new) t.0 (end e) t.1)));
+        kept_log = comes-to status (record { reads = reads; read = (tape, (g.read, gives)); each = λ later follows. c.kept later (at_end n buf g.reads later bound follows) });
+      }
 
   -- the last write fails
-  last-part : (status : Status) (q : TapeReader C) (piece read written front back : List ℕ) → Closes command Keeps status q piece read written → q.text ≡ front ++ back → (later : List ℕ) → (piece ≡ [] → later ≡ [])
-      → WrittenInPart (over_tape command) ((read ++ piece) ++ later) [] (Some (written ++ front))
-  last-part status q piece read written front back c parts later none = record {
-    front = written ++ front;
-    back = back;
-    parts = c.text later none ∙ ap (λ (l : List ℕ). written ++ l) parts ∙ sym (append_assoc written front back);
-    contents-is = refl;
-  }
-
-  pub ran-last : (tape_old tape new : S) (out_old out last : K) (p q : TapeReader C) (status : Status) (piece bytes : List ℕ) (g : Going tape_old tape out_old out p) → Consumes (remaining tape) (remaining new) piece → (piece ≡ [] → IsAtEnd (remaining new))
-      → Closes command Keeps status q piece (moved g.reads) g.written → bytes ≡ q.text → AppendsFront (contents out) (contents last) bytes → LeavesBytes WriteFault tape_old new out_old last
-  ran-last tape_old tape new out_old out last p q status piece bytes g read end c bytes-is f =
-      leaves-told WriteFault (over_tape command) (remaining tape_old) (remaining new) (contents out_old) (contents last) (moved g.reads ++ piece) (g.written ++ f.front)
-      (Consumes-trans (remaining tape_old) (remaining tape) (remaining new) (moved g.reads) piece g.consumed read) (Appends-trans (contents out_old) (contents out) (contents last) g.written f.front g.wrote f.appends)
-      (λ later told. last-part status q piece (moved g.reads) g.written f.front f.back c (sym bytes-is ∙ f.parts) later (λ e. at_end_told (remaining new) later (end e) told))
-
-  pub logs-last : (tape_old tape new : S) (out_old out last : K) (p q : TapeReader C) (status : Status) (n : ℕ) (buf bytes : List ℕ) (g : Going tape_old tape out_old out p) → read_gives tape buf (Ok n) new → n ≤ length buf
-      → Closes command Keeps status q (take n buf) (moved g.reads) g.written → bytes ≡ q.text → MovesFront write_gives bytes out last → LeavesLog WriteFault tape_old new out_old last
-  logs-last tape_old tape new out_old out last p q status n buf bytes g gives bound c bytes-is f = record {
-    reads = record { bytes = buf; answer = Ok n } ∷ g.reads;
-    read = (tape, (g.read, gives));
-    written = g.written ++ f.front;
-    writes = moves-append write_gives g.written f.front out_old out last g.writes f.moves;
-    leaves = λ later follows. last-part status q (take n buf) (moved g.reads) g.written f.front f.back c (sym bytes-is ∙ f.parts) later (at_end n buf g.reads later bound follows);
-  }
-
-  -- ---- what is then kept
-
-  pub ran-kept : (tape_old tape new : S) (out_old out : K) (p q : TapeReader C) (status : Status) (piece : List ℕ) (g : Going tape_old tape out_old out p) → Consumes (remaining tape) (remaining new) piece → (piece ≡ [] → IsAtEnd (remaining new))
-      → Closes command Keeps status q piece (moved g.reads) g.written → ReadsTo status Keeps command (remaining tape_old)
-  ran-kept tape_old tape new out_old out p q status piece g read end c = comes-to status (λ whole told.
-      let t = remaining_told (remaining tape_old) (remaining new) (moved g.reads ++ piece) whole (Consumes-trans (remaining tape_old) (remaining tape) (remaining new) (moved g.reads) piece g.consumed read) told in
-      subst (λ (l : List ℕ). IsKept Keeps (read_tape command l).after.kept) (sym t.2) (c.kept t.0 (λ e. at_end_told (remaining new) t.0 (end e) t.1)))
-
-  pub logs-kept : (tape_old tape new : S) (out_old out : K) (p q : TapeReader C) (status : Status) (n : ℕ) (buf : List ℕ) (g : Going tape_old tape out_old out p) → read_gives tape buf (Ok n) new → n ≤ length buf
-      → Closes command Keeps status q (take n buf) (moved g.reads) g.written → ReadsToByLog read_gives status Keeps command tape_old new
-  logs-kept tape_old tape new out_old out p q status n buf g gives bound c = comes-to status (record {
-    reads = record { bytes = buf; answer = Ok n } ∷ g.reads;
-    read = (tape, (g.read, gives));
-    each = λ later follows. c.kept later (at_end n buf g.reads later bound follows);
-  })
+  pub runs-last : {tape_old tape new : S} {out_old out last : K} {p q : TapeReader C} {status : Status} {bytes : List ℕ} (n : ℕ) (buf : List ℕ) (g : Goes command Keeps read_gives write_gives remaining contents tape_old tape out_old out p) → n ≤ length buf → Consumes (remaining tape) (remaining new) (take n buf)
+      → (take n buf ≡ [] → IsAtEnd (remaining new)) → read_gives tape buf (Ok n) new → Closes command Keeps status q (take n buf) (moved g.reads) g.written → bytes ≡ q.text ++ end_text status → AppendsFront (contents out) (contents last) bytes
+      → MovesFront write_gives bytes out last → Runs command Keeps read_gives write_gives remaining contents WriteFault tape_old new out_old last
+  runs-last {tape_old = tape_old} {tape = tape} {new = new} {out_old = out_old} {out = out} {last = last} n buf g bound read end gives c bytes-is f m =
+      let piece = take n buf in
+      record {
+        leaves = leaves-told WriteFault (over_tape command) (remaining tape_old) (remaining new) (contents out_old) (contents last) (moved g.reads ++ piece) (g.written ++ f.front)
+            (Consumes-trans (remaining tape_old) (remaining tape) (remaining new) (moved g.reads) piece g.consumed read) (Appends-trans (contents out_old) (contents out) (contents last) g.written f.front g.wrote f.appends)
+            (λ later told. last-part piece (moved g.reads) f.front f.back c (sym bytes-is ∙ f.parts) later (λ e. at_end_told (remaining new) later (end e) told));
+        leaves_log = record {
+          reads = record { bytes = buf; answer = Ok n } ∷ g.reads;
+          read = (tape, (g.read, gives));
+          written = g.written ++ m.front;
+          writes = moves-append write_gives g.written m.front out_old out last g.writes m.moves;
+          leaves = λ later follows. last-part piece (moved g.reads) m.front m.back c (sym bytes-is ∙ m.parts) later (at_end n buf g.reads later bound follows);
+          wants = λ e. write-memory e;
+        };
+        kept = tt;
+        kept_log = tt;
+      }
 
 -- ---- a read
 

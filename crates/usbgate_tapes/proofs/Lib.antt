@@ -2,9 +2,9 @@ pub mod Lines
 pub mod Stages
 pub mod Moving
 pub mod Told
-pub mod Going
 pub mod Unread
 pub mod Wanting
+pub mod Going
 pub mod Events
 pub mod Modelled
 pub mod Loaded

@@ -1,9 +1,12 @@
 -- Moves behind other moves.
-use Rattle.std.proofs.Common.{◌≡◌, ℕ, ◌≤◌, List, [], ◌∷◌, ◌++◌, length, take, Result, Ok, refl, sym, ap, subst, ◌∙◌, append_assoc}
+use Rattle.std.proofs.Common.{◌≡◌, ℕ, ◌≤◌, List, [], ◌∷◌, ◌++◌, length, take, Option, Result, Ok, refl, sym, ap, subst, ◌∙◌, append_assoc}
 use Rattle.std.proofs.lemmas.List.{append-nil, length-take-le}
+use Rattle.std.specs.Io.KnownBytes.{Appends}
+use Rattle.std.proofs.KnownBytes.{Appends-trans}
 use Rattle.gate_outside.specs.declared.fault.Failed.{Failed}
 use Rattle.gate_outside.specs.Calls.{Called, front_of}
-use Rattle.gate_outside.specs.Moved.{Move, moved, MayFollow, Moves}
+use Rattle.gate_outside.specs.Front.{AppendsFront}
+use Rattle.gate_outside.specs.Moved.{Move, moved, MayFollow, Moves, MovesFront}
 
 -- calls behind other calls
 called-append : {C D : Type 0} (gives : D → C → D → Type 0) (later earlier : List C) (old mid new : D) → Called gives earlier old mid → Called gives later mid new → Called gives (later ++ earlier) old new
@@ -25,6 +28,34 @@ moves-append {S = S} gives bytes more old mid new before behind = record {
   called = called-append (λ (s : S) (move : Move) (t : S). gives s move.bytes move.answer t) behind.moves before.moves old mid new before.called behind.called;
   all = moved-append behind.moves before.moves ∙ ap (λ (l : List ℕ). l ++ moved behind.moves) before.all ∙ ap (λ (l : List ℕ). bytes ++ l) behind.all;
 }
+
+-- ---- fronts
+
+-- of bytes and then more a front was written, at most the bytes
+pub appends-less : (old new : Option (List ℕ)) (bytes more : List ℕ) → AppendsFront old new bytes → AppendsFront old new (bytes ++ more)
+appends-less old new bytes more f = record { front = f.front; back = f.back ++ more; parts = ap (λ (l : List ℕ). l ++ more) f.parts ∙ append_assoc f.front f.back more; appends = f.appends }
+
+pub moves-less : {S : Type 0} (gives : S → List ℕ → Result ℕ Failed → S → Type 0) (bytes more : List ℕ) (old new : S) → MovesFront gives bytes old new → MovesFront gives (bytes ++ more) old new
+moves-less gives bytes more old new f = record { front = f.front; back = f.back ++ more; parts = ap (λ (l : List ℕ). l ++ more) f.parts ∙ append_assoc f.front f.back more; moves = f.moves }
+
+-- the bytes were written, and a front of what comes behind them
+pub appends-further : (old mid new : Option (List ℕ)) (bytes more : List ℕ) → Appends old mid bytes → AppendsFront mid new more → AppendsFront old new (bytes ++ more)
+appends-further old mid new bytes more a f = record {
+  front = bytes ++ f.front;
+  back = f.back;
+  parts = ap (λ (l : List ℕ). bytes ++ l) f.parts ∙ sym (append_assoc bytes f.front f.back);
+  appends = Appends-trans old mid new bytes f.front a f.appends;
+}
+
+pub moves-further : {S : Type 0} (gives : S → List ℕ → Result ℕ Failed → S → Type 0) (bytes more : List ℕ) (old mid new : S) → Moves gives bytes old mid → MovesFront gives more mid new → MovesFront gives (bytes ++ more) old new
+moves-further gives bytes more old mid new m f = record {
+  front = bytes ++ f.front;
+  back = f.back;
+  parts = ap (λ (l : List ℕ). bytes ++ l) f.parts ∙ sym (append_assoc bytes f.front f.back);
+  moves = moves-append gives bytes f.front old mid new m f.moves;
+}
+
+-- ---- the end
 
 abbrev gave : ℕ → Result ℕ Failed
 gave n = Ok n

@@ -11,7 +11,7 @@ use Rattle.usbgate_tapes.specs.Tape.{lines_of, content}
 use Rattle.usbgate_tapes.specs.Text.{bad_line}
 use Rattle.usbgate_tapes.specs.TapeCommand.{TapeCommand, tape_limit, Progress, begin, one_further, next_line, Reading, on_line, read_lines, read_tape, last_text, tape_text, status_of, tape_status}
 use Rattle.usbgate_tapes.specs.Run.{EndsALine, HasNoLF}
-use Rattle.usbgate_tapes.specs.inner.TapeReader.{IsKept, GoesOn, with_text, Stage, Spoilt, Took, Finished, Closes, Stepped, AllRead, TookLast, Spoils, TookLine, Kept}
+use Rattle.usbgate_tapes.specs.inner.TapeReader.{IsKept, GoesOn, end_text, with_text, Stage, Spoilt, Took, Finished, Closes, Stepped, AllRead, TookLast, Spoils, TookLine, Kept}
 use Rattle.usbgate_tapes.proofs.Lines.{HasNoLF-append, EndsALine-append, EndsALine-line, lines_of-line, lines_of-last, first-part, line_end-some, line_end-none}
 
 -- the tape, cut behind its whole lines
@@ -20,7 +20,7 @@ cut whole pending read piece later e =
     append_assoc read piece later ∙ ap (λ (l : List ℕ). l ++ (piece ++ later)) e ∙ append_assoc whole pending (piece ++ later)
     ∙ ap (λ (l : List ℕ). whole ++ l) (sym (append_assoc pending piece later))
 
-whole_line : (line front later : List ℕ) → line ≡ front ++ 10 ∷ [] → HasNoLF front → lines_of (line ++ later) ≡ line ∷ lines_of later
+pub whole_line : (line front later : List ℕ) → line ≡ front ++ 10 ∷ [] → HasNoLF front → lines_of (line ++ later) ≡ line ∷ lines_of later
 whole_line line front later e p =
     ap (λ (l : List ℕ). lines_of (l ++ later)) e ∙ ap lines_of (append_assoc front (10 ∷ []) later) ∙ lines_of-line front later p ∙ ap (λ (l : List ℕ). l ∷ lines_of later) (sym e)
 
@@ -34,6 +34,15 @@ bad_play s = record { text = []; after = s; bad = true }
 ends_text : (written old new told text back : List ℕ) → written ++ old ≡ told ++ text → new ≡ old ++ back → (told ++ (text ++ [])) ++ back ≡ written ++ new
 ends_text written old new told text back is more =
     ap (λ (l : List ℕ). (told ++ l) ++ back) (append-nil text) ∙ ap (λ (l : List ℕ). l ++ back) (sym is) ∙ append_assoc written old back ∙ ap (λ (l : List ℕ). written ++ l) (sym more)
+
+-- the line of a bad line, behind the text
+spoils-text : {S : Type 0} (status : Status) (s : Progress S) (old new : List ℕ) → Spoils status s old new → new ++ end_text status ≡ old ++ bad_line (s.lines + 1)
+spoils-text status s old new h = ap (λ (l : List ℕ). l ++ end_text status) h.text-is ∙ ap (λ (x : Status). old ++ end_text x) h.status-is
+
+-- where no line is bad, nothing comes behind the text
+no_end : (refused : Bool) → end_text (cond refused Refused Done) ≡ []
+no_end true = refl
+no_end false = refl
 
 -- the bytes of a good line are counted
 further-bytes : {S : Type 0} (s : Progress S) (line : List ℕ) (o : Option (List ℕ × S)) (x : List ℕ × Progress S) → option_map (one_further s line) o ≡ Some x → x.1.bytes ≡ s.bytes + length line
@@ -73,7 +82,7 @@ module _ {C S : Type 0} (command : TapeCommand S) (Keeps : C → S → Type 0) w
       record {
         number = s.at.lines + 1;
         status-is = h.status-is;
-        text = λ later. ap (λ (x : Reading S). command.opening ++ x.text ++ last_text command x) (plays later) ∙ ends_text written old.text new.text command.opening s.text (bad_line (s.at.lines + 1)) s.text-is h.text-is;
+        text = λ later. ap (λ (x : Reading S). command.opening ++ x.text ++ last_text command x) (plays later) ∙ ends_text written old.text (new.text ++ end_text status) command.opening s.text (bad_line (s.at.lines + 1)) s.text-is (spoils-text status s.at old.text new.text h);
         outcome = λ later. ap (status_of command) (plays later) ∙ sym h.status-is;
         kept = λ later. subst (λ (x : Reading S). IsKept Keeps x.after.kept) (sym (plays later)) (old.lines.command, s.has_read.keeps);
       }
@@ -174,7 +183,7 @@ module _ {C S : Type 0} (command : TapeCommand S) (Keeps : C → S → Type 0) w
   }
 
   -- the last line has no LF
-  plays-last : {p : TapeReader C} {read written : List ℕ} (s : Stage command Keeps p read written) (o : Option (List ℕ × Progress S)) (line : List ℕ) → p.pending ≡ line → (line ≡ [] → ⊥) → next_line command s.at line ≡ o
+  pub plays-last : {p : TapeReader C} {read written : List ℕ} (s : Stage command Keeps p read written) (o : Option (List ℕ × Progress S)) (line : List ℕ) → p.pending ≡ line → (line ≡ [] → ⊥) → next_line command s.at line ≡ o
       → read_lines command (begin command) (lines_of read) ≡ with_text s.text (on_line s.at (λ z. read_lines command z []) o)
   plays-last s o [] is some e = absurd (some refl)
   plays-last {p = p} {read = read} s o (b ∷ bs) is some e =
@@ -201,7 +210,7 @@ module _ {C S : Type 0} (command : TapeCommand S) (Keeps : C → S → Type 0) w
       let now = subst (λ (l : List ℕ). TookLine command Keeps (Some status) s.at l old new) (append-nil old.pending) h in
       let plays = plays-last s None old.pending refl some now.0 in
       record {
-        text = ap (λ (x : Reading S). command.opening ++ x.text ++ last_text command x) plays ∙ ends_text written old.text new.text command.opening s.text (bad_line (s.at.lines + 1)) s.text-is now.1.text-is;
+        text = ap (λ (x : Reading S). command.opening ++ x.text ++ last_text command x) plays ∙ ends_text written old.text (new.text ++ end_text status) command.opening s.text (bad_line (s.at.lines + 1)) s.text-is (spoils-text status s.at old.text new.text now.1);
         outcome = ap (status_of command) plays ∙ sym now.1.status-is;
         kept = subst (λ (x : Reading S). IsKept Keeps x.after.kept) (sym plays) (old.lines.command, s.has_read.keeps);
       }
@@ -211,7 +220,8 @@ module _ {C S : Type 0} (command : TapeCommand S) (Keeps : C → S → Type 0) w
       → command.refused all.at.kept ≡ refused → Finished command Keeps (cond refused Refused Done) new tape written
   finished-by {old = old} {written = written} new refused all more is = record {
     text = ap (λ (x : Reading S). command.opening ++ x.text ++ last_text command x) all.reads ∙ ap (λ (l : List ℕ). l ++ command.closing all.at.kept) (sym all.text-is)
-        ∙ append_assoc written old.text (command.closing all.at.kept) ∙ ap (λ (l : List ℕ). written ++ l) (sym more);
+        ∙ append_assoc written old.text (command.closing all.at.kept)
+        ∙ ap (λ (l : List ℕ). written ++ l) (sym more ∙ sym (append-nil new.text) ∙ ap (λ (l : List ℕ). new.text ++ l) (sym (no_end refused)));
     outcome = ap (status_of command) all.reads ∙ ap (λ (b : Bool). cond b Refused Done) is;
     kept = subst (λ (x : Reading S). IsKept Keeps x.after.kept) (sym all.reads) (old.lines.command, all.has_read.keeps);
   }

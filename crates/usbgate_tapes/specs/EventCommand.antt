@@ -4,7 +4,7 @@ use Rattle.packet_show.specs.declared.tape.TapeLine.{TapeLine}
 use Rattle.packet_show.specs.declared.tape.TapeKind.TheVariants.{Replay}
 use Rattle.packet_show.specs.Tape.{tape_line}
 use Rattle.gate_history.specs.step.Events.{Event}
-use Rattle.usbgate_tapes.specs.Tape.{event_said, may_happen}
+use Rattle.usbgate_tapes.specs.Tape.{event_said, is_event, may_happen}
 use Rattle.usbgate_tapes.specs.TapeCommand.{TapeCommand}
 
 pub record EventCommand : Type 0 where
@@ -31,6 +31,7 @@ over_events command = record {
   opening = command.opening;
   start = [];
   line = λ events content. on_said command events (tape_line Replay content);
+  says = λ content. is_event (tape_line Replay content);
   closing = command.closing;
   refused = command.refused;
 }

@@ -1,27 +1,31 @@
 -- What a run has read and written, by the log of its calls. It holds over any tape and any sink, since it speaks of
 -- nothing but what their calls answered.
-use Rattle.std.specs.Prelude.{ℕ, List, [], ◌++◌, Some, Result}
+use Rattle.std.specs.Prelude.{◌≡◌, ℕ, List, [], ◌++◌, Some, Result}
 use Rattle.gate_outside.specs.declared.fault.Failed.{Failed}
 use Rattle.gate_outside.specs.Moved.{Move, Moved, moved, MayFollow, Moves}
 use Rattle.usbgate_tapes.specs.declared.status.Status.{Status}
+use Rattle.usbgate_tapes.specs.declared.status.Status.TheVariants.{OutOfMemory}
 use Rattle.usbgate_tapes.specs.Prescribed.{Prescribed}
 use Rattle.usbgate_tapes.specs.Run.{LeavesTold}
+use Rattle.usbgate_tapes.specs.Wants.{RunsOut}
 
 -- These reads were made, one after the other, and these bytes were written. For each tape that begins with what the reads
 -- gave, and ends there where the last of them found the end, what follows of it and what was written is what a run leaves
--- over a tape and a sink that tell their bytes.
+-- over a tape and a sink that tell their bytes. Memory ran out only where these reads and what was written allow it.
 pub record LeavesByLog {S K : Type 0} (read_gives : S → List ℕ → Result ℕ Failed → S → Type 0) (write_gives : K → List ℕ → Result ℕ Failed → K → Type 0) (status : Status) (p : Prescribed) (tape_old tape_new : S) (out_old out_new : K) : Type 0 where
   pub reads : List Move
   pub read : Moved read_gives reads tape_old tape_new
   pub written : List ℕ
   pub writes : Moves write_gives written out_old out_new
   pub leaves : (later : List ℕ) → MayFollow reads later → LeavesTold status p (moved reads ++ later) [] (Some later) (Some written)
+  pub wants : status ≡ OutOfMemory → RunsOut p reads written
 
--- the same of a run that reads no tape
+-- the same of a run that reads no tape: memory ran out only before anything was written
 pub record WritesByLog {K : Type 0} (write_gives : K → List ℕ → Result ℕ Failed → K → Type 0) (status : Status) (p : Prescribed) (out_old out_new : K) : Type 0 where
   pub written : List ℕ
   pub writes : Moves write_gives written out_old out_new
   pub leaves : (tape : List ℕ) → LeavesTold status p tape [] (Some tape) (Some written)
+  pub wants : status ≡ OutOfMemory → written ≡ []
 
 -- these reads were made, one after the other, and this holds of each tape that begins with what they gave, and ends there
 -- where the last of them found the end

@@ -1,6 +1,6 @@
 -- The command `model`: the steps that a tape says are done with a gateway and a modelled device, which begins as it was
 -- plugged in.
-use Rattle.std.specs.Prelude.{ℕ, List, [], ◌∷◌, Option, Some, None}
+use Rattle.std.specs.Prelude.{ℕ, Bool, true, false, List, [], ◌∷◌, Option, Some, None}
 use Rattle.packet_show.specs.declared.tape.TapeKind.TheVariants.{Model}
 use Rattle.packet_show.specs.declared.tape.TapeLine.{TapeLine}
 use Rattle.packet_show.specs.declared.tape.TapeLine.TheVariants as line
@@ -35,6 +35,20 @@ step_said (line.Perform ep) = Some (Perform ep)
 step_said (line.Offer ep) = Some (Offer ep)
 step_said line.Unplug = Some Unplug
 
+-- the line says something
+abbrev pub is_said : Option TapeLine → Bool
+is_said None = false
+is_said (Some line.Skip) = false
+is_said (Some (line.Client piece)) = true
+is_said (Some line.ClientEnd) = true
+is_said (Some (line.Host piece)) = true
+is_said (Some line.HostEnd) = true
+is_said (Some (line.ToHost n)) = true
+is_said (Some (line.ToGate n)) = true
+is_said (Some (line.Perform ep)) = true
+is_said (Some (line.Offer ep)) = true
+is_said (Some line.Unplug) = true
+
 -- a line that says nothing adds nothing
 abbrev pub on_step : {S : Type 0} → Meaning S → S → List Step → Option Step → List ℕ × List Step
 on_step m s steps None = ([], steps)
@@ -50,6 +64,7 @@ model m s = record {
   opening = told_text (told_first m s);
   start = [];
   line = λ steps content. on_line m s steps (tape_line Model content);
+  says = λ content. is_said (tape_line Model content);
   closing = λ steps. counts_line (counts_of first_id (history first_id (course m s steps).events));
   refused = λ steps. has_refusal (history first_id (course m s steps).events);
 }
@@ -59,17 +74,3 @@ model_of Keyboard = model (meaning_of keyboard) (first_state keyboard)
 model_of Loopback = model (meaning_of loopback) (first_state loopback)
 model_of Tone = model (meaning_of tone) (first_state tone)
 model_of Disk = model disk (first_disk 64)
-
--- the line says something
-abbrev pub IsSaid : Option TapeLine → Type 0
-IsSaid None = ⊥
-IsSaid (Some line.Skip) = ⊥
-IsSaid (Some (line.Client piece)) = Unit {0}
-IsSaid (Some line.ClientEnd) = Unit {0}
-IsSaid (Some (line.Host piece)) = Unit {0}
-IsSaid (Some line.HostEnd) = Unit {0}
-IsSaid (Some (line.ToHost n)) = Unit {0}
-IsSaid (Some (line.ToGate n)) = Unit {0}
-IsSaid (Some (line.Perform ep)) = Unit {0}
-IsSaid (Some (line.Offer ep)) = Unit {0}
-IsSaid (Some line.Unplug) = Unit {0}

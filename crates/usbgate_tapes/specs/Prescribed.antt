@@ -1,5 +1,5 @@
 -- What a command is to print that goes over a tape or over nothing, and how it is to end, where it meets no fault and has memory.
-use Rattle.std.specs.Prelude.{List, [], ℕ, Option, None}
+use Rattle.std.specs.Prelude.{Bool, false, List, [], ℕ, Option, None}
 use Rattle.usbgate_tapes.specs.declared.status.Status.{Status}
 use Rattle.usbgate_tapes.specs.declared.status.Status.TheVariants.{Done, Usage}
 use Rattle.usbgate_tapes.specs.Text.{usage_line}
@@ -13,13 +13,15 @@ pub record Prescribed : Type 0 where
   pub front : List ℕ → Option (List ℕ)
   -- what it leaves of a tape, where it comes to its end
   pub rest : List ℕ → List ℕ
+  -- whether a line of a tape says something, by its content; only what it says may take memory
+  pub says : List ℕ → Bool
 
 abbrev pub over_tape : {S : Type 0} → TapeCommand S → Prescribed
-over_tape command = record { text = λ tape. tape_text command tape; status = λ tape. tape_status command tape; front = λ whole. front_text command whole; rest = λ tape. [] }
+over_tape command = record { text = λ tape. tape_text command tape; status = λ tape. tape_status command tape; front = λ whole. front_text command whole; rest = λ tape. []; says = command.says }
 
 -- a text for which no tape is read
 abbrev pub untaped : Status → List ℕ → Prescribed
-untaped status text = record { text = λ tape. text; status = λ tape. status; front = λ whole. None; rest = λ tape. tape }
+untaped status text = record { text = λ tape. text; status = λ tape. status; front = λ whole. None; rest = λ tape. tape; says = λ line. false }
 
 abbrev pub usage : Prescribed
 usage = untaped Usage usage_line

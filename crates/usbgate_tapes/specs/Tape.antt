@@ -1,5 +1,5 @@
 -- A replay tape: the lines of a text, and the event that each says.
-use Rattle.std.specs.Prelude.{ℕ, ◌==◌, Bool, true, false, not, if◌then◌else◌, List, [], ◌∷◌, Option, Some, None, IsSome}
+use Rattle.std.specs.Prelude.{ℕ, ◌==◌, Bool, true, false, not, if◌then◌else◌, List, [], ◌∷◌, Option, Some, None, is_some}
 use Rattle.std.specs.Io.BufRead.{strip_last}
 use Rattle.packet_show.specs.declared.tape.TapeLine.{TapeLine}
 use Rattle.packet_show.specs.declared.tape.TapeLine.TheVariants as line
@@ -40,9 +40,9 @@ event_said (line.Offer ep) = None
 event_said line.Unplug = None
 
 -- an event stands on the line
-abbrev pub IsEvent : Option TapeLine → Type 0
-IsEvent None = ⊥
-IsEvent (Some line) = IsSome (event_said line)
+abbrev pub is_event : Option TapeLine → Bool
+is_event None = false
+is_event (Some line) = is_some (event_said line)
 
 -- nothing of the host comes after its end; after a client's comes the next client
 abbrev pub host_ended : List Event → Bool

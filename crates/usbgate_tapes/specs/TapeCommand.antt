@@ -16,6 +16,8 @@ pub record TapeCommand (S : Type 0) : Type 0 where
   pub start : S
   -- a line's text, by its content, and what is kept with it; none where the line is bad
   pub line : S → List ℕ → Option (List ℕ × S)
+  -- whether a line says something, by its content; only what it says may take memory
+  pub says : List ℕ → Bool
   -- the text behind the last line
   pub closing : S → List ℕ
   -- whether it ends in a refusal, where no line is bad

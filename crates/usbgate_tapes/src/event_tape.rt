@@ -4,7 +4,7 @@ ghost use Rattle.std.specs.Prelude.{◌≡◌, ◌++◌, ◌∷◌, [], List, �
 ghost use Rattle.gate_history.specs.step.Events.{Event as PastEvent, event_of};
 ghost use Rattle.packet_show.specs.Tape.{tape_line};
 ghost use Rattle.packet_show.specs.declared.tape.TapeKind.TheVariants as kind;
-ghost use Rattle.usbgate_tapes.specs.Tape.{event_said, IsEvent, host_ended};
+ghost use Rattle.usbgate_tapes.specs.Tape.{event_said, host_ended};
 ghost use Rattle.usbgate_tapes.specs.EventCommand.{EventCommand as Told, over_events};
 ghost use Rattle.usbgate_tapes.specs.inner.EventTape.{HasEvents, MayStand};
 
@@ -99,8 +99,6 @@ impl<E: EventCommand> TapeCommand for EventTape<E> {
     ghost means = { over_events };
 
     ghost Keeps = { HasEvents E.HasSeen };
-
-    ghost Wants = { λ line. IsEvent (tape_line kind.Replay line) };
 
     fn take_line(&mut self, alloc: Global, line: &[u8], text: &mut Bytes) -> Result<(), LineError> {
         if !self.may_stand(line) {

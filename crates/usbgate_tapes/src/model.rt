@@ -1,12 +1,10 @@
 //! The command `model`: the steps of a tape are done with a gateway and a modelled device.
 
 ghost use Rattle.std.specs.Prelude.{◌≡◌, ◌++◌, ◌||◌, [], List, IfOk, OnOk, OnErr, IsSome};
-ghost use Rattle.packet_show.specs.Tape.{tape_line};
-ghost use Rattle.packet_show.specs.declared.tape.TapeKind.TheVariants as kind;
 ghost use Rattle.direct_run.specs.Stands.{Stands};
 ghost use Rattle.direct_run.specs.Steps.{Step as PastStep};
 ghost use Rattle.direct_run.specs.Trace.{told_first};
-ghost use Rattle.usbgate_tapes.specs.Model.{IsSaid, model, step_said};
+ghost use Rattle.usbgate_tapes.specs.Model.{model, step_said};
 ghost use Rattle.usbgate_tapes.specs.Text.{told_text};
 ghost use Rattle.usbgate_tapes.specs.inner.Model.{HasDone, TakesSaid, has_some};
 
@@ -87,8 +85,6 @@ impl<G: Gadget> TapeCommand for ModelRun<G> {
     ghost means = { model G.meaning };
 
     ghost Keeps = { HasDone G.meaning };
-
-    ghost Wants = { λ line. IsSaid (tape_line kind.Model line) };
 
     fn take_line(&mut self, alloc: Global, line: &[u8], text: &mut Bytes) -> Result<(), LineError> {
         let said = read_line(alloc, TapeKind::Model, line)?;

@@ -1,6 +1,6 @@
 //! Texts for which no tape is read.
 
-ghost use Rattle.std.specs.Prelude.{ℕ, List, Option};
+ghost use Rattle.std.specs.Prelude.{◌≢◌, ℕ, List, Option};
 ghost use Rattle.usbgate_tapes.specs.Prescribed.{printed, usage as usage_prescribed};
 ghost use Rattle.usbgate_tapes.specs.Run.{Leaves, IsOfNoCommand, IsOfNoTape};
 ghost use Rattle.usbgate_tapes.specs.Logs.{WritesByLog};
@@ -16,6 +16,7 @@ pub fn print<K: Sink>(text: &[u8], out: &mut K) -> Status
     ensures writes_log { WritesByLog K.write_gives result (printed text.now) out.old out.new }
     ensures causes { (faults : ℕ) → HasCauses result faults faults (K.faults out.old) (K.faults out.new) }
     ensures ends { IsOfNoTape result }
+    ensures thrifty { result ≢ Status.OutOfMemory }
 {
     match write_all(out, text) {
         Ok(()) => Status::Done,
@@ -29,6 +30,7 @@ pub fn print_usage<K: Sink>(out: &mut K) -> Status
     ensures writes_log { WritesByLog K.write_gives result usage_prescribed out.old out.new }
     ensures causes { (faults : ℕ) → HasCauses result faults faults (K.faults out.old) (K.faults out.new) }
     ensures usage { IsOfNoCommand result }
+    ensures thrifty { result ≢ Status.OutOfMemory }
 {
     match write_all(out, USAGE) {
         Ok(()) => Status::Usage,

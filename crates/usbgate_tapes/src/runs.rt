@@ -1,6 +1,10 @@
 //! The commands over a tape, each from its start to its end.
 
-ghost use Rattle.std.specs.Prelude.{◌≡◌, ◌≢◌, ◌<◌, ◌≤◌, [], length};
+ghost use Rattle.std.specs.Prelude.{◌≡◌, ◌≢◌, ◌++◌, ◌<◌, ◌≤◌, [], length, OnOk, OnErr};
+ghost use Rattle.std.specs.Io.KnownBytes.{Appends};
+ghost use Rattle.gate_outside.specs.Faults.{HasCause};
+ghost use Rattle.gate_outside.specs.Front.{AppendsFront};
+ghost use Rattle.gate_outside.specs.Moved.{Moves, MovesFront};
 ghost use Rattle.usbgate_tapes.specs.Run.{Leaves};
 ghost use Rattle.usbgate_tapes.specs.Logs.{LeavesByLog};
 ghost use Rattle.usbgate_tapes.specs.Prescribed.{over_tape as tape_prescribed};
@@ -10,9 +14,8 @@ ghost use Rattle.usbgate_tapes.specs.Model.{model as modelling, model_of};
 ghost use Rattle.usbgate_tapes.specs.Simulated.{AreSimulated, SimulatesTape, AreSimulatedByLog, SimulatesByLog};
 ghost use Rattle.usbgate_tapes.specs.Show.{show as showing, show_side};
 ghost use Rattle.usbgate_tapes.specs.inner.Show.{shown_by};
-ghost use Rattle.usbgate_tapes.specs.Wants.{RunsOut, event_wants, step_wants};
 ghost use Rattle.usbgate_tapes.specs.Causes.{HasCauses};
-ghost use Rattle.usbgate_tapes.specs.inner.TapeReader.{Stage, ReadsTo, ReadsToByLog};
+ghost use Rattle.usbgate_tapes.specs.inner.TapeReader.{Stage, Runs, end_text};
 
 use crate::device::{BLOCKS, Device};
 use crate::event_tape::EventTape;
@@ -23,9 +26,10 @@ use crate::shown_format::ShownFormat;
 use crate::status::Status;
 use crate::tape_command::TapeCommand;
 use crate::tape_reader::TapeReader;
+use crate::text::bad_line;
 use direct_proof::systems_are_direct;
 use disk_gadget::Disk;
-use gate_outside::{Sink, Source, write_all};
+use gate_outside::{Failed, Sink, Source, write_all};
 use model_device::{Gadget, Keyboard, Loopback, Tone};
 use redir_data::FromHost;
 use std::alloc::Global;
@@ -40,7 +44,6 @@ pub fn replay<S: Source, K: Sink>(alloc: Global, first_id: u32, tape: &mut S, ou
     requires { 1 ≤ first_id }
     ensures leaves { Leaves result (tape_prescribed (over_events (replaying first_id))) (S.remaining tape.old) (S.remaining tape.new) (K.contents out.old) (K.contents out.new) }
     ensures leaves_log { LeavesByLog S.read_gives K.write_gives result (tape_prescribed (over_events (replaying first_id))) tape.old tape.new out.old out.new }
-    ensures wants { result ≡ Status.OutOfMemory → RunsOut S.read_gives (over_events (replaying first_id)) event_wants tape.old tape.new }
     ensures causes { HasCauses result (S.faults tape.old) (S.faults tape.new) (K.faults out.old) (K.faults out.new) }
     ensures command { result ≢ Status.Usage }
 {
@@ -57,7 +60,6 @@ pub fn model<S: Source, K: Sink>(alloc: Global, device: Device, tape: &mut S, ou
     ensures leaves_log { LeavesByLog S.read_gives K.write_gives result (tape_prescribed (model_of device)) tape.old tape.new out.old out.new }
     ensures simulates { SimulatesTape result device (S.remaining tape.old) }
     ensures simulates_log { SimulatesByLog S.read_gives result device tape.old tape.new }
-    ensures wants { result ≡ Status.OutOfMemory → RunsOut S.read_gives (model_of device) step_wants tape.old tape.new }
     ensures causes { HasCauses result (S.faults tape.old) (S.faults tape.new) (K.faults out.old) (K.faults out.new) }
     ensures command { result ≢ Status.Usage }
 {
@@ -91,7 +93,6 @@ fn model_with<G: Gadget, S: Source, K: Sink>(
     ensures leaves_log { LeavesByLog S.read_gives K.write_gives result (tape_prescribed (modelling G.meaning gadget)) tape.old tape.new out.old out.new }
     ensures simulates { AreSimulated result G.meaning gadget (S.remaining tape.old) }
     ensures simulates_log { AreSimulatedByLog S.read_gives result G.meaning gadget tape.old tape.new }
-    ensures wants { result ≡ Status.OutOfMemory → RunsOut S.read_gives (modelling G.meaning gadget) step_wants tape.old tape.new }
     ensures causes { HasCauses result (S.faults tape.old) (S.faults tape.new) (K.faults out.old) (K.faults out.new) }
     ensures command { result ≢ Status.Usage }
 {
@@ -107,7 +108,6 @@ fn model_with<G: Gadget, S: Source, K: Sink>(
 pub fn show<S: Source, K: Sink>(alloc: Global, side: Side, tape: &mut S, out: &mut K) -> Status
     ensures leaves { Leaves result (tape_prescribed (over_events (showing side))) (S.remaining tape.old) (S.remaining tape.new) (K.contents out.old) (K.contents out.new) }
     ensures leaves_log { LeavesByLog S.read_gives K.write_gives result (tape_prescribed (over_events (showing side))) tape.old tape.new out.old out.new }
-    ensures wants { result ≡ Status.OutOfMemory → RunsOut S.read_gives (over_events (showing side)) event_wants tape.old tape.new }
     ensures causes { HasCauses result (S.faults tape.old) (S.faults tape.new) (K.faults out.old) (K.faults out.new) }
     ensures command { result ≢ Status.Usage }
 {
@@ -124,7 +124,6 @@ fn show_stream<F: ShownFormat, S: Source, K: Sink>(
 ) -> Status
     ensures leaves { Leaves result (tape_prescribed (over_events (show_side (shown_by F.the_side F.format F.after F.first_state F.bytes F.line)))) (S.remaining tape.old) (S.remaining tape.new) (K.contents out.old) (K.contents out.new) }
     ensures leaves_log { LeavesByLog S.read_gives K.write_gives result (tape_prescribed (over_events (show_side (shown_by F.the_side F.format F.after F.first_state F.bytes F.line)))) tape.old tape.new out.old out.new }
-    ensures wants { result ≡ Status.OutOfMemory → RunsOut S.read_gives (over_events (show_side (shown_by F.the_side F.format F.after F.first_state F.bytes F.line))) event_wants tape.old tape.new }
     ensures causes { HasCauses result (S.faults tape.old) (S.faults tape.new) (K.faults out.old) (K.faults out.new) }
     ensures command { result ≢ Status.Usage }
 {
@@ -141,13 +140,8 @@ fn over_tape<C: TapeCommand + Drop, S: Source, K: Sink>(
     out: &mut K,
 ) -> Status
     requires { (task : C.Task) × C.Keeps task command (C.means task).start × (text ≡ (C.means task).opening) }
-    ensures leaves { (task : C.Task) → C.Keeps task command (C.means task).start → text ≡ (C.means task).opening
-        → Leaves result (tape_prescribed (C.means task)) (S.remaining tape.old) (S.remaining tape.new) (K.contents out.old) (K.contents out.new) }
-    ensures leaves_log { (task : C.Task) → C.Keeps task command (C.means task).start → text ≡ (C.means task).opening
-        → LeavesByLog S.read_gives K.write_gives result (tape_prescribed (C.means task)) tape.old tape.new out.old out.new }
-    ensures kept { (task : C.Task) → C.Keeps task command (C.means task).start → text ≡ (C.means task).opening → ReadsTo result (C.Keeps task) (C.means task) (S.remaining tape.old) }
-    ensures kept_log { (task : C.Task) → C.Keeps task command (C.means task).start → text ≡ (C.means task).opening → ReadsToByLog S.read_gives result (C.Keeps task) (C.means task) tape.old tape.new }
-    ensures wants { result ≡ Status.OutOfMemory → (task : C.Task) → C.Keeps task command (C.means task).start → text ≡ (C.means task).opening → RunsOut S.read_gives (C.means task) C.Wants tape.old tape.new }
+    ensures runs { (task : C.Task) → C.Keeps task command (C.means task).start → text ≡ (C.means task).opening
+        → Runs (C.means task) (C.Keeps task) S.read_gives K.write_gives S.remaining K.contents result tape.old tape.new out.old out.new }
     ensures causes { HasCauses result (S.faults tape.old) (S.faults tape.new) (K.faults out.old) (K.faults out.new) }
     ensures command { result ≢ Status.Usage }
 {
@@ -174,11 +168,8 @@ fn read_pieces<C: TapeCommand + Drop, S: Source, K: Sink>(
 ) -> Status
     requires start { (task : C.Task) × Stage (C.means task) (C.Keeps task) reader [] [] }
     requires room { 0 < length buf.old }
-    ensures leaves { (task : C.Task) → Stage (C.means task) (C.Keeps task) reader [] [] → Leaves result (tape_prescribed (C.means task)) (S.remaining tape.old) (S.remaining tape.new) (K.contents out.old) (K.contents out.new) }
-    ensures leaves_log { (task : C.Task) → Stage (C.means task) (C.Keeps task) reader [] [] → LeavesByLog S.read_gives K.write_gives result (tape_prescribed (C.means task)) tape.old tape.new out.old out.new }
-    ensures kept { (task : C.Task) → Stage (C.means task) (C.Keeps task) reader [] [] → ReadsTo result (C.Keeps task) (C.means task) (S.remaining tape.old) }
-    ensures kept_log { (task : C.Task) → Stage (C.means task) (C.Keeps task) reader [] [] → ReadsToByLog S.read_gives result (C.Keeps task) (C.means task) tape.old tape.new }
-    ensures wants { result ≡ Status.OutOfMemory → (task : C.Task) → Stage (C.means task) (C.Keeps task) reader [] [] → RunsOut S.read_gives (C.means task) C.Wants tape.old tape.new }
+    ensures runs { (task : C.Task) → Stage (C.means task) (C.Keeps task) reader [] []
+        → Runs (C.means task) (C.Keeps task) S.read_gives K.write_gives S.remaining K.contents result tape.old tape.new out.old out.new }
     ensures causes { HasCauses result (S.faults tape.old) (S.faults tape.new) (K.faults out.old) (K.faults out.new) }
     ensures command { result ≢ Status.Usage }
 {
@@ -196,10 +187,25 @@ fn read_pieces<C: TapeCommand + Drop, S: Source, K: Sink>(
             Err(_) => return Status::OutOfMemory,
         };
         if let Some(status) = ended {
-            if let Err(_) = write_all(out, reader.text.as_slice()) {
+            if let Err(_) = write_end(status, reader.text.as_slice(), out) {
                 return Status::WriteFault;
             }
             return status;
         }
+    }
+}
+
+/// Writes the last text, and behind it the line that names a bad line, where the run ends at one.
+fn write_end<K: Sink>(status: Status, text: &[u8], out: &mut K) -> Result<(), Failed>
+    ensures ok { OnOk result (Appends (K.contents out.old) (K.contents out.new) (text.now ++ end_text status)) }
+    ensures err { OnErr result (AppendsFront (K.contents out.old) (K.contents out.new) (text.now ++ end_text status)) }
+    ensures cause { HasCause (K.faults out.old) (K.faults out.new) result }
+    ensures writes { OnOk result (Moves K.write_gives (text.now ++ end_text status) out.old out.new) }
+    ensures writes_front { OnErr result (MovesFront K.write_gives (text.now ++ end_text status) out.old out.new) }
+{
+    write_all(out, text)?;
+    match status {
+        Status::BadTape(number) => write_all(out, bad_line(number).as_bytes()),
+        _ => Ok(()),
     }
 }

@@ -1,6 +1,6 @@
 //! What a command over a tape is.
 
-ghost use Rattle.std.specs.Prelude.{◌≡◌, ◌≢◌, ◌++◌, List, ℕ, None, IfOk, OnOk};
+ghost use Rattle.std.specs.Prelude.{◌≡◌, ◌≢◌, ◌++◌, None, IfOk, OnOk, true};
 ghost use Rattle.usbgate_tapes.specs.TapeCommand.{TapeCommand as Told};
 ghost use Rattle.usbgate_tapes.specs.inner.TapeReader.{TakesLine};
 
@@ -9,8 +9,7 @@ use std::alloc::Global;
 use usb_base::{Bytes, Memory};
 
 /// A command over a tape: it takes the lines one by one, and then ends. What it is to do is a task, which means plain
-/// data (`Told`, by what it keeps of the lines). `Keeps` says when it has that task and keeps that, and `Wants` for which
-/// lines memory may be wanting.
+/// data (`Told`, by what it keeps of the lines). `Keeps` says when it has that task and keeps that.
 pub trait TapeCommand {
     ghost Kept: { Type 0 };
 
@@ -20,14 +19,12 @@ pub trait TapeCommand {
 
     ghost Keeps: { Task → Self → Kept → Type 0 };
 
-    ghost Wants: { List ℕ → Type 0 };
-
     /// Takes the next line, without its LF, and appends its text. A bad line changes nothing, and wants no memory.
     fn take_line(&mut self, alloc: Global, line: &[u8], text: &mut Bytes) -> Result<(), LineError>
         ensures goes { OnOk result ((task : Task) (kept : Kept) → Keeps task self.old kept → TakesLine (Keeps task) ((means task).line kept line.now) self.new text.old text.new) }
         ensures bad { result ≡ Err LineError.Bad → (task : Task) (kept : Kept) → Keeps task self.old kept → (means task).line kept line.now ≡ None }
         ensures same { result ≡ Err LineError.Bad → (self.new ≡ self.old) × (text.new ≡ text.old) }
-        ensures memory { result ≡ Err LineError.Memory → Wants line.now }
+        ensures memory { result ≡ Err LineError.Memory → (task : Task) → (means task).says line.now ≡ true }
         ensures good { result ≡ Err LineError.Memory → (task : Task) (kept : Kept) → Keeps task self.old kept → (means task).line kept line.now ≢ None };
 
     /// Appends the text behind the last line.

@@ -1,6 +1,6 @@
 //! A tape's lines, put to a command one by one.
 
-ghost use Rattle.std.specs.Prelude.{◌≡◌, ◌≢◌, ◌++◌, ◌+◌, ◌<◌, ◌≤◌, ◌↔◌, ℕ, List, length, IfOk, OnOk, IsTrue, None};
+ghost use Rattle.std.specs.Prelude.{◌≡◌, ◌≢◌, ◌++◌, ◌+◌, ◌<◌, ◌≤◌, ◌↔◌, length, IfOk, OnOk, IsTrue, None, true};
 ghost use Rattle.usbgate_tapes.specs.Tape.{content as content_of};
 ghost use Rattle.usbgate_tapes.specs.TapeCommand.{Progress, begin, next_line, tape_limit};
 ghost use Rattle.usbgate_tapes.specs.inner.TapeReader.{HasRead, GoesOn};
@@ -35,27 +35,24 @@ impl<C: TapeCommand> TapeLines<C> {
         }
     }
 
-    /// Reads the next line, which may have its LF, and appends its text. A bad line changes nothing, and wants no
-    /// memory.
+    /// Reads the next line, which may have its LF, and appends its text: there is room for it (`has_room`). A bad line
+    /// changes nothing, and wants no memory.
     pub fn take_line(
         &mut self,
         alloc: Global,
         line: &[u8],
         text: &mut Bytes,
     ) -> Result<(), LineError>
-        requires { 0 < length line.now }
+        requires some { 0 < length line.now }
+        requires room { length line.now ≤ self.old.room }
         ensures goes { OnOk result ((task : C.Task) (s : Progress C.Kept) → HasRead (C.Keeps task) self.old s → GoesOn (C.Keeps task) (next_line (C.means task) s line.now) self.new text.old text.new) }
         ensures bad { result ≡ Err LineError.Bad → (task : C.Task) (s : Progress C.Kept) → HasRead (C.Keeps task) self.old s → next_line (C.means task) s line.now ≡ None }
         ensures same { result ≡ Err LineError.Bad → (self.new ≡ self.old) × (text.new ≡ text.old) }
-        ensures memory { result ≡ Err LineError.Memory → C.Wants (content_of line.now) }
+        ensures memory { result ≡ Err LineError.Memory → (task : C.Task) → (C.means task).says (content_of line.now) ≡ true }
         ensures good { result ≡ Err LineError.Memory → (task : C.Task) (s : Progress C.Kept) → HasRead (C.Keeps task) self.old s → next_line (C.means task) s line.now ≢ None }
     {
-        let len = line.len() as u64;
-        if len > self.room {
-            return Err(LineError::Bad);
-        }
         self.command.take_line(alloc, content(line), text)?;
-        self.room -= len;
+        self.room -= line.len() as u64;
         self.lines = self.lines.saturating_add(1);
         Ok(())
     }
@@ -67,11 +64,12 @@ impl<C: TapeCommand> TapeLines<C> {
         self.lines
     }
 
-    /// Whether the tape may still have so many bytes.
-    pub fn has_room(&self, len: usize) -> bool
-        ensures { (task : C.Task) (s : Progress C.Kept) → HasRead (C.Keeps task) self.now s → IsTrue result ↔ (s.bytes + len ≤ tape_limit) }
+    /// Whether the tape may still have a line that begins with these two parts.
+    pub fn has_room(&self, pending: &[u8], part: &[u8]) -> bool
+        ensures room { IsTrue result ↔ (length (pending.now ++ part.now) ≤ self.now.room) }
+        ensures limit { (task : C.Task) (s : Progress C.Kept) → HasRead (C.Keeps task) self.now s → IsTrue result ↔ (s.bytes + length (pending.now ++ part.now) ≤ tape_limit) }
     {
-        len as u64 <= self.room
+        (pending.len() + part.len()) as u64 <= self.room
     }
 
     /// Whether the run ends in a refusal.

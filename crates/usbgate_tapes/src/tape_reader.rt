@@ -1,14 +1,15 @@
 //! A tape that comes in pieces, read line by line.
 
-ghost use Rattle.std.specs.Prelude.{◌≡◌, ◌≢◌, ◌⊎◌, ◌++◌, ◌+◌, ◌<◌, ◌≤◌, ◌==◌, [], List, ℕ, length, IfOk, OnOk, OnErr, None, position};
-ghost use Rattle.usbgate_tapes.specs.Wants.{LineTakes, LineWants, PieceWants};
-ghost use Rattle.usbgate_tapes.specs.TapeCommand.{Progress, next_line, tape_limit};
-ghost use Rattle.usbgate_tapes.specs.inner.TapeReader.{HasRead, GoesOn, IsJoined, Stage, Took, Stepped, Finished, AllRead, TookLast, Spoils, TookLine, Kept};
+ghost use Rattle.std.specs.Prelude.{◌≡◌, ◌≢◌, ◌⊎◌, ◌++◌, ◌+◌, ◌<◌, ◌≤◌, ◌==◌, [], List, ℕ, length, IfOk, OnOk, OnErr, None, position, true, false};
+ghost use Rattle.usbgate_tapes.specs.Prescribed.{over_tape};
+ghost use Rattle.usbgate_tapes.specs.Tape.{content as content_of};
+ghost use Rattle.usbgate_tapes.specs.Wants.{IsJoined, PieceWants, ReadWants};
+ghost use Rattle.usbgate_tapes.specs.TapeCommand.{Progress, next_line, read_tape};
+ghost use Rattle.usbgate_tapes.specs.inner.TapeReader.{HasRead, GoesOn, Stage, Took, Stepped, Finished, AllRead, TookLast, Spoils, TookLine, EndWants, Kept};
 
 use crate::status::Status;
 use crate::tape_command::TapeCommand;
 use crate::tape_lines::TapeLines;
-use crate::text::push_bad;
 use memchr::memchr;
 use packet_show::LineError;
 use std::alloc::Global;
@@ -37,10 +38,10 @@ impl<C: TapeCommand> TapeReader<C> {
     }
 
     /// Reads the next piece of the tape, or, where that is empty, comes to the tape's end. It answers how the
-    /// run ends: at the tape's end, or at a bad line.
+    /// run ends: at the tape's end, or at a bad line, whose own line isn't among the text.
     pub fn step(&mut self, alloc: Global, piece: &[u8]) -> Result<Option<Status>, Memory>
         ensures ok { IfOk result (λ status. (task : C.Task) (read written : List ℕ) → Stage (C.means task) (C.Keeps task) self.old read written → Stepped (C.means task) (C.Keeps task) status self.new piece.now read written) }
-        ensures wants { OnErr result ((task : C.Task) (read written : List ℕ) → Stage (C.means task) (C.Keeps task) self.old read written → (piece.now ≡ []) ⊎ PieceWants (C.means task) C.Wants read piece.now) }
+        ensures wants { OnErr result ((task : C.Task) (read written : List ℕ) → Stage (C.means task) (C.Keeps task) self.old read written → ReadWants (over_tape (C.means task)) read piece.now) }
     {
         if piece.is_empty() {
             return Ok(Some(self.end(alloc)?));
@@ -52,7 +53,7 @@ impl<C: TapeCommand> TapeReader<C> {
     /// in the piece are read where they are.
     fn take(&mut self, alloc: Global, piece: &[u8]) -> Result<Option<Status>, Memory>
         ensures ok { IfOk result (λ status. (task : C.Task) (read written : List ℕ) → Stage (C.means task) (C.Keeps task) self.old read written → Took (C.means task) (C.Keeps task) status self.new (read ++ piece.now) written) }
-        ensures wants { OnErr result ((task : C.Task) (read written : List ℕ) → Stage (C.means task) (C.Keeps task) self.old read written → PieceWants (C.means task) C.Wants read piece.now) }
+        ensures wants { OnErr result ((task : C.Task) (read written : List ℕ) → Stage (C.means task) (C.Keeps task) self.old read written → PieceWants (over_tape (C.means task)) read piece.now) }
     {
         let mut from = 0;
         while let Some(len) = line_end(&piece[from..]) {
@@ -62,12 +63,13 @@ impl<C: TapeCommand> TapeReader<C> {
             }
             from = end;
         }
-        self.keep(alloc, &piece[from..])
+        self.keep(&piece[from..])
     }
 
     /// Ends the tape, and answers how the run ends.
     fn end(&mut self, alloc: Global) -> Result<Status, Memory>
-        ensures { IfOk result (λ status. (task : C.Task) (read written : List ℕ) → Stage (C.means task) (C.Keeps task) self.old read written → Finished (C.means task) (C.Keeps task) status self.new read written) }
+        ensures ok { IfOk result (λ status. (task : C.Task) (read written : List ℕ) → Stage (C.means task) (C.Keeps task) self.old read written → Finished (C.means task) (C.Keeps task) status self.new read written) }
+        ensures good { OnErr result ((task : C.Task) (read written : List ℕ) → Stage (C.means task) (C.Keeps task) self.old read written → (read_tape (C.means task) read).bad ≡ false) }
     {
         if let Some(status) = self.last_line(alloc)? {
             return Ok(status);
@@ -77,7 +79,8 @@ impl<C: TapeCommand> TapeReader<C> {
 
     /// Reads the last line, if it has no LF.
     fn last_line(&mut self, alloc: Global) -> Result<Option<Status>, Memory>
-        ensures { IfOk result (λ status. (task : C.Task) (read written : List ℕ) → Stage (C.means task) (C.Keeps task) self.old read written → TookLast (C.means task) (C.Keeps task) status self.new read written) }
+        ensures ok { IfOk result (λ status. (task : C.Task) (read written : List ℕ) → Stage (C.means task) (C.Keeps task) self.old read written → TookLast (C.means task) (C.Keeps task) status self.new read written) }
+        ensures good { OnErr result ((task : C.Task) (read written : List ℕ) → Stage (C.means task) (C.Keeps task) self.old read written → (read_tape (C.means task) read).bad ≡ false) }
     {
         if self.pending.is_empty() {
             return Ok(None);
@@ -100,29 +103,34 @@ impl<C: TapeCommand> TapeReader<C> {
     fn end_line(&mut self, alloc: Global, last: &[u8]) -> Result<Option<Status>, Memory>
         requires { 0 < length (self.old.pending ++ last.now) }
         ensures ok { IfOk result (λ status. (task : C.Task) (p : Progress C.Kept) → HasRead (C.Keeps task) self.old.lines p → TookLine (C.means task) (C.Keeps task) status p (self.old.pending ++ last.now) self.old self.new) }
-        ensures wants { OnErr result ((task : C.Task) (p : Progress C.Kept) → HasRead (C.Keeps task) self.old.lines p → LineWants (C.means task) C.Wants p self.old.pending last.now) }
+        ensures wants { OnErr result ((task : C.Task) (p : Progress C.Kept) → HasRead (C.Keeps task) self.old.lines p → EndWants (C.means task) p self.old.pending last.now) }
     {
         match self.put_line(alloc, last) {
             Ok(()) => {
                 self.pending.clear();
                 Ok(None)
             }
-            Err(LineError::Bad) => Ok(Some(self.spoil(alloc)?)),
+            Err(LineError::Bad) => Ok(Some(self.spoilt())),
             Err(LineError::Memory) => Err(Memory),
         }
     }
 
-    /// Puts the line that ends with these bytes to the command. A bad line wants no memory, but to join its parts.
+    /// Puts the line that ends with these bytes to the command. A bad line wants no memory, but to join its parts, and
+    /// not even that where it passes the limit.
     fn put_line(&mut self, alloc: Global, last: &[u8]) -> Result<(), LineError>
         requires { 0 < length (self.old.pending ++ last.now) }
         ensures goes { OnOk result ((task : C.Task) (s : Progress C.Kept) → HasRead (C.Keeps task) self.old.lines s
             → GoesOn (C.Keeps task) (next_line (C.means task) s (self.old.pending ++ last.now)) self.new.lines self.old.text self.new.text) }
         ensures bad { result ≡ Err LineError.Bad → (task : C.Task) (s : Progress C.Kept) → HasRead (C.Keeps task) self.old.lines s → next_line (C.means task) s (self.old.pending ++ last.now) ≡ None }
         ensures same { result ≡ Err LineError.Bad → (self.new.lines ≡ self.old.lines) × (self.new.text ≡ self.old.text) }
-        ensures memory { result ≡ Err LineError.Memory → LineTakes C.Wants self.old.pending last.now }
+        ensures memory { result ≡ Err LineError.Memory → IsJoined self.old.pending last.now ⊎ ((task : C.Task) → (C.means task).says (content_of (self.old.pending ++ last.now)) ≡ true) }
         ensures good { result ≡ Err LineError.Memory → IsJoined self.old.pending last.now
             ⊎ ((task : C.Task) (s : Progress C.Kept) → HasRead (C.Keeps task) self.old.lines s → next_line (C.means task) s (self.old.pending ++ last.now) ≢ None) }
+        ensures within { result ≡ Err LineError.Memory → length (self.old.pending ++ last.now) ≤ self.old.lines.room }
     {
+        if !self.lines.has_room(self.pending.as_slice(), last) {
+            return Err(LineError::Bad);
+        }
         if self.pending.is_empty() {
             return self.lines.take_line(alloc, last, &mut self.text);
         }
@@ -132,24 +140,22 @@ impl<C: TapeCommand> TapeReader<C> {
     }
 
     /// Keeps a part of a line, unless the line passes the limit.
-    fn keep(&mut self, alloc: Global, part: &[u8]) -> Result<Option<Status>, Memory>
+    fn keep(&mut self, part: &[u8]) -> Result<Option<Status>, Memory>
         ensures ok { IfOk result (λ status. (task : C.Task) (s : Progress C.Kept) → HasRead (C.Keeps task) self.old.lines s → Kept status s (self.old.pending ++ part.now) self.old self.new) }
-        ensures wants { OnErr result ((task : C.Task) (s : Progress C.Kept) → HasRead (C.Keeps task) self.old.lines s → s.bytes + length self.old.pending ≤ tape_limit → 0 < length part.now) }
+        ensures wants { OnErr result ((0 < length part.now) × (length (self.old.pending ++ part.now) ≤ self.old.lines.room)) }
     {
-        self.pending.append(part)?;
-        if self.lines.has_room(self.pending.len()) {
-            return Ok(None);
+        if !self.lines.has_room(self.pending.as_slice(), part) {
+            return Ok(Some(self.spoilt()));
         }
-        Ok(Some(self.spoil(alloc)?))
+        self.pending.append(part)?;
+        Ok(None)
     }
 
-    /// Appends that the next line is bad.
-    fn spoil(&mut self, alloc: Global) -> Result<Status, Memory>
-        ensures { IfOk result (λ status. (task : C.Task) (s : Progress C.Kept) → HasRead (C.Keeps task) self.old.lines s → Spoils status s self.old.text self.new.text) }
+    /// How the run ends where the next line is bad.
+    fn spoilt(&self) -> Status
+        ensures { (task : C.Task) (s : Progress C.Kept) → HasRead (C.Keeps task) self.now.lines s → result ≡ Status.BadTape (s.lines + 1) }
     {
-        let number = self.lines.lines().saturating_add(1);
-        push_bad(alloc, number, &mut self.text)?;
-        Ok(Status::BadTape(number))
+        Status::BadTape(self.lines.lines().saturating_add(1))
     }
 }
 

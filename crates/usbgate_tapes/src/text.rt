@@ -4,10 +4,12 @@ ghost use Rattle.std.specs.Prelude.{◌≡◌, ◌++◌, ◌∷◌, [], IfOk, On
 ghost use Rattle.std.specs.List.{flat_map};
 ghost use Rattle.usb_base.specs.Refusal.{refusal_line};
 ghost use Rattle.direct_run.specs.Lines.{item_line};
-ghost use Rattle.usbgate_tapes.specs.Text.{bytes_line, note_line, told_text, counts_line, bad_line};
+ghost use Rattle.usbgate_tapes.specs.Text.{bytes_line, note_line, told_text, counts_line, bad_line as line_of_bad};
 
+use arrayvec::ArrayString;
 use direct_run::{Items, Refusals, Told};
 use gate_history::{Counts, Note, Notes};
+use itoa::Buffer;
 use std::alloc::Global;
 use usb_base::{Bytes, Memory};
 
@@ -91,16 +93,17 @@ fn counts_text(alloc: Global, counts: &Counts) -> Result<String, Memory>
     )?)
 }
 
-/// Appends the line that names the first bad line, counted from 1.
-pub fn push_bad(alloc: Global, number: u64, text: &mut Bytes) -> Result<(), Memory>
-    ensures { OnOk result (text.new ≡ text.old ++ bad_line number) }
-{
-    let line = bad_text(alloc, number)?;
-    text.append(line.as_bytes())
-}
+/// How long the line may be that names a bad line.
+const BAD_LINE: usize = 30;
 
-fn bad_text(alloc: Global, number: u64) -> Result<String, Memory>
-    ensures { IfOk result (λ text. string_bytes text ≡ bad_line number) }
+/// The line that names the first bad line, counted from 1. It takes no memory.
+pub fn bad_line(number: u64) -> ArrayString<BAD_LINE>
+    ensures { result.bytes ≡ line_of_bad number }
 {
-    Ok(format!(in alloc; "bad tape {number}\n")?)
+    let mut digits = Buffer::new();
+    let mut line = ArrayString::new();
+    line.push_str("bad tape ");
+    line.push_str(digits.format(number));
+    line.push_str("\n");
+    line
 }

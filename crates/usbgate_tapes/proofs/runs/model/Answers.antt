@@ -11,8 +11,6 @@ use Rattle.usbgate_tapes.specs.Run.{LeavesTold}
 use Rattle.usbgate_tapes.specs.Logs.{LeavesByLog}
 use Rattle.usbgate_tapes.specs.Simulated.{AreSimulated, SimulatesTape, AreSimulatedByLog, SimulatesByLog}
 use Rattle.usbgate_tapes.proofs.Unread.{logs-none}
-use Rattle.usbgate_tapes.specs.Wants.{RunsOut, step_wants}
-use Rattle.usbgate_tapes.proofs.Wanting.{none-read}
 use Rattle.usbgate_tapes.proofs.runs.model.Goals as goal
 
 pub returns-in-Ok-make-clause-leaves : goal.returns-in-Ok-make-clause-leaves
@@ -93,47 +91,3 @@ returns-in-Err-make-2-clause-leaves_log g c = logs-none g.S.Source.read_gives g.
 
 pub returns-in-Err-make-3-clause-leaves_log : goal.returns-in-Err-make-3-clause-leaves_log
 returns-in-Err-make-3-clause-leaves_log g c = logs-none g.S.Source.read_gives g.K.Sink.write_gives (over_tape (model_of c.args.device)) c.args.tape.now c.args.out.now
-
-pub returns-in-Ok-clause-wants : goal.returns-in-Ok-clause-wants
-returns-in-Ok-clause-wants g c = λ out.
-    let read_gives = g.S.Source.read_gives in
-    let old = c.args.tape.now in
-    let new = c.model_with.new.tape in
-    subst (λ (d : Device). RunsOut read_gives (model_of d) step_wants old new) (sym c.in-Keyboard.is)
-    (subst (λ (s : State ℕ). RunsOut read_gives (model (meaning_of keyboard) s) step_wants old new) c.in-Ok.ensures (c.model_with.ensures.wants out))
-
-pub returns-in-Err-clause-wants : goal.returns-in-Err-clause-wants
-returns-in-Err-clause-wants g c = λ out. none-read g.S.Source.read_gives (model_of c.args.device) step_wants c.args.tape.now
-
-pub returns-in-Ok-make-clause-wants : goal.returns-in-Ok-make-clause-wants
-returns-in-Ok-make-clause-wants g c = λ out.
-    let read_gives = g.S.Source.read_gives in
-    let old = c.args.tape.now in
-    let new = c.model_with-in-Ok-make.new.tape in
-    subst (λ (d : Device). RunsOut read_gives (model_of d) step_wants old new) (sym c.in-Loopback.is)
-    (subst (λ (s : State (List ℕ)). RunsOut read_gives (model (meaning_of loopback) s) step_wants old new) c.in-Ok-make.ensures (c.model_with-in-Ok-make.ensures.wants out))
-
-pub returns-in-Err-make-clause-wants : goal.returns-in-Err-make-clause-wants
-returns-in-Err-make-clause-wants g c = λ out. none-read g.S.Source.read_gives (model_of c.args.device) step_wants c.args.tape.now
-
-pub returns-in-Ok-make-2-clause-wants : goal.returns-in-Ok-make-2-clause-wants
-returns-in-Ok-make-2-clause-wants g c = λ out.
-    let read_gives = g.S.Source.read_gives in
-    let old = c.args.tape.now in
-    let new = c.model_with-in-Ok-make-2.new.tape in
-    subst (λ (d : Device). RunsOut read_gives (model_of d) step_wants old new) (sym c.in-Tone.is)
-    (subst (λ (s : State ℕ). RunsOut read_gives (model (meaning_of tone) s) step_wants old new) c.in-Ok-make-2.ensures (c.model_with-in-Ok-make-2.ensures.wants out))
-
-pub returns-in-Err-make-2-clause-wants : goal.returns-in-Err-make-2-clause-wants
-returns-in-Err-make-2-clause-wants g c = λ out. none-read g.S.Source.read_gives (model_of c.args.device) step_wants c.args.tape.now
-
-pub returns-in-Ok-make-3-clause-wants : goal.returns-in-Ok-make-3-clause-wants
-returns-in-Ok-make-3-clause-wants g c = λ out.
-    let read_gives = g.S.Source.read_gives in
-    let old = c.args.tape.now in
-    let new = c.model_with-in-Ok-make-3.new.tape in
-    subst (λ (d : Device). RunsOut read_gives (model_of d) step_wants old new) (sym c.in-Disk.is)
-    (subst (λ (s : DiskState). RunsOut read_gives (model (disk) s) step_wants old new) c.in-Ok-make-3.ensures (c.model_with-in-Ok-make-3.ensures.wants out))
-
-pub returns-in-Err-make-3-clause-wants : goal.returns-in-Err-make-3-clause-wants
-returns-in-Err-make-3-clause-wants g c = λ out. none-read g.S.Source.read_gives (model_of c.args.device) step_wants c.args.tape.now

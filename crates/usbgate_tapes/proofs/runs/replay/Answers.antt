@@ -3,8 +3,6 @@ use Rattle.usbgate_tapes.specs.Replay.{replay}
 use Rattle.usbgate_tapes.specs.EventCommand.{over_events}
 use Rattle.usbgate_tapes.specs.Prescribed.{over_tape}
 use Rattle.usbgate_tapes.proofs.Unread.{logs-none}
-use Rattle.usbgate_tapes.specs.Wants.{event_wants}
-use Rattle.usbgate_tapes.proofs.Wanting.{none-read}
 use Rattle.usbgate_tapes.proofs.runs.replay.Goals as goal
 
 pub over_tape-requires : goal.over_tape-requires
@@ -15,20 +13,12 @@ over_tape-requires g c =
 pub returns-in-Ok-clause-leaves : goal.returns-in-Ok-clause-leaves
 returns-in-Ok-clause-leaves g c =
     let command = replay c.args.first_id in
-    c.over_tape.ensures.leaves command (c.start-in-Ok.ensures command c.in-Ok.ensures.start) (c.in-Ok.ensures.text ∙ ap (λ (l : List ℕ). l ++ command.opening) c.new-text.ensures)
+    (c.over_tape.ensures.runs command (c.start-in-Ok.ensures command c.in-Ok.ensures.start) (c.in-Ok.ensures.text ∙ ap (λ (l : List ℕ). l ++ command.opening) c.new-text.ensures)).leaves
 
 pub returns-in-Ok-clause-leaves_log : goal.returns-in-Ok-clause-leaves_log
 returns-in-Ok-clause-leaves_log g c =
     let command = replay c.args.first_id in
-    c.over_tape.ensures.leaves_log command (c.start-in-Ok.ensures command c.in-Ok.ensures.start) (c.in-Ok.ensures.text ∙ ap (λ (l : List ℕ). l ++ command.opening) c.new-text.ensures)
+    (c.over_tape.ensures.runs command (c.start-in-Ok.ensures command c.in-Ok.ensures.start) (c.in-Ok.ensures.text ∙ ap (λ (l : List ℕ). l ++ command.opening) c.new-text.ensures)).leaves_log
 
 pub returns-in-Err-clause-leaves_log : goal.returns-in-Err-clause-leaves_log
 returns-in-Err-clause-leaves_log g c = logs-none g.S.Source.read_gives g.K.Sink.write_gives (over_tape (over_events (replay c.args.first_id))) c.args.tape.now c.args.out.now
-
-pub returns-in-Ok-clause-wants : goal.returns-in-Ok-clause-wants
-returns-in-Ok-clause-wants g c = λ out.
-    let command = replay c.args.first_id in
-    c.over_tape.ensures.wants out command (c.start-in-Ok.ensures command c.in-Ok.ensures.start) (c.in-Ok.ensures.text ∙ ap (λ (l : List ℕ). l ++ command.opening) c.new-text.ensures)
-
-pub returns-in-Err-clause-wants : goal.returns-in-Err-clause-wants
-returns-in-Err-clause-wants g c = λ out. none-read g.S.Source.read_gives (over_events (replay c.args.first_id)) event_wants c.args.tape.now

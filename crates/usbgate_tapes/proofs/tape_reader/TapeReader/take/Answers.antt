@@ -42,10 +42,10 @@ returns-in_err-status-clause-wants g c =
     let p = err_from_is_err_and c.from_residual.result c.from_residual.ensures.1 in
     rw p.1 (λ task read written s.
     let at = c.loop-len.invariant.stage task read written s in
-    line-wanted (g.C.TapeCommand.means task) (g.C.TapeCommand.Keeps task) g.C.TapeCommand.Wants read c.args.piece.now c.loop-len.from c.in-Some.len at c.loop-len.invariant.own_lines c.in-Some.ensures (c.in_err-status.ensures.wants task at.at at.has_read))
+    line-wanted (g.C.TapeCommand.means task) (g.C.TapeCommand.Keeps task) read c.args.piece.now c.loop-len.from c.in-Some.len at c.loop-len.invariant.own_lines c.in-Some.ensures (c.in_err-status.ensures.wants task at.at at.has_read))
 
 pub returns-clause-wants : goal.returns-clause-wants
 returns-clause-wants g c = on_err_weaker c.keep.result
     (λ wants task read written s.
     let at = c.loop-len.invariant.stage task read written s in
-    part-wanted (g.C.TapeCommand.means task) (g.C.TapeCommand.Keeps task) g.C.TapeCommand.Wants read c.args.piece.now c.loop-len.from at c.loop-len.invariant.own_lines c.in_default.ensures (wants task at.at at.has_read at.within)) c.keep.ensures.wants
+    part-wanted (g.C.TapeCommand.means task) (g.C.TapeCommand.Keeps task) read c.args.piece.now c.loop-len.from at c.loop-len.invariant.own_lines c.in_default.ensures wants.0 wants.1) c.keep.ensures.wants
