@@ -65,14 +65,14 @@ impl Gate {
         ensures failed { HasFailed self.old → IsErr result × (self.new ≡ self.old)
             × (to_client.new ≡ to_client.old) × (to_host.new ≡ to_host.old) }
     {
-        if self.inner.failed {
-            return Err(Memory);
+        if let Some(memory) = self.inner.want {
+            return Err(memory);
         }
         let mut notes = Notes::new(self.inner.alloc);
         match self.inner.take(event, to_client, to_host, &mut notes) {
             Ok(()) => Ok(notes),
             Err(memory) => {
-                self.inner.failed = true;
+                self.inner.want = Some(memory);
                 Err(memory)
             }
         }

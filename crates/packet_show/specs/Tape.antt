@@ -4,6 +4,7 @@
 -- a transfer that is performed and a packet that is offered, and `x`, the unplugging.
 use Rattle.std.specs.Prelude.{ℕ, ◌%◌, ◌==◌, nat_lt, Bool, true, false, if◌then◌else◌, List, [], ◌∷◌, Option, Some, None, option_map, Result, Ok, Err}
 use Rattle.hex.specs.Hex.{decode_of, decode_sized}
+use Rattle.usb_base.specs.declared.memory.Memory.{Memory}
 use Rattle.hex.specs.declared.error.FromHexError.{FromHexError}
 use Rattle.packet_show.specs.declared.tape.TapeKind.{TapeKind}
 use Rattle.packet_show.specs.declared.tape.TapeKind.TheVariants.{Replay, Model}
@@ -115,3 +116,7 @@ has_bytes Unplug = false
 abbrev pub takes_memory : Option TapeLine → Bool
 takes_memory None = false
 takes_memory (Some line) = has_bytes line
+
+-- want of memory is one value, whichever call has told it
+abbrev pub want : Memory
+want = record { 0 = tt }

@@ -1,11 +1,11 @@
 //! The lines of a tape.
 
 ghost use Rattle.std.specs.Prelude.{◌≡◌, Some, None, true, is_some, IfOk};
-ghost use Rattle.packet_show.specs.Tape.{tape_line, bytes_of, endpoint_of, takes_memory, replay_line, model_line};
+ghost use Rattle.packet_show.specs.Tape.{tape_line, bytes_of, endpoint_of, takes_memory, replay_line, model_line, want};
 
 use crate::number::read_number;
 use hex::{FromHex, FromHexError};
-use std::alloc::Global;
+use std::alloc::{AllocError, Global};
 use usb_base::{Bytes, EpAddr, Memory};
 
 /// Which lines a tape has.
@@ -47,16 +47,17 @@ pub enum TapeLine {
 pub enum LineError {
     /// It isn't a line of such a tape.
     Bad,
-    Memory,
+    /// No memory was left for the bytes of a piece.
+    Memory(Memory),
 }
 
 impl From<Memory> for LineError {
     ghost use Rattle.packet_show.specs.declared.tape.LineError.TheVariants as line;
 
-    ghost from_gives = { λ _ e. e ≡ line.Memory };
+    ghost from_gives = { λ memory e. e ≡ line.Memory memory };
 
-    fn from(_memory: Memory) -> Self {
-        LineError::Memory
+    fn from(memory: Memory) -> Self {
+        LineError::Memory(memory)
     }
 }
 
@@ -64,7 +65,7 @@ impl From<Memory> for LineError {
 pub fn read_line(alloc: Global, kind: TapeKind, line: &[u8]) -> Result<TapeLine, LineError>
     ensures ok { IfOk result (λ said. tape_line kind line.now ≡ Some said) }
     ensures bad { result ≡ Err LineError.Bad → tape_line kind line.now ≡ None }
-    ensures memory { result ≡ Err LineError.Memory → takes_memory (tape_line kind line.now) ≡ true }
+    ensures memory { result ≡ Err (LineError.Memory want) → takes_memory (tape_line kind line.now) ≡ true }
 {
     match line {
         [] | [b'#', ..] => Ok(TapeLine::Skip),
@@ -81,7 +82,7 @@ pub fn read_line(alloc: Global, kind: TapeKind, line: &[u8]) -> Result<TapeLine,
 fn read_host(alloc: Global, line: &[u8]) -> Result<TapeLine, LineError>
     ensures ok { IfOk result (λ said. replay_line line.now ≡ Some said) }
     ensures bad { result ≡ Err LineError.Bad → replay_line line.now ≡ None }
-    ensures memory { result ≡ Err LineError.Memory → takes_memory (replay_line line.now) ≡ true }
+    ensures memory { result ≡ Err (LineError.Memory want) → takes_memory (replay_line line.now) ≡ true }
 {
     match line {
         [b'h', b'.'] => Ok(TapeLine::HostEnd),
@@ -94,7 +95,7 @@ fn read_host(alloc: Global, line: &[u8]) -> Result<TapeLine, LineError>
 fn read_step(line: &[u8]) -> Result<TapeLine, LineError>
     ensures ok { IfOk result (λ said. model_line line.now ≡ Some said) }
     ensures bad { result ≡ Err LineError.Bad → model_line line.now ≡ None }
-    ensures memory { result ≡ Err LineError.Memory → takes_memory (model_line line.now) ≡ true }
+    ensures memory { result ≡ Err (LineError.Memory want) → takes_memory (model_line line.now) ≡ true }
 {
     let step = match line {
         [b'g', b' ', number @ ..] => read_number(number).map(TapeLine::ToHost),
@@ -111,7 +112,7 @@ fn read_step(line: &[u8]) -> Result<TapeLine, LineError>
 fn read_bytes(alloc: Global, digits: &[u8]) -> Result<Bytes, LineError>
     ensures ok { IfOk result (λ bytes. bytes_of digits.now ≡ Some bytes) }
     ensures bad { result ≡ Err LineError.Bad → bytes_of digits.now ≡ None }
-    ensures memory { result ≡ Err LineError.Memory → is_some (bytes_of digits.now) ≡ true }
+    ensures memory { result ≡ Err (LineError.Memory want) → is_some (bytes_of digits.now) ≡ true }
 {
     match hex::decode(alloc, digits) {
         Ok(decoded) if !decoded.is_empty() => {
@@ -120,7 +121,9 @@ fn read_bytes(alloc: Global, digits: &[u8]) -> Result<Bytes, LineError>
             Ok(bytes)
         }
         // Memory is wanted before the digits are looked at.
-        Err(FromHexError::OutOfMemory) if are_digits(digits) => Err(LineError::Memory),
+        Err(FromHexError::OutOfMemory) if are_digits(digits) => {
+            Err(LineError::Memory(AllocError.into()))
+        }
         _ => Err(LineError::Bad),
     }
 }

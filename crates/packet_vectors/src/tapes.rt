@@ -14,7 +14,7 @@ fn push_line_of(name: &str, kind: TapeKind, line: &[u8], out: &mut Output) {
     match read_line(out.alloc, kind, line) {
         Ok(line) => push_said(&line, out),
         Err(LineError::Bad) => out.text("bad"),
-        Err(LineError::Memory) => out.text("out of memory"),
+        Err(LineError::Memory(_)) => out.text("out of memory"),
     }
     out.text("\n");
 }

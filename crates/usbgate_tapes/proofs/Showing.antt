@@ -94,7 +94,7 @@ module _ {S P : Type 0} (shown : Shown S P) where
       → Nexts shown.reader takes result kept new → result ≡ Err e → Showed shown (Err e) new bytes given text_old text
   stopped takes old kept new text_old text result (Refused place reason) bytes given w next is =
       record { more = w.more; wrongs = next_at takes kept new bytes (given ++ w.more) result (Err (Refused place reason)) next is w.follows; text-is = w.text-is }
-  stopped takes old kept new text_old text result Memory bytes given w next is = tt
+  stopped takes old kept new text_old text result (Memory memory) bytes given w next is = tt
 
   -- a wrong place ends the stream
   wrong-ends : (old kept new : Kept S) (result : Result (Option (ℕ × P)) ReadError) (e : ReadError) (place : ℕ) (reason : Reason) → kept.over ≡ old.over → Changes result kept new → result ≡ Err e → e ≡ Refused place reason

@@ -48,7 +48,7 @@ impl<F: ShownFormat> Show<F> {
                 };
                 refusal.line(alloc, text)
             }
-            Err(ReadError::Memory) => Err(Memory),
+            Err(ReadError::Memory(memory)) => Err(memory),
         }
     }
 

@@ -3,6 +3,7 @@
 ghost use Rattle.std.specs.Prelude.{◌≡◌, ◌≢◌, ◌++◌, None, IfOk, OnOk, true};
 ghost use Rattle.usbgate_tapes.specs.TapeCommand.{TapeCommand as Told};
 ghost use Rattle.usbgate_tapes.specs.inner.TapeReader.{TakesLine};
+ghost use Rattle.packet_show.specs.Tape.{want};
 
 use packet_show::LineError;
 use std::alloc::Global;
@@ -24,8 +25,8 @@ pub trait TapeCommand {
         ensures goes { OnOk result ((task : Task) (kept : Kept) → Keeps task self.old kept → TakesLine (Keeps task) ((means task).line kept line.now) self.new text.old text.new) }
         ensures bad { result ≡ Err LineError.Bad → (task : Task) (kept : Kept) → Keeps task self.old kept → (means task).line kept line.now ≡ None }
         ensures same { result ≡ Err LineError.Bad → (self.new ≡ self.old) × (text.new ≡ text.old) }
-        ensures memory { result ≡ Err LineError.Memory → (task : Task) → (means task).says line.now ≡ true }
-        ensures good { result ≡ Err LineError.Memory → (task : Task) (kept : Kept) → Keeps task self.old kept → (means task).line kept line.now ≢ None };
+        ensures memory { result ≡ Err (LineError.Memory want) → (task : Task) → (means task).says line.now ≡ true }
+        ensures good { result ≡ Err (LineError.Memory want) → (task : Task) (kept : Kept) → Keeps task self.old kept → (means task).line kept line.now ≢ None };
 
     /// Appends the text behind the last line.
     fn close(&self, alloc: Global, text: &mut Bytes) -> Result<(), Memory>

@@ -4,6 +4,7 @@ ghost use Rattle.std.specs.Prelude.{◌≡◌, ◌≢◌, ◌++◌, ◌+◌, ◌
 ghost use Rattle.usbgate_tapes.specs.Tape.{content as content_of};
 ghost use Rattle.usbgate_tapes.specs.TapeCommand.{Progress, begin, next_line, tape_limit};
 ghost use Rattle.usbgate_tapes.specs.inner.TapeReader.{HasRead, GoesOn};
+ghost use Rattle.packet_show.specs.Tape.{want};
 
 use crate::tape_command::TapeCommand;
 use packet_show::LineError;
@@ -48,8 +49,8 @@ impl<C: TapeCommand> TapeLines<C> {
         ensures goes { OnOk result ((task : C.Task) (s : Progress C.Kept) → HasRead (C.Keeps task) self.old s → GoesOn (C.Keeps task) (next_line (C.means task) s line.now) self.new text.old text.new) }
         ensures bad { result ≡ Err LineError.Bad → (task : C.Task) (s : Progress C.Kept) → HasRead (C.Keeps task) self.old s → next_line (C.means task) s line.now ≡ None }
         ensures same { result ≡ Err LineError.Bad → (self.new ≡ self.old) × (text.new ≡ text.old) }
-        ensures memory { result ≡ Err LineError.Memory → (task : C.Task) → (C.means task).says (content_of line.now) ≡ true }
-        ensures good { result ≡ Err LineError.Memory → (task : C.Task) (s : Progress C.Kept) → HasRead (C.Keeps task) self.old s → next_line (C.means task) s line.now ≢ None }
+        ensures memory { result ≡ Err (LineError.Memory want) → (task : C.Task) → (C.means task).says (content_of line.now) ≡ true }
+        ensures good { result ≡ Err (LineError.Memory want) → (task : C.Task) (s : Progress C.Kept) → HasRead (C.Keeps task) self.old s → next_line (C.means task) s line.now ≢ None }
     {
         self.command.take_line(alloc, content(line), text)?;
         self.room -= line.len() as u64;

@@ -6,6 +6,7 @@ ghost use Rattle.usbgate_tapes.specs.Tape.{content as content_of};
 ghost use Rattle.usbgate_tapes.specs.Wants.{IsJoined, PieceWants, ReadWants};
 ghost use Rattle.usbgate_tapes.specs.TapeCommand.{Progress, next_line, read_tape};
 ghost use Rattle.usbgate_tapes.specs.inner.TapeReader.{HasRead, GoesOn, Stage, Took, Stepped, Finished, AllRead, TookLast, Spoils, TookLine, EndWants, Kept};
+ghost use Rattle.packet_show.specs.Tape.{want};
 
 use crate::status::Status;
 use crate::tape_command::TapeCommand;
@@ -111,7 +112,7 @@ impl<C: TapeCommand> TapeReader<C> {
                 Ok(None)
             }
             Err(LineError::Bad) => Ok(Some(self.spoilt())),
-            Err(LineError::Memory) => Err(Memory),
+            Err(LineError::Memory(memory)) => Err(memory),
         }
     }
 
@@ -123,10 +124,10 @@ impl<C: TapeCommand> TapeReader<C> {
             → GoesOn (C.Keeps task) (next_line (C.means task) s (self.old.pending ++ last.now)) self.new.lines self.old.text self.new.text) }
         ensures bad { result ≡ Err LineError.Bad → (task : C.Task) (s : Progress C.Kept) → HasRead (C.Keeps task) self.old.lines s → next_line (C.means task) s (self.old.pending ++ last.now) ≡ None }
         ensures same { result ≡ Err LineError.Bad → (self.new.lines ≡ self.old.lines) × (self.new.text ≡ self.old.text) }
-        ensures memory { result ≡ Err LineError.Memory → IsJoined self.old.pending last.now ⊎ ((task : C.Task) → (C.means task).says (content_of (self.old.pending ++ last.now)) ≡ true) }
-        ensures good { result ≡ Err LineError.Memory → IsJoined self.old.pending last.now
+        ensures memory { result ≡ Err (LineError.Memory want) → IsJoined self.old.pending last.now ⊎ ((task : C.Task) → (C.means task).says (content_of (self.old.pending ++ last.now)) ≡ true) }
+        ensures good { result ≡ Err (LineError.Memory want) → IsJoined self.old.pending last.now
             ⊎ ((task : C.Task) (s : Progress C.Kept) → HasRead (C.Keeps task) self.old.lines s → next_line (C.means task) s (self.old.pending ++ last.now) ≢ None) }
-        ensures within { result ≡ Err LineError.Memory → length (self.old.pending ++ last.now) ≤ self.old.lines.room }
+        ensures within { result ≡ Err (LineError.Memory want) → length (self.old.pending ++ last.now) ≤ self.old.lines.room }
     {
         if !self.lines.has_room(self.pending.as_slice(), last) {
             return Err(LineError::Bad);

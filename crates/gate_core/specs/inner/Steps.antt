@@ -1,5 +1,5 @@
 -- What the gate's own steps do.
-use Rattle.std.specs.Prelude.{◌≡◌, ◌∷◌, ◌+◌, ℕ, Bool, true, false, if◌then◌else◌, List, length, Option, Some, None, Result, Ok, Err, IfOk, IfSome}
+use Rattle.std.specs.Prelude.{◌≡◌, ◌∷◌, ◌+◌, ℕ, Bool, true, false, if◌then◌else◌, List, length, Option, Some, None, is_some, Result, Ok, Err, IfOk, IfSome}
 use Rattle.usb_base.specs.declared.memory.Memory.{Memory}
 use Rattle.usb_base.specs.declared.reason.Reason.{Reason}
 use Rattle.packet_stream.specs.declared.read.ReadError.{ReadError}
@@ -26,7 +26,7 @@ use Rattle.gate_core.specs.inner.Holds.{items_of}
 
 -- what the gate keeps, without its allocators
 abbrev pub kept_of : Inner → GateKept
-kept_of g = record { items = items_of g.translator; client = g.client; host = g.host; failed = g.failed }
+kept_of g = record { items = items_of g.translator; client = g.client; host = g.host; failed = is_some g.want }
 
 -- ---- the next item of a stream
 
@@ -35,7 +35,7 @@ abbrev pub item_next : {P : Type 0} → (ℕ → P → RawItem) → (ℕ → Rea
 item_next packet wrong (Ok None) = Ok None
 item_next packet wrong (Ok (Some i)) = Ok (Some (packet i.0 i.1))
 item_next packet wrong (Err (Refused place reason)) = Ok (Some (wrong place reason))
-item_next packet wrong (Err OutOfMemory) = Err (record {})
+item_next packet wrong (Err (OutOfMemory memory)) = Err memory
 
 -- what the stream answers is handed on as an item
 pub record NextItem {S P : Type 0} (r : Reader S P Reason) (takes : P → Bool) (packet : ℕ → P → RawItem) (wrong : ℕ → Reason → RawItem) (result : Result (Option RawItem) Memory) (old new : Kept S) : Type 0 where

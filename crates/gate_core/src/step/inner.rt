@@ -26,8 +26,8 @@ pub struct Inner {
     pub client: Stream<ClientFormat>,
     pub host: Stream<FromHost>,
     pub translator: Translator,
-    /// Memory ran out in an earlier event.
-    pub failed: bool,
+    /// What was told as memory ran out in an earlier event.
+    pub want: Option<Memory>,
 }
 
 impl Inner {
@@ -41,7 +41,7 @@ impl Inner {
             client: Stream::new(alloc, ()),
             host: Stream::new(alloc, RedirState::start()),
             translator: Translator::make(alloc, first_id)?,
-            failed: false,
+            want: None,
         })
     }
 
@@ -147,7 +147,7 @@ fn next_item<S: GateSide>(alloc: Global, stream: &mut Stream<S>) -> Result<Optio
         Ok(Some((place, packet))) => Ok(Some(S::packet(place, packet))),
         Ok(None) => Ok(None),
         Err(ReadError::Refused { place, reason }) => Ok(Some(S::wrong(place, reason))),
-        Err(ReadError::Memory) => Err(Memory),
+        Err(ReadError::Memory(memory)) => Err(memory),
     }
 }
 

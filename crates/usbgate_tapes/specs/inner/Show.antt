@@ -59,7 +59,7 @@ pub record ShowsWrong {S P : Type 0} (shown : Shown S P) (place : ℕ) (reason :
 abbrev pub Showed : {S P : Type 0} → Shown S P → Result (Unit {0}) ReadError → Kept S → List ℕ → List (ℕ × P) → List ℕ → List ℕ → Type 0
 Showed shown (Ok v) new bytes given text_old text_new = ShowsAll shown new bytes given text_old text_new
 Showed shown (Err (Refused place reason)) new bytes given text_old text_new = ShowsWrong shown place reason bytes given text_old text_new
-Showed shown (Err Memory) new bytes given text_old text_new = Unit {0}
+Showed shown (Err (Memory memory)) new bytes given text_old text_new = Unit {0}
 
 -- whatever has come and was given
 pub record ShowsPackets {S P : Type 0} (shown : Shown S P) (result : Result (Unit {0}) ReadError) (old new : Kept S) (text_old text_new : List ℕ) : Type 0 where

@@ -1,5 +1,5 @@
 -- The ends of both sides, and the gate to which nothing has happened.
-use Rattle.std.proofs.Common.{◌≡◌, ℕ, true, false, List, [], ◌∷◌, None, inr, refl, sym, ap, subst, ◌∙◌, arith}
+use Rattle.std.proofs.Common.{◌≡◌, ℕ, true, false, List, [], ◌∷◌, None, is_some, inr, refl, sym, ap, subst, ◌∙◌, arith}
 use Rattle.std.proofs.lemmas.Bool.{true≢false}
 use Rattle.usb_base.specs.declared.reason.Reason.{Reason}
 use Rattle.packet_stream.specs.Format.{Format, IsSound, wrong_at}
@@ -68,7 +68,7 @@ client-first kept is = all-first client_format client_next (λ s. client_packets
 host-first : (kept : Kept RedirState) → kept ≡ record { state = start; rest = []; place = 0; held = []; at = 0; over = false } → HasAll host_reader host_start kept [] [] false
 host-first kept is = all-first host_format after (stream_sound ToGuest) start kept refl is
 
-pub stands-first : (first : ℕ) (g : Inner) → g.failed ≡ false → IsFirst g.translator first → g.client ≡ record { state = tt; rest = []; place = 0; held = []; at = 0; over = false } →
+pub stands-first : (first : ℕ) (g : Inner) → is_some g.want ≡ false → IsFirst g.translator first → g.client ≡ record { state = tt; rest = []; place = 0; held = []; at = 0; over = false } →
     g.host ≡ record { state = start; rest = []; place = 0; held = []; at = 0; over = false } → Stands first (kept_of g) []
 stands-first first g works translator client host = record {
   works = works;

@@ -177,7 +177,7 @@ taking-item first d takes old new t u bytes piece before client_old client clien
     let it : IsItem item x = subst (λ (y : RawItem). IsItem y x) (same-item (d.raw_wrong place why) item is) (d.laws.is_wrong place a.at why a.place-is) in
     taking-one first d old new t u bytes piece before client_old client client_new host_old host host_new notes_old notes notes_new item x k changes.0 a.stream it
     (λ xs. d.laws.out_wrong xs a.at why) (λ xs. d.laws.others_wrong xs a.at why) (λ xs. d.laws.other_wrong xs a.at why) (λ xs e. absurd (true≢false (sym (d.laws.over_wrong xs a.at why) ∙ e))) translator
-taking-item first d takes old new t u bytes piece before client_old client client_new host_old host host_new notes_old notes notes_new item (Err OutOfMemory) is changes nexts translator k = absurd cc
+taking-item first d takes old new t u bytes piece before client_old client client_new host_old host host_new notes_old notes notes_new item (Err (OutOfMemory memory)) is changes nexts translator k = absurd cc
 
 -- ---- nothing more is there
 
@@ -241,7 +241,7 @@ no-item : {P : Type 0} (packet : ℕ → P → RawItem) (wrong : ℕ → Reason 
 no-item packet wrong (Ok None) e = refl
 no-item packet wrong (Ok (Some i)) e = absurd cc
 no-item packet wrong (Err (Refused place why)) e = absurd cc
-no-item packet wrong (Err OutOfMemory) e = absurd cc
+no-item packet wrong (Err (OutOfMemory memory)) e = absurd cc
 
 pub taking-all : {S P : Type 0} (first : ℕ) (d : Side S P first) (takes : P → Bool) (old new : Kept S) (t : Translator) (bytes piece : List ℕ) (before : List Item) (client_old client_new host_old host_new : List ℕ) (notes_old notes_new : List Note) (answer : Result (Option (ℕ × P)) ReadError) →
     AreBytes bytes → AreBytes piece → item_next d.raw_packet d.raw_wrong answer ≡ Ok None → Changes answer old new → Nexts d.half.stream.reader takes answer old new →
@@ -257,7 +257,7 @@ more-runs : {S P : Type 0} (old new : Kept S) (answer : Result (Option (ℕ × P
 more-runs old new (Ok None) more changes = absurd more
 more-runs old new (Ok (Some i)) more changes = changes.1
 more-runs old new (Err (Refused place why)) more changes = changes.0
-more-runs old new (Err OutOfMemory) more changes = changes.0
+more-runs old new (Err (OutOfMemory memory)) more changes = changes.0
 
 -- what the stream has answered was an item that the translator wanted memory for, or that memory ran out
 abbrev pub WantsItem : Translator → Result (Option RawItem) Memory → Type 0
@@ -285,7 +285,7 @@ wants-by first d takes same t xs (Err (Refused place why)) x is w translates ove
       comes = d.laws.out_wrong xs is.0 why ∙ over;
       some = inr (w st (d.half.stream.wrong is.0 why) (d.laws.is_wrong place is.0 why is.1) translates.state (state-sound first xs));
     })
-wants-by first d takes same t xs (Err OutOfMemory) x is w translates over =
+wants-by first d takes same t xs (Err (OutOfMemory memory)) x is w translates over =
     subst (Wants first xs) (sym is.1) (record {
       comes = d.laws.out_packet xs is.0.0 is.0.1 ∙ over;
       some = inl (sym (same is.0.0 is.0.1) ∙ is.2);

@@ -50,7 +50,7 @@ asked-fits kept new t (Ok (Some i)) item goes is changes nexts =
     subst (ItemFits t.caps) (same-item (raw.Asked i.0 i.1) item is)
     (fits-next client_format client_next (λ s. client_packets_sound) asked_takes_memory kept new (Ok (Some i)) i can changes nexts refl)
 asked-fits kept new t (Err (Refused place why)) item goes is changes nexts = subst (ItemFits t.caps) (same-item (raw.ClientWrong place why) item is) tt
-asked-fits kept new t (Err OutOfMemory) item goes is changes nexts = absurd cc
+asked-fits kept new t (Err (OutOfMemory memory)) item goes is changes nexts = absurd cc
 
 -- ---- the host's
 
@@ -69,4 +69,4 @@ told-fits-next kept new t (Ok (Some i)) item goes is changes nexts =
     subst (ItemFits t.caps) (same-item (raw_told i.0 i.1) item is)
     (∥∥₁_elim (goes changes.1) (told_fits-prop t.caps i.1.0 i.1.1) (λ w. told-next w.0 kept new t i nexts w.1))
 told-fits-next kept new t (Err (Refused place why)) item goes is changes nexts = subst (ItemFits t.caps) (same-item (raw.HostWrong place why) item is) tt
-told-fits-next kept new t (Err OutOfMemory) item goes is changes nexts = absurd cc
+told-fits-next kept new t (Err (OutOfMemory memory)) item goes is changes nexts = absurd cc

@@ -226,7 +226,7 @@ abbrev pub IsNextBy : {S P I : Type 0} → SideStream S P Reason I → (P → Bo
 IsNextBy s takes (Ok None) x = ⊥
 IsNextBy s takes (Ok (Some i)) x = (at : ℕ) × (i.0 ≡ capped at) × (x ≡ s.packet at i.1)
 IsNextBy s takes (Err (Refused place why)) x = (at : ℕ) × (place ≡ capped at) × (x ≡ s.wrong at why)
-IsNextBy {P = P} s takes (Err Memory) x = (i : ℕ × P) × (x ≡ s.packet i.0 i.1) × (takes i.1 ≡ true)
+IsNextBy {P = P} s takes (Err (Memory memory)) x = (i : ℕ × P) × (x ≡ s.packet i.0 i.1) × (takes i.1 ≡ true)
 
 -- the packet that comes behind those that were given
 record Ahead {S P I : Type 0} (s : SideStream S P Reason I) (takes : P → Bool) (answer : Result (Option (ℕ × P)) ReadError) (stream : List ℕ) (given : List (ℕ × P)) : Type 0 where
@@ -285,8 +285,8 @@ taken-stuck {P = P} s takes old new bytes piece given taken (Ok (Some i)) more t
     let one : List (ℕ × P) = (n.at, i.1) ∷ [] in
     let front = follows-front s.reader s.start new (bytes ++ piece) (all ++ one) n.follows in
     record { next = (n.at, i.1); left = front.0; packets = front.1 ∙ append_assoc all one front.0; is = (n.at, n.place-is, refl) })
-taken-stuck {S = S} s takes old new bytes piece given taken (Err Memory) more t changes nexts =
-    held-stuck s takes (Err Memory) old new bytes piece given taken t changes.0 (ap (λ (k : Kept S). k.over) changes.1 ∙ changes.0) (ap (λ (k : Kept S). k.held) changes.1) (ap (λ (k : Kept S). k.at) changes.1)
+taken-stuck {S = S} s takes old new bytes piece given taken (Err (Memory memory)) more t changes nexts =
+    held-stuck s takes (Err (Memory memory)) old new bytes piece given taken t changes.0 (ap (λ (k : Kept S). k.over) changes.1 ∙ changes.0) (ap (λ (k : Kept S). k.held) changes.1) (ap (λ (k : Kept S). k.at) changes.1)
     (λ all follows.
     let w = nexts s.start (bytes ++ piece) all follows in
     record { next = w.next; left = w.left; packets = w.packets; is = (w.next, refl, w.takes-some) })
