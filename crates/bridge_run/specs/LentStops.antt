@@ -1,7 +1,7 @@
 -- Where memory ran out as an event of a lent device was taken, and what of that had been sent to the guest by then.
 use Rattle.std.specs.Prelude.{◌≡◌, ◌⊎◌, ℕ, if◌then◌else◌, List, [], ◌∷◌, ◌++◌}
 use Rattle.model_device.specs.Meaning.{Meaning}
-use Rattle.redir_host.specs.step.Acts.{Act, Piece, Perform, Offer, Unplug}
+use Rattle.redir_host.specs.step.Acts.{Act}
 use Rattle.redir_host.specs.step.History.{brought}
 use Rattle.redir_host.specs.step.Items.{Item}
 use Rattle.redir_host.specs.step.Machine.{bytes_of, given_by, steps}
@@ -10,20 +10,13 @@ use Rattle.redir_host.specs.write.Output.{host_of, host_out}
 use Rattle.bridge_run.specs.Events.{Event}
 use Rattle.bridge_run.specs.Lent.{acts_of, acts_behind, has_come, lent_bytes}
 
--- of an act of the device itself nothing is sent; of a piece memory was wanted to hold it, or for the first of the items
--- that are left
-abbrev pub ActWants : {S : Type 0} → Meaning S → S → List Act → Act → List Item → List Item → Type 0
-ActWants m s acts (Piece b) taken later = ((taken ≡ []) × IsHeld acts (Piece b)) ⊎ FirstWants m (steps m (host_of m s acts) taken) later
-ActWants m s acts (Perform ep) taken later = taken ≡ []
-ActWants m s acts (Offer ep) taken later = taken ≡ []
-ActWants m s acts Unplug taken later = ⊥
-
--- behind these acts memory ran out within the next one: the first of its items were taken, and have sent this
+-- behind these acts memory ran out within the next one: the first of its items were taken, and have sent this. Memory was
+-- wanted to hold the bytes of a piece, or for the first of the items that are left
 pub record ActStops {S : Type 0} (m : Meaning S) (s : S) (acts : List Act) (a : Act) (sent : List ℕ) : Type 0 where
   pub taken : List Item
   pub later : List Item
   pub parts : brought acts a ≡ taken ++ later
-  pub wanted : ActWants m s acts a taken later
+  pub wanted : ((taken ≡ []) × IsHeld acts a) ⊎ FirstWants m (steps m (host_of m s acts) taken) later
   pub sent-is : sent ≡ given_by bytes_of m (host_of m s acts) taken
 
 -- of these acts, the latest first, some were done, and memory ran out within the next one, by when this had been sent

@@ -5,7 +5,7 @@ ghost use Rattle.std.specs.List.{flat_map, list_any};
 ghost use Rattle.usb_base.specs.Endpoint.{IsEndpoint};
 ghost use Rattle.redir_host.specs.step.Acts.{Act, Piece};
 ghost use Rattle.redir_host.specs.state.Sound.{Each};
-ghost use Rattle.redir_host.specs.step.Stands.{DoesAct, Stands};
+ghost use Rattle.redir_host.specs.step.Stands.{DoesAct, Stands, Stops};
 ghost use Rattle.redir_host.specs.write.Output.{act_notes};
 ghost use Rattle.bridge_run.specs.Events.{event_of, is_quiet};
 ghost use Rattle.bridge_run.specs.Lent.{each, used, behind_piece, acts_behind, is_coming, refused_by, refusal_in, is_refusal};
@@ -188,7 +188,8 @@ fn use_endpoint<G: Gadget>(
 ) -> Result<(), Memory>
     ensures does { OnOk result ((first : G) (past : ListOf Act) → Stands G.meaning first core.old past
         → DoesAct G.meaning first core.new past (act_of how ep) out.old out.new) }
-    ensures err { OnErr result (out.new ≡ out.old) }
+    ensures stops { OnErr result ((first : G) (past : ListOf Act) → Stands G.meaning first core.old past
+        → Stops G.meaning first past (act_of how ep) out.old out.new) }
 {
     match how {
         Use::Perform => {

@@ -71,27 +71,23 @@ stop-longer m s past acts all old new x longer = record {
 
 -- ---- each endpoint
 
--- of an act of the device nothing was sent
-none-sent : {S : Type 0} (how : Use) (m : Meaning S) (s : S) (acts : List Act) (ep : ℕ) → ActStops m s acts (act_of how ep) []
-none-sent Perform m s acts ep = record { taken = []; later = _; parts = refl; wanted = refl; sent-is = refl }
-none-sent Offer m s acts ep = record { taken = []; later = _; parts = refl; wanted = refl; sent-is = refl }
-
-pub stop-endpoint : {S : Type 0} (how : Use) (m : Meaning S) (s : S) (j : Core S) (past : List Act) (all left : List ℕ) (ep : ℕ) (rest old out new : List ℕ) → left ≡ ep ∷ rest → new ≡ out → (x : Midway (act_of how) m s j past all left old out)
+pub stop-endpoint : {S : Type 0} (how : Use) (m : Meaning S) (s : S) (j : Core S) (past : List Act) (all left : List ℕ) (ep : ℕ) (rest old out new : List ℕ) → left ≡ ep ∷ rest → (x : Midway (act_of how) m s j past all left old out) → Stops m s x.acts (act_of how ep) out new
     → StopsIn m s past (each (act_of how) all past) old new
-stop-endpoint how m s j past all left ep rest old out new is same x =
+stop-endpoint how m s j past all left ep rest old out new is x z =
     let later = each-more (act_of how) rest (act_of how ep ∷ x.acts) in
+    let part = given_by bytes_of m (host_of m s x.acts) z.taken in
     record {
-      given = x.done.given;
+      given = x.done.given ++ part;
       stops = record {
         done = x.acts;
         next = act_of how ep;
         later = later.0;
         acts-are = sym x.same ∙ ap (λ (eps : List ℕ). each (act_of how) eps x.acts) is ∙ later.1;
-        part = [];
-        stops = none-sent how m s x.acts ep;
-        sent-is = append-nil (host_out m s x.acts) ∙ x.done.sends;
+        part = part;
+        stops = record { taken = z.taken; later = z.later; parts = z.parts; wanted = z.wanted; sent-is = refl };
+        sent-is = ap (λ (l : List ℕ). l ++ part) x.done.sends ∙ append_assoc (host_out m s past) x.done.given part;
       };
-      sent = same ∙ x.done.sent;
+      sent = z.sent ∙ ap (λ (l : List ℕ). l ++ part) x.done.sent ∙ append_assoc old x.done.given part;
     }
 
 -- ---- the whole device

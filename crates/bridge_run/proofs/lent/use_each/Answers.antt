@@ -33,4 +33,5 @@ returns-in_err-use_endpoint-in-Some-clause-stops g c = err-all c.from_residual.r
     let xs = c.args.addresses.now in
     let i = l.address-index in
     stop-endpoint c.args.how g.G.Gadget.meaning first l.core past xs (drop i xs) c.in-Some.ep (drop (i + 1) xs) c.args.out.now l.out c.use_endpoint.new.out
-    (drop_more xs i _ c.loop-address-test.true ∙ ap (λ (b : ℕ). b ∷ drop (i + 1) xs) (sym c.in-Some.ensures.byte)) c.in_err-use_endpoint-in-Some.ensures.err (l.invariant.midway first past stands))
+    (drop_more xs i _ c.loop-address-test.true ∙ ap (λ (b : ℕ). b ∷ drop (i + 1) xs) (sym c.in-Some.ensures.byte)) (l.invariant.midway first past stands)
+    (c.in_err-use_endpoint-in-Some.ensures.stops first (l.invariant.midway first past stands).acts (l.invariant.midway first past stands).done.stands))
