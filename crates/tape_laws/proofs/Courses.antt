@@ -15,7 +15,7 @@ use Rattle.bridge_run.specs.Recorded.{lines_of, has_any, is_last, is_full, writt
 use Rattle.bridge_run.specs.Course.{Setting, Course, Next, Making, AtDoor, AtClient, AtHost, AtEnd, Takes}
 use Rattle.bridge_run.specs.Calls.{Outcome, Goes, Stops, room, is_due, lines_with, put, settle, ends_next, take_event, come, heard, poll, gathered, make, call, and_then, calls}
 use Rattle.bridge_run.specs.Gate.{gate_events}
-use Rattle.usbgate_tapes.specs.Tape.{host_ended}
+use Rattle.usbgate_tapes.specs.tape.Tape.{host_ended}
 use Rattle.bridge_run.specs.Ups.{client_at, host_at, client_behind, to_clients}
 use Rattle.tape_laws.specs.Ups.{host_behind, to_host}
 use Rattle.tape_laws.specs.Recordings.{recorded}

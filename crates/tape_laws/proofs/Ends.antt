@@ -17,8 +17,8 @@ use Rattle.bridge_run.proofs.lemmas.events.Gather.{ended-waiting}
 use Rattle.usbgate_tapes.specs.declared.status.Status.{Status}
 use Rattle.usbgate_tapes.specs.declared.status.Status.TheVariants.{Done, Usage, Refused, ReadFault, WriteFault, LinkFault, OutOfMemory, BadTape, Idle, Spent}
 use Rattle.usbgate_tapes.specs.Text.{made_text, counts_line}
-use Rattle.usbgate_tapes.specs.TapeCommand.{tape_limit, Reading, last_text}
-use Rattle.usbgate_tapes.specs.EventCommand.{over_events}
+use Rattle.usbgate_tapes.specs.tape.TapeCommand.{tape_limit, Reading, last_text}
+use Rattle.usbgate_tapes.specs.tape.EventCommand.{over_events}
 use Rattle.usbgate_tapes.specs.Replay.{replay}
 use Rattle.usbgate_commands.specs.Recording.{IsUnmade}
 use Rattle.usbgate_commands.specs.Serving.{Asked}

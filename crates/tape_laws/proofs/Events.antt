@@ -20,15 +20,15 @@ use Rattle.bridge_run.specs.Events.{Event, ClientComes, ClientPiece, ClientQuiet
 use Rattle.bridge_run.specs.Recorded.{lines_of}
 use Rattle.bridge_run.specs.Prescribed.{gained}
 use Rattle.bridge_run.specs.Gate.{gate_events, gate_notes}
-use Rattle.usbgate_tapes.specs.Tape.{host_ended}
+use Rattle.usbgate_tapes.specs.tape.Tape.{host_ended}
 use Rattle.usbgate_tapes.specs.Text.{sent_text}
-use Rattle.usbgate_tapes.specs.TapeCommand.{TapeCommand, tape_limit, Progress, one_further}
-use Rattle.usbgate_tapes.specs.EventCommand.{EventCommand, on_said, over_events}
+use Rattle.usbgate_tapes.specs.tape.TapeCommand.{TapeCommand, tape_limit, Progress, one_further}
+use Rattle.usbgate_tapes.specs.tape.EventCommand.{EventCommand, on_said, over_events}
 use Rattle.usbgate_tapes.specs.Replay.{replay}
 use Rattle.usbgate_tapes.specs.Run.{HasNoLF}
 use Rattle.usbgate_commands.specs.Serving.{Asked}
 use Rattle.tape_laws.specs.Recordings.{recorded, served, replayed, all_replayed}
-use Rattle.usbgate_tapes.proofs.Lines.{HasNoLF-append}
+use Rattle.usbgate_tapes.proofs.lemmas.tape.Lines.{HasNoLF-append}
 use Rattle.tape_laws.proofs.Spelled.{no-lf-tested, no-lf-hex, no-lf-refusal, refusal_words}
 use Rattle.tape_laws.proofs.Reading.{Reads, reads-none, reads-both, reads-line}
 

@@ -3,10 +3,10 @@ use Rattle.std.proofs.Common.{◌≡◌, ℕ, ◌+◌, ◌≤◌, Bool, cond, Li
 use Rattle.std.proofs.lemmas.Bool.{le-ltb}
 use Rattle.std.proofs.lemmas.List.{length-append}
 use Rattle.std.specs.Prelude.{option_map}
-use Rattle.usbgate_tapes.specs.Tape.{lines_of, content}
+use Rattle.usbgate_tapes.specs.tape.Tape.{lines_of, content}
 use Rattle.usbgate_tapes.specs.Run.{HasNoLF}
-use Rattle.usbgate_tapes.specs.TapeCommand.{TapeCommand, tape_limit, Progress, one_further, next_line, Reading, on_line, read_lines}
-use Rattle.usbgate_tapes.proofs.Lines.{lines_of-line}
+use Rattle.usbgate_tapes.specs.tape.TapeCommand.{TapeCommand, tape_limit, Progress, one_further, next_line, Reading, on_line, read_lines}
+use Rattle.usbgate_tapes.proofs.lemmas.tape.Lines.{lines_of-line}
 use Rattle.tape_laws.proofs.Spelled.{content-line}
 
 -- text before that of a reading

@@ -5,14 +5,14 @@ use Rattle.gate_history.specs.step.Events.{Event as GateEvent}
 use Rattle.session_tape.specs.Lines.{first_comment}
 use Rattle.bridge_run.specs.Events.{Event}
 use Rattle.bridge_run.specs.Gate.{gate_events}
-use Rattle.usbgate_tapes.specs.Tape.{lines_of}
+use Rattle.usbgate_tapes.specs.tape.Tape.{lines_of}
 use Rattle.usbgate_tapes.specs.Text.{made_text}
-use Rattle.usbgate_tapes.specs.TapeCommand.{tape_limit, Progress, begin, one_further, Reading, read_lines, last_text}
-use Rattle.usbgate_tapes.specs.EventCommand.{over_events}
+use Rattle.usbgate_tapes.specs.tape.TapeCommand.{tape_limit, Progress, begin, one_further, Reading, read_lines, last_text}
+use Rattle.usbgate_tapes.specs.tape.EventCommand.{over_events}
 use Rattle.usbgate_tapes.specs.Replay.{replay}
 use Rattle.usbgate_commands.specs.Serving.{Asked}
 use Rattle.usbgate_tapes.specs.Run.{HasNoLF}
-use Rattle.usbgate_tapes.proofs.Lines.{HasNoLF-append}
+use Rattle.usbgate_tapes.proofs.lemmas.tape.Lines.{HasNoLF-append}
 use Rattle.std.specs.Prelude.{codes}
 use Rattle.std.specs.Fmt.{decimal}
 use Rattle.bridge_run.specs.Recorded.{lines_of as event_lines}

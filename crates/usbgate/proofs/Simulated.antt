@@ -1,10 +1,10 @@
 -- What is simulated is of the device and of the number that the words ask for.
 use Rattle.std.proofs.Common.{◌≡◌, ℕ, List, Option, Result, subst}
 use Rattle.gate_outside.specs.declared.fault.Failed.{Failed}
-use Rattle.usbgate_tapes.specs.declared.device.Device.{Device}
+use Rattle.usbgate_tapes.specs.declared.model.device.Device.{Device}
 use Rattle.usbgate_tapes.specs.declared.status.Status.{Status}
 use Rattle.usbgate_commands.specs.declared.words.Command.TheVariants.{Model, Load}
-use Rattle.usbgate_tapes.specs.Simulated.{SimulatesTape, SimulatesByLog, MadeSimulates}
+use Rattle.usbgate_tapes.specs.model.Simulated.{SimulatesTape, SimulatesByLog, MadeSimulates}
 
 same-device : (d e : Device) → Model d ≡ Model e → d ≡ e
 same-device d e same = cc

@@ -3,11 +3,11 @@ use Rattle.std.specs.Prelude.{Option, Some, None}
 use Rattle.usbgate_commands.specs.declared.words.Command.{Command}
 use Rattle.usbgate_commands.specs.declared.words.Command.TheVariants.{Replay, Model, Show, Serve, Host, Make, Load, Unknown}
 use Rattle.usbgate_tapes.specs.Prescribed.{Prescribed, over_tape, printed, usage}
-use Rattle.usbgate_tapes.specs.EventCommand.{over_events}
+use Rattle.usbgate_tapes.specs.tape.EventCommand.{over_events}
 use Rattle.usbgate_tapes.specs.Replay.{replay}
-use Rattle.usbgate_tapes.specs.Model.{model_of}
+use Rattle.usbgate_tapes.specs.model.Model.{model_of}
 use Rattle.usbgate_tapes.specs.Show.{show}
-use Rattle.usbgate_tapes.specs.Made.{made, loaded}
+use Rattle.usbgate_tapes.specs.model.Made.{made, loaded}
 
 -- none where sockets are what it works on
 abbrev pub prescribed : Command → Option Prescribed

@@ -18,8 +18,8 @@ use Rattle.model_device.specs.Keyboard.{keyboard}
 use Rattle.model_device.specs.Loopback.{loopback}
 use Rattle.model_device.specs.Tone.{tone}
 use Rattle.disk_gadget.specs.DiskStep.{disk, first_disk}
-use Rattle.usbgate_tapes.specs.declared.device.Device.{Device}
-use Rattle.usbgate_tapes.specs.declared.device.Device.TheVariants.{Keyboard, Loopback, Tone, Disk}
+use Rattle.usbgate_tapes.specs.declared.model.device.Device.{Device}
+use Rattle.usbgate_tapes.specs.declared.model.device.Device.TheVariants.{Keyboard, Loopback, Tone, Disk}
 use Rattle.usbgate_tapes.specs.declared.status.Status.{Status}
 use Rattle.usbgate_tapes.specs.declared.status.Status.TheVariants.{Done, Refused, WriteFault, LinkFault, OutOfMemory, Idle, Spent}
 use Rattle.usbgate_commands.specs.Serving.{Asked}

@@ -16,8 +16,8 @@ use Rattle.usbgate_commands.specs.declared.command_table.Verb.TheVariants as ver
 use Rattle.usbgate_commands.specs.declared.command_table.Row.{Row}
 use Rattle.usbgate_commands.specs.declared.command_table.TheConstants.{ROWS}
 use Rattle.usbgate_commands.specs.CommandLine.{found}
-use Rattle.usbgate_tapes.specs.declared.device.Device.{Device}
-use Rattle.usbgate_tapes.specs.Device.{device_of}
+use Rattle.usbgate_tapes.specs.declared.model.device.Device.{Device}
+use Rattle.usbgate_tapes.specs.model.Device.{device_of}
 use Rattle.bridge_run.specs.declared.after_loss.AfterLoss.{AfterLoss}
 use Rattle.bridge_run.specs.declared.after_loss.AfterLoss.TheVariants.{Keep, Close}
 use Rattle.usbgate_commands.specs.Serving.{Asked}

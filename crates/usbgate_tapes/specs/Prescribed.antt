@@ -3,7 +3,7 @@ use Rattle.std.specs.Prelude.{Bool, false, List, [], ℕ, Option, None}
 use Rattle.usbgate_tapes.specs.declared.status.Status.{Status}
 use Rattle.usbgate_tapes.specs.declared.status.Status.TheVariants.{Done, Usage}
 use Rattle.usbgate_tapes.specs.Text.{usage_line}
-use Rattle.usbgate_tapes.specs.TapeCommand.{TapeCommand, tape_text, tape_status, front_text}
+use Rattle.usbgate_tapes.specs.tape.TapeCommand.{TapeCommand, tape_text, tape_status, front_text}
 
 pub record Prescribed : Type 0 where
   -- the whole text of a tape

@@ -6,7 +6,7 @@ use Rattle.gate_history.specs.state.Sides.{refused_at}
 use Rattle.gate_history.specs.step.History.{history}
 use Rattle.gate_history.specs.write.All.{counts_of}
 use Rattle.usbgate_tapes.specs.Text.{event_text, made_text, counts_line}
-use Rattle.usbgate_tapes.specs.EventCommand.{EventCommand}
+use Rattle.usbgate_tapes.specs.tape.EventCommand.{EventCommand}
 
 -- a side was refused
 abbrev pub has_refusal : List Mark → Bool

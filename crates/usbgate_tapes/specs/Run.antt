@@ -2,8 +2,8 @@
 use Rattle.std.specs.Prelude.{◌≡◌, ◌⊎◌, ◌≤◌, ℕ, ◌+◌, List, [], ◌∷◌, ◌++◌, length, Option, Some}
 use Rattle.usbgate_tapes.specs.declared.status.Status.{Status}
 use Rattle.usbgate_tapes.specs.declared.status.Status.TheVariants.{Done, Usage, Refused, ReadFault, WriteFault, LinkFault, OutOfMemory, BadTape, Idle, Spent}
-use Rattle.usbgate_tapes.specs.Tape.{LF}
-use Rattle.usbgate_tapes.specs.TapeCommand.{tape_limit}
+use Rattle.usbgate_tapes.specs.tape.Tape.{LF}
+use Rattle.usbgate_tapes.specs.tape.TapeCommand.{tape_limit}
 use Rattle.usbgate_tapes.specs.Prescribed.{Prescribed}
 
 -- it is empty, or its last byte is an LF

@@ -20,7 +20,7 @@ use Rattle.packet_show.specs.Urb.{urb_line}
 use Rattle.packet_show.specs.Redir.{redir_line}
 use Rattle.gate_history.specs.step.Events.{Event, client_bytes, host_bytes}
 use Rattle.gate_history.specs.step.Streams.{client_reader, client_start, host_reader, host_start}
-use Rattle.usbgate_tapes.specs.EventCommand.{EventCommand}
+use Rattle.usbgate_tapes.specs.tape.EventCommand.{EventCommand}
 
 -- how a side is shown
 pub record Shown (S P : Type 0) : Type 0 where

@@ -16,7 +16,7 @@ use Rattle.gate_history.specs.write.All.{all_of}
 use Rattle.gate_history.specs.write.Bytes.{out_client, out_host}
 use Rattle.direct_run.specs.declared.told.Told.{Told}
 use Rattle.direct_run.specs.Lines.{item_line}
-use Rattle.usbgate_tapes.specs.Tape.{LF}
+use Rattle.usbgate_tapes.specs.tape.Tape.{LF}
 
 abbrev pub SPACE : ℕ
 SPACE = 32

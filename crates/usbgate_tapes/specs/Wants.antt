@@ -4,8 +4,8 @@
 use Rattle.std.specs.Prelude.{◌≡◌, ◌⊎◌, ℕ, ◌+◌, ◌<◌, ◌≤◌, true, List, [], ◌∷◌, ◌++◌, length, Some, IsSome}
 use Rattle.gate_outside.specs.Calls.{front_of}
 use Rattle.gate_outside.specs.Moved.{Move, moved}
-use Rattle.usbgate_tapes.specs.Tape.{content}
-use Rattle.usbgate_tapes.specs.TapeCommand.{tape_limit}
+use Rattle.usbgate_tapes.specs.tape.Tape.{content}
+use Rattle.usbgate_tapes.specs.tape.TapeCommand.{tape_limit}
 use Rattle.usbgate_tapes.specs.Prescribed.{Prescribed}
 use Rattle.usbgate_tapes.specs.Run.{EndsALine, HasNoLF, ReadInPart}
 

@@ -1,9 +1,5 @@
 -- What the code keeps and reads, tied to the definitions.
-pub mod EventTape
+pub mod tape
 pub mod Replay
-pub mod Model
-pub mod Loaded
-pub mod Part
-pub mod Shown
-pub mod Show
-pub mod TapeReader
+pub mod model
+pub mod show

@@ -1,21 +1,16 @@
 //! The commands over a tape, or over nothing, and the text that they print.
 #![tactic(auto)]
 
-mod device;
-mod event_tape;
-pub mod load;
-pub mod make;
 mod model;
-pub mod printed;
 mod replay;
 pub mod runs;
 mod show;
-mod shown_format;
 mod status;
-mod tape_command;
-mod tape_lines;
-mod tape_reader;
+mod tape;
 mod text;
 
-pub use device::{BLOCKS, Device};
+pub use model::device::{BLOCKS, Device};
+pub use model::load::load;
+pub use model::make::make;
 pub use status::Status;
+pub use text::printed::print_usage;

@@ -4,11 +4,15 @@ ghost use Rattle.std.specs.Prelude.{◌≡◌, ◌++◌, ◌||◌, [], List, IfO
 ghost use Rattle.direct_run.specs.Stands.{Stands};
 ghost use Rattle.direct_run.specs.Steps.{Step as PastStep};
 ghost use Rattle.direct_run.specs.Trace.{told_first};
-ghost use Rattle.usbgate_tapes.specs.Model.{model, step_said};
+ghost use Rattle.usbgate_tapes.specs.model.Model.{model, step_said};
 ghost use Rattle.usbgate_tapes.specs.Text.{told_text};
-ghost use Rattle.usbgate_tapes.specs.inner.Model.{HasDone, TakesSaid, has_some};
+ghost use Rattle.usbgate_tapes.specs.inner.model.Model.{HasDone, TakesSaid, has_some};
 
-use crate::tape_command::TapeCommand;
+pub mod device;
+pub mod load;
+pub mod make;
+
+use crate::tape::command::TapeCommand;
 use crate::text::{push_counts, push_told};
 use direct_run::{Step, System, Told};
 use model_device::Gadget;

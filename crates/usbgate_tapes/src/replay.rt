@@ -7,7 +7,7 @@ ghost use Rattle.usbgate_tapes.specs.Text.{made_text, sent_text};
 ghost use Rattle.usbgate_tapes.specs.Replay.{replay};
 ghost use Rattle.usbgate_tapes.specs.inner.Replay.{is_refusal, HasSeen as HasPast, Sees, Replays};
 
-use crate::event_tape::EventCommand;
+use crate::tape::events::EventCommand;
 use crate::text::{push_bytes, push_counts, push_notes};
 use gate_core::Gate;
 use gate_history::{Event, Note, Notes};

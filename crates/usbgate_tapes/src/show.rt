@@ -2,10 +2,12 @@
 
 ghost use Rattle.std.specs.Prelude.{◌≡◌, ◌++◌, ◌∷◌, [], ℕ, List, OnOk};
 ghost use Rattle.gate_history.specs.step.Events.{Event as PastEvent};
-ghost use Rattle.usbgate_tapes.specs.inner.Show.{shown_by, HasShown, IsShow, Sees, ShowsPackets};
+ghost use Rattle.usbgate_tapes.specs.inner.show.Show.{shown_by, HasShown, IsShow, Sees, ShowsPackets};
 
-use crate::event_tape::EventCommand;
-use crate::shown_format::{Part, ShownFormat};
+pub mod format;
+
+use crate::show::format::{Part, ShownFormat};
+use crate::tape::events::EventCommand;
 use gate_history::Event;
 use packet_stream::{ReadError, Stream};
 use std::alloc::Global;

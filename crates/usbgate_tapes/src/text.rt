@@ -6,6 +6,8 @@ ghost use Rattle.usb_base.specs.Refusal.{refusal_line};
 ghost use Rattle.direct_run.specs.Lines.{item_line};
 ghost use Rattle.usbgate_tapes.specs.Text.{bytes_line, note_line, told_text, counts_line, bad_line as line_of_bad};
 
+pub mod printed;
+
 use arrayvec::ArrayString;
 use direct_run::{Items, Refusals, Told};
 use gate_history::{Counts, Note, Notes};

@@ -7,7 +7,7 @@ use Rattle.gate_history.specs.step.History.{history}
 use Rattle.gate_core.specs.step.Stands.{Stands}
 use Rattle.usbgate_tapes.specs.declared.replay.Replay.{Replay}
 use Rattle.usbgate_tapes.specs.Text.{event_text}
-use Rattle.usbgate_tapes.specs.EventCommand.{EventCommand}
+use Rattle.usbgate_tapes.specs.tape.EventCommand.{EventCommand}
 use Rattle.usbgate_tapes.specs.Replay.{has_refusal, replay}
 
 abbrev pub is_refusal : Note → Bool

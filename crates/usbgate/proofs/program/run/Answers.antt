@@ -1,19 +1,19 @@
 use Rattle.std.proofs.Common.{inr, sym, ap, subst, ◌∙◌}
 use Rattle.std.proofs.lemmas.Option.{same_Some}
 use Rattle.bridge_run.specs.Outside.{outside, written, faults}
-use Rattle.usbgate_tapes.specs.EventCommand.{over_events}
+use Rattle.usbgate_tapes.specs.tape.EventCommand.{over_events}
 use Rattle.usbgate_tapes.specs.Replay.{replay}
-use Rattle.usbgate_tapes.specs.Model.{model_of}
+use Rattle.usbgate_tapes.specs.model.Model.{model_of}
 use Rattle.usbgate_tapes.specs.Show.{show}
-use Rattle.usbgate_tapes.specs.Made.{made, loaded}
+use Rattle.usbgate_tapes.specs.model.Made.{made, loaded}
 use Rattle.usbgate_tapes.specs.Prescribed.{Prescribed, over_tape, printed, usage}
 use Rattle.usbgate.specs.Prescribed.{prescribed}
 use Rattle.usbgate_commands.specs.Recording.{records}
 use Rattle.usbgate_tapes.specs.Run.{Leaves}
 use Rattle.usbgate_tapes.specs.Logs.{LeavesByLog}
 use Rattle.usbgate_commands.proofs.Served.{unserved, unlent, links-stand, link-fault-of, link-stands}
-use Rattle.usbgate_tapes.proofs.Simulated.{unsimulated, unsimulated_log}
-use Rattle.usbgate_tapes.proofs.Unread.{logs-none, logs-unread}
+use Rattle.usbgate_tapes.proofs.lemmas.model.Simulated.{unsimulated, unsimulated_log}
+use Rattle.usbgate_tapes.proofs.lemmas.Unread.{logs-none, logs-unread}
 use Rattle.usbgate.proofs.Simulated.{simulates-device, simulates-device_log, simulates-count}
 use Rattle.bridge_run.specs.Gate.{gate_sends}
 use Rattle.bridge_run.specs.GateStops.{gate_runs_out}

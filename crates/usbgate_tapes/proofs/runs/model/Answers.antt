@@ -4,13 +4,13 @@ use Rattle.model_device.specs.Keyboard.{keyboard}
 use Rattle.model_device.specs.Loopback.{loopback}
 use Rattle.model_device.specs.Tone.{tone}
 use Rattle.disk_gadget.specs.DiskStep.{DiskState, disk}
-use Rattle.usbgate_tapes.specs.declared.device.Device.{Device}
-use Rattle.usbgate_tapes.specs.Model.{model, model_of}
+use Rattle.usbgate_tapes.specs.declared.model.device.Device.{Device}
+use Rattle.usbgate_tapes.specs.model.Model.{model, model_of}
 use Rattle.usbgate_tapes.specs.Prescribed.{Prescribed, over_tape}
 use Rattle.usbgate_tapes.specs.Run.{LeavesTold}
 use Rattle.usbgate_tapes.specs.Logs.{LeavesByLog}
-use Rattle.usbgate_tapes.specs.Simulated.{AreSimulated, SimulatesTape, AreSimulatedByLog, SimulatesByLog}
-use Rattle.usbgate_tapes.proofs.Unread.{logs-none}
+use Rattle.usbgate_tapes.specs.model.Simulated.{AreSimulated, SimulatesTape, AreSimulatedByLog, SimulatesByLog}
+use Rattle.usbgate_tapes.proofs.lemmas.Unread.{logs-none}
 use Rattle.usbgate_tapes.proofs.runs.model.Goals as goal
 
 pub returns-in-Ok-make-clause-leaves : goal.returns-in-Ok-make-clause-leaves

@@ -1,8 +1,8 @@
 use Rattle.std.proofs.Common.{ℕ, List, ◌++◌, ap, ◌∙◌}
-use Rattle.usbgate_tapes.specs.Model.{model}
+use Rattle.usbgate_tapes.specs.model.Model.{model}
 use Rattle.usbgate_tapes.specs.Prescribed.{over_tape}
-use Rattle.usbgate_tapes.proofs.Simulated.{are-simulated, are-simulated_log}
-use Rattle.usbgate_tapes.proofs.Unread.{logs-none}
+use Rattle.usbgate_tapes.proofs.lemmas.model.Simulated.{are-simulated, are-simulated_log}
+use Rattle.usbgate_tapes.proofs.lemmas.Unread.{logs-none}
 use Rattle.usbgate_tapes.proofs.runs.model_with.Goals as goal
 
 pub over_tape-requires : goal.over_tape-requires

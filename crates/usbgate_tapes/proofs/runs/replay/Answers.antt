@@ -1,8 +1,8 @@
 use Rattle.std.proofs.Common.{ℕ, List, ◌++◌, ap, ◌∙◌}
 use Rattle.usbgate_tapes.specs.Replay.{replay}
-use Rattle.usbgate_tapes.specs.EventCommand.{over_events}
+use Rattle.usbgate_tapes.specs.tape.EventCommand.{over_events}
 use Rattle.usbgate_tapes.specs.Prescribed.{over_tape}
-use Rattle.usbgate_tapes.proofs.Unread.{logs-none}
+use Rattle.usbgate_tapes.proofs.lemmas.Unread.{logs-none}
 use Rattle.usbgate_tapes.proofs.runs.replay.Goals as goal
 
 pub over_tape-requires : goal.over_tape-requires

@@ -1,6 +1,6 @@
 use Rattle.std.proofs.Common.{refl}
 use Rattle.usbgate_tapes.specs.Show.{show_side}
-use Rattle.usbgate_tapes.specs.inner.Show.{shown_by}
+use Rattle.usbgate_tapes.specs.inner.show.Show.{shown_by}
 use Rattle.usbgate_tapes.proofs.runs.show_stream.Goals as goal
 
 pub over_tape-requires : goal.over_tape-requires

@@ -2,9 +2,9 @@ use Rattle.std.proofs.Common.{◌≡◌, List, ℕ, subst, sym, ap, ◌∙◌}
 use Rattle.std.proofs.lemmas.Result.{on_ok_weaker, on_err_weaker}
 use Rattle.gate_outside.specs.Front.{AppendsFront}
 use Rattle.gate_outside.specs.Moved.{Moves, MovesFront}
-use Rattle.usbgate_tapes.specs.inner.TapeReader.{end_text}
-use Rattle.usbgate_tapes.proofs.Moving.{moves-append, appends-less, appends-further, moves-further}
-use Rattle.usbgate_tapes.proofs.Wanting.{on_err-of}
+use Rattle.usbgate_tapes.specs.inner.tape.TapeReader.{end_text}
+use Rattle.usbgate_tapes.proofs.lemmas.Moving.{moves-append, appends-less, appends-further, moves-further}
+use Rattle.usbgate_tapes.proofs.lemmas.tape.Wanting.{on_err-of}
 use Rattle.usbgate_tapes.proofs.runs.write_end.Goals as goal
 
 pub returns-in_err-write_all-clause-err : goal.returns-in_err-write_all-clause-err

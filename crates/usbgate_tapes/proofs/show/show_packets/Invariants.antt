@@ -1,5 +1,5 @@
 use Rattle.std.proofs.Common.{◌≡◌, length}
-use Rattle.usbgate_tapes.specs.inner.Show.{shown_by, GoesOn}
+use Rattle.usbgate_tapes.specs.inner.show.Show.{shown_by, GoesOn}
 use Rattle.usbgate_tapes.proofs.show.show_packets.Given as goal
 
 abbrev pub invariant-packets : goal.invariant-packets

@@ -1,5 +1,5 @@
 use Rattle.std.proofs.Common.{Bool, ◌||◌, ap}
-use Rattle.usbgate_tapes.proofs.Modelled.{some-is}
+use Rattle.usbgate_tapes.proofs.lemmas.model.Modelled.{some-is}
 use Rattle.usbgate_tapes.proofs.model.ModelRun.print.Goals as goal
 
 pub returns-clause-refused : goal.returns-clause-refused

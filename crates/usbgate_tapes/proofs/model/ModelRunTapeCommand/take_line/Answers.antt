@@ -1,4 +1,4 @@
-use Rattle.usbgate_tapes.proofs.Modelled.{line-told}
+use Rattle.usbgate_tapes.proofs.lemmas.model.Modelled.{line-told}
 use Rattle.usbgate_tapes.proofs.model.ModelRunTapeCommand.take_line.Goals as goal
 
 pub returns-clause-goes : goal.returns-clause-goes

@@ -1,8 +1,8 @@
 use Rattle.std.proofs.Common.{[], ap, subst}
 use Rattle.packet_stream.specs.Split.{reads}
 use Rattle.packet_stream.specs.Streams.{Kept, Follows}
-use Rattle.usbgate_tapes.specs.inner.Show.{shown_by}
-use Rattle.usbgate_tapes.proofs.Showing.{sees-end}
+use Rattle.usbgate_tapes.specs.inner.show.Show.{shown_by}
+use Rattle.usbgate_tapes.proofs.lemmas.Showing.{sees-end}
 use Rattle.usbgate_tapes.proofs.show.Show.begin.Goals as goal
 
 pub returns : goal.returns

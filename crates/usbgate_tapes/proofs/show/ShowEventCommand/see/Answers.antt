@@ -1,6 +1,6 @@
 use Rattle.std.proofs.Common.{◌++◌, ap, sym, ◌∙◌}
 use Rattle.gate_history.specs.step.Events.{event_of}
-use Rattle.usbgate_tapes.specs.EventCommand.{EventCommand}
+use Rattle.usbgate_tapes.specs.tape.EventCommand.{EventCommand}
 use Rattle.usbgate_tapes.proofs.show.ShowEventCommand.see.Goals as goal
 
 pub returns-in-End : goal.returns-in-End

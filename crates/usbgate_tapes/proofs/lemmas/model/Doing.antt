@@ -1,0 +1,49 @@
+-- The steps of a made tape, done one after another, and then counted.
+use Rattle.std.proofs.Common.{◌≡◌, ℕ, List, [], ◌∷◌, ◌++◌, Option, Some, None, sym, ap, subst, ◌∙◌}
+use Rattle.gate_history.specs.write.All.{counts_of}
+use Rattle.gate_history.specs.step.History.{history}
+use Rattle.gate_history.specs.declared.note.Counts.{Counts}
+use Rattle.packet_show.specs.declared.tape.TapeLine.{TapeLine}
+use Rattle.model_device.specs.Device.{State, first_state, meaning_of}
+use Rattle.model_device.specs.Loopback.{loopback}
+use Rattle.model_device.specs.Meaning.{Meaning}
+use Rattle.direct_run.specs.declared.told.Told.{Told}
+use Rattle.direct_run.specs.Kept.{SystemKept}
+use Rattle.direct_run.specs.Stands.{Stands}
+use Rattle.direct_run.specs.Steps.{Step}
+use Rattle.direct_run.specs.World.{first_id, course}
+use Rattle.made_tape.specs.Again.{TapeAgain}
+use Rattle.made_tape.specs.Rounds.{made_lines}
+use Rattle.usbgate_tapes.specs.model.Made.{loaded}
+use Rattle.usbgate_tapes.specs.model.Model.{step_said}
+use Rattle.usbgate_tapes.specs.Text.{counts_line}
+use Rattle.usbgate_tapes.specs.inner.model.Loaded.{with_step, steps_after}
+use Rattle.usbgate_tapes.specs.inner.model.Model.{TakesSaid}
+use Rattle.usbgate_tapes.proofs.lemmas.model.Loaded.{last-made}
+
+-- the system stands for steps, behind which the lines that are left say the others
+abbrev pub Doing : {S : Type 0} → Meaning S → S → SystemKept S → List TapeLine → List TapeLine → Type 0
+Doing m s k left lines = (past : List Step) × Stands m s k past × (steps_after left past ≡ steps_after lines [])
+
+taken : {S : Type 0} (m : Meaning S) (s : S) (new : SystemKept S) (past : List Step) (x : Option Step) (told : Option Told) → TakesSaid m s new past x told → Stands m s new (with_step x past)
+taken m s new past None None stands = stands
+taken m s new past None (Some told) never = absurd never
+taken m s new past (Some x) None never = absurd never
+taken m s new past (Some x) (Some told) takes = takes.stands
+
+pub one-more : {S : Type 0} (m : Meaning S) (s : S) (old new : SystemKept S) (left rest lines : List TapeLine) (said : TapeLine) (told : Option Told) → left ≡ said ∷ rest
+    → ((first : S) (past : List Step) → Stands m first old past → TakesSaid m first new past (step_said said) told) → Doing m s old left lines → Doing m s new rest lines
+one-more m s old new left rest lines said told next takes d =
+    (with_step (step_said said) d.0, taken m s new d.0 (step_said said) told (takes s d.0 d.1), ap (λ (ls : List TapeLine). steps_after ls d.0) (sym next) ∙ d.2)
+
+pub all-done : {S : Type 0} (m : Meaning S) (s : S) (k : SystemKept S) (left lines : List TapeLine) → left ≡ [] → Doing m s k left lines → Stands m s k (steps_after lines [])
+all-done m s k left lines none d = subst (Stands m s k) (ap (λ (ls : List TapeLine). steps_after ls d.0) (sym none) ∙ d.2) d.1
+
+pub counts-loaded : (count : ℕ) (gadget : State (List ℕ)) (k : SystemKept (State (List ℕ))) (counts : Counts) (old text : List ℕ) → gadget ≡ first_state loopback → TapeAgain (made_lines count)
+    → Stands (meaning_of loopback) gadget k (steps_after (made_lines count) [])
+    → ((first : State (List ℕ)) (steps : List Step) → Stands (meaning_of loopback) first k steps → counts ≡ counts_of first_id (history first_id (course (meaning_of loopback) first steps).events))
+    → old ≡ [] → text ≡ old ++ counts_line counts → text ≡ loaded count
+counts-loaded count gadget k counts old text plugged again stands counted none is =
+    is ∙ ap (λ (l : List ℕ). l ++ counts_line counts) none ∙ ap counts_line (counted gadget (steps_after (made_lines count) []) stands)
+    ∙ ap (λ (g : State (List ℕ)). counts_line (counts_of first_id (history first_id (course (meaning_of loopback) g (steps_after (made_lines count) [])).events))) plugged
+    ∙ sym (last-made (meaning_of loopback) (first_state loopback) (made_lines count) again)

@@ -1,0 +1,5 @@
+-- The lines of a tape, and their reader.
+pub mod Lines
+pub mod Stages
+pub mod Wanting
+mod LineEnds

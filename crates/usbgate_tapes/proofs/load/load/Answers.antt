@@ -1,7 +1,0 @@
-use Rattle.usbgate_tapes.specs.Made.{loaded}
-use Rattle.usbgate_tapes.specs.Prescribed.{printed}
-use Rattle.usbgate_tapes.proofs.Unread.{wrote-none}
-use Rattle.usbgate_tapes.proofs.load.load.Goals as goal
-
-pub returns-in-Err-clause-writes_log : goal.returns-in-Err-clause-writes_log
-returns-in-Err-clause-writes_log g c = wrote-none g.K.Sink.write_gives (printed (loaded c.args.count)) c.args.out.now

@@ -1,0 +1,3 @@
+-- A reader of a tape, and a command over its events.
+pub mod TapeReader
+pub mod EventTape

@@ -1,0 +1,5 @@
+-- A gateway and a modelled device, and the tapes that are made for them.
+pub mod Device
+pub mod Model
+pub mod Made
+pub mod Simulated

@@ -1,0 +1,31 @@
+//! The modelled devices.
+
+ghost use Rattle.std.specs.Prelude.{◌≡◌};
+ghost use Rattle.usbgate_tapes.specs.model.Device.{device_of};
+
+/// How many blocks of 512 bytes a disk has.
+pub const BLOCKS: u32 = 64;
+
+/// The modelled devices.
+#[derive(Clone, Copy, PartialEq, Eq)]
+pub enum Device {
+    Keyboard,
+    Loopback,
+    Tone,
+    Disk,
+}
+
+impl Device {
+    /// The device with this name.
+    pub fn named(name: &str) -> Option<Device>
+        ensures { result ≡ device_of name.now }
+    {
+        match name {
+            "keyboard" => Some(Device::Keyboard),
+            "loop" => Some(Device::Loopback),
+            "tone" => Some(Device::Tone),
+            "disk" => Some(Device::Disk),
+            _ => None,
+        }
+    }
+}

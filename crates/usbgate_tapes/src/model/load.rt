@@ -1,0 +1,65 @@
+//! The command `load`: what a modelled loop makes of the tape that a number stands for.
+
+ghost use Rattle.std.specs.Prelude.{◌≡◌, ◌≤◌, [], ℕ, List, Option, IfOk, OnOk};
+ghost use Rattle.direct_run.specs.Stands.{Stands};
+ghost use Rattle.made_tape.specs.Rounds.{made_lines};
+ghost use Rattle.usbgate_tapes.specs.model.Made.{loaded};
+ghost use Rattle.usbgate_tapes.specs.Prescribed.{printed};
+ghost use Rattle.usbgate_tapes.specs.Run.{Leaves, IsOfNoTape};
+ghost use Rattle.usbgate_tapes.specs.Logs.{WritesByLog};
+ghost use Rattle.usbgate_tapes.specs.model.Simulated.{MadeSimulates};
+ghost use Rattle.usbgate_tapes.specs.Causes.{HasCauses};
+ghost use Rattle.usbgate_tapes.specs.inner.model.Loaded.{steps_after};
+
+use crate::model::do_line;
+use crate::status::Status;
+use crate::text::printed::print;
+use crate::text::push_counts;
+use direct_proof::systems_are_direct;
+use direct_run::System;
+use gate_outside::Sink;
+use made_tape::{MadeTape, read_again};
+use model_device::{Gadget, Loopback};
+use std::alloc::Global;
+use usb_base::{Bytes, Memory};
+
+/// Prints the counts.
+pub fn load<K: Sink>(alloc: Global, count: u16, out: &mut K) -> Status
+    requires { count ≤ 1000 }
+    ensures leaves { (remaining : Option (List ℕ)) → Leaves result (printed (loaded count)) remaining remaining (K.contents out.old) (K.contents out.new) }
+    ensures writes_log { WritesByLog K.write_gives result (printed (loaded count)) out.old out.new }
+    ensures causes { (faults : ℕ) → HasCauses result faults faults (K.faults out.old) (K.faults out.new) }
+    ensures ends { IsOfNoTape result }
+    ensures simulates { result ≡ Status.Done → MadeSimulates count }
+{
+    match counted(alloc, count) {
+        Ok(text) => print(text.as_slice(), out),
+        Err(_) => Status::OutOfMemory,
+    }
+}
+
+/// The line of the counts.
+fn counted(alloc: Global, count: u16) -> Result<Bytes, Memory>
+    requires { count ≤ 1000 }
+    ensures text { IfOk result (λ text. text ≡ loaded count) }
+    ensures simulates { OnOk result (MadeSimulates count) }
+{
+    systems_are_direct::<Loopback>();
+    let system = done(alloc, Loopback::make(alloc)?, count)?;
+    read_again(count);
+    let mut text = Bytes::new(alloc);
+    push_counts(alloc, &system.counts(), &mut text)?;
+    Ok(text)
+}
+
+/// The system of a device with which the steps of the tape were done.
+fn done<G: Gadget>(alloc: Global, gadget: G, count: u16) -> Result<System<G>, Memory>
+    ensures { IfOk result (λ system. Stands G.meaning gadget system (steps_after (made_lines count) [])) }
+{
+    let (mut system, _) = System::make(alloc, gadget)?;
+    let mut tape = MadeTape::new(count);
+    'lines: while let Some(line) = tape.next_line(alloc)? {
+        do_line(&mut system, &line)?;
+    }
+    Ok(system)
+}
