@@ -68,10 +68,10 @@ client-first kept is = all-first client_format client_next (λ s. client_packets
 host-first : (kept : Kept RedirState) → kept ≡ record { state = start; rest = []; place = 0; held = []; at = 0; over = false } → HasAll host_reader host_start kept [] [] false
 host-first kept is = all-first host_format after (stream_sound ToGuest) start kept refl is
 
-pub stands-first : (first : ℕ) (g : Inner) → is_some g.want ≡ false → IsFirst g.translator first → g.client ≡ record { state = tt; rest = []; place = 0; held = []; at = 0; over = false } →
+pub stands-first : (first : ℕ) (g : Inner) → g.want ≡ None → IsFirst g.translator first → g.client ≡ record { state = tt; rest = []; place = 0; held = []; at = 0; over = false } →
     g.host ≡ record { state = start; rest = []; place = 0; held = []; at = 0; over = false } → Stands first (kept_of g) []
 stands-first first g works translator client host = record {
-  works = works;
+  works = ap is_some works;
   translates = record { state = translator.holds; answered = translator.answered; unlinked = translator.unlinked; dropped = translator.dropped };
   client = client-first g.client client;
   host = host-first g.host host;

@@ -1,4 +1,4 @@
-use Rattle.std.proofs.Common.{◌∷◌}
+use Rattle.std.proofs.Common.{◌∷◌, is_some, ap}
 use Rattle.std.proofs.Math.Logic.{∥∥₁_map}
 use Rattle.gate_history.specs.step.Events.{event_of}
 use Rattle.gate_core.proofs.gate.Gate.take.Goals as goal
@@ -6,4 +6,4 @@ use Rattle.gate_core.proofs.gate.Gate.take.Goals as goal
 -- it stands for one event more
 pub invariant_of-self : goal.invariant_of-self
 invariant_of-self c works =
-    ∥∥₁_map (c.self.invariant c.if-self.false) (λ w. (w.0, (event_of c.args.event ∷ w.1.0, (c.in-Ok.ensures w.0 w.1.0 w.1.1).stands)))
+    ∥∥₁_map (c.self.invariant (ap is_some c.in_default.is)) (λ w. (w.0, (event_of c.args.event ∷ w.1.0, (c.in-Ok.ensures w.0 w.1.0 w.1.1).stands)))
