@@ -2,4 +2,4 @@
 pub mod Lines
 pub mod Stages
 pub mod Wanting
-mod LineEnds
+pub mod LineEnds
