@@ -26,11 +26,8 @@ use std::alloc::Global;
 use usbgate_commands::Command;
 use usbgate_commands::host::host;
 use usbgate_commands::serve::serve;
-use usbgate_tapes::Status;
-use usbgate_tapes::load;
-use usbgate_tapes::make;
-use usbgate_tapes::print_usage;
 use usbgate_tapes::runs::{model, replay, show};
+use usbgate_tapes::{Status, load, make, print_usage};
 
 /// Does what the words say: `replay` puts the tape to a gate, and prints what that sends and which sides it refuses;
 /// `model` does the steps of the tape with a gateway and a modelled device, and prints what each tells; `show` prints the
