@@ -3,5 +3,6 @@ pub mod Arrivals
 pub mod Pieces
 pub mod PieceEnds
 pub mod Lines
+pub mod Placed
 pub mod Queues
 pub mod Sound
