@@ -4,5 +4,4 @@ pub mod Pieces
 pub mod PieceEnds
 pub mod Lines
 pub mod Placed
-pub mod Queues
 pub mod Sound

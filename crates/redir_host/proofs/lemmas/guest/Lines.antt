@@ -11,7 +11,7 @@ use Rattle.usb_base.specs.Endpoint.{row_of}
 use Rattle.redir_host.specs.declared.request.Form.{Form}
 use Rattle.redir_host.specs.declared.request.Request.{Request}
 use Rattle.redir_host.specs.device.Changes.{is_touched, stays}
-use Rattle.redir_host.specs.guest.Line.{Waiting, Reset, Waits, queue_in, reset_in, without_cancelled, without_performed, stays_in, flushed_in}
+use Rattle.redir_host.specs.guest.Line.{Waiting, Reset, Waits, queue_in, reset_in, without_cancelled, without_performed, stays_in}
 use Rattle.redir_host.specs.guest.Packets.{request}
 use Rattle.usb_base.specs.Firsts.{without_first}
 use Rattle.redir_host.specs.state.Queues.{is_at, is_data, is_first_queue, is_cancelled_by, queue_of, with_first_marked, after_cancel, leaves_mark}
@@ -231,22 +231,7 @@ flush-one r table w p i f t l false at rest =
       ap (λ (d : Bool). reset_in w (cond d (Waits p i f t ∷ left) left)) at ∙ k.1 ∙ sym (ap (λ (d : Bool). reset_in (not d && w) l) e),
     )
 
-flush-stays : (r : Route) (table : EpTable) (l : List Waiting) (w : Bool) → (queue_in w (filter (stays_in r table) l) ≡ filter (stays r table) (queue_in w l)) × (reset_in w (filter (stays_in r table) l) ≡ reset_in w l)
+pub flush-stays : (r : Route) (table : EpTable) (l : List Waiting) (w : Bool) → (queue_in w (filter (stays_in r table) l) ≡ filter (stays r table) (queue_in w l)) × (reset_in w (filter (stays_in r table) l) ≡ reset_in w l)
 flush-stays r table [] w = (refl, refl)
 flush-stays r table (Reset ∷ l) w = flush-stays r table l true
 flush-stays r table (Waits p i f t ∷ l) w = flush-one r table w p i f t l (not (is_touched r table t.ep)) refl (flush-stays r table l)
-
-abbrev pub flush_all : List (Route × EpTable) → List Request → List Request
-flush_all [] qs = qs
-flush_all (c ∷ cs) qs = flush_all cs (filter (stays c.0 c.1) qs)
-
-pub flushed-all : (cs : List (Route × EpTable)) (l : List Waiting) (w : Bool) → (queue_in w (flushed_in cs l) ≡ flush_all cs (queue_in w l)) × (reset_in w (flushed_in cs l) ≡ reset_in w l)
-flushed-all [] l w = (refl, refl)
-flushed-all (c ∷ cs) l w =
-    let one = flush-stays c.0 c.1 l w in
-    let rest = flushed-all cs (filter (stays_in c.0 c.1) l) w in
-    (rest.0 ∙ ap (flush_all cs) one.0, rest.1 ∙ one.1)
-
-pub flush-more : (cs ds : List (Route × EpTable)) (qs : List Request) → flush_all (cs ++ ds) qs ≡ flush_all ds (flush_all cs qs)
-flush-more [] ds qs = refl
-flush-more (c ∷ cs) ds qs = flush-more cs ds (filter (stays c.0 c.1) qs)

@@ -16,7 +16,7 @@ use Rattle.redir_host.specs.declared.host.Host.{Host}
 use Rattle.redir_host.specs.declared.request.Form.{Form}
 use Rattle.redir_host.specs.declared.request.Form.TheVariants as form
 use Rattle.redir_host.specs.declared.request.Request.{Request}
-use Rattle.redir_host.specs.device.Changes.{change_of, changed, touched, runs_on}
+use Rattle.redir_host.specs.device.Changes.{change_of, changed, touched, runs_on, stays as stays_on}
 use Rattle.redir_host.specs.device.Facts.{facts_of}
 use Rattle.redir_host.specs.device.Performing.{done_by, does, performs, follows, resets, performs_marked, performs_any, with_id, first_performed, perform_move_by}
 use Rattle.redir_host.specs.guest.Asking.{routed}
@@ -26,9 +26,10 @@ use Rattle.redir_host.specs.state.Queues.{is_at}
 use Rattle.redir_host.specs.step.Answered.{Answered, ByDevice, ByChange, ends, stays, first_such, is_of, is_answer, answer_of, is_flushed, flushed_of, came_of, came_behind, came_marked, outcome_of, by_outcome, by_perform}
 use Rattle.redir_host.specs.step.Moves.{Move}
 use Rattle.redir_host.specs.write.Answers.{answer, cancelled}
+use Rattle.redir_host.proofs.lemmas.guest.Lines.{flush-stays, performed-leaves}
 use Rattle.redir_host.proofs.lemmas.guest.Placed.{is_left, placed-left, placed-performed}
 use Rattle.redir_host.proofs.lemmas.state.Each.{each_filtered}
-use Rattle.redir_host.proofs.lemmas.step.Paired.{Answers, FirstOf, Gives, IsIn, Same, Tied, kept-first, queue-answers, same-answer, same-at, same-touched, zip-filtered, zip-first, zip-flushed, zip-without}
+use Rattle.redir_host.proofs.lemmas.step.Paired.{Answers, FirstOf, Gives, IsIn, IsInLine, Same, Tied, kept-first, queue-answers, same-answer, same-at, same-touched, zip-filtered, zip-first, zip-flushed, zip-without}
 
 -- the changes flush those that they touch, and the answer is the last
 record Finished {S : Type 0} (out : Bool) (l : List Waiting) (q : Request) (cs : List (Route × EpTable)) (o : ℕ × Outcome) (v : Move S) : Type 0 where
@@ -61,6 +62,9 @@ changed-flushes {out = out} m r table status h l is = by (is_success status)
             (zip-filtered (λ q. not (touched r table q)) (is_left r table) (λ q p same. ap not (same-touched r table q p same)) h.queue (waiting_in l) is.queue);
         running = each_filtered IsIn (runs_on r table) h.running is.running;
         gone = is.gone;
+        in_line =
+            let f = flush-stays r table l false in
+            record { queue = ap (λ (qs : List Request). filter (stays_on r table) qs) is.in_line.queue ∙ sym f.0; reset = is.in_line.reset ∙ sym f.1 };
       };
       sent = filter-append is_answer (map cancelled (filter (touched r table) h.queue)) (facts_of h.guest.caps m h.gadget)
           ∙ append-nil (filter is_answer (map cancelled (filter (touched r table) h.queue)))
@@ -81,12 +85,16 @@ done-finishes {S = S} m table h l q (Some r) o answers is =
       sent = filter-append is_answer v.sent (last ∷ []) ∙ (λ i. f.sent i ++ kept-first last [] (answers q.id (m.configuration h.gadget) o) i);
     }
 
+-- what the device is doesn't matter
+with-gadget : {S : Type 0} {out : Bool} (h : Host S) (l : List Waiting) (s : S) → Tied h out l → Tied (record h { gadget = s }) out l
+with-gadget h l s is = record { queue = is.queue; running = is.running; gone = is.gone; in_line = record { queue = is.in_line.queue; reset = is.in_line.reset } }
+
 does-finishes : {S : Type 0} {out : Bool} (m : Meaning S) (h : Host S) (l : List Waiting) (q : Request) (r : Option Route) (o : Option (S × Outcome)) → Answers q.form q.transfer.ep → Tied h out l →
     Finishes out l q (changes_of m h.gadget r o) (came_of m o) (does m h q r o)
 does-finishes m h l q r None answers is = tt
 does-finishes {S = S} m h l q r (Some done) answers is =
     let g : Host S = record h { gadget = done.0 } in
-    done-finishes m (m.table h.gadget) g l q r done.1 answers (record { queue = is.queue; running = is.running; gone = is.gone })
+    done-finishes m (m.table h.gadget) g l q r done.1 answers (with-gadget h l done.0 is)
 
 left-more : (cs ds : List (Route × EpTable)) (l : List Waiting) → flushed_in (cs ++ ds) l ≡ flushed_in ds (flushed_in cs l)
 left-more [] ds l = refl
@@ -130,7 +138,7 @@ resets-finishes {S = S} {out = out} m h l q (Some done) answers is =
     let table = m.table h.gadget in
     let cs = changes_by table (Some route.Reset) status in
     let v : Move S = changed m route.Reset table (is_success status) g in
-    let first = changed-flushes m route.Reset table status g l (record { queue = is.queue; running = is.running; gone = is.gone }) in
+    let first = changed-flushes m route.Reset table status g l (with-gadget h l done.0 is) in
     let then : Finishes out (flushed_in cs l) q (request_changes m v.host.gadget q) (came_of m (m.perform v.host.gadget q.transfer)) (performs m v.host q) =
     does-finishes m v.host (flushed_in cs l) q (change_of q.form) (m.perform v.host.gadget q.transfer) answers first.tied in
     let same : v.host.gadget ≡ done.0 = changed-gadget m route.Reset table (is_success status) g in
@@ -171,16 +179,18 @@ first-finishes h l ep q cs (Some o) (Some v) first is then =
           ∙ sym (map-append answer_of (map (ends ByChange) flushed) (map by (first_such (is_of ep) (waiting_in l))));
     }
 
-found-gives : {S : Type 0} {out : Bool} (m : Meaning S) (h : Host S) (l : List Waiting) (ep : ℕ) (o : Option Request) → FirstOf o (first_such (is_of ep) (waiting_in l)) → Tied h out l → Gives out (perform_move_by h (first_performed m h ep o)) (by_perform m h.gadget ep l o)
-found-gives m h l ep None first is = record { tied = is; sent = refl }
-found-gives {S = S} {out = out} m h l ep (Some q) first is =
+found-gives : {S : Type 0} {out : Bool} (m : Meaning S) (h : Host S) (l : List Waiting) (ep : ℕ) (o : Option Request) → find (is_at ep) h.queue ≡ o → FirstOf o (first_such (is_of ep) (waiting_in l)) → Tied h out l → Gives out (perform_move_by h (first_performed m h ep o)) (by_perform m h.gadget ep l o)
+found-gives m h l ep None none first is = record { tied = is; sent = refl }
+found-gives {S = S} {out = out} m h l ep (Some q) found first is =
     let g : Host S = record h { queue = without_first (is_at ep) h.queue } in
     let left = without_performed ep l in
+    let leaves = performed-leaves ep l q (ap (λ (qs : List Request). find (is_at ep) qs) (sym is.in_line.queue) ∙ found) in
+    let still : IsInLine g left = record { queue = ap (λ (qs : List Request). without_first (is_at ep) qs) is.in_line.queue ∙ sym leaves.0; reset = is.in_line.reset ∙ sym leaves.1 } in
     let rest = zip-without (is_at ep) (is_of ep) (same-at ep) h.queue (waiting_in l) is.queue in
-    let tied : Tied g out left = record { queue = subst (λ (ps : List Placed). AllZip Same g.queue ps) (sym (placed-performed ep l)) rest; running = is.running; gone = is.gone } in
+    let tied : Tied g out left = record { queue = subst (λ (ps : List Placed). AllZip Same g.queue ps) (sym (placed-performed ep l)) rest; running = is.running; gone = is.gone; in_line = still } in
     first-finishes h l ep q (all_changes m h.gadget q) (outcome_of m h.gadget q) (performs_any m g q) first is (any-finishes m g left q (queue-answers q first.0 first.1.1) tied)
 
 pub performed-gives : {S : Type 0} {out : Bool} (m : Meaning S) (h : Host S) (l : List Waiting) (ep : ℕ) (b : Bool) → Tied h out l →
     Gives out (perform_move_by h (cond b None (first_performed m h ep (find (is_at ep) h.queue)))) (cond b (stays l) (by_perform m h.gadget ep l (find (is_at ep) h.queue)))
 performed-gives m h l ep true is = record { tied = is; sent = refl }
-performed-gives m h l ep false is = found-gives m h l ep (find (is_at ep) h.queue) (zip-first (is_at ep) (is_of ep) (same-at ep) h.queue (waiting_in l) is.queue) is
+performed-gives m h l ep false is = found-gives m h l ep (find (is_at ep) h.queue) refl (zip-first (is_at ep) (is_of ep) (same-at ep) h.queue (waiting_in l) is.queue) is
