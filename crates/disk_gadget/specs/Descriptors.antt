@@ -3,19 +3,13 @@ use Rattle.std.specs.Prelude.{[], ◌∷◌, Some, None}
 use Rattle.usb_base.specs.declared.speed.Speed.TheVariants.{High}
 use Rattle.chapter9.specs.declared.standard_requests.DescriptorSet.{DescriptorSet}
 use Rattle.chapter9.specs.Standard.{stall}
-use Rattle.model_device.specs.Device.{Device}
+use Rattle.model_device.specs.Device.{Device, device_bytes}
 use Rattle.disk_gadget.specs.declared.stage.Course.{Course}
 use Rattle.disk_gadget.specs.declared.stage.Stage.TheVariants.{Waits}
 
 abbrev pub disk_set : DescriptorSet
 disk_set = record {
-  device =
-      -- bLength, bDescriptorType, bcdUSB 2.00, no class, bMaxPacketSize0
-      0x12 ∷ 0x01 ∷ 0x00 ∷ 0x02 ∷ 0x00 ∷ 0x00 ∷ 0x00 ∷ 0x40 ∷
-      -- idVendor, idProduct, bcdDevice 1.00
-      0xF0 ∷ 0xFF ∷ 0x04 ∷ 0x00 ∷ 0x00 ∷ 0x01 ∷
-      -- iManufacturer, iProduct, iSerialNumber, bNumConfigurations
-      0x00 ∷ 0x01 ∷ 0x00 ∷ 0x01 ∷ [];
+  device = device_bytes 4;
   config =
       -- configuration 1 of 32 bytes with one interface, bus-powered, 100 mA
       0x09 ∷ 0x02 ∷ 0x20 ∷ 0x00 ∷ 0x01 ∷ 0x01 ∷ 0x00 ∷ 0x80 ∷ 0x32 ∷

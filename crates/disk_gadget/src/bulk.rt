@@ -186,13 +186,9 @@ fn gather(
     if bytes.len() < wrapper.length as usize {
         return Ok(None);
     }
-    match carry_out(alloc, sense, medium, wrapper, bytes.as_slice()) {
-        Ok(act) => Ok(Some(wrapper.report(act.status))),
-        Err(memory) => {
-            bytes.cut(before);
-            Err(memory)
-        }
-    }
+    let carried = carry_out(alloc, sense, medium, wrapper, bytes.as_slice());
+    let act = bytes.cut_on_err(before, carried)?;
+    Ok(Some(wrapper.report(act.status)))
 }
 
 // What came of a transfer to the device.

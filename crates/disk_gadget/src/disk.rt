@@ -11,7 +11,7 @@ use crate::bulk;
 use crate::class_request::ClassRequest;
 use crate::medium::Medium;
 use crate::stage::{Course, Stage};
-use model_device::{Framework, Gadget, is_done_change, stall};
+use model_device::{Framework, Gadget, descriptors_of, is_done_change, stall};
 use redir_wire::{Connect, InterfaceInfo};
 use std::alloc::Global;
 use std::marker::Model;
@@ -19,12 +19,8 @@ use usb_base::{
     Bytes, EpAddr, EpTable, Memory, Outcome, Setup, Speed, StreamPacket, Transfer, UsbStatus,
 };
 
-/// The device descriptor (USB 2.0, table 9-8).
-const DEVICE: [u8; 18] = [
-    0x12, 0x01, 0x00, 0x02, 0x00, 0x00, 0x00, 0x40, // USB 2.00, no class, packets of 64 bytes
-    0xF0, 0xFF, 0x04, 0x00, 0x00, 0x01, // vendor 0xFFF0, product 4, release 1.00
-    0x00, 0x01, 0x00, 0x01, // string 1 names the product; one configuration
-];
+/// The product in its device descriptor.
+const PRODUCT: u8 = 4;
 
 /// The configuration (USB 2.0, tables 9-10, 9-12 and 9-13; Bulk-Only Transport, 4).
 const CONFIG: [u8; 32] = [
@@ -68,8 +64,9 @@ impl Disk {
         requires few { blocks ≤ 4096 }
         ensures { IfOk result (λ made. made ≡ first_disk blocks) }
     {
+        let descriptors = descriptors_of(alloc, PRODUCT, &CONFIG, &NAME)?;
         Ok(Disk {
-            framework: Framework::make(alloc, DEVICE, &CONFIG, &NAME)?,
+            framework: Framework::make(alloc, descriptors)?,
             course: Course::fresh(),
             medium: Medium::zeros(alloc, blocks)?,
         })

@@ -1,5 +1,5 @@
 -- A device that answers endpoint 0 by its descriptors, and its other endpoints in a way of its own.
-use Rattle.std.specs.Prelude.{ℕ, ◌&&◌, not, Bool, true, false, List, replicate, slice_set, Option, Some, None, if◌then◌else◌}
+use Rattle.std.specs.Prelude.{ℕ, ◌&&◌, not, Bool, true, false, List, [], ◌∷◌, replicate, slice_set, Option, Some, None, if◌then◌else◌}
 use Rattle.std.specs.Int.{w16}
 use Rattle.usb_base.specs.Endpoint.{row_of}
 use Rattle.usb_base.specs.Number.{byte_at, le_at}
@@ -43,6 +43,16 @@ abbrev pub device_parts : {X : Type 0} → Device X → List Part
 device_parts d = parts_of d.set.config
 
 -- ---- what it tells
+
+-- the device descriptor (USB 2.0, table 9-8) of the product of this number
+abbrev pub device_bytes : ℕ → List ℕ
+device_bytes product =
+    -- bLength, bDescriptorType, bcdUSB 2.00, no class, bMaxPacketSize0
+    0x12 ∷ 0x01 ∷ 0x00 ∷ 0x02 ∷ 0x00 ∷ 0x00 ∷ 0x00 ∷ 0x40 ∷
+    -- idVendor, idProduct, bcdDevice 1.00
+    0xF0 ∷ 0xFF ∷ product ∷ 0x00 ∷ 0x00 ∷ 0x01 ∷
+    -- iManufacturer, iProduct, iSerialNumber, bNumConfigurations
+    0x00 ∷ 0x01 ∷ 0x00 ∷ 0x01 ∷ []
 
 -- the fields of its device descriptor (USB 2.0, table 9-8), and its speed
 abbrev pub identity_of : Speed → DescriptorSet → Connect

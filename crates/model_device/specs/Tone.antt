@@ -4,17 +4,11 @@ use Rattle.usb_base.specs.declared.speed.Speed.TheVariants.{Full}
 use Rattle.usb_base.specs.declared.status.UsbStatus.TheVariants.{Success}
 use Rattle.chapter9.specs.declared.standard_requests.DescriptorSet.{DescriptorSet}
 use Rattle.chapter9.specs.Standard.{stall}
-use Rattle.model_device.specs.Device.{Device}
+use Rattle.model_device.specs.Device.{Device, device_bytes}
 
 abbrev pub tone_set : DescriptorSet
 tone_set = record {
-  device =
-      -- bLength, bDescriptorType, bcdUSB 2.00, no class, bMaxPacketSize0
-      0x12 ∷ 0x01 ∷ 0x00 ∷ 0x02 ∷ 0x00 ∷ 0x00 ∷ 0x00 ∷ 0x40 ∷
-      -- idVendor, idProduct, bcdDevice 1.00
-      0xF0 ∷ 0xFF ∷ 0x03 ∷ 0x00 ∷ 0x00 ∷ 0x01 ∷
-      -- iManufacturer, iProduct, iSerialNumber, bNumConfigurations
-      0x00 ∷ 0x01 ∷ 0x00 ∷ 0x01 ∷ [];
+  device = device_bytes 3;
   config =
       -- configuration 1 of 34 bytes with one interface, bus-powered, 100 mA
       0x09 ∷ 0x02 ∷ 0x22 ∷ 0x00 ∷ 0x01 ∷ 0x01 ∷ 0x00 ∷ 0x80 ∷ 0x32 ∷

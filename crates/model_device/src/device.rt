@@ -35,14 +35,8 @@ impl<F: Function> Device<F> {
     pub fn make(alloc: Global) -> Result<Device<F>, Memory>
         ensures { IfOk result (λ made. made ≡ first_state F.described) }
     {
-        let framework = Framework::make(
-            alloc,
-            F::device_descriptor(),
-            F::configuration_descriptors(),
-            F::name_descriptor(),
-        )?;
         Ok(Device {
-            framework,
+            framework: Framework::make(alloc, F::descriptors(alloc)?)?,
             function: F::first(alloc),
         })
     }

@@ -5,7 +5,7 @@ ghost use Rattle.chapter9.specs.Descriptors.{wrong_place};
 ghost use Rattle.chapter9.specs.State.{unconfigured};
 ghost use Rattle.chapter9.specs.Standard.{outcome_of, stall, state_after};
 ghost use Rattle.chapter9.specs.Table.{table_of};
-ghost use Rattle.model_device.specs.Device.{identity_of, interfaces_of, is_running, is_success};
+ghost use Rattle.model_device.specs.Device.{device_bytes, identity_of, interfaces_of, is_running, is_success};
 ghost use Rattle.model_device.specs.Inside.{HasSet};
 ghost use Rattle.model_device.specs.Transfer.{asks_change};
 
@@ -29,24 +29,12 @@ pub struct Framework {
 
 impl Framework {
     /// That of a device with these descriptors, as it is before a configuration is set.
-    pub fn make(
-        alloc: Global,
-        device: [u8; 18],
-        config: &[u8],
-        name: &[u8],
-    ) -> Result<Framework, Memory>
-        requires { wrong_place config.now ≡ None }
-        ensures set { IfOk result (HasSet (record { device = device; config = config.now; name = name.now })) }
+    pub fn make(alloc: Global, set: DescriptorSet) -> Result<Framework, Memory>
+        requires { wrong_place set.config ≡ None }
+        ensures set { IfOk result (HasSet set) }
         ensures state { IfOk result (λ made. made.state ≡ unconfigured) }
     {
-        let mut set = DescriptorSet {
-            device,
-            config: Bytes::new(alloc),
-            name: Bytes::new(alloc),
-        };
-        set.config.append(config)?;
-        set.name.append(name)?;
-        let parts = match walk(alloc, config) {
+        let parts = match walk(alloc, set.config.as_slice()) {
             Ok(parts) => parts,
             Err(WalkError::Memory(memory)) => return Err(memory),
             Err(WalkError::Bad { .. }) => unreachable!(),
@@ -119,6 +107,28 @@ impl Framework {
     {
         standard(alloc, &self.set, &self.parts, &mut self.state, transfer)
     }
+}
+
+/// The descriptors of the product of this number: its device descriptor (USB 2.0, table 9-8), which has this project's
+/// vendor, its configuration's, and its name.
+pub fn descriptors_of(
+    alloc: Global,
+    product: u8,
+    config: &[u8],
+    name: &[u8],
+) -> Result<DescriptorSet, Memory>
+    ensures { IfOk result (λ set. set ≡ record { device = device_bytes product; config = config.now; name = name.now }) }
+{
+    let device = [
+        0x12, 0x01, 0x00, 0x02, 0x00, 0x00, 0x00, 0x40, // USB 2.00, no class, packets of 64 bytes
+        0xF0, 0xFF, product, 0x00, 0x00, 0x01, // vendor 0xFFF0, the product, release 1.00
+        0x00, 0x01, 0x00, 0x01, // string 1 names the product; one configuration
+    ];
+    Ok(DescriptorSet {
+        device,
+        config: Bytes::copied(alloc, config)?,
+        name: Bytes::copied(alloc, name)?,
+    })
 }
 
 /// Whether a transfer was a change that succeeded.

@@ -6,6 +6,7 @@ ghost use Rattle.model_device.specs.Function.{IsFunction};
 ghost use Rattle.model_device.specs.Meaning.{given_in, state_in};
 ghost use Rattle.model_device.specs.Transfer.{IsTransfer};
 
+use chapter9::DescriptorSet;
 use std::alloc::Global;
 use usb_base::{EpAddr, Memory, Outcome, Speed, StreamPacket, Transfer};
 
@@ -18,17 +19,9 @@ pub trait Function: Drop {
     fn speed() -> Speed
         ensures { result ≡ described.speed };
 
-    /// The device descriptor (USB 2.0, 9.6.1).
-    fn device_descriptor() -> [u8; 18]
-        ensures { result ≡ described.set.device };
-
-    /// The configuration and all its descriptors (9.6.3).
-    fn configuration_descriptors() -> &'static [u8]
-        ensures { result.now ≡ described.set.config };
-
-    /// String descriptor 1 (9.6.7), the product's name.
-    fn name_descriptor() -> &'static [u8]
-        ensures { result.now ≡ described.set.name };
+    /// Its descriptors.
+    fn descriptors(alloc: Global) -> Result<DescriptorSet, Memory>
+        ensures { IfOk result (λ set. set ≡ described.set) };
 
     /// What it keeps as it is plugged in, and after each change that succeeds.
     fn first(alloc: Global) -> Self

@@ -5,18 +5,15 @@ ghost use Rattle.std.specs.Prelude.{◌≡◌, IfOk};
 ghost use Rattle.model_device.specs.Tone.{samples};
 
 use crate::device::Device;
-use crate::framework::stall;
+use crate::framework::{descriptors_of, stall};
 use crate::function::Function;
+use chapter9::DescriptorSet;
 use std::alloc::Global;
 use std::marker::Model;
 use usb_base::{Bytes, EpAddr, Memory, Outcome, Speed, StreamPacket, Transfer, UsbStatus};
 
-/// The device descriptor (USB 2.0, table 9-8).
-const DEVICE: [u8; 18] = [
-    0x12, 0x01, 0x00, 0x02, 0x00, 0x00, 0x00, 0x40, // USB 2.00, no class, packets of 64 bytes
-    0xF0, 0xFF, 0x03, 0x00, 0x00, 0x01, // vendor 0xFFF0, product 3, release 1.00
-    0x00, 0x01, 0x00, 0x01, // string 1 names the product; one configuration
-];
+/// The product in its device descriptor.
+const PRODUCT: u8 = 3;
 
 /// The configuration (USB 2.0, tables 9-10, 9-12 and 9-13).
 const CONFIG: [u8; 34] = [
@@ -60,16 +57,8 @@ impl Function for NextSample {
         Speed::Full
     }
 
-    fn device_descriptor() -> [u8; 18] {
-        DEVICE
-    }
-
-    fn configuration_descriptors() -> &'static [u8] {
-        &CONFIG
-    }
-
-    fn name_descriptor() -> &'static [u8] {
-        &NAME
+    fn descriptors(alloc: Global) -> Result<DescriptorSet, Memory> {
+        descriptors_of(alloc, PRODUCT, &CONFIG, &NAME)
     }
 
     fn first(_alloc: Global) -> NextSample {

@@ -69,9 +69,5 @@ pub fn end_line(begun: Result<(), Memory>, from: usize, out: &mut Bytes) -> Resu
         Ok(()) => out.push(b'\n'),
         Err(memory) => Err(memory),
     };
-    if let Err(memory) = ended {
-        out.cut(from);
-        return Err(memory);
-    }
-    Ok(())
+    out.cut_on_err(from, ended)
 }

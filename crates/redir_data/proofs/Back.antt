@@ -1,7 +1,7 @@
 -- What was read is what is written.
 use Rattle.std.proofs.Common.{◌≡◌, ℕ, ◌≤◌, Bool, true, false, List, ◌++◌, take, refl, sym, ap, subst, ◌∙◌}
-use Rattle.std.specs.Prelude.{not, ◌&&◌, ◌==◌}
-use Rattle.std.proofs.lemmas.Bool.{leb-true}
+use Rattle.std.specs.Prelude.{not, ◌==◌}
+use Rattle.std.proofs.lemmas.Bool.{and_parts, leb-true, not-true}
 use Rattle.usb_base.specs.Number.{AreBytes}
 use Rattle.packet_stream.specs.Format.{Whole, reading}
 use Rattle.packet_stream.proofs.Formats.{read_whole}
@@ -28,21 +28,13 @@ use Rattle.redir_data.specs.sound.Joined.{redir_sound}
 
 -- ---- who comes first
 
-not_so : (t : Bool) → not t ≡ true → t ≡ false
-not_so true e = absurd cc
-not_so false e = refl
-
 first_is : (first : Bool) (n : ℕ) → is_in_turn first n ≡ true → first ≡ (n == 0)
 first_is true n e = sym e
-first_is false n e = sym (not_so (n == 0) e)
+first_is false n e = sym (not-true (n == 0) e)
 
 no_hello : (k : DataKind) → ((data_row k).number == 0) ≡ false
 no_hello Control = refl
 no_hello k = refl
-
-right_of : (t u : Bool) → (t && u) ≡ true → u ≡ true
-right_of true u e = e
-right_of false u e = absurd cc
 
 -- ---- data
 
@@ -74,7 +66,7 @@ control_back first caps way bytes h p n are e =
     let size : h.length ≡ wire.length_of caps p = is.length_is ∙ wire_lengths.length_fields caps p is.fits.ranges in
     let turn : first ≡ wire.is_hello p = first_is first h.kind is.header.in_turn ∙ ap (λ (x : ℕ). x == 0) is.kind in
     let head : h ≡ wire.header_of h.id caps p = λ i. record { kind = is.kind i; length = size i; id = h.id } in
-    let says_so : row_says (has_wanted caps) h.kind ≡ true = right_of (not (is_left_out h.kind)) (row_says (has_wanted caps) h.kind) is.header.agreed in
+    let says_so : row_says (has_wanted caps) h.kind ≡ true = (and_parts (not (is_left_out h.kind)) (row_says (has_wanted caps) h.kind) is.header.agreed).1 in
     let agreed = sym (says (has_wanted caps) (PlainKind (wire.kind_of p))) ∙ ap (row_says (has_wanted caps)) (sym is.kind) ∙ says_so in (
       record { agreed = agreed; id_fits = subst (λ (x : Bool). IdFits (is_wide x caps) h.id) turn is.header.id_fits; writable = is.fits.writable },
       whole.spelled ∙ (λ i. head_bytes (is_wide (turn i) caps) (head i) ++ wire.fields caps p),

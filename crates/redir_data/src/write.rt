@@ -1,6 +1,6 @@
 //! Writes packets that move data.
 
-ghost use Rattle.std.specs.Prelude.{◌≡◌, ◌++◌, ◌≤◌, false, length, take, OnOk, OnErr};
+ghost use Rattle.std.specs.Prelude.{◌≡◌, ◌++◌, ◌≤◌, false, length, OnOk, OnErr};
 ghost use Rattle.packet_stream.specs.Writes.{AppendsSome};
 ghost use Rattle.redir_wire.specs.Header.{is_wide, head_bytes, IdFits};
 ghost use Rattle.redir_data.specs.Spelling.{size_of, header_of, fixed_fields};
@@ -29,7 +29,7 @@ pub fn write_data(
     prove!(agrees);
     let before = out.len();
     let pushed = push_data(packet, id, caps, out);
-    all_or_none(pushed, before, out)
+    out.cut_on_err(before, pushed)
 }
 
 /// As `write_data`, of a packet whose data are moved: long ones are not copied where `out` has little else.
@@ -48,20 +48,7 @@ pub fn move_data(
     prove!(agrees);
     let before = out.len();
     let pushed = push_moved(packet, id, caps, out);
-    all_or_none(pushed, before, out)
-}
-
-// For want of memory, what was begun of a packet goes again.
-fn all_or_none(pushed: Result<(), Memory>, before: usize, out: &mut Bytes) -> Result<(), Memory>
-    requires { before ≤ length out.old }
-    ensures result { result ≡ pushed }
-    ensures ok { OnOk result (out.new ≡ out.old) }
-    ensures err { OnErr result (out.new ≡ take before out.old) }
-{
-    if pushed.is_err() {
-        out.cut(before);
-    }
-    pushed
+    out.cut_on_err(before, pushed)
 }
 
 /// Appends an isochronous packet to the device, whose data are lent, with this id. For want of memory `out` stands.
@@ -79,7 +66,7 @@ pub fn write_iso_out(
 {
     let before = out.len();
     let pushed = push_iso_out(endpoint, body, id, caps, out);
-    all_or_none(pushed, before, out)
+    out.cut_on_err(before, pushed)
 }
 
 fn push_iso_out(

@@ -1,11 +1,11 @@
 //! A usbredir host over a stream of bytes each way: what its guest sends comes in pieces.
 
-ghost use Rattle.std.specs.Prelude.{◌≡◌, ◌++◌, [], List, not, IfOk, OnOk, OnErr, IsErr};
-ghost use Rattle.redir_host.specs.step.Acts.{Act, Piece, Perform, Offer, Unplug};
+ghost use Rattle.std.specs.Prelude.{◌≡◌, ◌++◌, [], not, IfOk, OnOk, OnErr, IsErr};
+ghost use Rattle.redir_host.specs.step.Acts.{Piece, Perform, Offer, Unplug};
 ghost use Rattle.redir_host.specs.device.Offering.{told_offered};
-ghost use Rattle.redir_host.specs.write.Output.{host_of, host_out};
+ghost use Rattle.redir_host.specs.write.Output.{host_out};
 ghost use Rattle.redir_host.specs.device.Performing.{told_performed};
-ghost use Rattle.redir_host.specs.step.Stands.{DoesAct, HasFailed, Stands, Stops, TakesAct};
+ghost use Rattle.redir_host.specs.step.Stands.{Does, HasFailed, Stands, StopsIn, TakesPiece, TellsOf};
 
 use crate::hello::write_hello;
 use crate::kept::Kept;
@@ -51,98 +51,60 @@ impl<G: Gadget> HostCore<G> {
     /// place is told once, and what comes behind it is dropped. For want of memory the packets before the one that met
     /// it are taken, and that one has sent nothing.
     pub fn take(&mut self, bytes: &[u8], out: &mut Bytes) -> Result<HostNotes, Memory>
-        ensures takes { IfOk result (λ notes. (first : G) (past : List Act) → Stands G.meaning first self.old past
-            → TakesAct G.meaning first self.new past (Piece bytes.now) out.old out.new [] notes) }
-        ensures stops { OnErr result ((first : G) (past : List Act) → Stands G.meaning first self.old past
-            → Stops G.meaning first past (Piece bytes.now) out.old out.new) }
+        ensures takes { IfOk result (TakesPiece G.meaning bytes.now self.old self.new out.old out.new []) }
+        ensures stops { OnErr result (StopsIn G.meaning (Piece bytes.now) self.old out.old out.new) }
         ensures fails { OnErr result (HasFailed self.new) }
         ensures failed { HasFailed self.old → IsErr result × (self.new ≡ self.old) × (out.new ≡ out.old) }
     {
-        if let Some(memory) = self.kept.want {
-            return Err(memory);
-        }
+        self.kept.works()?;
         let mut notes = HostNotes::new(self.kept.alloc);
-        match self.kept.take(bytes, out, &mut notes) {
-            Ok(()) => Ok(notes),
-            Err(memory) => {
-                self.kept.want = Some(memory);
-                Err(memory)
-            }
-        }
+        let taken = self.kept.take(bytes, out, &mut notes);
+        self.kept.fail_on_err(taken)?;
+        Ok(notes)
     }
 
     /// Performs the first request of an endpoint, where the device is ready for it, and answers it. For want of memory,
     /// which only a request that is performed takes, `out` stands.
     pub fn perform(&mut self, ep: EpAddr, out: &mut Bytes) -> Result<Performed, Memory>
-        ensures told { IfOk result (λ told. (first : G) (past : List Act) → Stands G.meaning first self.old past
-            → told ≡ told_performed G.meaning (host_of G.meaning first past) ep) }
-        ensures does { OnOk result ((first : G) (past : List Act) → Stands G.meaning first self.old past
-            → DoesAct G.meaning first self.new past (Perform ep) out.old out.new) }
-        ensures stops { OnErr result ((first : G) (past : List Act) → Stands G.meaning first self.old past
-            → Stops G.meaning first past (Perform ep) out.old out.new) }
+        ensures told { IfOk result (TellsOf G.meaning self.old (λ host. told_performed G.meaning host ep)) }
+        ensures does { OnOk result (Does G.meaning (Perform ep) self.old self.new out.old out.new) }
+        ensures stops { OnErr result (StopsIn G.meaning (Perform ep) self.old out.old out.new) }
         ensures err { OnErr result (out.new ≡ out.old) }
         ensures fails { OnErr result (HasFailed self.new) }
         ensures failed { HasFailed self.old → IsErr result × (self.new ≡ self.old) }
     {
-        if let Some(memory) = self.kept.want {
-            return Err(memory);
-        }
-        match self.kept.perform(ep, out) {
-            Ok(told) => Ok(told),
-            Err(memory) => {
-                self.kept.want = Some(memory);
-                Err(memory)
-            }
-        }
+        self.kept.works()?;
+        let told = self.kept.perform(ep, out);
+        self.kept.fail_on_err(told)
     }
 
     /// Offers the guest what the device has for an endpoint whose stream runs. For want of memory, which only a packet
     /// takes, `out` stands.
     pub fn offer(&mut self, ep: EpAddr, out: &mut Bytes) -> Result<Offered, Memory>
-        ensures told { IfOk result (λ told. (first : G) (past : List Act) → Stands G.meaning first self.old past
-            → told ≡ told_offered G.meaning (host_of G.meaning first past) ep) }
-        ensures does { OnOk result ((first : G) (past : List Act) → Stands G.meaning first self.old past
-            → DoesAct G.meaning first self.new past (Offer ep) out.old out.new) }
-        ensures stops { OnErr result ((first : G) (past : List Act) → Stands G.meaning first self.old past
-            → Stops G.meaning first past (Offer ep) out.old out.new) }
+        ensures told { IfOk result (TellsOf G.meaning self.old (λ host. told_offered G.meaning host ep)) }
+        ensures does { OnOk result (Does G.meaning (Offer ep) self.old self.new out.old out.new) }
+        ensures stops { OnErr result (StopsIn G.meaning (Offer ep) self.old out.old out.new) }
         ensures err { OnErr result (out.new ≡ out.old) }
         ensures fails { OnErr result (HasFailed self.new) }
         ensures failed { HasFailed self.old → IsErr result × (self.new ≡ self.old) }
     {
-        if let Some(memory) = self.kept.want {
-            return Err(memory);
-        }
-        match self.kept.offer(ep, out) {
-            Ok(told) => Ok(told),
-            Err(memory) => {
-                self.kept.want = Some(memory);
-                Err(memory)
-            }
-        }
+        self.kept.works()?;
+        let told = self.kept.offer(ep, out);
+        self.kept.fail_on_err(told)
     }
 
     /// Takes the device away, and tells so where the guest has sent its hello; false where it was taken away before.
     /// For want of memory, which only that packet takes, `out` stands.
     pub fn unplug(&mut self, out: &mut Bytes) -> Result<bool, Memory>
-        ensures told { IfOk result (λ told. (first : G) (past : List Act) → Stands G.meaning first self.old past
-            → told ≡ not (host_of G.meaning first past).unplugged) }
-        ensures does { OnOk result ((first : G) (past : List Act) → Stands G.meaning first self.old past
-            → DoesAct G.meaning first self.new past Unplug out.old out.new) }
-        ensures stops { OnErr result ((first : G) (past : List Act) → Stands G.meaning first self.old past
-            → Stops G.meaning first past Unplug out.old out.new) }
+        ensures told { IfOk result (TellsOf G.meaning self.old (λ host. not host.unplugged)) }
+        ensures does { OnOk result (Does G.meaning Unplug self.old self.new out.old out.new) }
+        ensures stops { OnErr result (StopsIn G.meaning Unplug self.old out.old out.new) }
         ensures err { OnErr result (out.new ≡ out.old) }
         ensures fails { OnErr result (HasFailed self.new) }
         ensures failed { HasFailed self.old → IsErr result × (self.new ≡ self.old) }
     {
-        if let Some(memory) = self.kept.want {
-            return Err(memory);
-        }
-        match self.kept.unplug(out) {
-            Ok(told) => Ok(told),
-            Err(memory) => {
-                self.kept.want = Some(memory);
-                Err(memory)
-            }
-        }
+        self.kept.works()?;
+        let told = self.kept.unplug(out);
+        self.kept.fail_on_err(told)
     }
 }

@@ -1,17 +1,16 @@
 //! What a host core keeps, and how acts change it.
 
-ghost use Rattle.std.specs.Prelude.{◌≡◌, [], List, not, IfOk, OnOk, OnErr};
+ghost use Rattle.std.specs.Prelude.{◌≡◌, [], false, not, IfOk, OnOk, OnErr};
 ghost use Rattle.packet_stream.specs.Loops.{TakesPackets};
-ghost use Rattle.redir_host.specs.step.Acts.{Act, Piece, Perform, Offer, Unplug};
+ghost use Rattle.redir_host.specs.step.Acts.{Piece, Perform, Offer, Unplug};
 ghost use Rattle.redir_host.specs.guest.Guest.{guest_reader};
 ghost use Rattle.redir_host.specs.step.Makes.{IsTaken, Takes};
 ghost use Rattle.redir_host.specs.device.Offering.{told_offered};
-ghost use Rattle.redir_host.specs.write.Output.{host_of};
 ghost use Rattle.redir_host.specs.guest.Packets.{packet_move};
 ghost use Rattle.redir_host.specs.device.Performing.{told_performed};
 ghost use Rattle.redir_host.specs.write.Readable.{TakesInRange};
 ghost use Rattle.redir_host.specs.state.Sound.{IsSound};
-ghost use Rattle.redir_host.specs.step.Stands.{DoesAct, HasPast, Stands, Stops, TakesAct};
+ghost use Rattle.redir_host.specs.step.Stands.{Does, HasFailed, HasPast, Stands, StopsIn, TakesPiece, TellsOf};
 ghost use Rattle.redir_host.specs.guest.Takings.{HasRead, LeavesWanted, TookPackets};
 ghost use Rattle.redir_host.specs.step.Wants.{GivesSome};
 ghost use Rattle.redir_host.specs.inner.Views.{kept_of};
@@ -33,6 +32,31 @@ pub struct Kept<G> {
     pub host: Host<G>,
     /// What was told as memory ran out in an earlier call.
     pub want: Option<Memory>,
+}
+
+impl<G> Kept<G> {
+    /// Whether it works: once memory has run out in a call, it doesn't any more.
+    pub fn works(&self) -> Result<(), Memory>
+        ensures ok { OnOk result ((kept_of self.now).failed ≡ false) }
+        ensures err { OnErr result (HasFailed (kept_of self.now)) }
+    {
+        match self.want {
+            Some(memory) => Err(memory),
+            None => Ok(()),
+        }
+    }
+
+    /// After a call: where that gave an error, it works no more.
+    pub fn fail_on_err<T>(&mut self, given: Result<T, Memory>) -> Result<T, Memory>
+        ensures same { result ≡ given }
+        ensures ok { OnOk given (self.new ≡ self.old) }
+        ensures err { OnErr given (HasFailed (kept_of self.new)) }
+    {
+        if let Err(memory) = &given {
+            self.want = Some(*memory);
+        }
+        given
+    }
 }
 
 impl<G: Gadget> Kept<G> {
@@ -57,10 +81,8 @@ impl<G: Gadget> Kept<G> {
         notes: &mut HostNotes,
     ) -> Result<(), Memory>
         requires { HasPast G.meaning (kept_of self.old) }
-        ensures ok { OnOk result ((first : G) (acts : List Act) → Stands G.meaning first (kept_of self.old) acts
-            → TakesAct G.meaning first (kept_of self.new) acts (Piece piece.now) out.old out.new notes.old notes.new) }
-        ensures err { OnErr result ((first : G) (acts : List Act) → Stands G.meaning first (kept_of self.old) acts
-            → Stops G.meaning first acts (Piece piece.now) out.old out.new) }
+        ensures ok { OnOk result (TakesPiece G.meaning piece.now (kept_of self.old) (kept_of self.new) out.old out.new notes.old notes.new) }
+        ensures err { OnErr result (StopsIn G.meaning (Piece piece.now) (kept_of self.old) out.old out.new) }
     {
         if self.stream.is_over() {
             return Ok(());
@@ -79,33 +101,22 @@ impl<G: Gadget> Kept<G> {
     /// Performs the first request of an endpoint. For want of memory `out` stands.
     pub fn perform(&mut self, ep: EpAddr, out: &mut Bytes) -> Result<Performed, Memory>
         requires { HasPast G.meaning (kept_of self.old) }
-        ensures told { IfOk result (λ told. (first : G) (acts : List Act) → Stands G.meaning first (kept_of self.old) acts
-            → told ≡ told_performed G.meaning (host_of G.meaning first acts) ep) }
-        ensures does { OnOk result ((first : G) (acts : List Act) → Stands G.meaning first (kept_of self.old) acts
-            → DoesAct G.meaning first (kept_of self.new) acts (Perform ep) out.old out.new) }
-        ensures stops { OnErr result ((first : G) (acts : List Act) → Stands G.meaning first (kept_of self.old) acts
-            → Stops G.meaning first acts (Perform ep) out.old out.new) }
+        ensures told { IfOk result (TellsOf G.meaning (kept_of self.old) (λ host. told_performed G.meaning host ep)) }
+        ensures does { OnOk result (Does G.meaning (Perform ep) (kept_of self.old) (kept_of self.new) out.old out.new) }
+        ensures stops { OnErr result (StopsIn G.meaning (Perform ep) (kept_of self.old) out.old out.new) }
         ensures err { OnErr result (out.new ≡ out.old) }
     {
         let before = out.len();
-        match self.host.perform(self.alloc, ep, out) {
-            Ok(told) => Ok(told),
-            Err(memory) => {
-                out.cut(before);
-                Err(memory)
-            }
-        }
+        let performed = self.host.perform(self.alloc, ep, out);
+        out.cut_on_err(before, performed)
     }
 
     /// Offers the guest what the device has for an endpoint. For want of memory `out` stands.
     pub fn offer(&mut self, ep: EpAddr, out: &mut Bytes) -> Result<Offered, Memory>
         requires { HasPast G.meaning (kept_of self.old) }
-        ensures told { IfOk result (λ told. (first : G) (acts : List Act) → Stands G.meaning first (kept_of self.old) acts
-            → told ≡ told_offered G.meaning (host_of G.meaning first acts) ep) }
-        ensures does { OnOk result ((first : G) (acts : List Act) → Stands G.meaning first (kept_of self.old) acts
-            → DoesAct G.meaning first (kept_of self.new) acts (Offer ep) out.old out.new) }
-        ensures stops { OnErr result ((first : G) (acts : List Act) → Stands G.meaning first (kept_of self.old) acts
-            → Stops G.meaning first acts (Offer ep) out.old out.new) }
+        ensures told { IfOk result (TellsOf G.meaning (kept_of self.old) (λ host. told_offered G.meaning host ep)) }
+        ensures does { OnOk result (Does G.meaning (Offer ep) (kept_of self.old) (kept_of self.new) out.old out.new) }
+        ensures stops { OnErr result (StopsIn G.meaning (Offer ep) (kept_of self.old) out.old out.new) }
         ensures err { OnErr result (out.new ≡ out.old) }
     {
         self.host.offer(self.alloc, ep, out)
@@ -115,10 +126,8 @@ impl<G: Gadget> Kept<G> {
     pub fn unplug(&mut self, out: &mut Bytes) -> Result<bool, Memory>
         requires { HasPast G.meaning (kept_of self.old) }
         ensures told { IfOk result (λ told. told ≡ not self.old.host.unplugged) }
-        ensures does { OnOk result ((first : G) (acts : List Act) → Stands G.meaning first (kept_of self.old) acts
-            → DoesAct G.meaning first (kept_of self.new) acts Unplug out.old out.new) }
-        ensures stops { OnErr result ((first : G) (acts : List Act) → Stands G.meaning first (kept_of self.old) acts
-            → Stops G.meaning first acts Unplug out.old out.new) }
+        ensures does { OnOk result (Does G.meaning Unplug (kept_of self.old) (kept_of self.new) out.old out.new) }
+        ensures stops { OnErr result (StopsIn G.meaning Unplug (kept_of self.old) out.old out.new) }
         ensures err { OnErr result (out.new ≡ out.old) }
     {
         self.host.unplug(out)
@@ -161,11 +170,6 @@ fn take_packet<G: Gadget>(
     ensures err { OnErr result (out.new ≡ out.old) }
 {
     let before = out.len();
-    match host.take(alloc, header, packet, out, notes) {
-        Ok(()) => Ok(()),
-        Err(memory) => {
-            out.cut(before);
-            Err(memory)
-        }
-    }
+    let taken = host.take(alloc, header, packet, out, notes);
+    out.cut_on_err(before, taken)
 }

@@ -16,7 +16,8 @@ ghost use Rattle.redir_host.specs.guest.Asking.{routed};
 ghost use Rattle.redir_host.specs.device.Performing.{does, done_by, performed, performs, performs_marked, perform_move, resets, told_performed, with_id};
 ghost use Rattle.redir_host.specs.device.Resets.{PerformsNow, ResetsTo};
 ghost use Rattle.redir_host.specs.write.Readable.{InRange};
-ghost use Rattle.redir_host.specs.state.Queues.{is_at, without_first};
+ghost use Rattle.usb_base.specs.Firsts.{without_first};
+ghost use Rattle.redir_host.specs.state.Queues.{is_at};
 ghost use Rattle.redir_host.specs.state.Sound.{Each, IsRequest, IsSound};
 
 use crate::answer::{write_answer, write_flushed};

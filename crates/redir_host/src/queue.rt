@@ -3,7 +3,8 @@
 ghost use Rattle.std.specs.Prelude.{◌≡◌, [], ◌∷◌, ◌++◌, filter, IsSome, Some, OnOk, option_copied};
 ghost use Rattle.std.specs.List.{find};
 ghost use Rattle.redir_host.specs.device.Changes.{stays};
-ghost use Rattle.redir_host.specs.state.Queues.{is_at, is_cancelled_by, is_data, queue_of, without_first};
+ghost use Rattle.usb_base.specs.Firsts.{without_first};
+ghost use Rattle.redir_host.specs.state.Queues.{is_at, is_cancelled_by, is_data, queue_of};
 ghost use Rattle.redir_host.specs.guest.Cancels.{Cancels};
 
 use crate::change::is_control;

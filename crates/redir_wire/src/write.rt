@@ -1,8 +1,6 @@
 //! Writes packets that move no data.
 
 ghost use Rattle.std.specs.Prelude.{◌≡◌, ◌++◌, OnOk, OnErr};
-ghost use Rattle.std.specs.Int.{w64};
-ghost use Rattle.usb_base.specs.Number.{le};
 ghost use Rattle.packet_stream.specs.Writes.{AppendsSome};
 ghost use Rattle.redir_wire.specs.Header.{head_bytes, id_bytes, IdFits};
 ghost use Rattle.redir_wire.specs.Written.{CanWrite, packet_bytes};
@@ -10,7 +8,7 @@ ghost use Rattle.redir_wire.specs.Written.{CanWrite, packet_bytes};
 use crate::field::Wire;
 use crate::header::is_wide;
 use crate::packet::{Caps, Header, RedirControl};
-use usb_base::{Bytes, Memory, push_le_u32};
+use usb_base::{Bytes, Memory, push_le_u32, push_le_u64};
 
 /// Appends a packet with this id, in its form with these capabilities. For want of memory `out` stands.
 pub fn write_control(
@@ -24,13 +22,8 @@ pub fn write_control(
     ensures err { OnErr result (out.new ≡ out.old) }
 {
     let before = out.len();
-    match push_control(packet, id, caps, out) {
-        Ok(()) => Ok(()),
-        Err(memory) => {
-            out.cut(before);
-            Err(memory)
-        }
-    }
+    let pushed = push_control(packet, id, caps, out);
+    out.cut_on_err(before, pushed)
 }
 
 fn push_control(packet: &RedirControl, id: u64, caps: Caps, out: &mut Bytes) -> Result<(), Memory>
@@ -66,12 +59,4 @@ fn push_id(wide: bool, id: u64, out: &mut Bytes) -> Result<(), Memory>
     } else {
         push_le_u32(out, id as u32)
     }
-}
-
-#[tactic(auto, unfolding(usb_base::specs::Number::le))]
-fn push_le_u64(out: &mut Bytes, n: u64) -> Result<(), Memory>
-    ensures ok { OnOk result (out.new ≡ out.old ++ le w64 n) }
-    ensures err { OnErr result (out.new ≡ out.old) }
-{
-    out.append(&n.to_le_bytes())
 }

@@ -18,7 +18,7 @@ use Rattle.redir_host.specs.declared.request.Asking.TheVariants.{Nothing, Refuse
 use Rattle.redir_host.specs.declared.request.Form.{Form}
 use Rattle.redir_host.specs.declared.request.Form.TheVariants as form
 use Rattle.redir_host.specs.guest.Asking.{asking_of, asked_if, routed}
-use Rattle.redir_host.specs.guest.Line.{Waits, data_line}
+use Rattle.redir_host.specs.guest.Line.{Waits, asked_line}
 use Rattle.redir_host.specs.step.Moves.{quiet as host_quiet}
 use Rattle.redir_host.specs.guest.Packets.{packet_move_by, data_move, joins, queued, request}
 use Rattle.redir_host.specs.state.Queues.{is_first_queue}
@@ -38,7 +38,7 @@ form_changes (form.SetAlt i a) = true
 form_changes _ = false
 
 pub data Heard {S : Type 0} (m : Meaning S) (h : Host S) (p : ℕ × RedirPacket) : Type 0 where
-  Joins : (f : Form) (t : Transfer) → in_line p ≡ Waits p.0 f t ∷ [] → begins p.1 ≡ true → IsQuiet p → ((fence : Option ℕ) → asks fence p ≡ form_changes f) → packet_move_by m h p.0 p.1 ≡ joins h p.0 f t → Heard m h p
+  Joins : (f : Form) (t : Transfer) → in_line p ≡ Waits 0 p.0 f t ∷ [] → begins p.1 ≡ true → IsQuiet p → ((fence : Option ℕ) → asks fence p ≡ form_changes f) → packet_move_by m h p.0 p.1 ≡ joins h p.0 f t → Heard m h p
   Resetting : p.1 ≡ Plain plain.Reset → Heard m h p
   Cancelling : p.1 ≡ Plain plain.Cancel → Heard m h p
   Calling : is_some (called_endpoint p.1) ≡ true → Heard m h p
@@ -82,9 +82,9 @@ heard m h (id, Plain plain.DisconnectAck) k = Ignored refl refl (refl, refl, λ 
 heard m h (id, Carrying d) k = go (asking_of d) refl k
   where
     go : (a : Asking) → asking_of d ≡ a → CanAsk a → Heard m h (id, Carrying d)
-    go Nothing e z = Ignored (ap (data_line [] id) e) (ap is_request e) (refl, refl, λ ep b. refl) (λ fence. refl) (ap (data_move h id) e)
+    go Nothing e z = Ignored (ap (asked_line 0 id) e) (ap is_request e) (refl, refl, λ ep b. refl) (λ fence. refl) (ap (data_move h id) e)
     go (Refuses f ep) e z = absurd z
-    go (Asks f t) e z = Joins f t (ap (data_line [] id) e) (ap is_request e) (refl, refl, λ ep b. refl) (λ fence. sym (data-form d f t e)) (ap (data_move h id) e)
+    go (Asks f t) e z = Joins f t (ap (asked_line 0 id) e) (ap is_request e) (refl, refl, λ ep b. refl) (λ fence. sym (data-form d f t e)) (ap (data_move h id) e)
 
 -- its packet isn't the hello
 pub not-greeting : (s : RedirState) (p : RedirPacket) → IsAsking p → advanced s p ≡ s

@@ -1,5 +1,7 @@
 -- The host reads what leaves its queue alone: half a reset, and what it does nothing about.
 use Rattle.std.proofs.Common.{◌≡◌, ℕ, ◌||◌, Bool, true, false, List, [], ◌∷◌, ◌++◌, Option, None, refl, sym, ap, ◌∙◌, subst, append-nil}
+use Rattle.std.proofs.lemmas.Bool.{or_right}
+use Rattle.std.proofs.Math.Bool.{or-false}
 use Rattle.redir_wire.specs.declared.packet.RedirControl.TheVariants as plain
 use Rattle.redir_data.specs.declared.packet.RedirPacket.{RedirPacket}
 use Rattle.redir_data.specs.declared.packet.RedirPacket.TheVariants.{Plain}
@@ -18,7 +20,7 @@ use Rattle.direct_proof.specs.Running.{Quits, Trails, StartsFit, started_kind, c
 use Rattle.direct_proof.specs.Kinds.{StartOfKind, CallIsIn}
 use Rattle.direct_proof.specs.Session.{down_in, runs}
 use Rattle.direct_proof.specs.Calls.{Fenced, Controls}
-use Rattle.direct_proof.proofs.shared.Folds.{clash, or-right, or-false, no-second}
+use Rattle.direct_proof.proofs.shared.Folds.{clash, no-second}
 use Rattle.direct_proof.proofs.shared.Streaming.{IsQuiet, controls-heard, fenced-heard}
 use Rattle.direct_proof.proofs.heard.Listening.{host-reads, read_world}
 use Rattle.direct_proof.proofs.shared.Keeps.{Keeps, keeps-quiet}
@@ -108,7 +110,7 @@ keep-reset {S = S} m w j id ps rel wire first = go w.host.unplugged refl
     coming = ap (λ (b : Bool). half_line b ++ Reset ∷ lines ps) (sym (none j.half refl)) ∙ whole
 
     changed : ((any_change j.held || j.half) || true) ≡ (any_change j.held || true)
-    changed = or-right (any_change j.held || j.half) true refl ∙ sym (or-right (any_change j.held) true refl)
+    changed = or_right (any_change j.held || j.half) true refl ∙ sym (or_right (any_change j.held) true refl)
 
     go : (b : Bool) → w.host.unplugged ≡ b → Keeps m w j (move m w HostReads)
     go true off = keeps-quiet m w j (record j { half = true }) (move m w HostReads) (read_world w ps w.host.queue w.host.resets_next)

@@ -1,5 +1,6 @@
 -- The host reads what asks it for a transfer, or the reset before it: it joins its queue as it stands there.
 use Rattle.std.proofs.Common.{◌≡◌, ℕ, ◌||◌, Bool, true, false, cond, List, [], ◌∷◌, ◌++◌, map, Option, None, refl, sym, ap, ◌∙◌, subst, append-nil, append_assoc}
+use Rattle.std.proofs.lemmas.List.Folds.{list_any-append}
 use Rattle.usb_base.specs.declared.transfer.Transfer.{Transfer}
 use Rattle.redir_data.specs.declared.packet.RedirPacket.{RedirPacket}
 use Rattle.redir_data.specs.Streams.{advanced}
@@ -26,7 +27,7 @@ use Rattle.direct_proof.specs.Running.{Quits, Trails, StartsFit, started_kind, c
 use Rattle.direct_proof.specs.Kinds.{StartOfKind, CallIsIn}
 use Rattle.direct_proof.specs.Session.{down_in, runs}
 use Rattle.direct_proof.specs.Calls.{Fenced, Controls}
-use Rattle.direct_proof.proofs.shared.Folds.{clash, any-append, Next, next-line}
+use Rattle.direct_proof.proofs.shared.Folds.{clash, Next, next-line}
 use Rattle.direct_proof.proofs.shared.Streaming.{IsQuiet, controls-heard, fenced-heard}
 use Rattle.direct_proof.proofs.heard.Hears.{not-greeting, form_changes, change-form, joined}
 use Rattle.direct_proof.proofs.shared.Traces.{map-append}
@@ -128,10 +129,10 @@ after-joined {S = S} m w j p ps f t queue next rel wire first begin calm asked n
     is-change = (λ i. sym n.reset i || (asked None ∙ ap form_changes n.same_form) i) ∙ sym (change-form n.entry.load.request n.entry.load.verdict)
 
     changed : ((any_change j.held || j.half) || asks None p) ≡ (any_change (j.held ++ n.entry ∷ []) || false)
-    changed = sums (any_change j.held) j.half (asks None p) ∙ (λ i. (any_change j.held || (is-change i || false)) || false) ∙ ap (λ (b : Bool). b || false) (sym (any-append is_change j.held (n.entry ∷ [])))
+    changed = sums (any_change j.held) j.half (asks None p) ∙ (λ i. (any_change j.held || (is-change i || false)) || false) ∙ ap (λ (b : Bool). b || false) (sym (list_any-append is_change j.held (n.entry ∷ [])))
 
 pub keep-joined : {S : Type 0} (m : Meaning S) (w : World S) (j : Shared) (p : ℕ × RedirPacket) (ps : List (ℕ × RedirPacket)) (f : Form) (t : Transfer) → Related m w j → w.to_host ≡ p ∷ ps → IsAsking p.1 → w.host.guest.first ≡ false →
-    in_line p ≡ Waits p.0 f t ∷ [] → begins p.1 ≡ true → IsQuiet p → ((fence : Option ℕ) → asks fence p ≡ form_changes f) → packet_move_by m w.host p.0 p.1 ≡ joins w.host p.0 f t → Keeps m w j (move m w HostReads)
+    in_line p ≡ Waits 0 p.0 f t ∷ [] → begins p.1 ≡ true → IsQuiet p → ((fence : Option ℕ) → asks fence p ≡ form_changes f) → packet_move_by m w.host p.0 p.1 ≡ joins w.host p.0 f t → Keeps m w j (move m w HostReads)
 keep-joined {S = S} m w j p ps f t rel wire k first line begin calm asked host = go w.host.unplugged refl
   where
     n : Next j.half p.0 f t (lines ps) j.coming

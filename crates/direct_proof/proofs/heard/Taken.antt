@@ -1,6 +1,7 @@
 -- The request that a cancel takes off the queue, at the host and at the device attached directly.
 use Rattle.std.proofs.Common.{◌≡◌, ℕ, ◌==◌, ◌&&◌, not, Bool, true, false, cond, List, [], ◌∷◌, ◌++◌, map, Some, None, refl, sym, ap, ◌∙◌, arith, inl, inr, ◌⊎◌}
 use Rattle.std.specs.List.{find, list_any}
+use Rattle.std.proofs.lemmas.Bool.{and_parts}
 use Rattle.usb_base.specs.declared.transfer.Outcome.{Outcome}
 use Rattle.control_route.specs.declared.route.Route.TheVariants as route
 use Rattle.model_device.specs.Meaning.{Meaning}
@@ -18,7 +19,7 @@ use Rattle.direct_proof.specs.Loads.{IsLoad, FitsVerdict}
 use Rattle.direct_proof.specs.Ids.{count}
 use Rattle.direct_proof.proofs.lists.Counts.{zero-count, itself}
 use Rattle.direct_proof.proofs.shared.Owed.{count-middle}
-use Rattle.direct_proof.proofs.shared.Folds.{not-both, both-parts}
+use Rattle.direct_proof.proofs.shared.Folds.{not-both}
 use Rattle.direct_proof.proofs.shared.Ran.{Held}
 
 data-wire : (r : Request) (v : Verdict) → FitsVerdict v r.transfer → is_data (form_by r v) ≡ is_wire v
@@ -72,7 +73,7 @@ taken id (e ∷ es) h = go (is_taken_by id (at_queue e)) refl (taken id es h.1)
 
     go : (b : Bool) → is_taken_by id (at_queue e) ≡ b → (find (is_taken_by id) qs ≡ None) ⊎ Taken id es → (find (is_taken_by id) (at_queue e ∷ qs) ≡ None) ⊎ Taken id (e ∷ es)
     go true i rest =
-        let parts = both-parts (is_data (form_of e.load)) (e.id == id) i in
+        let parts = and_parts (is_data (form_of e.load)) (e.id == id) i in
         let wire : is_wire e.load.verdict ≡ true = sym (data-wire e.load.request e.load.verdict h.0.verdict) ∙ parts.0 in
         let reset = (wire-resets e.load.verdict wire).0 in
         inr (record {

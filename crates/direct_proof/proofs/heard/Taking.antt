@@ -1,6 +1,7 @@
 -- A cancel that the host reads: it takes its request off the queue, or comes too late.
 use Rattle.std.proofs.Common.{◌≡◌, ℕ, ◌==◌, ◌||◌, ◌&&◌, Bool, true, false, cond, List, [], ◌∷◌, ◌++◌, map, Some, None, refl, sym, ap, ◌∙◌, subst, arith, append-nil, inl, inr, ◌⊎◌}
 use Rattle.std.specs.List.{find}
+use Rattle.std.proofs.Math.Bool.{or-false}
 use Rattle.usb_base.specs.declared.transfer.Outcome.{Outcome}
 use Rattle.usb_base.specs.declared.status.UsbStatus.TheVariants.{Cancelled}
 use Rattle.redir_wire.specs.declared.packet.RedirControl.TheVariants as plain
@@ -31,7 +32,7 @@ use Rattle.direct_proof.specs.Cancels.{IsAsked, CancelsFit, any_change}
 use Rattle.direct_proof.proofs.lists.Counts.{Each-front, itself}
 use Rattle.direct_proof.proofs.shared.Owed.{each-parts}
 use Rattle.direct_proof.proofs.shared.WireBack.{way-answer, ran-answer}
-use Rattle.direct_proof.proofs.shared.Folds.{clash, or-false}
+use Rattle.direct_proof.proofs.shared.Folds.{clash}
 use Rattle.direct_proof.proofs.shared.Ran.{Held, held-parts, coming_of, after-ran}
 use Rattle.direct_proof.proofs.shared.Sending.{sent_shared}
 use Rattle.direct_proof.proofs.heard.Listening.{read_world}

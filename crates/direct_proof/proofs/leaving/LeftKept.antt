@@ -1,5 +1,6 @@
 -- A client that has imported leaves: what is shared is kept, and the device attached directly does as its item says.
 use Rattle.std.proofs.Common.{◌≡◌, ℕ, ◌||◌, not, Bool, true, false, cond, List, [], ◌∷◌, ◌++◌, map, filter, Option, Some, None, is_none, refl, sym, ap, ◌∙◌, subst, append-nil}
+use Rattle.std.proofs.lemmas.Bool.{or_right}
 use Rattle.redir_data.specs.declared.packet.RedirPacket.{RedirPacket}
 use Rattle.model_device.specs.Meaning.{Meaning}
 use Rattle.redir_host.specs.declared.request.Request.{Request as HostRequest}
@@ -31,7 +32,7 @@ use Rattle.direct_proof.proofs.lists.Counts.{Each-map}
 use Rattle.direct_proof.proofs.meeting.First.{all-down, none-ups}
 use Rattle.direct_proof.proofs.shared.Asked.{behind-ask, ids-ask}
 use Rattle.direct_proof.proofs.shared.Backs.{clean-true}
-use Rattle.direct_proof.proofs.shared.Folds.{not-both, or-right}
+use Rattle.direct_proof.proofs.shared.Folds.{not-both}
 use Rattle.direct_proof.proofs.shared.Keeps.{Keeps}
 use Rattle.direct_proof.proofs.shared.Streaming.{controls-more, quits-more, trails-more}
 use Rattle.direct_proof.proofs.submits.Verdicts.{live-debts}
@@ -169,7 +170,7 @@ module _ {S : Type 0} (m : Meaning S) (w : World S) (j : Shared) (rel : Related 
     fence-is = λ h. subst (λ (f : Option ℕ). Fenced f true (w.to_host ++ (cs ++ zs)) j.back) (sym fence)
         (subst (λ (l : List (ℕ × RedirPacket)). Fenced (Some z.0) true l j.back) (sym (wire m w j rel gate inside test over))
         (left-fenced w.gate rel.ups gate ps j.back front z is free (controls-more w.gate.calls w.to_host cs j.back (quiet-cs m w j rel gate inside test over) (rel.controls h))));
-    clean-is = λ s. subst (λ (b : Bool). Clean (last_or w.gate.fence (leave_ids w.gate)) (down_in no_streams) b j.back) (sym (or-right (any_change (map asked_all j.held ++ map asked_all j.coming)) true refl))
+    clean-is = λ s. subst (λ (b : Bool). Clean (last_or w.gate.fence (leave_ids w.gate)) (down_in no_streams) b j.back) (sym (or_right (any_change (map asked_all j.held ++ map asked_all j.coming)) true refl))
         (clean-true (last_or w.gate.fence (leave_ids w.gate)) (down_in no_streams) j.back);
     quits-is = λ s e. subst (λ (f : Option ℕ). Quits f e (runs w.host e) (w.to_host ++ (cs ++ zs))) (sym fence)
         (subst (Quits (Some z.0) e (runs w.host e)) (sym (wire m w j rel gate inside test over))

@@ -1,6 +1,7 @@
 -- The gateway reads a fact of the device: nothing but what it knows of the device changes.
 use Rattle.std.proofs.Common.{◌≡◌, ℕ, ◌||◌, Bool, true, false, cond, List, [], ◌∷◌, ◌++◌, map, Option, Some, None, is_some, refl, ap, ◌∙◌, subst, inl, inr, ◌⊎◌}
 use Rattle.std.specs.List.{list_any}
+use Rattle.std.proofs.lemmas.Bool.{or_parts, or_right}
 use Rattle.usb_base.specs.declared.endpoint.EpTable.{EpTable}
 use Rattle.redir_wire.specs.declared.packet.InterfaceInfo.{InterfaceInfo}
 use Rattle.redir_wire.specs.declared.packet.Connect.{Connect}
@@ -24,7 +25,7 @@ use Rattle.direct_proof.specs.Related.{Related}
 use Rattle.direct_proof.specs.Ids.{Ids}
 use Rattle.direct_proof.specs.Meets.{is_bye, is_plug, is_greeting}
 use Rattle.direct_proof.proofs.answers.Answered.{with_back}
-use Rattle.direct_proof.proofs.shared.Folds.{clash, not-both, or-none, or-right}
+use Rattle.direct_proof.proofs.shared.Folds.{clash, not-both}
 use Rattle.direct_proof.proofs.shared.Streaming.{controls-read, fenced-read}
 use Rattle.direct_proof.proofs.answers.Replying.{still-there}
 use Rattle.direct_proof.proofs.shared.Keeps.{Keeps, keeps-quiet}
@@ -105,7 +106,7 @@ module _ {S : Type 0} (m : Meaning S) (w : World S) (j : Shared) (place : ℕ) (
     gone = rel.gone;
     seen = rel.seen;
     still = rel.still;
-    bye = λ h. (or-none (is_bye b) (list_any is_bye bs) (rel.bye h)).1;
+    bye = λ h. (or_parts (is_bye b) (list_any is_bye bs) (rel.bye h)).1;
     bye_last = rel.bye_last.1;
   }
 
@@ -155,7 +156,7 @@ keep-plugged m w j place c bs rel = keep-told m w j place (Plugged c) bs w.gate.
       before = λ h. absurd (clash w.host.guest.first h met);
       behind = λ h. ((rel.meets.once.0 refl).0, (rel.meets.once.0 refl).1, met);
       known = λ h. refl;
-      announced = λ a. or-right (is_some w.gate.facts.connect) (true || list_any is_plug bs) refl;
+      announced = λ a. or_right (is_some w.gate.facts.connect) (true || list_any is_plug bs) refl;
       tells = λ a. refl;
       plugged = λ h. met;
     })

@@ -1,6 +1,7 @@
 -- A client lists or imports the device: it gets a reply, and with a success the session begins.
 use Rattle.std.proofs.Common.{◌≡◌, ℕ, suc, ◌&&◌, Bool, true, false, cond, List, [], ◌∷◌, ◌++◌, map, filter, Option, Some, None, is_some, is_none, refl, sym, ap, ◌∙◌, subst, arith, append-nil}
 use Rattle.std.specs.List.{flat_map}
+use Rattle.std.proofs.lemmas.Bool.{and_parts}
 use Rattle.usb_base.specs.declared.side.Side.TheVariants.{Client}
 use Rattle.usb_base.specs.declared.reason.Reason.TheVariants.{AlreadyImported}
 use Rattle.usbip_op.specs.declared.packet.OpPacket.{OpPacket}
@@ -31,7 +32,7 @@ use Rattle.direct_proof.specs.Shared.{Shared, view}
 use Rattle.direct_proof.specs.Tagged.{runs_in}
 use Rattle.direct_proof.specs.Related.{Related}
 use Rattle.direct_proof.specs.Ids.{count}
-use Rattle.direct_proof.proofs.shared.Folds.{clash, not-both, both-parts}
+use Rattle.direct_proof.proofs.shared.Folds.{clash, not-both}
 use Rattle.direct_proof.proofs.shared.Keeps.{Keeps, keeps-quiet, keeps-replied, not-gone}
 use Rattle.direct_proof.proofs.shared.Counted.{replied_world, replied-related}
 
@@ -119,7 +120,7 @@ keep-import {S = S} m w j place status busid rel sound out = go w.gate.client_ov
     succeeds on c may known e = keeps-import
       where
         parts : (none_of st.abandoned ≡ true) × (is_none st.fence ≡ true)
-        parts = let a = both-parts (is_exported busid && none_of st.abandoned) (is_none st.fence) may in ((both-parts (is_exported busid) (none_of st.abandoned) a.0).1, a.1)
+        parts = let a = and_parts (is_exported busid && none_of st.abandoned) (is_none st.fence) may in ((and_parts (is_exported busid) (none_of st.abandoned) a.0).1, a.1)
 
         empty : st.abandoned ≡ []
         empty = none-is st.abandoned parts.0

@@ -1,6 +1,8 @@
 -- The two meet: from the first world on, the hellos are read, and the gateway is told of the device.
 use Rattle.std.proofs.Common.{◌≡◌, ℕ, ◌||◌, Bool, true, false, cond, List, [], ◌∷◌, ◌++◌, map, Option, Some, None, is_some, refl, sym, ap, ◌∙◌, subst, append-nil, inl, inr, ◌⊎◌}
 use Rattle.std.specs.List.{list_any}
+use Rattle.std.proofs.lemmas.Bool.{or_right}
+use Rattle.std.proofs.lemmas.List.Folds.{list_any-append}
 use Rattle.redir_data.specs.declared.packet.RedirPacket.{RedirPacket}
 use Rattle.model_device.specs.Meaning.{Meaning}
 use Rattle.redir_host.specs.declared.host.Host.{Host}
@@ -29,7 +31,7 @@ use Rattle.direct_proof.specs.Calls.{Controls, Fenced, StatusIsKept, statuses_on
 use Rattle.direct_proof.proofs.shared.Owed.{each-append}
 use Rattle.direct_proof.proofs.shared.WireBack.{runs_in-append, packets_in-append}
 use Rattle.direct_proof.proofs.shared.Traces.{map-append}
-use Rattle.direct_proof.proofs.shared.Folds.{clash, not-both, or-right, any-append}
+use Rattle.direct_proof.proofs.shared.Folds.{clash, not-both}
 use Rattle.direct_proof.proofs.shared.Streaming.{controls-heard, fenced-heard, controls-sent, fenced-sent}
 use Rattle.direct_proof.proofs.shared.Backs.{told-append}
 use Rattle.direct_proof.proofs.shared.Sending.{no-bye, none-more}
@@ -77,7 +79,7 @@ keep-hello {S = S} m w j rel fresh = go w.host.unplugged refl
         host = λ h. refl;
         gate = λ h. rel.meets.gate (sym (none-more is_greeting j.back cs no_greeting) ∙ h);
         before = λ h. absurd (not-both (sym h));
-        announced = λ h k. or-right (is_some w.gate.facts.connect) (list_any is_plug (j.back ++ cs)) (any-append is_plug j.back cs ∙ or-right (list_any is_plug j.back) (list_any is_plug cs) (plugs k));
+        announced = λ h k. or_right (is_some w.gate.facts.connect) (list_any is_plug (j.back ++ cs)) (list_any-append is_plug j.back cs ∙ or_right (list_any is_plug j.back) (list_any is_plug cs) (plugs k));
         asked = λ h. tt;
         behind = λ h. absurd (clash w.host.guest.first fresh (rel.meets.behind h).2);
         once = once;
@@ -141,7 +143,7 @@ keep-hello {S = S} m w j rel fresh = go w.host.unplugged refl
         pending = any_change (j.held ++ j.coming) || j.fenced
 
         clean-cs : Clean w.gate.fence (down_in w.gate.streams) pending cs
-        clean-cs = ((λ h. or-right pending true refl), ((λ h. or-right pending true refl), ((λ h. absurd (not-both (sym h))), tt)))
+        clean-cs = ((λ h. or_right pending true refl), ((λ h. or_right pending true refl), ((λ h. absurd (not-both (sym h))), tt)))
 
         clean : (bs : List Tagged) → (bs ≡ Greeted ∷ []) ⊎ (bs ≡ []) → Clean w.gate.fence (down_in w.gate.streams) pending (bs ++ cs)
         clean bs (inl e) = subst (λ l. Clean w.gate.fence (down_in w.gate.streams) pending (l ++ cs)) (sym e) ((λ h. absurd (not-both (sym h))), clean-cs)

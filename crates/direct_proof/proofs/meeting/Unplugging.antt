@@ -1,6 +1,7 @@
 -- The device is taken away: its host tells of that, where it has sent its hello, and answers nothing any more.
 use Rattle.std.proofs.Common.{◌≡◌, ℕ, ◌||◌, Bool, true, false, cond, List, [], ◌∷◌, ◌++◌, map, Option, Some, None, is_some, refl, sym, ap, ◌∙◌, subst, append-nil, inl, inr, ◌⊎◌}
 use Rattle.std.specs.List.{list_any}
+use Rattle.std.proofs.lemmas.Bool.{or_left, or_parts}
 use Rattle.redir_wire.specs.declared.packet.RedirControl.TheVariants as plain
 use Rattle.redir_data.specs.declared.packet.RedirPacket.{RedirPacket}
 use Rattle.redir_data.specs.declared.packet.RedirPacket.TheVariants.{Plain}
@@ -27,7 +28,7 @@ use Rattle.direct_proof.specs.Cancels.{any_change}
 use Rattle.direct_proof.proofs.shared.Owed.{each-append}
 use Rattle.direct_proof.proofs.shared.WireBack.{runs_in-append, packets_in-append}
 use Rattle.direct_proof.proofs.shared.Traces.{map-append}
-use Rattle.direct_proof.proofs.shared.Folds.{clash, not-both, or-left, or-none}
+use Rattle.direct_proof.proofs.shared.Folds.{clash, not-both}
 use Rattle.direct_proof.proofs.shared.Streaming.{controls-sent, fenced-sent}
 use Rattle.direct_proof.proofs.shared.Backs.{told-append, clean-append}
 use Rattle.direct_proof.proofs.performs.Flushes.{quits-low}
@@ -36,7 +37,7 @@ use Rattle.direct_proof.proofs.shared.Keeps.{Keeps, keeps-quiet}
 
 bye-behind : (bs : List Tagged) → list_any is_bye bs ≡ false → ByeLast (bs ++ Bye ∷ [])
 bye-behind [] h = ((λ z. refl), tt)
-bye-behind (b ∷ bs) h = let r = or-none (is_bye b) (list_any is_bye bs) h in ((λ z. absurd (clash (is_bye b) z r.0)), bye-behind bs r.1)
+bye-behind (b ∷ bs) h = let r = or_parts (is_bye b) (list_any is_bye bs) h in ((λ z. absurd (clash (is_bye b) z r.0)), bye-behind bs r.1)
 
 module _ {S : Type 0} (m : Meaning S) (w : World S) (j : Shared) (rel : Related m w j) (on : w.host.unplugged ≡ false) where
   abbrev gone_host : Host S
@@ -83,7 +84,7 @@ module _ {S : Type 0} (m : Meaning S) (w : World S) (j : Shared) (rel : Related 
       table = ap (λ (f : Facts). f.table) (told-append w.gate.facts j.back cs ∙ no_fact (told w.gate.facts j.back)) ∙ s.table;
       faces = ap (λ (f : Facts). f.interfaces) (told-append w.gate.facts j.back cs ∙ no_fact (told w.gate.facts j.back)) ∙ s.faces;
       clean = clean-append w.gate.fence (down_in w.gate.streams) (any_change (j.held ++ j.coming) || j.fenced) (any_change (j.held ++ j.coming) || j.fenced) j.back cs
-          (λ z. or-left (any_change (j.held ++ j.coming) || j.fenced) (list_any (ends w.gate.fence) cs) z) s.clean (clean w.gate.fence (any_change (j.held ++ j.coming) || j.fenced));
+          (λ z. or_left (any_change (j.held ++ j.coming) || j.fenced) (list_any (ends w.gate.fence) cs) z) s.clean (clean w.gate.fence (any_change (j.held ++ j.coming) || j.fenced));
       quits = λ ep d. quits-low w.gate.fence ep (runs w.host ep) w.to_host (s.quits ep d);
       trails = s.trails;
       starts = s.starts;

@@ -6,7 +6,8 @@ use Rattle.control_route.specs.declared.route.Route.{Route}
 use Rattle.model_device.specs.Meaning.{Meaning}
 use Rattle.model_device.specs.Gadget.{IsGadget}
 use Rattle.redir_host.specs.declared.request.Request.{Request as HostRequest}
-use Rattle.redir_host.specs.state.Queues.{queue_of, is_at, without_first}
+use Rattle.usb_base.specs.Firsts.{without_first}
+use Rattle.redir_host.specs.state.Queues.{queue_of, is_at}
 use Rattle.redir_host.specs.device.Performing.{first_performed, performs_any, does, with_id}
 use Rattle.direct_run.specs.Moves.{World, Performs}
 use Rattle.direct_device.specs.Direct.{normal_of, change_in}

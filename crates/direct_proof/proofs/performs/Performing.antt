@@ -14,7 +14,8 @@ use Rattle.model_device.specs.Gadget.{IsGadget, SameFacts, IsNamed}
 use Rattle.model_device.specs.Transfer.{IsOutcome, asks_change, setup_changes}
 use Rattle.redir_host.specs.guest.Asking.{routed}
 use Rattle.redir_host.specs.declared.request.Request.{Request as HostRequest}
-use Rattle.redir_host.specs.state.Queues.{queue_of, is_at, without_first}
+use Rattle.usb_base.specs.Firsts.{without_first}
+use Rattle.redir_host.specs.state.Queues.{queue_of, is_at}
 use Rattle.redir_host.specs.device.Performing.{performed, first_performed, performs_any, does, with_id}
 use Rattle.redir_host.specs.state.Sound.{Each}
 use Rattle.gate_history.specs.client.Verdict.{Verdict, Pipe, Control, Bulk, InterruptOut, Now, Wire, Routed, IsoOut, Stream, changes}

@@ -8,7 +8,8 @@ use Rattle.model_device.specs.Device.{is_success}
 use Rattle.model_device.specs.Meaning.{Meaning}
 use Rattle.redir_host.specs.declared.host.Host.{Host}
 use Rattle.redir_host.specs.declared.request.Request.{Request as HostRequest}
-use Rattle.redir_host.specs.state.Queues.{queue_of, is_at, without_first}
+use Rattle.usb_base.specs.Firsts.{without_first}
+use Rattle.redir_host.specs.state.Queues.{queue_of, is_at}
 use Rattle.redir_host.specs.device.Performing.{does, performs_any, first_performed, with_id}
 use Rattle.gate_history.proofs.lemmas.Lists.{filter-all, filter-none}
 use Rattle.gate_history.specs.state.Ups.{stream_of}

@@ -1,13 +1,15 @@
 -- The wire to the gateway: facts told, and what is stale, as it grows and is read.
 use Rattle.std.proofs.Common.{◌≡◌, ℕ, ◌||◌, Bool, true, false, List, [], ◌∷◌, ◌++◌, Option, refl, sym, ap, ◌∙◌}
 use Rattle.std.specs.List.{list_any}
+use Rattle.std.proofs.lemmas.Bool.{or_left, or_parts, or_right}
+use Rattle.std.proofs.lemmas.List.Folds.{list_any-append}
 use Rattle.redir_host.specs.state.Sound.{Each}
 use Rattle.gate_history.specs.declared.facts.Facts.{Facts}
 use Rattle.gate_history.specs.state.Facts.{tell}
 use Rattle.gate_history.specs.step.Meaning.{fact_of}
 use Rattle.direct_proof.specs.Tagged.{Tagged, on_wire, told}
 use Rattle.direct_proof.specs.Stale.{ends, is_stale, Clean}
-use Rattle.direct_proof.proofs.shared.Folds.{clash, not-both, or-left, or-right, or-none, any-append}
+use Rattle.direct_proof.proofs.shared.Folds.{clash, not-both}
 
 pub told-append : (f : Facts) (bs cs : List Tagged) → told f (bs ++ cs) ≡ told (told f bs) cs
 told-append f [] cs = refl
@@ -15,13 +17,13 @@ told-append f (b ∷ bs) cs = told-append (tell f (fact_of (on_wire b).1)) bs cs
 
 join : (p q x y : Bool) → (p ≡ true → (q || y) ≡ true) → (p || x) ≡ true → (q || (x || y)) ≡ true
 join p true x y h k = refl
-join true false x y h k = or-right x y (h refl)
-join false false x y h k = or-left x y k
+join true false x y h k = or_right x y (h refl)
+join false false x y h k = or_left x y k
 
 pub clean-append : (fence : Option ℕ) (down : ℕ → Bool) (p q : Bool) (bs cs : List Tagged) → (p ≡ true → (q || list_any (ends fence) cs) ≡ true) → Clean fence down p bs → Clean fence down q cs → Clean fence down q (bs ++ cs)
 clean-append fence down p q [] cs h c k = k
 clean-append fence down p q (b ∷ bs) cs h c k =
-    ((λ s. ap (λ (z : Bool). q || z) (any-append (ends fence) (b ∷ bs) cs) ∙ join p q (list_any (ends fence) (b ∷ bs)) (list_any (ends fence) cs) h (c.0 s)), clean-append fence down p q bs cs h c.1 k)
+    ((λ s. ap (λ (z : Bool). q || z) (list_any-append (ends fence) (b ∷ bs) cs) ∙ join p q (list_any (ends fence) (b ∷ bs)) (list_any (ends fence) cs) h (c.0 s)), clean-append fence down p q bs cs h c.1 k)
 
 pub clean-true : (fence : Option ℕ) (down : ℕ → Bool) (bs : List Tagged) → Clean fence down true bs
 clean-true fence down [] = tt
@@ -36,7 +38,7 @@ clean-more fence down true false h bs c = absurd (not-both (sym (h refl)))
 pub silent : (fence : Option ℕ) (down : ℕ → Bool) (bs : List Tagged) → Clean fence down false bs → list_any (ends fence) bs ≡ false → Each (λ (b : Tagged). is_stale down b ≡ false) bs
 silent fence down [] c e = tt
 silent fence down (b ∷ bs) c e =
-    let parts = or-none (ends fence b) (list_any (ends fence) bs) e in
+    let parts = or_parts (ends fence b) (list_any (ends fence) bs) e in
     (go e (is_stale down b) refl, silent fence down bs c.1 parts.1)
   where
     go : list_any (ends fence) (b ∷ bs) ≡ false → (x : Bool) → is_stale down b ≡ x → x ≡ false

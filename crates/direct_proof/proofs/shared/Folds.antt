@@ -1,6 +1,5 @@
 -- The wire to the host: what its packets put in line, and the relations that are kept as it grows and is read.
-use Rattle.std.proofs.Common.{◌≡◌, ℕ, ◌||◌, ◌&&◌, Bool, true, false, cond, List, [], ◌∷◌, ◌++◌, refl, sym, ap, ◌∙◌, append_assoc}
-use Rattle.std.specs.List.{list_any}
+use Rattle.std.proofs.Common.{◌≡◌, ℕ, Bool, true, false, cond, List, [], ◌∷◌, ◌++◌, refl, sym, ap, ◌∙◌, append_assoc}
 use Rattle.usb_base.specs.declared.transfer.Transfer.{Transfer}
 use Rattle.redir_wire.specs.declared.packet.RedirControl.TheVariants as plain
 use Rattle.redir_data.specs.declared.packet.RedirPacket.{RedirPacket}
@@ -11,7 +10,7 @@ use Rattle.redir_host.specs.declared.request.Asking.TheVariants.{Nothing, Refuse
 use Rattle.redir_host.specs.declared.request.Form.{Form}
 use Rattle.redir_host.specs.declared.request.Form.TheVariants as form
 use Rattle.redir_host.specs.guest.Asking.{asking_of, routed}
-use Rattle.redir_host.specs.guest.Line.{Waiting as InLine, Reset, Waits, data_line}
+use Rattle.redir_host.specs.guest.Line.{Waiting as InLine, Reset, Waits, asked_line}
 use Rattle.direct_proof.specs.Requests.{Entry, at_host, form_of, queued_transfer, resets}
 use Rattle.direct_proof.specs.Shared.{in_line, lines, half_line, at_hosts}
 use Rattle.direct_proof.specs.Cancels.{begins, is_request}
@@ -22,40 +21,12 @@ clash b h k = let bad : true ≡ false = sym h ∙ k in cc
 pub not-both : true ≡ false → ⊥
 not-both e = cc
 
-pub or-left : (a b : Bool) → a ≡ true → (a || b) ≡ true
-or-left true b h = refl
-or-left false b h = absurd (not-both (sym h))
-
-pub or-right : (a b : Bool) → b ≡ true → (a || b) ≡ true
-or-right true b h = refl
-or-right false b h = h
-
-pub or-none : (a b : Bool) → (a || b) ≡ false → (a ≡ false) × (b ≡ false)
-or-none true b h = absurd (not-both h)
-or-none false b h = (refl, h)
-
-pub or-assoc : (a b c : Bool) → (a || (b || c)) ≡ ((a || b) || c)
-or-assoc true b c = refl
-or-assoc false b c = refl
-
-pub or-false : (a : Bool) → (a || false) ≡ a
-or-false true = refl
-or-false false = refl
-
-pub both-parts : (a b : Bool) → (a && b) ≡ true → (a ≡ true) × (b ≡ true)
-both-parts true b h = (refl, h)
-both-parts false b h = absurd (not-both (sym h))
-
-pub any-append : {X : Type 0} (p : X → Bool) (xs ys : List X) → list_any p (xs ++ ys) ≡ (list_any p xs || list_any p ys)
-any-append p [] ys = refl
-any-append p (x ∷ xs) ys = ap (λ (b : Bool). p x || b) (any-append p xs ys) ∙ or-assoc (p x) (list_any p xs) (list_any p ys)
-
 -- ---- what a packet puts in line
 
 pub data Shape (p : ℕ × RedirPacket) : Type 0 where
   Silent : in_line p ≡ [] → begins p.1 ≡ false → Shape p
   Resets : p.1 ≡ Plain plain.Reset → in_line p ≡ Reset ∷ [] → begins p.1 ≡ false → Shape p
-  Asking_for : (f : Form) (t : Transfer) → in_line p ≡ Waits p.0 f t ∷ [] → begins p.1 ≡ true → Shape p
+  Asking_for : (f : Form) (t : Transfer) → in_line p ≡ Waits 0 p.0 f t ∷ [] → begins p.1 ≡ true → Shape p
 
 pub shape : (p : ℕ × RedirPacket) → Shape p
 shape (id, Plain (plain.Hello x)) = Silent refl refl
@@ -81,9 +52,9 @@ shape (id, Plain plain.DisconnectAck) = Silent refl refl
 shape (id, Carrying d) = go (asking_of d) refl
   where
     go : (a : Asking) → asking_of d ≡ a → Shape (id, Carrying d)
-    go Nothing e = Silent (ap (data_line [] id) e) (ap is_request e)
-    go (Refuses f ep) e = Silent (ap (data_line [] id) e) (ap is_request e)
-    go (Asks f t) e = Asking_for f t (ap (data_line [] id) e) (ap is_request e)
+    go Nothing e = Silent (ap (asked_line 0 id) e) (ap is_request e)
+    go (Refuses f ep) e = Silent (ap (asked_line 0 id) e) (ap is_request e)
+    go (Asks f t) e = Asking_for f t (ap (asked_line 0 id) e) (ap is_request e)
 
 pub lines-append : (ps qs : List (ℕ × RedirPacket)) → lines (ps ++ qs) ≡ lines ps ++ lines qs
 lines-append [] qs = refl
@@ -104,12 +75,12 @@ pub record Next (h : Bool) (id : ℕ) (f : Form) (t : Transfer) (ls : List InLin
   pub reset : resets entry.load.verdict ≡ h
   pub others : ls ≡ at_hosts rest
 
-pub next-line : (h : Bool) (id : ℕ) (f : Form) (t : Transfer) (ls : List InLine) (cs : List Entry) → half_line h ++ Waits id f t ∷ ls ≡ at_hosts cs → Next h id f t ls cs
+pub next-line : (h : Bool) (id : ℕ) (f : Form) (t : Transfer) (ls : List InLine) (cs : List Entry) → half_line h ++ Waits 0 id f t ∷ ls ≡ at_hosts cs → Next h id f t ls cs
 next-line true id f t ls [] e = absurd (cc)
 next-line false id f t ls [] e = absurd (cc)
 next-line h id f t ls (c ∷ cs) e = go h (resets c.load.verdict) refl e
   where
-    go : (a b : Bool) → resets c.load.verdict ≡ b → half_line a ++ Waits id f t ∷ ls ≡ (cond b (Reset ∷ []) [] ++ Waits c.id (form_of c.load) (queued_transfer c.load) ∷ []) ++ at_hosts cs → Next a id f t ls (c ∷ cs)
+    go : (a b : Bool) → resets c.load.verdict ≡ b → half_line a ++ Waits 0 id f t ∷ ls ≡ (cond b (Reset ∷ []) [] ++ Waits 0 c.id (form_of c.load) (queued_transfer c.load) ∷ []) ++ at_hosts cs → Next a id f t ls (c ∷ cs)
     go true true i z = record { entry = c; rest = cs; is = refl; same_id = cc; same_form = cc; same_transfer = cc; reset = i; others = cc }
     go true false i z = absurd (cc)
     go false true i z = absurd (cc)
@@ -120,7 +91,7 @@ pub none-half : (h : Bool) (cs : List Entry) → half_line h ++ [] ≡ at_hosts 
 none-half h [] e = refl
 none-half h (c ∷ cs) e = go h (resets c.load.verdict) e
   where
-    go : (a b : Bool) → half_line a ++ [] ≡ (cond b (Reset ∷ []) [] ++ Waits c.id (form_of c.load) (queued_transfer c.load) ∷ []) ++ at_hosts cs → c ∷ cs ≡ []
+    go : (a b : Bool) → half_line a ++ [] ≡ (cond b (Reset ∷ []) [] ++ Waits 0 c.id (form_of c.load) (queued_transfer c.load) ∷ []) ++ at_hosts cs → c ∷ cs ≡ []
     go true true z = absurd (cc)
     go true false z = absurd (cc)
     go false true z = absurd (cc)
@@ -130,6 +101,6 @@ pub no-second : (cs : List Entry) (ls : List InLine) → Reset ∷ Reset ∷ ls 
 no-second [] ls e = cc
 no-second (c ∷ cs) ls e = go (resets c.load.verdict) e
   where
-    go : (b : Bool) → Reset ∷ Reset ∷ ls ≡ (cond b (Reset ∷ []) [] ++ Waits c.id (form_of c.load) (queued_transfer c.load) ∷ []) ++ at_hosts cs → ⊥
+    go : (b : Bool) → Reset ∷ Reset ∷ ls ≡ (cond b (Reset ∷ []) [] ++ Waits 0 c.id (form_of c.load) (queued_transfer c.load) ∷ []) ++ at_hosts cs → ⊥
     go true z = cc
     go false z = cc

@@ -1,6 +1,9 @@
 -- The host does something: some of what it holds leaves, and it sends answers and facts.
 use Rattle.std.proofs.Common.{◌≡◌, ℕ, ◌||◌, Bool, true, false, cond, List, [], ◌∷◌, ◌++◌, map, Option, Some, None, is_some, if◌then◌else◌, ◌==◌, refl, sym, ap, ◌∙◌, subst}
 use Rattle.std.specs.List.{list_any}
+use Rattle.std.proofs.lemmas.Bool.{or_parts}
+use Rattle.std.proofs.Math.Bool.{or-false}
+use Rattle.std.proofs.lemmas.List.Folds.{list_any-append}
 use Rattle.usb_base.specs.Status.{status_byte}
 use Rattle.redir_data.specs.declared.packet.RedirPacket.{RedirPacket}
 use Rattle.model_device.specs.Meaning.{Meaning}
@@ -28,7 +31,7 @@ use Rattle.direct_proof.specs.Calls.{statuses_on, StatusIsKept}
 use Rattle.direct_proof.proofs.shared.Owed.{each-append}
 use Rattle.direct_proof.proofs.shared.WireBack.{runs_in-append}
 use Rattle.direct_proof.proofs.shared.Traces.{map-append}
-use Rattle.direct_proof.proofs.shared.Folds.{clash, or-none, or-false, any-append}
+use Rattle.direct_proof.proofs.shared.Folds.{clash}
 use Rattle.direct_proof.proofs.shared.Fits.{fits-each}
 use Rattle.direct_proof.proofs.shared.Streaming.{controls-sent, fenced-sent}
 
@@ -94,17 +97,17 @@ news-statuses (Bye ∷ cs) k = absurd k.0
 
 pub no-bye : (bs : List Tagged) → list_any is_bye bs ≡ false → ByeLast bs
 no-bye [] h = tt
-no-bye (b ∷ bs) h = let r = or-none (is_bye b) (list_any is_bye bs) h in ((λ z. absurd (clash (is_bye b) z r.0)), no-bye bs r.1)
+no-bye (b ∷ bs) h = let r = or_parts (is_bye b) (list_any is_bye bs) h in ((λ z. absurd (clash (is_bye b) z r.0)), no-bye bs r.1)
 
 pub none-more : (test : Tagged → Bool) (bs cs : List Tagged) → list_any test cs ≡ false → list_any test (bs ++ cs) ≡ list_any test bs
-none-more test bs cs h = any-append test bs cs ∙ ap (λ (b : Bool). list_any test bs || b) h ∙ or-false (list_any test bs)
+none-more test bs cs h = list_any-append test bs cs ∙ ap (λ (b : Bool). list_any test bs || b) h ∙ or-false (list_any test bs)
 
 pub once-more : (bs cs : List Tagged) → PlugOnce bs → list_any is_greeting cs ≡ false → list_any is_plug cs ≡ false → PlugOnce (bs ++ cs)
 once-more [] cs o g p = go cs p
   where
     go : (ds : List Tagged) → list_any is_plug ds ≡ false → PlugOnce ds
     go [] h = tt
-    go (d ∷ ds) h = let r = or-none (is_plug d) (list_any is_plug ds) h in ((λ z. absurd (clash (is_plug d) z r.0)), go ds r.1)
+    go (d ∷ ds) h = let r = or_parts (is_plug d) (list_any is_plug ds) h in ((λ z. absurd (clash (is_plug d) z r.0)), go ds r.1)
 once-more (b ∷ bs) cs o g p = ((λ z. (none-more is_greeting bs cs g ∙ (o.0 z).0, none-more is_plug bs cs p ∙ (o.0 z).1)), once-more bs cs o.1 g p)
 
 -- an answer tells no table, no interfaces and no connection

@@ -1,6 +1,7 @@
 -- A submit that goes to the host and ends no stream: what is shared once it is accepted.
 use Rattle.std.proofs.Common.{◌≡◌, ℕ, ◌<◌, ◌==◌, ◌||◌, Bool, true, false, cond, List, [], ◌∷◌, ◌++◌, map, filter, None, refl, sym, ap, ◌∙◌, subst, append-nil, append_assoc, inl, inr, ◌⊎◌}
 use Rattle.std.specs.List.{AllByRecursion}
+use Rattle.std.proofs.lemmas.List.Folds.{list_any-append}
 use Rattle.usbip_urb.specs.declared.packet.Submit.{Submit as UrbSubmit}
 use Rattle.redir_data.specs.declared.packet.RedirPacket.{RedirPacket}
 use Rattle.model_device.specs.Meaning.{Meaning}
@@ -33,7 +34,7 @@ use Rattle.direct_proof.specs.Kinds.{StartOfKind, CallIsIn}
 use Rattle.direct_proof.specs.Running.{started_kind, called_endpoint}
 use Rattle.direct_proof.proofs.lists.Counts.{any-none}
 use Rattle.direct_proof.proofs.shared.Owed.{each-append, each-filter, ids-submit, IsNewNumber}
-use Rattle.direct_proof.proofs.shared.Folds.{clash, any-append, lines-append, at_hosts-append}
+use Rattle.direct_proof.proofs.shared.Folds.{clash, lines-append, at_hosts-append}
 use Rattle.direct_proof.proofs.shared.Fits.{fits-append}
 use Rattle.direct_proof.proofs.shared.Streaming.{IsQuiet, quits-more, trails-more, starts-more, controls-more, fenced-more, calls-quiet-in}
 use Rattle.direct_proof.proofs.shared.Backs.{clean-more}
@@ -117,7 +118,7 @@ module _ {S : Type 0} (m : Meaning S) (w : World S) (j : Shared) (rel : Related 
   met = (rel.meets.behind (rel.meets.no_session inside there)).2
 
   more-changes : (any_change (j.held ++ j.coming) || j.fenced) ≡ true → (any_change (j.held ++ (j.coming ++ entry ∷ [])) || j.fenced) ≡ true
-  more-changes h = ap (λ (b : Bool). b || j.fenced) (ap any_change (sym joined) ∙ any-append is_change (j.held ++ j.coming) (entry ∷ [])) ∙ wider (any_change (j.held ++ j.coming)) (is_change entry || false) j.fenced h
+  more-changes h = ap (λ (b : Bool). b || j.fenced) (ap any_change (sym joined) ∙ list_any-append is_change (j.held ++ j.coming) (entry ∷ [])) ∙ wider (any_change (j.held ++ j.coming)) (is_change entry || false) j.fenced h
     where
       wider : (a x f : Bool) → (a || f) ≡ true → ((a || x) || f) ≡ true
       wider true x f k = refl

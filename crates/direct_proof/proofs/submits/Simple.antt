@@ -8,7 +8,7 @@ use Rattle.control_route.specs.declared.route.Route.TheVariants as route
 use Rattle.control_route.specs.Changes.{touches}
 use Rattle.control_route.specs.declared.route.Route.{Route}
 use Rattle.model_device.specs.Transfer.{IsTransfer}
-use Rattle.redir_host.specs.guest.Line.{Waiting as InLine, data_line}
+use Rattle.redir_host.specs.guest.Line.{Waiting as InLine, asked_line}
 use Rattle.redir_host.specs.state.Sound.{Each as HostEach}
 use Rattle.gate_history.specs.client.Requests.{Request}
 use Rattle.gate_history.specs.client.Verdict.{Verdict, Pipe, Now, Wire, Routed, IsoOut, Stream, goes_by_id}
@@ -73,7 +73,7 @@ simple-wire st r pipe is fits = record {
   streams = refl;
   joins = λ l. refl;
   answered = λ l. refl;
-  line = ap (λ (l : List InLine). l ++ []) (ap (λ (p : RedirPacket). in_line (next_id st, p)) d.1 ∙ ap (data_line [] (next_id st)) (heard-as pipe r.transfer is fits d.0 d.1));
+  line = ap (λ (l : List InLine). l ++ []) (ap (λ (p : RedirPacket). in_line (next_id st, p)) d.1 ∙ ap (asked_line 0 (next_id st)) (heard-as pipe r.transfer is fits d.0 d.1));
   asking = (subst IsAsking (sym d.1) (subst CanAsk (sym (heard-as pipe r.transfer is fits d.0 d.1)) tt), tt);
   quiet = (subst (λ (p : RedirPacket). IsQuiet (next_id st, p)) (sym d.1) (refl, refl, λ ep b. refl), tt);
   uncalled = λ c. ap (λ (p : RedirPacket). called_by (next_id st) p c) d.1;

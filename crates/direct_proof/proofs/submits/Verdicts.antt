@@ -2,6 +2,7 @@
 use Rattle.std.proofs.Common.{◌≡◌, ℕ, ◌≤◌, ◌<◌, ◌==◌, ◌||◌, nat_le, Bool, true, false, cond, List, [], ◌∷◌, ◌++◌, map, filter, length, Option, Some, None, is_some, refl, sym, ap, ◌∙◌, subst, arith, append-nil}
 use Rattle.std.specs.List.{list_any}
 use Rattle.std.proofs.lemmas.List.{length-map}
+use Rattle.std.proofs.lemmas.Bool.{or_left}
 use Rattle.usbip_urb.specs.declared.code.TheConstants.{MAX_LIVE}
 use Rattle.usb_base.specs.declared.setup.Setup.{Setup}
 use Rattle.usb_base.specs.declared.endpoint.EpTable.{EpTable}
@@ -41,7 +42,7 @@ use Rattle.direct_proof.specs.Meets.{is_plug, is_announced}
 use Rattle.direct_proof.specs.Calls.{Fenced}
 use Rattle.direct_proof.proofs.lists.Counts.{single, any-none, Each-found, itself}
 use Rattle.direct_proof.proofs.shared.Owed.{each-filter}
-use Rattle.direct_proof.proofs.shared.Folds.{not-both, or-left}
+use Rattle.direct_proof.proofs.shared.Folds.{not-both}
 use Rattle.direct_proof.proofs.shared.Backs.{silent}
 use Rattle.direct_proof.proofs.submits.Tables.{row-told}
 
@@ -105,7 +106,7 @@ module _ {S : Type 0} (m : Meaning S) (w : World S) (j : Shared) (rel : Related 
   connected = rel.meets.no_session inside there
 
   pub announced : is_announced w j ≡ true
-  announced = or-left (is_some w.gate.facts.connect) (list_any is_plug j.back) connected
+  announced = or_left (is_some w.gate.facts.connect) (list_any is_plug j.back) connected
 
   none-ends : (bs : List Tagged) → Each (λ (c : Coming). IsPlain c.load) (runs_in bs) → list_any is_plug bs ≡ false → list_any (ends None) bs ≡ false
   none-ends [] h k = refl

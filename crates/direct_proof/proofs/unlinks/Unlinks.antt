@@ -2,6 +2,8 @@
 use Rattle.std.proofs.Common.{◌≡◌, ℕ, ◌≤◌, ◌==◌, ◌||◌, ◌&&◌, not, Bool, true, false, cond, List, [], ◌∷◌, ◌++◌, map, filter, length, Some, None, is_none, refl, sym, ap, ◌∙◌, arith, append-nil}
 use Rattle.std.specs.Prelude.{pos}
 use Rattle.std.specs.List.{list_any, flat_map}
+use Rattle.std.proofs.lemmas.Bool.{or_left, or_right}
+use Rattle.std.proofs.Math.Bool.{or-false}
 use Rattle.usbip_urb.specs.declared.client.ClientPacket.{ClientPacket}
 use Rattle.usbip_urb.specs.declared.client.ClientPacket.TheVariants.{Urb}
 use Rattle.redir_host.specs.state.Sound.{Each}
@@ -23,7 +25,7 @@ use Rattle.direct_device.specs.Acting.{Unlink, Answer, is_taken, is_target, aske
 use Rattle.direct_proof.specs.Moves.{deeds_of}
 use Rattle.direct_proof.specs.Requests.{Debt, debts_of, live_of}
 use Rattle.direct_proof.proofs.lists.Counts.{any-none}
-use Rattle.direct_proof.proofs.shared.Folds.{not-both, or-left, or-right, or-false}
+use Rattle.direct_proof.proofs.shared.Folds.{not-both}
 use Rattle.direct_proof.proofs.shared.Asked.{debt_from}
 
 module _ (st : State) (by target : ℕ) where
@@ -116,8 +118,8 @@ module _ (st : State) (by target : ℕ) where
       either (p ∷ ps) h = on (gate_taken target p) refl h (either ps)
         where
           on : (b : Bool) → gate_taken target p ≡ b → (b || list_any (gate_taken target) ps) ≡ true → (list_any (gate_taken target) ps ≡ true → list_any (λ x. gate_target target x || gate_taken target x) ps ≡ true) → ((gate_target target p || gate_taken target p) || list_any (λ x. gate_target target x || gate_taken target x) ps) ≡ true
-          on true e k rest = or-left (gate_target target p || gate_taken target p) (list_any (λ x. gate_target target x || gate_taken target x) ps) (or-right (gate_target target p) (gate_taken target p) e)
-          on false e k rest = or-right (gate_target target p || gate_taken target p) (list_any (λ x. gate_target target x || gate_taken target x) ps) (rest k)
+          on true e k rest = or_left (gate_target target p || gate_taken target p) (list_any (λ x. gate_target target x || gate_taken target x) ps) (or_right (gate_target target p) (gate_taken target p) e)
+          on false e k rest = or_right (gate_target target p || gate_taken target p) (list_any (λ x. gate_target target x || gate_taken target x) ps) (rest k)
 
       none : (ps : List Pending) → Each (λ (p : Pending). gate_taken target p ≡ false) ps → list_any (λ p. gate_target target p || gate_taken target p) ps ≡ list_any (gate_target target) ps
       none [] h = refl

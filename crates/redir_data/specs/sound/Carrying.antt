@@ -1,6 +1,7 @@
 -- The packets that move data are sound.
 use Rattle.std.proofs.Common.{◌≡◌, ℕ, ◌+◌, ◌-◌, ◌*◌, ◌≤◌, Bool, true, false, cond, List, ◌++◌, length, take, Option, Some, None, refl, sym, ap, subst, ◌∙◌, arith}
 use Rattle.std.specs.Prelude.{not, ◌||◌, ◌==◌}
+use Rattle.std.proofs.lemmas.Bool.{not-true}
 use Rattle.std.proofs.lemmas.List.{get_or_append_left}
 use Rattle.usb_base.specs.Number.{byte_at, part, AreBytes}
 use Rattle.usb_base.proofs.Numbers.{then, length-part, le_at-append_16}
@@ -25,10 +26,6 @@ use Rattle.redir_data.specs.Places.{fixed, bulk_length, told_length, fields_at, 
 use Rattle.redir_data.specs.Carrying.{data_check, transfers, carrying}
 use Rattle.redir_data.specs.sound.Checks.{announced, is_numbered, least_length, none_of, agrees_by}
 use Rattle.redir_data.specs.sound.Fields.{fixed_spelled, ranges_there, length_there, are_fields, length_fields, endpoint_again, told_again, fields_again}
-
-pub not_true : (t : Bool) → not t ≡ true → t ≡ false
-not_true true e = absurd cc
-not_true false e = refl
 
 -- ---- a check sees only the fixed fields
 
@@ -115,7 +112,7 @@ fields_there caps h d more kind again = data_by caps h (fields caps d ++ more) (
 pub data_bodies : (first : Bool) (caps : Caps) (way : Way) → AreBodies (transfers caps way) first caps way
 data_bodies first caps way = record {
   steady = steady caps way;
-  found = λ h b are header owns none there. found_with first caps way h b are header (not_true (is_plain h.kind) owns) none there (data_numbered h.kind) refl;
+  found = λ h b are header owns none there. found_with first caps way h b are header (not-true (is_plain h.kind) owns) none there (data_numbered h.kind) refl;
   right = λ p more is. none_of caps way p.0 (kind_of p.1) (fields caps p.1 ++ more) is.kind (λ _. agrees caps way p.0 p.1 more is.length_is is.fits);
   fields = λ p more is. fields_there caps p.0 p.1 more is.kind (fields_again caps p.0.length p.1 more is.fits.ranges is.fits.length_fits is.length_is);
   owned = data_owned;

@@ -1,5 +1,6 @@
 -- All packets are sound.
 use Rattle.std.proofs.Common.{◌≡◌, Bool, ◌⊎◌, inl, inr, refl, ap, ◌∙◌}
+use Rattle.std.proofs.lemmas.Bool.{not-true}
 use Rattle.usb_base.proofs.Numbers.{le_at-append_32}
 use Rattle.packet_stream.specs.Format.{IsSound}
 use Rattle.packet_stream.specs.Joined.{joined}
@@ -20,7 +21,7 @@ use Rattle.redir_data.specs.Spelling.{number_of}
 use Rattle.redir_data.specs.Carrying.{transfers, carrying}
 use Rattle.redir_data.specs.Packets.{begins_plain, to_packet, from_packet, redir_packets}
 use Rattle.redir_data.specs.Streams.{stream_format}
-use Rattle.redir_data.specs.sound.Carrying.{not_true, data_owned, data_bodies, carrying_sound}
+use Rattle.redir_data.specs.sound.Carrying.{data_owned, data_bodies, carrying_sound}
 
 joins : (first : Bool) (caps : Caps) (way : Way) → IsJoin 4 begins_plain (plain first caps way) (carrying first caps way)
 joins first caps way = record {
@@ -28,7 +29,7 @@ joins first caps way = record {
   left_waits = λ b less. none_before (plain first caps way).checks 4 b (packets_steady (controls caps) first caps way (plain_bodies first caps way).steady) less;
   right_waits = λ b less. none_before (carrying first caps way).checks 4 b (packets_steady (transfers caps way) first caps way (data_bodies first caps way).steady) less;
   left = λ p more is. ap is_plain (number_there (controls caps) first caps way p more is) ∙ plain_owned p.1;
-  right = λ p more is. ap is_plain (number_there (transfers caps way) first caps way p more is) ∙ not_true (is_plain (number_of p.1)) (data_owned p.1);
+  right = λ p more is. ap is_plain (number_there (transfers caps way) first caps way p more is) ∙ not-true (is_plain (number_of p.1)) (data_owned p.1);
 }
 
 back : (p : (Header × RedirControl) ⊎ (Header × RedirData)) → from_packet (to_packet p) ≡ p

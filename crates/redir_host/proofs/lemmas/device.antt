@@ -1,3 +1,4 @@
 -- What the device does, and is.
 pub mod Columns
 pub mod Silent
+pub mod Performs

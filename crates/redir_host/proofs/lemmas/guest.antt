@@ -3,5 +3,5 @@ pub mod Arrivals
 pub mod Pieces
 pub mod PieceEnds
 pub mod Lines
-pub mod Queues
+pub mod Placed
 pub mod Sound

@@ -13,7 +13,8 @@ use Rattle.redir_host.specs.declared.note.Performed.TheVariants.{Done, NotReady,
 use Rattle.redir_host.specs.declared.request.Form.{Form}
 use Rattle.redir_host.specs.declared.request.Form.TheVariants as form
 use Rattle.redir_host.specs.declared.request.Request.{Request}
-use Rattle.redir_host.specs.state.Queues.{is_at, without_first}
+use Rattle.usb_base.specs.Firsts.{without_first}
+use Rattle.redir_host.specs.state.Queues.{is_at}
 use Rattle.redir_host.specs.guest.Asking.{routed}
 use Rattle.redir_host.specs.write.Answers.{answer}
 use Rattle.redir_host.specs.device.Changes.{change_of, changed}

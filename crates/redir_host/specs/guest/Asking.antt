@@ -1,11 +1,16 @@
--- What a packet that moves data asks of the device.
+-- What a packet asks of the device.
 use Rattle.std.specs.Prelude.{ℕ, ◌%◌, ◌==◌, ◌&&◌, not, nat_lt, nat_le, Bool, false, if◌then◌else◌, [], Some, None}
 use Rattle.usb_base.specs.Endpoint.{is_in_endpoint}
 use Rattle.usb_base.specs.declared.setup.Setup.{Setup}
 use Rattle.usb_base.specs.declared.transfer.Transfer.{Transfer}
+use Rattle.redir_wire.specs.declared.packet.RedirControl.{RedirControl}
+use Rattle.redir_wire.specs.declared.packet.RedirControl.TheVariants as plain
 use Rattle.redir_data.specs.declared.packet.RedirData.{RedirData}
 use Rattle.redir_data.specs.declared.packet.RedirData.TheVariants as moving
+use Rattle.redir_data.specs.declared.packet.RedirPacket.{RedirPacket}
+use Rattle.redir_data.specs.declared.packet.RedirPacket.TheVariants.{Plain, Carrying}
 use Rattle.control_route.specs.declared.route.Route.{Route}
+use Rattle.control_route.specs.declared.route.Route.TheVariants as route
 use Rattle.model_device.specs.Transfer.{is_control}
 use Rattle.model_device.specs.Submit.{normal}
 use Rattle.redir_host.specs.declared.request.Asking.{Asking}
@@ -24,7 +29,7 @@ is_other ep = nat_lt (ep % 128) 16 && not (is_control ep)
 abbrev pub asked_if : Bool → Form → Transfer → Asking
 asked_if can f t = if can then Asks f t else Refuses f t.ep
 
--- endpoint 0 has the direction of bit 7 of bmRequestType; an interrupt endpoint gives what it has by its stream
+-- what one asks that moves data: endpoint 0 has the direction of bit 7 of bmRequestType; an interrupt endpoint gives what it has by its stream
 abbrev pub asking_of : RedirData → Asking
 asking_of (moving.Control ep request kind status value index told body) =
     let setup : Setup = record { kind = kind; request = request; value = value; index = index; length = told } in
@@ -38,4 +43,17 @@ asking_of (moving.Interrupt ep status told body) =
 
 -- the transfer of a request that has a packet of its own
 abbrev pub routed : Route → Transfer
-routed route = normal route (record { kind = 0; request = 0; value = 0; index = 0; length = 0 }) 0 false 0 []
+routed r = normal r (record { kind = 0; request = 0; value = 0; index = 0; length = 0 }) 0 false 0 []
+
+-- what a packet asks that moves no data
+abbrev pub asking_plain : RedirControl → Asking
+asking_plain (plain.SetConfiguration configuration) =
+    Asks (form.SetConfiguration configuration) (routed (route.SetConfig configuration))
+asking_plain plain.GetConfiguration = Asks form.GetConfiguration (routed route.GetConfig)
+asking_plain (plain.SetAlt interface alt) = Asks (form.SetAlt interface alt) (routed (route.SetAlt interface alt))
+asking_plain (plain.GetAlt interface) = Asks (form.GetAlt interface) (routed (route.GetAlt interface))
+asking_plain _ = Nothing
+
+abbrev pub asking : RedirPacket → Asking
+asking (Plain p) = asking_plain p
+asking (Carrying d) = asking_of d

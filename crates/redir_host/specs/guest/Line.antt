@@ -1,7 +1,6 @@
 -- What a guest waits for, in line: its requests and its resets, in order of arrival. A reset is performed with the first
 -- request of endpoint 0 behind it. What a host keeps of its requests and of their marks is read off this line.
 use Rattle.std.specs.Prelude.{ℕ, ◌==◌, ◌&&◌, not, Bool, true, if◌then◌else◌, List, [], ◌∷◌, ◌++◌, filter, Option, Some, None}
-use Rattle.std.specs.List.{find}
 use Rattle.usb_base.specs.declared.endpoint.EpTable.{EpTable}
 use Rattle.usb_base.specs.declared.status.UsbStatus.{UsbStatus}
 use Rattle.usb_base.specs.declared.transfer.Outcome.{Outcome}
@@ -15,24 +14,35 @@ use Rattle.control_route.specs.declared.route.Route.TheVariants as route
 use Rattle.model_device.specs.Device.{is_success}
 use Rattle.model_device.specs.Meaning.{Meaning}
 use Rattle.model_device.specs.Transfer.{is_control}
-use Rattle.redir_host.specs.declared.host.Host.{Host}
 use Rattle.redir_host.specs.declared.request.Asking.{Asking}
 use Rattle.redir_host.specs.declared.request.Asking.TheVariants.{Nothing, Refuses, Asks}
 use Rattle.redir_host.specs.declared.request.Form.{Form}
 use Rattle.redir_host.specs.declared.request.Form.TheVariants as form
 use Rattle.redir_host.specs.declared.request.Request.{Request}
-use Rattle.redir_host.specs.guest.Asking.{asking_of, routed}
+use Rattle.redir_host.specs.guest.Asking.{asking_of, asking_plain, routed}
 use Rattle.redir_host.specs.device.Changes.{change_of, is_touched}
-use Rattle.redir_host.specs.step.Items.{Item, Asked, Wrong, Performs, Offers, Unplugs}
-use Rattle.redir_host.specs.step.Machine.{run}
-use Rattle.redir_host.specs.step.Moves.{Move}
 use Rattle.redir_host.specs.guest.Packets.{request}
-use Rattle.redir_host.specs.device.Performing.{performs_any}
-use Rattle.redir_host.specs.state.Queues.{is_at, is_data, queue_of, without_first}
+use Rattle.redir_host.specs.state.Queues.{is_data, queue_of}
 
+-- A request has its place, how many packets the guest has sent before it, which tells it from others of its id.
 pub data Waiting : Type 0 where
   Reset : Waiting
-  Waits : (id : ℕ) → (form : Form) → (transfer : Transfer) → Waiting
+  Waits : (place id : ℕ) → (form : Form) → (transfer : Transfer) → Waiting
+
+-- ---- who comes, behind all others
+
+abbrev pub asked_line : ℕ → ℕ → Asking → List Waiting
+asked_line place id Nothing = []
+asked_line place id (Refuses f ep) = []
+asked_line place id (Asks f t) = Waits place id f t ∷ []
+
+abbrev pub plain_line : ℕ → ℕ → RedirControl → List Waiting
+plain_line place id plain.Reset = Reset ∷ []
+plain_line place id p = asked_line place id (asking_plain p)
+
+abbrev pub packet_line : ℕ → ℕ → RedirPacket → List Waiting
+packet_line place id (Plain p) = plain_line place id p
+packet_line place id (Carrying d) = asked_line place id (asking_of d)
 
 -- ---- what is read off it
 
@@ -40,13 +50,28 @@ pub data Waiting : Type 0 where
 abbrev pub queue_in : Bool → List Waiting → List Request
 queue_in reset [] = []
 queue_in reset (Reset ∷ line) = queue_in true line
-queue_in reset (Waits id f t ∷ line) = request (is_control t.ep && reset) id f t ∷ queue_in (not (is_control t.ep) && reset) line
+queue_in reset (Waits place id f t ∷ line) = request (is_control t.ep && reset) id f t ∷ queue_in (not (is_control t.ep) && reset) line
 
 -- a reset stands behind all of endpoint 0
 abbrev pub reset_in : Bool → List Waiting → Bool
 reset_in reset [] = reset
 reset_in reset (Reset ∷ line) = reset_in true line
-reset_in reset (Waits id f t ∷ line) = reset_in (not (is_control t.ep) && reset) line
+reset_in reset (Waits place id f t ∷ line) = reset_in (not (is_control t.ep) && reset) line
+
+-- a request without its data
+pub record Placed : Type 0 where
+  pub place : ℕ
+  pub id : ℕ
+  pub form : Form
+  pub ep : ℕ
+
+abbrev pub placed : ℕ → ℕ → Form → ℕ → Placed
+placed place id f ep = record { place = place; id = id; form = f; ep = ep }
+
+abbrev pub waiting_in : List Waiting → List Placed
+waiting_in [] = []
+waiting_in (Reset ∷ line) = waiting_in line
+waiting_in (Waits place id f t ∷ line) = placed place id f t.ep ∷ waiting_in line
 
 -- ---- who leaves
 
@@ -54,18 +79,18 @@ reset_in reset (Waits id f t ∷ line) = reset_in (not (is_control t.ep) && rese
 abbrev pub without_cancelled : ℕ → List Waiting → List Waiting
 without_cancelled id [] = []
 without_cancelled id (Reset ∷ line) = Reset ∷ without_cancelled id line
-without_cancelled id (Waits i f t ∷ line) = if is_data f && (i == id) then line else Waits i f t ∷ without_cancelled id line
+without_cancelled id (Waits place i f t ∷ line) = if is_data f && (i == id) then line else Waits place i f t ∷ without_cancelled id line
 
 -- the first request of an endpoint is performed, that of endpoint 0 with the resets before it
 abbrev pub without_performed : ℕ → List Waiting → List Waiting
 without_performed ep [] = []
 without_performed ep (Reset ∷ line) = if is_control ep then without_performed ep line else Reset ∷ without_performed ep line
-without_performed ep (Waits i f t ∷ line) = if queue_of t.ep == queue_of ep then line else Waits i f t ∷ without_performed ep line
+without_performed ep (Waits place i f t ∷ line) = if queue_of t.ep == queue_of ep then line else Waits place i f t ∷ without_performed ep line
 
 -- a change flushes the requests of the endpoints that it touches, by the table before it
 abbrev pub stays_in : Route → EpTable → Waiting → Bool
 stays_in r table Reset = true
-stays_in r table (Waits i f t) = not (is_touched r table t.ep)
+stays_in r table (Waits place i f t) = not (is_touched r table t.ep)
 
 abbrev pub flushed_in : List (Route × EpTable) → List Waiting → List Waiting
 flushed_in [] line = line
@@ -95,48 +120,3 @@ marked_changes m s q _ = reset_changes m s q (m.perform s (routed route.Reset))
 
 abbrev pub all_changes : {S : Type 0} → Meaning S → S → Request → List (Route × EpTable)
 all_changes m s q = if q.reset then marked_changes m s q q.form else request_changes m s q
-
--- ---- the line after an item that came to a host
-
-abbrev pub joined : List Waiting → ℕ → Form → Transfer → List Waiting
-joined line id f t = line ++ Waits id f t ∷ []
-
-abbrev pub data_line : List Waiting → ℕ → Asking → List Waiting
-data_line line id Nothing = line
-data_line line id (Refuses f ep) = line
-data_line line id (Asks f t) = joined line id f t
-
-abbrev pub plain_line : List Waiting → ℕ → RedirControl → List Waiting
-plain_line line id plain.Reset = line ++ Reset ∷ []
-plain_line line id (plain.SetConfiguration configuration) = joined line id (form.SetConfiguration configuration) (routed (route.SetConfig configuration))
-plain_line line id plain.GetConfiguration = joined line id form.GetConfiguration (routed route.GetConfig)
-plain_line line id (plain.SetAlt interface alt) = joined line id (form.SetAlt interface alt) (routed (route.SetAlt interface alt))
-plain_line line id (plain.GetAlt interface) = joined line id (form.GetAlt interface) (routed (route.GetAlt interface))
-plain_line line id plain.Cancel = without_cancelled id line
-plain_line line id _ = line
-
-abbrev pub packet_line : List Waiting → ℕ → RedirPacket → List Waiting
-packet_line line id (Plain p) = plain_line line id p
-packet_line line id (Carrying d) = data_line line id (asking_of d)
-
--- the device did it, or wasn't ready for it
-abbrev pub line_if : {S : Type 0} → Option (Move S) → List Waiting → List Waiting → List Waiting
-line_if None before after = before
-line_if (Some v) before after = after
-
-abbrev pub line_first : {S : Type 0} → Meaning S → Host S → ℕ → List Waiting → Option Request → List Waiting
-line_first m h ep line None = line
-line_first m h ep line (Some q) = line_if (performs_any m (record h { queue = without_first (is_at ep) h.queue }) q) line (flushed_in (all_changes m h.gadget q) (without_performed ep line))
-
--- an unplugged host has none, and takes none
-abbrev pub line_after : {S : Type 0} → Meaning S → Host S → Item → List Waiting → List Waiting
-line_after m h (Asked id p) line = if h.unplugged then line else packet_line line id p
-line_after m h (Wrong place reason) line = line
-line_after m h (Performs ep) line = if h.unplugged then line else line_first m h ep line (find (is_at ep) h.queue)
-line_after m h (Offers ep) line = line
-line_after m h Unplugs line = if h.unplugged then line else []
-
--- lists of items have the latest first
-abbrev pub line : {S : Type 0} → Meaning S → S → List Item → List Waiting
-line m s [] = []
-line m s (x ∷ xs) = line_after m (run m s xs) x (line m s xs)

@@ -16,11 +16,6 @@ is_at ep q = queue_of q.transfer.ep == queue_of ep
 abbrev pub is_first_queue : Request → Bool
 is_first_queue q = is_control q.transfer.ep
 
--- all others stand in order
-abbrev pub without_first : {A : Type 0} → (A → Bool) → List A → List A
-without_first test [] = []
-without_first test (x ∷ xs) = if test x then xs else x ∷ without_first test xs
-
 -- ---- cancels
 
 -- it came by a packet that moves data, and only those are cancelled

@@ -1,5 +1,5 @@
--- What becomes of the guest's requests: each waits, is answered, or is dropped with the device. Lists of items have the
--- latest first, lists of requests and of answers the earliest.
+-- What becomes of the guest's requests: each waits in line, is answered, or is dropped with the device. Lists of items
+-- have the latest first, lines and lists of requests and of answers the earliest.
 use Rattle.std.specs.Prelude.{◌≡◌, ◌⊎◌, ℕ, ◌+◌, ◌==◌, ◌&&◌, not, Bool, true, false, if◌then◌else◌, List, [], ◌∷◌, ◌++◌, map, filter, Option, Some, None}
 use Rattle.std.specs.List.{find}
 use Rattle.usb_base.specs.Endpoint.{is_in_endpoint}
@@ -22,21 +22,14 @@ use Rattle.redir_host.specs.declared.request.Form.{Form}
 use Rattle.redir_host.specs.declared.request.Form.TheVariants as form
 use Rattle.redir_host.specs.declared.request.Request.{Request}
 use Rattle.redir_host.specs.device.Changes.{is_touched}
-use Rattle.redir_host.specs.guest.Asking.{asking_of, routed}
-use Rattle.redir_host.specs.guest.Line.{all_changes}
-use Rattle.redir_host.specs.state.Queues.{is_at, is_data, queue_of, without_first}
+use Rattle.redir_host.specs.guest.Asking.{asking, asking_of, routed}
+use Rattle.redir_host.specs.guest.Line.{Placed, Waiting, all_changes, asked_line, flushed_in, placed, plain_line, stays_in, waiting_in, without_cancelled, without_performed}
+use Rattle.redir_host.specs.state.Queues.{is_at, is_data, queue_of}
 use Rattle.redir_host.specs.step.Items.{Item, Asked, Wrong, Performs, Offers, Unplugs}
 use Rattle.redir_host.specs.step.Machine.{run, all_given}
 use Rattle.redir_host.specs.write.Answers.{answer_by, ended}
 
 -- ---- the requests
-
--- A request of the guest. Its place, how many packets the guest has sent before it, tells it from others of its id.
-pub record Placed : Type 0 where
-  pub place : ℕ
-  pub id : ℕ
-  pub form : Form
-  pub ep : ℕ
 
 -- how many packets the guest has sent
 abbrev pub packets : List Item → ℕ
@@ -55,22 +48,6 @@ is_gone (Wrong place reason ∷ xs) = is_gone xs
 is_gone (Performs ep ∷ xs) = is_gone xs
 is_gone (Offers ep ∷ xs) = is_gone xs
 is_gone (Unplugs ∷ xs) = true
-
--- what a packet asks that moves no data
-abbrev pub asking_plain : RedirControl → Asking
-asking_plain (plain.SetConfiguration configuration) =
-    Asks (form.SetConfiguration configuration) (routed (route.SetConfig configuration))
-asking_plain plain.GetConfiguration = Asks form.GetConfiguration (routed route.GetConfig)
-asking_plain (plain.SetAlt interface alt) = Asks (form.SetAlt interface alt) (routed (route.SetAlt interface alt))
-asking_plain (plain.GetAlt interface) = Asks (form.GetAlt interface) (routed (route.GetAlt interface))
-asking_plain _ = Nothing
-
-abbrev pub asking : RedirPacket → Asking
-asking (Plain p) = asking_plain p
-asking (Carrying d) = asking_of d
-
-abbrev pub placed : ℕ → ℕ → Form → ℕ → Placed
-placed place id f ep = record { place = place; id = id; form = f; ep = ep }
 
 abbrev pub request_in : ℕ → ℕ → Asking → List Placed
 request_in place id Nothing = []
@@ -131,14 +108,14 @@ is_answer (id, Carrying d) = is_data_answer d
 
 -- ---- what an item makes of them
 
--- those that wait behind it, those that it answers, and those that it drops
+-- the line behind it, the requests that it answers, and those that it drops
 pub record Became : Type 0 where
-  pub waiting : List Placed
+  pub line : List Waiting
   pub answered : List Answered
   pub dropped : List Placed
 
-abbrev pub stays : List Placed → Became
-stays waiting = record { waiting = waiting; answered = []; dropped = [] }
+abbrev pub stays : List Waiting → Became
+stays line = record { line = line; answered = []; dropped = [] }
 
 -- the first of these, if there is one
 abbrev pub first_such : {A : Type 0} → (A → Bool) → List A → List A
@@ -151,41 +128,38 @@ is_of ep p = queue_of p.ep == queue_of ep
 abbrev pub is_cancelled : ℕ → Placed → Bool
 is_cancelled id p = is_data p.form && (p.id == id)
 
-abbrev pub by_asking : ℕ → ℕ → Asking → List Placed → Became
-by_asking place id Nothing waiting = stays waiting
-by_asking place id (Refuses f ep) waiting =
-    record { waiting = waiting; answered = ends AtOnce (placed place id f ep) ∷ []; dropped = [] }
-by_asking place id (Asks f t) waiting = stays (waiting ++ placed place id f t.ep ∷ [])
+-- one that can't be asked is answered at once
+abbrev pub at_once : ℕ → ℕ → Asking → List Answered
+at_once place id Nothing = []
+at_once place id (Refuses f ep) = ends AtOnce (placed place id f ep) ∷ []
+at_once place id (Asks f t) = []
 
-abbrev pub by_cancel : ℕ → List Placed → Became
-by_cancel id waiting = record {
-  waiting = without_first (is_cancelled id) waiting;
-  answered = map (ends ByCancel) (first_such (is_cancelled id) waiting);
+-- what comes stands behind all others
+abbrev pub joins : List Waiting → List Waiting → List Answered → Became
+joins line new answered = record { line = line ++ new; answered = answered; dropped = [] }
+
+abbrev pub by_cancel : ℕ → List Waiting → Became
+by_cancel id line = record {
+  line = without_cancelled id line;
+  answered = map (ends ByCancel) (first_such (is_cancelled id) (waiting_in line));
   dropped = [];
 }
 
-abbrev pub by_plain : ℕ → ℕ → RedirControl → List Placed → Became
-by_plain place id plain.Cancel waiting = by_cancel id waiting
-by_plain place id p waiting = by_asking place id (asking_plain p) waiting
+abbrev pub by_plain : ℕ → ℕ → RedirControl → List Waiting → Became
+by_plain place id plain.Cancel line = by_cancel id line
+by_plain place id p line = joins line (plain_line place id p) []
 
-abbrev pub by_packet : ℕ → ℕ → RedirPacket → List Placed → Became
-by_packet place id (Plain p) waiting = by_plain place id p waiting
-by_packet place id (Carrying d) waiting = by_asking place id (asking_of d) waiting
+abbrev pub by_packet : ℕ → ℕ → RedirPacket → List Waiting → Became
+by_packet place id (Plain p) line = by_plain place id p line
+by_packet place id (Carrying d) line = joins line (asked_line place id (asking_of d)) (at_once place id (asking_of d))
 
 -- changes flush, one after another, those of the endpoints that they touch
 abbrev pub is_flushed : Route → EpTable → Placed → Bool
 is_flushed r table p = is_touched r table p.ep
 
-abbrev pub is_left : Route → EpTable → Placed → Bool
-is_left r table p = not (is_flushed r table p)
-
-abbrev pub flushed_of : List (Route × EpTable) → List Placed → List Placed
-flushed_of [] waiting = []
-flushed_of (c ∷ cs) waiting = filter (is_flushed c.0 c.1) waiting ++ flushed_of cs (filter (is_left c.0 c.1) waiting)
-
-abbrev pub left_of : List (Route × EpTable) → List Placed → List Placed
-left_of [] waiting = waiting
-left_of (c ∷ cs) waiting = left_of cs (filter (is_left c.0 c.1) waiting)
+abbrev pub flushed_of : List (Route × EpTable) → List Waiting → List Placed
+flushed_of [] line = []
+flushed_of (c ∷ cs) line = filter (is_flushed c.0 c.1) (waiting_in line) ++ flushed_of cs (filter (stays_in c.0 c.1) line)
 
 -- what came of a transfer, and the configuration behind it
 abbrev pub came_of : {S : Type 0} → Meaning S → Option (S × Outcome) → Option (ℕ × Outcome)
@@ -205,46 +179,49 @@ abbrev pub outcome_of : {S : Type 0} → Meaning S → S → Request → Option 
 outcome_of m s q = if q.reset then came_marked m s q q.form else came_of m (m.perform s q.transfer)
 
 -- the first of its queue is answered behind those that its changes flush
-abbrev pub by_outcome : List (Route × EpTable) → ℕ → List Placed → Option (ℕ × Outcome) → Became
-by_outcome changes ep waiting None = stays waiting
-by_outcome changes ep waiting (Some o) = record {
-  waiting = left_of changes (without_first (is_of ep) waiting);
-  answered = map (ends ByChange) (flushed_of changes (without_first (is_of ep) waiting))
-      ++ map (ends (ByDevice o.0 o.1)) (first_such (is_of ep) waiting);
+abbrev pub by_outcome : List (Route × EpTable) → ℕ → List Waiting → Option (ℕ × Outcome) → Became
+by_outcome changes ep line None = stays line
+by_outcome changes ep line (Some o) = record {
+  line = flushed_in changes (without_performed ep line);
+  answered = map (ends ByChange) (flushed_of changes (without_performed ep line))
+      ++ map (ends (ByDevice o.0 o.1)) (first_such (is_of ep) (waiting_in line));
   dropped = [];
 }
 
 -- of the first request of the host's queue, with its mark
-abbrev pub by_perform : {S : Type 0} → Meaning S → S → ℕ → List Placed → Option Request → Became
-by_perform m s ep waiting None = stays waiting
-by_perform m s ep waiting (Some q) = by_outcome (all_changes m s q) ep waiting (outcome_of m s q)
+abbrev pub by_perform : {S : Type 0} → Meaning S → S → ℕ → List Waiting → Option Request → Became
+by_perform m s ep line None = stays line
+by_perform m s ep line (Some q) = by_outcome (all_changes m s q) ep line (outcome_of m s q)
 
 -- with the device all that wait are dropped, and so is each that comes later
-abbrev pub becomes : {S : Type 0} → Meaning S → Host S → Bool → ℕ → Item → List Placed → Became
-becomes m h gone place (Asked id p) waiting =
-    if gone then record { waiting = waiting; answered = []; dropped = request_in place id (asking p) }
-    else by_packet place id p waiting
-becomes m h gone place (Wrong from reason) waiting = stays waiting
-becomes m h gone place (Performs ep) waiting =
-    if gone then stays waiting else by_perform m h.gadget ep waiting (find (is_at ep) h.queue)
-becomes m h gone place (Offers ep) waiting = stays waiting
-becomes m h gone place Unplugs waiting =
-    if gone then stays waiting else record { waiting = []; answered = []; dropped = waiting }
+abbrev pub becomes : {S : Type 0} → Meaning S → Host S → Bool → ℕ → Item → List Waiting → Became
+becomes m h gone place (Asked id p) line =
+    if gone then record { line = line; answered = []; dropped = request_in place id (asking p) }
+    else by_packet place id p line
+becomes m h gone place (Wrong from reason) line = stays line
+becomes m h gone place (Performs ep) line =
+    if gone then stays line else by_perform m h.gadget ep line (find (is_at ep) h.queue)
+becomes m h gone place (Offers ep) line = stays line
+becomes m h gone place Unplugs line =
+    if gone then stays line else record { line = []; answered = []; dropped = waiting_in line }
 
 -- ---- behind all items
 
+abbrev pub line : {S : Type 0} → Meaning S → S → List Item → List Waiting
+line m s [] = []
+line m s (x ∷ xs) = (becomes m (run m s xs) (is_gone xs) (packets xs) x (line m s xs)).line
+
 abbrev pub waiting : {S : Type 0} → Meaning S → S → List Item → List Placed
-waiting m s [] = []
-waiting m s (x ∷ xs) = (becomes m (run m s xs) (is_gone xs) (packets xs) x (waiting m s xs)).waiting
+waiting m s items = waiting_in (line m s items)
 
 abbrev pub answered : {S : Type 0} → Meaning S → S → List Item → List Answered
 answered m s [] = []
 answered m s (x ∷ xs) =
-    answered m s xs ++ (becomes m (run m s xs) (is_gone xs) (packets xs) x (waiting m s xs)).answered
+    answered m s xs ++ (becomes m (run m s xs) (is_gone xs) (packets xs) x (line m s xs)).answered
 
 abbrev pub dropped : {S : Type 0} → Meaning S → S → List Item → List Placed
 dropped m s [] = []
-dropped m s (x ∷ xs) = dropped m s xs ++ (becomes m (run m s xs) (is_gone xs) (packets xs) x (waiting m s xs)).dropped
+dropped m s (x ∷ xs) = dropped m s xs ++ (becomes m (run m s xs) (is_gone xs) (packets xs) x (line m s xs)).dropped
 
 abbrev pub requests_of : List Answered → List Placed
 requests_of answered = map (λ (a : Answered). a.request) answered

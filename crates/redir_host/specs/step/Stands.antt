@@ -10,8 +10,9 @@ use Rattle.redir_data.specs.declared.state.RedirState.{RedirState}
 use Rattle.redir_data.specs.Streams.{start, after}
 use Rattle.model_device.specs.Meaning.{Meaning}
 use Rattle.redir_host.specs.state.Kept.{HostKept}
+use Rattle.redir_host.specs.declared.host.Host.{Host}
 use Rattle.redir_host.specs.declared.note.HostNote.{HostNote}
-use Rattle.redir_host.specs.step.Acts.{Act, guest_bytes}
+use Rattle.redir_host.specs.step.Acts.{Act, Piece, guest_bytes}
 use Rattle.redir_host.specs.guest.Guest.{guest_split}
 use Rattle.redir_host.specs.step.History.{brought, history}
 use Rattle.redir_host.specs.step.Items.{Item}
@@ -77,3 +78,19 @@ pub record Stops {S : Type 0} (m : Meaning S) (s : S) (acts : List Act) (a : Act
   pub sent : new_out ≡ old_out ++ given_by bytes_of m (host_of m s acts) taken
   -- to hold the bytes, or for the first of the items that are left
   pub wanted : ((taken ≡ []) × IsHeld acts a) ⊎ FirstWants m (steps m (host_of m s acts) taken) later
+
+-- ---- what the calls say of the core, whatever acts it stands for
+
+-- an answer tells this of the host
+abbrev pub TellsOf : {S T : Type 0} → Meaning S → HostKept S → (Host S → T) → T → Type 0
+TellsOf {S = S} m old tells told = (s : S) (acts : List Act) → Stands m s old acts → told ≡ tells (host_of m s acts)
+
+abbrev pub Does : {S : Type 0} → Meaning S → Act → HostKept S → HostKept S → List ℕ → List ℕ → Type 0
+Does {S = S} m a old new old_out new_out = (s : S) (acts : List Act) → Stands m s old acts → DoesAct m s new acts a old_out new_out
+
+abbrev pub TakesPiece : {S : Type 0} → Meaning S → List ℕ → HostKept S → HostKept S → List ℕ → List ℕ → List HostNote → List HostNote → Type 0
+TakesPiece {S = S} m piece old new old_out new_out old_notes new_notes =
+    (s : S) (acts : List Act) → Stands m s old acts → TakesAct m s new acts (Piece piece) old_out new_out old_notes new_notes
+
+abbrev pub StopsIn : {S : Type 0} → Meaning S → Act → HostKept S → List ℕ → List ℕ → Type 0
+StopsIn {S = S} m a old old_out new_out = (s : S) (acts : List Act) → Stands m s old acts → Stops m s acts a old_out new_out

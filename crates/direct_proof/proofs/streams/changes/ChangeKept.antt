@@ -3,6 +3,8 @@ use Rattle.direct_proof.proofs.streams.changes.ChangeLists.{past, setup-alone, b
 use Rattle.std.proofs.Common.{◌≡◌, ℕ, ◌==◌, ◌||◌, not, true, false, cond, List, [], ◌∷◌, ◌++◌, length, map, filter, Option, Some, None, is_some, refl, sym, ap, ◌∙◌, subst, append-nil, append_assoc}
 use Rattle.std.specs.List.{list_any}
 use Rattle.std.proofs.lemmas.List.{length-map}
+use Rattle.std.proofs.lemmas.Bool.{or_left, or_right}
+use Rattle.std.proofs.lemmas.List.Folds.{list_any-append}
 use Rattle.usb_base.specs.declared.setup.Setup.{Setup}
 use Rattle.usbip_urb.specs.declared.packet.Submit.{Submit as UrbSubmit}
 use Rattle.usbip_urb.specs.declared.packet.UrbPacket.TheVariants as urb
@@ -45,7 +47,7 @@ use Rattle.direct_proof.specs.Kinds.{StartOfKind}
 use Rattle.direct_proof.specs.Running.{started_kind}
 use Rattle.direct_proof.proofs.shared.Traces.{map-append}
 use Rattle.direct_proof.proofs.shared.Owed.{each-append, IsNewNumber, ids-submit}
-use Rattle.direct_proof.proofs.shared.Folds.{clash, or-left, or-right, any-append}
+use Rattle.direct_proof.proofs.shared.Folds.{clash}
 use Rattle.direct_proof.proofs.shared.Fits.{fits-append}
 use Rattle.direct_proof.proofs.streams.wires.Folds.{starts-append}
 use Rattle.direct_proof.proofs.shared.Keeps.{Keeps}
@@ -86,7 +88,7 @@ module _ {S : Type 0} (m : Meaning S) (w : World S) (j : Shared) (place : ℕ) (
   connect = rel.meets.no_session imported there
 
   session : Session m w j
-  session = rel.session there (or-left (is_some w.gate.facts.connect) _ connect)
+  session = rel.session there (or_left (is_some w.gate.facts.connect) _ connect)
 
   owed : debts_of (submits w.gate) ≡ j.debts
   owed = sym (append-nil (debts_of (submits w.gate))) ∙ ap (λ (l : List Submission). debts_of (submits w.gate) ++ debts_of l) (sym (rel.alone imported).0) ∙ rel.debts there
@@ -98,7 +100,7 @@ module _ {S : Type 0} (m : Meaning S) (w : World S) (j : Shared) (place : ℕ) (
   joined = append_assoc j.held j.coming (entry ∷ [])
 
   pending : (any_change (j.held ++ (j.coming ++ entry ∷ [])) || j.fenced) ≡ true
-  pending = or-left (any_change (j.held ++ (j.coming ++ entry ∷ []))) j.fenced (sym (ap any_change joined) ∙ any-append is_changing (j.held ++ j.coming) (entry ∷ []) ∙ or-right (any_change (j.held ++ j.coming)) (is_change x || false) (or-left (is_change x) false change))
+  pending = or_left (any_change (j.held ++ (j.coming ++ entry ∷ []))) j.fenced (sym (ap any_change joined) ∙ list_any-append is_changing (j.held ++ j.coming) (entry ∷ []) ∙ or_right (any_change (j.held ++ j.coming)) (is_change x || false) (or_left (is_change x) false change))
 
   new-session : Session m (change_world w r x) later
   new-session = record {

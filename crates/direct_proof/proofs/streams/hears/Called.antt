@@ -2,6 +2,7 @@
 use Rattle.direct_proof.proofs.streams.hears.CalledFence.{called_world, called-moved, unheard-moved, unfenced, stays-clean, fenced-called}
 use Rattle.std.proofs.Common.{◌≡◌, ℕ, ◌+◌, ◌||◌, ◌⊎◌, inl, inr, Bool, true, false, cond, List, [], ◌∷◌, ◌++◌, map, Option, Some, None, is_some, refl, sym, ap, ◌∙◌, subst, arith}
 use Rattle.std.specs.List.{list_any}
+use Rattle.std.proofs.lemmas.Bool.{or_left, or_right}
 use Rattle.redir_data.specs.declared.packet.RedirPacket.{RedirPacket}
 use Rattle.redir_data.specs.Streams.{advanced}
 use Rattle.model_device.specs.Meaning.{Meaning}
@@ -31,7 +32,7 @@ use Rattle.direct_proof.proofs.shared.Owed.{each-append}
 use Rattle.direct_proof.proofs.shared.Keeps.{Keeps, keeps-quiet}
 use Rattle.direct_proof.proofs.streams.wires.Sorts.{asks-parts, line_changes}
 use Rattle.direct_proof.proofs.streams.wires.SortsMore.{call-stays}
-use Rattle.direct_proof.proofs.shared.Folds.{clash, not-both, or-left, or-right}
+use Rattle.direct_proof.proofs.shared.Folds.{clash, not-both}
 use Rattle.direct_proof.proofs.streams.wires.Folds.{or-either, quits-off}
 use Rattle.direct_proof.proofs.shared.Backs.{clean-append}
 use Rattle.direct_proof.proofs.shared.Streaming.{statuses-append}
@@ -75,8 +76,8 @@ module _ {S : Type 0} (m : Meaning S) (w : World S) (j : Shared) (rel : Related 
         stop (inr k) = k.0
 
         go : (asks w.gate.fence q ≡ true) ⊎ (list_any (asks w.gate.fence) ps ≡ true) → ((any_change (j.held ++ j.coming) || fenced') || (is_fence w.gate.fence q.0 || false)) ≡ true
-        go (inl k) = or-right (any_change (j.held ++ j.coming) || fenced') (is_fence w.gate.fence q.0 || false) (or-left (is_fence w.gate.fence q.0) false (stop (asks-parts w.gate.fence q k)))
-        go (inr k) = or-left (any_change (j.held ++ j.coming) || fenced') (is_fence w.gate.fence q.0 || false) (asked-pending w.gate.fence fenced' j.half ps (j.back ++ b ∷ []) j.held j.coming (line m w j rel q ps wire x at-x) new-fenced k)
+        go (inl k) = or_right (any_change (j.held ++ j.coming) || fenced') (is_fence w.gate.fence q.0 || false) (or_left (is_fence w.gate.fence q.0) false (stop (asks-parts w.gate.fence q k)))
+        go (inr k) = or_left (any_change (j.held ++ j.coming) || fenced') (is_fence w.gate.fence q.0 || false) (asked-pending w.gate.fence fenced' j.half ps (j.back ++ b ∷ []) j.held j.coming (line m w j rel q ps wire x at-x) new-fenced k)
 
     same-told : told w.gate.facts (j.back ++ b ∷ []) ≡ told w.gate.facts j.back
     same-told = told-last w.gate.facts j.back b (no-fact-told c.kind q.0 c.ep 0)

@@ -1,5 +1,6 @@
 -- A start or a stop is the next that the host reads: what is known of it, and of the wire behind it.
 use Rattle.std.proofs.Common.{◌≡◌, ℕ, ◌||◌, Bool, true, false, List, [], ◌∷◌, ◌++◌, Option, Some, None, refl, sym, ap, ◌∙◌, subst}
+use Rattle.std.proofs.Math.Bool.{or-false}
 use Rattle.redir_data.specs.declared.packet.RedirPacket.{RedirPacket}
 use Rattle.model_device.specs.Meaning.{Meaning}
 use Rattle.redir_host.specs.guest.Line.{Waiting as InLine}
@@ -15,7 +16,7 @@ use Rattle.direct_proof.specs.Meets.{is_announced}
 use Rattle.direct_proof.specs.Cancels.{any_change, CancelsFit, moved, left, IsAsking}
 use Rattle.direct_proof.specs.Running.{called_endpoint, started_kind, StartsFit}
 use Rattle.direct_proof.proofs.streams.wires.Sorts.{IsCall, Calls_or, is-call}
-use Rattle.direct_proof.proofs.shared.Folds.{clash, or-false}
+use Rattle.direct_proof.proofs.shared.Folds.{clash}
 use Rattle.direct_proof.proofs.streams.hears.Calling.{HostCalls, host-calls}
 
 -- ---- what is kept

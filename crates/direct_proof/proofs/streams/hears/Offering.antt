@@ -2,6 +2,7 @@
 use Rattle.std.proofs.Common.{◌≡◌, ℕ, ◌+◌, ◌≤◌, ◌||◌, Bool, true, false, cond, List, [], ◌∷◌, ◌++◌, map, Option, Some, None, is_some, refl, sym, ap, ◌∙◌, subst, arith}
 use Rattle.std.specs.Prelude.{IfSome}
 use Rattle.std.specs.List.{find}
+use Rattle.std.proofs.lemmas.Bool.{or_left}
 use Rattle.usb_base.specs.declared.endpoint.EpTable.{EpTable}
 use Rattle.usb_base.specs.declared.transfer.StreamPacket.{StreamPacket}
 use Rattle.redir_wire.specs.EpTable.{table_of}
@@ -34,7 +35,7 @@ use Rattle.direct_proof.proofs.shared.Traces.{map-append}
 use Rattle.direct_proof.proofs.shared.Owed.{each-append}
 use Rattle.direct_proof.proofs.shared.Keeps.{Keeps, keeps-quiet}
 use Rattle.direct_proof.proofs.streams.Keeping.{Does, keeps-made}
-use Rattle.direct_proof.proofs.shared.Folds.{clash, or-left}
+use Rattle.direct_proof.proofs.shared.Folds.{clash}
 use Rattle.direct_proof.proofs.shared.Backs.{clean-append}
 use Rattle.direct_proof.proofs.streams.wires.Folds.{quits-runs}
 use Rattle.direct_proof.proofs.streams.wires.Growing.{any-last, plug-last, found-each, found-any, statuses-last, runs-last, told-last, no-fact, fenced-same, bye-last, way-offered}
@@ -109,8 +110,8 @@ module _ {S : Type 0} (m : Meaning S) (laws : IsGadget m) (w : World S) (j : Sha
     table = ap (λ (f : Facts). f.table) same-told ∙ session.table ∙ ap (λ (t : EpTable). table_of (ep_info_of both_caps t)) (sym facts.table);
     faces = ap (λ (f : Facts). f.interfaces) same-told ∙ session.faces ∙ ap Some (sym facts.interfaces);
     clean = clean-append w.gate.fence (down_in w.gate.streams) (any_change (j.held ++ j.coming) || j.fenced) (any_change (j.held ++ j.coming) || j.fenced) j.back (Packed s.kind ep sent.1 ∷ [])
-        (λ e. or-left (any_change (j.held ++ j.coming) || j.fenced) (false || false) e) session.clean
-        ((λ down. or-left (any_change (j.held ++ j.coming) || j.fenced) (false || false) (pending down)), tt);
+        (λ e. or_left (any_change (j.held ++ j.coming) || j.fenced) (false || false) e) session.clean
+        ((λ down. or_left (any_change (j.held ++ j.coming) || j.fenced) (false || false) (pending down)), tt);
     quits = session.quits;
     trails = session.trails;
     starts = subst (λ (t : EpTable). StartsFit t (any_change j.held || j.half) w.to_host) (sym facts.table) session.starts;

@@ -2,6 +2,8 @@
 use Rattle.direct_proof.proofs.streams.submits.RaisedLists.{packets-none, none-runs}
 use Rattle.std.proofs.Common.{◌≡◌, ℕ, ◌+◌, ◌≤◌, ◌==◌, ◌||◌, ◌⊎◌, Bool, true, false, cond, List, [], ◌∷◌, ◌++◌, Option, Some, None, is_none, refl, sym, ap, ◌∙◌, subst, arith, append-nil}
 use Rattle.std.specs.List.{list_any}
+use Rattle.std.proofs.lemmas.Bool.{or_parts}
+use Rattle.std.proofs.lemmas.List.Folds.{list_any-append}
 use Rattle.usb_base.specs.Endpoint.{row_of}
 use Rattle.usb_base.specs.declared.endpoint.EpKind.TheVariants as kind
 use Rattle.usb_base.specs.declared.endpoint.EpRow.{EpRow}
@@ -30,7 +32,7 @@ use Rattle.direct_proof.specs.Stale.{is_stale, asks}
 use Rattle.direct_proof.proofs.shared.Owed.{each-append}
 use Rattle.direct_proof.proofs.streams.fills.FillLists.{weight}
 use Rattle.direct_proof.proofs.streams.submits.Still.{IsStill}
-use Rattle.direct_proof.proofs.shared.Folds.{clash, or-none, any-append, lines-append}
+use Rattle.direct_proof.proofs.shared.Folds.{clash, lines-append}
 use Rattle.direct_proof.proofs.shared.Streaming.{calls-append, trails-append}
 use Rattle.direct_proof.proofs.streams.wires.Folds.{clean-weaker, quits-more, trails-weaker, starts-append, cancels-more}
 use Rattle.direct_proof.proofs.streams.wires.Sorts.{is_of as is_at}
@@ -95,7 +97,7 @@ module _ {S : Type 0} (m : Meaning S) (w : World S) (j : Shared) (ep id : ℕ) (
   asks-start false = tt
 
   no-change : ((any_change j.held || j.half) || list_any (asks None) w.to_host) ≡ false
-  no-change = λ i. ((or-none (any_change j.held) (any_change j.coming) (sym (any-append is_change j.held j.coming) ∙ s.entries)).0 i || s.half-is i) || (ap (λ (f : Option ℕ). list_any (asks f) w.to_host) (sym s.no_fence) ∙ s.none_asks) i
+  no-change = λ i. ((or_parts (any_change j.held) (any_change j.coming) (sym (list_any-append is_change j.held j.coming) ∙ s.entries)).0 i || s.half-is i) || (ap (λ (f : Option ℕ). list_any (asks f) w.to_host) (sym s.no_fence) ∙ s.none_asks) i
 
   can : CanStart (m.table w.host.gadget) ((any_change j.held || j.half) || list_any (asks None) w.to_host) (started_kind (start_packet ep row))
   can = subst (CanStart (m.table w.host.gadget) ((any_change j.held || j.half) || list_any (asks None) w.to_host)) (sym (start m w j ep id row rel s h kinds same-row down long free).started-is) (no-change, can-start (m.table w.host.gadget) (start m w j ep id row rel s h kinds same-row down long free).kind ep row h same-row (start m w j ep id row rel s h kinds same-row down long free).fits)

@@ -1,6 +1,8 @@
 -- One packet more on the wire to the gateway: what stays as it was.
 use Rattle.std.proofs.Common.{◌≡◌, ℕ, ◌==◌, ◌&&◌, ◌||◌, Bool, true, false, cond, List, [], ◌∷◌, ◌++◌, Option, Some, None, refl, sym, ap, ◌∙◌, subst, arith, append-nil}
 use Rattle.std.specs.List.{list_any, find}
+use Rattle.std.proofs.Math.Bool.{or-false}
+use Rattle.std.proofs.lemmas.List.Folds.{list_any-append}
 use Rattle.usb_base.specs.declared.transfer.StreamPacket.{StreamPacket}
 use Rattle.redir_data.specs.declared.packet.RedirPacket.{RedirPacket}
 use Rattle.redir_host.specs.declared.running.StreamKind.{StreamKind}
@@ -20,13 +22,13 @@ use Rattle.direct_proof.specs.Shared.{way_of}
 use Rattle.direct_proof.specs.Calls.{Fenced, statuses_on, status_id}
 use Rattle.direct_proof.specs.Meets.{ByeLast, PlugOnce, is_bye, is_greeting, is_plug}
 use Rattle.direct_proof.specs.Kinds.{OfKind}
-use Rattle.direct_proof.proofs.shared.Folds.{not-both, or-false, any-append}
+use Rattle.direct_proof.proofs.shared.Folds.{not-both}
 use Rattle.direct_proof.proofs.shared.Backs.{told-append}
 use Rattle.direct_proof.proofs.shared.Streaming.{statuses-append}
 use Rattle.direct_proof.proofs.shared.WireBack.{runs_in-append, packets_in-append}
 
 pub any-last : {X : Type 0} (p : X → Bool) (xs : List X) (x : X) → p x ≡ false → list_any p (xs ++ x ∷ []) ≡ list_any p xs
-any-last p xs x h = any-append p xs (x ∷ []) ∙ ap (λ (b : Bool). list_any p xs || (b || false)) h ∙ or-false (list_any p xs)
+any-last p xs x h = list_any-append p xs (x ∷ []) ∙ ap (λ (b : Bool). list_any p xs || (b || false)) h ∙ or-false (list_any p xs)
 
 -- what a search finds
 pub found-each : {X : Type 0} (P : X → Type 0) (p : X → Bool) (xs : List X) (x : X) → Each P xs → find p xs ≡ Some x → P x × (p x ≡ true)

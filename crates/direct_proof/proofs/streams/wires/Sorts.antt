@@ -26,7 +26,7 @@ form_changes (form.GetAlt i) = false
 
 abbrev pub line_changes : InLine → Bool
 line_changes Reset = true
-line_changes (Waits id f t) = form_changes f
+line_changes (Waits place id f t) = form_changes f
 
 no : false ≡ true → ⊥
 no e = cc

@@ -1,4 +1,4 @@
-use Rattle.redir_host.proofs.lemmas.guest.Queues.{run-in-line}
+use Rattle.redir_host.proofs.lemmas.step.Replied.{run-in-line}
 use Rattle.redir_host.proofs.laws.queues_are_lines.Goals as goal
 
 pub returns-clause-queue : goal.returns-clause-queue

@@ -2,7 +2,7 @@
 use Rattle.std.proofs.Common.{◌≡◌, ℕ, ◌<◌, ◌%◌, ◌^◌, Bool, true, false, cond, not, ◌&&◌, ◌==◌, List, [], ◌∷◌, length, Some, None, refl, sym, ap, subst, ◌∙◌, arith, lit<}
 use Rattle.std.specs.Prelude.{Option, nat_lt, nat_le}
 use Rattle.std.specs.List.{find}
-use Rattle.std.proofs.lemmas.Bool.{eqb-true, ltb-true, leb-true, true≢false}
+use Rattle.std.proofs.lemmas.Bool.{and_parts, eqb-true, not-true, ltb-true, leb-true, true≢false}
 use Rattle.usb_base.specs.Endpoint.{is_in_endpoint, row_of}
 use Rattle.usb_base.specs.declared.endpoint.EpTable.{EpTable}
 use Rattle.usb_base.specs.declared.setup.Setup.{Setup}
@@ -38,7 +38,7 @@ use Rattle.redir_host.specs.guest.Packets.{request, queued, data_move, cancel_mo
 use Rattle.redir_host.specs.state.Queues.{is_first_queue, is_cancelled_by, marked, with_first_marked, after_cancel}
 use Rattle.redir_host.specs.state.Sound.{Each, FormFits, IsRequest, IsRunning, IsSound, WantedFits}
 use Rattle.redir_host.proofs.lemmas.state.Sound.{Keeps}
-use Rattle.redir_host.proofs.lemmas.state.Each.{each_appended, each_filtered, each_weaker, second}
+use Rattle.redir_host.proofs.lemmas.state.Each.{each_appended, each_filtered, each_weaker}
 
 -- ---- what is known of a request's transfer
 
@@ -82,14 +82,6 @@ from-device ep told body there into = none-there body (there ∙ ap (λ (b : Boo
 to-device : (ep told : ℕ) (body : List ℕ) → length body ≡ data_count ToHost ep told → is_in_endpoint ep ≡ false → told ≡ length body
 to-device ep told body there out = sym (there ∙ ap (λ (b : Bool). cond (not b) told 0) out)
 
-first_of_both : (a b : Bool) → (a && b) ≡ true → a ≡ true
-first_of_both true b e = refl
-first_of_both false b e = absurd cc
-
-not_true : (b : Bool) → not b ≡ true → b ≡ false
-not_true true e = absurd cc
-not_true false e = refl
-
 control-by : (setup : Setup) (ep told : ℕ) (body : List ℕ) (b : Bool) → nat_lt setup.kind 128 ≡ b → ep ≡ cond b 0 128 → length body ≡ data_count ToHost ep told → IsTransfer (record { ep = ep; setup = Some setup; wanted = told; body = body })
 control-by setup ep told body true kind is there =
     let Says : ℕ → Type 0 = λ e. length body ≡ data_count ToHost e told → IsTransfer (record { ep = e; setup = Some setup; wanted = told; body = body }) in
@@ -112,8 +104,8 @@ control-by setup ep told body false kind is there =
 
 other-transfer : (ep told : ℕ) (body : List ℕ) → is_other ep ≡ true → length body ≡ data_count ToHost ep told → IsTransfer (record { ep = ep; setup = None; wanted = told; body = body })
 other-transfer ep told body other there = record {
-  address = ltb-true (ep % 128) 16 (first_of_both (nat_lt (ep % 128) 16) (not (is_control ep)) other);
-  has_setup = sym (not_true (is_control ep) (second (nat_lt (ep % 128) 16) (not (is_control ep)) other));
+  address = ltb-true (ep % 128) 16 (and_parts (nat_lt (ep % 128) 16) (not (is_control ep)) other).0;
+  has_setup = sym (not-true (is_control ep) (and_parts (nat_lt (ep % 128) 16) (not (is_control ep)) other).1);
   direction = tt;
   from_device = from-device ep told body there;
   to_device = to-device ep told body there;
@@ -136,7 +128,7 @@ joins-keeps h id f t sound greeted fits can = record {
       transfer = can.transfer;
       wanted_fits = can.wanted_fits;
       form_fits = can.form_fits;
-      marked = λ is. first_of_both (is_control t.ep) h.resets_next is;
+      marked = λ is. (and_parts (is_control t.ep) h.resets_next is).0;
     });
     streams = sound.streams;
   };
@@ -165,8 +157,8 @@ data-keeps h id (moving.Control ep asked kind status value index told body) soun
 data-keeps h id (moving.Bulk ep status told stream body) sound greeted fits is =
     asked-keeps h id (is_other ep && nat_le told greatest) (form.Bulk stream) (record { ep = ep; setup = None; wanted = told; body = body }) sound greeted fits
     (λ can. record {
-      transfer = other-transfer ep told body (first_of_both (is_other ep) (nat_le told greatest) can) is.data_there;
-      wanted_fits = (leb-true told greatest (second (is_other ep) (nat_le told greatest) can), is.length_fits);
+      transfer = other-transfer ep told body (and_parts (is_other ep) (nat_le told greatest) can).0 is.data_there;
+      wanted_fits = (leb-true told greatest (and_parts (is_other ep) (nat_le told greatest) can).1, is.length_fits);
       form_fits = is.ranges.stream_fits;
     })
 data-keeps h id (moving.Iso ep status told body) sound greeted fits is = record { guest = refl; sound = sound }
@@ -212,7 +204,7 @@ stop-keeps : {S : Type 0} (h : Host S) (id : ℕ) (k : StreamKind) (ep : ℕ) �
 stop-keeps h id k ep sound = record { guest = refl; sound = record { requests = sound.requests; streams = each_filtered (IsRunning h.guest) (λ s. not (runs_at ep s)) h.running sound.streams } }
 
 pub started-in : (table : EpTable) (k : StreamKind) (ep : ℕ) → can_start table k ep ≡ true → is_in_endpoint ep ≡ true
-started-in table k ep can = first_of_both (is_in_endpoint ep) (is_of k (row_of table ep).kind) (second (nat_lt (ep % 128) 16) (is_in_endpoint ep && is_of k (row_of table ep).kind) can)
+started-in table k ep can = (and_parts (is_in_endpoint ep) (is_of k (row_of table ep).kind) (and_parts (nat_lt (ep % 128) 16) (is_in_endpoint ep && is_of k (row_of table ep).kind) can).1).0
 
 -- ---- packets that move no data
 

@@ -1,5 +1,5 @@
 -- What is known of each element of a list.
-use Rattle.std.proofs.Common.{◌≡◌, Bool, true, false, cond, ◌&&◌, List, [], ◌∷◌, ◌++◌, filter, Some, None, refl, sym, ap, subst, ◌∙◌, inl, inr}
+use Rattle.std.proofs.Common.{◌≡◌, Bool, true, false, cond, List, [], ◌∷◌, ◌++◌, filter, Some, None, refl, sym, ap, subst, ◌∙◌, inl, inr}
 use Rattle.std.specs.Prelude.{Option, IfSome}
 use Rattle.std.specs.List.{find}
 use Rattle.std.proofs.lemmas.Bool.{cases_Bool}
@@ -56,10 +56,6 @@ if_found {A = A} P test (x ∷ xs) each = by (if_found P test xs each.1) (test x
 pub given_if : {S A : Type 0} (P : A → Type 0) (o : Option (S × A)) (a : A) → Some a ≡ given_in o → IfSome o (λ r. P r.1) → P a
 given_if P None a is h = absurd cc
 given_if P (Some r) a is h = let same : r.1 ≡ a = cc in subst P same h
-
-pub second : (a b : Bool) → (a && b) ≡ true → b ≡ true
-second true b e = e
-second false b e = absurd cc
 
 all_well : {A : Type 0} (xs : List A) → Each (λ (x : A). Unit {0}) xs
 all_well [] = tt

@@ -14,7 +14,8 @@ use Rattle.std.proofs.lemmas.Cmp.{ranked, by_ranked, tied_itself, nat_cmp_total}
 use Rattle.std.proofs.lemmas.Map.Keys.{sorted_head, sorted_tail}
 use Rattle.redir_host.specs.declared.request.Request.{Request}
 use Rattle.redir_host.specs.inner.Waiting.{first_number, is_from}
-use Rattle.redir_host.specs.state.Queues.{is_at, queue_of, without_first}
+use Rattle.usb_base.specs.Firsts.{without_first}
+use Rattle.redir_host.specs.state.Queues.{is_at, queue_of}
 
 -- ---- numbers, compared
 

@@ -10,7 +10,7 @@ use Rattle.std.specs.BTreeMap.Range.{IsInRange, IsLeBy}
 use Rattle.std.specs.BTreeSet.{contains}
 use Rattle.std.specs.Cmp.{tied_then}
 use Rattle.std.specs.declared.ops.Bound.TheVariants.{Included}
-use Rattle.std.proofs.lemmas.Bool.{cases_Bool, cases_eq, eqb-true, le-leb, leb-true}
+use Rattle.std.proofs.lemmas.Bool.{and_parts, cases_Bool, cases_eq, eqb-true, le-leb, leb-true}
 use Rattle.std.proofs.lemmas.Cmp.{ranked, by_ranked, tied_itself, nat_cmp_total, eq_by_cmp_equiv}
 use Rattle.std.proofs.lemmas.Map.Entries.{lookup-filter-values, option_filter}
 use Rattle.std.proofs.lemmas.Map.Lookups.{exact_pairs, exact_unsigned}
@@ -68,10 +68,6 @@ none_from w queue number top indexed room none =
 waiting_there : (queue : ℕ) (o : Option Request) → waits_in queue o ≡ true → (q : Request) × ((o ≡ Some q) × ((queue_of q.transfer.ep == queue) ≡ true))
 waiting_there queue None is = absurd cc
 waiting_there queue (Some q) is = (q, (refl, is))
-
-and_parts : (a b : Bool) → (a && b) ≡ true → (a ≡ true) × (b ≡ true)
-and_parts true b e = (refl, e)
-and_parts false b e = absurd cc
 
 pub some_from : (w : Waiting) (queue number top : ℕ) (k : ℕ × ℕ) → IsIndexed w → 2 ^ 64 ≤ top + 1 → InQueue queue number top k → contains key_cmp w.queues k ≡ true
     → ((o : ℕ × ℕ) → InQueue queue number top o → contains key_cmp w.queues o ≡ true → IsLeBy key_cmp k o) → first_number (is_from queue number) w.requests.entries ≡ Some k.1

@@ -21,7 +21,8 @@ use Rattle.redir_host.specs.step.Moves.{Move, quiet}
 use Rattle.redir_host.specs.device.Offering.{offer_move, offered_on, offered_by, unplug_move}
 use Rattle.redir_host.specs.guest.Packets.{runs_at}
 use Rattle.redir_host.specs.device.Performing.{done_by, does, performs, follows, resets, performs_marked, performs_any, with_id, first_performed, performed, perform_move, perform_move_by}
-use Rattle.redir_host.specs.state.Queues.{is_at, without_first}
+use Rattle.usb_base.specs.Firsts.{without_first}
+use Rattle.redir_host.specs.state.Queues.{is_at}
 use Rattle.redir_host.specs.state.Sound.{Each, IsRequest, IsSound}
 use Rattle.redir_host.proofs.lemmas.step.Makes.{changed_guest, cleared_sound}
 

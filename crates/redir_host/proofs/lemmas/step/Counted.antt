@@ -17,12 +17,14 @@ use Rattle.redir_host.specs.declared.host.Host.{Host}
 use Rattle.redir_host.specs.declared.request.Asking.{Asking}
 use Rattle.redir_host.specs.declared.request.Asking.TheVariants.{Nothing, Refuses, Asks}
 use Rattle.redir_host.specs.declared.request.Request.{Request}
-use Rattle.redir_host.specs.guest.Asking.{asking_of}
-use Rattle.redir_host.specs.guest.Line.{all_changes}
-use Rattle.redir_host.specs.state.Queues.{is_at, without_first}
-use Rattle.redir_host.specs.step.Answered.{Placed, Answered, End, ByDevice, ByCancel, ByChange, Became, packets, asking, asking_plain, request_in, requests, placed, ends, stays, first_such, is_of, is_cancelled, is_placed, by_asking, by_cancel, by_plain, by_packet, is_flushed, is_left, flushed_of, left_of, outcome_of, by_outcome, by_perform, becomes, is_gone, waiting, answered, dropped, requests_of}
+use Rattle.redir_host.specs.guest.Asking.{asking, asking_of, asking_plain}
+use Rattle.redir_host.specs.guest.Line.{Placed, Waiting, placed, plain_line, asked_line, waiting_in, without_performed, stays_in, flushed_in, all_changes}
+use Rattle.usb_base.specs.Firsts.{without_first}
+use Rattle.redir_host.specs.state.Queues.{is_at}
+use Rattle.redir_host.specs.step.Answered.{Answered, End, ByDevice, ByCancel, ByChange, Became, packets, request_in, requests, ends, stays, joins, at_once, first_such, is_of, is_cancelled, is_placed, by_cancel, by_plain, by_packet, is_flushed, flushed_of, outcome_of, by_outcome, by_perform, becomes, is_gone, line, waiting, answered, dropped, requests_of}
 use Rattle.redir_host.specs.step.Items.{Item, Asked, Wrong, Performs, Offers, Unplugs}
 use Rattle.redir_host.specs.step.Machine.{run}
+use Rattle.redir_host.proofs.lemmas.guest.Placed.{placed-append, placed-cancelled, placed-left, placed-performed, placed-plain}
 
 abbrev many : {A : Type 0} → (A → Bool) → List A → ℕ
 many test xs = length (filter test xs)
@@ -64,74 +66,86 @@ requests-append xs ys = map-append (λ (a : Answered). a.request) xs ys
 -- ---- one item
 
 -- those that waited and the new ones wait, are answered or are dropped
-abbrev Counts : (Placed → Bool) → Became → List Placed → List Placed → Type 0
-Counts test b before new = many test (requests_of b.answered) + many test b.waiting + many test b.dropped ≡ many test before + many test new
+abbrev Counts : (Placed → Bool) → Became → List Waiting → List Placed → Type 0
+Counts test b before new = many test (requests_of b.answered) + many test (waiting_in b.line) + many test b.dropped ≡ many test (waiting_in before) + many test new
 
-counts-asking : (test : Placed → Bool) (place id : ℕ) (a : Asking) (ws : List Placed) → Counts test (by_asking place id a ws) ws (request_in place id a)
-counts-asking test place id Nothing ws = omega arith
-counts-asking test place id (Refuses f ep) ws = omega arith
-counts-asking test place id (Asks f t) ws = let all = many-append test ws (placed place id f t.ep ∷ []) in omega (arith, all)
+counts-joins : (test : Placed → Bool) (l comes : List Waiting) (answered : List Answered) (new : List Placed) → many test (requests_of answered) + many test (waiting_in comes) ≡ many test new → Counts test (joins l comes answered) l new
+counts-joins test l comes answered new told =
+    let both = ap (many test) (placed-append l comes) ∙ many-append test (waiting_in l) (waiting_in comes) in
+    omega (arith, told, both)
 
-counts-cancel : (test : Placed → Bool) (id : ℕ) (ws : List Placed) → Counts test (by_cancel id ws) ws []
-counts-cancel test id ws =
-    let taken = ap (many test) (requests-ends ByCancel (first_such (is_cancelled id) ws)) in
-    let all = many-first test (is_cancelled id) ws in
-    omega (arith, taken, all)
+asked-counts : (test : Placed → Bool) (place id : ℕ) (a : Asking) → many test (requests_of (at_once place id a)) + many test (waiting_in (asked_line place id a)) ≡ many test (request_in place id a)
+asked-counts test place id Nothing = omega arith
+asked-counts test place id (Refuses f ep) = omega arith
+asked-counts test place id (Asks f t) = omega arith
 
-counts-plain : (test : Placed → Bool) (place id : ℕ) (p : RedirControl) (ws : List Placed) → Counts test (by_plain place id p ws) ws (request_in place id (asking_plain p))
-counts-plain test place id plain.Cancel ws = counts-cancel test id ws
-counts-plain test place id p ws = counts-asking test place id (asking_plain p) ws
+counts-cancel : (test : Placed → Bool) (id : ℕ) (l : List Waiting) → Counts test (by_cancel id l) l []
+counts-cancel test id l =
+    let taken = ap (many test) (requests-ends ByCancel (first_such (is_cancelled id) (waiting_in l))) in
+    let all = many-first test (is_cancelled id) (waiting_in l) in
+    let left = ap (many test) (placed-cancelled id l) in
+    omega (arith, taken, all, left)
 
-counts-packet : (test : Placed → Bool) (place id : ℕ) (p : RedirPacket) (ws : List Placed) → Counts test (by_packet place id p ws) ws (request_in place id (asking p))
-counts-packet test place id (Plain p) ws = counts-plain test place id p ws
-counts-packet test place id (Carrying d) ws = counts-asking test place id (asking_of d) ws
+counts-plain : (test : Placed → Bool) (place id : ℕ) (p : RedirControl) (l : List Waiting) → Counts test (by_plain place id p l) l (request_in place id (asking_plain p))
+counts-plain test place id plain.Cancel l = counts-cancel test id l
+counts-plain test place id p l =
+    let told = ap (many test) (placed-plain place id p) in
+    counts-joins test l (plain_line place id p) [] (request_in place id (asking_plain p)) (omega (arith, told))
 
-many-flushed : (test : Placed → Bool) (cs : List (Route × EpTable)) (ws : List Placed) → many test (flushed_of cs ws) + many test (left_of cs ws) ≡ many test ws
-many-flushed test [] ws = omega arith
-many-flushed test (c ∷ cs) ws =
-    let one = many-filtered test (is_flushed c.0 c.1) ws in
-    let both = many-append test (filter (is_flushed c.0 c.1) ws) (flushed_of cs (filter (is_left c.0 c.1) ws)) in
-    let rest = many-flushed test cs (filter (is_left c.0 c.1) ws) in
-    omega (arith, one, both, rest)
+counts-packet : (test : Placed → Bool) (place id : ℕ) (p : RedirPacket) (l : List Waiting) → Counts test (by_packet place id p l) l (request_in place id (asking p))
+counts-packet test place id (Plain p) l = counts-plain test place id p l
+counts-packet test place id (Carrying d) l =
+    counts-joins test l (asked_line place id (asking_of d)) (at_once place id (asking_of d)) (request_in place id (asking_of d)) (asked-counts test place id (asking_of d))
 
-counts-outcome : (test : Placed → Bool) (cs : List (Route × EpTable)) (ep : ℕ) (ws : List Placed) (o : Option (ℕ × Outcome)) → Counts test (by_outcome cs ep ws o) ws []
-counts-outcome test cs ep ws None = omega arith
-counts-outcome test cs ep ws (Some o) =
-    let left = without_first (is_of ep) ws in
-    let flushed = flushed_of cs left in
-    let first = first_such (is_of ep) ws in
+many-flushed : (test : Placed → Bool) (cs : List (Route × EpTable)) (l : List Waiting) → many test (flushed_of cs l) + many test (waiting_in (flushed_in cs l)) ≡ many test (waiting_in l)
+many-flushed test [] l = omega arith
+many-flushed test (c ∷ cs) l =
+    let behind = filter (stays_in c.0 c.1) l in
+    let one = many-filtered test (is_flushed c.0 c.1) (waiting_in l) in
+    let left = ap (many test) (placed-left c.0 c.1 l) in
+    let both = many-append test (filter (is_flushed c.0 c.1) (waiting_in l)) (flushed_of cs behind) in
+    let rest = many-flushed test cs behind in
+    omega (arith, one, left, both, rest)
+
+counts-outcome : (test : Placed → Bool) (cs : List (Route × EpTable)) (ep : ℕ) (l : List Waiting) (o : Option (ℕ × Outcome)) → Counts test (by_outcome cs ep l o) l []
+counts-outcome test cs ep l None = omega arith
+counts-outcome test cs ep l (Some o) =
+    let behind = without_performed ep l in
+    let flushed = flushed_of cs behind in
+    let first = first_such (is_of ep) (waiting_in l) in
     let e : requests_of (map (ends ByChange) flushed ++ map (ends (ByDevice o.0 o.1)) first) ≡ flushed ++ first =
     requests-append (map (ends ByChange) flushed) (map (ends (ByDevice o.0 o.1)) first) ∙ (λ i. requests-ends ByChange flushed i ++ requests-ends (ByDevice o.0 o.1) first i) in
     let told = ap (many test) e in
     let both = many-append test flushed first in
-    let one = many-first test (is_of ep) ws in
-    let rest = many-flushed test cs left in
-    omega (arith, told, both, one, rest)
+    let one = many-first test (is_of ep) (waiting_in l) in
+    let left = ap (many test) (placed-performed ep l) in
+    let rest = many-flushed test cs behind in
+    omega (arith, told, both, one, left, rest)
 
-counts-perform : {S : Type 0} (test : Placed → Bool) (m : Meaning S) (s : S) (ep : ℕ) (ws : List Placed) (o : Option Request) → Counts test (by_perform m s ep ws o) ws []
-counts-perform test m s ep ws None = omega arith
-counts-perform test m s ep ws (Some q) = counts-outcome test (all_changes m s q) ep ws (outcome_of m s q)
+counts-perform : {S : Type 0} (test : Placed → Bool) (m : Meaning S) (s : S) (ep : ℕ) (l : List Waiting) (o : Option Request) → Counts test (by_perform m s ep l o) l []
+counts-perform test m s ep l None = omega arith
+counts-perform test m s ep l (Some q) = counts-outcome test (all_changes m s q) ep l (outcome_of m s q)
 
 -- those that an item brings
-abbrev news : ℕ → Item → List Placed
+abbrev pub news : ℕ → Item → List Placed
 news place (Asked id p) = request_in place id (asking p)
 news place _ = []
 
-counts-item : {S : Type 0} (test : Placed → Bool) (m : Meaning S) (h : Host S) (out : Bool) (place : ℕ) (x : Item) (ws : List Placed) → Counts test (becomes m h out place x ws) ws (news place x)
-counts-item test m h out place (Asked id p) ws =
+counts-item : {S : Type 0} (test : Placed → Bool) (m : Meaning S) (h : Host S) (out : Bool) (place : ℕ) (x : Item) (l : List Waiting) → Counts test (becomes m h out place x l) l (news place x)
+counts-item test m h out place (Asked id p) l =
     let new = request_in place id (asking p) in
-    let gone : Became = record { waiting = ws; answered = []; dropped = new } in
-    elim out as (λ (b : Bool). Counts test (cond b gone (by_packet place id p ws)) ws new) [ true ↦ omega arith | false ↦ counts-packet test place id p ws ]
-counts-item test m h out place (Wrong from reason) ws = omega arith
-counts-item test m h out place (Performs ep) ws =
-    elim out as (λ (b : Bool). Counts test (cond b (stays ws) (by_perform m h.gadget ep ws (find (is_at ep) h.queue))) ws []) [
+    let gone : Became = record { line = l; answered = []; dropped = new } in
+    elim out as (λ (b : Bool). Counts test (cond b gone (by_packet place id p l)) l new) [ true ↦ omega arith | false ↦ counts-packet test place id p l ]
+counts-item test m h out place (Wrong from reason) l = omega arith
+counts-item test m h out place (Performs ep) l =
+    elim out as (λ (b : Bool). Counts test (cond b (stays l) (by_perform m h.gadget ep l (find (is_at ep) h.queue))) l []) [
       | true ↦ omega arith
-      | false ↦ counts-perform test m h.gadget ep ws (find (is_at ep) h.queue)
+      | false ↦ counts-perform test m h.gadget ep l (find (is_at ep) h.queue)
     ]
-counts-item test m h out place (Offers ep) ws = omega arith
-counts-item test m h out place Unplugs ws =
-    let gone : Became = record { waiting = []; answered = []; dropped = ws } in
-    elim out as (λ (b : Bool). Counts test (cond b (stays ws) gone) ws []) [ true ↦ omega arith | false ↦ omega arith ]
+counts-item test m h out place (Offers ep) l = omega arith
+counts-item test m h out place Unplugs l =
+    let gone : Became = record { line = []; answered = []; dropped = waiting_in l } in
+    elim out as (λ (b : Bool). Counts test (cond b (stays l) gone) l []) [ true ↦ omega arith | false ↦ omega arith ]
 
 -- ---- all items
 
@@ -145,8 +159,8 @@ many-new test Unplugs xs = omega arith
 pub all-counted : {S : Type 0} (m : Meaning S) (s : S) (xs : List Item) (test : Placed → Bool) → many test (requests xs) ≡ many test (requests_of (answered m s xs)) + many test (waiting m s xs) + many test (dropped m s xs)
 all-counted m s [] test = refl
 all-counted m s (x ∷ xs) test =
-    let b = becomes m (run m s xs) (is_gone xs) (packets xs) x (waiting m s xs) in
-    let one = counts-item test m (run m s xs) (is_gone xs) (packets xs) x (waiting m s xs) in
+    let b = becomes m (run m s xs) (is_gone xs) (packets xs) x (line m s xs) in
+    let one = counts-item test m (run m s xs) (is_gone xs) (packets xs) x (line m s xs) in
     let new = many-new test x xs in
     let before = all-counted m s xs test in
     let told = ap (many test) (requests-append (answered m s xs) b.answered) in
@@ -212,33 +226,28 @@ placed-once (x ∷ xs) n =
 
 -- ---- with the device
 
-asking-drops-none : (place id : ℕ) (a : Asking) (ws : List Placed) → (by_asking place id a ws).dropped ≡ []
-asking-drops-none place id Nothing ws = refl
-asking-drops-none place id (Refuses f ep) ws = refl
-asking-drops-none place id (Asks f t) ws = refl
+plain-drops-none : (place id : ℕ) (p : RedirControl) (l : List Waiting) → (by_plain place id p l).dropped ≡ []
+plain-drops-none place id plain.Cancel l = refl
+plain-drops-none place id p l = refl
 
-plain-drops-none : (place id : ℕ) (p : RedirControl) (ws : List Placed) → (by_plain place id p ws).dropped ≡ []
-plain-drops-none place id plain.Cancel ws = refl
-plain-drops-none place id p ws = asking-drops-none place id (asking_plain p) ws
+packet-drops-none : (place id : ℕ) (p : RedirPacket) (l : List Waiting) → (by_packet place id p l).dropped ≡ []
+packet-drops-none place id (Plain p) l = plain-drops-none place id p l
+packet-drops-none place id (Carrying d) l = refl
 
-packet-drops-none : (place id : ℕ) (p : RedirPacket) (ws : List Placed) → (by_packet place id p ws).dropped ≡ []
-packet-drops-none place id (Plain p) ws = plain-drops-none place id p ws
-packet-drops-none place id (Carrying d) ws = asking-drops-none place id (asking_of d) ws
+outcome-drops-none : (cs : List (Route × EpTable)) (ep : ℕ) (l : List Waiting) (o : Option (ℕ × Outcome)) → (by_outcome cs ep l o).dropped ≡ []
+outcome-drops-none cs ep l None = refl
+outcome-drops-none cs ep l (Some o) = refl
 
-outcome-drops-none : (cs : List (Route × EpTable)) (ep : ℕ) (ws : List Placed) (o : Option (ℕ × Outcome)) → (by_outcome cs ep ws o).dropped ≡ []
-outcome-drops-none cs ep ws None = refl
-outcome-drops-none cs ep ws (Some o) = refl
+perform-drops-none : {S : Type 0} (m : Meaning S) (s : S) (ep : ℕ) (l : List Waiting) (o : Option Request) → (by_perform m s ep l o).dropped ≡ []
+perform-drops-none m s ep l None = refl
+perform-drops-none m s ep l (Some q) = outcome-drops-none (all_changes m s q) ep l (outcome_of m s q)
 
-perform-drops-none : {S : Type 0} (m : Meaning S) (s : S) (ep : ℕ) (ws : List Placed) (o : Option Request) → (by_perform m s ep ws o).dropped ≡ []
-perform-drops-none m s ep ws None = refl
-perform-drops-none m s ep ws (Some q) = outcome-drops-none (all_changes m s q) ep ws (outcome_of m s q)
-
-item-drops-none : {S : Type 0} (m : Meaning S) (h : Host S) (place : ℕ) (x : Item) (xs : List Item) (ws : List Placed) → is_gone (x ∷ xs) ≡ false → (becomes m h false place x ws).dropped ≡ []
-item-drops-none m h place (Asked id p) xs ws there = packet-drops-none place id p ws
-item-drops-none m h place (Wrong from reason) xs ws there = refl
-item-drops-none m h place (Performs ep) xs ws there = perform-drops-none m h.gadget ep ws (find (is_at ep) h.queue)
-item-drops-none m h place (Offers ep) xs ws there = refl
-item-drops-none m h place Unplugs xs ws there = absurd cc
+item-drops-none : {S : Type 0} (m : Meaning S) (h : Host S) (place : ℕ) (x : Item) (xs : List Item) (l : List Waiting) → is_gone (x ∷ xs) ≡ false → (becomes m h false place x l).dropped ≡ []
+item-drops-none m h place (Asked id p) xs l there = packet-drops-none place id p l
+item-drops-none m h place (Wrong from reason) xs l there = refl
+item-drops-none m h place (Performs ep) xs l there = perform-drops-none m h.gadget ep l (find (is_at ep) h.queue)
+item-drops-none m h place (Offers ep) xs l there = refl
+item-drops-none m h place Unplugs xs l there = absurd cc
 
 there-before : (x : Item) (xs : List Item) → is_gone (x ∷ xs) ≡ false → is_gone xs ≡ false
 there-before (Asked id p) xs there = there
@@ -251,34 +260,37 @@ pub none-dropped : {S : Type 0} (m : Meaning S) (s : S) (xs : List Item) → is_
 none-dropped m s [] there = refl
 none-dropped m s (x ∷ xs) there =
     let h = run m s xs in
-    let ws = waiting m s xs in
+    let l = line m s xs in
     let before = there-before x xs there in
-    (λ i. none-dropped m s xs before i ++ (becomes m h (before i) (packets xs) x ws).dropped)
-    ∙ item-drops-none m h (packets xs) x xs ws there
+    (λ i. none-dropped m s xs before i ++ (becomes m h (before i) (packets xs) x l).dropped)
+    ∙ item-drops-none m h (packets xs) x xs l there
 
-gone-waits : {S : Type 0} (m : Meaning S) (h : Host S) (place : ℕ) (x : Item) (ws : List Placed) → (becomes m h true place x ws).waiting ≡ ws
-gone-waits m h place (Asked id p) ws = refl
-gone-waits m h place (Wrong from reason) ws = refl
-gone-waits m h place (Performs ep) ws = refl
-gone-waits m h place (Offers ep) ws = refl
-gone-waits m h place Unplugs ws = refl
+gone-waits : {S : Type 0} (m : Meaning S) (h : Host S) (place : ℕ) (x : Item) (l : List Waiting) → (becomes m h true place x l).line ≡ l
+gone-waits m h place (Asked id p) l = refl
+gone-waits m h place (Wrong from reason) l = refl
+gone-waits m h place (Performs ep) l = refl
+gone-waits m h place (Offers ep) l = refl
+gone-waits m h place Unplugs l = refl
 
-goes-now : {S : Type 0} (m : Meaning S) (h : Host S) (place : ℕ) (x : Item) (xs : List Item) (ws : List Placed) → is_gone (x ∷ xs) ≡ true → is_gone xs ≡ false → (becomes m h false place x ws).waiting ≡ []
-goes-now m h place (Asked id p) xs ws out there = absurd (true≢false (sym out ∙ there))
-goes-now m h place (Wrong from reason) xs ws out there = absurd (true≢false (sym out ∙ there))
-goes-now m h place (Performs ep) xs ws out there = absurd (true≢false (sym out ∙ there))
-goes-now m h place (Offers ep) xs ws out there = absurd (true≢false (sym out ∙ there))
-goes-now m h place Unplugs xs ws out there = refl
+goes-now : {S : Type 0} (m : Meaning S) (h : Host S) (place : ℕ) (x : Item) (xs : List Item) (l : List Waiting) → is_gone (x ∷ xs) ≡ true → is_gone xs ≡ false → (becomes m h false place x l).line ≡ []
+goes-now m h place (Asked id p) xs l out there = absurd (true≢false (sym out ∙ there))
+goes-now m h place (Wrong from reason) xs l out there = absurd (true≢false (sym out ∙ there))
+goes-now m h place (Performs ep) xs l out there = absurd (true≢false (sym out ∙ there))
+goes-now m h place (Offers ep) xs l out there = absurd (true≢false (sym out ∙ there))
+goes-now m h place Unplugs xs l out there = refl
+
+none-in-line : {S : Type 0} (m : Meaning S) (s : S) (xs : List Item) → is_gone xs ≡ true → line m s xs ≡ []
+none-in-line m s [] out = refl
+none-in-line m s (x ∷ xs) out =
+    let h = run m s xs in
+    let l = line m s xs in
+    elim (cases_Bool (is_gone xs)) [
+      | inl before ↦ (λ i. (becomes m h (before i) (packets xs) x l).line) ∙ gone-waits m h (packets xs) x l ∙ none-in-line m s xs before
+      | inr there ↦ (λ i. (becomes m h (there i) (packets xs) x l).line) ∙ goes-now m h (packets xs) x xs l out there
+    ]
 
 pub none-waiting : {S : Type 0} (m : Meaning S) (s : S) (xs : List Item) → is_gone xs ≡ true → waiting m s xs ≡ []
-none-waiting m s [] out = refl
-none-waiting m s (x ∷ xs) out =
-    let h = run m s xs in
-    let ws = waiting m s xs in
-    elim (cases_Bool (is_gone xs)) [
-      | inl before ↦ (λ i. (becomes m h (before i) (packets xs) x ws).waiting) ∙ gone-waits m h (packets xs) x ws ∙ none-waiting m s xs before
-      | inr there ↦ (λ i. (becomes m h (there i) (packets xs) x ws).waiting) ∙ goes-now m h (packets xs) x xs ws out there
-    ]
+none-waiting m s xs out = ap waiting_in (none-in-line m s xs out)
 
 -- ---- at most once
 

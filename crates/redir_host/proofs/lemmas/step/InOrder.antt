@@ -16,13 +16,15 @@ use Rattle.redir_host.specs.declared.host.Host.{Host}
 use Rattle.redir_host.specs.declared.request.Asking.{Asking}
 use Rattle.redir_host.specs.declared.request.Asking.TheVariants.{Nothing, Refuses, Asks}
 use Rattle.redir_host.specs.declared.request.Request.{Request}
-use Rattle.redir_host.specs.guest.Asking.{asking_of}
-use Rattle.redir_host.specs.guest.Line.{all_changes}
-use Rattle.redir_host.specs.state.Queues.{is_at, queue_of, without_first}
-use Rattle.redir_host.specs.step.Answered.{IsSublist, Placed, Answered, ByDevice, ByCancel, ByChange, Became, packets, asking, asking_plain, request_in, requests, placed, ends, stays, first_such, is_of, is_cancelled, is_performed, by_asking, by_cancel, by_plain, by_packet, is_left, flushed_of, left_of, outcome_of, by_outcome, by_perform, becomes, is_gone, waiting, answered, requests_of, performed_of}
+use Rattle.redir_host.specs.guest.Asking.{asking, asking_of, asking_plain}
+use Rattle.redir_host.specs.guest.Line.{Placed, Waiting, Waits, placed, plain_line, asked_line, waiting_in, without_cancelled, without_performed, stays_in, flushed_in, all_changes}
+use Rattle.usb_base.specs.Firsts.{without_first}
+use Rattle.redir_host.specs.state.Queues.{is_at, queue_of}
+use Rattle.redir_host.specs.step.Answered.{IsSublist, Answered, ByDevice, ByCancel, ByChange, Became, packets, request_in, requests, ends, stays, joins, at_once, first_such, is_of, is_cancelled, is_performed, by_cancel, by_plain, by_packet, flushed_of, outcome_of, by_outcome, by_perform, becomes, is_gone, line, waiting, answered, requests_of, performed_of}
 use Rattle.redir_host.specs.step.Items.{Item, Asked, Wrong, Performs, Offers, Unplugs}
 use Rattle.redir_host.specs.step.Machine.{run}
-use Rattle.redir_host.proofs.lemmas.step.Counted.{requests-append}
+use Rattle.redir_host.proofs.lemmas.guest.Placed.{is_left, placed-append, placed-cancelled, placed-left, placed-performed, placed-plain}
+use Rattle.redir_host.proofs.lemmas.step.Counted.{news, requests-append}
 
 -- ---- sublists
 
@@ -131,18 +133,26 @@ first-before e ep (w ∷ ws) = by (first-before e ep ws) (is_of ep w) refl
 -- ---- one item
 
 -- what an item has performed, and what waits behind it, are among those that waited and came, in order
-abbrev Keeps : ℕ → Became → List Placed → List Placed → Type 0
-Keeps e b before new = IsSublist (filter (is_of e) (performed_of b.answered) ++ filter (is_of e) b.waiting) (filter (is_of e) before ++ filter (is_of e) new)
+abbrev Keeps : ℕ → Became → List Waiting → List Placed → Type 0
+Keeps e b before new = IsSublist (filter (is_of e) (performed_of b.answered) ++ filter (is_of e) (waiting_in b.line)) (filter (is_of e) (waiting_in before) ++ filter (is_of e) new)
 
-keeps-same : (e : ℕ) (ws new : List Placed) → IsSublist (filter (is_of e) ws) (filter (is_of e) ws ++ filter (is_of e) new)
-keeps-same e ws new = sub-more (filter (is_of e) ws) (filter (is_of e) ws) (filter (is_of e) new) (sub-all (filter (is_of e) ws))
+keeps-same : (e : ℕ) (l : List Waiting) (new : List Placed) → IsSublist (filter (is_of e) (waiting_in l)) (filter (is_of e) (waiting_in l) ++ filter (is_of e) new)
+keeps-same e l new =
+    let all = filter (is_of e) (waiting_in l) in
+    sub-more all all (filter (is_of e) new) (sub-all all)
 
-keeps-asking : (e place id : ℕ) (a : Asking) (ws : List Placed) → Keeps e (by_asking place id a ws) ws (request_in place id a)
-keeps-asking e place id Nothing ws = keeps-same e ws []
-keeps-asking e place id (Refuses f ep) ws = keeps-same e ws (placed place id f ep ∷ [])
-keeps-asking e place id (Asks f t) ws =
-    let new = placed place id f t.ep ∷ [] in
-    subst (λ (ps : List Placed). IsSublist (filter (is_of e) (ws ++ new)) ps) (filter-append (is_of e) ws new) (sub-all (filter (is_of e) (ws ++ new)))
+keeps-joins : (e : ℕ) (l comes : List Waiting) (new : List Placed) → waiting_in comes ≡ new → IsSublist (filter (is_of e) (waiting_in (l ++ comes))) (filter (is_of e) (waiting_in l) ++ filter (is_of e) new)
+keeps-joins e l comes new is =
+    let all = filter (is_of e) (waiting_in (l ++ comes)) in
+    let both = ap (filter (is_of e)) (placed-append l comes) ∙ filter-append (is_of e) (waiting_in l) (waiting_in comes) in
+    subst (λ (ps : List Placed). IsSublist all ps) (both ∙ ap (λ (ps : List Placed). filter (is_of e) (waiting_in l) ++ filter (is_of e) ps) is) (sub-all all)
+
+keeps-asking : (e place id : ℕ) (a : Asking) (l : List Waiting) → Keeps e (joins l (asked_line place id a) (at_once place id a)) l (request_in place id a)
+keeps-asking e place id Nothing l = keeps-joins e l [] [] refl
+keeps-asking e place id (Refuses f ep) l =
+    let new = placed place id f ep ∷ [] in
+    subst (λ (k : List Waiting). IsSublist (filter (is_of e) (waiting_in k)) (filter (is_of e) (waiting_in l) ++ filter (is_of e) new)) (sym (append-nil l)) (keeps-same e l new)
+keeps-asking e place id (Asks f t) l = keeps-joins e l (Waits place id f t ∷ []) (placed place id f t.ep ∷ []) refl
 
 by-cancel-none : (ps : List Placed) → performed_of (map (ends ByCancel) ps) ≡ []
 by-cancel-none [] = refl
@@ -159,66 +169,65 @@ by-device-all configuration o (p ∷ ps) = ap (λ (qs : List Placed). p ∷ qs) 
 performed-append : (xs ys : List Answered) → performed_of (xs ++ ys) ≡ performed_of xs ++ performed_of ys
 performed-append xs ys = ap requests_of (filter-append is_performed xs ys) ∙ requests-append (filter is_performed xs) (filter is_performed ys)
 
-keeps-cancel : (e id : ℕ) (ws : List Placed) → Keeps e (by_cancel id ws) ws []
-keeps-cancel e id ws =
-    let left = filter (is_of e) (without_first (is_cancelled id) ws) in
-    let all = filter (is_of e) ws in
-    subst (λ (ps : List Placed). IsSublist (filter (is_of e) ps ++ left) (all ++ [])) (sym (by-cancel-none (first_such (is_cancelled id) ws)))
-    (sub-more left all [] (sub-without (is_of e) (is_cancelled id) ws))
+keeps-cancel : (e id : ℕ) (l : List Waiting) → Keeps e (by_cancel id l) l []
+keeps-cancel e id l =
+    let left = filter (is_of e) (waiting_in (without_cancelled id l)) in
+    let all = filter (is_of e) (waiting_in l) in
+    let fewer = subst (λ (ps : List Placed). IsSublist (filter (is_of e) ps) all) (sym (placed-cancelled id l)) (sub-without (is_of e) (is_cancelled id) (waiting_in l)) in
+    subst (λ (ps : List Placed). IsSublist (filter (is_of e) ps ++ left) (all ++ [])) (sym (by-cancel-none (first_such (is_cancelled id) (waiting_in l))))
+    (sub-more left all [] fewer)
 
-keeps-plain : (e place id : ℕ) (p : RedirControl) (ws : List Placed) → Keeps e (by_plain place id p ws) ws (request_in place id (asking_plain p))
-keeps-plain e place id plain.Cancel ws = keeps-cancel e id ws
-keeps-plain e place id p ws = keeps-asking e place id (asking_plain p) ws
+keeps-plain : (e place id : ℕ) (p : RedirControl) (l : List Waiting) → Keeps e (by_plain place id p l) l (request_in place id (asking_plain p))
+keeps-plain e place id plain.Cancel l = keeps-cancel e id l
+keeps-plain e place id p l = keeps-joins e l (plain_line place id p) (request_in place id (asking_plain p)) (placed-plain place id p)
 
-keeps-packet : (e place id : ℕ) (p : RedirPacket) (ws : List Placed) → Keeps e (by_packet place id p ws) ws (request_in place id (asking p))
-keeps-packet e place id (Plain p) ws = keeps-plain e place id p ws
-keeps-packet e place id (Carrying d) ws = keeps-asking e place id (asking_of d) ws
+keeps-packet : (e place id : ℕ) (p : RedirPacket) (l : List Waiting) → Keeps e (by_packet place id p l) l (request_in place id (asking p))
+keeps-packet e place id (Plain p) l = keeps-plain e place id p l
+keeps-packet e place id (Carrying d) l = keeps-asking e place id (asking_of d) l
 
-sub-left : (e : ℕ) (cs : List (Route × EpTable)) (ws : List Placed) → IsSublist (filter (is_of e) (left_of cs ws)) (filter (is_of e) ws)
-sub-left e [] ws = sub-all (filter (is_of e) ws)
-sub-left e (c ∷ cs) ws =
-    let left = filter (is_left c.0 c.1) ws in
-    sub-of (filter (is_of e) (left_of cs left)) (filter (is_of e) left) (filter (is_of e) ws) (sub-left e cs left) (sub-filtered (is_of e) (is_left c.0 c.1) ws)
+sub-left : (e : ℕ) (cs : List (Route × EpTable)) (l : List Waiting) → IsSublist (filter (is_of e) (waiting_in (flushed_in cs l))) (filter (is_of e) (waiting_in l))
+sub-left e [] l = sub-all (filter (is_of e) (waiting_in l))
+sub-left e (c ∷ cs) l =
+    let left = filter (stays_in c.0 c.1) l in
+    let all = filter (is_of e) (waiting_in l) in
+    let fewer = subst (λ (ps : List Placed). IsSublist (filter (is_of e) ps) all) (sym (placed-left c.0 c.1 l)) (sub-filtered (is_of e) (is_left c.0 c.1) (waiting_in l)) in
+    sub-of (filter (is_of e) (waiting_in (flushed_in cs left))) (filter (is_of e) (waiting_in left)) all (sub-left e cs left) fewer
 
-keeps-outcome : (e : ℕ) (cs : List (Route × EpTable)) (ep : ℕ) (ws : List Placed) (o : Option (ℕ × Outcome)) → Keeps e (by_outcome cs ep ws o) ws []
-keeps-outcome e cs ep ws None = keeps-same e ws []
-keeps-outcome e cs ep ws (Some o) =
-    let first = first_such (is_of ep) ws in
-    let behind = without_first (is_of ep) ws in
-    let all = filter (is_of e) ws in
+keeps-outcome : (e : ℕ) (cs : List (Route × EpTable)) (ep : ℕ) (l : List Waiting) (o : Option (ℕ × Outcome)) → Keeps e (by_outcome cs ep l o) l []
+keeps-outcome e cs ep l None = keeps-same e l []
+keeps-outcome e cs ep l (Some o) =
+    let first = first_such (is_of ep) (waiting_in l) in
+    let behind = without_performed ep l in
+    let all = filter (is_of e) (waiting_in l) in
     let here = filter (is_of e) first in
-    let left = filter (is_of e) (left_of cs behind) in
+    let left = filter (is_of e) (waiting_in (flushed_in cs behind)) in
     let done : performed_of (map (ends ByChange) (flushed_of cs behind) ++ map (ends (ByDevice o.0 o.1)) first) ≡ first =
     performed-append (map (ends ByChange) (flushed_of cs behind)) (map (ends (ByDevice o.0 o.1)) first)
     ∙ (λ i. by-change-none (flushed_of cs behind) i ++ by-device-all o.0 o.1 first i) in
-    let fewer = sub-front here left (filter (is_of e) behind) (sub-left e cs behind) in
+    let fewer = sub-front here left (filter (is_of e) (waiting_in behind)) (sub-left e cs behind) in
+    let before = subst (λ (ps : List Placed). IsSublist (here ++ filter (is_of e) ps) all) (sym (placed-performed ep l)) (first-before e ep (waiting_in l)) in
     subst (λ (ps : List Placed). IsSublist (filter (is_of e) ps ++ left) (all ++ [])) (sym done)
-    (sub-more (here ++ left) all [] (sub-of (here ++ left) (here ++ filter (is_of e) behind) all fewer (first-before e ep ws)))
+    (sub-more (here ++ left) all [] (sub-of (here ++ left) (here ++ filter (is_of e) (waiting_in behind)) all fewer before))
 
-keeps-perform : {S : Type 0} (e : ℕ) (m : Meaning S) (s : S) (ep : ℕ) (ws : List Placed) (o : Option Request) → Keeps e (by_perform m s ep ws o) ws []
-keeps-perform e m s ep ws None = keeps-same e ws []
-keeps-perform e m s ep ws (Some q) = keeps-outcome e (all_changes m s q) ep ws (outcome_of m s q)
+keeps-perform : {S : Type 0} (e : ℕ) (m : Meaning S) (s : S) (ep : ℕ) (l : List Waiting) (o : Option Request) → Keeps e (by_perform m s ep l o) l []
+keeps-perform e m s ep l None = keeps-same e l []
+keeps-perform e m s ep l (Some q) = keeps-outcome e (all_changes m s q) ep l (outcome_of m s q)
 
--- those that an item brings
-abbrev news : ℕ → Item → List Placed
-news place (Asked id p) = request_in place id (asking p)
-news place _ = []
-
-keeps-item : {S : Type 0} (e : ℕ) (m : Meaning S) (h : Host S) (out : Bool) (place : ℕ) (x : Item) (ws : List Placed) → Keeps e (becomes m h out place x ws) ws (news place x)
-keeps-item e m h out place (Asked id p) ws =
+keeps-item : {S : Type 0} (e : ℕ) (m : Meaning S) (h : Host S) (out : Bool) (place : ℕ) (x : Item) (l : List Waiting) → Keeps e (becomes m h out place x l) l (news place x)
+keeps-item e m h out place (Asked id p) l =
     let new = request_in place id (asking p) in
-    let gone : Became = record { waiting = ws; answered = []; dropped = new } in
-    elim out as (λ (b : Bool). Keeps e (cond b gone (by_packet place id p ws)) ws new) [ true ↦ keeps-same e ws new | false ↦ keeps-packet e place id p ws ]
-keeps-item e m h out place (Wrong from reason) ws = keeps-same e ws []
-keeps-item e m h out place (Performs ep) ws =
-    elim out as (λ (b : Bool). Keeps e (cond b (stays ws) (by_perform m h.gadget ep ws (find (is_at ep) h.queue))) ws []) [
-      | true ↦ keeps-same e ws []
-      | false ↦ keeps-perform e m h.gadget ep ws (find (is_at ep) h.queue)
+    let gone : Became = record { line = l; answered = []; dropped = new } in
+    elim out as (λ (b : Bool). Keeps e (cond b gone (by_packet place id p l)) l new) [ true ↦ keeps-same e l new | false ↦ keeps-packet e place id p l ]
+keeps-item e m h out place (Wrong from reason) l = keeps-same e l []
+keeps-item e m h out place (Performs ep) l =
+    elim out as (λ (b : Bool). Keeps e (cond b (stays l) (by_perform m h.gadget ep l (find (is_at ep) h.queue))) l []) [
+      | true ↦ keeps-same e l []
+      | false ↦ keeps-perform e m h.gadget ep l (find (is_at ep) h.queue)
     ]
-keeps-item e m h out place (Offers ep) ws = keeps-same e ws []
-keeps-item e m h out place Unplugs ws =
-    let gone : Became = record { waiting = []; answered = []; dropped = ws } in
-    elim out as (λ (b : Bool). Keeps e (cond b (stays ws) gone) ws []) [ true ↦ keeps-same e ws [] | false ↦ tt ]
+keeps-item e m h out place (Offers ep) l = keeps-same e l []
+keeps-item e m h out place Unplugs l =
+    let gone : Became = record { line = []; answered = []; dropped = waiting_in l } in
+    elim out as (λ (b : Bool). Keeps e (cond b (stays l) gone) l []) [ true ↦ keeps-same e l [] | false ↦ tt ]
 
 -- ---- all items
 
@@ -233,17 +242,17 @@ in-order : {S : Type 0} (m : Meaning S) (s : S) (e : ℕ) (xs : List Item) → I
 in-order m s e [] = tt
 in-order m s e (x ∷ xs) =
     let of = is_of e in
-    let before = waiting m s xs in
+    let before = line m s xs in
     let b = becomes m (run m s xs) (is_gone xs) (packets xs) x before in
     let new = filter of (news (packets xs) x) in
     let done = filter of (performed_of (answered m s xs)) in
     let now = filter of (performed_of b.answered) in
-    let left = filter of b.waiting in
+    let left = filter of (waiting_in b.line) in
     let told : filter of (performed_of (answered m s xs ++ b.answered)) ≡ done ++ now = ap (filter of) (performed-append (answered m s xs) b.answered) ∙ filter-append of (performed_of (answered m s xs)) (performed_of b.answered) in
-    let one = sub-front done (now ++ left) (filter of before ++ new) (keeps-item e m (run m s xs) (is_gone xs) (packets xs) x before) in
-    let all = sub-both (done ++ filter of before) (filter of (requests xs)) new (in-order m s e xs) in
-    let both = sub-of (done ++ (now ++ left)) (done ++ (filter of before ++ new)) (filter of (requests xs) ++ new) one
-    (subst (λ (ps : List Placed). IsSublist ps (filter of (requests xs) ++ new)) (append_assoc done (filter of before) new) all) in
+    let one = sub-front done (now ++ left) (filter of (waiting_in before) ++ new) (keeps-item e m (run m s xs) (is_gone xs) (packets xs) x before) in
+    let all = sub-both (done ++ filter of (waiting_in before)) (filter of (requests xs)) new (in-order m s e xs) in
+    let both = sub-of (done ++ (now ++ left)) (done ++ (filter of (waiting_in before) ++ new)) (filter of (requests xs) ++ new) one
+    (subst (λ (ps : List Placed). IsSublist ps (filter of (requests xs) ++ new)) (append_assoc done (filter of (waiting_in before)) new) all) in
     subst (λ (ps : List Placed). IsSublist (ps ++ left) (filter of (requests (x ∷ xs)))) (sym told)
     (subst (λ (ps : List Placed). IsSublist ps (filter of (requests (x ∷ xs)))) (sym (append_assoc done now left))
     (subst (λ (ps : List Placed). IsSublist (done ++ (now ++ left)) ps) (sym (requests-more e x xs)) both))

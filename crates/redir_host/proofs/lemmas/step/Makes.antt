@@ -29,7 +29,8 @@ use Rattle.redir_host.specs.step.Machine.{told_bytes, bytes_of}
 use Rattle.redir_host.specs.step.Makes.{Makes, Performs, Tells}
 use Rattle.redir_host.specs.step.Moves.{Move, behind, then_sends}
 use Rattle.redir_host.specs.device.Performing.{done_by, does, performs, performs_marked, follows, resets, performed, first_performed, with_id, perform_move, perform_move_by, told_performed, told_performed_by}
-use Rattle.redir_host.specs.state.Queues.{is_at, without_first}
+use Rattle.usb_base.specs.Firsts.{without_first}
+use Rattle.redir_host.specs.state.Queues.{is_at}
 use Rattle.redir_host.specs.guest.Asking.{routed}
 use Rattle.redir_host.specs.device.Resets.{PerformsNow, ResetsTo}
 use Rattle.redir_host.specs.write.Readable.{InRange}

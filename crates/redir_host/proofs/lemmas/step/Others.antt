@@ -12,32 +12,30 @@ use Rattle.redir_data.specs.declared.packet.RedirPacket.{RedirPacket}
 use Rattle.redir_data.specs.declared.packet.RedirPacket.TheVariants.{Plain, Carrying}
 use Rattle.redir_data.specs.Streams.{advanced}
 use Rattle.control_route.specs.declared.route.Route.{Route}
-use Rattle.control_route.specs.declared.route.Route.TheVariants as route
 use Rattle.model_device.specs.Device.{is_success}
 use Rattle.model_device.specs.Meaning.{Meaning}
 use Rattle.redir_host.specs.declared.host.Host.{Host}
 use Rattle.redir_host.specs.declared.request.Asking.{Asking}
 use Rattle.redir_host.specs.declared.request.Asking.TheVariants.{Nothing, Refuses, Asks}
-use Rattle.redir_host.specs.declared.request.Form.{Form}
-use Rattle.redir_host.specs.declared.request.Form.TheVariants as form
 use Rattle.redir_host.specs.declared.request.Request.{Request}
-use Rattle.redir_host.specs.declared.running.Running.{Running}
 use Rattle.redir_host.specs.declared.running.StreamKind.{StreamKind}
 use Rattle.redir_host.specs.declared.running.StreamKind.TheVariants.{Iso, Interrupt}
-use Rattle.redir_host.specs.device.Changes.{change_of, changed, touched, stays}
+use Rattle.redir_host.specs.device.Changes.{changed, touched, stays}
 use Rattle.redir_host.specs.device.Facts.{facts_of}
-use Rattle.redir_host.specs.device.Offering.{offered_on, offered_by}
-use Rattle.redir_host.specs.device.Performing.{done_by, does, performs, follows, resets, performs_marked, performs_any, with_id, first_performed, perform_move_by}
-use Rattle.redir_host.specs.guest.Asking.{asking_of, routed}
-use Rattle.redir_host.specs.guest.Packets.{can_start, cancel_move, data_move, packet_move_by, plain_move, runs_at, start_move}
-use Rattle.redir_host.specs.state.Queues.{is_at, is_cancelled_by, without_first}
+use Rattle.redir_host.specs.device.Offering.{offered_by}
+use Rattle.redir_host.specs.device.Performing.{done_by}
+use Rattle.redir_host.specs.guest.Asking.{asking_of}
+use Rattle.redir_host.specs.guest.Packets.{can_start, cancel_move, data_move, packet_move_by, plain_move, start_move}
+use Rattle.redir_host.specs.state.Queues.{is_at, is_cancelled_by}
 use Rattle.redir_host.specs.state.Sound.{Each}
-use Rattle.redir_host.specs.step.Answered.{IsKnown, Placed, waiting}
+use Rattle.redir_host.specs.guest.Line.{Placed}
+use Rattle.redir_host.specs.step.Answered.{IsKnown, waiting}
 use Rattle.redir_host.specs.step.Items.{Item, Asked, Wrong, Performs, Offers, Unplugs}
 use Rattle.redir_host.specs.step.Machine.{move, run, all_given}
 use Rattle.redir_host.specs.step.Moves.{Move, quiet}
 use Rattle.redir_host.specs.write.Answers.{answer, cancelled, ended}
 use Rattle.redir_host.proofs.lemmas.state.Each.{each_filtered, each_found, each_joined}
+use Rattle.redir_host.proofs.lemmas.device.Performs.{IsKept, offer-kept, perform-kept}
 use Rattle.redir_host.proofs.lemmas.state.Sound.{each-without, unplugged-by}
 use Rattle.redir_host.proofs.lemmas.step.Paired.{Answers, Same, queue-answers}
 use Rattle.redir_host.proofs.lemmas.step.Replied.{AsksAnswers, data-answers, run-queue}
@@ -48,10 +46,6 @@ IsAnswered q = Answers q.form q.transfer.ep
 
 abbrev IsAll : {S : Type 0} → Move S → Type 0
 IsAll v = Each IsKnown v.sent
-
-abbrev IfAll : {S : Type 0} → Option (Move S) → Type 0
-IfAll None = Unit {0}
-IfAll (Some v) = IsAll v
 
 flushed-known : (qs : List Request) → Each IsAnswered qs → Each IsKnown (map cancelled qs)
 flushed-known [] answers = tt
@@ -75,65 +69,21 @@ done-known {S = S} m table h q (Some r) o one answers =
     let v : Move S = changed m r table (is_success o.status) h in
     each_joined IsKnown v.sent (answer (m.configuration h.gadget) q o ∷ []) (changed-known m r table (is_success o.status) h answers) (inl (one q.id (m.configuration h.gadget) o), tt)
 
-does-known : {S : Type 0} (m : Meaning S) (h : Host S) (q : Request) (r : Option Route) (o : Option (S × Outcome)) → IsAnswered q → Each IsAnswered h.queue → IfAll (does m h q r o)
-does-known m h q r None one answers = tt
-does-known {S = S} m h q r (Some done) one answers = let g : Host S = record h { gadget = done.0 } in done-known m (m.table h.gadget) g q r done.1 one answers
-
-follows-known : {S : Type 0} (v : Move S) (o : Option (Move S)) → IsAll v → IfAll o → IfAll (follows v o)
-follows-known v None first then = tt
-follows-known v (Some w) first then = each_joined IsKnown v.sent w.sent first then
-
-resets-known : {S : Type 0} (m : Meaning S) (h : Host S) (q : Request) (o : Option (S × Outcome)) → IsAnswered q → Each IsAnswered h.queue → IfAll (resets m h q o)
-resets-known m h q None one answers = tt
-resets-known {S = S} m h q (Some done) one answers =
-    let g : Host S = record h { gadget = done.0 } in
-    let success = is_success done.1.status in
-    let v : Move S = changed m route.Reset (m.table h.gadget) success g in
-    follows-known v (performs m v.host q) (changed-known m route.Reset (m.table h.gadget) success g answers)
-    (does-known m v.host q (change_of q.form) (m.perform v.host.gadget q.transfer) one (changed-queue m route.Reset (m.table h.gadget) success g answers))
-
-marked-known : {S : Type 0} (m : Meaning S) (h : Host S) (q : Request) (f : Form) → IsAnswered q → Each IsAnswered h.queue → IfAll (performs_marked m h q f)
-marked-known m h q (form.Control setup) one answers = resets-known m h q (m.perform h.gadget (routed route.Reset)) one answers
-marked-known m h q (form.Bulk stream) one answers = resets-known m h q (m.perform h.gadget (routed route.Reset)) one answers
-marked-known m h q form.Interrupt one answers = resets-known m h q (m.perform h.gadget (routed route.Reset)) one answers
-marked-known m h q (form.SetConfiguration configuration) one answers = resets-known m h q (m.perform h.gadget (routed route.Reset)) one answers
-marked-known m h q form.GetConfiguration one answers = does-known m h q (Some route.Reset) (m.perform h.gadget (routed route.Reset)) one answers
-marked-known m h q (form.SetAlt interface alt) one answers = resets-known m h q (m.perform h.gadget (routed route.Reset)) one answers
-marked-known m h q (form.GetAlt interface) one answers = resets-known m h q (m.perform h.gadget (routed route.Reset)) one answers
-
-any-known : {S : Type 0} (m : Meaning S) (h : Host S) (q : Request) (b : Bool) → IsAnswered q → Each IsAnswered h.queue → IfAll (cond b (performs_marked m h q q.form) (performs m h q))
-any-known m h q true one answers = marked-known m h q q.form one answers
-any-known m h q false one answers = does-known m h q (change_of q.form) (m.perform h.gadget q.transfer) one answers
-
-by-known : {S : Type 0} (h : Host S) (q : Request) (o : Option (Move S)) → IfAll o → IsAll (perform_move_by h (with_id q o))
-by-known h q None all = tt
-by-known h q (Some v) all = all
-
-first-known : {S : Type 0} (m : Meaning S) (h : Host S) (ep : ℕ) (o : Option Request) → find (is_at ep) h.queue ≡ o → Each IsAnswered h.queue → IsAll (perform_move_by h (first_performed m h ep o))
-first-known m h ep None none answers = tt
-first-known {S = S} m h ep (Some q) found answers =
-    let g : Host S = record h { queue = without_first (is_at ep) h.queue } in
-    let one = each_found IsAnswered (is_at ep) h.queue q answers found in
-    by-known h q (performs_any m g q) (any-known m g q q.reset one.0 (each-without IsAnswered (is_at ep) h.queue answers))
-
-performed-known : {S : Type 0} (m : Meaning S) (h : Host S) (ep : ℕ) (b : Bool) → Each IsAnswered h.queue → IsAll (perform_move_by h (cond b None (first_performed m h ep (find (is_at ep) h.queue))))
-performed-known m h ep true answers = tt
-performed-known m h ep false answers = first-known m h ep (find (is_at ep) h.queue) refl answers
+known : {S : Type 0} (m : Meaning S) → IsKept m IsAnswered (λ h. Each IsAnswered h.queue) IsAll
+known m = record {
+  none = λ h. tt;
+  gadget = λ h s answers. answers;
+  first = λ h ep q found answers. ((each_found IsAnswered (is_at ep) h.queue q answers found).0, each-without IsAnswered (is_at ep) h.queue answers);
+  change = λ r table b h answers. (changed-known m r table b h answers, changed-queue m r table b h answers);
+  done = done-known m;
+  then = λ v w first then. each_joined IsKnown v.sent w.sent first then;
+}
 
 -- ---- offers, and the end
 
-given-known : {S : Type 0} (h : Host S) (ep : ℕ) (k : StreamKind) (o : Option (S × StreamPacket)) → IsAll (offered_by h ep k o)
-given-known h ep k None = tt
-given-known h ep Iso (Some sent) = (inr (inr refl), tt)
-given-known h ep Interrupt (Some sent) = (inr (inr refl), tt)
-
-offered-known : {S : Type 0} (m : Meaning S) (h : Host S) (ep : ℕ) (o : Option Running) → IsAll (offered_on m h ep o)
-offered-known m h ep None = tt
-offered-known m h ep (Some s) = given-known h ep s.kind (m.offer h.gadget ep)
-
-offer-known : {S : Type 0} (m : Meaning S) (h : Host S) (ep : ℕ) (b : Bool) → IsAll (cond b (quiet h) (offered_on m h ep (find (runs_at ep) h.running)))
-offer-known m h ep true = tt
-offer-known m h ep false = offered-known m h ep (find (runs_at ep) h.running)
+given-known : {S : Type 0} (h : Host S) (ep : ℕ) (k : StreamKind) (sent : S × StreamPacket) → IsAll (offered_by h ep k (Some sent))
+given-known h ep Iso sent = (inr (inr refl), tt)
+given-known h ep Interrupt sent = (inr (inr refl), tt)
 
 unplug-known : {S : Type 0} (h : Host S) (b : Bool) → IsAll (unplugged-by h b)
 unplug-known h true = tt
@@ -180,8 +130,8 @@ step-known {S = S} m h (Asked id p) answers =
     let g : Host S = record h { guest = advanced h.guest p } in
     packet-known m g id p h.unplugged answers
 step-known m h (Wrong from reason) answers = tt
-step-known m h (Performs ep) answers = performed-known m h ep h.unplugged answers
-step-known m h (Offers ep) answers = offer-known m h ep h.unplugged
+step-known m h (Performs ep) answers = perform-kept (known m) h ep h.unplugged answers
+step-known m h (Offers ep) answers = offer-kept m IsAll (λ h. tt) given-known h ep h.unplugged
 step-known m h Unplugs answers = unplug-known h h.unplugged
 
 each-answered : (qs : List Request) (ws : List Placed) → AllZip Same qs ws → Each IsAnswered qs

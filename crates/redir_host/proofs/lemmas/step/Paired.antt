@@ -13,9 +13,11 @@ use Rattle.redir_host.specs.declared.request.Form.{Form}
 use Rattle.redir_host.specs.declared.request.Request.{Request}
 use Rattle.redir_host.specs.declared.running.Running.{Running}
 use Rattle.redir_host.specs.device.Changes.{is_touched, touched}
-use Rattle.redir_host.specs.state.Queues.{after_cancel, is_at, is_cancelled_by, is_data, is_first_queue, queue_of, with_first_marked, without_first}
+use Rattle.redir_host.specs.guest.Line.{Placed, Waiting, queue_in, reset_in, waiting_in}
+use Rattle.usb_base.specs.Firsts.{without_first}
+use Rattle.redir_host.specs.state.Queues.{after_cancel, is_at, is_cancelled_by, is_data, is_first_queue, queue_of, with_first_marked}
 use Rattle.redir_host.specs.state.Sound.{Each}
-use Rattle.redir_host.specs.step.Answered.{Placed, ByChange, Became, ends, first_such, is_of, is_answer, is_cancelled, answer_of, is_flushed, told_request, told_placed}
+use Rattle.redir_host.specs.step.Answered.{ByChange, Became, ends, first_such, is_of, is_answer, is_cancelled, answer_of, is_flushed, told_request, told_placed}
 use Rattle.redir_host.specs.step.Moves.{Move}
 use Rattle.redir_host.specs.write.Answers.{answer, answer_by, cancelled, ended}
 
@@ -34,14 +36,20 @@ pub record Same (q : Request) (p : Placed) : Type 0 where
 abbrev pub IsIn : Running → Type 0
 IsIn s = is_in_endpoint s.ep ≡ true
 
-pub record Tied {S : Type 0} (h : Host S) (out : Bool) (ws : List Placed) : Type 0 where
-  pub queue : AllZip Same h.queue ws
+-- its requests with their marks, and the mark of the next one of endpoint 0, are read off the line
+pub record IsInLine {S : Type 0} (h : Host S) (l : List Waiting) : Type 0 where
+  pub queue : h.queue ≡ queue_in false l
+  pub reset : h.resets_next ≡ reset_in false l
+
+pub record Tied {S : Type 0} (h : Host S) (out : Bool) (l : List Waiting) : Type 0 where
+  pub queue : AllZip Same h.queue (waiting_in l)
   pub running : Each IsIn h.running
   pub gone : h.unplugged ≡ out
+  pub in_line : IsInLine h l
 
--- the move leaves those that wait, and its answers are theirs
+-- the move leaves this line, and its answers are those of the requests that left
 pub record Gives {S : Type 0} (out : Bool) (v : Move S) (b : Became) : Type 0 where
-  pub tied : Tied v.host out b.waiting
+  pub tied : Tied v.host out b.line
   pub sent : filter is_answer v.sent ≡ map answer_of b.answered
 
 pub same-answer : (q : Request) (p : Placed) → Same q p → (configuration : ℕ) (o : Outcome) → answer configuration q o ≡ (p.id, answer_by configuration p.form p.ep o)

@@ -14,7 +14,6 @@ use Rattle.redir_data.specs.declared.packet.RedirPacket.{RedirPacket}
 use Rattle.redir_data.specs.declared.packet.RedirPacket.TheVariants.{Plain, Carrying}
 use Rattle.redir_data.specs.Streams.{advanced}
 use Rattle.control_route.specs.declared.route.Route.{Route}
-use Rattle.control_route.specs.declared.route.Route.TheVariants as route
 use Rattle.model_device.specs.Device.{is_success}
 use Rattle.model_device.specs.Meaning.{Meaning}
 use Rattle.redir_host.specs.declared.host.Host.{Host}
@@ -23,30 +22,26 @@ use Rattle.redir_host.specs.declared.request.Asking.TheVariants.{Nothing, Refuse
 use Rattle.redir_host.specs.declared.request.Form.{Form}
 use Rattle.redir_host.specs.declared.request.Form.TheVariants as form
 use Rattle.redir_host.specs.declared.request.Request.{Request}
-use Rattle.redir_host.specs.declared.running.Running.{Running}
 use Rattle.redir_host.specs.declared.running.StreamKind.{StreamKind}
 use Rattle.redir_host.specs.declared.running.StreamKind.TheVariants.{Iso, Interrupt}
-use Rattle.redir_host.specs.device.Changes.{change_of, changed, touched}
+use Rattle.redir_host.specs.device.Changes.{changed, touched}
 use Rattle.redir_host.specs.device.Facts.{facts_of}
-use Rattle.redir_host.specs.device.Offering.{offered_on, offered_by}
-use Rattle.redir_host.specs.device.Performing.{done_by, does, performs, follows, resets, performs_marked, performs_any, with_id, first_performed, perform_move_by}
-use Rattle.redir_host.specs.guest.Asking.{asking_of, routed}
-use Rattle.redir_host.specs.guest.Packets.{can_start, cancel_move, data_move, packet_move_by, plain_move, runs_at, start_move}
-use Rattle.redir_host.specs.state.Queues.{is_at, is_cancelled_by, without_first}
+use Rattle.redir_host.specs.device.Offering.{offered_by}
+use Rattle.redir_host.specs.device.Performing.{done_by}
+use Rattle.redir_host.specs.guest.Asking.{asking_of}
+use Rattle.redir_host.specs.guest.Packets.{can_start, cancel_move, data_move, packet_move_by, plain_move, start_move}
+use Rattle.redir_host.specs.state.Queues.{is_cancelled_by}
 use Rattle.redir_host.specs.step.Answered.{is_gone, is_status, ids_of, statuses_sent, stream_id, stream_id_in, stream_ids}
 use Rattle.redir_host.specs.step.Items.{Item, Asked, Wrong, Performs, Offers, Unplugs}
 use Rattle.redir_host.specs.step.Machine.{move, run, all_given}
 use Rattle.redir_host.specs.step.Moves.{Move, quiet}
 use Rattle.redir_host.specs.write.Answers.{answer, answer_by, cancelled, ended}
+use Rattle.redir_host.proofs.lemmas.device.Performs.{IsKept, offer-kept, perform-kept}
 use Rattle.redir_host.proofs.lemmas.state.Sound.{unplugged-by}
 use Rattle.redir_host.proofs.lemmas.step.Replied.{run-gone}
 
 abbrev HasNone : {S : Type 0} → Move S → Type 0
 HasNone v = filter is_status v.sent ≡ []
-
-abbrev GivesNone : {S : Type 0} → Option (Move S) → Type 0
-GivesNone None = Unit {0}
-GivesNone (Some v) = HasNone v
 
 no-status : (id configuration : ℕ) (f : Form) (ep : ℕ) (o : Outcome) → is_status (id, answer_by configuration f ep o) ≡ false
 no-status id configuration (form.Control setup) ep o = refl
@@ -84,63 +79,21 @@ done-none {S = S} m table h q (Some r) o =
     let last = answer (m.configuration h.gadget) q o in
     filter-append is_status v.sent (last ∷ []) ∙ (λ i. changed-none m r table (is_success o.status) h i ++ answer-passed (m.configuration h.gadget) q o [] i)
 
-does-none : {S : Type 0} (m : Meaning S) (h : Host S) (q : Request) (r : Option Route) (o : Option (S × Outcome)) → GivesNone (does m h q r o)
-does-none m h q r None = tt
-does-none {S = S} m h q r (Some done) = let g : Host S = record h { gadget = done.0 } in done-none m (m.table h.gadget) g q r done.1
-
-follows-none : {S : Type 0} (v : Move S) (o : Option (Move S)) → HasNone v → GivesNone o → GivesNone (follows v o)
-follows-none v None first then = tt
-follows-none v (Some w) first then = filter-append is_status v.sent w.sent ∙ (λ i. first i ++ then i)
-
-resets-none : {S : Type 0} (m : Meaning S) (h : Host S) (q : Request) (o : Option (S × Outcome)) → GivesNone (resets m h q o)
-resets-none m h q None = tt
-resets-none {S = S} m h q (Some done) =
-    let g : Host S = record h { gadget = done.0 } in
-    let v : Move S = changed m route.Reset (m.table h.gadget) (is_success done.1.status) g in
-    follows-none v (performs m v.host q) (changed-none m route.Reset (m.table h.gadget) (is_success done.1.status) g)
-    (does-none m v.host q (change_of q.form) (m.perform v.host.gadget q.transfer))
-
-marked-none : {S : Type 0} (m : Meaning S) (h : Host S) (q : Request) (f : Form) → GivesNone (performs_marked m h q f)
-marked-none m h q (form.Control setup) = resets-none m h q (m.perform h.gadget (routed route.Reset))
-marked-none m h q (form.Bulk stream) = resets-none m h q (m.perform h.gadget (routed route.Reset))
-marked-none m h q form.Interrupt = resets-none m h q (m.perform h.gadget (routed route.Reset))
-marked-none m h q (form.SetConfiguration configuration) = resets-none m h q (m.perform h.gadget (routed route.Reset))
-marked-none m h q form.GetConfiguration = does-none m h q (Some route.Reset) (m.perform h.gadget (routed route.Reset))
-marked-none m h q (form.SetAlt interface alt) = resets-none m h q (m.perform h.gadget (routed route.Reset))
-marked-none m h q (form.GetAlt interface) = resets-none m h q (m.perform h.gadget (routed route.Reset))
-
-any-none : {S : Type 0} (m : Meaning S) (h : Host S) (q : Request) (b : Bool) → GivesNone (cond b (performs_marked m h q q.form) (performs m h q))
-any-none m h q true = marked-none m h q q.form
-any-none m h q false = does-none m h q (change_of q.form) (m.perform h.gadget q.transfer)
-
-by-none : {S : Type 0} (h : Host S) (q : Request) (o : Option (Move S)) → GivesNone o → HasNone (perform_move_by h (with_id q o))
-by-none h q None none = refl
-by-none h q (Some v) none = none
-
-first-none : {S : Type 0} (m : Meaning S) (h : Host S) (ep : ℕ) (o : Option Request) → HasNone (perform_move_by h (first_performed m h ep o))
-first-none m h ep None = refl
-first-none {S = S} m h ep (Some q) =
-    let g : Host S = record h { queue = without_first (is_at ep) h.queue } in
-    by-none h q (performs_any m g q) (any-none m g q q.reset)
-
-performed-none : {S : Type 0} (m : Meaning S) (h : Host S) (ep : ℕ) (b : Bool) → HasNone (perform_move_by h (cond b None (first_performed m h ep (find (is_at ep) h.queue))))
-performed-none m h ep true = refl
-performed-none m h ep false = first-none m h ep (find (is_at ep) h.queue)
+without : {S : Type 0} (m : Meaning S) → IsKept m (λ q. Unit {0}) (λ h. Unit {0}) HasNone
+without m = record {
+  none = λ h. refl;
+  gadget = λ h s is. tt;
+  first = λ h ep q found is. (tt, tt);
+  change = λ r table b h is. (changed-none m r table b h, tt);
+  done = λ table h q r o one is. done-none m table h q r o;
+  then = λ v w first then. filter-append is_status v.sent w.sent ∙ (λ i. first i ++ then i);
+}
 
 -- ---- offers, and the end
 
-given-none : {S : Type 0} (h : Host S) (ep : ℕ) (k : StreamKind) (o : Option (S × StreamPacket)) → HasNone (offered_by h ep k o)
-given-none h ep k None = refl
-given-none h ep Iso (Some sent) = refl
-given-none h ep Interrupt (Some sent) = refl
-
-offered-none : {S : Type 0} (m : Meaning S) (h : Host S) (ep : ℕ) (o : Option Running) → HasNone (offered_on m h ep o)
-offered-none m h ep None = refl
-offered-none m h ep (Some s) = given-none h ep s.kind (m.offer h.gadget ep)
-
-offer-none : {S : Type 0} (m : Meaning S) (h : Host S) (ep : ℕ) (b : Bool) → HasNone (cond b (quiet h) (offered_on m h ep (find (runs_at ep) h.running)))
-offer-none m h ep true = refl
-offer-none m h ep false = offered-none m h ep (find (runs_at ep) h.running)
+given-none : {S : Type 0} (h : Host S) (ep : ℕ) (k : StreamKind) (sent : S × StreamPacket) → HasNone (offered_by h ep k (Some sent))
+given-none h ep Iso sent = refl
+given-none h ep Interrupt sent = refl
 
 unplug-none : {S : Type 0} (h : Host S) (b : Bool) → HasNone (unplugged-by h b)
 unplug-none h true = refl
@@ -191,8 +144,8 @@ step-statuses {S = S} m h (Asked id p) xs gone =
     let g : Host S = record h { guest = advanced h.guest p } in
     packet-statuses m g id p h.unplugged ∙ ap (λ (b : Bool). cond b [] (stream_id id p)) gone
 step-statuses m h (Wrong from reason) xs gone = refl
-step-statuses m h (Performs ep) xs gone = ap ids_of (performed-none m h ep h.unplugged)
-step-statuses m h (Offers ep) xs gone = ap ids_of (offer-none m h ep h.unplugged)
+step-statuses m h (Performs ep) xs gone = ap ids_of (perform-kept (without m) h ep h.unplugged tt)
+step-statuses m h (Offers ep) xs gone = ap ids_of (offer-kept m HasNone (λ h. refl) given-none h ep h.unplugged)
 step-statuses m h Unplugs xs gone = ap ids_of (unplug-none h h.unplugged)
 
 ids-more : (x : Item) (xs : List Item) → stream_ids xs ++ news x xs ≡ stream_ids (x ∷ xs)

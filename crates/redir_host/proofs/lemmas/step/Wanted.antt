@@ -1,8 +1,9 @@
 -- Where a request is performed, a packet is offered or the device goes, something is sent; so an act that ends for want
 -- of memory had something to send.
 use Rattle.std.proofs.Common.{◌≡◌, ℕ, ◌<◌, Bool, true, false, cond, List, [], ◌∷◌, ◌++◌, Some, None, length, if◌then◌else◌, refl, sym, ap, subst, ◌∙◌, arith, inr, length-append, append-nil}
-use Rattle.std.specs.Prelude.{Option, Result, Ok, Err, OnErr, IsSome, IfSome, IsSomeAnd}
+use Rattle.std.specs.Prelude.{Option, Result, Ok, Err, OnOk, OnErr, IsSome, IfSome, IsSomeAnd}
 use Rattle.std.specs.List.{find}
+use Rattle.std.proofs.lemmas.Result.{on_err_weaker}
 use Rattle.usb_base.specs.declared.endpoint.EpTable.{EpTable}
 use Rattle.usb_base.specs.declared.transfer.Outcome.{Outcome}
 use Rattle.usb_base.specs.declared.transfer.StreamPacket.{StreamPacket}
@@ -24,7 +25,8 @@ use Rattle.redir_host.specs.device.Offering.{offer_move, offered_by, offered_on,
 use Rattle.redir_host.specs.device.Performing.{does, done_by, first_performed, follows, perform_move, perform_move_by, performed, performs, performs_any, performs_marked, resets, with_id}
 use Rattle.redir_host.specs.guest.Asking.{routed}
 use Rattle.redir_host.specs.guest.Packets.{runs_at}
-use Rattle.redir_host.specs.state.Queues.{is_at, without_first}
+use Rattle.usb_base.specs.Firsts.{without_first}
+use Rattle.redir_host.specs.state.Queues.{is_at}
 use Rattle.redir_host.specs.state.Sound.{IsRequest}
 use Rattle.redir_host.specs.step.Acts.{Act}
 use Rattle.redir_host.specs.step.History.{brought}
@@ -195,6 +197,17 @@ on_err_from (Err e) P h = h
 pub on_err_both : {T E P Q R : Type 0} (r : Result T E) → (P → Q → R) → OnErr r P → OnErr r Q → OnErr r R
 on_err_both (Ok v) f p q = tt
 on_err_both (Err e) f p q = f p q
+
+-- of a result that is handed on
+pub on_err_given : {T E P Q : Type 0} (r given : Result T E) → r ≡ given → (P → Q) → OnErr given P → OnErr r Q
+on_err_given {T = T} {E = E} {Q = Q} r given same f p = subst (λ (x : Result T E). OnErr x Q) (sym same) (on_err_weaker given f p)
+
+pub on_ok_given : {T E P Q R : Type 0} (r given : Result T E) → r ≡ given → (P → Q → R) → OnOk given P → OnOk given Q → OnOk r R
+on_ok_given {T = T} {E = E} {P = P} {Q = Q} {R = R} r given same f p q = subst (λ (x : Result T E). OnOk x R) (sym same) (by given p q)
+  where
+    by : (x : Result T E) → OnOk x P → OnOk x Q → OnOk x R
+    by (Ok v) p q = f p q
+    by (Err e) p q = tt
 
 pub stops-one : {S : Type 0} (m : Meaning S) (s : S) (acts : List Act) (a : Act) (x : Item) (h : Host S) (old_out new_out : List ℕ) → brought acts a ≡ x ∷ [] → h ≡ host_of m s acts → GivesSome h (move m h x) → new_out ≡ old_out
     → Stops m s acts a old_out new_out

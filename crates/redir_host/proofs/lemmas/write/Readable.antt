@@ -42,7 +42,8 @@ use Rattle.redir_host.specs.step.Moves.{Move, quiet}
 use Rattle.redir_host.specs.device.Offering.{stream_packet, offered_by, offered_on, offer_move, unplug_move}
 use Rattle.redir_host.specs.guest.Packets.{runs_at}
 use Rattle.redir_host.specs.device.Performing.{done_by, does, performs, follows, resets, performs_marked, performs_any, with_id, first_performed, perform_move, perform_move_by}
-use Rattle.redir_host.specs.state.Queues.{is_at, without_first}
+use Rattle.usb_base.specs.Firsts.{without_first}
+use Rattle.redir_host.specs.state.Queues.{is_at}
 use Rattle.redir_host.specs.write.Readable.{AreRead, InRange}
 use Rattle.redir_host.specs.state.Sound.{Each, FormFits, IsRequest, IsRunning, IsSound}
 use Rattle.redir_host.proofs.lemmas.write.Answers.{can_answer, ended_fits, few_wanted, outcome_fits}

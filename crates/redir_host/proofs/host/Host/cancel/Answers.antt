@@ -1,9 +1,9 @@
 use Rattle.std.proofs.Common.{◌==◌, ℕ, sym, subst}
-use Rattle.std.proofs.lemmas.Bool.{eqb-true}
+use Rattle.std.proofs.lemmas.Bool.{and_parts, eqb-true}
 use Rattle.redir_wire.specs.Header.{is_wide, IdFits}
 use Rattle.std.specs.Prelude.{false}
 use Rattle.redir_host.specs.state.Queues.{is_cancelled_by, is_data}
-use Rattle.redir_host.proofs.lemmas.state.Each.{found_passes, second}
+use Rattle.redir_host.proofs.lemmas.state.Each.{found_passes}
 use Rattle.redir_host.proofs.host.Host.cancel.Goals as goal
 
 pub write_cancelled-requires : goal.write_cancelled-requires
@@ -11,5 +11,5 @@ write_cancelled-requires g c =
     let h = c.args.self.now in
     let q = c.in-Some.cancelled.request in
     let passes = found_passes (is_cancelled_by c.args.id) h.queue q c.in-Some.ensures.request in
-    let same = eqb-true q.id c.args.id (second (is_data q.form) (q.id == c.args.id) passes) in
+    let same = eqb-true q.id c.args.id (and_parts (is_data q.form) (q.id == c.args.id) passes).1 in
     subst (λ (n : ℕ). IdFits (is_wide false h.guest.caps) n) (sym same) c.requires

@@ -6,7 +6,8 @@ use Rattle.redir_host.specs.declared.note.Performed.TheVariants.{Done}
 use Rattle.redir_host.specs.declared.request.Request.{Request}
 use Rattle.redir_host.specs.step.Makes.{Performs, Tells}
 use Rattle.redir_host.specs.device.Performing.{done_by, performs, with_id}
-use Rattle.redir_host.specs.state.Queues.{is_at, without_first}
+use Rattle.usb_base.specs.Firsts.{without_first}
+use Rattle.redir_host.specs.state.Queues.{is_at}
 use Rattle.redir_host.specs.state.Sound.{Each, IsRequest}
 use Rattle.redir_host.proofs.lemmas.state.Each.{each_found}
 use Rattle.redir_host.proofs.lemmas.state.Sound.{each-without}

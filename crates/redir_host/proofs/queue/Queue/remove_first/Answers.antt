@@ -2,7 +2,8 @@ use Rattle.std.proofs.Common.{ap, sym, is_some, ◌∙◌}
 use Rattle.std.specs.List.{find}
 use Rattle.std.specs.Map.{values_of}
 use Rattle.redir_host.specs.inner.Waiting.{first_number, is_from}
-use Rattle.redir_host.specs.state.Queues.{is_at, without_first}
+use Rattle.usb_base.specs.Firsts.{without_first}
+use Rattle.redir_host.specs.state.Queues.{is_at}
 use Rattle.redir_host.proofs.lemmas.state.Numbered.{first_some, first_there}
 use Rattle.redir_host.proofs.queue.Queue.remove_first.Goals as goal
 
