@@ -26,30 +26,18 @@ data-wire r (Wire Control) f = refl
 data-wire r (Wire Bulk) f = refl
 data-wire r (Wire InterruptOut) f = refl
 data-wire r (Routed (route.SetConfig c)) f = refl
-data-wire r (Routed route.GetConfig) f = refl
-data-wire r (Routed (route.SetAlt i a)) f = refl
-data-wire r (Routed (route.GetAlt i)) f = refl
-data-wire r (Routed route.Reset) f = refl
-data-wire r (Routed route.Local) f = refl
-data-wire r (Routed route.Plain) f = refl
-data-wire r (Routed route.Bad) f = refl
+data-wire r (Routed _) f = refl
 data-wire r (Now status) f = absurd f
 data-wire r (IsoOut row) f = absurd f
 data-wire r (Stream row) f = absurd f
 
 pub wire-resets : (v : Verdict) → is_wire v ≡ true → (resets v ≡ false) × (changes v ≡ false)
-wire-resets (Wire pipe) h = (refl, refl)
-wire-resets (Now status) h = (refl, refl)
 wire-resets (Routed x) h = absurd (not-both (sym h))
-wire-resets (IsoOut row) h = (refl, refl)
-wire-resets (Stream row) h = (refl, refl)
+wire-resets _ h = (refl, refl)
 
 pub wire-seen : (r : Request) (v : Verdict) (k : ℕ) (o : Outcome) → is_wire v ≡ true → seen_by r v k o ≡ o
-wire-seen r (Wire pipe) k o h = refl
-wire-seen r (Now status) k o h = refl
 wire-seen r (Routed x) k o h = absurd (not-both (sym h))
-wire-seen r (IsoOut row) k o h = refl
-wire-seen r (Stream row) k o h = refl
+wire-seen r _ k o h = refl
 
 -- the entry that a cancel takes
 pub record Taken (id : ℕ) (es : List Entry) : Type 0 where

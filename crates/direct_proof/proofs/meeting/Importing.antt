@@ -151,34 +151,38 @@ keep-import {S = S} m w j place status busid rel sound out = go w.gate.client_ov
 
         related : Related m (imported_world w) j
         related = record {
-          held = rel.held;
-          half = rel.half;
-          coming = rel.coming;
+          line = rel.line;
           answers = rel.answers;
-          loads = rel.loads;
           tagged = rel.tagged;
           ids = rel.ids;
           real = rel.real;
-          calls_in = rel.calls_in;
           runs_at_in = rel.runs_at_in;
-          meets = record { host = rel.meets.host; gate = rel.meets.gate; before = λ h. let e = rel.meets.before h in record { back = e.back; wire = e.wire; held = e.held; half = e.half; running = e.running }; announced = rel.meets.announced; asked = rel.meets.asked; behind = rel.meets.behind; once = rel.meets.once; plugged = rel.meets.plugged; no_session = λ h k. ap is_some known };
+          before = rel.before;
+          asked = rel.asked;
+          meets = record {
+            host = rel.meets.host;
+            gate = rel.meets.gate;
+            announced = rel.meets.announced;
+            behind = rel.meets.behind;
+            once = rel.meets.once;
+            plugged = rel.meets.plugged;
+            no_session = λ h k. ap is_some known;
+          };
           debts = λ h. rel.debts there;
           controls = λ h. rel.controls there;
           fenced = λ h. rel.fenced there;
-          cancels = rel.cancels;
-          behind = rel.behind;
           alone = λ h. (empty, no-fence st.fence parts.1);
-          session = λ h a. let s = rel.session there a in record { table = s.table; faces = s.faces; clean = s.clean; quits = s.quits; trails = s.trails; starts = s.starts; kinds = s.kinds; start_kinds = s.start_kinds };
+          session = λ h a. rel.session there a;
           ups = rel.ups;
-          lost = λ h. absurd (not-both (sym h));
-          reads = rel.reads;
-          refused = λ h. absurd (clash st.client_over h on);
           down = λ h. absurd (not-both h);
-          gone = λ h. absurd (clash j.gone h ungone);
-          seen = λ h. sym ungone;
-          still = rel.still;
-          bye = rel.bye;
-          bye_last = rel.bye_last;
+          lost = λ h. absurd (not-both (sym h));
+          sides = record {
+            reads = rel.sides.reads;
+            refused = λ h. absurd (clash st.client_over h on);
+            gone = λ h. absurd (clash j.gone h ungone);
+            seen = λ h. sym ungone;
+          };
+          farewell = rel.farewell;
         }
 
         keeps-import : Keeps m w j made

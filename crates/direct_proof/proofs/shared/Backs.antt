@@ -1,13 +1,22 @@
 -- The wire to the gateway: facts told, and what is stale, as it grows and is read.
-use Rattle.std.proofs.Common.{◌≡◌, ℕ, ◌||◌, Bool, true, false, List, [], ◌∷◌, ◌++◌, Option, refl, sym, ap, ◌∙◌}
+use Rattle.std.proofs.Common.{◌≡◌, ℕ, ◌||◌, Bool, true, false, List, [], ◌∷◌, ◌++◌, Option, refl, sym, ap, ◌∙◌, inl, inr, ◌⊎◌}
 use Rattle.std.specs.List.{list_any}
 use Rattle.redir_host.specs.state.Sound.{Each}
 use Rattle.gate_history.specs.declared.facts.Facts.{Facts}
 use Rattle.gate_history.specs.state.Facts.{tell}
 use Rattle.gate_history.specs.step.Meaning.{fact_of}
-use Rattle.direct_proof.specs.Tagged.{Tagged, on_wire, told}
+use Rattle.direct_proof.specs.Meets.{is_greeting}
+use Rattle.direct_proof.specs.Tagged.{Tagged, Greeted, on_wire, told}
 use Rattle.direct_proof.specs.Stale.{ends, is_stale, Clean}
 use Rattle.direct_proof.proofs.shared.Folds.{clash, not-both, or-left, or-right, or-none, any-append}
+
+-- what comes first while nothing but the hellos is on a wire is the greeting
+pub early-greets : (b : Tagged) (bs : List Tagged) → (b ∷ bs ≡ Greeted ∷ []) ⊎ (b ∷ bs ≡ []) → is_greeting b ≡ true
+early-greets b bs (inl e) = ap is_greeting (heads e)
+  where
+    heads : b ∷ bs ≡ Greeted ∷ [] → b ≡ Greeted
+    heads z = cc
+early-greets b bs (inr e) = absurd (cc)
 
 pub told-append : (f : Facts) (bs cs : List Tagged) → told f (bs ++ cs) ≡ told (told f bs) cs
 told-append f [] cs = refl

@@ -55,7 +55,7 @@ coming_of e configuration o = record { id = e.id; load = e.load; configuration =
 
 -- one that isn't held early
 pub greeted-held : {S : Type 0} (m : Meaning S) (w : World S) (j : Shared) (front : List Entry) (e : Entry) (back : List Entry) → Related m w j → j.held ≡ front ++ e ∷ back → (b : Bool) → w.host.guest.first ≡ b → b ≡ false
-greeted-held m w j front e back rel is true h = absurd (some front (sym is ∙ (rel.meets.before h).held))
+greeted-held m w j front e back rel is true h = absurd (some front (sym is ∙ (rel.before h).held))
   where
     some : (xs : List Entry) → xs ++ e ∷ back ≡ [] → ⊥
     some [] z = cc
@@ -67,12 +67,12 @@ pub after-ran : {S : Type 0} (m : Meaning S) (w : World S) (j : Shared) (front :
     Related m (sent_world w gadget (front ++ back) w.host.running (Answered (coming_of e configuration o) ∷ [])) (sent_shared j (front ++ back) (Answered (coming_of e configuration o) ∷ []))
 after-ran {S = S} m w j front e back gadget configuration o rel plugged held plain same came =
     after-host m w j gadget (front ++ back) w.host.running cs rel plugged (greeted-held m w j front e back rel held.is w.host.guest.first refl) (tt, tt)
-    (subst (Each (λ (x : Entry). IsLoad x.load)) held.outside (each-parts (λ (x : Entry). IsLoad x.load) front e (back ++ j.coming) (subst (Each (λ (x : Entry). IsLoad x.load)) held.inside rel.loads)).1)
+    (subst (Each (λ (x : Entry). IsLoad x.load)) held.outside (each-parts (λ (x : Entry). IsLoad x.load) front e (back ++ j.coming) (subst (Each (λ (x : Entry). IsLoad x.load)) held.inside rel.line.loads)).1)
     (came, tt)
     (subst (λ (l : List Entry). Ids j.debts w.submits l (runs_in j.back ++ c ∷ [])) held.outside
     (ids-perform j.debts w.submits front (back ++ j.coming) e (runs_in j.back) configuration o (subst (λ (l : List Entry). Ids j.debts w.submits l (runs_in j.back)) held.inside rel.ids)))
     (λ P h. (each-parts P front e back (subst (Each P) held.is h)).1)
-    (subst Behind held.outside (behind-drop front e (back ++ j.coming) (subst Behind held.inside rel.behind)))
+    (subst Behind held.outside (behind-drop front e (back ++ j.coming) (subst Behind held.inside rel.line.behind)))
     session rel.runs_at_in
   where
     c : Coming

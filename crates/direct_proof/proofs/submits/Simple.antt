@@ -11,7 +11,7 @@ use Rattle.model_device.specs.Transfer.{IsTransfer}
 use Rattle.redir_host.specs.guest.Line.{Waiting as InLine, data_line}
 use Rattle.redir_host.specs.state.Sound.{Each as HostEach}
 use Rattle.gate_history.specs.client.Requests.{Request}
-use Rattle.gate_history.specs.client.Verdict.{Verdict, Pipe, Now, Wire, Routed, IsoOut, Stream, goes_by_id}
+use Rattle.gate_history.specs.client.Verdict.{Verdict, Pipe, Wire, Routed, Stream, goes_by_id}
 use Rattle.gate_history.specs.step.Marks.{Submission, Opens}
 use Rattle.gate_history.specs.client.Submits.{Pending, at_once, is_touched}
 use Rattle.gate_history.specs.state.Ids.{last_of, draw, greatest}
@@ -115,11 +115,8 @@ get-ends st x h = record { ups = every (Stays (ends_with (Some x))) stays st.str
     stays (Some up) = h up.row.interface
 
     no-touch : (u : Verdict) → is_touched (Routed x) u ≡ false
-    no-touch (Now status) = refl
-    no-touch (Wire pipe) = refl
-    no-touch (Routed y) = refl
-    no-touch (IsoOut row) = refl
     no-touch (Stream row) = h row.interface
+    no-touch _ = refl
 
 -- those of one packet
 pub simple-route : (st : State) (r : Request) (x : Route) (p : RedirPacket) → EndsNone st x → route_packets x ≡ p ∷ [] → ((id : ℕ) → in_line (id, p) ≡ at_host (record { id = id; load = record { request = r; verdict = Routed x }; asked = false })) →

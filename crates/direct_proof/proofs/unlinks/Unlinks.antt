@@ -5,7 +5,7 @@ use Rattle.std.specs.List.{list_any, flat_map}
 use Rattle.usbip_urb.specs.declared.client.ClientPacket.{ClientPacket}
 use Rattle.usbip_urb.specs.declared.client.ClientPacket.TheVariants.{Urb}
 use Rattle.redir_host.specs.state.Sound.{Each}
-use Rattle.gate_history.specs.client.Verdict.{Verdict, Now, Wire, Routed, IsoOut, Stream, goes_by_id}
+use Rattle.gate_history.specs.client.Verdict.{Verdict, Wire, Routed, goes_by_id}
 use Rattle.gate_history.specs.step.Marks.{Submission, Effect, Unlinks}
 use Rattle.gate_history.specs.client.Submits.{Pending, is_waiting, ends, ByUnlink}
 use Rattle.gate_history.specs.write.Answers.{ret_unlink, answers_at}
@@ -56,11 +56,9 @@ module _ (st : State) (by target : ℕ) where
   debts-unlinked = ap (λ (l : List Pending). debts_of (map (λ (p : Pending). p.submit) l)) live-unlinked ∙ go st.live
     where
       waits : (v : Verdict) (b : Bool) → (is_waiting v && b) ≡ true → goes_by_id v ≡ false
-      waits (Now status) b h = refl
       waits (Wire pipe) b h = absurd (not-both (sym h))
       waits (Routed r) b h = absurd (not-both (sym h))
-      waits (IsoOut row) b h = refl
-      waits (Stream row) b h = refl
+      waits _ b h = refl
 
       go : (ps : List Pending) → debts_of (map (λ (p : Pending). p.submit) (map (ask what) (filter (λ p. not (gate_taken target p)) ps))) ≡ debts_of (map (λ (p : Pending). p.submit) ps)
       go [] = refl

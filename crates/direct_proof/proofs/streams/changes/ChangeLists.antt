@@ -11,7 +11,7 @@ use Rattle.control_route.specs.Changes.{is_change}
 use Rattle.model_device.specs.Transfer.{is_control}
 use Rattle.redir_host.specs.state.Sound.{Each}
 use Rattle.gate_history.specs.client.Requests.{Request}
-use Rattle.gate_history.specs.client.Verdict.{Verdict, Now, Wire, Routed, IsoOut, Stream, verdict, by_transfer, goes_by_id}
+use Rattle.gate_history.specs.client.Verdict.{Verdict, Now, Wire, Routed, verdict, by_transfer, goes_by_id}
 use Rattle.gate_history.specs.write.Errno.{eshutdown, ebusy}
 use Rattle.gate_history.specs.state.Ids.{holds}
 use Rattle.gate_history.specs.step.Marks.{Submission}
@@ -56,11 +56,9 @@ abbrev pub by_id : Submission → Bool
 by_id s = goes_by_id s.verdict
 
 touched-waits : (x : Route) (v : Verdict) → touches_stream x v ≡ true → goes_by_id v ≡ false
-touched-waits x (Now status) h = refl
 touched-waits x (Wire pipe) h = absurd (not-both (sym h))
 touched-waits x (Routed y) h = absurd (not-both (sym h))
-touched-waits x (IsoOut row) h = refl
-touched-waits x (Stream row) h = refl
+touched-waits x _ h = refl
 
 pub debts-changer : (st : State) (r : Request) (x : Route) (ps : List Pending) → debts_of (map (λ (p : Pending). p.submit) (staying x ps ++ fresh (changer st r x) ∷ [])) ≡ debts_of (map (λ (p : Pending). p.submit) ps) ++ debt_in (changer st r x) ∷ []
 debts-changer st r x [] = refl
@@ -96,11 +94,7 @@ pub zero-route : (r : Request) (x : Route) → is_change x ≡ true → is_contr
 zero-route r (route.SetConfig c) h = refl
 zero-route r (route.SetAlt i a) h = refl
 zero-route r route.Reset h = refl
-zero-route r route.GetConfig h = absurd (not-both (sym h))
-zero-route r (route.GetAlt i) h = absurd (not-both (sym h))
-zero-route r route.Local h = absurd (not-both (sym h))
-zero-route r route.Plain h = absurd (not-both (sym h))
-zero-route r route.Bad h = absurd (not-both (sym h))
+zero-route r _ h = absurd (not-both (sym h))
 
 pub behind-more : (es : List Entry) (e : Entry) → is_control (normal_of e.load).ep ≡ true → Behind es → Behind (es ++ e ∷ [])
 behind-more [] e h b = ((λ z. tt), tt)

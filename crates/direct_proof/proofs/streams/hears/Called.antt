@@ -1,6 +1,6 @@
 -- The host reads a start or a stop of a stream, and what is shared is kept.
 use Rattle.direct_proof.proofs.streams.hears.CalledFence.{called_world, called-moved, unheard-moved, unfenced, stays-clean, fenced-called}
-use Rattle.std.proofs.Common.{◌≡◌, ℕ, ◌+◌, ◌||◌, ◌⊎◌, inl, inr, Bool, true, false, cond, List, [], ◌∷◌, ◌++◌, map, Option, Some, None, is_some, refl, sym, ap, ◌∙◌, subst, arith}
+use Rattle.std.proofs.Common.{◌≡◌, ℕ, ◌+◌, ◌||◌, ◌⊎◌, inl, inr, Bool, true, false, cond, List, [], ◌∷◌, ◌++◌, map, Option, Some, None, refl, sym, ap, ◌∙◌, subst, arith}
 use Rattle.std.specs.List.{list_any}
 use Rattle.redir_data.specs.declared.packet.RedirPacket.{RedirPacket}
 use Rattle.redir_data.specs.Streams.{advanced}
@@ -22,7 +22,6 @@ use Rattle.direct_proof.specs.Session.{Session, down_in, runs}
 use Rattle.direct_proof.specs.Calls.{Controls, Fenced, StatusIsKept, CallIsKept, call_id, statuses_on, calls_on}
 use Rattle.direct_proof.specs.Ids.{Ids}
 use Rattle.direct_proof.specs.Kinds.{TaggedOfKind, StartOfKind}
-use Rattle.direct_proof.specs.Meets.{is_greeting, is_plug, is_bye}
 use Rattle.direct_proof.specs.Cancels.{any_change}
 use Rattle.direct_proof.specs.Stale.{asks, is_fence}
 use Rattle.direct_proof.specs.Running.{passes, called_endpoint, started_kind, Quits, Trails, runs_after}
@@ -35,7 +34,8 @@ use Rattle.direct_proof.proofs.shared.Folds.{clash, not-both, or-left, or-right}
 use Rattle.direct_proof.proofs.streams.wires.Folds.{or-either, quits-off}
 use Rattle.direct_proof.proofs.shared.Backs.{clean-append}
 use Rattle.direct_proof.proofs.shared.Streaming.{statuses-append}
-use Rattle.direct_proof.proofs.streams.wires.Growing.{any-last, plug-last, runs-last, told-last, no-fact-told, bye-last, way-stated}
+use Rattle.direct_proof.proofs.streams.wires.Growing.{runs-last, told-last, no-fact-told, way-stated}
+use Rattle.direct_proof.proofs.shared.Sending.{meets-sent, farewell-sent}
 use Rattle.direct_proof.proofs.streams.wires.Pending.{asked-pending}
 use Rattle.direct_proof.proofs.streams.hears.Calling.{HostCalls}
 use Rattle.direct_proof.proofs.streams.hears.Hearing.{asked-tail, call-of, cancels, controls-at, here, in-tail, is_call, known, line, not-first, starts-tail}
@@ -96,27 +96,23 @@ module _ {S : Type 0} (m : Meaning S) (w : World S) (j : Shared) (rel : Related 
 
     related : Related m new later
     related = record {
-      held = rel.held;
-      half = rel.half;
-      coming = line m w j rel q ps wire x at-x;
+      line = record {
+        held = rel.line.held;
+        half = rel.line.half;
+        coming = line m w j rel q ps wire x at-x;
+        loads = rel.line.loads;
+        calls_in = (in-tail m w j rel q ps wire x at-x).1;
+        cancels = cancels m w j rel q ps wire x at-x;
+        behind = rel.line.behind;
+      };
       answers = ap (λ (l : List (ℕ × RedirPacket)). l ++ on_wire b ∷ []) rel.answers ∙ sym (map-append on_wire j.back (b ∷ []));
-      loads = rel.loads;
       tagged = each-append (TaggedOfKind w.gate.streams) j.back (b ∷ []) rel.tagged ((c.is_in.low, c.is_in.high, refl), tt);
       ids = subst (Ids j.debts w.submits (j.held ++ j.coming)) (sym (runs-last j.back b refl)) rel.ids;
       real = rel.real;
-      calls_in = (in-tail m w j rel q ps wire x at-x).1;
       runs_at_in = c.ins;
-      meets = record {
-        host = rel.meets.host;
-        gate = λ h. rel.meets.gate (sym (any-last is_greeting j.back b refl) ∙ h);
-        before = λ h. absurd (clash w.host.guest.first h (not-first m w j rel q ps wire x at-x));
-        announced = λ h k. ap (λ (z : Bool). is_some w.gate.facts.connect || z) (any-last is_plug j.back b refl) ∙ (known m w j rel q ps wire x at-x) plugged;
-        asked = λ h. (asked-tail m w j rel q ps wire x at-x);
-        behind = λ h. let k = rel.meets.behind h in (any-last is_greeting j.back b refl ∙ k.0, any-last is_plug j.back b refl ∙ k.1, k.2);
-        once = plug-last j.back b refl refl rel.meets.once;
-        plugged = λ h. rel.meets.plugged (sym (any-last is_plug j.back b refl) ∙ h);
-        no_session = rel.meets.no_session;
-      };
+      before = λ h. absurd (clash w.host.guest.first h (not-first m w j rel q ps wire x at-x));
+      asked = λ h. (asked-tail m w j rel q ps wire x at-x);
+      meets = meets-sent w j (b ∷ []) refl refl rel.meets;
       debts = rel.debts;
       controls = λ h. record {
         once = λ id. let o = controls.once id in let a = times-append id (call_id q) (calls_on ps) ∙ ap (λ (l : List ℕ). times id l + times id (calls_on ps)) (is_call m w j rel q ps wire x at-x).id in let z = ap (times id) statuses ∙ times-append id (statuses_on j.back) (q.0 ∷ []) in omega (arith, o, a, z);
@@ -124,20 +120,13 @@ module _ {S : Type 0} (m : Meaning S) (w : World S) (j : Shared) (rel : Related 
         statuses_kept = each-append (StatusIsKept w.gate.calls) j.back (b ∷ []) controls.statuses_kept (subst (CallIsKept w.gate.calls q.0) c.at controls.calls_kept.0, tt);
       };
       fenced = λ h. new-fenced;
-      cancels = cancels m w j rel q ps wire x at-x;
-      behind = rel.behind;
       alone = rel.alone;
       session = λ h k. new-session;
       ups = rel.ups;
-      lost = λ h. absurd (clash w.gate.lost h there);
-      gone = rel.gone;
-      reads = rel.reads;
-      refused = rel.refused;
       down = rel.down;
-      seen = rel.seen;
-      still = λ h. absurd (clash w.host.unplugged h plugged);
-      bye = λ h. any-last is_bye j.back b refl ∙ rel.bye h;
-      bye_last = bye-last j.back b (rel.bye plugged) refl;
+      lost = λ h. absurd (clash w.gate.lost h there);
+      sides = rel.sides;
+      farewell = farewell-sent new.host j.back (b ∷ []) plugged (rel.farewell.bye plugged) refl;
     }
 
     keep-heard : Keeps m w j (move m w HostReads)
@@ -148,22 +137,26 @@ module _ {S : Type 0} (m : Meaning S) (w : World S) (j : Shared) (rel : Related 
 
   unheard : w.host.unplugged ≡ true → Related m (record w { to_host = ps }) j
   unheard gone = record {
-    held = rel.held;
-    half = rel.half;
-    coming = line m w j rel q ps wire x at-x;
+    line = record {
+      held = rel.line.held;
+      half = rel.line.half;
+      coming = line m w j rel q ps wire x at-x;
+      loads = rel.line.loads;
+      calls_in = (in-tail m w j rel q ps wire x at-x).1;
+      cancels = cancels m w j rel q ps wire x at-x;
+      behind = rel.line.behind;
+    };
     answers = rel.answers;
-    loads = rel.loads;
     tagged = rel.tagged;
     ids = rel.ids;
     real = rel.real;
-    calls_in = (in-tail m w j rel q ps wire x at-x).1;
     runs_at_in = rel.runs_at_in;
+    before = λ h. absurd (clash w.host.guest.first h (not-first m w j rel q ps wire x at-x));
+    asked = λ h. (asked-tail m w j rel q ps wire x at-x);
     meets = record {
       host = rel.meets.host;
       gate = rel.meets.gate;
-      before = λ h. absurd (clash w.host.guest.first h (not-first m w j rel q ps wire x at-x));
       announced = λ h k. absurd (clash w.host.unplugged gone k);
-      asked = λ h. (asked-tail m w j rel q ps wire x at-x);
       behind = rel.meets.behind;
       once = rel.meets.once;
       plugged = rel.meets.plugged;
@@ -176,8 +169,6 @@ module _ {S : Type 0} (m : Meaning S) (w : World S) (j : Shared) (rel : Related 
       statuses_kept = c.statuses_kept;
     };
     fenced = λ h. fewer w.gate.fence j.fenced (subst (λ (l : List (ℕ × RedirPacket)). Fenced w.gate.fence j.fenced l j.back) wire (rel.fenced h));
-    cancels = cancels m w j rel q ps wire x at-x;
-    behind = rel.behind;
     alone = rel.alone;
     session = λ h k. let s = rel.session h k in record {
       table = s.table;
@@ -190,15 +181,10 @@ module _ {S : Type 0} (m : Meaning S) (w : World S) (j : Shared) (rel : Related 
       start_kinds = (subst (Each (λ (p : ℕ × RedirPacket). StartOfKind w.gate.streams (started_kind p.1))) wire s.start_kinds).1;
     };
     ups = rel.ups;
-    lost = rel.lost;
-    gone = rel.gone;
-    reads = rel.reads;
-    refused = rel.refused;
     down = rel.down;
-    seen = rel.seen;
-    still = rel.still;
-    bye = rel.bye;
-    bye_last = rel.bye_last;
+    lost = rel.lost;
+    sides = rel.sides;
+    farewell = rel.farewell;
   }
     where
       fewer : (fence : Option ℕ) (fenced : Bool) → Fenced fence fenced (q ∷ ps) j.back → Fenced fence fenced ps j.back
@@ -206,7 +192,7 @@ module _ {S : Type 0} (m : Meaning S) (w : World S) (j : Shared) (rel : Related 
       fewer (Some f) fenced h = ((λ k. let a = times-append f (call_id q) (calls_on ps) in h.0 (omega (arith, k, a))), h.1)
 
       quits-still : (e : ℕ) → Quits w.gate.fence e (runs_after e q.1 (runs w.host e)) ps → Quits w.gate.fence e (runs w.host e) ps
-      quits-still e h = subst (λ (rs : List Running). Quits w.gate.fence e (list_any (runs_at e) rs) ps) (sym (rel.still gone)) (quits-off w.gate.fence e (runs_after e q.1 (runs w.host e)) ps h)
+      quits-still e h = subst (λ (rs : List Running). Quits w.gate.fence e (list_any (runs_at e) rs) ps) (sym (rel.farewell.still gone)) (quits-off w.gate.fence e (runs_after e q.1 (runs w.host e)) ps h)
 
   keep-unheard : advanced w.host.guest q.1 ≡ w.host.guest → w.host.unplugged ≡ true → Keeps m w j (move m w HostReads)
   keep-unheard same gone = keeps-quiet m w j j (move m w HostReads) (record w { to_host = ps }) (unheard-moved m w q ps same wire gone) (unheard gone) refl

@@ -34,20 +34,20 @@ module _ {S : Type 0} (m : Meaning S) (w : World S) (j : Shared) (rel : Related 
       none e = cc
 
       go : (b : Bool) → w.host.guest.first ≡ b → b ≡ false
-      go true h = absurd (none (sym (ap (λ (p : ℕ × RedirPacket). called_endpoint p.1) (heads (sym wire ∙ (rel.meets.before h).wire))) ∙ at-x))
+      go true h = absurd (none (sym (ap (λ (p : ℕ × RedirPacket). called_endpoint p.1) (heads (sym wire ∙ (rel.before h).wire))) ∙ at-x))
       go false h = refl
 
   pub line : half_line j.half ++ lines ps ≡ at_hosts j.coming
-  line = ap (λ (l : List InLine). half_line j.half ++ (l ++ lines ps)) (sym is_call.line) ∙ ap (λ (l : List (ℕ × RedirPacket)). half_line j.half ++ lines l) (sym wire) ∙ rel.coming
+  line = ap (λ (l : List InLine). half_line j.half ++ (l ++ lines ps)) (sym is_call.line) ∙ ap (λ (l : List (ℕ × RedirPacket)). half_line j.half ++ lines l) (sym wire) ∙ rel.line.coming
 
   pub in-tail : Each (λ (p : ℕ × RedirPacket). CallIsIn (called_endpoint p.1)) (q ∷ ps)
-  in-tail = subst (Each (λ (p : ℕ × RedirPacket). CallIsIn (called_endpoint p.1))) wire rel.calls_in
+  in-tail = subst (Each (λ (p : ℕ × RedirPacket). CallIsIn (called_endpoint p.1))) wire rel.line.calls_in
 
   pub asked-tail : Each (λ (p : ℕ × RedirPacket). IsAsking p.1) ps
-  asked-tail = (subst (Each (λ (p : ℕ × RedirPacket). IsAsking p.1)) wire (rel.meets.asked not-first)).1
+  asked-tail = (subst (Each (λ (p : ℕ × RedirPacket). IsAsking p.1)) wire (rel.asked not-first)).1
 
   pub cancels : CancelsFit j.held ps j.coming
-  cancels = subst (λ (b : Bool). CancelsFit (moved b j.held j.coming) ps (left b j.coming)) is_call.first (subst (λ (l : List (ℕ × RedirPacket)). CancelsFit j.held l j.coming) wire rel.cancels).1
+  cancels = subst (λ (b : Bool). CancelsFit (moved b j.held j.coming) ps (left b j.coming)) is_call.first (subst (λ (l : List (ℕ × RedirPacket)). CancelsFit j.held l j.coming) wire rel.line.cancels).1
 
   pub starts-tail : (changing : Bool) → StartsFit (m.table w.host.gadget) changing w.to_host → StartsFit (m.table w.host.gadget) changing ps
   starts-tail changing h = subst (λ (b : Bool). StartsFit (m.table w.host.gadget) b ps) (ap (λ (b : Bool). changing || b) is_call.no_change ∙ or-false changing) (subst (StartsFit (m.table w.host.gadget) changing) wire h).1

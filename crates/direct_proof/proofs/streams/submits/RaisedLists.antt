@@ -43,12 +43,12 @@ none-runs ep (s ∷ rs) h = let p = or-none (s.ep == ep) (list_any (runs_at ep) 
 pub after-kept : {S : Type 0} (m : Meaning S) (w : World S) (j : Shared) → Related m w j → w.gate.lost ≡ false → Session m w j → AfterWait m w j w.to_host w.gate.calls w.gate.streams
 after-kept m w j rel there s = record {
   tagged = rel.tagged;
-  calls_in = rel.calls_in;
-  line = rel.coming;
+  calls_in = rel.line.calls_in;
+  line = rel.line.coming;
   controls = rel.controls there;
   fenced-is = rel.fenced there;
-  asked = rel.meets.asked;
-  cancels = rel.cancels;
+  asked = rel.asked;
+  cancels = rel.line.cancels;
   session = record { table = s.table; faces = s.faces; clean = s.clean; quits = s.quits; trails = s.trails; starts = s.starts; kinds = s.kinds; start_kinds = s.start_kinds };
   fits = rel.ups;
 }

@@ -21,7 +21,7 @@ use Rattle.gate_history.specs.state.Ids.{times, holds}
 use Rattle.gate_history.specs.write.Packets.{start_packet}
 use Rattle.gate_history.specs.client.Verdict.{is_iso}
 use Rattle.gate_history.proofs.lemmas.state.Calls.{AreLong, times-append}
-use Rattle.direct_proof.specs.Tagged.{Tagged, Greeted, Plugged, ToldTable, ToldFaces, Answered, Packed, Stated, Bye, is_kind}
+use Rattle.direct_proof.specs.Tagged.{Tagged, Stated, is_kind}
 use Rattle.direct_proof.specs.Kinds.{IsIn}
 use Rattle.direct_proof.specs.Calls.{IsKept, CallIsKept, StatusIsKept, is_id, call_id, calls_on, status_id, statuses_on}
 use Rattle.direct_proof.specs.Running.{called_endpoint, started_kind}
@@ -113,14 +113,8 @@ no-statuses c id free [] h = refl
 no-statuses c id free (b ∷ bs) h = let rest = no-statuses c id free bs h.1 in let a = times-append id (status_id b) (statuses_on bs) in let z = go b h.0 in omega (arith, rest, a, z)
   where
     go : (b : Tagged) → StatusIsKept c b → times id (status_id b) ≡ 0
-    go Greeted k = refl
-    go (Plugged x) k = refl
-    go (ToldTable t) k = refl
-    go (ToldFaces i) k = refl
-    go (Answered x) k = refl
-    go (Packed x e p) k = refl
     go (Stated x n e status) k = ap (λ (b : Bool). weight b + 0) (none-here c id n e free k)
-    go Bye k = refl
+    go _ k = refl
 
 -- ---- with one start more
 

@@ -66,12 +66,12 @@ is-still {S = S} m w j rel imported there calm = record {
     pending = λ i. entries i || none_fenced i
 
     no-asks : (b : Bool) → list_any (asks w.gate.fence) w.to_host ≡ b → b ≡ false
-    no-asks true h = absurd (clash (any_change (j.held ++ j.coming) || j.fenced) (asked-pending w.gate.fence j.fenced j.half w.to_host j.back j.held j.coming rel.coming (rel.fenced there) h) pending)
+    no-asks true h = absurd (clash (any_change (j.held ++ j.coming) || j.fenced) (asked-pending w.gate.fence j.fenced j.half w.to_host j.back j.held j.coming rel.line.coming (rel.fenced there) h) pending)
     no-asks false h = refl
 
     no-half : (b : Bool) → j.half ≡ b → b ≡ false
     no-half false h = refl
     no-half true h =
-        let line : Reset ∷ lines w.to_host ≡ at_hosts j.coming = ap (λ (b : Bool). half_line b ++ lines w.to_host) (sym h) ∙ rel.coming in
+        let line : Reset ∷ lines w.to_host ≡ at_hosts j.coming = ap (λ (b : Bool). half_line b ++ lines w.to_host) (sym h) ∙ rel.line.coming in
         let some : any_change j.coming ≡ true = coming-changes j.coming (sym (ap (list_any line_changes) line)) in
         absurd (clash (any_change j.coming) some (or-none (any_change j.held) (any_change j.coming) (sym (any-append is_change j.held j.coming) ∙ entries)).1)

@@ -23,23 +23,15 @@ use Rattle.gate_history.proofs.lemmas.state.Calls.{times-append}
 
 route-changes : (r : Request) (x : Route) → form_changes (form_by r (Routed x)) ≡ true → changes (Routed x) ≡ true
 route-changes r (route.SetConfig c) h = refl
-route-changes r route.GetConfig h = absurd (not-both (sym h))
 route-changes r (route.SetAlt i a) h = refl
-route-changes r (route.GetAlt i) h = absurd (not-both (sym h))
 route-changes r route.Reset h = refl
-route-changes r route.Local h = absurd (not-both (sym h))
-route-changes r route.Plain h = absurd (not-both (sym h))
-route-changes r route.Bad h = absurd (not-both (sym h))
+route-changes r _ h = absurd (not-both (sym h))
 
 reset-changes : (x : Route) → resets (Routed x) ≡ true → changes (Routed x) ≡ true
 reset-changes (route.SetConfig c) h = refl
-reset-changes route.GetConfig h = absurd (not-both (sym h))
 reset-changes (route.SetAlt i a) h = refl
-reset-changes (route.GetAlt i) h = absurd (not-both (sym h))
 reset-changes route.Reset h = refl
-reset-changes route.Local h = absurd (not-both (sym h))
-reset-changes route.Plain h = absurd (not-both (sym h))
-reset-changes route.Bad h = absurd (not-both (sym h))
+reset-changes _ h = absurd (not-both (sym h))
 
 in-line : (v : Verdict) (b : Bool) → (b ≡ true → changes v ≡ true) → (l : InLine) → (line_changes l ≡ true → changes v ≡ true) → list_any line_changes (cond b (Reset ∷ []) [] ++ l ∷ []) ≡ true → changes v ≡ true
 in-line v true reset l by h = reset refl

@@ -18,11 +18,7 @@ use Rattle.direct_proof.specs.Cancels.{begins, is_cancel}
 abbrev pub form_changes : Form → Bool
 form_changes (form.SetConfiguration c) = true
 form_changes (form.SetAlt i a) = true
-form_changes (form.Control s) = false
-form_changes (form.Bulk s) = false
-form_changes form.Interrupt = false
-form_changes form.GetConfiguration = false
-form_changes (form.GetAlt i) = false
+form_changes _ = false
 
 abbrev pub line_changes : InLine → Bool
 line_changes Reset = true
@@ -140,24 +136,8 @@ is_of ep None = false
 is_of ep (Some e) = e == ep
 
 pub runs-same : (ep : ℕ) (p : RedirPacket) (r : Bool) → is_of ep (called_endpoint p) ≡ false → runs_after ep p r ≡ r
-runs-same ep (Plain (plain.Hello x)) r h = refl
-runs-same ep (Plain (plain.Connect c)) r h = refl
-runs-same ep (Plain plain.Disconnect) r h = refl
-runs-same ep (Plain plain.Reset) r h = refl
-runs-same ep (Plain (plain.InterfaceInfo x)) r h = refl
-runs-same ep (Plain (plain.EpInfo x)) r h = refl
-runs-same ep (Plain (plain.SetConfiguration c)) r h = refl
-runs-same ep (Plain plain.GetConfiguration) r h = refl
-runs-same ep (Plain (plain.ConfigurationStatus s c)) r h = refl
-runs-same ep (Plain (plain.SetAlt i a)) r h = refl
-runs-same ep (Plain (plain.GetAlt i)) r h = refl
-runs-same ep (Plain (plain.AltStatus s i a)) r h = refl
 runs-same ep (Plain (plain.StartIso e n k)) r h = ap (λ (b : Bool). cond b true r) h
 runs-same ep (Plain (plain.StopIso e)) r h = ap (λ (b : Bool). cond b false r) h
-runs-same ep (Plain (plain.IsoStatus s e)) r h = refl
 runs-same ep (Plain (plain.StartInterrupt e)) r h = ap (λ (b : Bool). cond b true r) h
 runs-same ep (Plain (plain.StopInterrupt e)) r h = ap (λ (b : Bool). cond b false r) h
-runs-same ep (Plain (plain.InterruptStatus s e)) r h = refl
-runs-same ep (Plain plain.Cancel) r h = refl
-runs-same ep (Plain plain.DisconnectAck) r h = refl
-runs-same ep (Carrying d) r h = refl
+runs-same ep _ r h = refl
