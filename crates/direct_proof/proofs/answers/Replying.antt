@@ -31,7 +31,7 @@ use Rattle.direct_proof.proofs.shared.Owed.{ids-answer, each-filter}
 use Rattle.direct_proof.proofs.answers.Answering.{pending_has, live-left, answers-sent, answers-done}
 use Rattle.direct_proof.proofs.answers.Answered.{IsDeed, reads-answer, reads-moved, answer_mark, with_back, way-read}
 use Rattle.direct_proof.proofs.shared.Found.{none-named}
-use Rattle.direct_proof.proofs.shared.Backs.{early-greets}
+use Rattle.direct_proof.proofs.shared.Backs.{early-greets, farewell-read, session-read}
 use Rattle.direct_proof.proofs.shared.Folds.{clash, not-both}
 use Rattle.direct_proof.proofs.shared.Streaming.{controls-read, fenced-read}
 use Rattle.direct_proof.proofs.shared.Sending.{TellsLittle, answer-tells}
@@ -124,25 +124,12 @@ module _ {S : Type 0} (m : Meaning S) (w : World S) (j : Shared) (place : ℕ) (
     controls = λ h. controls-read st.calls w.to_host (Answered c) bs (rel.controls there);
     fenced = λ h. fenced-read st.fence j.fenced w.to_host (Answered c) bs (rel.fenced there);
     alone = λ h. let a = rel.alone h in (ap (filter (λ s. not (has_id c.id s))) a.0, a.1);
-    session = λ h a. let s = rel.session there (ap (λ (b : Bool). b || list_any is_plug bs) (sym known) ∙ a) in record {
-      table = s.table;
-      faces = s.faces;
-      clean = s.clean.1;
-      quits = s.quits;
-      trails = s.trails;
-      starts = s.starts;
-      kinds = s.kinds;
-      start_kinds = s.start_kinds;
-    };
+    session = λ h a. session-read m w j (Answered c) bs (rel.session there (ap (λ (b : Bool). b || list_any is_plug bs) (sym known) ∙ a));
     ups = rel.ups;
     down = rel.down;
     lost = λ h. absurd (clash st.lost h there);
     sides = rel.sides;
-    farewell = record {
-      still = rel.farewell.still;
-      bye = rel.farewell.bye;
-      bye_last = rel.farewell.bye_last.1;
-    };
+    farewell = farewell-read w.host (Answered c) bs rel.farewell;
   }
 
   abbrev later : Shared

@@ -47,6 +47,7 @@ use Rattle.direct_proof.specs.Tagged.{runs_in}
 use Rattle.direct_proof.proofs.lists.Counts.{Each-map}
 use Rattle.direct_proof.proofs.meeting.First.{all-down, none-ups}
 use Rattle.direct_proof.proofs.shared.Backs.{clean-true}
+use Rattle.direct_proof.proofs.shared.Sending.{meets-client}
 use Rattle.direct_proof.proofs.shared.Keeps.{Keeps}
 use Rattle.direct_proof.proofs.submits.Verdicts.{live-debts}
 use Rattle.direct_proof.proofs.streams.Keeping.{Does, keeps-made}
@@ -152,15 +153,7 @@ module _ {S : Type 0} (m : Meaning S) (w : World S) (j : Shared) (rel : Related 
     runs_at_in = rel.runs_at_in;
     before = new-before fenced;
     asked = new-asked;
-    meets = record {
-      host = rel.meets.host;
-      gate = rel.meets.gate;
-      announced = rel.meets.announced;
-      behind = rel.meets.behind;
-      once = rel.meets.once;
-      plugged = rel.meets.plugged;
-      no_session = λ h. absurd (not-both (sym h));
-    };
+    meets = meets-client w j false w.gate.lost (λ h. absurd (not-both (sym h))) rel.meets;
     debts = λ h. ap (λ (l : List Submission). debts_of (l ++ filter by_id (submits w.gate))) (rel.alone inside).0 ∙ debts-again (submits w.gate) ∙ live-debts m w j rel inside h;
     controls = λ h. subst (λ (l : List (ℕ × RedirPacket)). Controls (called (leave_stops w.gate) w.gate.calls) l j.back) (sym wire) (left-controls w.gate rel.ups gate ps j.back (controls-more w.gate.calls w.to_host cs j.back quiet-cs (rel.controls h)));
     fenced = f.fence-is;

@@ -22,10 +22,10 @@ use Rattle.direct_proof.specs.Shared.{Shared, way_of, view}
 use Rattle.direct_proof.specs.Tagged.{Tagged, Greeted, Plugged, ToldTable, ToldFaces, on_wire, runs_in, ran_in, packet_in, packets_in}
 use Rattle.direct_proof.specs.Related.{Related}
 use Rattle.direct_proof.specs.Ids.{Ids}
-use Rattle.direct_proof.specs.Meets.{is_bye, is_plug, is_greeting}
+use Rattle.direct_proof.specs.Meets.{is_plug, is_greeting}
 use Rattle.direct_proof.proofs.answers.Answered.{with_back}
-use Rattle.direct_proof.proofs.shared.Backs.{early-greets}
-use Rattle.direct_proof.proofs.shared.Folds.{clash, not-both, or-none, or-right}
+use Rattle.direct_proof.proofs.shared.Backs.{early-greets, farewell-read, session-read}
+use Rattle.direct_proof.proofs.shared.Folds.{clash, not-both, or-right}
 use Rattle.direct_proof.proofs.shared.Streaming.{controls-read, fenced-read}
 use Rattle.direct_proof.proofs.answers.Replying.{still-there}
 use Rattle.direct_proof.proofs.shared.Keeps.{Keeps, keeps-quiet}
@@ -82,25 +82,12 @@ module _ {S : Type 0} (m : Meaning S) (w : World S) (j : Shared) (place : ℕ) (
     controls = λ h. controls-read st.calls w.to_host b bs (rel.controls there);
     fenced = λ h. fenced-read st.fence j.fenced w.to_host b bs (rel.fenced there);
     alone = rel.alone;
-    session = λ h a. let s = rel.session there (on.announced a) in record {
-      table = s.table;
-      faces = s.faces;
-      clean = s.clean.1;
-      quits = s.quits;
-      trails = s.trails;
-      starts = s.starts;
-      kinds = s.kinds;
-      start_kinds = s.start_kinds;
-    };
+    session = λ h a. session-read m w j b bs (rel.session there (on.announced a));
     ups = rel.ups;
     down = rel.down;
     lost = λ h. absurd (clash st.lost h there);
     sides = rel.sides;
-    farewell = record {
-      still = rel.farewell.still;
-      bye = λ h. (or-none (is_bye b) (list_any is_bye bs) (rel.farewell.bye h)).1;
-      bye_last = rel.farewell.bye_last.1;
-    };
+    farewell = farewell-read w.host b bs rel.farewell;
   }
 
   pub keep-told : Keeps m w (with_back j (b ∷ bs)) (move m w (GateReads place))

@@ -32,6 +32,7 @@ use Rattle.direct_proof.specs.Tagged.{runs_in}
 use Rattle.direct_proof.specs.Related.{Related}
 use Rattle.direct_proof.specs.Ids.{count}
 use Rattle.direct_proof.proofs.shared.Folds.{clash, not-both, both-parts}
+use Rattle.direct_proof.proofs.shared.Sending.{meets-client}
 use Rattle.direct_proof.proofs.shared.Keeps.{Keeps, keeps-quiet, keeps-replied, not-gone}
 use Rattle.direct_proof.proofs.shared.Counted.{replied_world, replied-related}
 
@@ -159,15 +160,7 @@ keep-import {S = S} m w j place status busid rel sound out = go w.gate.client_ov
           runs_at_in = rel.runs_at_in;
           before = rel.before;
           asked = rel.asked;
-          meets = record {
-            host = rel.meets.host;
-            gate = rel.meets.gate;
-            announced = rel.meets.announced;
-            behind = rel.meets.behind;
-            once = rel.meets.once;
-            plugged = rel.meets.plugged;
-            no_session = λ h k. ap is_some known;
-          };
+          meets = meets-client w j true false (λ h k. ap is_some known) rel.meets;
           debts = λ h. rel.debts there;
           controls = λ h. rel.controls there;
           fenced = λ h. rel.fenced there;

@@ -5,7 +5,13 @@ use Rattle.redir_host.specs.state.Sound.{Each}
 use Rattle.gate_history.specs.declared.facts.Facts.{Facts}
 use Rattle.gate_history.specs.state.Facts.{tell}
 use Rattle.gate_history.specs.step.Meaning.{fact_of}
-use Rattle.direct_proof.specs.Meets.{is_greeting}
+use Rattle.model_device.specs.Meaning.{Meaning}
+use Rattle.redir_host.specs.declared.host.Host.{Host}
+use Rattle.direct_run.specs.Moves.{World}
+use Rattle.direct_proof.specs.Meets.{is_bye, is_greeting}
+use Rattle.direct_proof.specs.Related.{Farewell}
+use Rattle.direct_proof.specs.Session.{Session}
+use Rattle.direct_proof.specs.Shared.{Shared}
 use Rattle.direct_proof.specs.Tagged.{Tagged, Greeted, on_wire, told}
 use Rattle.direct_proof.specs.Stale.{ends, is_stale, Clean}
 use Rattle.direct_proof.proofs.shared.Folds.{clash, not-both, or-left, or-right, or-none, any-append}
@@ -51,3 +57,25 @@ silent fence down (b ∷ bs) c e =
     go : list_any (ends fence) (b ∷ bs) ≡ false → (x : Bool) → is_stale down b ≡ x → x ≡ false
     go none true h = absurd (clash (list_any (ends fence) (b ∷ bs)) (c.0 h) none)
     go none false h = refl
+
+-- ---- the first of what comes is read
+
+pub farewell-read : {S : Type 0} (h : Host S) (b : Tagged) (bs : List Tagged) → Farewell h (b ∷ bs) → Farewell h bs
+farewell-read h b bs f = record {
+  still = f.still;
+  bye = λ z. (or-none (is_bye b) (list_any is_bye bs) (f.bye z)).1;
+  bye_last = f.bye_last.1;
+}
+
+-- the gateway has its fact
+pub session-read : {S : Type 0} (m : Meaning S) (w : World S) (j : Shared) (b : Tagged) (bs : List Tagged) → Session m w (record j { back = b ∷ bs }) → Session m (record w { gate = record w.gate { facts = tell w.gate.facts (fact_of (on_wire b).1) } }) (record j { back = bs })
+session-read m w j b bs s = record {
+  table = s.table;
+  faces = s.faces;
+  clean = s.clean.1;
+  quits = s.quits;
+  trails = s.trails;
+  starts = s.starts;
+  kinds = s.kinds;
+  start_kinds = s.start_kinds;
+}

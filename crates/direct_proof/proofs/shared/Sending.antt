@@ -98,6 +98,10 @@ meets-sent w j cs no_greeting no_plug k = record {
   no_session = k.no_session;
 }
 
+-- and where another client is there, or none
+pub meets-client : {S : Type 0} (w : World S) (j : Shared) (imported lost : Bool) → (imported ≡ true → lost ≡ false → is_some w.gate.facts.connect ≡ true) → Meets w j → Meets (record w { gate = record w.gate { imported = imported; lost = lost } }) j
+meets-client w j imported lost known k = record { host = k.host; gate = k.gate; announced = k.announced; behind = k.behind; once = k.once; plugged = k.plugged; no_session = known }
+
 -- a host that is there has sent no farewell
 pub farewell-sent : {S : Type 0} (h : Host S) (bs cs : List Tagged) → h.unplugged ≡ false → list_any is_bye bs ≡ false → list_any is_bye cs ≡ false → Farewell h (bs ++ cs)
 farewell-sent h bs cs plugged none no_more = record {

@@ -27,7 +27,7 @@ use Rattle.direct_proof.specs.Cancels.{any_change}
 use Rattle.direct_proof.specs.Session.{down_in, runs}
 use Rattle.direct_proof.specs.Stale.{ends, asks, Clean}
 use Rattle.direct_proof.specs.Running.{Trails}
-use Rattle.direct_proof.proofs.shared.Backs.{early-greets}
+use Rattle.direct_proof.proofs.shared.Backs.{early-greets, farewell-read}
 use Rattle.direct_proof.proofs.shared.Folds.{clash, not-both}
 use Rattle.direct_proof.proofs.streams.wires.Growing.{no-fact, no-fact-told}
 use Rattle.direct_proof.proofs.streams.wires.Folds.{clean-fence, quits-fence, trails-fence}
@@ -116,11 +116,7 @@ module _ {S : Type 0} (m : Meaning S) (w : World S) (j : Shared) (b : Tagged) (b
     down = may.down;
     lost = λ h. absurd (clash w.gate.lost h read-here);
     sides = rel.sides;
-    farewell = record {
-      still = rel.farewell.still;
-      bye = λ h. sym (ap (λ (x : Bool). x || list_any is_bye bs) may.no_bye) ∙ rel.farewell.bye h;
-      bye_last = rel.farewell.bye_last.1;
-    };
+    farewell = farewell-read w.host b bs rel.farewell;
   }
     where
       same-told : told w.gate.facts (b ∷ bs) ≡ told w.gate.facts bs
