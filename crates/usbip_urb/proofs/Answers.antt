@@ -22,7 +22,7 @@ use Rattle.usbip_urb.specs.Fields.{ret_submit_at, ret_unlink_at}
 use Rattle.usbip_urb.specs.Ranges.{IsWord, IsAnswer}
 use Rattle.usbip_urb.specs.Checks.{command_check, size_checks, has_command, answer_checks}
 use Rattle.usbip_urb.specs.Answers.{answer_size_by, answer_by, answers}
-use Rattle.usbip_urb.specs.Sound.Words.{words_at, words_spelled, words_below, length-words, word_in, head_in}
+use Rattle.usbip_urb.specs.Sound.Words.{words_at, words_spelled, words_below, length-words, word_in, head_in, fields_in}
 use Rattle.usbip_urb.specs.Sound.Descriptors.{signed_again, signed_fits}
 use Rattle.usbip_urb.specs.Sound.Payloads.{payload_found, payload_again}
 use Rattle.usbip_urb.specs.Sound.Limits.{IsWithinLimits, limits_right, limits_found, limits_steady, is_one_of, one_of}
@@ -136,22 +136,18 @@ submit_again is_in r x more e fits =
     let is : x ≡ words ws ++ rest = e ∙ simp append_assoc refl in
     let ok = fits.1.words in
     let head = head_in USBIP_RET_SUBMIT r.head (drop 5 ws) rest x is ok in
-    let bits : be_at w32 20 x ≡ cast_unsigned w32 r.status = word_in 5 ws rest x is ok (omega arith) in
-    let status : cast_signed w32 (be_at w32 20 x) ≡ r.status = ap (cast_signed w32) bits ∙ to_z-of_z w32 r.status fits.1.status in
-    let actual : be_at w32 24 x ≡ r.actual = word_in 6 ws rest x is ok (omega arith) in
-    let start_frame : be_at w32 28 x ≡ r.start_frame = word_in 7 ws rest x is ok (omega arith) in
-    let packets : be_at w32 32 x ≡ r.packets = word_in 8 ws rest x is ok (omega arith) in
-    let errors : be_at w32 36 x ≡ r.errors = word_in 9 ws rest x is ok (omega arith) in
-    let body_long : length r.body ≡ body_size is_in (be_at w32 24 x) = rw actual fits.0.body in
-    let counted : length r.descs ≡ count_of (be_at w32 32 x) = rw packets fits.0.descs in
+    let fields = fields_in USBIP_RET_SUBMIT r.head (cast_unsigned w32 r.status) r.actual r.start_frame r.packets r.errors rest x is ok in
+    let status : cast_signed w32 (be_at w32 20 x) ≡ r.status = ap (cast_signed w32) fields.at_20 ∙ to_z-of_z w32 r.status fits.1.status in
+    let body_long : length r.body ≡ body_size is_in (be_at w32 24 x) = rw fields.at_24 fits.0.body in
+    let counted : length r.descs ≡ count_of (be_at w32 32 x) = rw fields.at_32 fits.0.descs in
     let payload = payload_again is_in x (words ws) r.tail r.body r.descs more e (length-words ws) fits.1.tail body_long counted fits.1.descs in
     let packet : ret_submit_at is_in x ≡ r = λ t. record {
       head = record { seqnum = head.seqnum t; devid = head.devid t; direction = head.direction t; ep = head.ep t };
       status = status t;
-      actual = actual t;
-      start_frame = start_frame t;
-      packets = packets t;
-      errors = errors t;
+      actual = fields.at_24 t;
+      start_frame = fields.at_28 t;
+      packets = fields.at_32 t;
+      errors = fields.at_36 t;
       tail = payload.is_eight t;
       body = payload.is_body t;
       descs = payload.is_descs t;
@@ -159,7 +155,7 @@ submit_again is_in r x more e fits =
     record {
       right = record {
         command = inl head.command;
-        limits = λ _. record { few_bytes = rw actual fits.0.few_bytes; few_packets = rw packets fits.0.few_packets };
+        limits = λ _. record { few_bytes = rw fields.at_24 fits.0.few_bytes; few_packets = rw fields.at_32 fits.0.few_packets };
       };
       size = ap (λ (n : ℕ). answer_size_by is_in n x) head.command ∙ payload.size;
       packet = ap (λ (n : ℕ). answer_by is_in n x) head.command ∙ ap urb.RetSubmit packet;

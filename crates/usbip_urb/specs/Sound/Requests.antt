@@ -22,7 +22,7 @@ use Rattle.usbip_urb.specs.Fields.{submit_at, unlink_at}
 use Rattle.usbip_urb.specs.Ranges.{IsWord, IsRequest}
 use Rattle.usbip_urb.specs.Checks.{version_check, command_check, device_check, direction_check, endpoint_check, size_checks, has_command, request_checks}
 use Rattle.usbip_urb.specs.Requests.{request_size_by, request_by, requests}
-use Rattle.usbip_urb.specs.Sound.Words.{words_at, words_spelled, words_below, length-words, word_in, head_in}
+use Rattle.usbip_urb.specs.Sound.Words.{words_at, words_spelled, words_below, length-words, word_in, head_in, fields_in}
 use Rattle.usbip_urb.specs.Sound.Payloads.{payload_found, payload_again}
 use Rattle.usbip_urb.specs.Sound.Limits.{IsWithinLimits, limits_right, limits_found, limits_steady, is_one_of, one_of}
 
@@ -189,21 +189,17 @@ submit_again s x more e fits =
     let is : x ≡ words ws ++ rest = e ∙ simp append_assoc refl in
     let ok = fits.2.words in
     let head = head_in USBIP_CMD_SUBMIT s.head (drop 5 ws) rest x is ok in
-    let flags : be_at w32 20 x ≡ s.flags = word_in 5 ws rest x is ok (omega arith) in
-    let asked : be_at w32 24 x ≡ s.length = word_in 6 ws rest x is ok (omega arith) in
-    let start_frame : be_at w32 28 x ≡ s.start_frame = word_in 7 ws rest x is ok (omega arith) in
-    let packets : be_at w32 32 x ≡ s.packets = word_in 8 ws rest x is ok (omega arith) in
-    let interval : be_at w32 36 x ≡ s.interval = word_in 9 ws rest x is ok (omega arith) in
-    let body_long : length s.body ≡ body_size (is_out (be_at w32 12 x)) (be_at w32 24 x) = rw (head.direction, asked) fits.0.body in
-    let counted : length s.descs ≡ count_of (be_at w32 32 x) = rw packets fits.0.descs in
+    let fields = fields_in USBIP_CMD_SUBMIT s.head s.flags s.length s.start_frame s.packets s.interval rest x is ok in
+    let body_long : length s.body ≡ body_size (is_out (be_at w32 12 x)) (be_at w32 24 x) = rw (head.direction, fields.at_24) fits.0.body in
+    let counted : length s.descs ≡ count_of (be_at w32 32 x) = rw fields.at_32 fits.0.descs in
     let payload = payload_again (is_out (be_at w32 12 x)) x (words ws) s.setup s.body s.descs more e (length-words ws) fits.2.setup body_long counted fits.2.descs in
     let packet : submit_at x ≡ s = λ t. record {
       head = record { seqnum = head.seqnum t; devid = head.devid t; direction = head.direction t; ep = head.ep t };
-      flags = flags t;
-      length = asked t;
-      start_frame = start_frame t;
-      packets = packets t;
-      interval = interval t;
+      flags = fields.at_20 t;
+      length = fields.at_24 t;
+      start_frame = fields.at_28 t;
+      packets = fields.at_32 t;
+      interval = fields.at_36 t;
       setup = payload.is_eight t;
       body = payload.is_body t;
       descs = payload.is_descs t;
@@ -215,7 +211,7 @@ submit_again s x more e fits =
         device = head.devid ∙ fits.1;
         direction = rw head.direction fits.0.head.direction;
         endpoint = rw head.ep fits.0.head.endpoint;
-        limits = λ _. record { few_bytes = rw asked fits.0.few_bytes; few_packets = rw packets fits.0.few_packets };
+        limits = λ _. record { few_bytes = rw fields.at_24 fits.0.few_bytes; few_packets = rw fields.at_32 fits.0.few_packets };
       };
       size = ap (λ (n : ℕ). request_size_by n x) head.command ∙ payload.size;
       packet = ap (λ (n : ℕ). request_by n x) head.command ∙ ap urb.Submit packet;

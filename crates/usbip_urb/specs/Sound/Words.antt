@@ -60,3 +60,22 @@ head_in code h ns more b e fit =
       direction = word_in 3 all more b e fit (omega arith);
       ep = word_in 4 all more b e fit (omega arith);
     }
+
+-- and the five behind it, of a submit and of its answer
+pub record FieldsIn (first second third fourth fifth : ℕ) (b : List ℕ) : Type 0 where
+  pub at_20 : be_at w32 20 b ≡ first
+  pub at_24 : be_at w32 24 b ≡ second
+  pub at_28 : be_at w32 28 b ≡ third
+  pub at_32 : be_at w32 32 b ≡ fourth
+  pub at_36 : be_at w32 36 b ≡ fifth
+
+pub fields_in : (code : ℕ) (h : Head) (first second third fourth fifth : ℕ) (more b : List ℕ) → b ≡ words (code ∷ h.seqnum ∷ h.devid ∷ h.direction ∷ h.ep ∷ first ∷ second ∷ third ∷ fourth ∷ fifth ∷ []) ++ more → All IsWord (code ∷ h.seqnum ∷ h.devid ∷ h.direction ∷ h.ep ∷ first ∷ second ∷ third ∷ fourth ∷ fifth ∷ []) → FieldsIn first second third fourth fifth b
+fields_in code h first second third fourth fifth more b e fit =
+    let all = code ∷ h.seqnum ∷ h.devid ∷ h.direction ∷ h.ep ∷ first ∷ second ∷ third ∷ fourth ∷ fifth ∷ [] in
+    record {
+      at_20 = word_in 5 all more b e fit (omega arith);
+      at_24 = word_in 6 all more b e fit (omega arith);
+      at_28 = word_in 7 all more b e fit (omega arith);
+      at_32 = word_in 8 all more b e fit (omega arith);
+      at_36 = word_in 9 all more b e fit (omega arith);
+    }
