@@ -60,25 +60,17 @@ data-form (moving.Interrupt ep status told body) f t e = inside f t (is_in_endpo
 
 pub heard : {S : Type 0} (m : Meaning S) (h : Host S) (p : ℕ × RedirPacket) → IsAsking p.1 → Heard m h p
 heard m h (id, Plain (plain.Hello x)) k = absurd k
-heard m h (id, Plain (plain.Connect x)) k = Ignored refl refl (refl, refl, λ ep b. refl) (λ fence. refl) refl
-heard m h (id, Plain plain.Disconnect) k = Ignored refl refl (refl, refl, λ ep b. refl) (λ fence. refl) refl
 heard m h (id, Plain plain.Reset) k = Resetting refl
-heard m h (id, Plain (plain.InterfaceInfo x)) k = Ignored refl refl (refl, refl, λ ep b. refl) (λ fence. refl) refl
-heard m h (id, Plain (plain.EpInfo x)) k = Ignored refl refl (refl, refl, λ ep b. refl) (λ fence. refl) refl
 heard m h (id, Plain (plain.SetConfiguration c)) k = Joins (form.SetConfiguration c) (routed (route.SetConfig c)) refl refl (refl, refl, λ ep b. refl) (λ fence. refl) refl
 heard m h (id, Plain plain.GetConfiguration) k = Joins form.GetConfiguration (routed route.GetConfig) refl refl (refl, refl, λ ep b. refl) (λ fence. refl) refl
-heard m h (id, Plain (plain.ConfigurationStatus s c)) k = Ignored refl refl (refl, refl, λ ep b. refl) (λ fence. refl) refl
 heard m h (id, Plain (plain.SetAlt i a)) k = Joins (form.SetAlt i a) (routed (route.SetAlt i a)) refl refl (refl, refl, λ ep b. refl) (λ fence. refl) refl
 heard m h (id, Plain (plain.GetAlt i)) k = Joins (form.GetAlt i) (routed (route.GetAlt i)) refl refl (refl, refl, λ ep b. refl) (λ fence. refl) refl
-heard m h (id, Plain (plain.AltStatus s i a)) k = Ignored refl refl (refl, refl, λ ep b. refl) (λ fence. refl) refl
 heard m h (id, Plain (plain.StartIso e n c)) k = Calling refl
 heard m h (id, Plain (plain.StopIso e)) k = Calling refl
-heard m h (id, Plain (plain.IsoStatus s e)) k = Ignored refl refl (refl, refl, λ ep b. refl) (λ fence. refl) refl
 heard m h (id, Plain (plain.StartInterrupt e)) k = Calling refl
 heard m h (id, Plain (plain.StopInterrupt e)) k = Calling refl
-heard m h (id, Plain (plain.InterruptStatus s e)) k = Ignored refl refl (refl, refl, λ ep b. refl) (λ fence. refl) refl
 heard m h (id, Plain plain.Cancel) k = Cancelling refl
-heard m h (id, Plain plain.DisconnectAck) k = Ignored refl refl (refl, refl, λ ep b. refl) (λ fence. refl) refl
+heard m h (id, Plain _) k = Ignored refl refl (refl, refl, λ ep b. refl) (λ fence. refl) refl
 heard m h (id, Carrying d) k = go (asking_of d) refl k
   where
     go : (a : Asking) → asking_of d ≡ a → CanAsk a → Heard m h (id, Carrying d)

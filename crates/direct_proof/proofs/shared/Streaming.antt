@@ -12,6 +12,7 @@ use Rattle.direct_proof.specs.Stale.{asks}
 use Rattle.direct_proof.specs.Running.{Quits, runs_after, Trails, passes, called_endpoint, started_kind, CanStart, StartsFit}
 use Rattle.direct_proof.specs.Calls.{call_id, calls_on, statuses_on, status_id, Controls, CallIsKept, StatusIsKept, Fenced}
 use Rattle.direct_proof.specs.Kinds.{CallIsIn}
+use Rattle.direct_proof.proofs.shared.Owed.{each-append}
 use Rattle.direct_proof.proofs.shared.Folds.{not-both, or-left, or-assoc, or-false, any-append}
 
 -- ---- packets that say nothing of streams
@@ -81,10 +82,6 @@ calls-quiet (q ∷ qs) h = (λ i. cond (is_some (h.0.0 i)) (q.0 ∷ []) [] ++ ca
 kept-quiet : (c : Calls) (qs : List (ℕ × RedirPacket)) → Each IsQuiet qs → Each (λ (p : ℕ × RedirPacket). CallIsKept c p.0 (called_endpoint p.1)) qs
 kept-quiet c [] h = tt
 kept-quiet c (q ∷ qs) h = (subst (CallIsKept c q.0) (sym h.0.0) tt, kept-quiet c qs h.1)
-
-pub each-append : {X : Type 0} (P : X → Type 0) (xs ys : List X) → Each P xs → Each P ys → Each P (xs ++ ys)
-each-append P [] ys e f = f
-each-append P (x ∷ xs) ys e f = (e.0, each-append P xs ys e.1 f)
 
 pub calls-same : (ps qs : List (ℕ × RedirPacket)) → Each IsQuiet qs → calls_on (ps ++ qs) ≡ calls_on ps
 calls-same ps qs h = calls-append ps qs ∙ ap (λ (l : List ℕ). calls_on ps ++ l) (calls-quiet qs h) ∙ append-nil (calls_on ps)

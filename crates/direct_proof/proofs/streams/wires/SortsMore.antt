@@ -18,25 +18,7 @@ use Rattle.direct_proof.proofs.streams.fills.FillLists.{weight}
 -- a start or stop says nothing of capabilities
 pub call-stays : (g : RedirState) (q : ℕ × RedirPacket) (x : ℕ) → called_endpoint q.1 ≡ Some x → advanced g q.1 ≡ g
 call-stays g (id, Plain (plain.Hello y)) x h = absurd (cc)
-call-stays g (id, Plain (plain.Connect c)) x h = refl
-call-stays g (id, Plain plain.Disconnect) x h = refl
-call-stays g (id, Plain plain.Reset) x h = refl
-call-stays g (id, Plain (plain.InterfaceInfo y)) x h = refl
-call-stays g (id, Plain (plain.EpInfo y)) x h = refl
-call-stays g (id, Plain (plain.SetConfiguration c)) x h = refl
-call-stays g (id, Plain plain.GetConfiguration) x h = refl
-call-stays g (id, Plain (plain.ConfigurationStatus s c)) x h = refl
-call-stays g (id, Plain (plain.SetAlt i a)) x h = refl
-call-stays g (id, Plain (plain.GetAlt i)) x h = refl
-call-stays g (id, Plain (plain.AltStatus s i a)) x h = refl
-call-stays g (id, Plain (plain.StartIso e n k)) x h = refl
-call-stays g (id, Plain (plain.StopIso e)) x h = refl
-call-stays g (id, Plain (plain.IsoStatus s e)) x h = refl
-call-stays g (id, Plain (plain.StartInterrupt e)) x h = refl
-call-stays g (id, Plain (plain.StopInterrupt e)) x h = refl
-call-stays g (id, Plain (plain.InterruptStatus s e)) x h = refl
-call-stays g (id, Plain plain.Cancel) x h = refl
-call-stays g (id, Plain plain.DisconnectAck) x h = refl
+call-stays g (id, Plain _) x h = refl
 call-stays g (id, Carrying d) x h = refl
 
 -- ---- where a fence's stop isn't on the wire
@@ -46,26 +28,9 @@ no-weight true h = absurd (omega (arith, h))
 no-weight false h = refl
 
 pub asks-over : (f : ℕ) (q : ℕ × RedirPacket) → times f (call_id q) ≡ 0 → asks (Some f) q ≡ asks None q
-asks-over f (id, Plain (plain.Hello x)) h = refl
-asks-over f (id, Plain (plain.Connect c)) h = refl
-asks-over f (id, Plain plain.Disconnect) h = refl
-asks-over f (id, Plain plain.Reset) h = refl
-asks-over f (id, Plain (plain.InterfaceInfo x)) h = refl
-asks-over f (id, Plain (plain.EpInfo x)) h = refl
-asks-over f (id, Plain (plain.SetConfiguration c)) h = refl
-asks-over f (id, Plain plain.GetConfiguration) h = refl
-asks-over f (id, Plain (plain.ConfigurationStatus s c)) h = refl
-asks-over f (id, Plain (plain.SetAlt i a)) h = refl
-asks-over f (id, Plain (plain.GetAlt i)) h = refl
-asks-over f (id, Plain (plain.AltStatus s i a)) h = refl
-asks-over f (id, Plain (plain.StartIso e n k)) h = refl
 asks-over f (id, Plain (plain.StopIso e)) h = no-weight (f == id) h
-asks-over f (id, Plain (plain.IsoStatus s e)) h = refl
-asks-over f (id, Plain (plain.StartInterrupt e)) h = refl
 asks-over f (id, Plain (plain.StopInterrupt e)) h = no-weight (f == id) h
-asks-over f (id, Plain (plain.InterruptStatus s e)) h = refl
-asks-over f (id, Plain plain.Cancel) h = refl
-asks-over f (id, Plain plain.DisconnectAck) h = refl
+asks-over f (id, Plain _) h = refl
 asks-over f (id, Carrying d) h = refl
 
 pub ends-over : (f : ℕ) (b : Tagged) → times f (status_id b) ≡ 0 → ends (Some f) b ≡ ends None b
