@@ -5,11 +5,11 @@ use Rattle.usb_base.specs.declared.status.UsbStatus.{UsbStatus}
 use Rattle.model_device.specs.Meaning.{Meaning}
 use Rattle.gate_history.proofs.lemmas.Lists.{Each, both}
 use Rattle.gate_history.specs.client.Requests.{Request}
-use Rattle.gate_history.specs.client.Verdict.{Verdict, Now, Wire, Routed, IsoOut, Stream, goes_by_id}
+use Rattle.gate_history.specs.client.Verdict.{Verdict, Wire, Routed, Stream, goes_by_id}
 use Rattle.gate_history.specs.client.Submits.{is_waiting}
 use Rattle.gate_history.specs.write.Answers.{is_cancelled}
 use Rattle.direct_device.specs.Direct.{Live, Waiting, Ran, Direct, number, is_number}
-use Rattle.direct_device.specs.Acting.{Deed, Import, Submit, Unlink, Perform, Cancel, Answer, Offer, Arrive, Gone, ClientGone}
+use Rattle.direct_device.specs.Acting.{Deed, Import, Submit, Perform}
 use Rattle.direct_device.proofs.Counts.{count}
 use Rattle.direct_device.specs.Performed.{times_performed, NeverCancels}
 use Rattle.direct_device.proofs.Taken.{weight, not-both, away, count-apart}
@@ -19,26 +19,11 @@ use Rattle.direct_device.proofs.Taken.{weight, not-both, away, count-apart}
 abbrev pub counted : (ℕ → ℕ) → Deed → ℕ → ℕ
 counted c (Submit r) n = cond (r.number == n) 0 (c n)
 counted c (Perform ep k) n = cond (k == n) (c n + 1) (c n)
-counted c Import n = c n
-counted c (Unlink by target) n = c n
-counted c (Cancel k) n = c n
-counted c (Answer k) n = c n
-counted c (Offer ep) n = c n
-counted c (Arrive ep) n = c n
-counted c Gone n = c n
-counted c ClientGone n = c n
+counted c _ n = c n
 
 pub counts-on : (c : ℕ → ℕ) (x : Deed) (xs : List Deed) (n : ℕ) → times_performed n (counted c x n) xs ≡ times_performed n (c n) (x ∷ xs)
 counts-on c Import xs n = refl
-counts-on c (Submit r) xs n = refl
-counts-on c (Unlink by target) xs n = refl
-counts-on c (Perform ep k) xs n = refl
-counts-on c (Cancel k) xs n = refl
-counts-on c (Answer k) xs n = refl
-counts-on c (Offer ep) xs n = refl
-counts-on c (Arrive ep) xs n = refl
-counts-on c Gone xs n = refl
-counts-on c ClientGone xs n = refl
+counts-on c _ xs n = refl
 
 -- ---- what holds
 
@@ -98,18 +83,13 @@ by-id-number n xs = count-apart (by_id n) (without_id n) (live_number n) (λ l. 
     parts false b = omega arith
 
 pub waits-no_id : (v : Verdict) → is_waiting v ≡ true → goes_by_id v ≡ false
-waits-no_id (Now status) h = refl
 waits-no_id (Wire pipe) h = absurd (not-both (sym h))
 waits-no_id (Routed route) h = absurd (not-both (sym h))
-waits-no_id (IsoOut row) h = refl
-waits-no_id (Stream row) h = refl
+waits-no_id _ h = refl
 
 pub id-no_wait : (v : Verdict) → goes_by_id v ≡ true → is_waiting v ≡ false
-id-no_wait (Now status) h = refl
-id-no_wait (Wire pipe) h = refl
-id-no_wait (Routed route) h = refl
-id-no_wait (IsoOut row) h = refl
 id-no_wait (Stream row) h = absurd (not-both (sym h))
+id-no_wait _ h = refl
 
 pub wait-by_id : (n : ℕ) (l : Live) → is_waiting l.load.verdict ≡ true → by_id n l ≡ false
 wait-by_id n l h = ap (λ (b : Bool). both b (is_number n l.load)) (waits-no_id l.load.verdict h)

@@ -11,7 +11,7 @@ use Rattle.model_device.specs.Device.{is_success}
 use Rattle.model_device.specs.Submit.{seen, byte_seen, status_alone}
 use Rattle.gate_history.proofs.lemmas.Lists.{Each, both, Each-append, Each-filter}
 use Rattle.gate_history.specs.client.Requests.{Request}
-use Rattle.gate_history.specs.client.Verdict.{Verdict, Now, Wire, Routed, IsoOut, Stream, goes_by_id}
+use Rattle.gate_history.specs.client.Verdict.{Verdict, Routed, goes_by_id}
 use Rattle.gate_history.specs.client.Submits.{is_waiting}
 use Rattle.gate_history.specs.write.Answers.{is_cancelled}
 use Rattle.gate_history.specs.write.Packets.{no_setup}
@@ -46,21 +46,13 @@ byte-status : (len byte : ℕ) (o : Outcome) → (byte_seen len byte o).status �
 byte-status len byte o = elim (is_success o.status) as (λ b. (cond b (record { status = o.status; done = length (take len (byte ∷ [])); body = take len (byte ∷ []) }) (status_alone o)).status ≡ o.status) [ true ↦ refl | false ↦ refl ]
 
 route-status : (r : Route) (s : Setup) (configuration : ℕ) (o : Outcome) → (seen r s configuration o).status ≡ o.status
-route-status (route.SetConfig value) s configuration o = refl
-route-status (route.SetAlt interface alt) s configuration o = refl
-route-status route.Reset s configuration o = refl
 route-status route.GetConfig s configuration o = byte-status s.length configuration o
 route-status (route.GetAlt interface) s configuration o = byte-status s.length (slice_index o.body 0) o
-route-status route.Local s configuration o = refl
-route-status route.Plain s configuration o = refl
-route-status route.Bad s configuration o = refl
+route-status _ s configuration o = refl
 
 pub seen-status : (r : Request) (v : Verdict) (configuration : ℕ) (o : Outcome) → (seen_by r v configuration o).status ≡ o.status
-seen-status r (Now status) configuration o = refl
-seen-status r (Wire pipe) configuration o = refl
 seen-status r (Routed x) configuration o = route-status x (unwrap_or r.transfer.setup no_setup) configuration o
-seen-status r (IsoOut row) configuration o = refl
-seen-status r (Stream row) configuration o = refl
+seen-status r _ configuration o = refl
 
 pub performed-once : {never : Type 0} (live : List Live) (queue : List Waiting) (ran : List Ran) (c : ℕ → ℕ) (ep n : ℕ) (q : Waiting) (flushed : Waiting → Bool) (o : Outcome) → Once never live queue ran c → find (is_at ep) queue ≡ Some q →
     is_number n q.load ≡ true → (never → is_cancelled o.status ≡ false) →

@@ -32,34 +32,24 @@ ended-waits (Routed route) (Stream row) h = refl
 
 joins-same : (m : ℕ) (r : Request) (v : Verdict) → count (queued_number m) (joins_queue (record { request = r; verdict = v })) ≡ count (by_id m) (joins_live (record { request = r; verdict = v }) v)
 joins-same m r (Now status) = refl
-joins-same m r (Wire pipe) = refl
-joins-same m r (Routed route) = refl
-joins-same m r (IsoOut row) = refl
-joins-same m r (Stream row) = refl
+joins-same m r _ = refl
 
 joins-one : (m : ℕ) (r : Request) (v : Verdict) → count (live_number m) (joins_live (record { request = r; verdict = v }) v) ≤ weight (r.number == m)
 joins-one m r (Now status) = omega arith
-joins-one m r (Wire pipe) = omega arith
-joins-one m r (Routed route) = omega arith
-joins-one m r (IsoOut row) = omega arith
-joins-one m r (Stream row) = omega arith
+joins-one m r _ = omega arith
 
 fresh : (c : ℕ → ℕ) (r : Request) → counted c (Submit r) r.number ≡ 0
 fresh c r = ap (λ (b : Bool). cond b 0 (c r.number)) (itself r.number)
 
 joins-zero : (c : ℕ → ℕ) (r : Request) (v : Verdict) → Each (λ (q : Waiting). counted c (Submit r) (number q.load) ≡ 0) (joins_queue (record { request = r; verdict = v }))
-joins-zero c r (Now status) = tt
 joins-zero c r (Wire pipe) = (fresh c r, tt)
 joins-zero c r (Routed route) = (fresh c r, tt)
-joins-zero c r (IsoOut row) = tt
-joins-zero c r (Stream row) = tt
+joins-zero c r _ = tt
 
 joins-idle : (c : ℕ → ℕ) (r : Request) (v : Verdict) → Each (Idle (counted c (Submit r))) (joins_live (record { request = r; verdict = v }) v)
 joins-idle c r (Now status) = tt
-joins-idle c r (Wire pipe) = ((λ h. fresh c r), tt)
-joins-idle c r (Routed route) = ((λ h. fresh c r), tt)
 joins-idle c r (IsoOut row) = tt
-joins-idle c r (Stream row) = ((λ h. fresh c r), tt)
+joins-idle c r _ = ((λ h. fresh c r), tt)
 
 pub submit-once : {never : Type 0} (live : List Live) (queue : List Waiting) (ran : List Ran) (c : ℕ → ℕ) (r : Request) (v : Verdict) → Once never live queue ran c → list_any (live_number r.number) live ≡ false →
     Once never (filter (λ y. not (is_ended v y)) live ++ joins_live (record { request = r; verdict = v }) v) (queue ++ joins_queue (record { request = r; verdict = v })) ran (counted c (Submit r))
@@ -114,11 +104,9 @@ submit-most queue c r v most free k = go v free (r.number == k) refl
         omega (arith, most k, other, count-append (queued_number k) queue (w ∷ []))
 
     go : (v : Verdict) → (goes_by_id v ≡ true → count (queued_number r.number) queue ≡ 0) → (b : Bool) → (r.number == k) ≡ b → cond b 0 (c k) + count (queued_number k) (queue ++ joins_queue (record { request = r; verdict = v })) ≤ 1
-    go (Now status) free b e = omega (arith, stays b, same b)
     go (Wire pipe) free b e = joined (record { load = record { request = r; verdict = Wire pipe }; asked = false }) refl b e (free refl)
     go (Routed route) free b e = joined (record { load = record { request = r; verdict = Routed route }; asked = false }) refl b e (free refl)
-    go (IsoOut row) free b e = omega (arith, stays b, same b)
-    go (Stream row) free b e = omega (arith, stays b, same b)
+    go _ free b e = omega (arith, stays b, same b)
 
 -- in a session nothing of a new number is queued
 pub none-queued : {never : Type 0} (live : List Live) (queue : List Waiting) (ran : List Ran) (c : ℕ → ℕ) (n : ℕ) → Once never live queue ran c → list_any (live_number n) live ≡ false → count (queued_number n) queue ≡ 0

@@ -4,7 +4,7 @@ use Rattle.std.specs.Prelude.{pos}
 use Rattle.std.specs.List.{find, list_any}
 use Rattle.std.proofs.lemmas.Bool.{eqb-true}
 use Rattle.usb_base.specs.declared.status.UsbStatus.{UsbStatus}
-use Rattle.usb_base.specs.declared.status.UsbStatus.TheVariants.{Success, Cancelled, Inval, IoError, Stall, Timeout, Babble, Other}
+use Rattle.usb_base.specs.declared.status.UsbStatus.TheVariants.{Cancelled}
 use Rattle.usb_base.specs.declared.transfer.Outcome.{Outcome}
 use Rattle.stream_buffers.specs.Cuts.{Cut}
 use Rattle.model_device.specs.Meaning.{Meaning}
@@ -83,14 +83,8 @@ good-done r o = go o.status
     short false e = not-both (sym e)
 
     go : (status : UsbStatus) → is_good (with_outcome r (record { status = status; done = o.done; body = o.body })) ≡ true → is_cancelled status ≡ false
-    go Success e = refl
     go Cancelled e = absurd (short (is_short r econnreset o.done) e)
-    go Inval e = refl
-    go IoError e = refl
-    go Stall e = refl
-    go Timeout e = refl
-    go Babble e = refl
-    go (Other byte) e = refl
+    go _ e = refl
 
 good-done_by : (s : Submission) (o : Outcome) (unlinker : Option ℕ) → list_any is_good (answers_by s o unlinker) ≡ true → is_cancelled o.status ≡ false
 good-done_by s o None e = good-done s.request o (alone (is_good (with_outcome s.request o)) e)

@@ -12,7 +12,7 @@ use Rattle.model_device.specs.Meaning.{Meaning}
 use Rattle.model_device.specs.Device.{is_success}
 use Rattle.redir_host.specs.device.Changes.{is_touched}
 use Rattle.gate_history.specs.client.Requests.{Request}
-use Rattle.gate_history.specs.client.Verdict.{Verdict, Now, Wire, Routed, IsoOut, Stream, verdict, is_wire, goes_by_id}
+use Rattle.gate_history.specs.client.Verdict.{Verdict, Now, IsoOut, verdict, is_wire, goes_by_id}
 use Rattle.gate_history.specs.write.Errno.{econnreset}
 use Rattle.gate_history.specs.host.Fillings.{Given, cut_of}
 use Rattle.gate_history.specs.state.Sides.{or_else}
@@ -50,10 +50,8 @@ is_ended v l = ends_by_change v l.load.verdict
 
 abbrev pub joins_live : Load → Verdict → List Live
 joins_live l (Now status) = []
-joins_live l (Wire pipe) = record { load = l; unlinker = None } ∷ []
-joins_live l (Routed route) = record { load = l; unlinker = None } ∷ []
 joins_live l (IsoOut row) = []
-joins_live l (Stream row) = record { load = l; unlinker = None } ∷ []
+joins_live l _ = record { load = l; unlinker = None } ∷ []
 
 abbrev pub joins_queue : Load → List Waiting
 joins_queue l = if goes_by_id l.verdict then record { load = l; asked = false } ∷ [] else []
@@ -70,10 +68,7 @@ submitted d l =
 
 abbrev pub answered_now : Load → Verdict → List UrbPacket
 answered_now l (Now status) = without_packets l.request status ∷ []
-answered_now l (Wire pipe) = []
-answered_now l (Routed route) = []
-answered_now l (IsoOut row) = []
-answered_now l (Stream row) = []
+answered_now l _ = []
 
 abbrev pub submit_answers : {S : Type 0} → Direct S → Load → List UrbPacket
 submit_answers d l =
@@ -238,13 +233,8 @@ act m d ClientGone =
     else d
 
 abbrev pub answers : {S : Type 0} → Meaning S → Direct S → Deed → List UrbPacket
-answers m d Import = []
 answers m d (Submit r) = submit_answers d (record { request = r; verdict = made_of m d r })
 answers m d (Unlink by target) = unlink_answers d by target
-answers m d (Perform ep seqnum) = []
-answers m d (Cancel seqnum) = []
 answers m d (Answer seqnum) = answers_of d (find (λ (l : Live). is_number seqnum l.load) d.live)
-answers m d (Offer ep) = []
-answers m d (Arrive ep) = []
 answers m d Gone = map (λ (l : Live). lost_answer (as_submission l.load) l.unlinker) d.live
-answers m d ClientGone = []
+answers m d _ = []

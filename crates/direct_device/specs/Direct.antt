@@ -12,7 +12,7 @@ use Rattle.redir_host.specs.guest.Asking.{routed}
 pub use Rattle.redir_host.specs.state.Queues.{without_first}
 use Rattle.redir_host.specs.state.Queues.{queue_of}
 use Rattle.gate_history.specs.client.Requests.{Request}
-use Rattle.gate_history.specs.client.Verdict.{Verdict, Now, Wire, Routed, IsoOut, Stream, changes}
+use Rattle.gate_history.specs.client.Verdict.{Verdict, Routed, changes}
 use Rattle.gate_history.specs.step.Marks.{Submission}
 use Rattle.gate_history.specs.write.Packets.{no_setup}
 use Rattle.gate_history.specs.state.Ups.{Up, no_streams, stream_of}
@@ -83,20 +83,14 @@ any_changes live = list_any (λ (l : Live). changes l.load.verdict) live
 -- of a route its setup alone
 abbrev pub normal_by : Request → Verdict → Transfer
 normal_by r (Routed route) = routed route
-normal_by r (Now status) = r.transfer
-normal_by r (Wire pipe) = r.transfer
-normal_by r (IsoOut row) = r.transfer
-normal_by r (Stream row) = r.transfer
+normal_by r _ = r.transfer
 
 abbrev pub normal_of : Load → Transfer
 normal_of l = normal_by l.request l.verdict
 
 abbrev pub seen_by : Request → Verdict → ℕ → Outcome → Outcome
 seen_by r (Routed route) configuration o = seen route (unwrap_or r.transfer.setup no_setup) configuration o
-seen_by r (Now status) configuration o = o
-seen_by r (Wire pipe) configuration o = o
-seen_by r (IsoOut row) configuration o = o
-seen_by r (Stream row) configuration o = o
+seen_by r _ configuration o = o
 
 abbrev pub seen_of : Load → ℕ → Outcome → Outcome
 seen_of l configuration o = seen_by l.request l.verdict configuration o
@@ -104,10 +98,7 @@ seen_of l configuration o = seen_by l.request l.verdict configuration o
 -- the change that it is, if it is one
 abbrev pub change_in : Verdict → Option Route
 change_in (Routed route) = if is_change route then Some route else None
-change_in (Now status) = None
-change_in (Wire pipe) = None
-change_in (IsoOut row) = None
-change_in (Stream row) = None
+change_in _ = None
 
 -- it ended so, and moved nothing
 abbrev pub cancelled : Load → Ran

@@ -44,17 +44,13 @@ is_reset (negsuc n) = n == 103
 
 -- an unlink that took its submit back
 abbrev pub is_won : UrbPacket → Bool
-is_won (urb.Submit p) = false
-is_won (urb.Unlink p) = false
-is_won (urb.RetSubmit p) = false
 is_won (urb.RetUnlink p) = is_reset p.status
+is_won _ = false
 
 -- a submit that is answered 0
 abbrev pub is_good : UrbPacket → Bool
-is_good (urb.Submit p) = false
-is_good (urb.Unlink p) = false
 is_good (urb.RetSubmit p) = is_zero p.status
-is_good (urb.RetUnlink p) = false
+is_good _ = false
 
 -- ---- items
 

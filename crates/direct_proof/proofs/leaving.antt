@@ -2,7 +2,6 @@ pub mod Left
 pub mod Last
 pub mod LeftLists
 pub mod LeftWire
-pub mod LeftSent
 pub mod LeftKept
 pub mod Stopping
 pub mod Leaving

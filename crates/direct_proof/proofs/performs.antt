@@ -5,4 +5,3 @@ pub mod Flushing
 pub mod Changing
 pub mod Performed
 pub mod StillRunning
-pub mod Changed

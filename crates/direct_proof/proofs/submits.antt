@@ -9,4 +9,3 @@ pub mod AtOnce
 pub mod Ranged
 pub mod NoIso
 pub mod Addressed
-pub mod Accepted

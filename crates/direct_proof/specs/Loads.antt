@@ -8,7 +8,7 @@ use Rattle.control_route.specs.declared.route.Route.{Route}
 use Rattle.control_route.specs.declared.route.Route.TheVariants as route
 use Rattle.model_device.specs.Gadget.{IsNamed}
 use Rattle.model_device.specs.Transfer.{IsOutcome, IsTransfer, is_control}
-use Rattle.gate_history.specs.client.Verdict.{Bulk, Control, InterruptOut, IsoOut, Now, Pipe, Routed, Stream, Verdict, Wire}
+use Rattle.gate_history.specs.client.Verdict.{Bulk, Control, InterruptOut, Pipe, Routed, Verdict, Wire}
 use Rattle.direct_device.specs.Direct.{Load, normal_of}
 use Rattle.direct_proof.specs.Requests.{Coming}
 
@@ -26,9 +26,7 @@ FitsRoute r t (Some s) = (route_of s ≡ r) × (s.length ≡ t.wanted) × (r ≢
 abbrev pub FitsVerdict : Verdict → Transfer → Type 0
 FitsVerdict (Wire pipe) t = FitsPipe pipe t t.setup
 FitsVerdict (Routed r) t = FitsRoute r t t.setup
-FitsVerdict (Now status) t = ⊥
-FitsVerdict (IsoOut row) t = ⊥
-FitsVerdict (Stream row) t = ⊥
+FitsVerdict _ t = ⊥
 
 pub record IsLoad (l : Load) : Type 0 where
   pub transfer : IsTransfer (normal_of l)

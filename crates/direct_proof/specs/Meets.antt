@@ -1,12 +1,9 @@
 -- How far the two have met, from the hellos to the loss of the device.
-use Rattle.std.specs.Prelude.{◌≡◌, ℕ, ◌||◌, Bool, true, false, List, [], ◌∷◌, is_some, ◌⊎◌}
+use Rattle.std.specs.Prelude.{◌≡◌, ◌||◌, Bool, true, false, List, [], ◌∷◌, is_some, ◌⊎◌}
 use Rattle.std.specs.List.{list_any}
-use Rattle.redir_data.specs.declared.packet.RedirPacket.{RedirPacket}
-use Rattle.redir_host.specs.state.Sound.{Each}
 use Rattle.gate_history.specs.write.Bytes.{gateway_hello}
 use Rattle.direct_run.specs.Moves.{World}
 use Rattle.direct_run.specs.Packets.{both_caps}
-use Rattle.direct_proof.specs.Cancels.{IsAsking}
 use Rattle.direct_proof.specs.Shared.{Shared}
 use Rattle.direct_proof.specs.Tagged.{Bye, Greeted, Plugged, Tagged}
 
@@ -38,22 +35,24 @@ PlugOnce [] = Unit {0}
 PlugOnce (b ∷ bs) = (is_plug b ≡ true → (list_any is_greeting bs ≡ false) × (list_any is_plug bs ≡ false)) × PlugOnce bs
 
 -- before the gateway's hello is read nothing but the two hellos is on a wire, and the host has nothing to do
-pub record Early {S : Type 0} (w : World S) (j : Shared) : Type 0 where
-  pub back : (j.back ≡ Greeted ∷ []) ⊎ (j.back ≡ [])
-  pub wire : w.to_host ≡ (0, gateway_hello) ∷ []
-  pub held : j.held ≡ []
-  pub half : j.half ≡ false
-  pub running : w.host.running ≡ []
+abbrev pub Early : {S : Type 0} → World S → Shared → Type 0
+Early w j = record {
+  back : (j.back ≡ Greeted ∷ []) ⊎ (j.back ≡ []);
+  wire : w.to_host ≡ (0, gateway_hello) ∷ [];
+  held : j.held ≡ [];
+  half : j.half ≡ false;
+  running : w.host.running ≡ [];
+}
 
 -- how far the two have met: the host has read the gateway's hello, the gateway the host's, and it was told of the device
-pub record Meets {S : Type 0} (w : World S) (j : Shared) : Type 0 where
-  pub host : w.host.guest.first ≡ false → w.host.guest.caps ≡ both_caps
-  pub gate : list_any is_greeting j.back ≡ false → w.gate.agreed ≡ both_caps
-  pub before : w.host.guest.first ≡ true → Early w j
-  -- behind it the host has told of the device, unless that was unplugged, and is asked nothing that it refuses
-  pub announced : w.host.guest.first ≡ false → w.host.unplugged ≡ false → is_announced w j ≡ true
-  pub asked : w.host.guest.first ≡ false → Each (λ (p : ℕ × RedirPacket). IsAsking p.1) w.to_host
-  pub behind : is_some w.gate.facts.connect ≡ true → (list_any is_greeting j.back ≡ false) × (list_any is_plug j.back ≡ false) × (w.host.guest.first ≡ false)
-  pub once : PlugOnce j.back
-  pub plugged : list_any is_plug j.back ≡ true → w.host.guest.first ≡ false
-  pub no_session : w.gate.imported ≡ true → w.gate.lost ≡ false → is_some w.gate.facts.connect ≡ true
+abbrev pub Meets : {S : Type 0} → World S → Shared → Type 0
+Meets w j = record {
+  host : w.host.guest.first ≡ false → w.host.guest.caps ≡ both_caps;
+  gate : list_any is_greeting j.back ≡ false → w.gate.agreed ≡ both_caps;
+  -- behind the gateway's hello the host has told of the device, unless that was unplugged
+  announced : w.host.guest.first ≡ false → w.host.unplugged ≡ false → is_announced w j ≡ true;
+  behind : is_some w.gate.facts.connect ≡ true → (list_any is_greeting j.back ≡ false) × (list_any is_plug j.back ≡ false) × (w.host.guest.first ≡ false);
+  once : PlugOnce j.back;
+  plugged : list_any is_plug j.back ≡ true → w.host.guest.first ≡ false;
+  no_session : w.gate.imported ≡ true → w.gate.lost ≡ false → is_some w.gate.facts.connect ≡ true;
+}

@@ -111,9 +111,7 @@ performs w ep r = host_made w (perform_move_by w.host r) (performed_deed w.submi
 
 abbrev pub offered_deed : ℕ → Offered → List Deed
 offered_deed ep offered.Sent = Offer ep ∷ []
-offered_deed ep offered.Nothing = []
-offered_deed ep offered.Closed = []
-offered_deed ep offered.Unplugged = []
+offered_deed ep _ = []
 
 -- ---- all moves
 

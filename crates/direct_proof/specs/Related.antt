@@ -1,58 +1,81 @@
 -- When a gateway and a modelled host, with what is on the wires, stand for a device attached directly.
-use Rattle.std.specs.Prelude.{◌≡◌, ℕ, ◌==◌, true, false, if◌then◌else◌, [], ◌++◌, map, None}
+use Rattle.std.specs.Prelude.{◌≡◌, ℕ, ◌==◌, Bool, true, false, if◌then◌else◌, List, [], ◌++◌, map, None}
 use Rattle.std.specs.List.{list_any}
 use Rattle.redir_data.specs.declared.packet.RedirPacket.{RedirPacket}
 use Rattle.model_device.specs.Meaning.{Meaning}
 use Rattle.redir_host.specs.state.Sound.{Each}
+use Rattle.redir_host.specs.declared.host.Host.{Host}
 use Rattle.redir_host.specs.declared.running.Running.{Running}
-use Rattle.gate_history.specs.state.State.{submits}
+use Rattle.gate_history.specs.state.State.{State, submits}
 use Rattle.gate_history.specs.state.Ups.{no_streams, stream_of}
 use Rattle.direct_run.specs.Moves.{World}
 use Rattle.direct_proof.specs.Calls.{Controls, Fenced}
-use Rattle.direct_proof.specs.Cancels.{Behind, CancelsFit}
+use Rattle.direct_proof.specs.Cancels.{Behind, CancelsFit, IsAsking}
 use Rattle.direct_proof.specs.Ids.{Ids}
 use Rattle.direct_proof.specs.Kinds.{CallIsIn, IsIn, TaggedOfKind, UpsFit}
 use Rattle.direct_proof.specs.Loads.{IsLoad}
-use Rattle.direct_proof.specs.Meets.{ByeLast, Meets, is_announced, is_bye}
+use Rattle.direct_proof.specs.Meets.{ByeLast, Early, Meets, is_announced, is_bye}
 use Rattle.direct_proof.specs.Requests.{Debt, Entry, at_queue, debts_of}
 use Rattle.direct_proof.specs.Running.{called_endpoint}
 use Rattle.direct_proof.specs.Session.{Session}
 use Rattle.direct_proof.specs.Shared.{Shared, at_hosts, half_line, lines}
-use Rattle.direct_proof.specs.Tagged.{on_wire, runs_in}
+use Rattle.direct_proof.specs.Tagged.{Tagged, on_wire, runs_in}
+
+-- the requests that wait at the host, and those that come to it
+abbrev pub Queued : {S : Type 0} → World S → Shared → Type 0
+Queued w j = record {
+  held : w.host.queue ≡ (if w.host.unplugged then [] else map at_queue j.held);
+  half : w.host.unplugged ≡ false → w.host.resets_next ≡ j.half;
+  coming : half_line j.half ++ lines w.to_host ≡ at_hosts j.coming;
+  loads : Each (λ (e : Entry). IsLoad e.load) (j.held ++ j.coming);
+  -- starts and stops are of IN endpoints
+  calls_in : Each (λ (p : ℕ × RedirPacket). CallIsIn (called_endpoint p.1)) w.to_host;
+  cancels : CancelsFit j.held w.to_host j.coming;
+  behind : Behind (j.held ++ j.coming);
+}
+
+-- what the gateway knows of its two sides; `away` says that it lost the device while a client had it
+abbrev pub Sides : State → Bool → Type 0
+Sides g away = record {
+  -- the host is never refused, and its wire has no end
+  reads : g.host_over ≡ false;
+  -- a client that was refused has left
+  refused : g.client_over ≡ true → g.imported ≡ false;
+  gone : away ≡ true → g.lost ≡ true;
+  seen : g.imported ≡ true → g.lost ≡ away;
+}
+
+-- nothing runs at a host that is unplugged, and the farewell is the last that it sends
+abbrev pub Farewell : {S : Type 0} → Host S → List Tagged → Type 0
+Farewell h back = record {
+  still : h.unplugged ≡ true → h.running ≡ [];
+  bye : h.unplugged ≡ false → list_any is_bye back ≡ false;
+  bye_last : ByeLast back;
+}
 
 pub record Related {S : Type 0} (m : Meaning S) (w : World S) (j : Shared) : Type 0 where
-  pub held : w.host.queue ≡ (if w.host.unplugged then [] else map at_queue j.held)
-  pub half : w.host.unplugged ≡ false → w.host.resets_next ≡ j.half
-  pub coming : half_line j.half ++ lines w.to_host ≡ at_hosts j.coming
+  pub line : Queued w j
   pub answers : w.to_gate ≡ map on_wire j.back
-  pub loads : Each (λ (e : Entry). IsLoad e.load) (j.held ++ j.coming)
   pub tagged : Each (TaggedOfKind w.gate.streams) j.back
   pub ids : Ids j.debts w.submits (j.held ++ j.coming) (runs_in j.back)
   -- an id that is owed is none of those that go by no id
   pub real : Each (λ (d : Debt). (d.id == 0) ≡ false) j.debts
-  -- starts, stops and the streams that run are of IN endpoints
-  pub calls_in : Each (λ (p : ℕ × RedirPacket). CallIsIn (called_endpoint p.1)) w.to_host
+  -- the streams that run are of IN endpoints
   pub runs_at_in : Each (λ (s : Running). IsIn s.ep) w.host.running
+  pub before : w.host.guest.first ≡ true → Early w j
+  -- behind the gateway's hello the host is asked nothing that it refuses
+  pub asked : w.host.guest.first ≡ false → Each (λ (p : ℕ × RedirPacket). IsAsking p.1) w.to_host
   pub meets : Meets w j
   -- what the host owes is what waits for it, until the device is lost
   pub debts : w.gate.lost ≡ false → debts_of (submits w.gate) ++ debts_of w.gate.abandoned ≡ j.debts
   pub controls : w.gate.lost ≡ false → Controls w.gate.calls w.to_host j.back
   pub fenced : w.gate.lost ≡ false → Fenced w.gate.fence j.fenced w.to_host j.back
-  pub cancels : CancelsFit j.held w.to_host j.coming
-  pub behind : Behind (j.held ++ j.coming)
   pub alone : w.gate.imported ≡ true → (w.gate.abandoned ≡ []) × (w.gate.fence ≡ None)
   pub session : w.gate.lost ≡ false → is_announced w j ≡ true → Session m w j
   pub ups : UpsFit w.gate.streams
-  -- the loss: nothing comes any more
-  pub lost : w.gate.lost ≡ true → (j.back ≡ []) × (w.host.unplugged ≡ true) × (w.gate.facts.connect ≡ None) × (w.gate.live ≡ []) × ((ep : ℕ) → stream_of w.gate.streams ep ≡ None)
-  -- the host is never refused, and its wire has no end
-  pub reads : w.gate.host_over ≡ false
-  -- a client that was refused has left
-  pub refused : w.gate.client_over ≡ true → w.gate.imported ≡ false
   -- without a client no stream is up
   pub down : w.gate.imported ≡ false → w.gate.streams ≡ no_streams
-  pub gone : j.gone ≡ true → w.gate.lost ≡ true
-  pub seen : w.gate.imported ≡ true → w.gate.lost ≡ j.gone
-  pub still : w.host.unplugged ≡ true → w.host.running ≡ []
-  pub bye : w.host.unplugged ≡ false → list_any is_bye j.back ≡ false
-  pub bye_last : ByeLast j.back
+  -- the loss: nothing comes any more
+  pub lost : w.gate.lost ≡ true → (j.back ≡ []) × (w.host.unplugged ≡ true) × (w.gate.facts.connect ≡ None) × (w.gate.live ≡ []) × ((ep : ℕ) → stream_of w.gate.streams ep ≡ None)
+  pub sides : Sides w.gate j.gone
+  pub farewell : Farewell w.host j.back

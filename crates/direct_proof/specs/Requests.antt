@@ -13,7 +13,7 @@ use Rattle.gate_history.specs.step.Marks.{Submission}
 use Rattle.gate_history.specs.write.Packets.{no_setup}
 use Rattle.gate_history.specs.client.Requests.{Request}
 use Rattle.gate_history.specs.client.Submits.{Pending}
-use Rattle.gate_history.specs.client.Verdict.{Bulk, Control, InterruptOut, IsoOut, Now, Pipe, Routed, Stream, Verdict, Wire, goes_by_id}
+use Rattle.gate_history.specs.client.Verdict.{Bulk, Control, InterruptOut, Pipe, Routed, Verdict, Wire, goes_by_id}
 use Rattle.direct_device.specs.Direct.{Live, Load, Ran, Waiting, normal_of, seen_of}
 
 -- ---- how a submit stands at the host
@@ -37,9 +37,7 @@ pipe_form InterruptOut t = form.Interrupt
 abbrev pub form_by : Request → Verdict → Form
 form_by r (Routed x) = route_form x
 form_by r (Wire pipe) = pipe_form pipe r.transfer
-form_by r (Now status) = form.Interrupt
-form_by r (IsoOut row) = form.Interrupt
-form_by r (Stream row) = form.Interrupt
+form_by r _ = form.Interrupt
 
 abbrev pub form_of : Load → Form
 form_of l = form_by l.request l.verdict
@@ -50,10 +48,7 @@ is_reset_route _ = false
 
 abbrev pub resets : Verdict → Bool
 resets (Routed x) = is_reset_route x
-resets (Wire pipe) = false
-resets (Now status) = false
-resets (IsoOut row) = false
-resets (Stream row) = false
+resets _ = false
 
 abbrev pub queued_transfer : Load → Transfer
 queued_transfer l = if resets l.verdict then routed route.GetConfig else normal_of l
@@ -81,9 +76,9 @@ pub record Debt : Type 0 where
 abbrev pub at_queue : Entry → HostRequest
 at_queue e = record { id = e.id; form = form_of e.load; transfer = queued_transfer e.load; reset = resets e.load.verdict }
 
--- in line, a reset stands before the packet that asks for its answer; the place is that of `in_line`
+-- in line, a reset stands before the packet that asks for its answer
 abbrev pub at_host : Entry → List InLine
-at_host e = (if resets e.load.verdict then Reset ∷ [] else []) ++ Waits 0 e.id (form_of e.load) (queued_transfer e.load) ∷ []
+at_host e = (if resets e.load.verdict then Reset ∷ [] else []) ++ Waits e.id (form_of e.load) (queued_transfer e.load) ∷ []
 
 abbrev pub at_device : Entry → Waiting
 at_device e = record { load = e.load; asked = e.asked }

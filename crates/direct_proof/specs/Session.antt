@@ -26,12 +26,14 @@ abbrev pub runs : {S : Type 0} → Host S → ℕ → Bool
 runs h ep = list_any (runs_at ep) h.running
 
 -- what holds of facts and streams from the moment on in which the host has told of the device, as long as it is there
-pub record Session {S : Type 0} (m : Meaning S) (w : World S) (j : Shared) : Type 0 where
-  pub table : (told w.gate.facts j.back).table ≡ table_of (ep_info_of both_caps (m.table w.host.gadget))
-  pub faces : (told w.gate.facts j.back).interfaces ≡ Some (m.interfaces w.host.gadget)
-  pub clean : Clean w.gate.fence (down_in w.gate.streams) (any_change (j.held ++ j.coming) || j.fenced) j.back
-  pub quits : (ep : ℕ) → down_in w.gate.streams ep ≡ true → Quits w.gate.fence ep (runs w.host ep) w.to_host
-  pub trails : Trails w.gate.fence (down_in w.gate.streams) w.to_host
-  pub starts : StartsFit (m.table w.host.gadget) (any_change j.held || j.half) w.to_host
-  pub kinds : Each (λ (s : Running). OfKind (stream_of w.gate.streams s.ep) s.kind) w.host.running
-  pub start_kinds : Each (λ (p : ℕ × RedirPacket). StartOfKind w.gate.streams (started_kind p.1)) w.to_host
+abbrev pub Session : {S : Type 0} → Meaning S → World S → Shared → Type 0
+Session m w j = record {
+  table : (told w.gate.facts j.back).table ≡ table_of (ep_info_of both_caps (m.table w.host.gadget));
+  faces : (told w.gate.facts j.back).interfaces ≡ Some (m.interfaces w.host.gadget);
+  clean : Clean w.gate.fence (down_in w.gate.streams) (any_change (j.held ++ j.coming) || j.fenced) j.back;
+  quits : (ep : ℕ) → down_in w.gate.streams ep ≡ true → Quits w.gate.fence ep (runs w.host ep) w.to_host;
+  trails : Trails w.gate.fence (down_in w.gate.streams) w.to_host;
+  starts : StartsFit (m.table w.host.gadget) (any_change j.held || j.half) w.to_host;
+  kinds : Each (λ (s : Running). OfKind (stream_of w.gate.streams s.ep) s.kind) w.host.running;
+  start_kinds : Each (λ (p : ℕ × RedirPacket). StartOfKind w.gate.streams (started_kind p.1)) w.to_host;
+}

@@ -5,7 +5,7 @@ use Rattle.redir_wire.specs.declared.packet.RedirControl.TheVariants as plain
 use Rattle.redir_data.specs.declared.packet.RedirPacket.{RedirPacket}
 use Rattle.redir_data.specs.declared.packet.RedirPacket.TheVariants.{Carrying, Plain}
 use Rattle.gate_history.specs.client.Verdict.{changes}
-use Rattle.direct_proof.specs.Tagged.{Answered, Bye, Greeted, Packed, Plugged, Stated, Tagged, ToldFaces, ToldTable}
+use Rattle.direct_proof.specs.Tagged.{Answered, Packed, Plugged, Stated, Tagged, ToldFaces, ToldTable}
 
 abbrev pub is_fence : Option ℕ → ℕ → Bool
 is_fence None id = false
@@ -26,11 +26,7 @@ abbrev pub ends : Option ℕ → Tagged → Bool
 ends fence (Answered c) = changes c.load.verdict
 ends fence (Stated k id ep status) = is_fence fence id
 ends fence (Plugged c) = true
-ends fence Greeted = false
-ends fence (ToldTable t) = false
-ends fence (ToldFaces i) = false
-ends fence (Packed k ep p) = false
-ends fence Bye = false
+ends fence _ = false
 
 -- facts, and packets and statuses of a stream that is down
 abbrev pub is_stale : (ℕ → Bool) → Tagged → Bool
@@ -38,10 +34,7 @@ is_stale down (ToldTable t) = true
 is_stale down (ToldFaces i) = true
 is_stale down (Packed k ep p) = down ep
 is_stale down (Stated k id ep status) = down ep
-is_stale down Greeted = false
-is_stale down (Plugged c) = false
-is_stale down (Answered c) = false
-is_stale down Bye = false
+is_stale down _ = false
 
 -- each of these has an end behind it, on the wire or still to come, or is one
 abbrev pub Clean : Option ℕ → (ℕ → Bool) → Bool → List Tagged → Type 0

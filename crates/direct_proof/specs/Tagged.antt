@@ -46,13 +46,7 @@ on_wire Bye = (0, Plain plain.Disconnect)
 
 abbrev pub ran_in : Tagged → List Coming
 ran_in (Answered c) = c ∷ []
-ran_in Greeted = []
-ran_in (Plugged c) = []
-ran_in (ToldTable t) = []
-ran_in (ToldFaces i) = []
-ran_in (Packed k ep p) = []
-ran_in (Stated k id ep status) = []
-ran_in Bye = []
+ran_in _ = []
 
 abbrev pub is_kind : StreamKind → Bool → Bool
 is_kind Iso iso = iso
@@ -61,13 +55,7 @@ is_kind Interrupt iso = not iso
 -- the packets of an endpoint's stream of this type
 abbrev pub packet_in : Bool → ℕ → Tagged → List StreamPacket
 packet_in iso e (Packed k ep p) = if (ep == e) && is_kind k iso then p ∷ [] else []
-packet_in iso e Greeted = []
-packet_in iso e (Plugged c) = []
-packet_in iso e (ToldTable t) = []
-packet_in iso e (ToldFaces i) = []
-packet_in iso e (Answered c) = []
-packet_in iso e (Stated k id ep status) = []
-packet_in iso e Bye = []
+packet_in iso e _ = []
 
 abbrev pub runs_in : List Tagged → List Coming
 runs_in [] = []

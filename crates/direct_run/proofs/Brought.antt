@@ -27,10 +27,7 @@ use Rattle.direct_run.proofs.Several.{made_by, moves_onto}
 abbrev pub IsPieceItem : Item → Type 0
 IsPieceItem (Asked place packet) = IsClientPacket packet
 IsPieceItem (ClientWrong place reason) = Unit {0}
-IsPieceItem ClientLeft = ⊥
-IsPieceItem (Told place header packet) = ⊥
-IsPieceItem (HostWrong place reason) = ⊥
-IsPieceItem HostLeft = ⊥
+IsPieceItem _ = ⊥
 
 fit-each : {S P R : Type 0} (format : S → Format P R) (next : S → P → S) (Fits : P → Type 0) → ((s : S) (p : P) → (format s).Fits p → Fits p) → (a z : Position S) (bytes rest : List ℕ) (is : List (ℕ × P)) → Spells format next a bytes is z rest → Each (λ (i : ℕ × P). Fits i.1) is
 fit-each format next Fits h a z bytes rest [] spelled = tt

@@ -11,7 +11,7 @@ use Rattle.redir_wire.specs.Capability.{no_caps}
 use Rattle.redir_data.specs.declared.packet.RedirPacket.TheVariants.{Plain}
 use Rattle.redir_data.specs.Streams.{start, after, stream_format}
 use Rattle.model_device.specs.Meaning.{Meaning}
-use Rattle.redir_host.specs.step.Acts.{Act, Piece, Perform, Offer, Unplug, guest_bytes}
+use Rattle.redir_host.specs.step.Acts.{Act, Piece, guest_bytes}
 use Rattle.redir_host.specs.guest.Guest.{guest_start, guest_split, asked, wrongs, added}
 use Rattle.redir_host.specs.step.History.{history as host_history}
 use Rattle.redir_host.specs.step.Machine.{all_given as host_all_given, told_bytes, bytes_of}
@@ -111,9 +111,7 @@ known-event m s c e k = record { read = k.read; bytes = AreBytes-right (piece_by
 
 heard-before : (acts : List Act) (a : Act) → AreBytes (guest_bytes (a ∷ acts)) → AreBytes (guest_bytes acts)
 heard-before acts (Piece b) h = AreBytes-left (guest_bytes acts) b h
-heard-before acts (Perform ep) h = h
-heard-before acts (Offer ep) h = h
-heard-before acts Unplug h = h
+heard-before acts _ h = h
 
 pub known-act : {S : Type 0} (m : Meaning S) (s : S) (c : Course) (a : Act) → IsKnown m s (acted c a) → IsKnown m s c
 known-act m s c a k = record {

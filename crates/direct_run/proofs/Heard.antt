@@ -41,9 +41,7 @@ use Rattle.direct_run.proofs.Headed.{met, no-hello, unmoved}
 abbrev pub IsOwn : Item → Type 0
 IsOwn (Asked id packet) = ⊥
 IsOwn (Wrong place reason) = ⊥
-IsOwn (Performs ep) = Unit {0}
-IsOwn (Offers ep) = Unit {0}
-IsOwn Unplugs = Unit {0}
+IsOwn _ = Unit {0}
 
 -- ---- nothing of the guest has come
 
@@ -175,11 +173,8 @@ accepts-by m h id (Carrying d) = accepts-data h id (asking_of d)
 
 -- no wrong place
 abbrev pub IsRight : Item → Type 0
-IsRight (Asked id packet) = Unit {0}
 IsRight (Wrong place reason) = ⊥
-IsRight (Performs ep) = Unit {0}
-IsRight (Offers ep) = Unit {0}
-IsRight Unplugs = Unit {0}
+IsRight _ = Unit {0}
 
 accepts : {S : Type 0} (m : Meaning S) (h : Host S) (x : Item) → IsRight x → list_any is_refusal (move m h x).notes ≡ false
 accepts {S = S} m h (Asked id p) right =

@@ -45,20 +45,14 @@ pub record IsFresh (st : State) : Type 0 where
   pub agreed : st.agreed ≡ no_caps
 
 untold : (x : Item) → IsClients x → IsUntold x
-untold (Asked place packet) h = tt
-untold (ClientWrong place reason) h = tt
-untold ClientLeft h = tt
 untold (Told place header packet) h = h
-untold (HostWrong place reason) h = tt
-untold HostLeft h = tt
+untold _ h = tt
 
 told-none : (x : Item) → IsClients x → told_by x ≡ None
-told-none (Asked place packet) h = refl
-told-none (ClientWrong place reason) h = refl
-told-none ClientLeft h = refl
 told-none (Told place header packet) h = absurd h
 told-none (HostWrong place reason) h = absurd h
 told-none HostLeft h = absurd h
+told-none _ h = refl
 
 -- a state that is fresh, and behind which nothing was sent
 pub record IsUnmet (first : ℕ) (xs : List Item) : Type 0 where
@@ -83,9 +77,7 @@ client-agreed first xs x client = ap (λ (st : State). st.agreed) (sym (state-ru
     by (Asked place packet) h = asked-agreed first xs place packet
     by (ClientWrong place reason) h = wrong-agreed first xs place reason
     by ClientLeft h = left-agreed first xs
-    by (Told place header packet) h = absurd h
-    by (HostWrong place reason) h = absurd h
-    by HostLeft h = absurd h
+    by _ h = absurd h
 
 client-host : (first : ℕ) (xs : List Item) (x : Item) → IsClients x → (run first (x ∷ xs)).host_over ≡ (run first xs).host_over
 client-host first xs x client = ap (λ (st : State). st.host_over) (sym (state-run first (x ∷ xs))) ∙ by x client ∙ ap (λ (st : State). st.host_over) (state-run first xs)
@@ -94,9 +86,7 @@ client-host first xs x client = ap (λ (st : State). st.host_over) (sym (state-r
     by (Asked place packet) h = asked-host first xs place packet
     by (ClientWrong place reason) h = wrong-host first xs place reason
     by ClientLeft h = left-host first xs
-    by (Told place header packet) h = absurd h
-    by (HostWrong place reason) h = absurd h
-    by HostLeft h = absurd h
+    by _ h = absurd h
 
 -- ---- one item more
 

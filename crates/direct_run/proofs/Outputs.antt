@@ -16,29 +16,21 @@ use Rattle.direct_run.proofs.Wires.{host-gives}
 step-client : {S : Type 0} (m : Meaning S) (s : S) (c : Course) (x : Step) → out_client first_id (history first_id (after_step m s c x).events) ≡ out_client first_id (history first_id c.events) ++ (told_by m s c x).to_client
 step-client m s c (Client b) = event-gives client_bytes_of first_id c.events (ClientPiece b)
 step-client m s c ClientEnd = event-gives client_bytes_of first_id c.events ClientEnds
-step-client m s c (ToHost n) = sym (append-nil (out_client first_id (history first_id c.events)))
 step-client m s c (ToGate n) = event-gives client_bytes_of first_id c.events (HostPiece (take n _))
-step-client m s c (Perform ep) = sym (append-nil (out_client first_id (history first_id c.events)))
-step-client m s c (Offer ep) = sym (append-nil (out_client first_id (history first_id c.events)))
-step-client m s c Unplug = sym (append-nil (out_client first_id (history first_id c.events)))
+step-client m s c _ = sym (append-nil (out_client first_id (history first_id c.events)))
 
 step-host : {S : Type 0} (m : Meaning S) (s : S) (c : Course) (x : Step) → sent_to_host (after_step m s c x) ≡ sent_to_host c ++ (told_by m s c x).to_host
 step-host m s c (Client b) = host-gives c.events (ClientPiece b)
 step-host m s c ClientEnd = host-gives c.events ClientEnds
-step-host m s c (ToHost n) = sym (append-nil (sent_to_host c))
 step-host m s c (ToGate n) = host-gives c.events (HostPiece (take n _))
-step-host m s c (Perform ep) = sym (append-nil (sent_to_host c))
-step-host m s c (Offer ep) = sym (append-nil (sent_to_host c))
-step-host m s c Unplug = sym (append-nil (sent_to_host c))
+step-host m s c _ = sym (append-nil (sent_to_host c))
 
 step-gate : {S : Type 0} (m : Meaning S) (s : S) (c : Course) (x : Step) → sent_to_gate m s (after_step m s c x) ≡ sent_to_gate m s c ++ (told_by m s c x).from_host
-step-gate m s c (Client b) = sym (append-nil (sent_to_gate m s c))
-step-gate m s c ClientEnd = sym (append-nil (sent_to_gate m s c))
 step-gate m s c (ToHost n) = act-out m s c.acts (Piece (take n _))
-step-gate m s c (ToGate n) = sym (append-nil (sent_to_gate m s c))
 step-gate m s c (Perform ep) = act-out m s c.acts (Performs ep)
 step-gate m s c (Offer ep) = act-out m s c.acts (Offers ep)
 step-gate m s c Unplug = act-out m s c.acts Unplugs
+step-gate m s c _ = sym (append-nil (sent_to_gate m s c))
 
 pub all-client : {S : Type 0} (m : Meaning S) (s : S) (steps : List Step) → all_told (λ (t : Told). t.to_client) m s steps ≡ out_client first_id (history first_id (course m s steps).events)
 all-client m s [] = refl

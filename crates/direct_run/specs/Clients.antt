@@ -3,11 +3,11 @@ use Rattle.std.specs.Prelude.{List, [], ◌∷◌, ◌++◌}
 use Rattle.usbip_urb.specs.declared.client.ClientPacket.{ClientPacket}
 use Rattle.usbip_urb.specs.ClientPackets.{IsClientPacket}
 use Rattle.gate_history.specs.step.Events.{Event, ClientPiece, ClientEnd, HostPiece, HostEnd}
-use Rattle.gate_history.specs.step.Items.{Item, Asked, ClientWrong, ClientLeft, Told, HostWrong, HostLeft}
+use Rattle.gate_history.specs.step.Items.{Item, Asked, ClientWrong, ClientLeft}
 use Rattle.gate_history.specs.write.Output.{to_client}
 use Rattle.model_device.specs.Meaning.{Meaning}
 use Rattle.direct_run.specs.Trace.{given_of}
-use Rattle.direct_run.specs.Moves.{Move, ByClient, HostReads, GateReads, Performs, Offers, Unplugs, move, run}
+use Rattle.direct_run.specs.Moves.{Move, ByClient, move, run}
 
 -- ---- the packets to the present client, which began at the start or behind the last client's end
 
@@ -33,14 +33,8 @@ abbrev pub IsOfClient : Item → Type 0
 IsOfClient (Asked place packet) = IsClientPacket packet
 IsOfClient (ClientWrong place reason) = Unit {0}
 IsOfClient ClientLeft = Unit {0}
-IsOfClient (Told place header packet) = ⊥
-IsOfClient (HostWrong place reason) = ⊥
-IsOfClient HostLeft = ⊥
+IsOfClient _ = ⊥
 
 abbrev pub IsMove : Move → Type 0
 IsMove (ByClient x) = IsOfClient x
-IsMove HostReads = Unit {0}
-IsMove (GateReads place) = Unit {0}
-IsMove (Performs ep) = Unit {0}
-IsMove (Offers ep) = Unit {0}
-IsMove Unplugs = Unit {0}
+IsMove _ = Unit {0}

@@ -35,13 +35,7 @@ refusal_in _ = []
 -- the submits that were accepted, with the ids of their packets
 abbrev pub named : Note → List Submitted
 named (note.Submitted seqnum id) = record { seqnum = seqnum; id = id } ∷ []
-named note.Imported = []
-named (note.UnlinkAsked by target) = []
-named (note.Arrived ep) = []
-named (note.Answered seqnum) = []
-named note.DeviceGone = []
-named note.ClientGone = []
-named (note.Refused refusal) = []
+named _ = []
 
 abbrev pub number_of : Option Submitted → ℕ
 number_of None = 0
@@ -68,6 +62,4 @@ performed_item submits ep Unplugged = []
 
 abbrev pub offered_item : ℕ → Offered → List Item
 offered_item ep offered.Sent = item.Offer ep ∷ []
-offered_item ep offered.Nothing = []
-offered_item ep offered.Closed = []
-offered_item ep offered.Unplugged = []
+offered_item ep _ = []

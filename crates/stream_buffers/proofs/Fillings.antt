@@ -35,6 +35,20 @@ fills_here max_packet wanted packets k bytes p within is are =
     ap (λ (q : StreamPacket). ends max_packet q || nat_le wanted (length (bodies_to k packets))) (here packets k p within is)
     ∙ ap (λ (n : ℕ). ends max_packet p || nat_le wanted n) (bytes_more packets k bytes p within is are)
 
+-- a packet that is looked at behind the first so many, and whether it fills the request
+pub record Looked (max_packet wanted : ℕ) (packets : List StreamPacket) (k bytes sum : ℕ) (p : StreamPacket) (test : Bool) : Type 0 where
+  pub within : k < length packets
+  pub read : p ≡ get_or packets k p
+  pub came : sum ≡ bytes + length p.body
+  pub test_is : (ends max_packet p || nat_le wanted (bytes + length p.body)) ≡ test
+  pub fills_is : fills max_packet wanted packets k ≡ test
+
+pub looked : (max_packet wanted : ℕ) (packets : List StreamPacket) (k bytes sum : ℕ) (p : StreamPacket) (test : Bool) → k < length packets → p ≡ packet_at packets k → bytes ≡ length (bodies (take k packets)) → sum ≡ bytes + length p.body → (ends max_packet p || nat_le wanted sum) ≡ test → Looked max_packet wanted packets k bytes sum p test
+looked max_packet wanted packets k bytes sum p test within is seen came tested =
+    let read = there packets k p within is in
+    let now : (ends max_packet p || nat_le wanted (bytes + length p.body)) ≡ test = ap (λ (n : ℕ). ends max_packet p || nat_le wanted n) (sym came) ∙ tested in
+    record { within = within; read = read; came = came; test_is = now; fills_is = fills_here max_packet wanted packets k bytes p within read seen ∙ now }
+
 -- ---- whoever is looked at and doesn't fill it
 
 or_neither : (a b : Bool) → (a || b) ≡ false → (a ≡ false) × (b ≡ false)

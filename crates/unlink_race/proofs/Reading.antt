@@ -15,12 +15,12 @@ use Rattle.urb_arena.specs.Lanes.{find_in}
 use Rattle.unlink_race.specs.declared.live.Live.{Live}
 use Rattle.unlink_race.specs.declared.by_number.By.{By}
 use Rattle.unlink_race.specs.Firsts.{without_first}
-use Rattle.unlink_race.specs.Inner.Indexed.{number_by, any_by, number_at, column, is_pair, Before, Behind, Reads, Stand, IsOrdering, IsOrderOf}
+use Rattle.unlink_race.specs.Inner.Indexed.{number_by, any_by, found_by, number_at, column, is_pair, Before, Behind, Reads, Stand, IsOrdering, IsOrderOf}
 use Rattle.unlink_race.specs.Inner.Listed.{Distinct, Kept, listed}
 use Rattle.unlink_race.proofs.Columns.{map-insert, map-remove, position_or_len-map}
 use Rattle.unlink_race.proofs.Firsts.{remove_first, position_found, is_some-position}
-use Rattle.unlink_race.proofs.Indexes.{Pairs, ordering_back, pair_there, ordering_pushed, ordering_removed, column_pushed, column_removed, column_has}
-use Rattle.unlink_race.proofs.Ordered.{number_of, inserted, find_here, place_behind, any_behind, rises_without}
+use Rattle.unlink_race.proofs.Indexes.{Pairs, leads, ordering_back, pair_there, ordering_pushed, ordering_removed, column_pushed, column_removed, column_has}
+use Rattle.unlink_race.proofs.Ordered.{number_of, inserted, find_here, find_past, place_behind, any_behind, rises_without}
 use Rattle.unlink_race.proofs.Rows.{entry_of}
 use Rattle.unlink_race.proofs.Walks.{Entries}
 use Rattle.unlink_race.proofs.Zipped.{key_of, itself}
@@ -194,6 +194,31 @@ first_found by lanes ps place n key b reads up before behind within read tested 
     mapped true p = refl
     mapped false p = refl
 
+-- what a search that stops at a place says of the numbers before it, and from it on
+abbrev pub Parts : By → List Entries → List ℕ → ℕ → ℕ → Type 0
+Parts by lanes keys place n = (pairs : Pairs) → keys ≡ map key_in pairs → Reads by lanes pairs → IsNonDecreasingBy number_of pairs → Before pairs place n × Behind pairs place n
+
+module _ {by : By} {requests : List (ℕ × Live)} {keys : List ℕ} (o : IsOrderOf by requests keys) (lanes : List Entries) (stand : Stand lanes requests) (place n : ℕ) (parts : Parts by lanes keys place n) where
+  reads_in : Reads by lanes o.pairs
+  reads_in = order_reads by lanes requests o.pairs stand o.ordering
+
+  parted_in : Before o.pairs place n × Behind o.pairs place n
+  parted_in = parts o.pairs o.keys_are reads_in o.rises
+
+  long_in : length keys ≡ length o.pairs
+  long_in = ap length o.keys_are ∙ length-map o.pairs key_in
+
+  -- the key there is the first of the number, or has another
+  pub first_key : (key : ℕ) (is : Bool) → place < length keys → key ≡ get_or keys place key → is_eq (option_cmp nat_cmp (number_at by lanes key) (Some n)) ≡ is → cond is (Some key) None ≡ option_map (λ (r : ℕ × Live). r.0) (find (λ (r : ℕ × Live). found_by by n r.1) requests)
+  first_key key is within read tested =
+      let inside : place < length o.pairs = omega (arith, within, long_in) in
+      let there : key ≡ key_in (get_or o.pairs place none) = read ∙ ap (λ ks. get_or ks place key) o.keys_are ∙ get_or-map key_in o.pairs place none key inside in
+      sym (first_found by lanes o.pairs place n key is reads_in o.rises parted_in.0 parted_in.1 inside there tested) ∙ leads o n
+
+  -- behind the last none has it
+  pub no_key : length keys ≤ place → None ≡ option_map (λ (r : ℕ × Live). r.0) (find (λ (r : ℕ × Live). found_by by n r.1) requests)
+  no_key past = ap (option_map key_in) (sym (find_past o.pairs place n (omega (arith, past, long_in)) parted_in.0)) ∙ leads o n
+
 module _ {by : By} {requests : List (ℕ × Live)} {keys : List ℕ} (o : IsOrderOf by requests keys) where
   pub order_put : (place key : ℕ) (x : Live) → place ≤ length o.pairs → Before o.pairs place (number_by by x + 1) → Behind o.pairs place (number_by by x + 1) → any_by by x ≡ true → IsOrderOf by (requests ++ (key, x) ∷ []) (insert keys place key)
   order_put place key x within before behind found =
@@ -227,6 +252,34 @@ stand_at by lanes (r ∷ rs) zero key x stand is =
     by_entry None told = let e : None ≡ Some x = told in absurd (cc)
     by_entry (Some e) told = let both : Some e.1 ≡ Some x = told in let one : e.1 ≡ x = cc in ap (λ y. Some (number_by by y)) one
 stand_at by lanes (r ∷ rs) (suc i) key x stand is = stand_at by lanes rs i key x stand.1 is
+
+-- a request's key, behind the keys of lesser numbers
+module _ {by : By} {requests : List (ℕ × Live)} {keys : List ℕ} (o : IsOrderOf by requests keys) (lanes : List Entries) (stand : Stand lanes requests) (i key : ℕ) (x : Live) (at : slice_get requests i ≡ Some (key, x)) (found : any_by by x ≡ true)
+    (first n : ℕ) (number : n ≡ number_by by x) (bound : first ≤ length keys) (parts : Parts by lanes keys first n) where
+  reads_all : Reads by lanes o.pairs
+  reads_all = order_reads by lanes requests o.pairs stand o.ordering
+
+  numbered : number_at by lanes key ≡ Some (number_by by x)
+  numbered = stand_at by lanes requests i key x stand at
+
+  inside_pairs : first ≤ length o.pairs
+  inside_pairs = let long = ap length o.keys_are ∙ length-map o.pairs key_in in omega (arith, bound, long)
+
+  lesser : Before o.pairs first (number_by by x)
+  lesser = rw number at (parts o.pairs o.keys_are reads_all o.rises).0
+
+  pub key_there : IsSome (position (λ k. k == key) (drop first keys))
+  key_there = rw o.keys_are (key_behind by lanes o.pairs reads_all (number_by by x) key numbered first inside_pairs lesser (pair_there o.ordering (number_by by x) key (column_has (any_by by) (number_by by) requests i (key, x) at found)))
+
+  module _ (j : ℕ) (is : position (λ k. k == key) (drop first keys) ≡ Some j) where
+    taken_there : TakenAt by lanes o.pairs reads_all (number_by by x) key numbered first inside_pairs lesser (first + j)
+    taken_there = taken_at by lanes o.pairs reads_all (number_by by x) key numbered first inside_pairs lesser j (ap (λ ks. position (λ k. k == key) (drop first ks)) (sym o.keys_are) ∙ is)
+
+    pub place_in : first + j < length keys
+    place_in = let inside = taken_there.inside in let long = ap length o.keys_are ∙ length-map o.pairs key_in in omega (arith, inside, long)
+
+    pub order_left : Distinct key_of requests → IsOrderOf by (remove requests i) (remove keys (first + j))
+    order_left apart = order_taken o i key (first + j) x at apart found taken_there.inside taken_there.left
 
 pub stand_front : (lanes : List Entries) (rs : List (ℕ × Live)) (r : ℕ × Live) → Stand lanes (rs ++ r ∷ []) → Stand lanes rs
 stand_front lanes [] r stand = tt

@@ -3,9 +3,9 @@
 ghost use Rattle.std.specs.Prelude.{◌≡◌, ◌<◌, ℕ, List, [], ◌∷◌, ◌++◌, length, remove, slice_get, Some, option_map, if◌then◌else◌};
 ghost use Rattle.std.specs.List.{find, list_any, zip};
 ghost use Rattle.unlink_race.specs.declared.live.Live.{Live};
-ghost use Rattle.unlink_race.specs.Searches.{has_number, has_id, changes};
+ghost use Rattle.unlink_race.specs.Searches.{changes};
 ghost use Rattle.unlink_race.specs.Inner.Listed.{Distinct};
-ghost use Rattle.unlink_race.specs.Inner.Indexed.{Stand, IsIndexed, IsOrderOf};
+ghost use Rattle.unlink_race.specs.Inner.Indexed.{Stand, IsIndexed, IsOrderOf, found_by};
 
 use crate::by_number::{By, first, put, take};
 use crate::live::Live;
@@ -60,18 +60,14 @@ impl Index {
         }
     }
 
-    /// The key of the first request with this number.
-    pub fn numbered(&self, arena: &Arena<(u64, Live)>, seqnum: u32) -> Option<Key>
-        ensures { (keys : List ℕ) (lives : List Live) → IsIndexed keys lives self.now → Stand arena.now.lanes (zip keys lives) → result ≡ option_map (λ (r : ℕ × Live). r.0) (find (λ (r : ℕ × Live). has_number seqnum r.1) (zip keys lives)) }
+    /// The key of the first request that this number finds.
+    pub fn first(&self, arena: &Arena<(u64, Live)>, by: By, number: u64) -> Option<Key>
+        ensures { (keys : List ℕ) (lives : List Live) → IsIndexed keys lives self.now → Stand arena.now.lanes (zip keys lives) → result ≡ option_map (λ (r : ℕ × Live). r.0) (find (λ (r : ℕ × Live). found_by by number r.1) (zip keys lives)) }
     {
-        first(arena, &self.numbers, By::Number, u64::from(seqnum))
-    }
-
-    /// The key of the first request that flies with this id.
-    pub fn flying(&self, arena: &Arena<(u64, Live)>, id: u64) -> Option<Key>
-        ensures { (keys : List ℕ) (lives : List Live) → IsIndexed keys lives self.now → Stand arena.now.lanes (zip keys lives) → result ≡ option_map (λ (r : ℕ × Live). r.0) (find (λ (r : ℕ × Live). has_id id r.1) (zip keys lives)) }
-    {
-        first(arena, &self.held, By::Id, id)
+        match by {
+            By::Number => first(arena, &self.numbers, By::Number, number),
+            By::Id => first(arena, &self.held, By::Id, number),
+        }
     }
 
     /// Whether a request changes the configuration or an interface.

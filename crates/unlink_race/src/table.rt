@@ -7,11 +7,13 @@ ghost use Rattle.std.specs.List.{find, position, list_any};
 ghost use Rattle.urb_arena.specs.Seen.{seen};
 ghost use Rattle.unlink_race.specs.declared.live.Live.{Live};
 ghost use Rattle.unlink_race.specs.Firsts.{without_first};
+ghost use Rattle.unlink_race.specs.Inner.Indexed.{found_by};
 ghost use Rattle.unlink_race.specs.Inner.Listed.{Kept};
 ghost use Rattle.unlink_race.specs.Inner.Sound.{entry_of, numbers_of, Rises, HasDealt};
 ghost use Rattle.unlink_race.specs.Unlinking.{unlinked_by};
 ghost use Rattle.unlink_race.specs.Searches.{has_number, has_id, waits_for, touched_by, ended_by, changes};
 
+use crate::by_number::By;
 use crate::index::Index;
 use crate::live::{Live, StreamEnd};
 use crate::numbered::{mark, renumber};
@@ -114,50 +116,62 @@ impl Table {
     pub fn has_number(&self, seqnum: u32) -> bool
         ensures { result ≡ list_any (has_number seqnum) self.now }
     {
-        self.index.numbered(&self.arena, seqnum).is_some()
+        self.index
+            .first(&self.arena, By::Number, u64::from(seqnum))
+            .is_some()
     }
 
     /// Whether a request flies with this id.
     pub fn has_id(&self, id: u64) -> bool
         ensures { result ≡ list_any (has_id id) self.now }
     {
-        self.index.flying(&self.arena, id).is_some()
+        self.index.first(&self.arena, By::Id, id).is_some()
+    }
+
+    // The first request that this number finds.
+    fn found(&self, by: By, number: u64) -> Option<&Live>
+        ensures { option_copied result ≡ find (found_by by number) self.now }
+    {
+        let key = self.index.first(&self.arena, by, number)?;
+        let entry = self.arena.get(key).unwrap();
+        Some(&entry.1)
+    }
+
+    // Where it stands.
+    fn place_found(&self, by: By, number: u64) -> Option<usize>
+        ensures { result ≡ position (found_by by number) self.now }
+    {
+        let key = self.index.first(&self.arena, by, number)?;
+        let entry = self.arena.get(key).unwrap();
+        place_numbered(&self.arena, &self.keys, entry.0)
     }
 
     /// The first request with this number.
     pub fn numbered(&self, seqnum: u32) -> Option<&Live>
         ensures { option_copied result ≡ find (has_number seqnum) self.now }
     {
-        let key = self.index.numbered(&self.arena, seqnum)?;
-        let entry = self.arena.get(key).unwrap();
-        Some(&entry.1)
+        self.found(By::Number, u64::from(seqnum))
     }
 
     /// The first request that flies with this id.
     pub fn flying(&self, id: u64) -> Option<&Live>
         ensures { option_copied result ≡ find (has_id id) self.now }
     {
-        let key = self.index.flying(&self.arena, id)?;
-        let entry = self.arena.get(key).unwrap();
-        Some(&entry.1)
+        self.found(By::Id, id)
     }
 
     /// Where the first request with this number stands.
     pub fn place_of_number(&self, seqnum: u32) -> Option<usize>
         ensures { result ≡ position (has_number seqnum) self.now }
     {
-        let key = self.index.numbered(&self.arena, seqnum)?;
-        let entry = self.arena.get(key).unwrap();
-        place_numbered(&self.arena, &self.keys, entry.0)
+        self.place_found(By::Number, u64::from(seqnum))
     }
 
     /// Where the first request that flies with this id stands.
     pub fn place_of_id(&self, id: u64) -> Option<usize>
         ensures { result ≡ position (has_id id) self.now }
     {
-        let key = self.index.flying(&self.arena, id)?;
-        let entry = self.arena.get(key).unwrap();
-        place_numbered(&self.arena, &self.keys, entry.0)
+        self.place_found(By::Id, id)
     }
 
     /// Where the first request stands that waits for packets of this endpoint's stream.

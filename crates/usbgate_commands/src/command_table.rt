@@ -41,91 +41,63 @@ pub struct Row {
     pub recording: Need,
 }
 
+// A command that no word stands with; each row says what stands with its own.
+const BARE: Row = Row {
+    verb: Verb::Replay,
+    number: Need::MustNot,
+    device: Need::MustNot,
+    side: Need::MustNot,
+    host: Need::MustNot,
+    listen: Need::MustNot,
+    idle: Need::MustNot,
+    first_id: Need::MustNot,
+    after_loss: Need::MustNot,
+    recording: Need::MustNot,
+};
+
 /// The commands that are built.
 pub const ROWS: [Row; 7] = [
     Row {
         verb: Verb::Replay,
-        number: Need::MustNot,
-        device: Need::MustNot,
-        side: Need::MustNot,
-        host: Need::MustNot,
-        listen: Need::MustNot,
-        idle: Need::MustNot,
         first_id: Need::May,
-        after_loss: Need::MustNot,
-        recording: Need::MustNot,
+        ..BARE
     },
     Row {
         verb: Verb::Model,
-        number: Need::MustNot,
         device: Need::Must,
-        side: Need::MustNot,
-        host: Need::MustNot,
-        listen: Need::MustNot,
-        idle: Need::MustNot,
-        first_id: Need::MustNot,
-        after_loss: Need::MustNot,
-        recording: Need::MustNot,
+        ..BARE
     },
     Row {
         verb: Verb::Show,
-        number: Need::MustNot,
-        device: Need::MustNot,
         side: Need::Must,
-        host: Need::MustNot,
-        listen: Need::MustNot,
-        idle: Need::MustNot,
-        first_id: Need::MustNot,
-        after_loss: Need::MustNot,
-        recording: Need::MustNot,
+        ..BARE
     },
     Row {
         verb: Verb::Serve,
-        number: Need::MustNot,
-        device: Need::MustNot,
-        side: Need::MustNot,
         host: Need::Must,
         listen: Need::Must,
         idle: Need::Must,
         first_id: Need::May,
         after_loss: Need::May,
         recording: Need::May,
+        ..BARE
     },
     Row {
         verb: Verb::Host,
-        number: Need::MustNot,
         device: Need::Must,
-        side: Need::MustNot,
-        host: Need::MustNot,
         listen: Need::Must,
         idle: Need::Must,
-        first_id: Need::MustNot,
-        after_loss: Need::MustNot,
-        recording: Need::MustNot,
+        ..BARE
     },
     Row {
         verb: Verb::Make,
         number: Need::Must,
-        device: Need::MustNot,
-        side: Need::MustNot,
-        host: Need::MustNot,
-        listen: Need::MustNot,
-        idle: Need::MustNot,
-        first_id: Need::MustNot,
-        after_loss: Need::MustNot,
-        recording: Need::MustNot,
+        ..BARE
     },
     Row {
         verb: Verb::Load,
         number: Need::Must,
-        device: Need::MustNot,
-        side: Need::MustNot,
-        host: Need::MustNot,
-        listen: Need::MustNot,
-        idle: Need::MustNot,
-        first_id: Need::MustNot,
-        after_loss: Need::MustNot,
-        recording: Need::MustNot,
+        ..BARE
     },
 ];
 

@@ -1,8 +1,7 @@
 -- What is read as an answer is spelled so, and what is spelled so is read.
-use Rattle.std.proofs.Common.{◌≡◌, ℕ, ◌+◌, ◌*◌, ◌≤◌, ◌==◌, ◌⊎◌, inl, inr, Bool, true, false, List, [], ◌∷◌, ◌++◌, length, take, refl, sym, ap, subst, ◌∙◌, append_assoc, arith, None, cond}
+use Rattle.std.proofs.Common.{◌≡◌, ℕ, ◌+◌, ◌*◌, ◌≤◌, ◌==◌, ◌⊎◌, inl, inr, Bool, true, false, List, [], ◌∷◌, ◌++◌, length, take, drop, refl, sym, ap, subst, ◌∙◌, append_assoc, arith, None, cond}
 use Rattle.std.specs.Prelude.{◌||◌}
 use Rattle.std.specs.Int.{w32, cast_signed, cast_unsigned}
-use Rattle.std.proofs.lemmas.Bool.{eqb-true, or_cases}
 use Rattle.std.proofs.lemmas.Int.{to_z-of_z}
 use Rattle.std.proofs.lemmas.List.{length-append}
 use Rattle.std.proofs.lemmas.List.Elements.{All-same}
@@ -23,10 +22,10 @@ use Rattle.usbip_urb.specs.Fields.{ret_submit_at, ret_unlink_at}
 use Rattle.usbip_urb.specs.Ranges.{IsWord, IsAnswer}
 use Rattle.usbip_urb.specs.Checks.{command_check, size_checks, has_command, answer_checks}
 use Rattle.usbip_urb.specs.Answers.{answer_size_by, answer_by, answers}
-use Rattle.usbip_urb.specs.Sound.Words.{words_at, words_spelled, words_below, length-words, word_in}
+use Rattle.usbip_urb.specs.Sound.Words.{words_at, words_spelled, words_below, length-words, word_in, head_in, fields_in}
 use Rattle.usbip_urb.specs.Sound.Descriptors.{signed_again, signed_fits}
 use Rattle.usbip_urb.specs.Sound.Payloads.{payload_found, payload_again}
-use Rattle.usbip_urb.specs.Sound.Limits.{IsWithinLimits, limits_right, limits_found, limits_steady}
+use Rattle.usbip_urb.specs.Sound.Limits.{IsWithinLimits, limits_right, limits_found, limits_steady, is_one_of, one_of}
 
 -- ---- the checks, as what they say of the fields
 
@@ -40,22 +39,12 @@ limits_on = guarded (has_command USBIP_RET_SUBMIT) size_checks
 abbrev any_command : Check Reason
 any_command = command_check USBIP_RET_SUBMIT USBIP_RET_UNLINK
 
-is_command : (n : ℕ) → (n ≡ USBIP_RET_SUBMIT) ⊎ (n ≡ USBIP_RET_UNLINK) → ((n == USBIP_RET_SUBMIT) || (n == USBIP_RET_UNLINK)) ≡ true
-is_command n (inl e) = ap (λ (k : ℕ). (k == USBIP_RET_SUBMIT) || (k == USBIP_RET_UNLINK)) e
-is_command n (inr e) = ap (λ (k : ℕ). (k == USBIP_RET_SUBMIT) || (k == USBIP_RET_UNLINK)) e
-
-command_is : (n : ℕ) → ((n == USBIP_RET_SUBMIT) || (n == USBIP_RET_UNLINK)) ≡ true → (n ≡ USBIP_RET_SUBMIT) ⊎ (n ≡ USBIP_RET_UNLINK)
-command_is n e = elim (or_cases (n == USBIP_RET_SUBMIT) (n == USBIP_RET_UNLINK) e) [
-  | inl h ↦ inl (eqb-true n USBIP_RET_SUBMIT h)
-  | inr h ↦ inr (eqb-true n USBIP_RET_UNLINK h)
-]
-
 none_wrong : (b : List ℕ) → IsRight b → wrong_at answer_checks b ≡ None
-none_wrong b h = none_from any_command limits_on b (λ _. is_command (be_at w32 0 b) h.command) (limits_right USBIP_RET_SUBMIT b h.limits)
+none_wrong b h = none_from any_command limits_on b (λ _. is_one_of USBIP_RET_SUBMIT USBIP_RET_UNLINK (be_at w32 0 b) h.command) (limits_right USBIP_RET_SUBMIT b h.limits)
 
 is_right : (b : List ℕ) → wrong_at answer_checks b ≡ None → 48 ≤ length b → IsRight b
 is_right b none there = record {
-  command = command_is (be_at w32 0 b) (none_first any_command limits_on b none (omega arith));
+  command = one_of USBIP_RET_SUBMIT USBIP_RET_UNLINK (be_at w32 0 b) (none_first any_command limits_on b none (omega arith));
   limits = λ e. limits_found USBIP_RET_SUBMIT b (none_later any_command limits_on b none) (omega arith) e;
 }
 
@@ -146,38 +135,30 @@ submit_again is_in r x more e fits =
     let rest = r.tail ++ (r.body ++ (last ++ more)) in
     let is : x ≡ words ws ++ rest = e ∙ simp append_assoc refl in
     let ok = fits.1.words in
-    let command : be_at w32 0 x ≡ USBIP_RET_SUBMIT = word_in 0 ws rest x is ok (omega arith) in
-    let seqnum : be_at w32 4 x ≡ r.head.seqnum = word_in 1 ws rest x is ok (omega arith) in
-    let devid : be_at w32 8 x ≡ r.head.devid = word_in 2 ws rest x is ok (omega arith) in
-    let direction : be_at w32 12 x ≡ r.head.direction = word_in 3 ws rest x is ok (omega arith) in
-    let ep : be_at w32 16 x ≡ r.head.ep = word_in 4 ws rest x is ok (omega arith) in
-    let bits : be_at w32 20 x ≡ cast_unsigned w32 r.status = word_in 5 ws rest x is ok (omega arith) in
-    let status : cast_signed w32 (be_at w32 20 x) ≡ r.status = ap (cast_signed w32) bits ∙ to_z-of_z w32 r.status fits.1.status in
-    let actual : be_at w32 24 x ≡ r.actual = word_in 6 ws rest x is ok (omega arith) in
-    let start_frame : be_at w32 28 x ≡ r.start_frame = word_in 7 ws rest x is ok (omega arith) in
-    let packets : be_at w32 32 x ≡ r.packets = word_in 8 ws rest x is ok (omega arith) in
-    let errors : be_at w32 36 x ≡ r.errors = word_in 9 ws rest x is ok (omega arith) in
-    let body_long : length r.body ≡ body_size is_in (be_at w32 24 x) = rw actual fits.0.body in
-    let counted : length r.descs ≡ count_of (be_at w32 32 x) = rw packets fits.0.descs in
+    let head = head_in USBIP_RET_SUBMIT r.head (drop 5 ws) rest x is ok in
+    let fields = fields_in USBIP_RET_SUBMIT r.head (cast_unsigned w32 r.status) r.actual r.start_frame r.packets r.errors rest x is ok in
+    let status : cast_signed w32 (be_at w32 20 x) ≡ r.status = ap (cast_signed w32) fields.at_20 ∙ to_z-of_z w32 r.status fits.1.status in
+    let body_long : length r.body ≡ body_size is_in (be_at w32 24 x) = rw fields.at_24 fits.0.body in
+    let counted : length r.descs ≡ count_of (be_at w32 32 x) = rw fields.at_32 fits.0.descs in
     let payload = payload_again is_in x (words ws) r.tail r.body r.descs more e (length-words ws) fits.1.tail body_long counted fits.1.descs in
     let packet : ret_submit_at is_in x ≡ r = λ t. record {
-      head = record { seqnum = seqnum t; devid = devid t; direction = direction t; ep = ep t };
+      head = record { seqnum = head.seqnum t; devid = head.devid t; direction = head.direction t; ep = head.ep t };
       status = status t;
-      actual = actual t;
-      start_frame = start_frame t;
-      packets = packets t;
-      errors = errors t;
+      actual = fields.at_24 t;
+      start_frame = fields.at_28 t;
+      packets = fields.at_32 t;
+      errors = fields.at_36 t;
       tail = payload.is_eight t;
       body = payload.is_body t;
       descs = payload.is_descs t;
     } in
     record {
       right = record {
-        command = inl command;
-        limits = λ _. record { few_bytes = rw actual fits.0.few_bytes; few_packets = rw packets fits.0.few_packets };
+        command = inl head.command;
+        limits = λ _. record { few_bytes = rw fields.at_24 fits.0.few_bytes; few_packets = rw fields.at_32 fits.0.few_packets };
       };
-      size = ap (λ (n : ℕ). answer_size_by is_in n x) command ∙ payload.size;
-      packet = ap (λ (n : ℕ). answer_by is_in n x) command ∙ ap urb.RetSubmit packet;
+      size = ap (λ (n : ℕ). answer_size_by is_in n x) head.command ∙ payload.size;
+      packet = ap (λ (n : ℕ). answer_by is_in n x) head.command ∙ ap urb.RetSubmit packet;
     }
 
 unlink_again : (is_in : Bool) (r : RetUnlink) (x more : List ℕ) → x ≡ spelling (urb.RetUnlink r) ++ more → IsAnswer is_in (urb.RetUnlink r) → IsAgain is_in (urb.RetUnlink r) x
@@ -186,24 +167,20 @@ unlink_again is_in r x more e fits =
     let rest = r.pad ++ more in
     let is : x ≡ words ws ++ rest = e ∙ append_assoc (words ws) r.pad more in
     let ok = fits.words in
-    let command : be_at w32 0 x ≡ USBIP_RET_UNLINK = word_in 0 ws rest x is ok (omega arith) in
-    let seqnum : be_at w32 4 x ≡ r.head.seqnum = word_in 1 ws rest x is ok (omega arith) in
-    let devid : be_at w32 8 x ≡ r.head.devid = word_in 2 ws rest x is ok (omega arith) in
-    let direction : be_at w32 12 x ≡ r.head.direction = word_in 3 ws rest x is ok (omega arith) in
-    let ep : be_at w32 16 x ≡ r.head.ep = word_in 4 ws rest x is ok (omega arith) in
+    let head = head_in USBIP_RET_UNLINK r.head (drop 5 ws) rest x is ok in
     let bits : be_at w32 20 x ≡ cast_unsigned w32 r.status = word_in 5 ws rest x is ok (omega arith) in
     let status : cast_signed w32 (be_at w32 20 x) ≡ r.status = ap (cast_signed w32) bits ∙ to_z-of_z w32 r.status fits.status in
     let pad : part 24 24 x ≡ r.pad = ap (part 24 24) e ∙ part_found 24 24 (words ws) r.pad more (length-words ws) fits.pad in
     let packet : ret_unlink_at x ≡ r = λ t. record {
-      head = record { seqnum = seqnum t; devid = devid t; direction = direction t; ep = ep t };
+      head = record { seqnum = head.seqnum t; devid = head.devid t; direction = head.direction t; ep = head.ep t };
       status = status t;
       pad = pad t;
     } in
     let size : 48 ≡ length (words ws ++ r.pad) = omega (arith, length-append (words ws) r.pad, length-words ws, fits.pad) in
     record {
-      right = record { command = inr command; limits = λ h. absurd (omega (arith, command, h)) };
-      size = ap (λ (n : ℕ). answer_size_by is_in n x) command ∙ size;
-      packet = ap (λ (n : ℕ). answer_by is_in n x) command ∙ ap urb.RetUnlink packet;
+      right = record { command = inr head.command; limits = λ h. absurd (omega (arith, head.command, h)) };
+      size = ap (λ (n : ℕ). answer_size_by is_in n x) head.command ∙ size;
+      packet = ap (λ (n : ℕ). answer_by is_in n x) head.command ∙ ap urb.RetUnlink packet;
     }
 
 again : (is_in : Bool) (p : UrbPacket) (more : List ℕ) → IsAnswer is_in p → IsAgain is_in p (spelling p ++ more)

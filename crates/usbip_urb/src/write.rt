@@ -1,6 +1,6 @@
 //! Packets written.
 
-ghost use Rattle.std.specs.Prelude.{◌≡◌, ◌+◌, ◌*◌, ◌++◌, length};
+ghost use Rattle.std.specs.Prelude.{◌≡◌, ◌+◌, ◌*◌, ◌++◌, ◌∷◌, length};
 ghost use Rattle.packet_stream.specs.Writes.{Appends, AppendsSome};
 ghost use Rattle.usbip_urb.specs.declared.packet.UrbPacket.TheVariants.{Submit as SubmitPacket, RetSubmit as RetSubmitPacket, Unlink as UnlinkPacket, RetUnlink as RetUnlinkPacket};
 ghost use Rattle.usbip_urb.specs.Spelling.{spelling, words, ret_submit_words, desc_bytes, descs_bytes};
@@ -10,7 +10,7 @@ ghost use Rattle.usbip_urb.specs.declared.code.TheConstants.{HEAD_SIZE};
 use crate::code::{
     DESC_SIZE, HEAD_SIZE, USBIP_CMD_SUBMIT, USBIP_CMD_UNLINK, USBIP_RET_SUBMIT, USBIP_RET_UNLINK,
 };
-use crate::packet::{IsoDesc, RetSubmit, RetUnlink, Submit, Unlink, UrbPacket};
+use crate::packet::{Head, IsoDesc, RetSubmit, RetUnlink, Submit, Unlink, UrbPacket};
 use byteorder::{BigEndian, ByteOrder};
 use usb_base::{Bytes, Memory};
 
@@ -59,20 +59,19 @@ fn push_packet(packet: &UrbPacket, out: &mut Bytes) -> Result<(), Memory>
 fn push_submit(submit: &Submit, out: &mut Bytes) -> Result<(), Memory>
     ensures { AppendsSome result out.old out.new (spelling (SubmitPacket submit.now)) }
 {
-    let head = &submit.head;
-    let numbers = [
+    push_head(
         USBIP_CMD_SUBMIT,
-        head.seqnum,
-        head.devid,
-        head.direction,
-        head.ep,
-        submit.flags,
-        submit.length,
-        submit.start_frame,
-        submit.packets,
-        submit.interval,
-    ];
-    push_head(&numbers, &submit.setup, out)?;
+        &submit.head,
+        &[
+            submit.flags,
+            submit.length,
+            submit.start_frame,
+            submit.packets,
+            submit.interval,
+        ],
+        &submit.setup,
+        out,
+    )?;
     out.append(submit.body.as_slice())?;
     push_descs(submit.descs.as_slice(), out)?;
     Ok(())
@@ -93,63 +92,65 @@ fn push_ret_submit(answer: &RetSubmit, out: &mut Bytes) -> Result<(), Memory>
 pub fn push_ret_fields(answer: &RetSubmit, out: &mut Bytes) -> Result<(), Memory>
     ensures { AppendsSome result out.old out.new (words (ret_submit_words answer.now) ++ answer.now.tail) }
 {
-    let head = &answer.head;
-    let numbers = [
+    push_head(
         USBIP_RET_SUBMIT,
-        head.seqnum,
-        head.devid,
-        head.direction,
-        head.ep,
-        answer.status.cast_unsigned(),
-        answer.actual,
-        answer.start_frame,
-        answer.packets,
-        answer.errors,
-    ];
-    push_head(&numbers, &answer.tail, out)
+        &answer.head,
+        &[
+            answer.status.cast_unsigned(),
+            answer.actual,
+            answer.start_frame,
+            answer.packets,
+            answer.errors,
+        ],
+        &answer.tail,
+        out,
+    )
 }
 
 fn push_unlink(unlink: &Unlink, out: &mut Bytes) -> Result<(), Memory>
     ensures { AppendsSome result out.old out.new (spelling (UnlinkPacket unlink.now)) }
 {
-    let head = &unlink.head;
-    let numbers = [
+    push_head(
         USBIP_CMD_UNLINK,
-        head.seqnum,
-        head.devid,
-        head.direction,
-        head.ep,
-        unlink.target,
-    ];
-    push_head(&numbers, &unlink.pad, out)
+        &unlink.head,
+        &[unlink.target],
+        &unlink.pad,
+        out,
+    )
 }
 
 fn push_ret_unlink(answer: &RetUnlink, out: &mut Bytes) -> Result<(), Memory>
     ensures { AppendsSome result out.old out.new (spelling (RetUnlinkPacket answer.now)) }
 {
-    let head = &answer.head;
-    let numbers = [
+    push_head(
         USBIP_RET_UNLINK,
-        head.seqnum,
-        head.devid,
-        head.direction,
-        head.ep,
-        answer.status.cast_unsigned(),
-    ];
-    push_head(&numbers, &answer.pad, out)
+        &answer.head,
+        &[answer.status.cast_unsigned()],
+        &answer.pad,
+        out,
+    )
 }
 
-// The 48 bytes that a packet begins with, in one append: these numbers, and what stands behind them.
+// The 48 bytes that a packet begins with, in one append: its code, its head, these fields, and what stands behind them.
 #[tactic(auto, unfolding(usb_base::specs::Number::be))]
-fn push_head(numbers: &[u32], rest: &[u8], out: &mut Bytes) -> Result<(), Memory>
-    requires { 4 * length numbers.now + length rest.now ≡ HEAD_SIZE }
-    ensures { Appends result out.old out.new (words numbers.now ++ rest.now) }
+fn push_head(
+    code: u32,
+    head: &Head,
+    fields: &[u32],
+    rest: &[u8],
+    out: &mut Bytes,
+) -> Result<(), Memory>
+    requires { 20 + 4 * length fields.now + length rest.now ≡ HEAD_SIZE }
+    ensures { Appends result out.old out.new (words (code ∷ head.now.seqnum ∷ head.now.devid ∷ head.now.direction ∷ head.now.ep ∷ fields.now) ++ rest.now) }
 {
-    let mut head = [0; HEAD_SIZE];
-    let (front, behind) = head.split_at_mut(4 * numbers.len());
-    BigEndian::write_u32_into(numbers, front);
-    behind.copy_from_slice(rest);
-    out.append(&head)
+    let mut start = [0; HEAD_SIZE];
+    let (front, behind) = start.split_at_mut(20);
+    let numbers = [code, head.seqnum, head.devid, head.direction, head.ep];
+    BigEndian::write_u32_into(&numbers, front);
+    let (middle, end) = behind.split_at_mut(4 * fields.len());
+    BigEndian::write_u32_into(fields, middle);
+    end.copy_from_slice(rest);
+    out.append(&start)
 }
 
 // There is room for all of them before the first comes.

@@ -31,13 +31,7 @@ entry id r v asked = record { id = id; load = record { request = r; verdict = v 
 performed-route : {S : Type 0} (m : Meaning S) (h : Host S) (id : ℕ) (r : Request) (x : Route) (asked : Bool) →
     performs_any m h (at_queue (entry id r (Routed x) asked)) ≡ does m h (at_queue (entry id r (Routed x) asked)) (change_in (Routed x)) (m.perform h.gadget (normal_by r (Routed x)))
 performed-route m h id r (route.SetConfig configuration) asked = refl
-performed-route m h id r route.GetConfig asked = refl
-performed-route m h id r (route.SetAlt interface alt) asked = refl
-performed-route m h id r (route.GetAlt interface) asked = refl
-performed-route m h id r route.Reset asked = refl
-performed-route m h id r route.Local asked = refl
-performed-route m h id r route.Plain asked = refl
-performed-route m h id r route.Bad asked = refl
+performed-route m h id r _ asked = refl
 
 pub performed-as : {S : Type 0} (m : Meaning S) (h : Host S) (e : Entry) → performs_any m h (at_queue e) ≡ does m h (at_queue e) (change_in e.load.verdict) (m.perform h.gadget (normal_of e.load))
 performed-as m h e = go e.load.verdict

@@ -1,5 +1,5 @@
 -- The gateway reads an answer, a change's or another's: it ends its submit, or what a former client left.
-use Rattle.std.proofs.Common.{◌≡◌, ℕ, ◌==◌, ◌||◌, not, Bool, true, false, cond, List, [], ◌∷◌, ◌++◌, map, filter, Option, is_some, refl, sym, ap, ◌∙◌, subst, append-nil, inl, inr, ◌⊎◌}
+use Rattle.std.proofs.Common.{◌≡◌, ℕ, ◌==◌, ◌||◌, not, Bool, true, false, cond, List, [], ◌∷◌, ◌++◌, map, filter, Option, is_some, refl, sym, ap, ◌∙◌, subst, append-nil}
 use Rattle.std.specs.List.{list_any, flat_map}
 use Rattle.usbip_urb.specs.declared.client.ClientPacket.TheVariants.{Urb}
 use Rattle.redir_data.specs.declared.packet.RedirPacket.{RedirPacket}
@@ -22,7 +22,7 @@ use Rattle.direct_device.specs.Acting.{Answer}
 use Rattle.direct_proof.specs.Moves.{Made, move, gate_made}
 use Rattle.direct_proof.specs.Requests.{Coming, Debt, ran_of, debts_of, live_of}
 use Rattle.direct_proof.specs.Shared.{Shared, view}
-use Rattle.direct_proof.specs.Tagged.{Tagged, Greeted, Answered, on_wire, runs_in}
+use Rattle.direct_proof.specs.Tagged.{Tagged, Answered, on_wire, runs_in}
 use Rattle.direct_proof.specs.Related.{Related}
 use Rattle.direct_proof.specs.Ids.{Ids}
 use Rattle.direct_proof.specs.Loads.{IsComing}
@@ -31,7 +31,8 @@ use Rattle.direct_proof.proofs.shared.Owed.{ids-answer, each-filter}
 use Rattle.direct_proof.proofs.answers.Answering.{pending_has, live-left, answers-sent, answers-done}
 use Rattle.direct_proof.proofs.answers.Answered.{IsDeed, reads-answer, reads-moved, answer_mark, with_back, way-read}
 use Rattle.direct_proof.proofs.shared.Found.{none-named}
-use Rattle.direct_proof.proofs.shared.Folds.{clash}
+use Rattle.direct_proof.proofs.shared.Backs.{early-greets, farewell-read, session-read}
+use Rattle.direct_proof.proofs.shared.Folds.{clash, not-both}
 use Rattle.direct_proof.proofs.shared.Streaming.{controls-read, fenced-read}
 use Rattle.direct_proof.proofs.shared.Sending.{TellsLittle, answer-tells}
 use Rattle.direct_proof.proofs.shared.Debts.{load-waits, filter-append, debts-left, IsFor, is-for, IsLiveFor, is-live-for}
@@ -77,7 +78,7 @@ module _ {S : Type 0} (m : Meaning S) (w : World S) (j : Shared) (place : ℕ) (
   for = is-for st j.debts w.submits (j.held ++ j.coming) c (runs_in bs) ids (rel.debts there)
 
   pub answer-moved : move m w (GateReads place) ≡ gate_made (record w { to_gate = map on_wire bs }) mark
-  answer-moved = reads-moved m w place for.place c bs rel.answers rel.reads came for.found
+  answer-moved = reads-moved m w place for.place c bs rel.answers rel.sides.reads came for.found
 
   tells : TellsLittle st.facts (tell st.facts fact)
   tells = answer-tells st.facts c
@@ -100,60 +101,36 @@ module _ {S : Type 0} (m : Meaning S) (w : World S) (j : Shared) (place : ℕ) (
 
   answer-related : Related m (record made.world { to_host = w.to_host; submits = w.submits }) answered_shared
   answer-related = record {
-    held = rel.held;
-    half = rel.half;
-    coming = rel.coming;
+    line = rel.line;
     answers = refl;
-    loads = rel.loads;
     tagged = rel.tagged.1;
     ids = ids-answer j.debts w.submits (j.held ++ j.coming) (runs_in bs) c ids;
     real = each-filter (λ (d : Debt). (d.id == 0) ≡ false) (λ (d : Debt). not (d.id == c.id)) j.debts rel.real;
-    calls_in = rel.calls_in;
     runs_at_in = rel.runs_at_in;
+    before = λ h. absurd (not-both (sym (early-greets (Answered c) bs (rel.before h).back)));
+    asked = rel.asked;
     meets = record {
       host = rel.meets.host;
       gate = rel.meets.gate;
-      before = λ h. absurd (not-early (rel.meets.before h).back);
       announced = λ h k. ap (λ (b : Bool). b || list_any is_plug bs) known ∙ rel.meets.announced h k;
-      asked = rel.meets.asked;
       behind = λ h. rel.meets.behind (sym known ∙ h);
-      no_session = λ h k. known ∙ rel.meets.no_session h k;
       once = rel.meets.once.1;
       plugged = rel.meets.plugged;
+      no_session = λ h k. known ∙ rel.meets.no_session h k;
     };
     debts = λ h. (λ i. debts_of (submits-left i) ++ debts_of (filter (λ s. not (has_id c.id s)) st.abandoned))
         ∙ (λ i. debts-left c.id (submits st) i ++ debts-left c.id st.abandoned i)
         ∙ sym (filter-append (λ (d : Debt). not (d.id == c.id)) (debts_of (submits st)) (debts_of st.abandoned)) ∙ ap (filter (λ (d : Debt). not (d.id == c.id))) (rel.debts there);
     controls = λ h. controls-read st.calls w.to_host (Answered c) bs (rel.controls there);
     fenced = λ h. fenced-read st.fence j.fenced w.to_host (Answered c) bs (rel.fenced there);
-    cancels = rel.cancels;
-    behind = rel.behind;
     alone = λ h. let a = rel.alone h in (ap (filter (λ s. not (has_id c.id s))) a.0, a.1);
-    session = λ h a. let s = rel.session there (ap (λ (b : Bool). b || list_any is_plug bs) (sym known) ∙ a) in record {
-      table = s.table;
-      faces = s.faces;
-      clean = s.clean.1;
-      quits = s.quits;
-      trails = s.trails;
-      starts = s.starts;
-      kinds = s.kinds;
-      start_kinds = s.start_kinds;
-    };
+    session = λ h a. session-read m w j (Answered c) bs (rel.session there (ap (λ (b : Bool). b || list_any is_plug bs) (sym known) ∙ a));
     ups = rel.ups;
-    lost = λ h. absurd (clash st.lost h there);
-    reads = rel.reads;
-    refused = rel.refused;
     down = rel.down;
-    gone = rel.gone;
-    seen = rel.seen;
-    still = rel.still;
-    bye = rel.bye;
-    bye_last = rel.bye_last.1;
+    lost = λ h. absurd (clash st.lost h there);
+    sides = rel.sides;
+    farewell = farewell-read w.host (Answered c) bs rel.farewell;
   }
-    where
-      not-early : (Answered c ∷ bs ≡ Greeted ∷ []) ⊎ (Answered c ∷ bs ≡ []) → ⊥
-      not-early (inl e) = cc
-      not-early (inr e) = cc
 
   abbrev later : Shared
   later = answered_shared
@@ -174,7 +151,7 @@ module _ {S : Type 0} (m : Meaning S) (w : World S) (j : Shared) (place : ℕ) (
               (sym (append-nil (debts_of (submits st))) ∙ ap (λ (l : List Submission). debts_of (submits st) ++ debts_of l) (sym (rel.alone inside).0) ∙ rel.debts there)
 
           r : IsDeed m w (with_back j (Answered c ∷ bs)) (move m w (GateReads place)) (with_back j bs) (Answer (number c.load))
-          r = reads-answer m w j place for.place c bs live.pending rel.answers rel.reads inside came for.found live.only live.load-is live.one-is (load-waits c.load.verdict c.load.request.transfer came.load.verdict).0
+          r = reads-answer m w j place for.place c bs live.pending rel.answers rel.sides.reads inside came for.found live.only live.load-is live.one-is (load-waits c.load.verdict c.load.request.transfer came.load.verdict).0
       go false out = keeps-quiet m w (with_back j (Answered c ∷ bs)) answered_shared (move m w (GateReads place)) made.world
           (answer-moved ∙ (λ i. record { world = made.world; outs = none-sent i; deeds = none-done i })) related
           (λ i. record (view w (with_back j (Answered c ∷ bs))) {

@@ -21,7 +21,7 @@ use Rattle.gate_history.specs.client.Requests.{request_of}
 use Rattle.gate_history.specs.state.State.{State, has_number}
 use Rattle.gate_history.specs.client.Submits.{Pending, is_touched}
 use Rattle.gate_history.specs.state.Ups.{Up}
-use Rattle.gate_history.specs.client.Verdict.{Verdict, Now, Wire, Routed, IsoOut, Stream}
+use Rattle.gate_history.specs.client.Verdict.{Verdict, Routed, Stream}
 use Rattle.direct_run.specs.Clients.{IsMove}
 use Rattle.direct_run.specs.Moves.{World, Move, ByClient, HostReads, GateReads, Performs, Offers, Unplugs}
 use Rattle.direct_proof.specs.Kinds.{TaggedOfKind}
@@ -48,11 +48,7 @@ untouched : (x : Route) → is_change x ≡ false → (i : ℕ) → touches x i 
 untouched (route.SetConfig c) h i = absurd (not-both h)
 untouched (route.SetAlt n a) h i = absurd (not-both h)
 untouched route.Reset h i = absurd (not-both h)
-untouched route.Local h i = refl
-untouched route.GetConfig h i = refl
-untouched (route.GetAlt n) h i = refl
-untouched route.Plain h i = refl
-untouched route.Bad h i = refl
+untouched _ h i = refl
 
 ends-none : (st : State) (x : Route) → is_change x ≡ false → EndsNone st x
 ends-none st x h = record { ups = ups st.streams; waiting = waiting st.live }
@@ -66,11 +62,8 @@ ends-none st x h = record { ups = ups st.streams; waiting = waiting st.live }
     ups (o ∷ os) = (stay o, ups os)
 
     spared : (v : Verdict) → is_touched (Routed x) v ≡ false
-    spared (Now status) = refl
-    spared (Wire pipe) = refl
-    spared (Routed y) = refl
-    spared (IsoOut row) = refl
     spared (Stream row) = untouched x h row.interface
+    spared _ = refl
 
     waiting : (ps : List Pending) → Each (λ (p : Pending). is_touched (Routed x) p.submit.verdict ≡ false) ps
     waiting [] = tt
@@ -100,11 +93,9 @@ module _ {S : Type 0} (m : Meaning S) (laws : IsGadget m) (w : World S) (j : Sha
         routed x e false c = race (subst (IsRaceVerdict w.gate) (sym e) (ends-none w.gate x c))
 
         go : (v : Verdict) → verdict_of w.gate (request_of s) ≡ v → Keeps m w j (move m w (ByClient (Asked place (Urb (urb.Submit s)))))
-        go (Now status) e = race (subst (IsRaceVerdict w.gate) (sym e) tt)
-        go (Wire pipe) e = race (subst (IsRaceVerdict w.gate) (sym e) tt)
         go (Routed x) e = routed x e (is_change x) refl
-        go (IsoOut row) e = race (subst (IsRaceVerdict w.gate) (sym e) tt)
         go (Stream row) e = streams (Stream row) e tt
+        go _ e = race (subst (IsRaceVerdict w.gate) (sym e) tt)
 
   -- ---- what is read
 

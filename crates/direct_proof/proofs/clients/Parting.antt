@@ -90,7 +90,7 @@ module _ {S : Type 0} (m : Meaning S) (w : World S) (j : Shared) (rel : Related 
   still-on inside = go st.client_over refl
     where
       go : (b : Bool) → st.client_over ≡ b → b ≡ false
-      go true h = absurd (clash st.imported inside (rel.refused h))
+      go true h = absurd (clash st.imported inside (rel.sides.refused h))
       go false h = refl
 
   keep-parting : (e : Effect) → Leaves st e → Keeps m w j (gate_made w (mark_as st e None))

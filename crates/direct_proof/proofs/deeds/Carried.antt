@@ -36,9 +36,7 @@ perform-items submits ep b (Some r) = refl
 
 pub offer-items : (ep : ℕ) (o : Offered) → map deed_item (offered_deed ep o) ≡ offered_item ep o
 offer-items ep offered.Sent = refl
-offer-items ep offered.Nothing = refl
-offer-items ep offered.Closed = refl
-offer-items ep offered.Unplugged = refl
+offer-items ep _ = refl
 
 -- ---- requests
 
@@ -102,6 +100,4 @@ perform-requests submits ep (Some r) = refl
 
 pub offer-requests : (ep : ℕ) (o : Offered) → flat_map request_in (offered_deed ep o) ≡ []
 offer-requests ep offered.Sent = refl
-offer-requests ep offered.Nothing = refl
-offer-requests ep offered.Closed = refl
-offer-requests ep offered.Unplugged = refl
+offer-requests ep _ = refl

@@ -5,7 +5,7 @@ use Rattle.std.proofs.lemmas.Grind.{flat_map-append}
 use Rattle.usb_base.specs.declared.refusal.Refusal.{Refusal}
 use Rattle.gate_history.specs.declared.note.Note.{Note}
 use Rattle.gate_history.specs.declared.note.Note.TheVariants as note
-use Rattle.gate_history.specs.step.Marks.{Submission, Effect, Idle, Replies, Imports, Opens, Waits, Arrives, Unlinks, Agrees, Answers, StreamTold, Disconnects, Ends, Refuses, Mark}
+use Rattle.gate_history.specs.step.Marks.{Submission, Effect, Imports, Mark}
 use Rattle.gate_history.specs.state.Sides.{refused_at, leaves, is_loss}
 use Rattle.gate_history.specs.client.Submits.{Pending, opened, ends}
 use Rattle.gate_history.specs.state.State.{State}
@@ -22,50 +22,15 @@ flat-ones : {X : Type 0} (f : X → Note) (g : X → Item) → ((x : X) → item
 flat-ones f g h [] = refl
 flat-ones f g h (x ∷ xs) = λ i. h x i ++ flat-ones f g h xs i
 
-imports : (e : Effect) → map deed_item (import_deeds e) ≡ flat_map item_of (import_notes e)
-imports (Imports reply) = refl
-imports Idle = refl
-imports (Replies reply) = refl
-imports (Opens s) = refl
-imports (Waits s fill) = refl
-imports (Unlinks by target) = refl
-imports (Agrees caps) = refl
-imports (Answers id o) = refl
-imports (Arrives ep fill) = refl
-imports (StreamTold id ep status) = refl
-imports (Disconnects id) = refl
-imports (Ends side) = refl
-imports (Refuses r) = refl
+-- what one effect tells: an import, an unlink, what came
+record Tells (e : Effect) : Type 0 where
+  imports : map deed_item (import_deeds e) ≡ flat_map item_of (import_notes e)
+  unlinks : map deed_item (unlink_deeds e) ≡ flat_map item_of (unlink_notes e)
+  arrives : map deed_item (arrive_deeds e) ≡ flat_map item_of (arrival_notes e)
 
-unlinks : (e : Effect) → map deed_item (unlink_deeds e) ≡ flat_map item_of (unlink_notes e)
-unlinks (Imports reply) = refl
-unlinks Idle = refl
-unlinks (Replies reply) = refl
-unlinks (Opens s) = refl
-unlinks (Waits s fill) = refl
-unlinks (Unlinks by target) = refl
-unlinks (Agrees caps) = refl
-unlinks (Answers id o) = refl
-unlinks (Arrives ep fill) = refl
-unlinks (StreamTold id ep status) = refl
-unlinks (Disconnects id) = refl
-unlinks (Ends side) = refl
-unlinks (Refuses r) = refl
-
-arrives : (e : Effect) → map deed_item (arrive_deeds e) ≡ flat_map item_of (arrival_notes e)
-arrives (Imports reply) = refl
-arrives Idle = refl
-arrives (Replies reply) = refl
-arrives (Opens s) = refl
-arrives (Waits s fill) = refl
-arrives (Unlinks by target) = refl
-arrives (Agrees caps) = refl
-arrives (Answers id o) = refl
-arrives (Arrives ep fill) = refl
-arrives (StreamTold id ep status) = refl
-arrives (Disconnects id) = refl
-arrives (Ends side) = refl
-arrives (Refuses r) = refl
+tells : (e : Effect) → Tells e
+tells (Imports reply) = record { imports = refl; unlinks = refl; arrives = refl }
+tells _ = record { imports = refl; unlinks = refl; arrives = refl }
 
 submits-told : (e : Effect) → map deed_item (submit_deeds e) ≡ flat_map item_of (submit_notes e)
 submits-told e = go (opened e)
@@ -103,9 +68,9 @@ told-deeds st m =
     let e = m.what in
     let lost : Bool = is_loss m.what && st.imported && not st.lost in
     let left : Bool = leaves m.what && not st.client_over in
-    let a = beside (import_deeds e) (submit_deeds e) (import_notes e) (submit_notes e) (imports e) (submits-told e) in
-    let b = beside (import_deeds e ++ submit_deeds e) (unlink_deeds e) (import_notes e ++ submit_notes e) (unlink_notes e) a (unlinks e) in
-    let c = beside (import_deeds e ++ submit_deeds e ++ unlink_deeds e) (arrive_deeds e) (import_notes e ++ submit_notes e ++ unlink_notes e) (arrival_notes e) b (arrives e) in
+    let a = beside (import_deeds e) (submit_deeds e) (import_notes e) (submit_notes e) (tells e).imports (submits-told e) in
+    let b = beside (import_deeds e ++ submit_deeds e) (unlink_deeds e) (import_notes e ++ submit_notes e) (unlink_notes e) a (tells e).unlinks in
+    let c = beside (import_deeds e ++ submit_deeds e ++ unlink_deeds e) (arrive_deeds e) (import_notes e ++ submit_notes e ++ unlink_notes e) (arrival_notes e) b (tells e).arrives in
     let d = beside (import_deeds e ++ submit_deeds e ++ unlink_deeds e ++ arrive_deeds e) (answer_deeds st e) (import_notes e ++ submit_notes e ++ unlink_notes e ++ arrival_notes e) (answer_notes st e) c (answers-told st e) in
     let f = beside (import_deeds e ++ submit_deeds e ++ unlink_deeds e ++ arrive_deeds e ++ answer_deeds st e) (when_deed lost Gone) (import_notes e ++ submit_notes e ++ unlink_notes e ++ arrival_notes e ++ answer_notes st e) (when lost note.DeviceGone) d (gone-told lost) in
     let g = beside (import_deeds e ++ submit_deeds e ++ unlink_deeds e ++ arrive_deeds e ++ answer_deeds st e ++ when_deed lost Gone) (when_deed left ClientGone) (import_notes e ++ submit_notes e ++ unlink_notes e ++ arrival_notes e ++ answer_notes st e ++ when lost note.DeviceGone) (when left note.ClientGone) f (left-told left) in

@@ -23,7 +23,7 @@ use Rattle.redir_host.specs.step.Moves.{quiet as host_quiet}
 use Rattle.redir_host.specs.guest.Packets.{packet_move_by, data_move, joins, queued, request}
 use Rattle.redir_host.specs.state.Queues.{is_first_queue}
 use Rattle.gate_history.specs.client.Requests.{Request}
-use Rattle.gate_history.specs.client.Verdict.{Verdict, Control, Bulk, InterruptOut, Now, Wire, Routed, IsoOut, Stream, changes}
+use Rattle.gate_history.specs.client.Verdict.{Verdict, Control, Bulk, InterruptOut, Wire, Routed, changes}
 use Rattle.direct_device.specs.Direct.{normal_of}
 use Rattle.direct_proof.specs.Requests.{Entry, at_queue, form_of, form_by, queued_transfer, resets}
 use Rattle.direct_proof.specs.Shared.{in_line}
@@ -60,25 +60,17 @@ data-form (moving.Interrupt ep status told body) f t e = inside f t (is_in_endpo
 
 pub heard : {S : Type 0} (m : Meaning S) (h : Host S) (p : ℕ × RedirPacket) → IsAsking p.1 → Heard m h p
 heard m h (id, Plain (plain.Hello x)) k = absurd k
-heard m h (id, Plain (plain.Connect x)) k = Ignored refl refl (refl, refl, λ ep b. refl) (λ fence. refl) refl
-heard m h (id, Plain plain.Disconnect) k = Ignored refl refl (refl, refl, λ ep b. refl) (λ fence. refl) refl
 heard m h (id, Plain plain.Reset) k = Resetting refl
-heard m h (id, Plain (plain.InterfaceInfo x)) k = Ignored refl refl (refl, refl, λ ep b. refl) (λ fence. refl) refl
-heard m h (id, Plain (plain.EpInfo x)) k = Ignored refl refl (refl, refl, λ ep b. refl) (λ fence. refl) refl
 heard m h (id, Plain (plain.SetConfiguration c)) k = Joins (form.SetConfiguration c) (routed (route.SetConfig c)) refl refl (refl, refl, λ ep b. refl) (λ fence. refl) refl
 heard m h (id, Plain plain.GetConfiguration) k = Joins form.GetConfiguration (routed route.GetConfig) refl refl (refl, refl, λ ep b. refl) (λ fence. refl) refl
-heard m h (id, Plain (plain.ConfigurationStatus s c)) k = Ignored refl refl (refl, refl, λ ep b. refl) (λ fence. refl) refl
 heard m h (id, Plain (plain.SetAlt i a)) k = Joins (form.SetAlt i a) (routed (route.SetAlt i a)) refl refl (refl, refl, λ ep b. refl) (λ fence. refl) refl
 heard m h (id, Plain (plain.GetAlt i)) k = Joins (form.GetAlt i) (routed (route.GetAlt i)) refl refl (refl, refl, λ ep b. refl) (λ fence. refl) refl
-heard m h (id, Plain (plain.AltStatus s i a)) k = Ignored refl refl (refl, refl, λ ep b. refl) (λ fence. refl) refl
 heard m h (id, Plain (plain.StartIso e n c)) k = Calling refl
 heard m h (id, Plain (plain.StopIso e)) k = Calling refl
-heard m h (id, Plain (plain.IsoStatus s e)) k = Ignored refl refl (refl, refl, λ ep b. refl) (λ fence. refl) refl
 heard m h (id, Plain (plain.StartInterrupt e)) k = Calling refl
 heard m h (id, Plain (plain.StopInterrupt e)) k = Calling refl
-heard m h (id, Plain (plain.InterruptStatus s e)) k = Ignored refl refl (refl, refl, λ ep b. refl) (λ fence. refl) refl
 heard m h (id, Plain plain.Cancel) k = Cancelling refl
-heard m h (id, Plain plain.DisconnectAck) k = Ignored refl refl (refl, refl, λ ep b. refl) (λ fence. refl) refl
+heard m h (id, Plain _) k = Ignored refl refl (refl, refl, λ ep b. refl) (λ fence. refl) refl
 heard m h (id, Carrying d) k = go (asking_of d) refl k
   where
     go : (a : Asking) → asking_of d ≡ a → CanAsk a → Heard m h (id, Carrying d)
@@ -89,43 +81,15 @@ heard m h (id, Carrying d) k = go (asking_of d) refl k
 -- its packet isn't the hello
 pub not-greeting : (s : RedirState) (p : RedirPacket) → IsAsking p → advanced s p ≡ s
 not-greeting s (Plain (plain.Hello x)) k = absurd k
-not-greeting s (Plain (plain.Connect x)) k = refl
-not-greeting s (Plain plain.Disconnect) k = refl
-not-greeting s (Plain plain.Reset) k = refl
-not-greeting s (Plain (plain.InterfaceInfo x)) k = refl
-not-greeting s (Plain (plain.EpInfo x)) k = refl
-not-greeting s (Plain (plain.SetConfiguration c)) k = refl
-not-greeting s (Plain plain.GetConfiguration) k = refl
-not-greeting s (Plain (plain.ConfigurationStatus x c)) k = refl
-not-greeting s (Plain (plain.SetAlt i a)) k = refl
-not-greeting s (Plain (plain.GetAlt i)) k = refl
-not-greeting s (Plain (plain.AltStatus x i a)) k = refl
-not-greeting s (Plain (plain.StartIso e n c)) k = refl
-not-greeting s (Plain (plain.StopIso e)) k = refl
-not-greeting s (Plain (plain.IsoStatus x e)) k = refl
-not-greeting s (Plain (plain.StartInterrupt e)) k = refl
-not-greeting s (Plain (plain.StopInterrupt e)) k = refl
-not-greeting s (Plain (plain.InterruptStatus x e)) k = refl
-not-greeting s (Plain plain.Cancel) k = refl
-not-greeting s (Plain plain.DisconnectAck) k = refl
-not-greeting s (Carrying d) k = refl
+not-greeting s _ k = refl
 
 -- a change goes by its form, and so does no other, but for a reset
 pub change-form : (r : Request) (v : Verdict) → changes v ≡ (resets v || form_changes (form_by r v))
-change-form r (Now status) = refl
 change-form r (Wire Control) = refl
 change-form r (Wire Bulk) = refl
 change-form r (Wire InterruptOut) = refl
 change-form r (Routed (route.SetConfig c)) = refl
-change-form r (Routed route.GetConfig) = refl
-change-form r (Routed (route.SetAlt i a)) = refl
-change-form r (Routed (route.GetAlt i)) = refl
-change-form r (Routed route.Reset) = refl
-change-form r (Routed route.Local) = refl
-change-form r (Routed route.Plain) = refl
-change-form r (Routed route.Bad) = refl
-change-form r (IsoOut row) = refl
-change-form r (Stream row) = refl
+change-form r _ = refl
 
 -- it joins as the entry stands at the queue, with the mark of a reset that was read before it
 pub joined : {S : Type 0} (h : Host S) (e : Entry) (id : ℕ) (f : Form) (t : Transfer) → h.resets_next ≡ resets e.load.verdict → id ≡ e.id → f ≡ form_of e.load → t ≡ queued_transfer e.load →

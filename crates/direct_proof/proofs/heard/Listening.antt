@@ -1,6 +1,5 @@
 -- The host reads what asks it for a transfer, or the reset before it: it joins its queue as it stands there.
 use Rattle.std.proofs.Common.{◌≡◌, ℕ, ◌||◌, Bool, true, false, cond, List, [], ◌∷◌, ◌++◌, map, Option, None, refl, sym, ap, ◌∙◌, subst, append-nil, append_assoc}
-use Rattle.std.proofs.lemmas.List.Folds.{list_any-append}
 use Rattle.usb_base.specs.declared.transfer.Transfer.{Transfer}
 use Rattle.redir_data.specs.declared.packet.RedirPacket.{RedirPacket}
 use Rattle.redir_data.specs.Streams.{advanced}
@@ -16,7 +15,7 @@ use Rattle.gate_history.specs.write.Bytes.{gateway_hello}
 use Rattle.direct_run.specs.Moves.{World, HostReads}
 use Rattle.direct_proof.specs.Moves.{move, quiet, host_reads, host_takes}
 use Rattle.direct_proof.specs.Requests.{Entry, at_queue, at_device}
-use Rattle.direct_proof.specs.Shared.{Shared, in_line, lines, half_line, view}
+use Rattle.direct_proof.specs.Shared.{Shared, in_line, lines, half_line, at_hosts, view}
 use Rattle.direct_proof.specs.Tagged.{runs_in}
 use Rattle.direct_proof.specs.Related.{Related}
 use Rattle.direct_proof.specs.Loads.{IsLoad}
@@ -27,7 +26,7 @@ use Rattle.direct_proof.specs.Running.{Quits, Trails, StartsFit, started_kind, c
 use Rattle.direct_proof.specs.Kinds.{StartOfKind, CallIsIn}
 use Rattle.direct_proof.specs.Session.{down_in, runs}
 use Rattle.direct_proof.specs.Calls.{Fenced, Controls}
-use Rattle.direct_proof.proofs.shared.Folds.{clash, Next, next-line}
+use Rattle.direct_proof.proofs.shared.Folds.{clash, any-append, Next, next-line}
 use Rattle.direct_proof.proofs.shared.Streaming.{IsQuiet, controls-heard, fenced-heard}
 use Rattle.direct_proof.proofs.heard.Hears.{not-greeting, form_changes, change-form, joined}
 use Rattle.direct_proof.proofs.shared.Traces.{map-append}
@@ -41,7 +40,7 @@ greeted m w j p ps rel wire true first k = absurd (subst (λ (x : ℕ × RedirPa
     heads x y xs ys e = cc
 
     same : p ≡ (0, gateway_hello)
-    same = heads p (0, gateway_hello) ps [] (sym wire ∙ (rel.meets.before first).wire)
+    same = heads p (0, gateway_hello) ps [] (sym wire ∙ (rel.before first).wire)
 greeted m w j p ps rel wire false first k = refl
 
 -- what the host reads, where it sends nothing and tells nothing
@@ -67,60 +66,75 @@ read_world w ps queue next = record w { to_host = ps; to_gate = w.to_gate ++ [];
 abbrev pub joined_shared : Shared → Entry → List Entry → Shared
 joined_shared j e es = record j { held = j.held ++ e ∷ []; half = false; coming = es }
 
-after-joined : {S : Type 0} (m : Meaning S) (w : World S) (j : Shared) (p : ℕ × RedirPacket) (ps : List (ℕ × RedirPacket)) (f : Form) (t : Transfer) (queue : List HostRequest) (next : Bool) → Related m w j → w.to_host ≡ p ∷ ps → w.host.guest.first ≡ false →
-    begins p.1 ≡ true → IsQuiet p → ((fence : Option ℕ) → asks fence p ≡ form_changes f) → (n : Next j.half p.0 f t (lines ps) j.coming) →
-    queue ≡ cond w.host.unplugged [] (map at_queue (j.held ++ n.entry ∷ [])) → (w.host.unplugged ≡ false → next ≡ false) →
-    Related m (read_world w ps queue next) (joined_shared j n.entry n.rest)
-after-joined {S = S} m w j p ps f t queue next rel wire first begin calm asked n queued marked = record {
-  held = queued;
-  half = marked;
-  coming = n.others;
-  answers = append-nil w.to_gate ∙ rel.answers;
-  loads = subst (Each (λ (e : Entry). IsLoad e.load)) same rel.loads;
-  tagged = rel.tagged;
-  ids = subst (λ (l : List Entry). Ids j.debts w.submits l (runs_in j.back)) same rel.ids;
-  real = rel.real;
-  calls_in = (subst (Each (λ (q : ℕ × RedirPacket). CallIsIn (called_endpoint q.1))) wire rel.calls_in).1;
-  runs_at_in = rel.runs_at_in;
-  meets = record {
-    host = rel.meets.host;
-    gate = rel.meets.gate;
-    before = λ h. absurd (clash w.host.guest.first h first);
-    announced = rel.meets.announced;
-    asked = λ h. (subst (Each (λ (q : ℕ × RedirPacket). IsAsking q.1)) wire (rel.meets.asked h)).1;
-    behind = rel.meets.behind;
-    no_session = rel.meets.no_session;
-    once = rel.meets.once;
-    plugged = rel.meets.plugged;
+-- how what waits and what comes stand once a packet is read that sends nothing, and starts and stops no stream
+pub record Heard {S : Type 0} (w : World S) (j : Shared) (p : ℕ × RedirPacket) (ps : List (ℕ × RedirPacket)) (queue : List HostRequest) (next : Bool) (held : List Entry) (half : Bool) (coming : List Entry) : Type 0 where
+  pub queued : queue ≡ cond w.host.unplugged [] (map at_queue held)
+  pub marked : w.host.unplugged ≡ false → next ≡ half
+  pub line : half_line half ++ lines ps ≡ at_hosts coming
+  pub same : j.held ++ j.coming ≡ held ++ coming
+  pub cancels : CancelsFit held ps coming
+  pub changed : ((any_change j.held || j.half) || asks None p) ≡ (any_change held || half)
+
+abbrev pub heard_shared : Shared → List Entry → Bool → List Entry → Shared
+heard_shared j held half coming = record j { held = held; half = half; coming = coming }
+
+pub after-heard : {S : Type 0} (m : Meaning S) (w : World S) (j : Shared) (p : ℕ × RedirPacket) (ps : List (ℕ × RedirPacket)) (queue : List HostRequest) (next : Bool) (held : List Entry) (half : Bool) (coming : List Entry) → Related m w j → w.to_host ≡ p ∷ ps → w.host.guest.first ≡ false →
+    IsQuiet p → Heard w j p ps queue next held half coming → Related m (read_world w ps queue next) (heard_shared j held half coming)
+after-heard m w j p ps queue next held half coming rel wire first calm h = record {
+  line = record {
+    held = h.queued;
+    half = h.marked;
+    coming = h.line;
+    loads = subst (Each (λ (e : Entry). IsLoad e.load)) h.same rel.line.loads;
+    calls_in = (subst (Each (λ (q : ℕ × RedirPacket). CallIsIn (called_endpoint q.1))) wire rel.line.calls_in).1;
+    cancels = h.cancels;
+    behind = subst Behind h.same rel.line.behind;
   };
+  answers = append-nil w.to_gate ∙ rel.answers;
+  tagged = rel.tagged;
+  ids = subst (λ (l : List Entry). Ids j.debts w.submits l (runs_in j.back)) h.same rel.ids;
+  real = rel.real;
+  runs_at_in = rel.runs_at_in;
+  before = λ k. absurd (clash w.host.guest.first k first);
+  asked = λ k. (subst (Each (λ (q : ℕ × RedirPacket). IsAsking q.1)) wire (rel.asked k)).1;
+  meets = rel.meets;
   debts = rel.debts;
-  controls = λ h. controls-heard w.gate.calls p ps j.back (subst (λ (l : List (ℕ × RedirPacket)). Controls w.gate.calls l j.back) wire (rel.controls h));
-  fenced = λ h. fenced-heard w.gate.fence j.fenced p ps j.back (subst (λ (l : List (ℕ × RedirPacket)). Fenced w.gate.fence j.fenced l j.back) wire (rel.fenced h));
-  cancels = subst (λ (l : List Entry). CancelsFit (moved true j.held l) ps (left true l)) n.is
-      (subst (λ (b : Bool). CancelsFit (moved b j.held j.coming) ps (left b j.coming)) begin (subst (λ (l : List (ℕ × RedirPacket)). CancelsFit j.held l j.coming) wire rel.cancels).1);
-  behind = subst Behind same rel.behind;
+  controls = λ k. controls-heard w.gate.calls p ps j.back (subst (λ (l : List (ℕ × RedirPacket)). Controls w.gate.calls l j.back) wire (rel.controls k));
+  fenced = λ k. fenced-heard w.gate.fence j.fenced p ps j.back (subst (λ (l : List (ℕ × RedirPacket)). Fenced w.gate.fence j.fenced l j.back) wire (rel.fenced k));
   alone = rel.alone;
-  session = λ h a. let s = rel.session h a in record {
+  session = λ k a. let s = rel.session k a in record {
     table = s.table;
     faces = s.faces;
-    clean = subst (λ (l : List Entry). Clean w.gate.fence (down_in w.gate.streams) (any_change l || j.fenced) j.back) same s.clean;
+    clean = subst (λ (l : List Entry). Clean w.gate.fence (down_in w.gate.streams) (any_change l || j.fenced) j.back) h.same s.clean;
     quits = λ ep d. subst (λ (b : Bool). Quits w.gate.fence ep b ps) (calm.2 ep (runs w.host ep)) (subst (Quits w.gate.fence ep (runs w.host ep)) wire (s.quits ep d)).1;
     trails = (subst (Trails w.gate.fence (down_in w.gate.streams)) wire s.trails).1;
-    starts = subst (λ (b : Bool). StartsFit (m.table w.host.gadget) b ps) changed (subst (StartsFit (m.table w.host.gadget) (any_change j.held || j.half)) wire s.starts).1;
+    starts = subst (λ (b : Bool). StartsFit (m.table w.host.gadget) b ps) h.changed (subst (StartsFit (m.table w.host.gadget) (any_change j.held || j.half)) wire s.starts).1;
     kinds = s.kinds;
     start_kinds = (subst (Each (λ (q : ℕ × RedirPacket). StartOfKind w.gate.streams (started_kind q.1))) wire s.start_kinds).1;
   };
   ups = rel.ups;
-  lost = rel.lost;
-  reads = rel.reads;
-  refused = rel.refused;
   down = rel.down;
-  gone = rel.gone;
-  seen = rel.seen;
-  still = rel.still;
-  bye = rel.bye;
-  bye_last = rel.bye_last;
+  lost = rel.lost;
+  sides = rel.sides;
+  farewell = rel.farewell;
 }
+
+-- cancels behind the packet
+pub cancels-heard : {S : Type 0} (m : Meaning S) (w : World S) (j : Shared) (p : ℕ × RedirPacket) (ps : List (ℕ × RedirPacket)) (b : Bool) → Related m w j → w.to_host ≡ p ∷ ps → begins p.1 ≡ b → CancelsFit (moved b j.held j.coming) ps (left b j.coming)
+cancels-heard m w j p ps b rel wire begin = subst (λ (x : Bool). CancelsFit (moved x j.held j.coming) ps (left x j.coming)) begin (subst (λ (l : List (ℕ × RedirPacket)). CancelsFit j.held l j.coming) wire rel.line.cancels).1
+
+after-joined : {S : Type 0} (m : Meaning S) (w : World S) (j : Shared) (p : ℕ × RedirPacket) (ps : List (ℕ × RedirPacket)) (f : Form) (t : Transfer) (queue : List HostRequest) (next : Bool) → Related m w j → w.to_host ≡ p ∷ ps → w.host.guest.first ≡ false →
+    begins p.1 ≡ true → IsQuiet p → ((fence : Option ℕ) → asks fence p ≡ form_changes f) → (n : Next j.half p.0 f t (lines ps) j.coming) →
+    queue ≡ cond w.host.unplugged [] (map at_queue (j.held ++ n.entry ∷ [])) → (w.host.unplugged ≡ false → next ≡ false) →
+    Related m (read_world w ps queue next) (joined_shared j n.entry n.rest)
+after-joined {S = S} m w j p ps f t queue next rel wire first begin calm asked n queued marked = after-heard m w j p ps queue next (j.held ++ n.entry ∷ []) false n.rest rel wire first calm (record {
+  queued = queued;
+  marked = marked;
+  line = n.others;
+  same = same;
+  cancels = subst (λ (l : List Entry). CancelsFit (moved true j.held l) ps (left true l)) n.is (cancels-heard m w j p ps true rel wire begin);
+  changed = changed;
+})
   where
     same : j.held ++ j.coming ≡ (j.held ++ n.entry ∷ []) ++ n.rest
     same = ap (λ (l : List Entry). j.held ++ l) n.is ∙ sym (append_assoc j.held (n.entry ∷ []) n.rest)
@@ -129,14 +143,14 @@ after-joined {S = S} m w j p ps f t queue next rel wire first begin calm asked n
     is-change = (λ i. sym n.reset i || (asked None ∙ ap form_changes n.same_form) i) ∙ sym (change-form n.entry.load.request n.entry.load.verdict)
 
     changed : ((any_change j.held || j.half) || asks None p) ≡ (any_change (j.held ++ n.entry ∷ []) || false)
-    changed = sums (any_change j.held) j.half (asks None p) ∙ (λ i. (any_change j.held || (is-change i || false)) || false) ∙ ap (λ (b : Bool). b || false) (sym (list_any-append is_change j.held (n.entry ∷ [])))
+    changed = sums (any_change j.held) j.half (asks None p) ∙ (λ i. (any_change j.held || (is-change i || false)) || false) ∙ ap (λ (b : Bool). b || false) (sym (any-append is_change j.held (n.entry ∷ [])))
 
 pub keep-joined : {S : Type 0} (m : Meaning S) (w : World S) (j : Shared) (p : ℕ × RedirPacket) (ps : List (ℕ × RedirPacket)) (f : Form) (t : Transfer) → Related m w j → w.to_host ≡ p ∷ ps → IsAsking p.1 → w.host.guest.first ≡ false →
     in_line p ≡ Waits 0 p.0 f t ∷ [] → begins p.1 ≡ true → IsQuiet p → ((fence : Option ℕ) → asks fence p ≡ form_changes f) → packet_move_by m w.host p.0 p.1 ≡ joins w.host p.0 f t → Keeps m w j (move m w HostReads)
 keep-joined {S = S} m w j p ps f t rel wire k first line begin calm asked host = go w.host.unplugged refl
   where
     n : Next j.half p.0 f t (lines ps) j.coming
-    n = next-line j.half p.0 f t (lines ps) j.coming (ap (λ (l : List InLine). half_line j.half ++ (l ++ lines ps)) (sym line) ∙ ap (λ (l : List (ℕ × RedirPacket)). half_line j.half ++ lines l) (sym wire) ∙ rel.coming)
+    n = next-line j.half p.0 f t (lines ps) j.coming (ap (λ (l : List InLine). half_line j.half ++ (l ++ lines ps)) (sym line) ∙ ap (λ (l : List (ℕ × RedirPacket)). half_line j.half ++ lines l) (sym wire) ∙ rel.line.coming)
 
     e : Entry
     e = n.entry
@@ -154,11 +168,11 @@ keep-joined {S = S} m w j p ps f t rel wire k first line begin calm asked host =
     go true off = keeps-quiet m w j later (move m w HostReads) (read_world w ps w.host.queue w.host.resets_next)
         (host-reads m w p ps w.host wire k true off (λ z. absurd (clash true refl z)))
         (after-joined m w j p ps f t w.host.queue w.host.resets_next rel wire first begin calm asked n
-        (rel.held ∙ ap (λ (b : Bool). cond b [] (map at_queue j.held)) off ∙ ap (λ (b : Bool). cond b [] (map at_queue (j.held ++ e ∷ []))) (sym off)) (λ h. absurd (clash w.host.unplugged off h)))
+        (rel.line.held ∙ ap (λ (b : Bool). cond b [] (map at_queue j.held)) off ∙ ap (λ (b : Bool). cond b [] (map at_queue (j.held ++ e ∷ []))) (sym off)) (λ h. absurd (clash w.host.unplugged off h)))
         (waits w)
     go false on = keeps-quiet m w j later (move m w HostReads) (read_world w ps (w.host.queue ++ at_queue e ∷ []) false)
         (host-reads m w p ps (record w.host { queue = w.host.queue ++ at_queue e ∷ []; resets_next = false }) wire k false on
-        (λ z. host ∙ ap host_quiet (joined w.host e p.0 f t (rel.half on ∙ sym n.reset) n.same_id n.same_form n.same_transfer)))
+        (λ z. host ∙ ap host_quiet (joined w.host e p.0 f t (rel.line.half on ∙ sym n.reset) n.same_id n.same_form n.same_transfer)))
         (after-joined m w j p ps f t (w.host.queue ++ at_queue e ∷ []) false rel wire first begin calm asked n
-        ((λ i. (rel.held ∙ ap (λ (b : Bool). cond b [] (map at_queue j.held)) on) i ++ at_queue e ∷ []) ∙ sym (map-append at_queue j.held (e ∷ [])) ∙ ap (λ (b : Bool). cond b [] (map at_queue (j.held ++ e ∷ []))) (sym on)) (λ h. refl))
+        ((λ i. (rel.line.held ∙ ap (λ (b : Bool). cond b [] (map at_queue j.held)) on) i ++ at_queue e ∷ []) ∙ sym (map-append at_queue j.held (e ∷ [])) ∙ ap (λ (b : Bool). cond b [] (map at_queue (j.held ++ e ∷ []))) (sym on)) (λ h. refl))
         (waits w)

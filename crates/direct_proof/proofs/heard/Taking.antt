@@ -1,7 +1,6 @@
 -- A cancel that the host reads: it takes its request off the queue, or comes too late.
 use Rattle.std.proofs.Common.{◌≡◌, ℕ, ◌==◌, ◌||◌, ◌&&◌, Bool, true, false, cond, List, [], ◌∷◌, ◌++◌, map, Some, None, refl, sym, ap, ◌∙◌, subst, arith, append-nil, inl, inr, ◌⊎◌}
 use Rattle.std.specs.List.{find}
-use Rattle.std.proofs.Math.Bool.{or-false}
 use Rattle.usb_base.specs.declared.transfer.Outcome.{Outcome}
 use Rattle.usb_base.specs.declared.status.UsbStatus.TheVariants.{Cancelled}
 use Rattle.redir_wire.specs.declared.packet.RedirControl.TheVariants as plain
@@ -32,7 +31,7 @@ use Rattle.direct_proof.specs.Cancels.{IsAsked, CancelsFit, any_change}
 use Rattle.direct_proof.proofs.lists.Counts.{Each-front, itself}
 use Rattle.direct_proof.proofs.shared.Owed.{each-parts}
 use Rattle.direct_proof.proofs.shared.WireBack.{way-answer, ran-answer}
-use Rattle.direct_proof.proofs.shared.Folds.{clash}
+use Rattle.direct_proof.proofs.shared.Folds.{clash, or-false}
 use Rattle.direct_proof.proofs.shared.Ran.{Held, held-parts, coming_of, after-ran}
 use Rattle.direct_proof.proofs.shared.Sending.{sent_shared}
 use Rattle.direct_proof.proofs.heard.Listening.{read_world}
@@ -89,7 +88,7 @@ keep-cancel {S = S} m w j id ps rel wire first = go w.host.unplugged refl
         taken_world l = record w { to_host = ps; to_gate = l; host = record w.host { queue = map at_queue (t.front ++ t.back) } }
 
         load : IsLoad e.load
-        load = (each-parts (λ (x : Entry). IsLoad x.load) t.front e (t.back ++ j.coming) (subst (Each (λ (x : Entry). IsLoad x.load)) held.inside rel.loads)).0
+        load = (each-parts (λ (x : Entry). IsLoad x.load) t.front e (t.back ++ j.coming) (subst (Each (λ (x : Entry). IsLoad x.load)) held.inside rel.line.loads)).0
 
         named : number_in id w.submits ≡ number e.load
         named =
@@ -100,7 +99,7 @@ keep-cancel {S = S} m w j id ps rel wire first = go w.host.unplugged refl
             same-id h = grind (arith, h)
 
         asked : (e.id == id) ≡ true → e.asked ≡ true
-        asked = (each-parts (IsAsked id) t.front e t.back (subst (Each (IsAsked id)) t.is ((subst (λ (l : List (ℕ × RedirPacket)). CancelsFit j.held l j.coming) wire rel.cancels).0 refl))).0
+        asked = (each-parts (IsAsked id) t.front e t.back (subst (Each (IsAsked id)) t.is ((subst (λ (l : List (ℕ × RedirPacket)). CancelsFit j.held l j.coming) wire rel.line.cancels).0 refl))).0
 
         others : Each (λ (x : Entry). (number x.load == number e.load) ≡ false) (t.front ++ (t.back ++ j.coming))
         others = alone-numbered m w j t.front e t.back rel held
@@ -118,7 +117,7 @@ keep-cancel {S = S} m w j id ps rel wire first = go w.host.unplugged refl
             (ap (λ (l : List Entry). find (is_cancelled_by (number e.load)) (map at_device l)) held.inside ∙ r.0, ap (λ (l : List Entry). without_first (is_cancelled_by (number e.load)) (map at_device l)) held.inside ∙ r.1)
 
         read : Related m (read_world w ps w.host.queue w.host.resets_next) j
-        read = after-silent m w j p ps j.half w.host.resets_next rel wire first refl (refl, refl, λ ep b. refl) (ap (λ (l : List (ℕ × RedirPacket)). half_line j.half ++ lines l) (sym wire) ∙ rel.coming) (or-false (any_change j.held || j.half)) rel.half
+        read = after-silent m w j p ps j.half w.host.resets_next rel wire first refl (refl, refl, λ ep b. refl) (ap (λ (l : List (ℕ × RedirPacket)). half_line j.half ++ lines l) (sym wire) ∙ rel.line.coming) (or-false (any_change j.held || j.half)) rel.line.half
 
         moved : move m w HostReads ≡ record { world = taken_world (w.to_gate ++ on_wire (Answered c) ∷ []); outs = []; deeds = Cancel (number_in id w.submits) ∷ [] }
         moved = ap (host_reads m w) wire ∙ ap (host_takes (record w { to_host = ps }))
@@ -132,7 +131,7 @@ keep-cancel {S = S} m w j id ps rel wire first = go w.host.unplugged refl
 
     go : (b : Bool) → w.host.unplugged ≡ b → Keeps m w j (move m w HostReads)
     go true off = ignored (λ h. absurd (clash w.host.unplugged off h))
-    go false there = by (taken id j.held (Each-front (λ (e : Entry). IsLoad e.load) j.held j.coming rel.loads))
+    go false there = by (taken id j.held (Each-front (λ (e : Entry). IsLoad e.load) j.held j.coming rel.line.loads))
       where
         by : (find (is_taken_by id) (map at_queue j.held) ≡ None) ⊎ Taken id j.held → Keeps m w j (move m w HostReads)
         by (inl none) = ignored (λ h. ap (cancel_move w.host id) (ap (find (is_taken_by id)) (queue-held m w j rel there) ∙ none))

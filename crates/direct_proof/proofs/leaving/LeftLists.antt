@@ -11,7 +11,7 @@ use Rattle.direct_proof.specs.Cancels.{CancelsFit, IsAsked, begins, left, moved}
 use Rattle.direct_proof.specs.Kinds.{OfKind, StartOfKind, TaggedOfKind}
 use Rattle.direct_proof.specs.Requests.{Debt, Entry, debts_of, load_of}
 use Rattle.direct_proof.specs.Running.{started_kind}
-use Rattle.direct_proof.specs.Tagged.{Tagged, Greeted, Plugged, ToldTable, ToldFaces, Answered, Packed, Stated, Bye}
+use Rattle.direct_proof.specs.Tagged.{Tagged, Answered, Packed, Stated}
 use Rattle.direct_proof.proofs.meeting.First.{all-down}
 use Rattle.direct_proof.proofs.streams.changes.Stops.{StopsOne}
 use Rattle.direct_proof.proofs.leaving.LeftWire.{every_up}
@@ -40,14 +40,10 @@ tagged-none [] ups h = tt
 tagged-none (b ∷ bs) ups h = (go b h.0, tagged-none bs ups h.1)
   where
     go : (b : Tagged) → TaggedOfKind ups b → TaggedOfKind no_streams b
-    go Greeted k = tt
-    go (Plugged c) k = tt
-    go (ToldTable t) k = tt
-    go (ToldFaces i) k = tt
     go (Answered c) k = k
     go (Packed x ep p) k = (k.0, k.1, k.2, subst (λ (o : Option Up). OfKind o x) (sym (all-down ep)) tt)
     go (Stated x id ep status) k = k
-    go Bye k = tt
+    go _ k = tt
 
 pub kinds-none : (rs : List Running) → Each (λ (s : Running). OfKind (stream_of no_streams s.ep) s.kind) rs
 kinds-none [] = tt

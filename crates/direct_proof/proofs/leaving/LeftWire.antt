@@ -20,7 +20,7 @@ use Rattle.direct_proof.specs.Kinds.{UpsFit, UpFits}
 use Rattle.direct_proof.specs.Running.{Quits, Trails, called_endpoint}
 use Rattle.direct_proof.specs.Session.{down_in}
 use Rattle.direct_proof.specs.Stale.{asks, is_fence}
-use Rattle.direct_proof.specs.Tagged.{Tagged, Greeted, Plugged, ToldTable, ToldFaces, Answered, Packed, Stated, Bye}
+use Rattle.direct_proof.specs.Tagged.{Tagged, Stated}
 use Rattle.direct_proof.proofs.lists.Counts.{itself, Each-back}
 use Rattle.direct_proof.proofs.shared.Folds.{not-both}
 use Rattle.direct_proof.proofs.shared.Owed.{each-append}
@@ -133,14 +133,8 @@ module _ (st : State) (fits : UpsFit st.streams) (gate : IsStopping st) (ps : Li
       statuses (b ∷ bs) h = (go b h.0, statuses bs h.1)
         where
           go : (b : Tagged) → StatusIsKept st.calls b → StatusIsKept (called zs st.calls) b
-          go Greeted k = tt
-          go (Plugged y) k = tt
-          go (ToldTable y) k = tt
-          go (ToldFaces y) k = tt
-          go (Answered y) k = tt
-          go (Packed y e p) k = tt
           go (Stated y n e status) k = kept-on n e k
-          go Bye k = tt
+          go _ k = tt
 
       few : (n k : ℕ) → times n (leave_ids st) ≡ k → times n (calls_on ps) + times n (statuses_on back) ≤ 1 → times n (calls_on (ps ++ zs)) ≡ times n (calls_on ps) + times n (calls_on zs) → times n (calls_on zs) ≤ times n (leave_ids st) →
           times n (calls_on (ps ++ zs)) + times n (statuses_on back) ≤ 1

@@ -1,7 +1,6 @@
 -- The gateway reads a fact of the device: nothing but what it knows of the device changes.
-use Rattle.std.proofs.Common.{◌≡◌, ℕ, ◌||◌, Bool, true, false, cond, List, [], ◌∷◌, ◌++◌, map, Option, Some, None, is_some, refl, ap, ◌∙◌, subst, inl, inr, ◌⊎◌}
+use Rattle.std.proofs.Common.{◌≡◌, ℕ, ◌||◌, Bool, true, false, cond, List, [], ◌∷◌, ◌++◌, map, Option, Some, None, is_some, refl, sym, ap, ◌∙◌, subst, inl, inr, ◌⊎◌}
 use Rattle.std.specs.List.{list_any}
-use Rattle.std.proofs.lemmas.Bool.{or_parts, or_right}
 use Rattle.usb_base.specs.declared.endpoint.EpTable.{EpTable}
 use Rattle.redir_wire.specs.declared.packet.InterfaceInfo.{InterfaceInfo}
 use Rattle.redir_wire.specs.declared.packet.Connect.{Connect}
@@ -23,9 +22,10 @@ use Rattle.direct_proof.specs.Shared.{Shared, way_of, view}
 use Rattle.direct_proof.specs.Tagged.{Tagged, Greeted, Plugged, ToldTable, ToldFaces, on_wire, runs_in, ran_in, packet_in, packets_in}
 use Rattle.direct_proof.specs.Related.{Related}
 use Rattle.direct_proof.specs.Ids.{Ids}
-use Rattle.direct_proof.specs.Meets.{is_bye, is_plug, is_greeting}
+use Rattle.direct_proof.specs.Meets.{is_plug, is_greeting}
 use Rattle.direct_proof.proofs.answers.Answered.{with_back}
-use Rattle.direct_proof.proofs.shared.Folds.{clash, not-both}
+use Rattle.direct_proof.proofs.shared.Backs.{early-greets, farewell-read, session-read}
+use Rattle.direct_proof.proofs.shared.Folds.{clash, not-both, or-right}
 use Rattle.direct_proof.proofs.shared.Streaming.{controls-read, fenced-read}
 use Rattle.direct_proof.proofs.answers.Replying.{still-there}
 use Rattle.direct_proof.proofs.shared.Keeps.{Keeps, keeps-quiet}
@@ -61,21 +61,17 @@ module _ {S : Type 0} (m : Meaning S) (w : World S) (j : Shared) (place : ℕ) (
 
   related : Related m fact_world (with_back j bs)
   related = record {
-    held = rel.held;
-    half = rel.half;
-    coming = rel.coming;
+    line = rel.line;
     answers = refl;
-    loads = rel.loads;
     tagged = rel.tagged.1;
     ids = subst (λ l. Ids j.debts w.submits (j.held ++ j.coming) l) runs-same rel.ids;
     real = rel.real;
-    calls_in = rel.calls_in;
     runs_at_in = rel.runs_at_in;
+    before = λ h. let e = rel.before h in record { back = inr (on.before h); wire = e.wire; held = e.held; half = e.half; running = e.running };
+    asked = rel.asked;
     meets = record {
       host = rel.meets.host;
       gate = on.gate;
-      before = λ h. let e = rel.meets.before h in record { back = inr (on.before h); wire = e.wire; held = e.held; half = e.half; running = e.running };
-      asked = rel.meets.asked;
       announced = λ h k. on.tells (rel.meets.announced h k);
       behind = on.behind;
       once = rel.meets.once.1;
@@ -85,29 +81,13 @@ module _ {S : Type 0} (m : Meaning S) (w : World S) (j : Shared) (place : ℕ) (
     debts = rel.debts;
     controls = λ h. controls-read st.calls w.to_host b bs (rel.controls there);
     fenced = λ h. fenced-read st.fence j.fenced w.to_host b bs (rel.fenced there);
-    cancels = rel.cancels;
-    behind = rel.behind;
     alone = rel.alone;
-    session = λ h a. let s = rel.session there (on.announced a) in record {
-      table = s.table;
-      faces = s.faces;
-      clean = s.clean.1;
-      quits = s.quits;
-      trails = s.trails;
-      starts = s.starts;
-      kinds = s.kinds;
-      start_kinds = s.start_kinds;
-    };
+    session = λ h a. session-read m w j b bs (rel.session there (on.announced a));
     ups = rel.ups;
-    lost = λ h. absurd (clash st.lost h there);
-    reads = rel.reads;
-    refused = rel.refused;
     down = rel.down;
-    gone = rel.gone;
-    seen = rel.seen;
-    still = rel.still;
-    bye = λ h. (or_parts (is_bye b) (list_any is_bye bs) (rel.bye h)).1;
-    bye_last = rel.bye_last.1;
+    lost = λ h. absurd (clash st.lost h there);
+    sides = rel.sides;
+    farewell = farewell-read w.host b bs rel.farewell;
   }
 
   pub keep-told : Keeps m w (with_back j (b ∷ bs)) (move m w (GateReads place))
@@ -125,26 +105,18 @@ module _ {S : Type 0} (m : Meaning S) (w : World S) (j : Shared) (place : ℕ) (
 fact-moved : {S : Type 0} (m : Meaning S) (w : World S) (j : Shared) (place : ℕ) (b : Tagged) (bs : List Tagged) → Related m w (with_back j (b ∷ bs)) → meaning w.gate (Told place (sent_header w.gate.agreed (on_wire b)) (on_wire b).1) ≡ Idle →
     move m w (GateReads place) ≡ quiet (told_world (record w { to_gate = map on_wire bs }) w.gate.agreed (fact_of (on_wire b).1))
 fact-moved m w j place b bs rel idle = ap (gate_reads w place) rel.answers
-    ∙ (λ i. cond (rel.reads i) (quiet (record w { to_gate = map on_wire bs })) (gate_made (record w { to_gate = map on_wire bs }) (mark_as w.gate (idle i) (fact_of (on_wire b).1))))
+    ∙ (λ i. cond (rel.sides.reads i) (quiet (record w { to_gate = map on_wire bs })) (gate_made (record w { to_gate = map on_wire bs }) (mark_as w.gate (idle i) (fact_of (on_wire b).1))))
     ∙ idle-made (record w { to_gate = map on_wire bs }) (fact_of (on_wire b).1)
 
 pub keep-table : {S : Type 0} (m : Meaning S) (w : World S) (j : Shared) (place : ℕ) (t : EpTable) (bs : List Tagged) → Related m w (with_back j (ToldTable t ∷ bs)) → Keeps m w (with_back j (ToldTable t ∷ bs)) (move m w (GateReads place))
 keep-table m w j place t bs rel = keep-told m w j place (ToldTable t) bs w.gate.agreed rel
-    (record { no_ran = refl; no_packet = λ iso ep. refl; gate = rel.meets.gate; before = λ h. absurd (early (rel.meets.before h).back); behind = rel.meets.behind; known = λ h. h; announced = λ a. a; tells = λ a. a; plugged = rel.meets.plugged })
+    (record { no_ran = refl; no_packet = λ iso ep. refl; gate = rel.meets.gate; before = λ h. absurd (not-both (sym (early-greets (ToldTable t) bs (rel.before h).back))); behind = rel.meets.behind; known = λ h. h; announced = λ a. a; tells = λ a. a; plugged = rel.meets.plugged })
     (fact-moved m w j place (ToldTable t) bs rel refl)
-  where
-    early : (ToldTable t ∷ bs ≡ Greeted ∷ []) ⊎ (ToldTable t ∷ bs ≡ []) → ⊥
-    early (inl e) = cc
-    early (inr e) = cc
 
 pub keep-faces : {S : Type 0} (m : Meaning S) (w : World S) (j : Shared) (place : ℕ) (t : InterfaceInfo) (bs : List Tagged) → Related m w (with_back j (ToldFaces t ∷ bs)) → Keeps m w (with_back j (ToldFaces t ∷ bs)) (move m w (GateReads place))
 keep-faces m w j place t bs rel = keep-told m w j place (ToldFaces t) bs w.gate.agreed rel
-    (record { no_ran = refl; no_packet = λ iso ep. refl; gate = rel.meets.gate; before = λ h. absurd (early (rel.meets.before h).back); behind = rel.meets.behind; known = λ h. h; announced = λ a. a; tells = λ a. a; plugged = rel.meets.plugged })
+    (record { no_ran = refl; no_packet = λ iso ep. refl; gate = rel.meets.gate; before = λ h. absurd (not-both (sym (early-greets (ToldFaces t) bs (rel.before h).back))); behind = rel.meets.behind; known = λ h. h; announced = λ a. a; tells = λ a. a; plugged = rel.meets.plugged })
     (fact-moved m w j place (ToldFaces t) bs rel refl)
-  where
-    early : (ToldFaces t ∷ bs ≡ Greeted ∷ []) ⊎ (ToldFaces t ∷ bs ≡ []) → ⊥
-    early (inl e) = cc
-    early (inr e) = cc
 
 -- the device's coming
 pub keep-plugged : {S : Type 0} (m : Meaning S) (w : World S) (j : Shared) (place : ℕ) (c : Connect) (bs : List Tagged) → Related m w (with_back j (Plugged c ∷ bs)) → Keeps m w (with_back j (Plugged c ∷ bs)) (move m w (GateReads place))
@@ -156,7 +128,7 @@ keep-plugged m w j place c bs rel = keep-told m w j place (Plugged c) bs w.gate.
       before = λ h. absurd (clash w.host.guest.first h met);
       behind = λ h. ((rel.meets.once.0 refl).0, (rel.meets.once.0 refl).1, met);
       known = λ h. refl;
-      announced = λ a. or_right (is_some w.gate.facts.connect) (true || list_any is_plug bs) refl;
+      announced = λ a. or-right (is_some w.gate.facts.connect) (true || list_any is_plug bs) refl;
       tells = λ a. refl;
       plugged = λ h. met;
     })
@@ -172,7 +144,7 @@ keep-greeted m w j place bs rel = keep-told m w j place Greeted bs both_caps rel
       no_ran = refl;
       no_packet = λ iso ep. refl;
       gate = λ h. refl;
-      before = λ h. early (rel.meets.before h).back;
+      before = λ h. early (rel.before h).back;
       behind = λ h. absurd (not-both (rel.meets.behind h).0);
       known = λ h. h;
       announced = λ a. a;
@@ -180,7 +152,7 @@ keep-greeted m w j place bs rel = keep-told m w j place Greeted bs both_caps rel
       plugged = rel.meets.plugged;
     })
     (ap (gate_reads w place) rel.answers
-    ∙ (λ i. cond (rel.reads i) (quiet (record w { to_gate = map on_wire bs })) (gate_made (record w { to_gate = map on_wire bs }) (mark_as w.gate (Agrees both_caps) None)))
+    ∙ (λ i. cond (rel.sides.reads i) (quiet (record w { to_gate = map on_wire bs })) (gate_made (record w { to_gate = map on_wire bs }) (mark_as w.gate (Agrees both_caps) None)))
     ∙ agrees-made (record w { to_gate = map on_wire bs }) both_caps None)
   where
     early : (Greeted ∷ bs ≡ Greeted ∷ []) ⊎ (Greeted ∷ bs ≡ []) → bs ≡ []

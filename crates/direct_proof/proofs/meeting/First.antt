@@ -34,22 +34,26 @@ all-down ep = go (nat_lt (ep % 128) 16)
 
 pub first-related : {S : Type 0} (m : Meaning S) (s : S) → Related m (first_world s) first_shared
 first-related m s = record {
-  held = refl;
-  half = λ h. refl;
-  coming = refl;
+  line = record {
+    held = refl;
+    half = λ h. refl;
+    coming = refl;
+    loads = tt;
+    calls_in = (tt, tt);
+    cancels = ((λ h. absurd (not-both (sym h))), tt);
+    behind = tt;
+  };
   answers = refl;
-  loads = tt;
   tagged = (tt, tt);
   ids = record { balance = λ test. refl; one_id = λ id. omega arith; one_number = λ n. omega arith; named = tt; entries_agree = tt; ran_agrees = tt };
   real = tt;
-  calls_in = (tt, tt);
   runs_at_in = tt;
+  before = λ h. record { back = inl refl; wire = refl; held = refl; half = refl; running = refl };
+  asked = λ h. absurd (not-both h);
   meets = record {
     host = λ h. absurd (not-both h);
     gate = λ h. absurd (not-both h);
-    before = λ h. record { back = inl refl; wire = refl; held = refl; half = refl; running = refl };
     announced = λ h k. absurd (not-both h);
-    asked = λ h. absurd (not-both h);
     behind = λ h. absurd (not-both (sym h));
     once = ((λ h. absurd (not-both (sym h))), tt);
     plugged = λ h. absurd (not-both (sym h));
@@ -58,18 +62,20 @@ first-related m s = record {
   debts = λ h. refl;
   controls = λ h. record { once = λ id. omega arith; calls_kept = (tt, tt); statuses_kept = (tt, tt) };
   fenced = λ h. refl;
-  cancels = ((λ h. absurd (not-both (sym h))), tt);
-  behind = tt;
   alone = λ h. absurd (not-both (sym h));
   session = λ h a. absurd (not-both (sym a));
   ups = record { count_is = refl; each = λ i. subst (UpFits i) (sym (none-up 32 i)) tt };
-  lost = λ h. absurd (not-both (sym h));
-  reads = refl;
-  refused = λ h. absurd (not-both (sym h));
   down = λ h. refl;
-  gone = λ h. absurd (not-both (sym h));
-  seen = λ h. absurd (not-both (sym h));
-  still = λ h. absurd (not-both (sym h));
-  bye = λ h. refl;
-  bye_last = ((λ h. absurd (not-both (sym h))), tt);
+  lost = λ h. absurd (not-both (sym h));
+  sides = record {
+    reads = refl;
+    refused = λ h. absurd (not-both (sym h));
+    gone = λ h. absurd (not-both (sym h));
+    seen = λ h. absurd (not-both (sym h));
+  };
+  farewell = record {
+    still = λ h. absurd (not-both (sym h));
+    bye = λ h. refl;
+    bye_last = ((λ h. absurd (not-both (sym h))), tt);
+  };
 }

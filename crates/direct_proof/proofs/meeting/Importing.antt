@@ -1,7 +1,6 @@
 -- A client lists or imports the device: it gets a reply, and with a success the session begins.
 use Rattle.std.proofs.Common.{◌≡◌, ℕ, suc, ◌&&◌, Bool, true, false, cond, List, [], ◌∷◌, ◌++◌, map, filter, Option, Some, None, is_some, is_none, refl, sym, ap, ◌∙◌, subst, arith, append-nil}
 use Rattle.std.specs.List.{flat_map}
-use Rattle.std.proofs.lemmas.Bool.{and_parts}
 use Rattle.usb_base.specs.declared.side.Side.TheVariants.{Client}
 use Rattle.usb_base.specs.declared.reason.Reason.TheVariants.{AlreadyImported}
 use Rattle.usbip_op.specs.declared.packet.OpPacket.{OpPacket}
@@ -32,7 +31,8 @@ use Rattle.direct_proof.specs.Shared.{Shared, view}
 use Rattle.direct_proof.specs.Tagged.{runs_in}
 use Rattle.direct_proof.specs.Related.{Related}
 use Rattle.direct_proof.specs.Ids.{count}
-use Rattle.direct_proof.proofs.shared.Folds.{clash, not-both}
+use Rattle.direct_proof.proofs.shared.Folds.{clash, not-both, both-parts}
+use Rattle.direct_proof.proofs.shared.Sending.{meets-client}
 use Rattle.direct_proof.proofs.shared.Keeps.{Keeps, keeps-quiet, keeps-replied, not-gone}
 use Rattle.direct_proof.proofs.shared.Counted.{replied_world, replied-related}
 
@@ -120,7 +120,7 @@ keep-import {S = S} m w j place status busid rel sound out = go w.gate.client_ov
     succeeds on c may known e = keeps-import
       where
         parts : (none_of st.abandoned ≡ true) × (is_none st.fence ≡ true)
-        parts = let a = and_parts (is_exported busid && none_of st.abandoned) (is_none st.fence) may in ((and_parts (is_exported busid) (none_of st.abandoned) a.0).1, a.1)
+        parts = let a = both-parts (is_exported busid && none_of st.abandoned) (is_none st.fence) may in ((both-parts (is_exported busid) (none_of st.abandoned) a.0).1, a.1)
 
         empty : st.abandoned ≡ []
         empty = none-is st.abandoned parts.0
@@ -152,34 +152,30 @@ keep-import {S = S} m w j place status busid rel sound out = go w.gate.client_ov
 
         related : Related m (imported_world w) j
         related = record {
-          held = rel.held;
-          half = rel.half;
-          coming = rel.coming;
+          line = rel.line;
           answers = rel.answers;
-          loads = rel.loads;
           tagged = rel.tagged;
           ids = rel.ids;
           real = rel.real;
-          calls_in = rel.calls_in;
           runs_at_in = rel.runs_at_in;
-          meets = record { host = rel.meets.host; gate = rel.meets.gate; before = λ h. let e = rel.meets.before h in record { back = e.back; wire = e.wire; held = e.held; half = e.half; running = e.running }; announced = rel.meets.announced; asked = rel.meets.asked; behind = rel.meets.behind; once = rel.meets.once; plugged = rel.meets.plugged; no_session = λ h k. ap is_some known };
+          before = rel.before;
+          asked = rel.asked;
+          meets = meets-client w j true false (λ h k. ap is_some known) rel.meets;
           debts = λ h. rel.debts there;
           controls = λ h. rel.controls there;
           fenced = λ h. rel.fenced there;
-          cancels = rel.cancels;
-          behind = rel.behind;
           alone = λ h. (empty, no-fence st.fence parts.1);
-          session = λ h a. let s = rel.session there a in record { table = s.table; faces = s.faces; clean = s.clean; quits = s.quits; trails = s.trails; starts = s.starts; kinds = s.kinds; start_kinds = s.start_kinds };
+          session = λ h a. rel.session there a;
           ups = rel.ups;
-          lost = λ h. absurd (not-both (sym h));
-          reads = rel.reads;
-          refused = λ h. absurd (clash st.client_over h on);
           down = λ h. absurd (not-both h);
-          gone = λ h. absurd (clash j.gone h ungone);
-          seen = λ h. sym ungone;
-          still = rel.still;
-          bye = rel.bye;
-          bye_last = rel.bye_last;
+          lost = λ h. absurd (not-both (sym h));
+          sides = record {
+            reads = rel.sides.reads;
+            refused = λ h. absurd (clash st.client_over h on);
+            gone = λ h. absurd (clash j.gone h ungone);
+            seen = λ h. sym ungone;
+          };
+          farewell = rel.farewell;
         }
 
         keeps-import : Keeps m w j made

@@ -69,7 +69,7 @@ module _ {S : Type 0} (m : Meaning S) (w : World S) (j : Shared) (place : ℕ) (
     where
       go : (b : Bool) → w.host.unplugged ≡ b → b ≡ true
       go true h = refl
-      go false h = absurd (not-both (rel.bye h))
+      go false h = absurd (not-both (rel.farewell.bye h))
 
   met : w.host.guest.first ≡ false
   met = go w.host.guest.first refl
@@ -79,12 +79,12 @@ module _ {S : Type 0} (m : Meaning S) (w : World S) (j : Shared) (place : ℕ) (
       early (inr e) = cc
 
       go : (b : Bool) → w.host.guest.first ≡ b → b ≡ false
-      go true h = absurd (early (rel.meets.before h).back)
+      go true h = absurd (early (rel.before h).back)
       go false h = refl
 
   made-is : move m w (GateReads place) ≡ record { world = lost_world; outs = map Urb (map (λ (p : Pending). lost_answer p.submit p.unlinker) st.live); deeds = when st.imported Gone }
   made-is = ap (gate_reads w place) rel.answers
-      ∙ (λ i. cond (rel.reads i) (quiet (record w { to_gate = [] })) (gate_made (record w { to_gate = [] }) (mark_as st effect None)))
+      ∙ (λ i. cond (rel.sides.reads i) (quiet (record w { to_gate = [] })) (gate_made (record w { to_gate = [] }) (mark_as st effect None)))
       ∙ (λ i. record {
         world = record w {
           gate = record st { items = suc st.items; facts = no_facts; lost = true; live = map (ask effect) (filter-none (present st effect) i); abandoned = []; streams = no_streams; fence = None };
@@ -123,21 +123,25 @@ module _ {S : Type 0} (m : Meaning S) (w : World S) (j : Shared) (place : ℕ) (
 
   related : (gone : Bool) → (st.imported ≡ true → gone ≡ true) → Related m lost_world (lost_shared gone)
   related gone is = record {
-    held = rel.held;
-    half = rel.half;
-    coming = ap (λ (l : List InLine). half_line j.half ++ l) (lines-append w.to_host acks ∙ ap (λ (l : List InLine). lines w.to_host ++ l) (acked (has st.agreed 3)).0 ∙ append-nil (lines w.to_host)) ∙ rel.coming;
+    line = record {
+      held = rel.line.held;
+      half = rel.line.half;
+      coming = ap (λ (l : List InLine). half_line j.half ++ l) (lines-append w.to_host acks ∙ ap (λ (l : List InLine). lines w.to_host ++ l) (acked (has st.agreed 3)).0 ∙ append-nil (lines w.to_host)) ∙ rel.line.coming;
+      loads = rel.line.loads;
+      calls_in = each-append (λ (p : ℕ × RedirPacket). CallIsIn (called_endpoint p.1)) w.to_host acks rel.line.calls_in (uncalled (has st.agreed 3));
+      cancels = fits-nil j.half j.held w.to_host acks j.coming rel.line.coming rel.line.cancels (acked (has st.agreed 3)).2;
+      behind = rel.line.behind;
+    };
     answers = refl;
-    loads = rel.loads;
     tagged = tt;
     ids = rel.ids;
     real = rel.real;
-    calls_in = each-append (λ (p : ℕ × RedirPacket). CallIsIn (called_endpoint p.1)) w.to_host acks rel.calls_in (uncalled (has st.agreed 3));
     runs_at_in = rel.runs_at_in;
+    before = λ h. absurd (clash w.host.guest.first h met);
+    asked = λ h. each-append (λ (p : ℕ × RedirPacket). IsAsking p.1) w.to_host acks (rel.asked h) (acked (has st.agreed 3)).1;
     meets = record {
       host = rel.meets.host;
       gate = rel.meets.gate;
-      before = λ h. absurd (clash w.host.guest.first h met);
-      asked = λ h. each-append (λ (p : ℕ × RedirPacket). IsAsking p.1) w.to_host acks (rel.meets.asked h) (acked (has st.agreed 3)).1;
       announced = λ h k. absurd (clash w.host.unplugged off k);
       behind = λ h. absurd (not-both (sym h));
       once = tt;
@@ -147,20 +151,22 @@ module _ {S : Type 0} (m : Meaning S) (w : World S) (j : Shared) (place : ℕ) (
     debts = λ h. absurd (not-both h);
     controls = λ h. absurd (not-both h);
     fenced = λ h. absurd (not-both h);
-    cancels = fits-nil j.half j.held w.to_host acks j.coming rel.coming rel.cancels (acked (has st.agreed 3)).2;
-    behind = rel.behind;
     alone = λ h. (refl, refl);
     session = λ h a. absurd (not-both h);
     ups = none-ups;
-    lost = λ h. (refl, off, refl, refl, all-down);
-    reads = rel.reads;
-    refused = rel.refused;
     down = λ h. refl;
-    gone = λ h. refl;
-    seen = λ h. sym (is h);
-    still = rel.still;
-    bye = λ h. refl;
-    bye_last = tt;
+    lost = λ h. (refl, off, refl, refl, all-down);
+    sides = record {
+      reads = rel.sides.reads;
+      refused = rel.sides.refused;
+      gone = λ h. refl;
+      seen = λ h. sym (is h);
+    };
+    farewell = record {
+      still = rel.farewell.still;
+      bye = λ h. refl;
+      bye_last = tt;
+    };
   }
 
   pub keep-bye : Keeps m w (with_back j (Bye ∷ [])) (move m w (GateReads place))

@@ -1,8 +1,6 @@
 -- The two meet: from the first world on, the hellos are read, and the gateway is told of the device.
 use Rattle.std.proofs.Common.{◌≡◌, ℕ, ◌||◌, Bool, true, false, cond, List, [], ◌∷◌, ◌++◌, map, Option, Some, None, is_some, refl, sym, ap, ◌∙◌, subst, append-nil, inl, inr, ◌⊎◌}
 use Rattle.std.specs.List.{list_any}
-use Rattle.std.proofs.lemmas.Bool.{or_right}
-use Rattle.std.proofs.lemmas.List.Folds.{list_any-append}
 use Rattle.redir_data.specs.declared.packet.RedirPacket.{RedirPacket}
 use Rattle.model_device.specs.Meaning.{Meaning}
 use Rattle.redir_host.specs.declared.host.Host.{Host}
@@ -31,7 +29,7 @@ use Rattle.direct_proof.specs.Calls.{Controls, Fenced, StatusIsKept, statuses_on
 use Rattle.direct_proof.proofs.shared.Owed.{each-append}
 use Rattle.direct_proof.proofs.shared.WireBack.{runs_in-append, packets_in-append}
 use Rattle.direct_proof.proofs.shared.Traces.{map-append}
-use Rattle.direct_proof.proofs.shared.Folds.{clash, not-both}
+use Rattle.direct_proof.proofs.shared.Folds.{clash, not-both, or-right, any-append}
 use Rattle.direct_proof.proofs.shared.Streaming.{controls-heard, fenced-heard, controls-sent, fenced-sent}
 use Rattle.direct_proof.proofs.shared.Backs.{told-append}
 use Rattle.direct_proof.proofs.shared.Sending.{no-bye, none-more}
@@ -46,7 +44,7 @@ pub keep-hello : {S : Type 0} (m : Meaning S) (w : World S) (j : Shared) → Rel
 keep-hello {S = S} m w j rel fresh = go w.host.unplugged refl
   where
     early : Early w j
-    early = rel.meets.before fresh
+    early = rel.before fresh
 
     g : Host S
     g = record w.host { guest = record { first = false; caps = both_caps } }
@@ -59,28 +57,32 @@ keep-hello {S = S} m w j rel fresh = go w.host.unplugged refl
         by false e k = clash w.host.guest.first fresh (rel.meets.plugged k)
 
     coming : half_line j.half ++ lines [] ≡ at_hosts j.coming
-    coming = ap (λ l. half_line j.half ++ lines l) (sym early.wire) ∙ rel.coming
+    coming = ap (λ l. half_line j.half ++ lines l) (sym early.wire) ∙ rel.line.coming
 
     after : (cs : List Tagged) → (w.host.unplugged ≡ true → cs ≡ []) → runs_in cs ≡ [] → Each (TaggedOfKind w.gate.streams) cs → Each (StatusIsKept w.gate.calls) cs → statuses_on cs ≡ [] → list_any is_greeting cs ≡ false → list_any is_bye cs ≡ false → PlugOnce (j.back ++ cs) → (w.host.unplugged ≡ false → list_any is_plug cs ≡ true) →
         (is_announced w (record j { back = j.back ++ cs }) ≡ true → Session m (record w { to_host = []; host = g; to_gate = w.to_gate ++ map on_wire cs }) (record j { back = j.back ++ cs })) →
         Related m (record w { to_host = []; host = g; to_gate = w.to_gate ++ map on_wire cs }) (record j { back = j.back ++ cs })
     after cs off no_ran tagged kept no_status no_greeting no_end once plugs session = record {
-      held = rel.held;
-      half = rel.half;
-      coming = coming;
+      line = record {
+        held = rel.line.held;
+        half = rel.line.half;
+        coming = coming;
+        loads = rel.line.loads;
+        calls_in = tt;
+        cancels = tt;
+        behind = rel.line.behind;
+      };
       answers = ap (λ (l : List (ℕ × RedirPacket)). l ++ map on_wire cs) rel.answers ∙ sym (map-append on_wire j.back cs);
-      loads = rel.loads;
       tagged = each-append (TaggedOfKind w.gate.streams) j.back cs rel.tagged tagged;
       ids = subst (Ids j.debts w.submits (j.held ++ j.coming)) (sym (runs_in-append j.back cs ∙ ap (λ (l : List Coming). runs_in j.back ++ l) no_ran ∙ append-nil (runs_in j.back))) rel.ids;
       real = rel.real;
-      calls_in = tt;
       runs_at_in = rel.runs_at_in;
+      before = λ h. absurd (not-both (sym h));
+      asked = λ h. tt;
       meets = record {
         host = λ h. refl;
         gate = λ h. rel.meets.gate (sym (none-more is_greeting j.back cs no_greeting) ∙ h);
-        before = λ h. absurd (not-both (sym h));
-        announced = λ h k. or_right (is_some w.gate.facts.connect) (list_any is_plug (j.back ++ cs)) (list_any-append is_plug j.back cs ∙ or_right (list_any is_plug j.back) (list_any is_plug cs) (plugs k));
-        asked = λ h. tt;
+        announced = λ h k. or-right (is_some w.gate.facts.connect) (list_any is_plug (j.back ++ cs)) (any-append is_plug j.back cs ∙ or-right (list_any is_plug j.back) (list_any is_plug cs) (plugs k));
         behind = λ h. absurd (clash w.host.guest.first fresh (rel.meets.behind h).2);
         once = once;
         plugged = λ h. refl;
@@ -89,25 +91,22 @@ keep-hello {S = S} m w j rel fresh = go w.host.unplugged refl
       debts = rel.debts;
       controls = λ h. controls-sent w.gate.calls [] j.back cs no_status kept (controls-heard w.gate.calls (0, gateway_hello) [] j.back (subst (λ l. Controls w.gate.calls l j.back) early.wire (rel.controls h)));
       fenced = λ h. fenced-sent w.gate.fence j.fenced [] j.back cs no_status (fenced-heard w.gate.fence j.fenced (0, gateway_hello) [] j.back (subst (λ l. Fenced w.gate.fence j.fenced l j.back) early.wire (rel.fenced h)));
-      cancels = tt;
-      behind = rel.behind;
       alone = rel.alone;
       session = λ h a. session a;
       ups = rel.ups;
-      lost = λ h. let l = rel.lost h in (ap (λ bs. bs ++ cs) l.0 ∙ off l.1, l.1, l.2, l.3, l.4);
-      reads = rel.reads;
-      refused = rel.refused;
       down = rel.down;
-      gone = rel.gone;
-      seen = rel.seen;
-      still = rel.still;
-      bye = λ h. none-more is_bye j.back cs no_end ∙ rel.bye h;
-      bye_last = last w.host.unplugged refl;
+      lost = λ h. let l = rel.lost h in (ap (λ bs. bs ++ cs) l.0 ∙ off l.1, l.1, l.2, l.3, l.4);
+      sides = rel.sides;
+      farewell = record {
+        still = rel.farewell.still;
+        bye = λ h. none-more is_bye j.back cs no_end ∙ rel.farewell.bye h;
+        bye_last = last w.host.unplugged refl;
+      };
     }
       where
         last : (b : Bool) → w.host.unplugged ≡ b → ByeLast (j.back ++ cs)
-        last true u = subst (λ bs. ByeLast (j.back ++ bs)) (sym (off u)) (subst ByeLast (sym (append-nil j.back)) rel.bye_last)
-        last false u = no-bye (j.back ++ cs) (none-more is_bye j.back cs no_end ∙ rel.bye u)
+        last true u = subst (λ bs. ByeLast (j.back ++ bs)) (sym (off u)) (subst ByeLast (sym (append-nil j.back)) rel.farewell.bye_last)
+        last false u = no-bye (j.back ++ cs) (none-more is_bye j.back cs no_end ∙ rel.farewell.bye u)
 
     go : (b : Bool) → w.host.unplugged ≡ b → Keeps m w j (move m w HostReads)
     go true off = keeps-quiet m w j (record j { back = j.back ++ [] }) (move m w HostReads) (record w { to_host = []; host = g; to_gate = w.to_gate ++ [] })
@@ -143,7 +142,7 @@ keep-hello {S = S} m w j rel fresh = go w.host.unplugged refl
         pending = any_change (j.held ++ j.coming) || j.fenced
 
         clean-cs : Clean w.gate.fence (down_in w.gate.streams) pending cs
-        clean-cs = ((λ h. or_right pending true refl), ((λ h. or_right pending true refl), ((λ h. absurd (not-both (sym h))), tt)))
+        clean-cs = ((λ h. or-right pending true refl), ((λ h. or-right pending true refl), ((λ h. absurd (not-both (sym h))), tt)))
 
         clean : (bs : List Tagged) → (bs ≡ Greeted ∷ []) ⊎ (bs ≡ []) → Clean w.gate.fence (down_in w.gate.streams) pending (bs ++ cs)
         clean bs (inl e) = subst (λ l. Clean w.gate.fence (down_in w.gate.streams) pending (l ++ cs)) (sym e) ((λ h. absurd (not-both (sym h))), clean-cs)

@@ -1,7 +1,6 @@
 -- The device is taken away: its host tells of that, where it has sent its hello, and answers nothing any more.
 use Rattle.std.proofs.Common.{◌≡◌, ℕ, ◌||◌, Bool, true, false, cond, List, [], ◌∷◌, ◌++◌, map, Option, Some, None, is_some, refl, sym, ap, ◌∙◌, subst, append-nil, inl, inr, ◌⊎◌}
 use Rattle.std.specs.List.{list_any}
-use Rattle.std.proofs.lemmas.Bool.{or_left, or_parts}
 use Rattle.redir_wire.specs.declared.packet.RedirControl.TheVariants as plain
 use Rattle.redir_data.specs.declared.packet.RedirPacket.{RedirPacket}
 use Rattle.redir_data.specs.declared.packet.RedirPacket.TheVariants.{Plain}
@@ -28,16 +27,16 @@ use Rattle.direct_proof.specs.Cancels.{any_change}
 use Rattle.direct_proof.proofs.shared.Owed.{each-append}
 use Rattle.direct_proof.proofs.shared.WireBack.{runs_in-append, packets_in-append}
 use Rattle.direct_proof.proofs.shared.Traces.{map-append}
-use Rattle.direct_proof.proofs.shared.Folds.{clash, not-both}
+use Rattle.direct_proof.proofs.shared.Folds.{clash, not-both, or-left, or-none}
 use Rattle.direct_proof.proofs.shared.Streaming.{controls-sent, fenced-sent}
 use Rattle.direct_proof.proofs.shared.Backs.{told-append, clean-append}
 use Rattle.direct_proof.proofs.performs.Flushes.{quits-low}
-use Rattle.direct_proof.proofs.shared.Sending.{none-more, once-more}
+use Rattle.direct_proof.proofs.shared.Sending.{none-more, meets-sent}
 use Rattle.direct_proof.proofs.shared.Keeps.{Keeps, keeps-quiet}
 
 bye-behind : (bs : List Tagged) → list_any is_bye bs ≡ false → ByeLast (bs ++ Bye ∷ [])
 bye-behind [] h = ((λ z. refl), tt)
-bye-behind (b ∷ bs) h = let r = or_parts (is_bye b) (list_any is_bye bs) h in ((λ z. absurd (clash (is_bye b) z r.0)), bye-behind bs r.1)
+bye-behind (b ∷ bs) h = let r = or-none (is_bye b) (list_any is_bye bs) h in ((λ z. absurd (clash (is_bye b) z r.0)), bye-behind bs r.1)
 
 module _ {S : Type 0} (m : Meaning S) (w : World S) (j : Shared) (rel : Related m w j) (on : w.host.unplugged ≡ false) where
   abbrev gone_host : Host S
@@ -53,38 +52,40 @@ module _ {S : Type 0} (m : Meaning S) (w : World S) (j : Shared) (rel : Related 
   related : (cs : List Tagged) → runs_in cs ≡ [] → list_any is_greeting cs ≡ false → list_any is_plug cs ≡ false → Each (TaggedOfKind w.gate.streams) cs → Each (StatusIsKept w.gate.calls) cs → statuses_on cs ≡ [] → ((f : Facts) → told f cs ≡ f) →
       ((fence : Option ℕ) (pending : Bool) → Clean fence (down_in w.gate.streams) pending cs) → ByeLast (j.back ++ cs) → (w.host.guest.first ≡ true → cs ≡ []) → Related m (gone_world cs) (gone_shared cs)
   related cs no_ran no_greeting no_plug tagged kept no_status no_fact clean bye_last early = record {
-    held = refl;
-    half = λ h. absurd (not-both h);
-    coming = rel.coming;
+    line = record {
+      held = refl;
+      half = λ h. absurd (not-both h);
+      coming = rel.line.coming;
+      loads = rel.line.loads;
+      calls_in = rel.line.calls_in;
+      cancels = rel.line.cancels;
+      behind = rel.line.behind;
+    };
     answers = ap (λ (l : List (ℕ × RedirPacket)). l ++ map on_wire cs) rel.answers ∙ sym (map-append on_wire j.back cs);
-    loads = rel.loads;
     tagged = each-append (TaggedOfKind w.gate.streams) j.back cs rel.tagged tagged;
     ids = subst (Ids j.debts w.submits (j.held ++ j.coming)) (sym (runs_in-append j.back cs ∙ ap (λ (l : List Coming). runs_in j.back ++ l) no_ran ∙ append-nil (runs_in j.back))) rel.ids;
     real = rel.real;
-    calls_in = rel.calls_in;
     runs_at_in = tt;
-    meets = record {
-      host = rel.meets.host;
-      gate = λ h. rel.meets.gate (sym (none-more is_greeting j.back cs no_greeting) ∙ h);
-      before = λ h. let e = rel.meets.before h in record { back = same-back (early h) e.back; wire = e.wire; held = e.held; half = e.half; running = refl };
-      announced = λ h k. absurd (not-both k);
-      asked = rel.meets.asked;
-      behind = λ h. let r = rel.meets.behind h in (none-more is_greeting j.back cs no_greeting ∙ r.0, none-more is_plug j.back cs no_plug ∙ r.1, r.2);
-      once = once-more j.back cs rel.meets.once no_greeting no_plug;
-      plugged = λ h. rel.meets.plugged (sym (none-more is_plug j.back cs no_plug) ∙ h);
-      no_session = rel.meets.no_session;
+    before = λ h. let e = rel.before h in record { back = same-back (early h) e.back; wire = e.wire; held = e.held; half = e.half; running = refl };
+    asked = rel.asked;
+    meets = let k = meets-sent w j cs no_greeting no_plug rel.meets in record {
+      host = k.host;
+      gate = k.gate;
+      announced = λ h z. absurd (not-both z);
+      behind = k.behind;
+      once = k.once;
+      plugged = k.plugged;
+      no_session = k.no_session;
     };
     debts = rel.debts;
     controls = λ h. controls-sent w.gate.calls w.to_host j.back cs no_status kept (rel.controls h);
     fenced = λ h. fenced-sent w.gate.fence j.fenced w.to_host j.back cs no_status (rel.fenced h);
-    cancels = rel.cancels;
-    behind = rel.behind;
     alone = rel.alone;
     session = λ h a. let s = rel.session h (ap (λ (b : Bool). is_some w.gate.facts.connect || b) (sym (none-more is_plug j.back cs no_plug)) ∙ a) in record {
       table = ap (λ (f : Facts). f.table) (told-append w.gate.facts j.back cs ∙ no_fact (told w.gate.facts j.back)) ∙ s.table;
       faces = ap (λ (f : Facts). f.interfaces) (told-append w.gate.facts j.back cs ∙ no_fact (told w.gate.facts j.back)) ∙ s.faces;
       clean = clean-append w.gate.fence (down_in w.gate.streams) (any_change (j.held ++ j.coming) || j.fenced) (any_change (j.held ++ j.coming) || j.fenced) j.back cs
-          (λ z. or_left (any_change (j.held ++ j.coming) || j.fenced) (list_any (ends w.gate.fence) cs) z) s.clean (clean w.gate.fence (any_change (j.held ++ j.coming) || j.fenced));
+          (λ z. or-left (any_change (j.held ++ j.coming) || j.fenced) (list_any (ends w.gate.fence) cs) z) s.clean (clean w.gate.fence (any_change (j.held ++ j.coming) || j.fenced));
       quits = λ ep d. quits-low w.gate.fence ep (runs w.host ep) w.to_host (s.quits ep d);
       trails = s.trails;
       starts = s.starts;
@@ -92,15 +93,14 @@ module _ {S : Type 0} (m : Meaning S) (w : World S) (j : Shared) (rel : Related 
       start_kinds = s.start_kinds;
     };
     ups = rel.ups;
-    lost = λ h. absurd (clash w.host.unplugged (rel.lost h).1 on);
-    reads = rel.reads;
-    refused = rel.refused;
     down = rel.down;
-    gone = rel.gone;
-    seen = rel.seen;
-    still = λ h. refl;
-    bye = λ h. absurd (not-both h);
-    bye_last = bye_last;
+    lost = λ h. absurd (clash w.host.unplugged (rel.lost h).1 on);
+    sides = rel.sides;
+    farewell = record {
+      still = λ h. refl;
+      bye = λ h. absurd (not-both h);
+      bye_last = bye_last;
+    };
   }
     where
       same-back : cs ≡ [] → (j.back ≡ Greeted ∷ []) ⊎ (j.back ≡ []) → (j.back ++ cs ≡ Greeted ∷ []) ⊎ (j.back ++ cs ≡ [])
@@ -123,13 +123,13 @@ module _ {S : Type 0} (m : Meaning S) (w : World S) (j : Shared) (rel : Related 
 
       go : (b : Bool) → w.host.guest.first ≡ b → Keeps m w j (move m w Unplugs)
       go true f = keeps-quiet m w j (gone_shared []) (move m w Unplugs) (gone_world []) (made true f)
-          (related [] refl refl refl tt tt refl (λ x. refl) (λ fence p. tt) (subst ByeLast (sym (append-nil j.back)) rel.bye_last) (λ h. refl))
+          (related [] refl refl refl tt tt refl (λ x. refl) (λ fence p. tt) (subst ByeLast (sym (append-nil j.back)) rel.farewell.bye_last) (λ h. refl))
           (λ i. record (view w j) {
             ran = cond w.gate.imported (map ran_of (runs_in (sym (append-nil j.back) i))) [];
             way = λ ep. way_of (stream_of w.gate.streams ep) ep (sym (append-nil j.back) i);
           })
       go false f = keeps-quiet m w j (gone_shared (Bye ∷ [])) (move m w Unplugs) (gone_world (Bye ∷ [])) (made false f)
-          (related (Bye ∷ []) refl refl refl (tt, tt) (tt, tt) refl (λ x. refl) (λ fence p. ((λ h. absurd (not-both (sym h))), tt)) (bye-behind j.back (rel.bye on)) (λ h. absurd (clash w.host.guest.first h f)))
+          (related (Bye ∷ []) refl refl refl (tt, tt) (tt, tt) refl (λ x. refl) (λ fence p. ((λ h. absurd (not-both (sym h))), tt)) (bye-behind j.back (rel.farewell.bye on)) (λ h. absurd (clash w.host.guest.first h f)))
           (λ i. record (view w j) {
             ran = cond w.gate.imported (map ran_of (sym (runs_in-append j.back (Bye ∷ []) ∙ append-nil (runs_in j.back)) i)) [];
             way = λ ep. sym (ways (Bye ∷ []) (λ iso k. refl) (stream_of w.gate.streams ep) ep) i;

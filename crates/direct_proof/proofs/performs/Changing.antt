@@ -1,9 +1,7 @@
 -- The device performs a change, with success or refusing it, also a reset: what it flushes, and the facts that it tells.
-use Rattle.std.proofs.Common.{◌≡◌, ℕ, ◌||◌, ◌&&◌, not, Bool, true, false, cond, List, [], ◌∷◌, ◌++◌, map, filter, Option, Some, None, refl, sym, ap, ◌∙◌, subst, arith, append-nil}
+use Rattle.std.proofs.Common.{◌≡◌, ℕ, ◌||◌, ◌&&◌, not, Bool, true, false, cond, List, [], ◌∷◌, ◌++◌, map, filter, Option, Some, None, refl, sym, ap, ◌∙◌, subst, arith, append-nil, ◌==◌}
 use Rattle.std.specs.Prelude.{IfSome}
 use Rattle.std.specs.List.{find, list_any}
-use Rattle.std.proofs.lemmas.Bool.{or_left, or_right}
-use Rattle.std.proofs.lemmas.List.Folds.{list_any-append}
 use Rattle.usb_base.specs.declared.transfer.Outcome.{Outcome}
 use Rattle.usb_base.specs.declared.endpoint.EpTable.{EpTable}
 use Rattle.control_route.specs.declared.route.Route.{Route}
@@ -19,19 +17,19 @@ use Rattle.usb_base.specs.Firsts.{without_first}
 use Rattle.redir_host.specs.state.Queues.{queue_of, is_at}
 use Rattle.redir_host.specs.device.Performing.{performs_any, does, with_id}
 use Rattle.redir_host.specs.state.Sound.{Each}
-use Rattle.gate_history.specs.client.Verdict.{Verdict, Now, Wire, Routed, IsoOut, Stream, changes}
-use Rattle.gate_history.specs.state.Ups.{stream_of}
+use Rattle.gate_history.specs.client.Verdict.{Verdict, Now, Wire, Routed, IsoOut, Stream, changes, is_iso}
+use Rattle.gate_history.specs.state.Ups.{stream_of, Up}
 use Rattle.gate_history.specs.state.Facts.{tell}
 use Rattle.gate_history.specs.step.Meaning.{fact_of}
 use Rattle.gate_history.specs.declared.facts.Facts.{Facts}
 use Rattle.direct_run.specs.Noted.{queue_byte, number_in}
 use Rattle.direct_run.specs.Moves.{World, Performs}
-use Rattle.direct_device.specs.Direct.{number, normal_of, change_in}
-use Rattle.direct_device.specs.Acting.{Perform}
-use Rattle.direct_proof.specs.Moves.{move, performs}
-use Rattle.direct_proof.specs.Requests.{Entry, Coming, at_queue}
-use Rattle.direct_proof.specs.Shared.{Shared}
-use Rattle.direct_proof.specs.Tagged.{Tagged, ToldTable, ToldFaces, Answered, on_wire, runs_in, told}
+use Rattle.direct_device.specs.Direct.{number, normal_of, change_in, Waiting, Ran, Direct, cancelled, is_at as is_first_at, without_first as without}
+use Rattle.direct_device.specs.Acting.{Perform, act, performed_first, performed_by, joins_ran, is_flushed}
+use Rattle.direct_proof.specs.Moves.{move, performs, Made}
+use Rattle.direct_proof.specs.Requests.{Entry, Coming, at_queue, at_device, ran_of}
+use Rattle.direct_proof.specs.Shared.{Shared, way_of, view}
+use Rattle.direct_proof.specs.Tagged.{Tagged, ToldTable, ToldFaces, Answered, on_wire, runs_in, told, packets_in}
 use Rattle.direct_proof.specs.Related.{Related}
 use Rattle.direct_proof.specs.Session.{Session, down_in}
 use Rattle.direct_proof.specs.Loads.{IsLoad, IsComing}
@@ -41,19 +39,27 @@ use Rattle.direct_proof.specs.Stale.{ends}
 use Rattle.direct_proof.specs.Running.{StartsFit}
 use Rattle.direct_proof.specs.Kinds.{TaggedOfKind, OfKind, IsIn}
 use Rattle.direct_proof.proofs.answers.Loads.{performed-as}
-use Rattle.direct_proof.proofs.performs.Performs.{First, answered}
+use Rattle.direct_proof.proofs.performs.Performs.{First, answered, perform-allowed, same-byte}
 use Rattle.direct_proof.proofs.shared.Owed.{each-append, each-filter, each-parts, ids-perform}
 use Rattle.direct_proof.proofs.lists.Counts.{Each-front, Each-back}
-use Rattle.direct_proof.proofs.shared.Folds.{not-both}
+use Rattle.direct_proof.proofs.shared.Folds.{not-both, or-left, or-right, any-append}
 use Rattle.direct_proof.proofs.shared.Streaming.{starts-none}
 use Rattle.direct_proof.proofs.shared.Backs.{told-append, clean-append}
 use Rattle.direct_proof.proofs.shared.Debts.{filter-append}
 use Rattle.direct_proof.proofs.shared.Sending.{IsNews, after-host, sent_world, sent_shared, answer-tells}
 use Rattle.direct_proof.proofs.shared.Ran.{Held, held-parts, greeted-held, behind-drop}
-use Rattle.direct_proof.proofs.performs.Flushes.{control-untouched, flushed_tag, behind-filter, behind-zeros, filter-kept, ids-flush, runs-flushed, clean-flushed}
+use Rattle.direct_proof.proofs.performs.Flushes.{control-untouched, flushed_tag, behind-filter, behind-zeros, filter-kept, ids-flush, runs-flushed, clean-flushed, touched-wire, flushed_of, packets-flushed}
 use Rattle.direct_proof.proofs.performs.Performing.{queue-held, performed-first}
 use Rattle.direct_proof.proofs.performs.Flushing.{flushes, still_running, change_news, host-change}
 use Rattle.direct_proof.proofs.performs.StillRunning.{quits-still, each-still}
+use Rattle.usb_base.specs.declared.status.UsbStatus.TheVariants.{Cancelled}
+use Rattle.redir_host.specs.device.Changes.{is_touched}
+use Rattle.redir_host.specs.write.Answers.{ended}
+use Rattle.gate_history.proofs.lemmas.Lists.{filter-map}
+use Rattle.direct_proof.proofs.shared.WireBack.{packets_in-append, runs_in-append}
+use Rattle.direct_proof.proofs.shared.Traces.{map-append}
+use Rattle.direct_proof.proofs.heard.Taken.{wire-seen}
+use Rattle.direct_proof.proofs.shared.Keeps.{Keeps, keeps-deed, not-lost, not-gone}
 
 changes-in : (v : Verdict) (r : Route) → change_in v ≡ Some r → changes v ≡ true
 changes-in (Now status) r h = absurd (cc)
@@ -104,7 +110,7 @@ module _ {S : Type 0} (m : Meaning S) (laws : IsGadget m) (w : World S) (j : Sha
   first = greeted-held m w j f.front e f.back rel held.is w.host.guest.first refl
 
   -- the move
-  pub moved : move m w (Performs ep) ≡ record { world = sent_world w done.0 left running cs; outs = []; deeds = Perform (queue_byte ep) (number_in e.id w.submits) ∷ [] }
+  moved : move m w (Performs ep) ≡ record { world = sent_world w done.0 left running cs; outs = []; deeds = Perform (queue_byte ep) (number_in e.id w.submits) ∷ [] }
   moved = ap (performs w ep) (
       performed-first m w ep (Some q) there here
       ∙ (λ i. with_id (f.is i) (performs_any m (record w.host { queue = (ap (without_first (is_at ep)) (queue-held m w j rel there) ∙ f.host_rest) i }) (f.is i)))
@@ -115,9 +121,9 @@ module _ {S : Type 0} (m : Meaning S) (laws : IsGadget m) (w : World S) (j : Sha
       rested = record w.host { queue = map at_queue f.rest }
 
   load : IsLoad e.load
-  load = (each-parts (λ (x : Entry). IsLoad x.load) f.front e (f.back ++ j.coming) (subst (Each (λ (x : Entry). IsLoad x.load)) held.inside rel.loads)).0
+  load = (each-parts (λ (x : Entry). IsLoad x.load) f.front e (f.back ++ j.coming) (subst (Each (λ (x : Entry). IsLoad x.load)) held.inside rel.line.loads)).0
 
-  pub named : number_in e.id w.submits ≡ number e.load
+  named : number_in e.id w.submits ≡ number e.load
   named = (each-parts (λ (x : Entry). number_in x.id w.submits ≡ number x.load) f.front e (f.back ++ j.coming) (subst (Each (λ (x : Entry). number_in x.id w.submits ≡ number x.load)) held.inside rel.ids.named)).0
 
   is-it : is_change e ≡ true
@@ -132,7 +138,7 @@ module _ {S : Type 0} (m : Meaning S) (laws : IsGadget m) (w : World S) (j : Sha
 
   -- those behind it are of endpoint 0, and stay
   untouched : Each (λ (x : Entry). out x ≡ false) j.coming
-  untouched = go j.coming (Each-back (λ (y : Entry). is_control (normal_of y.load).ep ≡ true) f.back j.coming (behind-zeros f.front e (f.back ++ j.coming) (subst Behind held.inside rel.behind) is-it))
+  untouched = go j.coming (Each-back (λ (y : Entry). is_control (normal_of y.load).ep ≡ true) f.back j.coming (behind-zeros f.front e (f.back ++ j.coming) (subst Behind held.inside rel.line.behind) is-it))
     where
       never : (b : Bool) → (b && false) ≡ false
       never true = refl
@@ -145,13 +151,13 @@ module _ {S : Type 0} (m : Meaning S) (laws : IsGadget m) (w : World S) (j : Sha
   rested : f.front ++ (f.back ++ j.coming) ≡ f.rest ++ j.coming
   rested = held.outside ∙ ap (λ (l : List Entry). l ++ j.coming) (sym f.rest-is)
 
-  pub rest-loads : Each (λ (x : Entry). IsLoad x.load) (f.rest ++ j.coming)
-  rest-loads = subst (Each (λ (x : Entry). IsLoad x.load)) rested (each-parts (λ (x : Entry). IsLoad x.load) f.front e (f.back ++ j.coming) (subst (Each (λ (x : Entry). IsLoad x.load)) held.inside rel.loads)).1
+  rest-loads : Each (λ (x : Entry). IsLoad x.load) (f.rest ++ j.coming)
+  rest-loads = subst (Each (λ (x : Entry). IsLoad x.load)) rested (each-parts (λ (x : Entry). IsLoad x.load) f.front e (f.back ++ j.coming) (subst (Each (λ (x : Entry). IsLoad x.load)) held.inside rel.line.loads)).1
 
-  pub all-left : filter (λ x. not (out x)) (f.rest ++ j.coming) ≡ left ++ j.coming
+  all-left : filter (λ x. not (out x)) (f.rest ++ j.coming) ≡ left ++ j.coming
   all-left = filter-append (λ x. not (out x)) f.rest j.coming ∙ ap (λ (l : List Entry). left ++ l) (filter-kept out j.coming untouched).1
 
-  pub all-gone : filter out (f.rest ++ j.coming) ≡ gone
+  all-gone : filter out (f.rest ++ j.coming) ≡ gone
   all-gone = filter-append out f.rest j.coming ∙ ap (λ (l : List Entry). gone ++ l) (filter-kept out j.coming untouched).0 ∙ append-nil gone
 
   ids : Ids j.debts w.submits (left ++ j.coming) (runs_in j.back ++ runs_in cs)
@@ -174,20 +180,20 @@ module _ {S : Type 0} (m : Meaning S) (laws : IsGadget m) (w : World S) (j : Sha
       all (x ∷ es) h = (record { load = h.0; outcome = record { done = omega arith; from_device = λ z. refl; to_device = λ z. refl }; status = refl }, all es h.1)
 
   ends-in : (fence : Option ℕ) → list_any (ends fence) cs ≡ true
-  ends-in fence = list_any-append (ends fence) (map flushed_tag gone) (ToldTable (m.table done.0) ∷ ToldFaces (m.interfaces done.0) ∷ Answered c ∷ [])
-      ∙ or_right (list_any (ends fence) (map flushed_tag gone)) (changes e.load.verdict || false) (or_left (changes e.load.verdict) false is-it)
+  ends-in fence = any-append (ends fence) (map flushed_tag gone) (ToldTable (m.table done.0) ∷ ToldFaces (m.interfaces done.0) ∷ Answered c ∷ [])
+      ∙ or-right (list_any (ends fence) (map flushed_tag gone)) (changes e.load.verdict || false) (or-left (changes e.load.verdict) false is-it)
 
   session : Session m w j → Session m (sent_world w done.0 left running cs) (sent_shared j left cs)
   session s = record {
     table = ap (λ (f : Facts). f.table) facts ∙ (answer-tells (tell (tell before (fact_of (on_wire (ToldTable (m.table done.0))).1)) (fact_of (on_wire (ToldFaces (m.interfaces done.0))).1)) c).table;
     faces = ap (λ (f : Facts). f.interfaces) facts ∙ (answer-tells (tell (tell before (fact_of (on_wire (ToldTable (m.table done.0))).1)) (fact_of (on_wire (ToldFaces (m.interfaces done.0))).1)) c).interfaces;
     clean = clean-append w.gate.fence (down_in w.gate.streams) (any_change (j.held ++ j.coming) || j.fenced) (any_change (left ++ j.coming) || j.fenced) j.back cs
-        (λ z. or_right (any_change (left ++ j.coming) || j.fenced) (list_any (ends w.gate.fence) cs) (ends-in w.gate.fence)) s.clean
+        (λ z. or-right (any_change (left ++ j.coming) || j.fenced) (list_any (ends w.gate.fence) cs) (ends-in w.gate.fence)) s.clean
         (clean-flushed w.gate.fence (down_in w.gate.streams) (any_change (left ++ j.coming) || j.fenced) gone (ToldTable (m.table done.0) ∷ ToldFaces (m.interfaces done.0) ∷ Answered c ∷ [])
         ((λ z. ended-soon), ((λ z. ended-soon), ((λ z. absurd (not-both (sym z))), tt))));
     quits = λ k d. quits-still success r table w.gate.fence k w.host.running w.to_host (s.quits k d);
     trails = s.trails;
-    starts = starts-none table (m.table done.0) (any_change left || j.half) w.to_host (subst (λ (b : Bool). StartsFit table b w.to_host) (or_left (any_change j.held) j.half some-change) s.starts);
+    starts = starts-none table (m.table done.0) (any_change left || j.half) w.to_host (subst (λ (b : Bool). StartsFit table b w.to_host) (or-left (any_change j.held) j.half some-change) s.starts);
     kinds = each-still (λ (x : Running). OfKind (stream_of w.gate.streams x.ep) x.kind) success r table w.host.running s.kinds;
     start_kinds = s.start_kinds;
   }
@@ -199,15 +205,74 @@ module _ {S : Type 0} (m : Meaning S) (laws : IsGadget m) (w : World S) (j : Sha
       facts = told-append w.gate.facts j.back cs ∙ told-append (told w.gate.facts j.back) (map flushed_tag gone) (ToldTable (m.table done.0) ∷ ToldFaces (m.interfaces done.0) ∷ Answered c ∷ [])
 
       ended-soon : ((any_change (left ++ j.coming) || j.fenced) || (changes e.load.verdict || false)) ≡ true
-      ended-soon = or_right (any_change (left ++ j.coming) || j.fenced) (changes e.load.verdict || false) (or_left (changes e.load.verdict) false is-it)
+      ended-soon = or-right (any_change (left ++ j.coming) || j.fenced) (changes e.load.verdict || false) (or-left (changes e.load.verdict) false is-it)
 
       some-change : any_change j.held ≡ true
-      some-change = ap any_change held.is ∙ list_any-append is_change f.front (e ∷ f.back) ∙ or_right (any_change f.front) (is_change e || any_change f.back) (or_left (is_change e) (any_change f.back) is-it)
+      some-change = ap any_change held.is ∙ any-append is_change f.front (e ∷ f.back) ∙ or-right (any_change f.front) (is_change e || any_change f.back) (or-left (is_change e) (any_change f.back) is-it)
 
-  pub related : Related m (sent_world w done.0 left running cs) (sent_shared j left cs)
+  related : Related m (sent_world w done.0 left running cs) (sent_shared j left cs)
   related = after-host m w j done.0 left running cs rel there first news
       (each-append (λ (x : Entry). IsLoad x.load) left j.coming (each-filter (λ (x : Entry). IsLoad x.load) (λ x. not (out x)) f.rest (Each-front (λ (x : Entry). IsLoad x.load) f.rest j.coming rest-loads)) (Each-back (λ (x : Entry). IsLoad x.load) f.rest j.coming rest-loads))
       tagged ids
       (λ P h. each-filter P (λ x. not (out x)) f.rest (subst (Each P) (sym f.rest-is) (each-parts P f.front e f.back (subst (Each P) held.is h)).1))
-      (subst Behind all-left (behind-filter (λ x. not (out x)) (f.rest ++ j.coming) (subst Behind rested (behind-drop f.front e (f.back ++ j.coming) (subst Behind held.inside rel.behind)))))
+      (subst Behind all-left (behind-filter (λ x. not (out x)) (f.rest ++ j.coming) (subst Behind rested (behind-drop f.front e (f.back ++ j.coming) (subst Behind held.inside rel.line.behind)))))
       session (each-still (λ (x : Running). IsIn x.ep) success r table w.host.running rel.runs_at_in)
+
+  abbrev d : Direct S
+  d = view w j
+
+  flushed-ran : (es : List Entry) → Each (λ (x : Entry). IsLoad x.load) es → map (λ (y : Waiting). cancelled y.load) (map at_device (filter out es)) ≡ map ran_of (map flushed_of (filter out es))
+  flushed-ran [] h = refl
+  flushed-ran (x ∷ es) h = go success (is_touched r table (normal_of x.load).ep) refl (flushed-ran es h.1)
+    where
+      one : is_touched r table (normal_of x.load).ep ≡ true → cancelled x.load ≡ ran_of (flushed_of x)
+      one z = ap (λ (o : Outcome). record { load = x.load; outcome = o }) (sym (wire-seen x.load.request x.load.verdict 0 (ended Cancelled) (touched-wire r table x.load h.0.verdict z)))
+
+      go : (a b : Bool) → is_touched r table (normal_of x.load).ep ≡ b → map (λ (y : Waiting). cancelled y.load) (map at_device (filter out es)) ≡ map ran_of (map flushed_of (filter out es)) →
+          map (λ (y : Waiting). cancelled y.load) (map at_device (cond (a && b) (x ∷ filter out es) (filter out es))) ≡ map ran_of (map flushed_of (cond (a && b) (x ∷ filter out es) (filter out es)))
+      go true true z rest = λ i. one z i ∷ rest i
+      go true false z rest = rest
+      go false b z rest = rest
+
+  device : act m d (Perform (queue_byte ep) (number e.load)) ≡ view (sent_world w done.0 left running cs) (sent_shared j left cs)
+  device =
+      ap (performed_first m d (queue_byte ep)) found
+      ∙ (λ i. performed_by m d (at_device e) (rest i) (ready i))
+      ∙ (λ i. record d {
+        gadget = done.0;
+        queue = filter (λ y. not (is_flushed (change i) success table y)) (map at_device (f.rest ++ j.coming));
+        ran = joins_ran d (map (λ (y : Waiting). cancelled y.load) (filter (is_flushed (change i) success table) (map at_device (f.rest ++ j.coming))) ++ ran_of c ∷ []);
+      })
+      ∙ (λ i. record d {
+        gadget = done.0;
+        queue = (filter-map (λ (y : Waiting). not (is_flushed (Some r) success table y)) at_device (f.rest ++ j.coming) ∙ ap (map at_device) all-left) i;
+        ran = (ap (λ (l : List Ran). joins_ran d (l ++ ran_of c ∷ [])) (ap (map (λ (y : Waiting). cancelled y.load)) (filter-map (is_flushed (Some r) success table) at_device (f.rest ++ j.coming)) ∙ ap (λ (l : List Entry). map (λ (y : Waiting). cancelled y.load) (map at_device l)) all-gone
+            ∙ flushed-ran f.rest (Each-front (λ (x : Entry). IsLoad x.load) f.rest j.coming rest-loads)) ∙ more w.gate.imported) i;
+        way = λ k. sym (ways (stream_of w.gate.streams k) k) i;
+      })
+    where
+      found : find (is_first_at (queue_byte ep)) d.queue ≡ Some (at_device e)
+      found = ap (λ (n : ℕ). find (λ (y : Waiting). queue_of (normal_of y.load).ep == n) d.queue) (same-byte ep) ∙ f.device
+
+      rest : without (is_first_at (queue_byte ep)) d.queue ≡ map at_device (f.rest ++ j.coming)
+      rest = ap (λ (n : ℕ). without (λ (y : Waiting). queue_of (normal_of y.load).ep == n) d.queue) (same-byte ep) ∙ f.device_rest
+
+      all : runs_in (j.back ++ cs) ≡ runs_in j.back ++ (map flushed_of gone ++ c ∷ [])
+      all = runs_in-append j.back cs ∙ ap (λ (l : List Coming). runs_in j.back ++ l) (runs-flushed gone (ToldTable (m.table done.0) ∷ ToldFaces (m.interfaces done.0) ∷ Answered c ∷ []))
+
+      more : (b : Bool) → cond b (cond b (map ran_of (runs_in j.back)) [] ++ (map ran_of (map flushed_of gone) ++ ran_of c ∷ [])) (cond b (map ran_of (runs_in j.back)) []) ≡ cond b (map ran_of (runs_in (j.back ++ cs))) []
+      more true = ap (λ (l : List Ran). map ran_of (runs_in j.back) ++ l) (sym (map-append ran_of (map flushed_of gone) (c ∷ []))) ∙ sym (map-append ran_of (runs_in j.back) (map flushed_of gone ++ c ∷ [])) ∙ ap (map ran_of) (sym all)
+      more false = refl
+
+      ways : (up : Option Up) (k : ℕ) → way_of up k (j.back ++ cs) ≡ way_of up k j.back
+      ways None k = refl
+      ways (Some up) k = packets_in-append (is_iso up.row.kind) k j.back cs ∙ ap (λ l. packets_in (is_iso up.row.kind) k j.back ++ l) (packets-flushed (is_iso up.row.kind) k gone (ToldTable (m.table done.0) ∷ ToldFaces (m.interfaces done.0) ∷ Answered c ∷ [])) ∙ append-nil (packets_in (is_iso up.row.kind) k j.back)
+
+  pub keep-changed : Keeps m w j (move m w (Performs ep))
+  keep-changed = keeps-deed m w j (sent_shared j left cs) (move m w (Performs ep)) (Perform (queue_byte ep) (number e.load)) (record {
+    deeds = ap (λ (x : Made S). x.deeds) moved ∙ ap (λ (n : ℕ). Perform (queue_byte ep) n ∷ []) named;
+    outs = ap (λ (x : Made S). x.outs) moved;
+    same = device ∙ ap (λ (x : Made S). view x.world (sent_shared j left cs)) (sym moved);
+    allowed = perform-allowed m w j ep q f done (not-gone m w j rel (not-lost m w j rel there)) ready;
+  })
+      (subst (λ (x : Made S). Related m x.world (sent_shared j left cs)) (sym moved) related)

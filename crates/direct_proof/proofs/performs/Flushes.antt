@@ -5,7 +5,7 @@ use Rattle.usb_base.specs.Endpoint.{row_of}
 use Rattle.usb_base.specs.declared.status.UsbStatus.TheVariants.{Cancelled}
 use Rattle.redir_wire.specs.declared.packet.RedirControl.TheVariants as plain
 use Rattle.redir_data.specs.declared.packet.RedirPacket.{RedirPacket}
-use Rattle.redir_data.specs.declared.packet.RedirPacket.TheVariants.{Plain, Carrying}
+use Rattle.redir_data.specs.declared.packet.RedirPacket.TheVariants.{Plain}
 use Rattle.control_route.specs.declared.route.Route.{Route}
 use Rattle.control_route.specs.Changes.{touches}
 use Rattle.control_route.specs.declared.route.Route.TheVariants as route
@@ -14,7 +14,7 @@ use Rattle.redir_host.specs.device.Changes.{is_touched}
 use Rattle.redir_host.specs.write.Answers.{ended}
 use Rattle.redir_host.specs.state.Sound.{Each}
 use Rattle.gate_history.specs.client.Requests.{Request}
-use Rattle.gate_history.specs.client.Verdict.{Verdict, Now, Wire, Routed, IsoOut, Stream, is_wire}
+use Rattle.gate_history.specs.client.Verdict.{Verdict, Wire, Routed, is_wire}
 use Rattle.direct_run.specs.declared.submitted.Submitted.{Submitted}
 use Rattle.direct_run.specs.Noted.{number_in}
 use Rattle.direct_device.specs.Direct.{Load, number, normal_of, normal_by}
@@ -34,23 +34,14 @@ use Rattle.direct_proof.proofs.shared.Ran.{coming_of}
 
 touched-route : (r : Route) (t : EpTable) (q : Request) (x : Route) → is_touched r t (queued_transfer (record { request = q; verdict = Routed x })).ep ≡ is_touched r t (normal_by q (Routed x)).ep
 touched-route r t q (route.SetConfig c) = refl
-touched-route r t q route.GetConfig = refl
-touched-route r t q (route.SetAlt i a) = refl
-touched-route r t q (route.GetAlt i) = refl
-touched-route r t q route.Reset = refl
-touched-route r t q route.Local = refl
-touched-route r t q route.Plain = refl
-touched-route r t q route.Bad = refl
+touched-route r t q _ = refl
 
 pub touched-same : (r : Route) (t : EpTable) (l : Load) → is_touched r t (queued_transfer l).ep ≡ is_touched r t (normal_of l).ep
 touched-same r t l = go l.verdict
   where
     go : (v : Verdict) → is_touched r t (queued_transfer (record { request = l.request; verdict = v })).ep ≡ is_touched r t (normal_by l.request v).ep
-    go (Now status) = refl
-    go (Wire pipe) = refl
     go (Routed x) = touched-route r t l.request x
-    go (IsoOut row) = refl
-    go (Stream row) = refl
+    go _ = refl
 
 pub control-untouched : (r : Route) (t : EpTable) (ep : ℕ) → is_control ep ≡ true → is_touched r t ep ≡ false
 control-untouched r t ep h = ap (λ (b : Bool). not b && touches r (row_of t ep).interface) h
@@ -61,20 +52,12 @@ touched-wire r t l fits h = go l.verdict fits h
   where
     by_route : (x : Route) → is_touched r t (normal_by l.request (Routed x)).ep ≡ true → ⊥
     by_route (route.SetConfig c) k = not-both (sym k)
-    by_route route.GetConfig k = not-both (sym k)
-    by_route (route.SetAlt i a) k = not-both (sym k)
-    by_route (route.GetAlt i) k = not-both (sym k)
-    by_route route.Reset k = not-both (sym k)
-    by_route route.Local k = not-both (sym k)
-    by_route route.Plain k = not-both (sym k)
-    by_route route.Bad k = not-both (sym k)
+    by_route _ k = not-both (sym k)
 
     go : (v : Verdict) → FitsVerdict v l.request.transfer → is_touched r t (normal_by l.request v).ep ≡ true → is_wire v ≡ true
     go (Wire pipe) f k = refl
     go (Routed x) f k = absurd (by_route x k)
-    go (Now status) f k = absurd f
-    go (IsoOut row) f k = absurd f
-    go (Stream row) f k = absurd f
+    go _ f k = absurd f
 
 -- ---- who leaves
 
@@ -151,27 +134,11 @@ clean-flushed fence down p (e ∷ es) bs h = ((λ z. absurd (not-both (sym z))),
 -- ---- a stream that ends at the host
 
 runs-shape : (ep : ℕ) (p : RedirPacket) → ((b : Bool) → runs_after ep p b ≡ b) ⊎ ((b : Bool) → runs_after ep p b ≡ runs_after ep p false)
-runs-shape ep (Plain (plain.Hello x)) = inl (λ b. refl)
-runs-shape ep (Plain (plain.Connect x)) = inl (λ b. refl)
-runs-shape ep (Plain plain.Disconnect) = inl (λ b. refl)
-runs-shape ep (Plain plain.Reset) = inl (λ b. refl)
-runs-shape ep (Plain (plain.InterfaceInfo x)) = inl (λ b. refl)
-runs-shape ep (Plain (plain.EpInfo x)) = inl (λ b. refl)
-runs-shape ep (Plain (plain.SetConfiguration c)) = inl (λ b. refl)
-runs-shape ep (Plain plain.GetConfiguration) = inl (λ b. refl)
-runs-shape ep (Plain (plain.ConfigurationStatus s c)) = inl (λ b. refl)
-runs-shape ep (Plain (plain.SetAlt i a)) = inl (λ b. refl)
-runs-shape ep (Plain (plain.GetAlt i)) = inl (λ b. refl)
-runs-shape ep (Plain (plain.AltStatus s i a)) = inl (λ b. refl)
 runs-shape ep (Plain (plain.StartIso e n c)) = elim (e == ep) as (λ x. ((b : Bool) → cond x true b ≡ b) ⊎ ((b : Bool) → cond x true b ≡ cond x true false)) [ true ↦ inr (λ b. refl) | false ↦ inl (λ b. refl) ]
 runs-shape ep (Plain (plain.StopIso e)) = elim (e == ep) as (λ x. ((b : Bool) → cond x false b ≡ b) ⊎ ((b : Bool) → cond x false b ≡ cond x false false)) [ true ↦ inr (λ b. refl) | false ↦ inl (λ b. refl) ]
-runs-shape ep (Plain (plain.IsoStatus s e)) = inl (λ b. refl)
 runs-shape ep (Plain (plain.StartInterrupt e)) = elim (e == ep) as (λ x. ((b : Bool) → cond x true b ≡ b) ⊎ ((b : Bool) → cond x true b ≡ cond x true false)) [ true ↦ inr (λ b. refl) | false ↦ inl (λ b. refl) ]
 runs-shape ep (Plain (plain.StopInterrupt e)) = elim (e == ep) as (λ x. ((b : Bool) → cond x false b ≡ b) ⊎ ((b : Bool) → cond x false b ≡ cond x false false)) [ true ↦ inr (λ b. refl) | false ↦ inl (λ b. refl) ]
-runs-shape ep (Plain (plain.InterruptStatus s e)) = inl (λ b. refl)
-runs-shape ep (Plain plain.Cancel) = inl (λ b. refl)
-runs-shape ep (Plain plain.DisconnectAck) = inl (λ b. refl)
-runs-shape ep (Carrying d) = inl (λ b. refl)
+runs-shape ep _ = inl (λ b. refl)
 
 pub quits-low : (fence : Option ℕ) (ep : ℕ) (r : Bool) (ps : List (ℕ × RedirPacket)) → Quits fence ep r ps → Quits fence ep false ps
 quits-low fence ep r [] h = refl

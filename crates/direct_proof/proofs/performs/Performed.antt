@@ -18,7 +18,7 @@ use Rattle.direct_proof.specs.Related.{Related}
 use Rattle.direct_proof.proofs.answers.Loads.{performed-as}
 use Rattle.direct_proof.proofs.performs.Performs.{First, first-of}
 use Rattle.direct_proof.proofs.performs.Performing.{keep-still, keep-plain, queue-held, performed-first}
-use Rattle.direct_proof.proofs.performs.Changed.{keep-changed}
+use Rattle.direct_proof.proofs.performs.Changing.{keep-changed}
 use Rattle.direct_proof.proofs.shared.Keeps.{Keeps}
 
 pub keep-performs : {S : Type 0} (m : Meaning S) → IsGadget m → (w : World S) (j : Shared) (ep : ℕ) → Related m w j → Keeps m w j (move m w (Performs ep))

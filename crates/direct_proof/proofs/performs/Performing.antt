@@ -68,9 +68,7 @@ asks-none l is none = go l.verdict is.verdict none
     go : (v : Verdict) → FitsVerdict v l.request.transfer → change_in v ≡ None → asks_change (normal_by l.request v) ≡ false
     go (Wire pipe) f h = by pipe l.request.transfer.setup f
     go (Routed x) f h = routed-none x l.request.transfer.setup f h
-    go (Now status) f h = absurd f
-    go (IsoOut row) f h = absurd f
-    go (Stream row) f h = absurd f
+    go _ f h = absurd f
 
 pub no-change : (v : Verdict) → change_in v ≡ None → changes v ≡ false
 no-change (Wire pipe) h = refl
@@ -90,7 +88,7 @@ keep-still {S = S} m w j ep rel none = keeps-quiet m w j j (move m w (Performs e
 
 -- the first of a queue, as the host finds it
 pub queue-held : {S : Type 0} (m : Meaning S) (w : World S) (j : Shared) → Related m w j → w.host.unplugged ≡ false → w.host.queue ≡ map at_queue j.held
-queue-held m w j rel there = rel.held ∙ ap (λ (b : Bool). cond b [] (map at_queue j.held)) there
+queue-held m w j rel there = rel.line.held ∙ ap (λ (b : Bool). cond b [] (map at_queue j.held)) there
 
 pub performed-first : {S : Type 0} (m : Meaning S) (w : World S) (ep : ℕ) (o : Option HostRequest) → w.host.unplugged ≡ false → find (is_at ep) w.host.queue ≡ o → performed m w.host ep ≡ first_performed m w.host ep o
 performed-first m w ep o there found = ap (λ (b : Bool). cond b None (first_performed m w.host ep (find (is_at ep) w.host.queue))) there ∙ ap (first_performed m w.host ep) found
@@ -126,7 +124,7 @@ keep-plain {S = S} m laws w j ep q rel there found f plain (Some done) ready = k
     named = (each-parts (λ (x : Entry). number_in x.id w.submits ≡ number x.load) f.front e (f.back ++ j.coming) (subst (Each (λ (x : Entry). number_in x.id w.submits ≡ number x.load)) held.inside rel.ids.named)).0
 
     load : IsLoad e.load
-    load = (each-parts (λ (x : Entry). IsLoad x.load) f.front e (f.back ++ j.coming) (subst (Each (λ (x : Entry). IsLoad x.load)) held.inside rel.loads)).0
+    load = (each-parts (λ (x : Entry). IsLoad x.load) f.front e (f.back ++ j.coming) (subst (Each (λ (x : Entry). IsLoad x.load)) held.inside rel.line.loads)).0
 
     facts : SameFacts m w.host.gadget done.0
     facts = subst (λ (o : Option (S × Outcome)). IfSome o (λ x. SameFacts m w.host.gadget x.0)) ready (laws.keeps w.host.gadget (normal_of e.load) load.transfer (asks-none e.load load plain))

@@ -13,7 +13,7 @@ use Rattle.redir_host.specs.state.Queues.{queue_of, is_at}
 use Rattle.redir_host.specs.device.Performing.{does, performs_any, first_performed, with_id}
 use Rattle.gate_history.proofs.lemmas.Lists.{filter-all, filter-none}
 use Rattle.gate_history.specs.state.Ups.{stream_of}
-use Rattle.gate_history.specs.client.Verdict.{Verdict, Now, Wire, Routed, IsoOut, Stream}
+use Rattle.gate_history.specs.client.Verdict.{Verdict, Routed}
 use Rattle.gate_history.specs.client.Requests.{Request}
 use Rattle.direct_run.specs.Noted.{queue_byte, number_in}
 use Rattle.direct_run.specs.Moves.{World, Performs}
@@ -34,23 +34,14 @@ itself n = grind arith
 
 queue-route : (r : Request) (x : Route) → queue_of (queued_transfer (record { request = r; verdict = Routed x })).ep ≡ queue_of (normal_by r (Routed x)).ep
 queue-route r (route.SetConfig configuration) = refl
-queue-route r route.GetConfig = refl
-queue-route r (route.SetAlt interface alt) = refl
-queue-route r (route.GetAlt interface) = refl
-queue-route r route.Reset = refl
-queue-route r route.Local = refl
-queue-route r route.Plain = refl
-queue-route r route.Bad = refl
+queue-route r _ = refl
 
 pub same-queue : (l : Load) → queue_of (queued_transfer l).ep ≡ queue_of (normal_of l).ep
 same-queue l = go l.verdict
   where
     go : (v : Verdict) → queue_of (queued_transfer (record { request = l.request; verdict = v })).ep ≡ queue_of (normal_by l.request v).ep
-    go (Now status) = refl
-    go (Wire pipe) = refl
     go (Routed x) = queue-route l.request x
-    go (IsoOut row) = refl
-    go (Stream row) = refl
+    go _ = refl
 
 abbrev in_queue : ℕ → HostRequest → Bool
 in_queue k q = queue_of q.transfer.ep == k

@@ -1,7 +1,6 @@
 -- The streams that still run at the host behind a change.
 use Rattle.std.proofs.Common.{◌≡◌, ℕ, ◌||◌, Bool, true, false, cond, List, [], ◌∷◌, filter, Option, refl}
 use Rattle.std.specs.List.{list_any}
-use Rattle.std.proofs.lemmas.Bool.{or_parts}
 use Rattle.usb_base.specs.declared.endpoint.EpTable.{EpTable}
 use Rattle.control_route.specs.declared.route.Route.{Route}
 use Rattle.redir_host.specs.declared.running.Running.{Running}
@@ -10,14 +9,14 @@ use Rattle.redir_host.specs.device.Changes.{runs_on}
 use Rattle.redir_host.specs.state.Sound.{Each}
 use Rattle.direct_proof.specs.Running.{Quits}
 use Rattle.direct_proof.proofs.shared.Owed.{each-filter}
-use Rattle.direct_proof.proofs.shared.Folds.{clash}
+use Rattle.direct_proof.proofs.shared.Folds.{clash, or-none}
 use Rattle.direct_proof.proofs.performs.Flushes.{quits-low}
 use Rattle.direct_proof.proofs.performs.Flushing.{still_running}
 use Rattle.redir_data.specs.declared.packet.RedirPacket.{RedirPacket}
 
 fewer : (r : Route) (table : EpTable) (k : ℕ) (rs : List Running) → list_any (runs_at k) rs ≡ false → list_any (runs_at k) (filter (runs_on r table) rs) ≡ false
 fewer r table k [] h = refl
-fewer r table k (x ∷ rs) h = let p = or_parts (runs_at k x) (list_any (runs_at k) rs) h in on (runs_on r table x) p.0 (fewer r table k rs p.1)
+fewer r table k (x ∷ rs) h = let p = or-none (runs_at k x) (list_any (runs_at k) rs) h in on (runs_on r table x) p.0 (fewer r table k rs p.1)
   where
     on : (b : Bool) → runs_at k x ≡ false → list_any (runs_at k) (filter (runs_on r table) rs) ≡ false → list_any (runs_at k) (cond b (x ∷ filter (runs_on r table) rs) (filter (runs_on r table) rs)) ≡ false
     on true z y = λ i. z i || y i

@@ -19,7 +19,7 @@ use Rattle.gate_history.specs.client.Requests.{request_of}
 use Rattle.gate_history.specs.state.State.{State, has_number}
 use Rattle.gate_history.specs.client.Submits.{Pending, is_touched}
 use Rattle.gate_history.specs.state.Ups.{Up, is_ended}
-use Rattle.gate_history.specs.client.Verdict.{Verdict, Now, Wire, Routed, IsoOut, Stream}
+use Rattle.gate_history.specs.client.Verdict.{Verdict, Routed, Stream}
 use Rattle.direct_run.specs.Moves.{World, Move, ByClient, HostReads, GateReads, Performs, Unplugs}
 use Rattle.direct_proof.specs.Running.{called_endpoint}
 
@@ -37,11 +37,9 @@ pub record EndsNone (st : State) (x : Route) : Type 0 where
 -- what is made of it: it is answered at once, or it goes to the host by an id, by a packet of its own or by a route that ends no
 -- stream
 abbrev pub IsRaceVerdict : State → Verdict → Type 0
-IsRaceVerdict st (Now status) = Unit {0}
-IsRaceVerdict st (Wire pipe) = Unit {0}
 IsRaceVerdict st (Routed x) = EndsNone st x
-IsRaceVerdict st (IsoOut row) = Unit {0}
 IsRaceVerdict st (Stream row) = ⊥
+IsRaceVerdict st _ = Unit {0}
 
 -- one of a client that hasn't imported is refused, and so is one with a number that is taken
 pub record IsRaceSubmit (st : State) (s : UrbSubmit) : Type 0 where

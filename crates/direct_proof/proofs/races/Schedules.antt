@@ -58,7 +58,7 @@ keep-reads {S = S} m w j place rel sound reply = go j.back refl
     by (Packed Interrupt ep p) bs r k = absurd (low ep r.tagged.0.0 k)
     by (Stated Iso id ep status) bs r k = absurd k
     by (Stated Interrupt id ep status) bs r k = absurd k
-    by Bye bs r k = subst (λ (l : List Tagged). Keeps m w (with_back j (Bye ∷ l)) (move m w (GateReads place))) (sym (r.bye_last.0 refl)) (keep-bye m w j place (subst (λ (l : List Tagged). Related m w (with_back j (Bye ∷ l))) (r.bye_last.0 refl) r) sound)
+    by Bye bs r k = subst (λ (l : List Tagged). Keeps m w (with_back j (Bye ∷ l)) (move m w (GateReads place))) (sym (r.farewell.bye_last.0 refl)) (keep-bye m w j place (subst (λ (l : List Tagged). Related m w (with_back j (Bye ∷ l))) (r.farewell.bye_last.0 refl) r) sound)
 
     go : (bs : List Tagged) → j.back ≡ bs → Keeps m w j (move m w (GateReads place))
     go [] e = keeps-quiet m w j j (move m w (GateReads place)) w (ap (gate_reads w place) (rel.answers ∙ ap (map on_wire) e)) rel refl
@@ -97,7 +97,7 @@ keep-race {S = S} m laws w j HostReads is run rel = go w.host.guest.first refl
   where
     go : (b : Bool) → w.host.guest.first ≡ b → Keeps m w j (move m w HostReads)
     go true fresh = keep-hello m w j rel fresh
-    go false met = keep-reads-asked m w j w.to_host rel refl (λ p rest e. ((subst (Each (λ (q : ℕ × RedirPacket). IsAsking q.1)) e (rel.meets.asked met)).0, subst HearsNoCall e is))
+    go false met = keep-reads-asked m w j w.to_host rel refl (λ p rest e. ((subst (Each (λ (q : ℕ × RedirPacket). IsAsking q.1)) e (rel.asked met)).0, subst HearsNoCall e is))
 keep-race m laws w j (GateReads place) is run rel = keep-reads m w j place rel (run-sound w.gate run) is
 keep-race m laws w j (Performs ep) is run rel = keep-performs m laws w j ep rel
 keep-race m laws w j (ByClient (Asked place (Urb (urb.RetSubmit u)))) is run rel = absurd is

@@ -40,7 +40,7 @@ use Rattle.direct_proof.proofs.submits.Simple.{IsSimple, simple-wire, simple-con
 use Rattle.direct_proof.proofs.submits.Simple as simple
 use Rattle.direct_proof.proofs.submits.Opening.{simple-means}
 use Rattle.direct_proof.proofs.submits.Fresh.{IsSimpleSubmit}
-use Rattle.direct_proof.proofs.submits.Accepted.{keep-simple}
+use Rattle.direct_proof.proofs.submits.Accepting.{keep-simple}
 use Rattle.direct_proof.proofs.shared.Keeps.{Keeps}
 use Rattle.direct_proof.proofs.shared.New.{IsDrawn}
 use Rattle.gate_history.specs.client.Verdict.{goes_by_id, verdict}
@@ -134,9 +134,7 @@ simple-submit st run place s read inside new v same by_id ends = go v same (subm
     go : (u : Verdict) → verdict_of st r ≡ u → IsLoad (record { request = r; verdict = u }) → IsRaceVerdict st u → IsSimpleSubmit st s u
     go (Wire pipe) e load k = made (Wire pipe) e (simple-wire st r pipe load.transfer load.verdict) load (wire-behind st r pipe e load.transfer)
     go (Routed x) e load k = routes x e load load.verdict k
-    go (Now status) e load k = absurd load.verdict
-    go (IsoOut row) e load k = absurd load.verdict
-    go (Stream row) e load k = absurd load.verdict
+    go _ e load k = absurd load.verdict
 
 -- ---- both ways
 
@@ -169,7 +167,7 @@ keep-taken {S = S} m laws w j place s rel run read inside new fits = go (verdict
     -- the device attached directly answers it so, too
     same-now : (status : ℤ) → verdict_of st r ≡ Now status → (b : Bool) → st.lost ≡ b → made_of m (view w j) r ≡ Now status
     same-now status e true off =
-        (λ i. by_stream up (verdict ((sym (rel.seen inside) ∙ off) i) (length (map live_of st.live)) (any_changes (map live_of st.live)) (m.table w.host.gadget) true r))
+        (λ i. by_stream up (verdict ((sym (rel.sides.seen inside) ∙ off) i) (length (map live_of st.live)) (any_changes (map live_of st.live)) (m.table w.host.gadget) true r))
         ∙ kept-now up eshutdown
         ∙ (λ i. cond (sym off i) (Now eshutdown) (cond (nat_le MAX_LIVE (length st.live)) (Now ebusy) (by_transfer (change_waits st) st.facts.table (wide_bulk st.agreed) r r.transfer.setup)))
         ∙ e

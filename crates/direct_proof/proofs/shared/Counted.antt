@@ -22,38 +22,34 @@ counted_world w names over = record w { gate = record w.gate { items = suc w.gat
 
 pub counted-related : {S : Type 0} (m : Meaning S) (w : World S) (j : Shared) (names : List Submitted) (over : Bool) → Related m w j → Ids j.debts names (j.held ++ j.coming) (runs_in j.back) → (over ≡ true → w.gate.imported ≡ false) → Related m (counted_world w names over) j
 counted-related m w j names over rel ids refused = record {
-  held = rel.held;
-  half = rel.half;
-  coming = rel.coming;
+  line = rel.line;
   answers = rel.answers;
-  loads = rel.loads;
   tagged = rel.tagged;
   ids = ids;
   real = rel.real;
-  calls_in = rel.calls_in;
   runs_at_in = rel.runs_at_in;
-  meets = record { host = rel.meets.host; gate = rel.meets.gate; before = λ h. let e = rel.meets.before h in record { back = e.back; wire = e.wire; held = e.held; half = e.half; running = e.running }; announced = rel.meets.announced; asked = rel.meets.asked; behind = rel.meets.behind; once = rel.meets.once; plugged = rel.meets.plugged; no_session = rel.meets.no_session };
+  before = rel.before;
+  asked = rel.asked;
+  meets = rel.meets;
   debts = rel.debts;
   controls = rel.controls;
   fenced = rel.fenced;
-  cancels = rel.cancels;
-  behind = rel.behind;
   alone = rel.alone;
-  session = λ h a. let s = rel.session h a in record { table = s.table; faces = s.faces; clean = s.clean; quits = s.quits; trails = s.trails; starts = s.starts; kinds = s.kinds; start_kinds = s.start_kinds };
+  session = rel.session;
   ups = rel.ups;
-  lost = rel.lost;
-  reads = rel.reads;
-  refused = refused;
   down = rel.down;
-  gone = rel.gone;
-  seen = rel.seen;
-  still = rel.still;
-  bye = rel.bye;
-  bye_last = rel.bye_last;
+  lost = rel.lost;
+  sides = record {
+    reads = rel.sides.reads;
+    refused = refused;
+    gone = rel.sides.gone;
+    seen = rel.sides.seen;
+  };
+  farewell = rel.farewell;
 }
 
 pub replied-related : {S : Type 0} (m : Meaning S) (w : World S) (j : Shared) → Related m w j → Related m (replied_world w) j
-replied-related m w j rel = counted-related m w j w.submits w.gate.client_over rel rel.ids rel.refused
+replied-related m w j rel = counted-related m w j w.submits w.gate.client_over rel rel.ids rel.sides.refused
 
 -- one that goes by no id has a number, and no entry
 pub ids-named : (ds : List Debt) (names : List Submitted) (es : List Entry) (ran : List Coming) (n : ℕ) → Each (λ (d : Debt). (d.id == 0) ≡ false) ds → Ids ds names es ran → Ids ds (names ++ record { seqnum = n; id = 0 } ∷ []) es ran

@@ -2,7 +2,7 @@
 use Rattle.std.proofs.Common.{◌≡◌, ℕ, suc, ◌+◌, ◌≤◌, ◌==◌, ◌&&◌, not, Bool, true, false, cond, List, [], ◌∷◌, ◌++◌, map, filter, length, Some, refl, sym, ap, ◌∙◌, arith}
 use Rattle.std.specs.List.{find}
 use Rattle.usb_base.specs.declared.transfer.Transfer.{Transfer}
-use Rattle.gate_history.specs.client.Verdict.{Verdict, Now, Wire, Routed, IsoOut, Stream, goes_by_id}
+use Rattle.gate_history.specs.client.Verdict.{Verdict, Wire, Routed, goes_by_id}
 use Rattle.gate_history.specs.step.Marks.{Submission}
 use Rattle.gate_history.specs.client.Submits.{Pending, has_id, is_waiting}
 use Rattle.gate_history.specs.state.State.{State, submits, is_number as is_numbered}
@@ -25,9 +25,7 @@ use Rattle.direct_proof.proofs.shared.Asked.{debt_from}
 pub load-waits : (v : Verdict) (t : Transfer) → FitsVerdict v t → (is_waiting v ≡ false) × (goes_by_id v ≡ true)
 load-waits (Wire pipe) t f = (refl, refl)
 load-waits (Routed x) t f = (refl, refl)
-load-waits (Now status) t f = absurd f
-load-waits (IsoOut row) t f = absurd f
-load-waits (Stream row) t f = absurd f
+load-waits _ t f = absurd f
 
 -- ---- lists of debts
 

@@ -73,5 +73,5 @@ pub not-gone : {S : Type 0} (m : Meaning S) (w : World S) (j : Shared) → Relat
 not-gone m w j rel there = go j.gone refl
   where
     go : (b : Bool) → j.gone ≡ b → b ≡ false
-    go true h = absurd (clash w.gate.lost (rel.gone h) there)
+    go true h = absurd (clash w.gate.lost (rel.sides.gone h) there)
     go false h = refl

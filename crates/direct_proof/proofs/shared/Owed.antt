@@ -41,31 +41,25 @@ pair-itself id n = ap (λ (b : Bool). both b (n == n)) (itself id) ∙ itself n
 debts-some : (id n : ℕ) (ds : List Debt) → IsNew id ds → count (λ (d : Debt). pair id n d.id (number d.load)) ds ≡ 0
 debts-some id n ds h = let z = count-zero (λ (d : Debt). d.id == id) ds h in let le = count-both (λ (d : Debt). d.id == id) (λ (d : Debt). number d.load == n) ds in omega (arith, z, le)
 
-pub entries-old : (ds : List Debt) (names : List Submitted) (es : List Entry) (ran : List Coming) → Ids ds names es ran → (id : ℕ) → IsNew id ds → Each (λ (e : Entry). (id == e.id) ≡ false) es
-entries-old ds names es ran ids id new =
-    Each-weaker (λ (e : Entry). 1 ≤ count (λ (y : Entry). pair e.id (number e.load) y.id (number y.load)) es) (λ (e : Entry). (id == e.id) ≡ false)
-    (λ e h. go e (id == e.id) refl h) es
-    (Each-found (λ (e y : Entry). pair e.id (number e.load) y.id (number y.load)) (λ e. pair-itself e.id (number e.load)) es)
+-- so what has a new id isn't under way; what is under way has an id and a load
+names-old : {X : Type 0} (id_of : X → ℕ) (load_of : X → Load) (ds : List Debt) (xs : List X) → ((i n : ℕ) → count (λ (x : X). pair i n (id_of x) (number (load_of x))) xs ≤ count (λ (d : Debt). pair i n d.id (number d.load)) ds) → (id : ℕ) → IsNew id ds → Each (λ (x : X). (id == id_of x) ≡ false) xs
+names-old {X = X} id_of load_of ds xs owed id new =
+    Each-weaker (λ (x : X). 1 ≤ count (λ (y : X). pair (id_of x) (number (load_of x)) (id_of y) (number (load_of y))) xs) (λ (x : X). (id == id_of x) ≡ false)
+    (λ x h. go x (id == id_of x) refl h) xs
+    (Each-found (λ (x y : X). pair (id_of x) (number (load_of x)) (id_of y) (number (load_of y))) (λ x. pair-itself (id_of x) (number (load_of x))) xs)
   where
-    go : (e : Entry) (b : Bool) → (id == e.id) ≡ b → 1 ≤ count (λ (y : Entry). pair e.id (number e.load) y.id (number y.load)) es → b ≡ false
-    go e false i h = refl
-    go e true i h =
-        let same : id ≡ e.id = grind (arith, i) in
-        let z = debts-some e.id (number e.load) ds (subst (λ (n : ℕ). IsNew n ds) same new) in
-        absurd (omega (arith, z, h, ids.balance (pair e.id (number e.load))))
+    go : (x : X) (b : Bool) → (id == id_of x) ≡ b → 1 ≤ count (λ (y : X). pair (id_of x) (number (load_of x)) (id_of y) (number (load_of y))) xs → b ≡ false
+    go x false i h = refl
+    go x true i h =
+        let same : id ≡ id_of x = grind (arith, i) in
+        let z = debts-some (id_of x) (number (load_of x)) ds (subst (λ (n : ℕ). IsNew n ds) same new) in
+        absurd (omega (arith, z, h, owed (id_of x) (number (load_of x))))
+
+pub entries-old : (ds : List Debt) (names : List Submitted) (es : List Entry) (ran : List Coming) → Ids ds names es ran → (id : ℕ) → IsNew id ds → Each (λ (e : Entry). (id == e.id) ≡ false) es
+entries-old ds names es ran ids = names-old (λ (e : Entry). e.id) (λ (e : Entry). e.load) ds es (λ i n. omega (arith, ids.balance (pair i n)))
 
 pub ran-old : (ds : List Debt) (names : List Submitted) (es : List Entry) (ran : List Coming) → Ids ds names es ran → (id : ℕ) → IsNew id ds → Each (λ (c : Coming). (id == c.id) ≡ false) ran
-ran-old ds names es ran ids id new =
-    Each-weaker (λ (e : Coming). 1 ≤ count (λ (y : Coming). pair e.id (number e.load) y.id (number y.load)) ran) (λ (e : Coming). (id == e.id) ≡ false)
-    (λ e h. go e (id == e.id) refl h) ran
-    (Each-found (λ (e y : Coming). pair e.id (number e.load) y.id (number y.load)) (λ e. pair-itself e.id (number e.load)) ran)
-  where
-    go : (e : Coming) (b : Bool) → (id == e.id) ≡ b → 1 ≤ count (λ (y : Coming). pair e.id (number e.load) y.id (number y.load)) ran → b ≡ false
-    go e false i h = refl
-    go e true i h =
-        let same : id ≡ e.id = grind (arith, i) in
-        let z = debts-some e.id (number e.load) ds (subst (λ (n : ℕ). IsNew n ds) same new) in
-        absurd (omega (arith, z, h, ids.balance (pair e.id (number e.load))))
+ran-old ds names es ran ids = names-old (λ (c : Coming). c.id) (λ (c : Coming). c.load) ds ran (λ i n. omega (arith, ids.balance (pair i n)))
 
 -- ---- a submit
 
@@ -75,6 +69,11 @@ number-last id xs x = ap (λ (l : List Submitted). number_of (find (λ (y : Subm
     go : (b : Bool) → number_of (cond b (Some x) (find (λ (y : Submitted). y.id == id) (reverse xs))) ≡ cond b x.seqnum (number_in id xs)
     go true = refl
     go false = refl
+
+-- what agrees with the debts agrees with one more, of another id
+agree-more : {X : Type 0} (id_of : X → ℕ) (load_of : X → Load) (ds : List Debt) (d : Debt) (xs : List X) → Each (λ (x : X). Each (λ (y : Debt). Agrees y (id_of x) (load_of x)) ds) xs → Each (λ (x : X). (d.id == id_of x) ≡ false) xs → Each (λ (x : X). Each (λ (y : Debt). Agrees y (id_of x) (load_of x)) (ds ++ d ∷ [])) xs
+agree-more id_of load_of ds d [] h k = tt
+agree-more id_of load_of ds d (x ∷ xs) h k = (each-append (λ (y : Debt). Agrees y (id_of x) (load_of x)) ds (d ∷ []) h.0 ((λ z. absurd (false-true (sym k.0 ∙ z))), tt), agree-more id_of load_of ds d xs h.1 k.1)
 
 one-more : {X : Type 0} (p : X → Bool) (xs : List X) (x : X) → count p xs ≤ 1 → (p x ≡ true → count p xs ≡ 0) → count p (xs ++ x ∷ []) ≤ 1
 one-more p xs x h k = go (p x) refl
@@ -90,9 +89,9 @@ ids-submit ds names es ran id l asked ids new new_number = record {
   one_id = λ i. one-more (λ (x : Debt). x.id == i) ds d (ids.one_id i) (λ h. let same : id ≡ i = grind (arith, h) in count-zero (λ (x : Debt). x.id == i) ds (subst (λ (n : ℕ). IsNew n ds) same new));
   one_number = λ n. one-more (λ (x : Debt). number x.load == n) ds d (ids.one_number n) (λ h. let same : number l ≡ n = grind (arith, h) in count-zero (λ (x : Debt). number x.load == n) ds (subst (λ (k : ℕ). IsNewNumber k ds) same new_number));
   named = each-append Named es (e ∷ []) (olds es ids.named old-entries) (number-last id names _ ∙ ap (λ (b : Bool). cond b (number l) (number_in id names)) (itself id), tt);
-  entries_agree = each-append (λ (x : Entry). Each (λ (y : Debt). Agrees y x.id x.load) (ds ++ d ∷ [])) es (e ∷ []) (old-agree es ids.entries_agree old-entries)
+  entries_agree = each-append (λ (x : Entry). Each (λ (y : Debt). Agrees y x.id x.load) (ds ++ d ∷ [])) es (e ∷ []) (agree-more (λ (x : Entry). x.id) (λ (x : Entry). x.load) ds d es ids.entries_agree old-entries)
       (each-append (λ (y : Debt). Agrees y id l) ds (d ∷ []) (Each-weaker (λ (y : Debt). (y.id == id) ≡ false) (λ (y : Debt). Agrees y id l) (λ y h k. absurd (false-true (sym h ∙ k))) ds new) ((λ k. refl), tt), tt);
-  ran_agrees = old-ran ran ids.ran_agrees (ran-old ds names es ran ids id new);
+  ran_agrees = agree-more (λ (x : Coming). x.id) (λ (x : Coming). x.load) ds d ran ids.ran_agrees (ran-old ds names es ran ids id new);
 }
   where
     d : Debt
@@ -110,14 +109,6 @@ ids-submit ds names es ran id l asked ids new new_number = record {
     olds : (xs : List Entry) → Each (λ (x : Entry). number_in x.id names ≡ number x.load) xs → Each (λ (x : Entry). (id == x.id) ≡ false) xs → Each Named xs
     olds [] h k = tt
     olds (x ∷ xs) h k = (number-last x.id names _ ∙ ap (λ (b : Bool). cond b (number l) (number_in x.id names)) k.0 ∙ h.0, olds xs h.1 k.1)
-
-    old-agree : (xs : List Entry) → Each (λ (x : Entry). Each (λ (y : Debt). Agrees y x.id x.load) ds) xs → Each (λ (x : Entry). (id == x.id) ≡ false) xs → Each (λ (x : Entry). Each (λ (y : Debt). Agrees y x.id x.load) (ds ++ d ∷ [])) xs
-    old-agree [] h k = tt
-    old-agree (x ∷ xs) h k = (each-append (λ (y : Debt). Agrees y x.id x.load) ds (d ∷ []) h.0 ((λ z. absurd (false-true (sym k.0 ∙ z))), tt), old-agree xs h.1 k.1)
-
-    old-ran : (xs : List Coming) → Each (λ (x : Coming). Each (λ (y : Debt). Agrees y x.id x.load) ds) xs → Each (λ (x : Coming). (id == x.id) ≡ false) xs → Each (λ (x : Coming). Each (λ (y : Debt). Agrees y x.id x.load) (ds ++ d ∷ [])) xs
-    old-ran [] h k = tt
-    old-ran (x ∷ xs) h k = (each-append (λ (y : Debt). Agrees y x.id x.load) ds (d ∷ []) h.0 ((λ z. absurd (false-true (sym k.0 ∙ z))), tt), old-ran xs h.1 k.1)
 
 -- ---- a perform: an entry leaves, and its answer is under way
 

@@ -1,7 +1,6 @@
 -- What isn't a change is performed, or taken off the queue: it leaves, its answer is under way, and the facts stay.
 use Rattle.std.proofs.Common.{◌≡◌, ℕ, ◌||◌, Bool, true, false, List, [], ◌∷◌, ◌++◌, Some, refl, sym, ap, ◌∙◌, subst, append_assoc}
 use Rattle.std.specs.List.{list_any}
-use Rattle.std.proofs.lemmas.Bool.{or_left}
 use Rattle.usb_base.specs.declared.transfer.Outcome.{Outcome}
 use Rattle.usb_base.specs.declared.endpoint.EpTable.{EpTable}
 use Rattle.redir_wire.specs.EpTable.{table_of}
@@ -24,7 +23,7 @@ use Rattle.direct_proof.specs.Cancels.{Behind, is_change, any_change}
 use Rattle.direct_proof.specs.Stale.{ends}
 use Rattle.direct_proof.specs.Running.{StartsFit}
 use Rattle.direct_proof.proofs.shared.Owed.{each-parts, ids-perform}
-use Rattle.direct_proof.proofs.shared.Folds.{not-both}
+use Rattle.direct_proof.proofs.shared.Folds.{not-both, or-left}
 use Rattle.direct_proof.proofs.shared.Backs.{told-append, clean-append}
 use Rattle.direct_proof.proofs.shared.Sending.{after-host, sent_world, sent_shared, TellsLittle, answer-tells}
 
@@ -56,7 +55,7 @@ coming_of e configuration o = record { id = e.id; load = e.load; configuration =
 
 -- one that isn't held early
 pub greeted-held : {S : Type 0} (m : Meaning S) (w : World S) (j : Shared) (front : List Entry) (e : Entry) (back : List Entry) → Related m w j → j.held ≡ front ++ e ∷ back → (b : Bool) → w.host.guest.first ≡ b → b ≡ false
-greeted-held m w j front e back rel is true h = absurd (some front (sym is ∙ (rel.meets.before h).held))
+greeted-held m w j front e back rel is true h = absurd (some front (sym is ∙ (rel.before h).held))
   where
     some : (xs : List Entry) → xs ++ e ∷ back ≡ [] → ⊥
     some [] z = cc
@@ -68,12 +67,12 @@ pub after-ran : {S : Type 0} (m : Meaning S) (w : World S) (j : Shared) (front :
     Related m (sent_world w gadget (front ++ back) w.host.running (Answered (coming_of e configuration o) ∷ [])) (sent_shared j (front ++ back) (Answered (coming_of e configuration o) ∷ []))
 after-ran {S = S} m w j front e back gadget configuration o rel plugged held plain same came =
     after-host m w j gadget (front ++ back) w.host.running cs rel plugged (greeted-held m w j front e back rel held.is w.host.guest.first refl) (tt, tt)
-    (subst (Each (λ (x : Entry). IsLoad x.load)) held.outside (each-parts (λ (x : Entry). IsLoad x.load) front e (back ++ j.coming) (subst (Each (λ (x : Entry). IsLoad x.load)) held.inside rel.loads)).1)
+    (subst (Each (λ (x : Entry). IsLoad x.load)) held.outside (each-parts (λ (x : Entry). IsLoad x.load) front e (back ++ j.coming) (subst (Each (λ (x : Entry). IsLoad x.load)) held.inside rel.line.loads)).1)
     (came, tt)
     (subst (λ (l : List Entry). Ids j.debts w.submits l (runs_in j.back ++ c ∷ [])) held.outside
     (ids-perform j.debts w.submits front (back ++ j.coming) e (runs_in j.back) configuration o (subst (λ (l : List Entry). Ids j.debts w.submits l (runs_in j.back)) held.inside rel.ids)))
     (λ P h. (each-parts P front e back (subst (Each P) held.is h)).1)
-    (subst Behind held.outside (behind-drop front e (back ++ j.coming) (subst Behind held.inside rel.behind)))
+    (subst Behind held.outside (behind-drop front e (back ++ j.coming) (subst Behind held.inside rel.line.behind)))
     session rel.runs_at_in
   where
     c : Coming
@@ -96,7 +95,7 @@ after-ran {S = S} m w j front e back gadget configuration o rel plugged held pla
       table = tells.table ∙ s.table ∙ ap (λ (t : EpTable). table_of (ep_info_of both_caps t)) (sym same.table);
       faces = tells.interfaces ∙ s.faces ∙ ap Some (sym same.interfaces);
       clean = clean-append w.gate.fence (down_in w.gate.streams) (any_change (j.held ++ j.coming) || j.fenced) (any_change ((front ++ back) ++ j.coming) || j.fenced) j.back cs
-          (λ z. or_left (any_change ((front ++ back) ++ j.coming) || j.fenced) (list_any (ends w.gate.fence) cs) (ap (λ (b : Bool). b || j.fenced) (sym all-same) ∙ z)) s.clean ((λ z. absurd (not-both (sym z))), tt);
+          (λ z. or-left (any_change ((front ++ back) ++ j.coming) || j.fenced) (list_any (ends w.gate.fence) cs) (ap (λ (b : Bool). b || j.fenced) (sym all-same) ∙ z)) s.clean ((λ z. absurd (not-both (sym z))), tt);
       quits = s.quits;
       trails = s.trails;
       starts = subst (λ (t : EpTable). StartsFit t (any_change (front ++ back) || j.half) w.to_host) (sym same.table) (subst (λ (b : Bool). StartsFit (m.table w.host.gadget) (b || j.half) w.to_host) held-same s.starts);

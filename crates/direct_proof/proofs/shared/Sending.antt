@@ -1,12 +1,10 @@
 -- The host does something: some of what it holds leaves, and it sends answers and facts.
 use Rattle.std.proofs.Common.{◌≡◌, ℕ, ◌||◌, Bool, true, false, cond, List, [], ◌∷◌, ◌++◌, map, Option, Some, None, is_some, if◌then◌else◌, ◌==◌, refl, sym, ap, ◌∙◌, subst}
 use Rattle.std.specs.List.{list_any}
-use Rattle.std.proofs.lemmas.Bool.{or_parts}
-use Rattle.std.proofs.Math.Bool.{or-false}
-use Rattle.std.proofs.lemmas.List.Folds.{list_any-append}
 use Rattle.usb_base.specs.Status.{status_byte}
 use Rattle.redir_data.specs.declared.packet.RedirPacket.{RedirPacket}
 use Rattle.model_device.specs.Meaning.{Meaning}
+use Rattle.redir_host.specs.declared.host.Host.{Host}
 use Rattle.redir_host.specs.declared.running.Running.{Running}
 use Rattle.redir_host.specs.state.Sound.{Each}
 use Rattle.redir_host.specs.declared.request.Form.{Form}
@@ -19,19 +17,20 @@ use Rattle.gate_history.specs.step.Marks.{Fact, Configuration}
 use Rattle.direct_run.specs.Moves.{World}
 use Rattle.direct_proof.specs.Requests.{Entry, Coming, at_queue, form_of, queued_transfer}
 use Rattle.direct_proof.specs.Shared.{Shared}
-use Rattle.direct_proof.specs.Tagged.{Tagged, Greeted, Plugged, ToldTable, ToldFaces, Answered, Packed, Stated, Bye, on_wire, runs_in}
-use Rattle.direct_proof.specs.Related.{Related}
+use Rattle.direct_proof.specs.Tagged.{Tagged, ToldTable, ToldFaces, Answered, on_wire, runs_in}
+use Rattle.direct_proof.specs.Related.{Farewell, Related}
 use Rattle.direct_proof.specs.Session.{Session}
 use Rattle.direct_proof.specs.Loads.{IsLoad}
 use Rattle.direct_proof.specs.Ids.{Ids}
 use Rattle.direct_proof.specs.Kinds.{TaggedOfKind, IsIn}
 use Rattle.direct_proof.specs.Cancels.{Behind}
-use Rattle.direct_proof.specs.Meets.{is_bye, is_greeting, is_plug, PlugOnce, ByeLast}
-use Rattle.direct_proof.specs.Calls.{statuses_on, StatusIsKept}
+use Rattle.direct_proof.specs.Meets.{is_bye, is_greeting, is_plug, PlugOnce, ByeLast, Meets}
+use Rattle.gate_history.specs.state.Calls.{Calls}
+use Rattle.direct_proof.specs.Calls.{status_id, statuses_on, StatusIsKept}
 use Rattle.direct_proof.proofs.shared.Owed.{each-append}
 use Rattle.direct_proof.proofs.shared.WireBack.{runs_in-append}
 use Rattle.direct_proof.proofs.shared.Traces.{map-append}
-use Rattle.direct_proof.proofs.shared.Folds.{clash}
+use Rattle.direct_proof.proofs.shared.Folds.{clash, or-none, or-false, any-append}
 use Rattle.direct_proof.proofs.shared.Fits.{fits-each}
 use Rattle.direct_proof.proofs.shared.Streaming.{controls-sent, fenced-sent}
 
@@ -42,73 +41,74 @@ abbrev pub IsNews : Tagged → Type 0
 IsNews (ToldTable t) = Unit {0}
 IsNews (ToldFaces i) = Unit {0}
 IsNews (Answered c) = Unit {0}
-IsNews Greeted = ⊥
-IsNews (Plugged c) = ⊥
-IsNews (Packed k ep p) = ⊥
-IsNews (Stated k id ep status) = ⊥
-IsNews Bye = ⊥
+IsNews _ = ⊥
 
-news-none : (test : Tagged → Bool) → ((b : Tagged) → IsNews b → test b ≡ false) → (cs : List Tagged) → Each IsNews cs → list_any test cs ≡ false
+-- they are no end, no greeting and no coming of the device, and no status
+record Plainly (b : Tagged) : Type 0 where
+  bye : is_bye b ≡ false
+  greeting : is_greeting b ≡ false
+  plug : is_plug b ≡ false
+  status : status_id b ≡ []
+  kept : (c : Calls) → StatusIsKept c b
+
+plainly : (b : Tagged) → IsNews b → Plainly b
+plainly (ToldTable t) k = record { bye = refl; greeting = refl; plug = refl; status = refl; kept = λ z. tt }
+plainly (ToldFaces i) k = record { bye = refl; greeting = refl; plug = refl; status = refl; kept = λ z. tt }
+plainly (Answered c) k = record { bye = refl; greeting = refl; plug = refl; status = refl; kept = λ z. tt }
+plainly _ k = absurd k
+
+news-none : (test : Tagged → Bool) → ((b : Tagged) → Plainly b → test b ≡ false) → (cs : List Tagged) → Each IsNews cs → list_any test cs ≡ false
 news-none test h [] k = refl
-news-none test h (c ∷ cs) k = (λ i. h c k.0 i || news-none test h cs k.1 i)
-
-news-bye : (b : Tagged) → IsNews b → is_bye b ≡ false
-news-bye (ToldTable t) k = refl
-news-bye (ToldFaces i) k = refl
-news-bye (Answered c) k = refl
-news-bye Greeted k = absurd k
-news-bye (Plugged c) k = absurd k
-news-bye (Packed kind ep p) k = absurd k
-news-bye (Stated kind id ep status) k = absurd k
-news-bye Bye k = absurd k
-
-news-greeting : (b : Tagged) → IsNews b → is_greeting b ≡ false
-news-greeting (ToldTable t) k = refl
-news-greeting (ToldFaces i) k = refl
-news-greeting (Answered c) k = refl
-news-greeting Greeted k = absurd k
-news-greeting (Plugged c) k = absurd k
-news-greeting (Packed kind ep p) k = absurd k
-news-greeting (Stated kind id ep status) k = absurd k
-news-greeting Bye k = absurd k
-
-news-plug : (b : Tagged) → IsNews b → is_plug b ≡ false
-news-plug (ToldTable t) k = refl
-news-plug (ToldFaces i) k = refl
-news-plug (Answered c) k = refl
-news-plug Greeted k = absurd k
-news-plug (Plugged c) k = absurd k
-news-plug (Packed kind ep p) k = absurd k
-news-plug (Stated kind id ep status) k = absurd k
-news-plug Bye k = absurd k
+news-none test h (c ∷ cs) k = (λ i. h c (plainly c k.0) i || news-none test h cs k.1 i)
 
 news-statuses : (cs : List Tagged) → Each IsNews cs → statuses_on cs ≡ []
 news-statuses [] k = refl
-news-statuses (ToldTable t ∷ cs) k = news-statuses cs k.1
-news-statuses (ToldFaces i ∷ cs) k = news-statuses cs k.1
-news-statuses (Answered c ∷ cs) k = news-statuses cs k.1
-news-statuses (Greeted ∷ cs) k = absurd k.0
-news-statuses (Plugged c ∷ cs) k = absurd k.0
-news-statuses (Packed kind ep p ∷ cs) k = absurd k.0
-news-statuses (Stated kind id ep status ∷ cs) k = absurd k.0
-news-statuses (Bye ∷ cs) k = absurd k.0
+news-statuses (c ∷ cs) k = (λ i. (plainly c k.0).status i ++ news-statuses cs k.1 i)
+
+news-kept : (calls : Calls) (cs : List Tagged) → Each IsNews cs → Each (StatusIsKept calls) cs
+news-kept calls [] k = tt
+news-kept calls (c ∷ cs) k = ((plainly c k.0).kept calls, news-kept calls cs k.1)
 
 -- ---- the wire back
 
 pub no-bye : (bs : List Tagged) → list_any is_bye bs ≡ false → ByeLast bs
 no-bye [] h = tt
-no-bye (b ∷ bs) h = let r = or_parts (is_bye b) (list_any is_bye bs) h in ((λ z. absurd (clash (is_bye b) z r.0)), no-bye bs r.1)
+no-bye (b ∷ bs) h = let r = or-none (is_bye b) (list_any is_bye bs) h in ((λ z. absurd (clash (is_bye b) z r.0)), no-bye bs r.1)
 
 pub none-more : (test : Tagged → Bool) (bs cs : List Tagged) → list_any test cs ≡ false → list_any test (bs ++ cs) ≡ list_any test bs
-none-more test bs cs h = list_any-append test bs cs ∙ ap (λ (b : Bool). list_any test bs || b) h ∙ or-false (list_any test bs)
+none-more test bs cs h = any-append test bs cs ∙ ap (λ (b : Bool). list_any test bs || b) h ∙ or-false (list_any test bs)
 
 pub once-more : (bs cs : List Tagged) → PlugOnce bs → list_any is_greeting cs ≡ false → list_any is_plug cs ≡ false → PlugOnce (bs ++ cs)
 once-more [] cs o g p = go cs p
   where
     go : (ds : List Tagged) → list_any is_plug ds ≡ false → PlugOnce ds
     go [] h = tt
-    go (d ∷ ds) h = let r = or_parts (is_plug d) (list_any is_plug ds) h in ((λ z. absurd (clash (is_plug d) z r.0)), go ds r.1)
+    go (d ∷ ds) h = let r = or-none (is_plug d) (list_any is_plug ds) h in ((λ z. absurd (clash (is_plug d) z r.0)), go ds r.1)
 once-more (b ∷ bs) cs o g p = ((λ z. (none-more is_greeting bs cs g ∙ (o.0 z).0, none-more is_plug bs cs p ∙ (o.0 z).1)), once-more bs cs o.1 g p)
+
+-- how far the two have met is the same behind what names neither the greeting nor the device
+pub meets-sent : {S : Type 0} (w : World S) (j : Shared) (cs : List Tagged) → list_any is_greeting cs ≡ false → list_any is_plug cs ≡ false → Meets w j → Meets w (record j { back = j.back ++ cs })
+meets-sent w j cs no_greeting no_plug k = record {
+  host = k.host;
+  gate = λ h. k.gate (sym (none-more is_greeting j.back cs no_greeting) ∙ h);
+  announced = λ h p. ap (λ (b : Bool). is_some w.gate.facts.connect || b) (none-more is_plug j.back cs no_plug) ∙ k.announced h p;
+  behind = λ h. let r = k.behind h in (none-more is_greeting j.back cs no_greeting ∙ r.0, none-more is_plug j.back cs no_plug ∙ r.1, r.2);
+  once = once-more j.back cs k.once no_greeting no_plug;
+  plugged = λ h. k.plugged (sym (none-more is_plug j.back cs no_plug) ∙ h);
+  no_session = k.no_session;
+}
+
+-- and where another client is there, or none
+pub meets-client : {S : Type 0} (w : World S) (j : Shared) (imported lost : Bool) → (imported ≡ true → lost ≡ false → is_some w.gate.facts.connect ≡ true) → Meets w j → Meets (record w { gate = record w.gate { imported = imported; lost = lost } }) j
+meets-client w j imported lost known k = record { host = k.host; gate = k.gate; announced = k.announced; behind = k.behind; once = k.once; plugged = k.plugged; no_session = known }
+
+-- a host that is there has sent no farewell
+pub farewell-sent : {S : Type 0} (h : Host S) (bs cs : List Tagged) → h.unplugged ≡ false → list_any is_bye bs ≡ false → list_any is_bye cs ≡ false → Farewell h (bs ++ cs)
+farewell-sent h bs cs plugged none no_more = record {
+  still = λ z. absurd (clash h.unplugged z plugged);
+  bye = λ z. none-more is_bye bs cs no_more ∙ none;
+  bye_last = no-bye (bs ++ cs) (none-more is_bye bs cs no_more ∙ none);
+}
 
 -- an answer tells no table, no interfaces and no connection
 pub record TellsLittle (f g : Facts) : Type 0 where
@@ -127,13 +127,9 @@ answer-tells f c = go (form_of c.load)
     maybe false configuration = record { table = refl; interfaces = refl; connect = refl }
 
     go : (x : Form) → TellsLittle f (tell f (fact_of (answer_by c.configuration x (queued_transfer c.load).ep c.outcome)))
-    go (form.Control s) = record { table = refl; interfaces = refl; connect = refl }
-    go (form.Bulk stream) = record { table = refl; interfaces = refl; connect = refl }
-    go form.Interrupt = record { table = refl; interfaces = refl; connect = refl }
     go (form.SetConfiguration asked) = maybe (status_byte c.outcome.status == 0) c.configuration
     go form.GetConfiguration = maybe (status_byte c.outcome.status == 0) c.configuration
-    go (form.SetAlt interface alt) = record { table = refl; interfaces = refl; connect = refl }
-    go (form.GetAlt interface) = record { table = refl; interfaces = refl; connect = refl }
+    go _ = record { table = refl; interfaces = refl; connect = refl }
 
 -- ---- the host
 
@@ -148,56 +144,37 @@ pub after-host : {S : Type 0} (m : Meaning S) (w : World S) (j : Shared) (gadget
     ((P : Entry → Type 0) → Each P j.held → Each P held) → Behind (held ++ j.coming) → (Session m w j → Session m (sent_world w gadget held running cs) (sent_shared j held cs)) → Each (λ (s : Running). IsIn s.ep) running →
     Related m (sent_world w gadget held running cs) (sent_shared j held cs)
 after-host m w j gadget held running cs rel plugged first news loads tagged ids fewer behind session runs_in_range = record {
-  held = ap (λ (b : Bool). cond b [] (map at_queue held)) (sym plugged);
-  half = rel.half;
-  coming = rel.coming;
+  line = record {
+    held = ap (λ (b : Bool). cond b [] (map at_queue held)) (sym plugged);
+    half = rel.line.half;
+    coming = rel.line.coming;
+    loads = loads;
+    calls_in = rel.line.calls_in;
+    cancels = fits-each j.held held fewer w.to_host j.coming rel.line.cancels;
+    behind = behind;
+  };
   answers = ap (λ (l : List (ℕ × RedirPacket)). l ++ map on_wire cs) rel.answers ∙ sym (map-append on_wire j.back cs);
-  loads = loads;
   tagged = each-append (TaggedOfKind w.gate.streams) j.back cs rel.tagged tagged;
   ids = subst (Ids j.debts w.submits (held ++ j.coming)) (sym (runs_in-append j.back cs)) ids;
   real = rel.real;
-  calls_in = rel.calls_in;
   runs_at_in = runs_in_range;
-  meets = record {
-    host = rel.meets.host;
-    gate = λ h. rel.meets.gate (sym (none-more is_greeting j.back cs (news-none is_greeting news-greeting cs news)) ∙ h);
-    before = λ h. absurd (clash w.host.guest.first h first);
-    announced = λ h k. ap (λ (b : Bool). is_some w.gate.facts.connect || b) (none-more is_plug j.back cs (news-none is_plug news-plug cs news)) ∙ rel.meets.announced h k;
-    asked = rel.meets.asked;
-    behind = λ h. let r = rel.meets.behind h in (none-more is_greeting j.back cs (news-none is_greeting news-greeting cs news) ∙ r.0, none-more is_plug j.back cs (news-none is_plug news-plug cs news) ∙ r.1, r.2);
-    no_session = rel.meets.no_session;
-    once = once-more j.back cs rel.meets.once (news-none is_greeting news-greeting cs news) (news-none is_plug news-plug cs news);
-    plugged = λ h. first;
-  };
+  before = λ h. absurd (clash w.host.guest.first h first);
+  asked = rel.asked;
+  meets = meets-sent w j cs greetingless plugless rel.meets;
   debts = rel.debts;
-  controls = λ h. controls-sent w.gate.calls w.to_host j.back cs (news-statuses cs news) (kept cs news) (rel.controls h);
+  controls = λ h. controls-sent w.gate.calls w.to_host j.back cs (news-statuses cs news) (news-kept w.gate.calls cs news) (rel.controls h);
   fenced = λ h. fenced-sent w.gate.fence j.fenced w.to_host j.back cs (news-statuses cs news) (rel.fenced h);
-  cancels = fits-each j.held held fewer w.to_host j.coming rel.cancels;
-  behind = behind;
   alone = rel.alone;
-  session = λ h a. session (rel.session h (ap (λ (b : Bool). is_some w.gate.facts.connect || b) (sym (none-more is_plug j.back cs (news-none is_plug news-plug cs news))) ∙ a));
+  session = λ h a. session (rel.session h (ap (λ (b : Bool). is_some w.gate.facts.connect || b) (sym (none-more is_plug j.back cs plugless)) ∙ a));
   ups = rel.ups;
-  lost = λ h. absurd (clash w.host.unplugged (rel.lost h).1 plugged);
-  reads = rel.reads;
-  refused = rel.refused;
   down = rel.down;
-  gone = rel.gone;
-  seen = rel.seen;
-  still = λ h. absurd (clash w.host.unplugged h plugged);
-  bye = λ h. byeless;
-  bye_last = no-bye (j.back ++ cs) byeless;
+  lost = λ h. absurd (clash w.host.unplugged (rel.lost h).1 plugged);
+  sides = rel.sides;
+  farewell = farewell-sent (sent_world w gadget held running cs).host j.back cs plugged (rel.farewell.bye plugged) (news-none is_bye (λ b p. p.bye) cs news);
 }
   where
-    byeless : list_any is_bye (j.back ++ cs) ≡ false
-    byeless = none-more is_bye j.back cs (news-none is_bye news-bye cs news) ∙ rel.bye plugged
+    greetingless : list_any is_greeting cs ≡ false
+    greetingless = news-none is_greeting (λ b p. p.greeting) cs news
 
-    kept : (bs : List Tagged) → Each IsNews bs → Each (StatusIsKept w.gate.calls) bs
-    kept [] k = tt
-    kept (ToldTable t ∷ bs) k = (tt, kept bs k.1)
-    kept (ToldFaces i ∷ bs) k = (tt, kept bs k.1)
-    kept (Answered c ∷ bs) k = (tt, kept bs k.1)
-    kept (Greeted ∷ bs) k = absurd k.0
-    kept (Plugged c ∷ bs) k = absurd k.0
-    kept (Packed kind ep p ∷ bs) k = absurd k.0
-    kept (Stated kind id ep status ∷ bs) k = absurd k.0
-    kept (Bye ∷ bs) k = absurd k.0
+    plugless : list_any is_plug cs ≡ false
+    plugless = news-none is_plug (λ b p. p.plug) cs news

@@ -1,9 +1,6 @@
 -- The wire to the host: streams that quit, starts and stops, and their ids, as it grows and is read.
 use Rattle.std.proofs.Common.{◌≡◌, ℕ, ◌+◌, ◌≤◌, ◌||◌, Bool, true, false, cond, List, [], ◌∷◌, ◌++◌, Option, Some, None, refl, sym, ap, ◌∙◌, subst, arith, append-nil, append_assoc, is_some}
 use Rattle.std.specs.List.{list_any}
-use Rattle.std.proofs.lemmas.Bool.{or_left}
-use Rattle.std.proofs.Math.Bool.{or-false, or_assoc}
-use Rattle.std.proofs.lemmas.List.Folds.{list_any-append}
 use Rattle.usb_base.specs.declared.endpoint.EpTable.{EpTable}
 use Rattle.redir_data.specs.declared.packet.RedirPacket.{RedirPacket}
 use Rattle.redir_host.specs.declared.running.StreamKind.{StreamKind}
@@ -15,7 +12,8 @@ use Rattle.direct_proof.specs.Stale.{asks}
 use Rattle.direct_proof.specs.Running.{Quits, runs_after, Trails, passes, called_endpoint, started_kind, CanStart, StartsFit}
 use Rattle.direct_proof.specs.Calls.{call_id, calls_on, statuses_on, status_id, Controls, CallIsKept, StatusIsKept, Fenced}
 use Rattle.direct_proof.specs.Kinds.{CallIsIn}
-use Rattle.direct_proof.proofs.shared.Folds.{not-both}
+use Rattle.direct_proof.proofs.shared.Owed.{each-append}
+use Rattle.direct_proof.proofs.shared.Folds.{not-both, or-left, or-assoc, or-false, any-append}
 
 -- ---- packets that say nothing of streams
 
@@ -29,7 +27,7 @@ quits-quiet fence ep (q ∷ qs) h = ((λ e. absurd (not-both (sym e))), subst (�
 pub quits-more : (fence : Option ℕ) (ep : ℕ) (r : Bool) (ps qs : List (ℕ × RedirPacket)) → Each IsQuiet qs → Quits fence ep r ps → Quits fence ep r (ps ++ qs)
 quits-more fence ep r [] qs k h = subst (λ (b : Bool). Quits fence ep b qs) (sym h) (quits-quiet fence ep qs k)
 quits-more fence ep r (p ∷ ps) qs k h =
-    ((λ e. list_any-append (asks fence) (p ∷ ps) qs ∙ or_left (list_any (asks fence) (p ∷ ps)) (list_any (asks fence) qs) (h.0 e)), quits-more fence ep (runs_after ep p.1 r) ps qs k h.1)
+    ((λ e. any-append (asks fence) (p ∷ ps) qs ∙ or-left (list_any (asks fence) (p ∷ ps)) (list_any (asks fence) qs) (h.0 e)), quits-more fence ep (runs_after ep p.1 r) ps qs k h.1)
 
 trails-quiet : (fence : Option ℕ) (down : ℕ → Bool) (qs : List (ℕ × RedirPacket)) → Each IsQuiet qs → Trails fence down qs
 trails-quiet fence down [] h = tt
@@ -38,7 +36,7 @@ trails-quiet fence down (q ∷ qs) h = ((λ e. absurd (not-both (sym e ∙ ap (p
 pub trails-append : (fence : Option ℕ) (down : ℕ → Bool) (ps qs : List (ℕ × RedirPacket)) → Trails fence down ps → Trails fence down qs → Trails fence down (ps ++ qs)
 trails-append fence down [] qs h k = k
 trails-append fence down (p ∷ ps) qs h k =
-    ((λ e. list_any-append (asks fence) (p ∷ ps) qs ∙ or_left (list_any (asks fence) (p ∷ ps)) (list_any (asks fence) qs) (h.0 e)), trails-append fence down ps qs h.1 k)
+    ((λ e. any-append (asks fence) (p ∷ ps) qs ∙ or-left (list_any (asks fence) (p ∷ ps)) (list_any (asks fence) qs) (h.0 e)), trails-append fence down ps qs h.1 k)
 
 pub trails-more : (fence : Option ℕ) (down : ℕ → Bool) (ps qs : List (ℕ × RedirPacket)) → Each IsQuiet qs → Trails fence down ps → Trails fence down (ps ++ qs)
 trails-more fence down ps qs k h = trails-append fence down ps qs h (trails-quiet fence down qs k)
@@ -49,7 +47,7 @@ starts-quiet table c (q ∷ qs) h = (subst (CanStart table c) (sym h.0.1) tt, st
 
 pub starts-append : (table : EpTable) (c : Bool) (ps qs : List (ℕ × RedirPacket)) → StartsFit table c ps → StartsFit table (c || list_any (asks None) ps) qs → StartsFit table c (ps ++ qs)
 starts-append table c [] qs h k = subst (λ (b : Bool). StartsFit table b qs) (or-false c) k
-starts-append table c (p ∷ ps) qs h k = (h.0, starts-append table (c || asks None p) ps qs h.1 (subst (λ (b : Bool). StartsFit table b qs) (sym (or_assoc c (asks None p) (list_any (asks None) ps))) k))
+starts-append table c (p ∷ ps) qs h k = (h.0, starts-append table (c || asks None p) ps qs h.1 (subst (λ (b : Bool). StartsFit table b qs) (or-assoc c (asks None p) (list_any (asks None) ps)) k))
 
 pub starts-more : (table : EpTable) (c : Bool) (ps qs : List (ℕ × RedirPacket)) → Each IsQuiet qs → StartsFit table c ps → StartsFit table c (ps ++ qs)
 starts-more table c ps qs k h = starts-append table c ps qs h (starts-quiet table (c || list_any (asks None) ps) qs k)
@@ -84,10 +82,6 @@ calls-quiet (q ∷ qs) h = (λ i. cond (is_some (h.0.0 i)) (q.0 ∷ []) [] ++ ca
 kept-quiet : (c : Calls) (qs : List (ℕ × RedirPacket)) → Each IsQuiet qs → Each (λ (p : ℕ × RedirPacket). CallIsKept c p.0 (called_endpoint p.1)) qs
 kept-quiet c [] h = tt
 kept-quiet c (q ∷ qs) h = (subst (CallIsKept c q.0) (sym h.0.0) tt, kept-quiet c qs h.1)
-
-pub each-append : {X : Type 0} (P : X → Type 0) (xs ys : List X) → Each P xs → Each P ys → Each P (xs ++ ys)
-each-append P [] ys e f = f
-each-append P (x ∷ xs) ys e f = (e.0, each-append P xs ys e.1 f)
 
 pub calls-same : (ps qs : List (ℕ × RedirPacket)) → Each IsQuiet qs → calls_on (ps ++ qs) ≡ calls_on ps
 calls-same ps qs h = calls-append ps qs ∙ ap (λ (l : List ℕ). calls_on ps ++ l) (calls-quiet qs h) ∙ append-nil (calls_on ps)

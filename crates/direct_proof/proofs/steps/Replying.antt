@@ -33,7 +33,7 @@ use Rattle.gate_history.specs.state.Sides.{ends_client, imports}
 use Rattle.gate_history.specs.state.State.{State, has_number}
 use Rattle.gate_history.specs.client.Submits.{Pending, opened}
 use Rattle.gate_history.specs.state.Ups.{Up, stream_at, stream_of}
-use Rattle.gate_history.specs.client.Verdict.{Verdict, Now, Wire, Routed, IsoOut, Stream}
+use Rattle.gate_history.specs.client.Verdict.{Verdict, Now}
 use Rattle.direct_proof.specs.Simulates.{is_import}
 
 pub record Replying (st : State) (e : Effect) : Type 0 where
@@ -112,10 +112,7 @@ module _ (st : State) (there : st.client_over ≡ false) where
   -- behind an import
   accepted-says : st.imported ≡ true → (s : Submission) (v : Verdict) → Replying st (accepted_as st s v)
   accepted-says inside s (Now status) = record { ops = []; urbs = []; said = refl; ends = refl; before = λ h. refl; on = λ h. refl; success = refl; behind = λ h. no-import h inside }
-  accepted-says inside s (Wire pipe) = record { ops = []; urbs = []; said = refl; ends = refl; before = λ h. refl; on = λ h. refl; success = refl; behind = λ h. no-import h inside }
-  accepted-says inside s (Routed x) = record { ops = []; urbs = []; said = refl; ends = refl; before = λ h. refl; on = λ h. refl; success = refl; behind = λ h. no-import h inside }
-  accepted-says inside s (IsoOut row) = record { ops = []; urbs = []; said = refl; ends = refl; before = λ h. refl; on = λ h. refl; success = refl; behind = λ h. no-import h inside }
-  accepted-says inside s (Stream row) = record { ops = []; urbs = []; said = refl; ends = refl; before = λ h. refl; on = λ h. refl; success = refl; behind = λ h. no-import h inside }
+  accepted-says inside s _ = record { ops = []; urbs = []; said = refl; ends = refl; before = λ h. refl; on = λ h. refl; success = refl; behind = λ h. no-import h inside }
 
   submit-says : st.imported ≡ true → (r : Request) (v : Verdict) → Replying st (accepts st r v)
   submit-says inside r v = let kept = by_stream (stream_at st.streams r.transfer.ep) v in accepted-says inside (submission st r kept (drawn_for st r kept)) kept

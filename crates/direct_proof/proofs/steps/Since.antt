@@ -67,9 +67,7 @@ performs-plain submits ep (Some r) = (tt, tt)
 
 pub offers-plain : (ep : ℕ) (o : Offered) → Each IsPlain (offered_deed ep o)
 offers-plain ep offered.Sent = (tt, tt)
-offers-plain ep offered.Nothing = tt
-offers-plain ep offered.Closed = tt
-offers-plain ep offered.Unplugged = tt
+offers-plain ep _ = tt
 
 submits-plain : (ss : List Submission) → Each IsPlain (map (λ (s : Submission). Submit s.request) ss)
 submits-plain [] = tt

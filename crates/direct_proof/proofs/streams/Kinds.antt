@@ -15,7 +15,7 @@ use Rattle.gate_history.specs.step.Items.{Asked}
 use Rattle.gate_history.specs.step.Meaning.{verdict_of}
 use Rattle.gate_history.specs.client.Requests.{request_of}
 use Rattle.gate_history.specs.state.State.{State, has_number}
-use Rattle.gate_history.specs.client.Verdict.{Verdict, Now, Wire, Routed, IsoOut, Stream}
+use Rattle.gate_history.specs.client.Verdict.{Verdict, Routed, Stream}
 use Rattle.direct_run.specs.Moves.{World, Move, ByClient, HostReads, GateReads, Offers}
 use Rattle.direct_proof.specs.Running.{called_endpoint}
 
@@ -24,9 +24,7 @@ use Rattle.direct_proof.specs.Running.{called_endpoint}
 abbrev pub MovesStreams : Verdict → Type 0
 MovesStreams (Stream row) = Unit {0}
 MovesStreams (Routed x) = is_change x ≡ true
-MovesStreams (Now status) = ⊥
-MovesStreams (Wire pipe) = ⊥
-MovesStreams (IsoOut row) = ⊥
+MovesStreams _ = ⊥
 
 pub record IsStreamSubmit (st : State) (s : UrbSubmit) : Type 0 where
   -- as it was read

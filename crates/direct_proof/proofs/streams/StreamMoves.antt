@@ -9,7 +9,7 @@ use Rattle.model_device.specs.Gadget.{IsGadget}
 use Rattle.gate_history.specs.step.Items.{Asked, ClientWrong, ClientLeft, Told, HostWrong, HostLeft}
 use Rattle.gate_history.specs.step.Meaning.{mark_of, verdict_of}
 use Rattle.gate_history.specs.client.Requests.{request_of}
-use Rattle.gate_history.specs.client.Verdict.{Verdict, Now, Wire, Routed, IsoOut, Stream}
+use Rattle.gate_history.specs.client.Verdict.{Verdict, Routed, Stream}
 use Rattle.direct_run.specs.Moves.{World, Move, ByClient, HostReads, GateReads, Performs, Offers, Unplugs}
 use Rattle.direct_proof.specs.Moves.{move, quiet, gate_made, gate_reads, host_reads}
 use Rattle.direct_proof.specs.Related.{Related}
@@ -17,7 +17,7 @@ use Rattle.direct_proof.specs.Running.{called_endpoint}
 use Rattle.direct_proof.specs.Runs.{IsRun}
 use Rattle.direct_proof.specs.Shared.{Shared}
 use Rattle.direct_proof.proofs.streams.Kinds.{MovesStreams, IsStreamSubmit, HearsCall, IsStreamPacket, ReadsStream, IsStreamMove}
-use Rattle.direct_proof.specs.Tagged.{Tagged, Greeted, Plugged, ToldTable, ToldFaces, Answered, Packed, Stated, Bye, on_wire}
+use Rattle.direct_proof.specs.Tagged.{Tagged, Answered, Packed, Stated, on_wire}
 use Rattle.direct_proof.proofs.shared.Keeps.{Keeps, keeps-quiet}
 use Rattle.direct_proof.proofs.races.Gates.{run-sound}
 use Rattle.direct_proof.proofs.submits.Ranged.{submit-load}
@@ -37,9 +37,7 @@ keep-submit {S = S} m w j place s imported is run rel = by w.gate.client_over re
     go : w.gate.client_over ≡ false → (v : Verdict) → verdict_of w.gate (request_of s) ≡ v → MovesStreams v → Keeps m w j (move m w (ByClient (Asked place (Urb (urb.Submit s)))))
     go present (Stream row) e k = keep-stream-submit m w j place s row rel (run-gate w.gate run) imported present is.new e
     go present (Routed x) e k = keep-change m w j place s x k rel (run-changing w.gate x run rel.ups.count_is) imported present is.new e (submit-load w.gate s (Routed x) is.read e refl)
-    go present (Now status) e k = absurd k
-    go present (Wire pipe) e k = absurd k
-    go present (IsoOut row) e k = absurd k
+    go present _ e k = absurd k
 
     by : (b : Bool) → w.gate.client_over ≡ b → Keeps m w j (move m w (ByClient (Asked place (Urb (urb.Submit s)))))
     by true over = keeps-quiet m w j j (move m w (ByClient (Asked place (Urb (urb.Submit s))))) w (λ i. cond (over i) (quiet w) (gate_made w (mark_of w.gate (Asked place (Urb (urb.Submit s)))))) rel refl
@@ -69,11 +67,7 @@ keep-reads-stream {S = S} m w j place rel run reads = go j.back refl
     by (Packed k ep p) bs r is = keep-packed m w j place k ep p bs (run-sound w.gate run) r
     by (Stated k id ep status) bs r is = keep-stated m w j place k id ep status bs r
     by (Answered c) bs r is = absurd (never-both (on_wire (Answered c)).1 (is-reply c r.tagged.0) is)
-    by (ToldTable t) bs r is = absurd is
-    by (ToldFaces t) bs r is = absurd is
-    by Greeted bs r is = absurd is
-    by (Plugged c) bs r is = absurd is
-    by Bye bs r is = absurd is
+    by _ bs r is = absurd is
 
     go : (bs : List Tagged) → j.back ≡ bs → Keeps m w j (move m w (GateReads place))
     go [] e = keeps-quiet m w j j (move m w (GateReads place)) w (ap (gate_reads w place) (rel.answers ∙ ap (map on_wire) e)) rel refl

@@ -30,13 +30,7 @@ is-reply c is = go c.load.request c.load.verdict is.load.verdict
   where
     route-reply : (r : Request) (x : Route) → IsReply (answer_by c.configuration (form_of (record { request = r; verdict = Routed x })) (queued_transfer (record { request = r; verdict = Routed x })).ep c.outcome)
     route-reply r (route.SetConfig n) = tt
-    route-reply r route.GetConfig = tt
-    route-reply r (route.SetAlt i a) = tt
-    route-reply r (route.GetAlt i) = tt
-    route-reply r route.Reset = tt
-    route-reply r route.Local = tt
-    route-reply r route.Plain = tt
-    route-reply r route.Bad = tt
+    route-reply r _ = tt
 
     go : (r : Request) (v : Verdict) → FitsVerdict v r.transfer → IsReply (answer_by c.configuration (form_of (record { request = r; verdict = v })) (queued_transfer (record { request = r; verdict = v })).ep c.outcome)
     go r (Wire Control) f = tt

@@ -1,7 +1,6 @@
--- A submit that goes to the host and ends no stream: what is shared once it is accepted.
+-- A submit that goes to the host and ends no stream is the same item at the device attached directly, and keeps what is shared.
 use Rattle.std.proofs.Common.{◌≡◌, ℕ, ◌<◌, ◌==◌, ◌||◌, Bool, true, false, cond, List, [], ◌∷◌, ◌++◌, map, filter, None, refl, sym, ap, ◌∙◌, subst, append-nil, append_assoc, inl, inr, ◌⊎◌}
 use Rattle.std.specs.List.{AllByRecursion}
-use Rattle.std.proofs.lemmas.List.Folds.{list_any-append}
 use Rattle.usbip_urb.specs.declared.packet.Submit.{Submit as UrbSubmit}
 use Rattle.redir_data.specs.declared.packet.RedirPacket.{RedirPacket}
 use Rattle.model_device.specs.Meaning.{Meaning}
@@ -11,19 +10,19 @@ use Rattle.redir_host.specs.state.Sound.{Each}
 use Rattle.gate_history.specs.client.Requests.{Request, request_of}
 use Rattle.gate_history.specs.client.Verdict.{Verdict, goes_by_id}
 use Rattle.gate_history.specs.step.Marks.{Submission, Effect, Opens, Mark}
-use Rattle.gate_history.specs.client.Submits.{Pending}
+use Rattle.gate_history.specs.client.Submits.{Pending, is_touched}
 use Rattle.gate_history.specs.state.Calls.{called}
 use Rattle.gate_history.specs.state.State.{State, submits, is_number as is_numbered, change_waits}
 use Rattle.gate_history.specs.state.Sound.{IsSound}
 use Rattle.gate_history.specs.step.Machine.{after}
-use Rattle.gate_history.specs.step.Meaning.{mark_as}
+use Rattle.gate_history.specs.step.Meaning.{mark_as, mark_of, by_stream}
 use Rattle.gate_history.specs.write.Output.{fresh}
-use Rattle.gate_history.proofs.lemmas.Lists.{filter-all}
-use Rattle.direct_run.specs.Moves.{World}
-use Rattle.direct_device.specs.Direct.{Load, number, normal_of}
-use Rattle.direct_proof.specs.Moves.{gate_made}
-use Rattle.direct_proof.specs.Requests.{Entry, Debt, at_host, debts_of}
-use Rattle.direct_proof.specs.Shared.{Shared, lines, half_line, at_hosts}
+use Rattle.gate_history.proofs.lemmas.Lists.{filter-all, Each as ListEach, list_any-map}
+use Rattle.direct_run.specs.Moves.{World, ByClient}
+use Rattle.direct_device.specs.Direct.{Load, number, normal_of, Live, Direct, is_number}
+use Rattle.direct_proof.specs.Moves.{gate_made, Made, move, quiet}
+use Rattle.direct_proof.specs.Requests.{Entry, Debt, at_host, debts_of, at_device, live_of}
+use Rattle.direct_proof.specs.Shared.{Shared, lines, half_line, at_hosts, view}
 use Rattle.direct_proof.specs.Tagged.{runs_in}
 use Rattle.direct_proof.specs.Related.{Related}
 use Rattle.direct_proof.specs.Cancels.{moved as moved_on, left, begins, IsAsking, CancelsFit, Behind, is_change, any_change, is_cancel}
@@ -34,18 +33,24 @@ use Rattle.direct_proof.specs.Kinds.{StartOfKind, CallIsIn}
 use Rattle.direct_proof.specs.Running.{started_kind, called_endpoint}
 use Rattle.direct_proof.proofs.lists.Counts.{any-none}
 use Rattle.direct_proof.proofs.shared.Owed.{each-append, each-filter, ids-submit, IsNewNumber}
-use Rattle.direct_proof.proofs.shared.Folds.{clash, lines-append, at_hosts-append}
+use Rattle.direct_proof.proofs.shared.Folds.{clash, any-append, lines-append, at_hosts-append}
 use Rattle.direct_proof.proofs.shared.Fits.{fits-append}
 use Rattle.direct_proof.proofs.shared.Streaming.{IsQuiet, quits-more, trails-more, starts-more, controls-more, fenced-more, calls-quiet-in}
 use Rattle.direct_proof.proofs.shared.Backs.{clean-more}
 use Rattle.direct_proof.proofs.shared.Traces.{map-append}
-use Rattle.direct_proof.proofs.shared.Found.{before, unmap-each}
+use Rattle.direct_proof.proofs.shared.Found.{before, unmap-each, way-again}
 use Rattle.direct_proof.proofs.submits.Submitting.{AreBefore}
 use Rattle.direct_proof.proofs.shared.Debts.{debts-append}
 use Rattle.direct_proof.proofs.shared.Asked.{debt_from}
-use Rattle.direct_proof.proofs.submits.Opening.{opened_as, simple-live, simple-named, simple-asks, simple-sent}
-use Rattle.direct_proof.proofs.submits.Verdicts.{live-debts, calm-entries}
+use Rattle.direct_proof.proofs.submits.Opening.{opened_as, simple-live, simple-named, simple-asks, simple-sent, simple-means, simple-outs, simple-done, device-simple}
+use Rattle.direct_proof.proofs.submits.Verdicts.{live-debts, calm-entries, same-verdict}
 use Rattle.direct_proof.proofs.submits.Fresh.{is-new, IsSimpleSubmit, behind-none, behind-zero}
+use Rattle.usbip_urb.specs.declared.packet.UrbPacket.TheVariants as urb
+use Rattle.usbip_urb.specs.declared.client.ClientPacket.TheVariants.{Urb}
+use Rattle.gate_history.specs.step.Items.{Asked}
+use Rattle.gate_history.specs.state.Ups.{stream_at, stream_of}
+use Rattle.direct_device.specs.Acting.{Submit, act, answers, made_of}
+use Rattle.direct_proof.proofs.shared.Keeps.{Keeps, keeps-quiet, keeps-deed}
 
 module _ {S : Type 0} (m : Meaning S) (w : World S) (j : Shared) (rel : Related m w j) (sound : IsSound w.gate) (inside : w.gate.imported ≡ true) (there : w.gate.lost ≡ false) (place : ℕ) (s : UrbSubmit) (v : Verdict) (is : IsSimpleSubmit w.gate s v) where
   abbrev st : State
@@ -75,14 +80,14 @@ module _ {S : Type 0} (m : Meaning S) (w : World S) (j : Shared) (rel : Related 
   abbrev mark : Mark
   mark = mark_as st what None
 
-  pub first : AreBefore st.items st.live
+  first : AreBefore st.items st.live
   first = before st.items st.live (unmap-each (λ (x : Submission). x.place < st.items) (λ (p : Pending). p.submit) st.live (each-of (submits st) sound.places))
     where
       each-of : (ss : List Submission) → AllByRecursion (λ (x : Submission). x.place < st.items) ss → Each (λ (x : Submission). x.place < st.items) ss
       each-of [] h = tt
       each-of (x ∷ xs) h = (h.0, each-of xs h.1)
 
-  pub joined : (j.held ++ j.coming) ++ entry ∷ [] ≡ j.held ++ (j.coming ++ entry ∷ [])
+  joined : (j.held ++ j.coming) ++ entry ∷ [] ≡ j.held ++ (j.coming ++ entry ∷ [])
   joined = append_assoc j.held j.coming (entry ∷ [])
 
   owed : debts_of (submits st) ≡ j.debts
@@ -95,7 +100,7 @@ module _ {S : Type 0} (m : Meaning S) (w : World S) (j : Shared) (rel : Related 
     submits = w.submits ++ record { seqnum = r.number; id = is.simple.id } ∷ [];
   }
 
-  pub world : (gate_made w mark).world ≡ opened_world
+  world : (gate_made w mark).world ≡ opened_world
   world = λ i. record w {
     gate = record (after st mark) {
       live = simple-live st r v is.simple first i;
@@ -109,7 +114,7 @@ module _ {S : Type 0} (m : Meaning S) (w : World S) (j : Shared) (rel : Related 
 
   coming : half_line j.half ++ lines (w.to_host ++ qs) ≡ at_hosts (j.coming ++ entry ∷ [])
   coming = ap (λ (l : List InLine). half_line j.half ++ l) (lines-append w.to_host qs) ∙ sym (append_assoc (half_line j.half) (lines w.to_host) (lines qs))
-      ∙ (λ i. rel.coming i ++ is.simple.line i) ∙ ap (λ (l : List InLine). at_hosts j.coming ++ l) (sym (append-nil (at_host entry))) ∙ sym (at_hosts-append j.coming (entry ∷ []))
+      ∙ (λ i. rel.line.coming i ++ is.simple.line i) ∙ ap (λ (l : List InLine). at_hosts j.coming ++ l) (sym (append-nil (at_host entry))) ∙ sym (at_hosts-append j.coming (entry ∷ []))
 
   quiet-qs : Each IsQuiet qs
   quiet-qs = is.simple.quiet
@@ -118,7 +123,7 @@ module _ {S : Type 0} (m : Meaning S) (w : World S) (j : Shared) (rel : Related 
   met = (rel.meets.behind (rel.meets.no_session inside there)).2
 
   more-changes : (any_change (j.held ++ j.coming) || j.fenced) ≡ true → (any_change (j.held ++ (j.coming ++ entry ∷ [])) || j.fenced) ≡ true
-  more-changes h = ap (λ (b : Bool). b || j.fenced) (ap any_change (sym joined) ∙ list_any-append is_change (j.held ++ j.coming) (entry ∷ [])) ∙ wider (any_change (j.held ++ j.coming)) (is_change entry || false) j.fenced h
+  more-changes h = ap (λ (b : Bool). b || j.fenced) (ap any_change (sym joined) ∙ any-append is_change (j.held ++ j.coming) (entry ∷ [])) ∙ wider (any_change (j.held ++ j.coming)) (is_change entry || false) j.fenced h
     where
       wider : (a x f : Bool) → (a || f) ≡ true → ((a || x) || f) ≡ true
       wider true x f k = refl
@@ -144,39 +149,33 @@ module _ {S : Type 0} (m : Meaning S) (w : World S) (j : Shared) (rel : Related 
   behind = go is.behind
     where
       go : (change_waits st ≡ false) ⊎ (is_control (normal_of load).ep ≡ true) → Behind ((j.held ++ j.coming) ++ entry ∷ [])
-      go (inl none) = behind-none (j.held ++ j.coming) entry rel.behind (calm-entries m w j rel inside there none)
-      go (inr zero) = behind-zero (j.held ++ j.coming) entry rel.behind zero
+      go (inl none) = behind-none (j.held ++ j.coming) entry rel.line.behind (calm-entries m w j rel inside there none)
+      go (inr zero) = behind-zero (j.held ++ j.coming) entry rel.line.behind zero
 
-  pub related : Related m opened_world later
+  related : Related m opened_world later
   related = record {
-    held = rel.held;
-    half = rel.half;
-    coming = coming;
+    line = record {
+      held = rel.line.held;
+      half = rel.line.half;
+      coming = coming;
+      loads = subst (Each (λ (e : Entry). IsLoad e.load)) joined (each-append (λ (e : Entry). IsLoad e.load) (j.held ++ j.coming) (entry ∷ []) rel.line.loads (is.load, tt));
+      calls_in = each-append (λ (p : ℕ × RedirPacket). CallIsIn (called_endpoint p.1)) w.to_host qs rel.line.calls_in (calls-quiet-in qs quiet-qs);
+      cancels = fits-append j.half j.held w.to_host qs j.coming (entry ∷ []) rel.line.coming rel.line.cancels (uncancelled (j.held ++ j.coming) qs (entry ∷ []) is.simple.no_cancel);
+      behind = subst Behind joined behind;
+    };
     answers = rel.answers;
-    loads = subst (Each (λ (e : Entry). IsLoad e.load)) joined (each-append (λ (e : Entry). IsLoad e.load) (j.held ++ j.coming) (entry ∷ []) rel.loads (is.load, tt));
     tagged = rel.tagged;
     ids = subst (λ (es : List Entry). Ids later.debts (w.submits ++ record { seqnum = r.number; id = is.simple.id } ∷ []) es (runs_in j.back)) joined
         (ids-submit j.debts w.submits (j.held ++ j.coming) (runs_in j.back) (is.simple.id) load false rel.ids (is-new st (is.simple.id) j.debts is.fresh.1 (rel.debts there)) new-number);
     real = each-append (λ (d : Debt). (d.id == 0) ≡ false) j.debts (debt ∷ []) rel.real (is.fresh.0, tt);
-    calls_in = each-append (λ (p : ℕ × RedirPacket). CallIsIn (called_endpoint p.1)) w.to_host qs rel.calls_in (calls-quiet-in qs quiet-qs);
     runs_at_in = rel.runs_at_in;
-    meets = record {
-      host = rel.meets.host;
-      gate = rel.meets.gate;
-      before = λ h. absurd (clash w.host.guest.first h met);
-      announced = rel.meets.announced;
-      asked = λ h. each-append (λ (p : ℕ × RedirPacket). IsAsking p.1) w.to_host qs (rel.meets.asked h) is.simple.asking;
-      behind = rel.meets.behind;
-      no_session = rel.meets.no_session;
-      once = rel.meets.once;
-      plugged = rel.meets.plugged;
-    };
+    before = λ h. absurd (clash w.host.guest.first h met);
+    asked = λ h. each-append (λ (p : ℕ × RedirPacket). IsAsking p.1) w.to_host qs (rel.asked h) is.simple.asking;
+    meets = rel.meets;
     debts = λ h. (λ i. (ap debts_of (map-append (λ (p : Pending). p.submit) st.live (fresh (opened_as st r v is.simple first) ∷ [])) ∙ debts-append (submits st) (opened_as st r v is.simple first ∷ []) ∙ (λ k. owed k ++ map debt_from (cond (is.simple.goes k) (opened_as st r v is.simple first ∷ []) []))) i ++ debts_of ((rel.alone inside).0 i))
         ∙ append-nil (j.debts ++ debt ∷ []);
     controls = λ h. controls-more st.calls w.to_host qs j.back quiet-qs (rel.controls h);
     fenced = λ h. fenced-more st.fence j.fenced w.to_host qs j.back quiet-qs (rel.fenced h);
-    cancels = fits-append j.half j.held w.to_host qs j.coming (entry ∷ []) rel.coming rel.cancels (uncancelled (j.held ++ j.coming) qs (entry ∷ []) is.simple.no_cancel);
-    behind = subst Behind joined behind;
     alone = rel.alone;
     session = λ h a. let k = rel.session h a in record {
       table = k.table;
@@ -189,13 +188,42 @@ module _ {S : Type 0} (m : Meaning S) (w : World S) (j : Shared) (rel : Related 
       start_kinds = each-append (λ (p : ℕ × RedirPacket). StartOfKind st.streams (started_kind p.1)) w.to_host qs k.start_kinds (unstarted qs is.simple.quiet);
     };
     ups = rel.ups;
-    lost = λ h. absurd (clash st.lost h there);
-    reads = rel.reads;
-    refused = rel.refused;
     down = rel.down;
-    gone = rel.gone;
-    seen = rel.seen;
-    still = rel.still;
-    bye = rel.bye;
-    bye_last = rel.bye_last;
+    lost = λ h. absurd (clash st.lost h there);
+    sides = rel.sides;
+    farewell = rel.farewell;
   }
+
+  pub keep-simple : Keeps m w j (move m w (ByClient (Asked place (Urb (urb.Submit s)))))
+  keep-simple = go st.client_over refl
+    where
+      d : Direct S
+      d = view w j
+
+      live-untouched : (ps : List Pending) → ListEach (λ (p : Pending). is_touched v p.submit.verdict ≡ false) ps → ListEach (λ (y : Live). is_touched v y.load.verdict ≡ false) (map live_of ps)
+      live-untouched [] h = tt
+      live-untouched (p ∷ ps) h = (h.0, live-untouched ps h.1)
+
+      made-is : made_of m d r ≡ v
+      made-is = same-verdict m w j rel inside there r is.address ∙ ap (λ (u : Verdict). by_stream (stream_at st.streams r.transfer.ep) u) is.verdict-is ∙ is.simple.kept (stream_at st.streams r.transfer.ep)
+
+      device : (act m d (Submit r) ≡ record d { live = d.live ++ record { load = load; unlinker = None } ∷ []; queue = d.queue ++ record { load = load; asked = false } ∷ []; streams = st.streams }) × (answers m d (Submit r) ≡ [])
+      device = device-simple m st d r v is.simple refl (live-untouched st.live is.simple.untouched) made-is (λ ep. way-again (stream_of st.streams ep) ep j.back)
+
+      go : (b : Bool) → st.client_over ≡ b → Keeps m w j (move m w (ByClient (Asked place (Urb (urb.Submit s)))))
+      go true over = keeps-quiet m w j j (move m w (ByClient (Asked place (Urb (urb.Submit s))))) w (ap (λ (b : Bool). cond b (quiet w) (gate_made w (mark_of st (Asked place (Urb (urb.Submit s)))))) over) rel refl
+      go false on = keeps-deed m w j later (move m w (ByClient (Asked place (Urb (urb.Submit s))))) (Submit r) (record {
+        deeds = ap (λ (x : Made S). x.deeds) moved ∙ simple-done st r v is.simple first;
+        outs = ap (λ (x : Made S). x.outs) moved ∙ simple-outs st r v is.simple first ∙ ap (map Urb) (sym device.1);
+        same = device.0
+            ∙ (λ i. record d {
+              live = sym (map-append live_of st.live (fresh (opened_as st r v is.simple first) ∷ [])) i;
+              queue = (sym (map-append at_device (j.held ++ j.coming) (entry ∷ [])) ∙ ap (map at_device) joined) i;
+            })
+            ∙ ap (λ (x : World S). view x later) (sym world) ∙ ap (λ (x : Made S). view x.world later) (sym moved);
+        allowed = (inside, list_any-map (λ (l : Live). is_number r.number l.load) live_of st.live ∙ sym (list_any-map (is_numbered r.number) (λ (p : Pending). p.submit) st.live) ∙ is.new);
+      })
+          (subst (λ (x : Made S). Related m x.world later) (sym moved) (subst (λ (x : World S). Related m x later) (sym world) related))
+        where
+          moved : move m w (ByClient (Asked place (Urb (urb.Submit s)))) ≡ gate_made w mark
+          moved = λ i. cond (on i) (quiet w) (gate_made w (mark_as st (simple-means st r v is.simple first place s refl inside is.new is.verdict-is i) None))

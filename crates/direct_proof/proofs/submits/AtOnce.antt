@@ -149,7 +149,7 @@ keep-now {S = S} m w j place s status rel before inside new is made-is = go st.c
       same = device ∙ ap (λ (x : Made S). view x.world j) (sym moved);
       allowed = (inside, list_any-map (λ (l : Live). is_number r.number l.load) live_of st.live ∙ sym (list_any-map (is_numbered r.number) (λ (p : Pending). p.submit) st.live) ∙ new);
     })
-        (subst (λ (x : Made S). Related m x.world j) (sym moved) (counted-related m w j (w.submits ++ record { seqnum = r.number; id = 0 } ∷ []) st.client_over rel (ids-named j.debts w.submits (j.held ++ j.coming) (runs_in j.back) r.number rel.real rel.ids) rel.refused))
+        (subst (λ (x : Made S). Related m x.world j) (sym moved) (counted-related m w j (w.submits ++ record { seqnum = r.number; id = 0 } ∷ []) st.client_over rel (ids-named j.debts w.submits (j.held ++ j.coming) (runs_in j.back) r.number rel.real rel.ids) rel.sides.refused))
       where
         moved : made ≡ record { world = new_world; outs = Urb (without_packets r status) ∷ []; deeds = Submit r ∷ [] }
         moved = (λ i. cond (on i) (quiet w) (gate_made w (mark_as st (now-means st r status before place s refl inside new is i) None))) ∙ now-made st r status before w refl

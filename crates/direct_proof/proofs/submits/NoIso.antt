@@ -22,7 +22,7 @@ use Rattle.gate_history.specs.state.Flight.{wide_bulk}
 use Rattle.gate_history.specs.step.Meaning.{verdict_of}
 use Rattle.gate_history.specs.client.Requests.{Request, request_of, is_in_setup}
 use Rattle.gate_history.specs.state.State.{State, change_waits}
-use Rattle.gate_history.specs.client.Verdict.{Verdict, Now, Wire, Routed, IsoOut, Stream, max_narrow, none_of, bool_eq, by_route, by_setup, by_kind, is_control, is_iso, is_invalid, is_narrow, by_transfer, verdict, InterruptOut}
+use Rattle.gate_history.specs.client.Verdict.{Verdict, Now, Wire, IsoOut, Stream, max_narrow, none_of, bool_eq, by_route, by_setup, by_kind, is_control, is_iso, is_invalid, is_narrow, by_transfer, verdict, InterruptOut}
 use Rattle.gate_history.specs.client.Carried.{IsDirected}
 use Rattle.gate_history.proofs.lemmas.client.Carried.{is_request}
 use Rattle.direct_run.specs.Moves.{World}
@@ -35,10 +35,7 @@ use Rattle.direct_proof.proofs.submits.Verdicts.{table-known}
 -- what is known where it would
 abbrev ShowsIso : EpTable → Bool → Request → Verdict → Type 0
 ShowsIso table changing r (IsoOut row) = (changing ≡ false) × (r.is_in ≡ false) × ((row_of table r.transfer.ep).kind ≡ kind.Iso) × (r.transfer.setup ≡ None)
-ShowsIso table changing r (Now status) = Unit {0}
-ShowsIso table changing r (Wire pipe) = Unit {0}
-ShowsIso table changing r (Routed x) = Unit {0}
-ShowsIso table changing r (Stream row) = Unit {0}
+ShowsIso table changing r _ = Unit {0}
 
 module _ (table : EpTable) (changing : Bool) (r : Request) where
   unless : (b : Bool) (status : _) (v : Verdict) → (b ≡ false → ShowsIso table changing r v) → ShowsIso table changing r (cond b (Now status) v)
@@ -47,13 +44,7 @@ module _ (table : EpTable) (changing : Bool) (r : Request) where
 
   route-shows : (x : Route) → ShowsIso table changing r (by_route x)
   route-shows route.Local = tt
-  route-shows (route.SetConfig c) = tt
-  route-shows route.GetConfig = tt
-  route-shows (route.SetAlt i a) = tt
-  route-shows (route.GetAlt i) = tt
-  route-shows route.Reset = tt
-  route-shows route.Plain = tt
-  route-shows route.Bad = tt
+  route-shows _ = tt
 
   setup-shows : (s : Setup) → ShowsIso table changing r (by_setup r s)
   setup-shows s =

@@ -66,9 +66,7 @@ routed-transfer x = asks_transfer x (record { kind = 0; request = 0; value = 0; 
 abbrev FitsIt : Verdict → Request → Type 0
 FitsIt (Wire pipe) r = FitsPipe pipe r.transfer r.transfer.setup
 FitsIt (Routed x) r = FitsRoute x r.transfer r.transfer.setup
-FitsIt (Now status) r = Unit {0}
-FitsIt (IsoOut row) r = Unit {0}
-FitsIt (Stream row) r = Unit {0}
+FitsIt _ r = Unit {0}
 
 -- a rule that answers at once asks for nothing
 unless : (b : Bool) (status : _) (v : Verdict) (r : Request) → (b ≡ false → FitsIt v r) → FitsIt (cond b (Now status) v) r
@@ -143,13 +141,9 @@ submit-load st s v read is by_id = record { transfer = transfer v is by_id; verd
     transfer : (u : Verdict) → verdict_of st r ≡ u → goes_by_id u ≡ true → IsTransfer (normal_by r u)
     transfer (Wire pipe) e h = wire-transfer r at asks.directed (subst (λ (u : Verdict). IsCarried (wide_bulk st.agreed) u r) e (carried st.lost (length st.live) (change_waits st) st.facts.table (wide_bulk st.agreed) r asks)).data_there
     transfer (Routed x) e h = routed-transfer x
-    transfer (Now status) e h = absurd (cc)
-    transfer (IsoOut row) e h = absurd (cc)
-    transfer (Stream row) e h = absurd (cc)
+    transfer _ e h = absurd (cc)
 
     fits : (u : Verdict) → verdict_of st r ≡ u → goes_by_id u ≡ true → FitsVerdict u r.transfer
     fits (Wire pipe) e h = subst (λ (u : Verdict). FitsIt u r) e (verdict-fits st.lost (length st.live) (change_waits st) st.facts.table (wide_bulk st.agreed) r at asks)
     fits (Routed x) e h = subst (λ (u : Verdict). FitsIt u r) e (verdict-fits st.lost (length st.live) (change_waits st) st.facts.table (wide_bulk st.agreed) r at asks)
-    fits (Now status) e h = absurd (cc)
-    fits (IsoOut row) e h = absurd (cc)
-    fits (Stream row) e h = absurd (cc)
+    fits _ e h = absurd (cc)

@@ -11,7 +11,7 @@ use Rattle.model_device.specs.Transfer.{IsTransfer}
 use Rattle.redir_host.specs.guest.Line.{Waiting as InLine, asked_line}
 use Rattle.redir_host.specs.state.Sound.{Each as HostEach}
 use Rattle.gate_history.specs.client.Requests.{Request}
-use Rattle.gate_history.specs.client.Verdict.{Verdict, Pipe, Now, Wire, Routed, IsoOut, Stream, goes_by_id}
+use Rattle.gate_history.specs.client.Verdict.{Verdict, Pipe, Wire, Routed, Stream, goes_by_id}
 use Rattle.gate_history.specs.step.Marks.{Submission, Opens}
 use Rattle.gate_history.specs.client.Submits.{Pending, at_once, is_touched}
 use Rattle.gate_history.specs.state.Ids.{last_of, draw, greatest}
@@ -73,7 +73,7 @@ simple-wire st r pipe is fits = record {
   streams = refl;
   joins = λ l. refl;
   answered = λ l. refl;
-  line = ap (λ (l : List InLine). l ++ []) (ap (λ (p : RedirPacket). in_line (next_id st, p)) d.1 ∙ ap (asked_line 0 (next_id st)) (heard-as pipe r.transfer is fits d.0 d.1));
+  line = ap (λ (l : List InLine). l ++ []) (ap (λ (p : RedirPacket). in_line (next_id st, p)) d.1 ∙ ap (data_line [] (next_id st)) (heard-as pipe r.transfer is fits d.0 d.1));
   asking = (subst IsAsking (sym d.1) (subst CanAsk (sym (heard-as pipe r.transfer is fits d.0 d.1)) tt), tt);
   quiet = (subst (λ (p : RedirPacket). IsQuiet (next_id st, p)) (sym d.1) (refl, refl, λ ep b. refl), tt);
   uncalled = λ c. ap (λ (p : RedirPacket). called_by (next_id st) p c) d.1;
@@ -115,11 +115,8 @@ get-ends st x h = record { ups = every (Stays (ends_with (Some x))) stays st.str
     stays (Some up) = h up.row.interface
 
     no-touch : (u : Verdict) → is_touched (Routed x) u ≡ false
-    no-touch (Now status) = refl
-    no-touch (Wire pipe) = refl
-    no-touch (Routed y) = refl
-    no-touch (IsoOut row) = refl
     no-touch (Stream row) = h row.interface
+    no-touch _ = refl
 
 -- those of one packet
 pub simple-route : (st : State) (r : Request) (x : Route) (p : RedirPacket) → EndsNone st x → route_packets x ≡ p ∷ [] → ((id : ℕ) → in_line (id, p) ≡ at_host (record { id = id; load = record { request = r; verdict = Routed x }; asked = false })) →

@@ -50,10 +50,7 @@ rows-cell e (suc n) k d h = get-next (ep_rows e n) (ep_row e n) n k d (ep_row e)
 
 same-kind : (k : EpKind) → kind_of_byte (kind_byte k) ≡ k
 same-kind kind.Control = refl
-same-kind kind.Iso = refl
-same-kind kind.Bulk = refl
-same-kind kind.Interrupt = refl
-same-kind kind.Invalid = refl
+same-kind _ = refl
 
 pub row-told : (t : EpTable) (ep : ℕ) → endpoint_index ep < 32 → row_of (table_of (ep_info_of both_caps t)) ep ≡ row_of t ep
 row-told t ep h =

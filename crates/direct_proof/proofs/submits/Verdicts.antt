@@ -2,7 +2,6 @@
 use Rattle.std.proofs.Common.{◌≡◌, ℕ, ◌≤◌, ◌<◌, ◌==◌, ◌||◌, nat_le, Bool, true, false, cond, List, [], ◌∷◌, ◌++◌, map, filter, length, Option, Some, None, is_some, refl, sym, ap, ◌∙◌, subst, arith, append-nil}
 use Rattle.std.specs.List.{list_any}
 use Rattle.std.proofs.lemmas.List.{length-map}
-use Rattle.std.proofs.lemmas.Bool.{or_left}
 use Rattle.usbip_urb.specs.declared.code.TheConstants.{MAX_LIVE}
 use Rattle.usb_base.specs.declared.setup.Setup.{Setup}
 use Rattle.usb_base.specs.declared.endpoint.EpTable.{EpTable}
@@ -42,7 +41,7 @@ use Rattle.direct_proof.specs.Meets.{is_plug, is_announced}
 use Rattle.direct_proof.specs.Calls.{Fenced}
 use Rattle.direct_proof.proofs.lists.Counts.{single, any-none, Each-found, itself}
 use Rattle.direct_proof.proofs.shared.Owed.{each-filter}
-use Rattle.direct_proof.proofs.shared.Folds.{not-both}
+use Rattle.direct_proof.proofs.shared.Folds.{not-both, or-left}
 use Rattle.direct_proof.proofs.shared.Backs.{silent}
 use Rattle.direct_proof.proofs.submits.Tables.{row-told}
 
@@ -61,19 +60,19 @@ of-debt P ds id l one some agree holds =
     let has : Each (λ (d : Debt). P d.load) (s.0 ∷ []) = subst (Each (λ (d : Debt). P d.load)) s.1 (each-filter (λ (d : Debt). P d.load) (λ (d : Debt). d.id == id) ds holds) in
     subst P (only.0 s.2) has.0
 
-pub owed-entries : (P : Load → Type 0) (ds : List Debt) (names : List Submitted) (es : List Entry) (ran : List Coming) → Ids ds names es ran → Each (λ (d : Debt). P d.load) ds → Each (λ (e : Entry). P e.load) es
-owed-entries P ds names es ran ids holds = go es ids.entries_agree (Each-found (λ (e y : Entry). pair e.id (number e.load) y.id (number y.load)) (λ e. pair-itself e.id (number e.load)) es)
+owed-each : {X : Type 0} (id_of : X → ℕ) (load_of : X → Load) (P : Load → Type 0) (ds : List Debt) (xs : List X) → ((i : ℕ) → count (λ (d : Debt). d.id == i) ds ≤ 1) → ((i n : ℕ) → count (λ (x : X). pair i n (id_of x) (number (load_of x))) xs ≤ count (λ (d : Debt). pair i n d.id (number d.load)) ds) →
+    Each (λ (x : X). Each (λ (d : Debt). Agrees d (id_of x) (load_of x)) ds) xs → Each (λ (d : Debt). P d.load) ds → Each (λ (x : X). P (load_of x)) xs
+owed-each {X = X} id_of load_of P ds xs one owed agree holds = go xs agree (Each-found (λ (x y : X). pair (id_of x) (number (load_of x)) (id_of y) (number (load_of y))) (λ x. pair-itself (id_of x) (number (load_of x))) xs)
   where
-    go : (xs : List Entry) → Each (λ (e : Entry). Each (λ (d : Debt). Agrees d e.id e.load) ds) xs → Each (λ (e : Entry). 1 ≤ count (λ (y : Entry). pair e.id (number e.load) y.id (number y.load)) es) xs → Each (λ (e : Entry). P e.load) xs
+    go : (ys : List X) → Each (λ (x : X). Each (λ (d : Debt). Agrees d (id_of x) (load_of x)) ds) ys → Each (λ (x : X). 1 ≤ count (λ (y : X). pair (id_of x) (number (load_of x)) (id_of y) (number (load_of y))) xs) ys → Each (λ (x : X). P (load_of x)) ys
     go [] a c = tt
-    go (x ∷ xs) a c = (of-debt P ds x.id x.load (ids.one_id x.id) (let b = ids.balance (pair x.id (number x.load)) in let z = c.0 in omega (arith, b, z)) a.0 holds, go xs a.1 c.1)
+    go (x ∷ ys) a c = (of-debt P ds (id_of x) (load_of x) (one (id_of x)) (let b = owed (id_of x) (number (load_of x)) in let z = c.0 in omega (arith, b, z)) a.0 holds, go ys a.1 c.1)
+
+pub owed-entries : (P : Load → Type 0) (ds : List Debt) (names : List Submitted) (es : List Entry) (ran : List Coming) → Ids ds names es ran → Each (λ (d : Debt). P d.load) ds → Each (λ (e : Entry). P e.load) es
+owed-entries P ds names es ran ids = owed-each (λ (e : Entry). e.id) (λ (e : Entry). e.load) P ds es ids.one_id (λ i n. omega (arith, ids.balance (pair i n))) ids.entries_agree
 
 pub owed-ran : (P : Load → Type 0) (ds : List Debt) (names : List Submitted) (es : List Entry) (ran : List Coming) → Ids ds names es ran → Each (λ (d : Debt). P d.load) ds → Each (λ (c : Coming). P c.load) ran
-owed-ran P ds names es ran ids holds = go ran ids.ran_agrees (Each-found (λ (e y : Coming). pair e.id (number e.load) y.id (number y.load)) (λ e. pair-itself e.id (number e.load)) ran)
-  where
-    go : (xs : List Coming) → Each (λ (e : Coming). Each (λ (d : Debt). Agrees d e.id e.load) ds) xs → Each (λ (e : Coming). 1 ≤ count (λ (y : Coming). pair e.id (number e.load) y.id (number y.load)) ran) xs → Each (λ (e : Coming). P e.load) xs
-    go [] a c = tt
-    go (x ∷ xs) a c = (of-debt P ds x.id x.load (ids.one_id x.id) (let b = ids.balance (pair x.id (number x.load)) in let z = c.0 in omega (arith, b, z)) a.0 holds, go xs a.1 c.1)
+owed-ran P ds names es ran ids = owed-each (λ (c : Coming). c.id) (λ (c : Coming). c.load) P ds ran ids.one_id (λ i n. omega (arith, ids.balance (pair i n))) ids.ran_agrees
 
 -- ---- no change is live
 
@@ -106,7 +105,7 @@ module _ {S : Type 0} (m : Meaning S) (w : World S) (j : Shared) (rel : Related 
   connected = rel.meets.no_session inside there
 
   pub announced : is_announced w j ≡ true
-  announced = or_left (is_some w.gate.facts.connect) (list_any is_plug j.back) connected
+  announced = or-left (is_some w.gate.facts.connect) (list_any is_plug j.back) connected
 
   none-ends : (bs : List Tagged) → Each (λ (c : Coming). IsPlain c.load) (runs_in bs) → list_any is_plug bs ≡ false → list_any (ends None) bs ≡ false
   none-ends [] h k = refl
@@ -155,7 +154,7 @@ module _ {S : Type 0} (m : Meaning S) (w : World S) (j : Shared) (rel : Related 
 
   pub same-verdict : (r : Request) → endpoint_index r.transfer.ep < 32 → made_of m (view w j) r ≡ by_stream (stream_at w.gate.streams r.transfer.ep) (verdict_of w.gate r)
   same-verdict r address = ap (by_stream (stream_at w.gate.streams r.transfer.ep))
-      ((λ i. verdict (sym (rel.seen inside) i) (length-map w.gate.live live_of i) (changing i) (m.table w.host.gadget) (sym wide i) r) ∙ by_changing (change_waits w.gate) refl)
+      ((λ i. verdict (sym (rel.sides.seen inside) i) (length-map w.gate.live live_of i) (changing i) (m.table w.host.gadget) (sym wide i) r) ∙ by_changing (change_waits w.gate) refl)
     where
       changing : list_any (λ (l : Live). changes l.load.verdict) (map live_of w.gate.live) ≡ change_waits w.gate
       changing = list_any-map (λ (l : Live). changes l.load.verdict) live_of w.gate.live ∙ sym (list_any-map (λ (x : Submission). changes x.verdict) (λ (p : Pending). p.submit) w.gate.live)

@@ -98,13 +98,13 @@ keep-unlink {S = S} m w j place u rel sound inside = go w.gate.client_over refl
 
     coming : half_line j.half ++ lines (w.to_host ++ qs) ≡ at_hosts (map f j.coming)
     coming = ap (λ (l : List InLine). half_line j.half ++ l) (lines-append w.to_host qs ∙ ap (λ (l : List InLine). lines w.to_host ++ l) (cancels-line (filter (cancels (what by target)) st.live)) ∙ append-nil (lines w.to_host))
-        ∙ rel.coming ∙ sym (line-ask f (λ e. refl) (λ e. refl) j.coming)
+        ∙ rel.line.coming ∙ sym (line-ask f (λ e. refl) (λ e. refl) j.coming)
 
     before : w.host.guest.first ≡ true → Early (record w { to_host = w.to_host ++ qs }) later
     before h = by_lost st.lost refl
       where
         early : Early w j
-        early = rel.meets.before h
+        early = rel.before h
 
         by_lost : (b : Bool) → st.lost ≡ b → Early (record w { to_host = w.to_host ++ qs }) later
         by_lost true off = record { back = early.back; wire = ap (λ (l : List (ℕ × RedirPacket)). w.to_host ++ l) (none-lost off) ∙ append-nil w.to_host ∙ early.wire; held = ap (map f) early.held; half = early.half; running = early.running }
@@ -112,32 +112,26 @@ keep-unlink {S = S} m w j place u rel sound inside = go w.gate.client_over refl
 
     related : Related m (record (gate_made w mark).world { to_host = w.to_host ++ qs; submits = w.submits }) later
     related = record {
-      held = rel.held ∙ ap (λ (l : List HostRequest). cond w.host.unplugged [] l) (sym (map-map at_queue f j.held));
-      half = rel.half;
-      coming = coming;
+      line = record {
+        held = rel.line.held ∙ ap (λ (l : List HostRequest). cond w.host.unplugged [] l) (sym (map-map at_queue f j.held));
+        half = rel.line.half;
+        coming = coming;
+        loads = subst (Each (λ (e : Entry). IsLoad e.load)) split (Each-map (λ (e : Entry). IsLoad e.load) f es rel.line.loads);
+        calls_in = each-append (λ (p : ℕ × RedirPacket). CallIsIn (called_endpoint p.1)) w.to_host qs rel.line.calls_in (calls-quiet-in qs quiet-qs);
+        cancels = fits-nil j.half (map f j.held) w.to_host qs (map f j.coming) (rel.line.coming ∙ sym (line-ask f (λ e. refl) (λ e. refl) j.coming)) (fits-map f (still-asked target) j.held w.to_host j.coming rel.line.cancels) asked;
+        behind = subst Behind split (behind-ask f (λ e. refl) (λ e. refl) es rel.line.behind);
+      };
       answers = rel.answers;
-      loads = subst (Each (λ (e : Entry). IsLoad e.load)) split (Each-map (λ (e : Entry). IsLoad e.load) f es rel.loads);
       tagged = rel.tagged;
       ids = subst (λ (l : List Entry). Ids j.debts w.submits l (runs_in j.back)) split (ids-ask f (λ e. refl) (λ e. refl) j.debts w.submits es (runs_in j.back) rel.ids);
       real = rel.real;
-      calls_in = each-append (λ (p : ℕ × RedirPacket). CallIsIn (called_endpoint p.1)) w.to_host qs rel.calls_in (calls-quiet-in qs quiet-qs);
       runs_at_in = rel.runs_at_in;
-      meets = record {
-        host = rel.meets.host;
-        gate = rel.meets.gate;
-        before = λ h. let e = before h in record { back = e.back; wire = e.wire; held = e.held; half = e.half; running = e.running };
-        announced = rel.meets.announced;
-        asked = λ h. each-append (λ (p : ℕ × RedirPacket). IsAsking p.1) w.to_host qs (rel.meets.asked h) (cancels-asking (filter (cancels (what by target)) st.live));
-        behind = rel.meets.behind;
-        no_session = rel.meets.no_session;
-        once = rel.meets.once;
-        plugged = rel.meets.plugged;
-      };
+      before = λ h. let e = before h in record { back = e.back; wire = e.wire; held = e.held; half = e.half; running = e.running };
+      asked = λ h. each-append (λ (p : ℕ × RedirPacket). IsAsking p.1) w.to_host qs (rel.asked h) (cancels-asking (filter (cancels (what by target)) st.live));
+      meets = rel.meets;
       debts = λ h. (λ i. debts-unlinked st by target i ++ debts_of (filter-all st.abandoned i)) ∙ rel.debts h;
       controls = λ h. controls-more st.calls w.to_host qs j.back quiet-qs (rel.controls h);
       fenced = λ h. fenced-more st.fence j.fenced w.to_host qs j.back quiet-qs (rel.fenced h);
-      cancels = fits-nil j.half (map f j.held) w.to_host qs (map f j.coming) (rel.coming ∙ sym (line-ask f (λ e. refl) (λ e. refl) j.coming)) (fits-map f (still-asked target) j.held w.to_host j.coming rel.cancels) asked;
-      behind = subst Behind split (behind-ask f (λ e. refl) (λ e. refl) es rel.behind);
       alone = λ h. let a = rel.alone h in (filter-all st.abandoned ∙ a.0, a.1);
       session = λ h a. let s = rel.session h a in record {
         table = s.table;
@@ -150,15 +144,10 @@ keep-unlink {S = S} m w j place u rel sound inside = go w.gate.client_over refl
         start_kinds = each-append (λ (p : ℕ × RedirPacket). StartOfKind st.streams (started_kind p.1)) w.to_host qs s.start_kinds (no-starts qs quiet-qs);
       };
       ups = rel.ups;
-      lost = λ h. let l = rel.lost h in (l.0, l.1, l.2, (ap (λ (ps : List Pending). live_after (record st { live = ps }) (what by target)) l.3), l.4);
-      reads = rel.reads;
-      refused = rel.refused;
       down = rel.down;
-      gone = rel.gone;
-      seen = rel.seen;
-      still = rel.still;
-      bye = rel.bye;
-      bye_last = rel.bye_last;
+      lost = λ h. let l = rel.lost h in (l.0, l.1, l.2, (ap (λ (ps : List Pending). live_after (record st { live = ps }) (what by target)) l.3), l.4);
+      sides = rel.sides;
+      farewell = rel.farewell;
     }
       where
         no-starts : (ps : List (ℕ × RedirPacket)) → Each IsQuiet ps → Each (λ (p : ℕ × RedirPacket). StartOfKind st.streams (started_kind p.1)) ps

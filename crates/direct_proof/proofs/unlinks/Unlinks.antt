@@ -2,12 +2,10 @@
 use Rattle.std.proofs.Common.{◌≡◌, ℕ, ◌≤◌, ◌==◌, ◌||◌, ◌&&◌, not, Bool, true, false, cond, List, [], ◌∷◌, ◌++◌, map, filter, length, Some, None, is_none, refl, sym, ap, ◌∙◌, arith, append-nil}
 use Rattle.std.specs.Prelude.{pos}
 use Rattle.std.specs.List.{list_any, flat_map}
-use Rattle.std.proofs.lemmas.Bool.{or_left, or_right}
-use Rattle.std.proofs.Math.Bool.{or-false}
 use Rattle.usbip_urb.specs.declared.client.ClientPacket.{ClientPacket}
 use Rattle.usbip_urb.specs.declared.client.ClientPacket.TheVariants.{Urb}
 use Rattle.redir_host.specs.state.Sound.{Each}
-use Rattle.gate_history.specs.client.Verdict.{Verdict, Now, Wire, Routed, IsoOut, Stream, goes_by_id}
+use Rattle.gate_history.specs.client.Verdict.{Verdict, Wire, Routed, goes_by_id}
 use Rattle.gate_history.specs.step.Marks.{Submission, Effect, Unlinks}
 use Rattle.gate_history.specs.client.Submits.{Pending, is_waiting, ends, ByUnlink}
 use Rattle.gate_history.specs.write.Answers.{ret_unlink, answers_at}
@@ -25,7 +23,7 @@ use Rattle.direct_device.specs.Acting.{Unlink, Answer, is_taken, is_target, aske
 use Rattle.direct_proof.specs.Moves.{deeds_of}
 use Rattle.direct_proof.specs.Requests.{Debt, debts_of, live_of}
 use Rattle.direct_proof.proofs.lists.Counts.{any-none}
-use Rattle.direct_proof.proofs.shared.Folds.{not-both}
+use Rattle.direct_proof.proofs.shared.Folds.{not-both, or-left, or-right, or-false}
 use Rattle.direct_proof.proofs.shared.Asked.{debt_from}
 
 module _ (st : State) (by target : ℕ) where
@@ -58,11 +56,9 @@ module _ (st : State) (by target : ℕ) where
   debts-unlinked = ap (λ (l : List Pending). debts_of (map (λ (p : Pending). p.submit) l)) live-unlinked ∙ go st.live
     where
       waits : (v : Verdict) (b : Bool) → (is_waiting v && b) ≡ true → goes_by_id v ≡ false
-      waits (Now status) b h = refl
       waits (Wire pipe) b h = absurd (not-both (sym h))
       waits (Routed r) b h = absurd (not-both (sym h))
-      waits (IsoOut row) b h = refl
-      waits (Stream row) b h = refl
+      waits _ b h = refl
 
       go : (ps : List Pending) → debts_of (map (λ (p : Pending). p.submit) (map (ask what) (filter (λ p. not (gate_taken target p)) ps))) ≡ debts_of (map (λ (p : Pending). p.submit) ps)
       go [] = refl
@@ -118,8 +114,8 @@ module _ (st : State) (by target : ℕ) where
       either (p ∷ ps) h = on (gate_taken target p) refl h (either ps)
         where
           on : (b : Bool) → gate_taken target p ≡ b → (b || list_any (gate_taken target) ps) ≡ true → (list_any (gate_taken target) ps ≡ true → list_any (λ x. gate_target target x || gate_taken target x) ps ≡ true) → ((gate_target target p || gate_taken target p) || list_any (λ x. gate_target target x || gate_taken target x) ps) ≡ true
-          on true e k rest = or_left (gate_target target p || gate_taken target p) (list_any (λ x. gate_target target x || gate_taken target x) ps) (or_right (gate_target target p) (gate_taken target p) e)
-          on false e k rest = or_right (gate_target target p || gate_taken target p) (list_any (λ x. gate_target target x || gate_taken target x) ps) (rest k)
+          on true e k rest = or-left (gate_target target p || gate_taken target p) (list_any (λ x. gate_target target x || gate_taken target x) ps) (or-right (gate_target target p) (gate_taken target p) e)
+          on false e k rest = or-right (gate_target target p || gate_taken target p) (list_any (λ x. gate_target target x || gate_taken target x) ps) (rest k)
 
       none : (ps : List Pending) → Each (λ (p : Pending). gate_taken target p ≡ false) ps → list_any (λ p. gate_target target p || gate_taken target p) ps ≡ list_any (gate_target target) ps
       none [] h = refl

@@ -10,7 +10,7 @@ use Rattle.usbip_urb.specs.Ranges.{is_packet_count}
 use Rattle.redir_wire.specs.declared.packet.Way.TheVariants.{ToHost}
 use Rattle.redir_data.specs.Spelling.{data_count}
 use Rattle.gate_history.specs.client.Requests.{Request, address, is_in_setup}
-use Rattle.gate_history.specs.client.Verdict.{Pipe, Control, Bulk, InterruptOut, Verdict, Now, Wire, Routed, IsoOut, Stream}
+use Rattle.gate_history.specs.client.Verdict.{Pipe, Control, Bulk, InterruptOut, Verdict, Wire, IsoOut}
 
 -- ---- of a submit
 
@@ -56,8 +56,6 @@ pub record IsLaid (r : Request) : Type 0 where
   pub whole : length r.transfer.body ≡ r.transfer.wanted
 
 abbrev pub IsCarried : Bool → Verdict → Request → Type 0
-IsCarried wide (Now status) r = Unit {0}
 IsCarried wide (Wire pipe) r = IsSent wide pipe r.transfer
-IsCarried wide (Routed route) r = Unit {0}
 IsCarried wide (IsoOut row) r = IsLaid r
-IsCarried wide (Stream row) r = Unit {0}
+IsCarried wide _ r = Unit {0}

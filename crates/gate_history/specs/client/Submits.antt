@@ -6,7 +6,7 @@ use Rattle.usb_base.specs.declared.transfer.Outcome.{Outcome}
 use Rattle.usb_base.specs.Status.{is_success}
 use Rattle.control_route.specs.declared.route.Route.{Route}
 use Rattle.control_route.specs.Changes.{touches}
-use Rattle.gate_history.specs.client.Verdict.{Verdict, Now, Wire, Routed, IsoOut, Stream, goes_by_id}
+use Rattle.gate_history.specs.client.Verdict.{Verdict, Now, Routed, IsoOut, Stream, goes_by_id}
 use Rattle.gate_history.specs.host.Fillings.{Given, Filling, given_to}
 use Rattle.gate_history.specs.step.Marks.{Submission, Effect, Opens, Waits, Arrives, Unlinks, Answers, StreamTold, Mark}
 use Rattle.gate_history.specs.state.Sides.{leaves, is_loss, or_else}
@@ -44,20 +44,15 @@ accepted (m ∷ ms) = accepted ms ++ opened m.what
 abbrev pub at_once : Verdict → Option End
 at_once (Now status) = Some (AtOnce status)
 at_once (IsoOut row) = Some Sent
-at_once (Wire pipe) = None
-at_once (Routed r) = None
-at_once (Stream row) = None
+at_once _ = None
 
 abbrev pub has_id : ℕ → Submission → Bool
 has_id id s = goes_by_id s.verdict && (s.id == id)
 
 -- it waits for a stream's packets
 abbrev pub is_waiting : Verdict → Bool
-is_waiting (Now status) = false
-is_waiting (Wire pipe) = false
-is_waiting (Routed r) = false
-is_waiting (IsoOut row) = false
 is_waiting (Stream row) = true
+is_waiting _ = false
 
 -- for those of this endpoint's
 abbrev pub waits_at : ℕ → Submission → Bool
@@ -65,18 +60,12 @@ waits_at ep s = is_waiting s.verdict && (s.request.transfer.ep == ep)
 
 -- for those of a stream that ends with this route
 abbrev pub touches_stream : Route → Verdict → Bool
-touches_stream r (Now status) = false
-touches_stream r (Wire pipe) = false
-touches_stream r (Routed other) = false
-touches_stream r (IsoOut row) = false
 touches_stream r (Stream row) = touches r row.interface
+touches_stream r _ = false
 
 abbrev pub is_touched : Verdict → Verdict → Bool
-is_touched (Now status) v = false
-is_touched (Wire pipe) v = false
 is_touched (Routed r) v = touches_stream r v
-is_touched (IsoOut row) v = false
-is_touched (Stream row) v = false
+is_touched _ v = false
 
 abbrev pub packets_end : ℕ → List Filling → Submission → Option End
 packets_end ep fillings s = if waits_at ep s then option_map ByPackets (given_to fillings s.request.number) else None

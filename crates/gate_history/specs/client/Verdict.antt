@@ -75,32 +75,21 @@ by_kind r row kind.Invalid = Now enoent
 
 abbrev pub is_control : EpKind → Bool
 is_control kind.Control = true
-is_control kind.Iso = false
-is_control kind.Bulk = false
-is_control kind.Interrupt = false
-is_control kind.Invalid = false
+is_control _ = false
 
 abbrev pub is_iso : EpKind → Bool
-is_iso kind.Control = false
 is_iso kind.Iso = true
-is_iso kind.Bulk = false
-is_iso kind.Interrupt = false
-is_iso kind.Invalid = false
+is_iso _ = false
 
 abbrev pub is_invalid : EpKind → Bool
-is_invalid kind.Control = false
-is_invalid kind.Iso = false
-is_invalid kind.Bulk = false
-is_invalid kind.Interrupt = false
 is_invalid kind.Invalid = true
+is_invalid _ = false
 
 -- the packet of this transfer has 16 bits for its length
 abbrev pub is_narrow : Bool → Bool → EpKind → Bool
-is_narrow wide is_in kind.Control = false
-is_narrow wide is_in kind.Iso = false
 is_narrow wide is_in kind.Bulk = not wide
 is_narrow wide is_in kind.Interrupt = not is_in
-is_narrow wide is_in kind.Invalid = false
+is_narrow wide is_in _ = false
 
 abbrev pub by_endpoint : Bool → Request → EpRow → Verdict
 by_endpoint wide r row =
@@ -129,26 +118,18 @@ verdict lost live changing table wide r =
 
 -- the host's answer ends it, by an id
 abbrev pub goes_by_id : Verdict → Bool
-goes_by_id (Now status) = false
 goes_by_id (Wire pipe) = true
 goes_by_id (Routed r) = true
-goes_by_id (IsoOut row) = false
-goes_by_id (Stream row) = false
+goes_by_id _ = false
 
 abbrev pub is_wire : Verdict → Bool
-is_wire (Now status) = false
 is_wire (Wire pipe) = true
-is_wire (Routed r) = false
-is_wire (IsoOut row) = false
-is_wire (Stream row) = false
+is_wire _ = false
 
 -- the device's interfaces may be others once it ends
 abbrev pub changes : Verdict → Bool
-changes (Now status) = false
-changes (Wire pipe) = false
 changes (Routed r) = is_change r
-changes (IsoOut row) = false
-changes (Stream row) = false
+changes _ = false
 
 abbrev pub pipe_kind : Pipe → EpKind
 pipe_kind Control = kind.Control

@@ -38,17 +38,12 @@ route_packets route.GetConfig = Plain plain.GetConfiguration ∷ []
 route_packets (route.SetAlt interface alt) = Plain (plain.SetAlt interface alt) ∷ []
 route_packets (route.GetAlt interface) = Plain (plain.GetAlt interface) ∷ []
 route_packets route.Reset = Plain plain.Reset ∷ Plain plain.GetConfiguration ∷ []
-route_packets route.Local = []
-route_packets route.Plain = []
-route_packets route.Bad = []
+route_packets _ = []
 
 -- it goes as some packets where it goes by its route
 abbrev pub HasRoute : Verdict → Type 0
-HasRoute (Now status) = Unit {0}
-HasRoute (Wire pipe) = Unit {0}
 HasRoute (Routed r) = 1 ≤ length (route_packets r)
-HasRoute (IsoOut row) = Unit {0}
-HasRoute (Stream row) = Unit {0}
+HasRoute _ = Unit {0}
 
 -- ---- streams
 

@@ -1,8 +1,9 @@
 -- The two checks that a submit and its answer have beyond the others.
-use Rattle.std.proofs.Common.{◌≡◌, ℕ, ◌≤◌, ◌==◌, Bool, true, false, List, [], ◌∷◌, ◌++◌, length, IsTrue, None, refl, ap, ◌∙◌, arith}
+use Rattle.std.proofs.Common.{◌≡◌, ℕ, ◌≤◌, ◌==◌, Bool, true, false, List, [], ◌∷◌, ◌++◌, length, IsTrue, None, refl, ap, ◌∙◌, arith, ◌⊎◌, inl, inr}
 use Rattle.std.specs.Prelude.{nat_le, not, ◌||◌}
 use Rattle.std.specs.Int.{w32}
-use Rattle.std.proofs.lemmas.Bool.{leb-true, le-leb, eqb-true, eq-eqb}
+use Rattle.std.proofs.lemmas.Bool.{leb-true, le-leb, eqb-true, eq-eqb, or_cases}
+use Rattle.std.proofs.Math.Bool.{or-true}
 use Rattle.usb_base.specs.Number.{be_at}
 use Rattle.usb_base.proofs.Numbers.{be_at-append_32}
 use Rattle.packet_stream.specs.Format.{wrong_at}
@@ -58,3 +59,15 @@ packets_steady command b more there =
 
 pub limits_steady : (command n : ℕ) → n ≤ 28 → AreSteady n (guarded (has_command command) size_checks)
 limits_steady command n less = (less, length_steady command, (omega arith, packets_steady command, tt))
+
+-- ---- which packet it is
+
+pub is_one_of : (a b n : ℕ) → (n ≡ a) ⊎ (n ≡ b) → ((n == a) || (n == b)) ≡ true
+is_one_of a b n (inl e) = rw (eq-eqb n a e) refl
+is_one_of a b n (inr e) = rw (eq-eqb n b e) (or-true (n == a))
+
+pub one_of : (a b n : ℕ) → ((n == a) || (n == b)) ≡ true → (n ≡ a) ⊎ (n ≡ b)
+one_of a b n e = elim (or_cases (n == a) (n == b) e) [
+  | inl h ↦ inl (eqb-true n a h)
+  | inr h ↦ inr (eqb-true n b h)
+]

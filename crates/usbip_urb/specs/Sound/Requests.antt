@@ -1,8 +1,8 @@
 -- What is read as a request is spelled so, and what is spelled so is read.
-use Rattle.std.proofs.Common.{◌≡◌, ℕ, ◌+◌, ◌*◌, ◌≤◌, ◌==◌, ◌⊎◌, inl, inr, Bool, true, false, List, ◌∷◌, ◌++◌, length, take, refl, sym, ap, subst, ◌∙◌, append_assoc, arith, None, cond}
+use Rattle.std.proofs.Common.{◌≡◌, ℕ, ◌+◌, ◌*◌, ◌≤◌, ◌==◌, ◌⊎◌, inl, inr, Bool, true, false, List, ◌∷◌, ◌++◌, length, take, drop, refl, sym, ap, subst, ◌∙◌, append_assoc, arith, None, cond}
 use Rattle.std.specs.Prelude.{nat_le, ◌||◌}
 use Rattle.std.specs.Int.{w16, w32}
-use Rattle.std.proofs.lemmas.Bool.{leb-true, le-leb, eqb-true, eq-eqb, or_cases}
+use Rattle.std.proofs.lemmas.Bool.{leb-true, le-leb, eqb-true, eq-eqb}
 use Rattle.std.proofs.lemmas.List.{length-append}
 use Rattle.std.proofs.lemmas.List.Elements.{All-same}
 use Rattle.usb_base.specs.Number.{be, be_at, part, AreBytes}
@@ -22,9 +22,9 @@ use Rattle.usbip_urb.specs.Fields.{submit_at, unlink_at}
 use Rattle.usbip_urb.specs.Ranges.{IsWord, IsRequest}
 use Rattle.usbip_urb.specs.Checks.{version_check, command_check, device_check, direction_check, endpoint_check, size_checks, has_command, request_checks}
 use Rattle.usbip_urb.specs.Requests.{request_size_by, request_by, requests}
-use Rattle.usbip_urb.specs.Sound.Words.{words_at, words_spelled, words_below, length-words, word_in}
+use Rattle.usbip_urb.specs.Sound.Words.{words_at, words_spelled, words_below, length-words, word_in, head_in, fields_in}
 use Rattle.usbip_urb.specs.Sound.Payloads.{payload_found, payload_again}
-use Rattle.usbip_urb.specs.Sound.Limits.{IsWithinLimits, limits_right, limits_found, limits_steady}
+use Rattle.usbip_urb.specs.Sound.Limits.{IsWithinLimits, limits_right, limits_found, limits_steady, is_one_of, one_of}
 
 -- ---- the checks, as what they say of the fields
 
@@ -52,20 +52,10 @@ device_on = device_check ∷ direction_on
 abbrev pub any_command : Check Reason
 any_command = command_check USBIP_CMD_SUBMIT USBIP_CMD_UNLINK
 
-is_command : (n : ℕ) → (n ≡ USBIP_CMD_SUBMIT) ⊎ (n ≡ USBIP_CMD_UNLINK) → ((n == USBIP_CMD_SUBMIT) || (n == USBIP_CMD_UNLINK)) ≡ true
-is_command n (inl e) = ap (λ (k : ℕ). (k == USBIP_CMD_SUBMIT) || (k == USBIP_CMD_UNLINK)) e
-is_command n (inr e) = ap (λ (k : ℕ). (k == USBIP_CMD_SUBMIT) || (k == USBIP_CMD_UNLINK)) e
-
-command_is : (n : ℕ) → ((n == USBIP_CMD_SUBMIT) || (n == USBIP_CMD_UNLINK)) ≡ true → (n ≡ USBIP_CMD_SUBMIT) ⊎ (n ≡ USBIP_CMD_UNLINK)
-command_is n e = elim (or_cases (n == USBIP_CMD_SUBMIT) (n == USBIP_CMD_UNLINK) e) [
-  | inl h ↦ inl (eqb-true n USBIP_CMD_SUBMIT h)
-  | inr h ↦ inr (eqb-true n USBIP_CMD_UNLINK h)
-]
-
 none_wrong : (b : List ℕ) → IsRight b → wrong_at request_checks b ≡ None
 none_wrong b h =
     none_from version_check (any_command ∷ device_on) b (λ _. eq-eqb (be_at w16 0 b) 0 h.version)
-    (none_from any_command device_on b (λ _. is_command (be_at w32 0 b) h.command)
+    (none_from any_command device_on b (λ _. is_one_of USBIP_CMD_SUBMIT USBIP_CMD_UNLINK (be_at w32 0 b) h.command)
     (none_from device_check direction_on b (λ _. eq-eqb (be_at w32 8 b) EXPORTED_DEVID h.device)
     (none_from direction_check endpoint_on b (λ _. le-leb (be_at w32 12 b) 1 h.direction)
     (none_from endpoint_check limits_on b (λ _. le-leb (be_at w32 16 b) MAX_ENDPOINT h.endpoint)
@@ -80,7 +70,7 @@ is_right b none there =
     let limits = none_later endpoint_check limits_on b endpoint in
     record {
       version = eqb-true (be_at w16 0 b) 0 (none_first version_check (any_command ∷ device_on) b none (omega arith));
-      command = command_is (be_at w32 0 b) (none_first any_command device_on b command (omega arith));
+      command = one_of USBIP_CMD_SUBMIT USBIP_CMD_UNLINK (be_at w32 0 b) (none_first any_command device_on b command (omega arith));
       device = eqb-true (be_at w32 8 b) EXPORTED_DEVID (none_first device_check direction_on b device (omega arith));
       direction = leb-true (be_at w32 12 b) 1 (none_first direction_check endpoint_on b direction (omega arith));
       endpoint = leb-true (be_at w32 16 b) MAX_ENDPOINT (none_first endpoint_check limits_on b endpoint (omega arith));
@@ -198,26 +188,18 @@ submit_again s x more e fits =
     let rest = s.setup ++ (s.body ++ (last ++ more)) in
     let is : x ≡ words ws ++ rest = e ∙ simp append_assoc refl in
     let ok = fits.2.words in
-    let command : be_at w32 0 x ≡ USBIP_CMD_SUBMIT = word_in 0 ws rest x is ok (omega arith) in
-    let seqnum : be_at w32 4 x ≡ s.head.seqnum = word_in 1 ws rest x is ok (omega arith) in
-    let devid : be_at w32 8 x ≡ s.head.devid = word_in 2 ws rest x is ok (omega arith) in
-    let direction : be_at w32 12 x ≡ s.head.direction = word_in 3 ws rest x is ok (omega arith) in
-    let ep : be_at w32 16 x ≡ s.head.ep = word_in 4 ws rest x is ok (omega arith) in
-    let flags : be_at w32 20 x ≡ s.flags = word_in 5 ws rest x is ok (omega arith) in
-    let asked : be_at w32 24 x ≡ s.length = word_in 6 ws rest x is ok (omega arith) in
-    let start_frame : be_at w32 28 x ≡ s.start_frame = word_in 7 ws rest x is ok (omega arith) in
-    let packets : be_at w32 32 x ≡ s.packets = word_in 8 ws rest x is ok (omega arith) in
-    let interval : be_at w32 36 x ≡ s.interval = word_in 9 ws rest x is ok (omega arith) in
-    let body_long : length s.body ≡ body_size (is_out (be_at w32 12 x)) (be_at w32 24 x) = rw (direction, asked) fits.0.body in
-    let counted : length s.descs ≡ count_of (be_at w32 32 x) = rw packets fits.0.descs in
+    let head = head_in USBIP_CMD_SUBMIT s.head (drop 5 ws) rest x is ok in
+    let fields = fields_in USBIP_CMD_SUBMIT s.head s.flags s.length s.start_frame s.packets s.interval rest x is ok in
+    let body_long : length s.body ≡ body_size (is_out (be_at w32 12 x)) (be_at w32 24 x) = rw (head.direction, fields.at_24) fits.0.body in
+    let counted : length s.descs ≡ count_of (be_at w32 32 x) = rw fields.at_32 fits.0.descs in
     let payload = payload_again (is_out (be_at w32 12 x)) x (words ws) s.setup s.body s.descs more e (length-words ws) fits.2.setup body_long counted fits.2.descs in
     let packet : submit_at x ≡ s = λ t. record {
-      head = record { seqnum = seqnum t; devid = devid t; direction = direction t; ep = ep t };
-      flags = flags t;
-      length = asked t;
-      start_frame = start_frame t;
-      packets = packets t;
-      interval = interval t;
+      head = record { seqnum = head.seqnum t; devid = head.devid t; direction = head.direction t; ep = head.ep t };
+      flags = fields.at_20 t;
+      length = fields.at_24 t;
+      start_frame = fields.at_28 t;
+      packets = fields.at_32 t;
+      interval = fields.at_36 t;
       setup = payload.is_eight t;
       body = payload.is_body t;
       descs = payload.is_descs t;
@@ -225,14 +207,14 @@ submit_again s x more e fits =
     record {
       right = record {
         version = ap (be_at w16 0) is ∙ version_submit s rest;
-        command = inl command;
-        device = devid ∙ fits.1;
-        direction = rw direction fits.0.head.direction;
-        endpoint = rw ep fits.0.head.endpoint;
-        limits = λ _. record { few_bytes = rw asked fits.0.few_bytes; few_packets = rw packets fits.0.few_packets };
+        command = inl head.command;
+        device = head.devid ∙ fits.1;
+        direction = rw head.direction fits.0.head.direction;
+        endpoint = rw head.ep fits.0.head.endpoint;
+        limits = λ _. record { few_bytes = rw fields.at_24 fits.0.few_bytes; few_packets = rw fields.at_32 fits.0.few_packets };
       };
-      size = ap (λ (n : ℕ). request_size_by n x) command ∙ payload.size;
-      packet = ap (λ (n : ℕ). request_by n x) command ∙ ap urb.Submit packet;
+      size = ap (λ (n : ℕ). request_size_by n x) head.command ∙ payload.size;
+      packet = ap (λ (n : ℕ). request_by n x) head.command ∙ ap urb.Submit packet;
     }
 
 unlink_again : (u : Unlink) (x more : List ℕ) → x ≡ spelling (urb.Unlink u) ++ more → IsRequest (urb.Unlink u) → IsAgain (urb.Unlink u) x
@@ -241,15 +223,11 @@ unlink_again u x more e fits =
     let rest = u.pad ++ more in
     let is : x ≡ words ws ++ rest = e ∙ append_assoc (words ws) u.pad more in
     let ok = fits.2.words in
-    let command : be_at w32 0 x ≡ USBIP_CMD_UNLINK = word_in 0 ws rest x is ok (omega arith) in
-    let seqnum : be_at w32 4 x ≡ u.head.seqnum = word_in 1 ws rest x is ok (omega arith) in
-    let devid : be_at w32 8 x ≡ u.head.devid = word_in 2 ws rest x is ok (omega arith) in
-    let direction : be_at w32 12 x ≡ u.head.direction = word_in 3 ws rest x is ok (omega arith) in
-    let ep : be_at w32 16 x ≡ u.head.ep = word_in 4 ws rest x is ok (omega arith) in
+    let head = head_in USBIP_CMD_UNLINK u.head (drop 5 ws) rest x is ok in
     let target : be_at w32 20 x ≡ u.target = word_in 5 ws rest x is ok (omega arith) in
     let pad : part 24 24 x ≡ u.pad = ap (part 24 24) e ∙ part_found 24 24 (words ws) u.pad more (length-words ws) fits.2.pad in
     let packet : unlink_at x ≡ u = λ t. record {
-      head = record { seqnum = seqnum t; devid = devid t; direction = direction t; ep = ep t };
+      head = record { seqnum = head.seqnum t; devid = head.devid t; direction = head.direction t; ep = head.ep t };
       target = target t;
       pad = pad t;
     } in
@@ -257,14 +235,14 @@ unlink_again u x more e fits =
     record {
       right = record {
         version = ap (be_at w16 0) is ∙ version_unlink u rest;
-        command = inr command;
-        device = devid ∙ fits.1;
-        direction = rw direction fits.0.direction;
-        endpoint = rw ep fits.0.endpoint;
-        limits = λ h. absurd (omega (arith, command, h));
+        command = inr head.command;
+        device = head.devid ∙ fits.1;
+        direction = rw head.direction fits.0.direction;
+        endpoint = rw head.ep fits.0.endpoint;
+        limits = λ h. absurd (omega (arith, head.command, h));
       };
-      size = ap (λ (n : ℕ). request_size_by n x) command ∙ size;
-      packet = ap (λ (n : ℕ). request_by n x) command ∙ ap urb.Unlink packet;
+      size = ap (λ (n : ℕ). request_size_by n x) head.command ∙ size;
+      packet = ap (λ (n : ℕ). request_by n x) head.command ∙ ap urb.Unlink packet;
     }
 
 again : (p : UrbPacket) (more : List ℕ) → IsRequest p → IsAgain p (spelling p ++ more)

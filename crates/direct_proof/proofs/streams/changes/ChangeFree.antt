@@ -21,14 +21,11 @@ abbrev pub IsFree : RedirPacket → Type 0
 IsFree p = (is_cancel p ≡ false) × IsAsking p
 
 route-free : (x : Route) → Each IsFree (route_packets x)
-route-free (route.SetConfig c) = ((refl, tt), tt)
-route-free route.GetConfig = ((refl, tt), tt)
-route-free (route.SetAlt i a) = ((refl, tt), tt)
-route-free (route.GetAlt i) = ((refl, tt), tt)
 route-free route.Reset = ((refl, tt), ((refl, tt), tt))
 route-free route.Local = tt
 route-free route.Plain = tt
 route-free route.Bad = tt
+route-free _ = ((refl, tt), tt)
 
 stops-free : (test : Up → Bool) (ups : List (Option Up)) → Each IsFree (stops test ups)
 stops-free test [] = tt

@@ -3,8 +3,6 @@ use Rattle.direct_proof.proofs.streams.changes.ChangeLists.{past, setup-alone, b
 use Rattle.std.proofs.Common.{◌≡◌, ℕ, ◌==◌, ◌||◌, not, true, false, cond, List, [], ◌∷◌, ◌++◌, length, map, filter, Option, Some, None, is_some, refl, sym, ap, ◌∙◌, subst, append-nil, append_assoc}
 use Rattle.std.specs.List.{list_any}
 use Rattle.std.proofs.lemmas.List.{length-map}
-use Rattle.std.proofs.lemmas.Bool.{or_left, or_right}
-use Rattle.std.proofs.lemmas.List.Folds.{list_any-append}
 use Rattle.usb_base.specs.declared.setup.Setup.{Setup}
 use Rattle.usbip_urb.specs.declared.packet.Submit.{Submit as UrbSubmit}
 use Rattle.usbip_urb.specs.declared.packet.UrbPacket.TheVariants as urb
@@ -47,7 +45,7 @@ use Rattle.direct_proof.specs.Kinds.{StartOfKind}
 use Rattle.direct_proof.specs.Running.{started_kind}
 use Rattle.direct_proof.proofs.shared.Traces.{map-append}
 use Rattle.direct_proof.proofs.shared.Owed.{each-append, IsNewNumber, ids-submit}
-use Rattle.direct_proof.proofs.shared.Folds.{clash}
+use Rattle.direct_proof.proofs.shared.Folds.{clash, or-left, or-right, any-append}
 use Rattle.direct_proof.proofs.shared.Fits.{fits-append}
 use Rattle.direct_proof.proofs.streams.wires.Folds.{starts-append}
 use Rattle.direct_proof.proofs.shared.Keeps.{Keeps}
@@ -88,7 +86,7 @@ module _ {S : Type 0} (m : Meaning S) (w : World S) (j : Shared) (place : ℕ) (
   connect = rel.meets.no_session imported there
 
   session : Session m w j
-  session = rel.session there (or_left (is_some w.gate.facts.connect) _ connect)
+  session = rel.session there (or-left (is_some w.gate.facts.connect) _ connect)
 
   owed : debts_of (submits w.gate) ≡ j.debts
   owed = sym (append-nil (debts_of (submits w.gate))) ∙ ap (λ (l : List Submission). debts_of (submits w.gate) ++ debts_of l) (sym (rel.alone imported).0) ∙ rel.debts there
@@ -100,7 +98,7 @@ module _ {S : Type 0} (m : Meaning S) (w : World S) (j : Shared) (place : ℕ) (
   joined = append_assoc j.held j.coming (entry ∷ [])
 
   pending : (any_change (j.held ++ (j.coming ++ entry ∷ [])) || j.fenced) ≡ true
-  pending = or_left (any_change (j.held ++ (j.coming ++ entry ∷ []))) j.fenced (sym (ap any_change joined) ∙ list_any-append is_changing (j.held ++ j.coming) (entry ∷ []) ∙ or_right (any_change (j.held ++ j.coming)) (is_change x || false) (or_left (is_change x) false change))
+  pending = or-left (any_change (j.held ++ (j.coming ++ entry ∷ []))) j.fenced (sym (ap any_change joined) ∙ any-append is_changing (j.held ++ j.coming) (entry ∷ []) ∙ or-right (any_change (j.held ++ j.coming)) (is_change x || false) (or-left (is_change x) false change))
 
   new-session : Session m (change_world w r x) later
   new-session = record {
@@ -121,46 +119,35 @@ module _ {S : Type 0} (m : Meaning S) (w : World S) (j : Shared) (place : ℕ) (
 
   related : Related m (change_world w r x) later
   related = record {
-    held = rel.held;
-    half = rel.half;
-    coming = new-line m w j r x change rel gate;
+    line = record {
+      held = rel.line.held;
+      half = rel.line.half;
+      coming = new-line m w j r x change rel gate;
+      loads = subst (Each (λ (e : Entry). IsLoad e.load)) joined (each-append (λ (e : Entry). IsLoad e.load) (j.held ++ j.coming) (entry ∷ []) rel.line.loads (load, tt));
+      calls_in = new-calls-in m w j r x change rel gate;
+      cancels = fits-append j.half j.held w.to_host (change_sent w.gate x) j.coming (entry ∷ []) rel.line.coming rel.line.cancels
+          (uncancelled-free (j.held ++ j.coming) (change_sent w.gate x) (entry ∷ []) (change-free w.gate x));
+      behind = subst Behind joined (behind-more (j.held ++ j.coming) entry (zero-route r x change) rel.line.behind);
+    };
     answers = rel.answers;
-    loads = subst (Each (λ (e : Entry). IsLoad e.load)) joined (each-append (λ (e : Entry). IsLoad e.load) (j.held ++ j.coming) (entry ∷ []) rel.loads (load, tt));
     tagged = tagged-lower (is_ended (Some x)) w.gate.streams j.back rel.tagged;
     ids = subst (λ (es : List Entry). Ids later.debts (w.submits ++ record { seqnum = r.number; id = id } ∷ []) es (runs_in j.back)) joined
         (ids-submit j.debts w.submits (j.held ++ j.coming) (runs_in j.back) id (record { request = r; verdict = Routed x }) false rel.ids new-id (subst (IsNewNumber r.number) owed (new-numbers r.number (submits w.gate) new)));
     real = each-append (λ (y : Debt). (y.id == 0) ≡ false) j.debts (debt ∷ []) rel.real ((change-id m w j r x change rel gate).1, tt);
-    calls_in = new-calls-in m w j r x change rel gate;
     runs_at_in = rel.runs_at_in;
-    meets = record {
-      host = rel.meets.host;
-      gate = rel.meets.gate;
-      before = λ h. absurd (clash w.host.guest.first h (rel.meets.behind connect).2);
-      announced = rel.meets.announced;
-      asked = λ h. each-append (λ (p : ℕ × RedirPacket). IsAsking p.1) w.to_host (change_sent w.gate x) (rel.meets.asked h) (asks-free (change_sent w.gate x) (change-free w.gate x));
-      behind = rel.meets.behind;
-      once = rel.meets.once;
-      plugged = rel.meets.plugged;
-      no_session = rel.meets.no_session;
-    };
+    before = λ h. absurd (clash w.host.guest.first h (rel.meets.behind connect).2);
+    asked = λ h. each-append (λ (p : ℕ × RedirPacket). IsAsking p.1) w.to_host (change_sent w.gate x) (rel.asked h) (asks-free (change_sent w.gate x) (change-free w.gate x));
+    meets = rel.meets;
     debts = λ h. ap (λ (l : List Submission). debts_of (map (λ (p : Pending). p.submit) (staying x w.gate.live ++ fresh (changer w.gate r x) ∷ [])) ++ debts_of l) (rel.alone imported).0 ∙ append-nil _ ∙ debts-changer w.gate r x w.gate.live ∙ ap (λ (l : List Debt). l ++ debt ∷ []) owed;
     controls = λ h. new-controls m w j r x change rel gate there;
     fenced = λ h. subst (λ (f : Option ℕ). Fenced f j.fenced (w.to_host ++ change_sent w.gate x) j.back) (sym (rel.alone imported).1) (subst (λ (f : Option ℕ). Fenced f j.fenced w.to_host j.back) (rel.alone imported).1 (rel.fenced there));
-    cancels = fits-append j.half j.held w.to_host (change_sent w.gate x) j.coming (entry ∷ []) rel.coming rel.cancels
-        (uncancelled-free (j.held ++ j.coming) (change_sent w.gate x) (entry ∷ []) (change-free w.gate x));
-    behind = subst Behind joined (behind-more (j.held ++ j.coming) entry (zero-route r x change) rel.behind);
     alone = rel.alone;
     session = λ h k. new-session;
     ups = fits-lower (is_ended (Some x)) w.gate.streams rel.ups;
-    lost = λ h. absurd (clash w.gate.lost h there);
-    gone = rel.gone;
-    reads = rel.reads;
-    refused = rel.refused;
     down = λ h. absurd (clash w.gate.imported imported h);
-    seen = rel.seen;
-    still = rel.still;
-    bye = rel.bye;
-    bye_last = rel.bye_last;
+    lost = λ h. absurd (clash w.gate.lost h there);
+    sides = rel.sides;
+    farewell = rel.farewell;
   }
 
   made : made_of m d r ≡ Routed x
@@ -173,7 +160,7 @@ module _ {S : Type 0} (m : Meaning S) (w : World S) (j : Shared) (place : ℕ) (
       go None e f = absurd f
       go (Some y) e f =
           ap (by_stream (stream_at d.streams r.transfer.ep)) (
-          (λ i. verdict (sym (rel.seen imported) i) (length-map w.gate.live live_of i) ((list_any-map (λ (l : Live). changes l.load.verdict) live_of w.gate.live ∙ sym (list_any-map (λ (z : Submission). changes z.verdict) (λ (p : Pending). p.submit) w.gate.live)) i) (m.table w.host.gadget) (wide i) r)
+          (λ i. verdict (sym (rel.sides.seen imported) i) (length-map w.gate.live live_of i) ((list_any-map (λ (l : Live). changes l.load.verdict) live_of w.gate.live ∙ sym (list_any-map (λ (z : Submission). changes z.verdict) (λ (p : Pending). p.submit) w.gate.live)) i) (m.table w.host.gadget) (wide i) r)
           ∙ setup-alone w.gate.lost (length w.gate.live) (change_waits w.gate) (m.table w.host.gadget) w.gate.facts.table (wide_bulk w.gate.agreed) r y e ∙ v)
           ∙ by-routed (stream_at d.streams r.transfer.ep) x
 

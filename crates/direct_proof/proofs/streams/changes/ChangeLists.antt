@@ -2,8 +2,6 @@
 use Rattle.std.proofs.Common.{◌≡◌, ℕ, ◌<◌, ◌==◌, not, nat_le, Bool, true, false, cond, List, [], ◌∷◌, ◌++◌, map, filter, Option, Some, None, refl, sym, ap, ◌∙◌, arith}
 use Rattle.std.specs.Prelude.{ℤ}
 use Rattle.std.specs.List.{list_any, AllByRecursion}
-use Rattle.std.proofs.lemmas.Bool.{or_left, or_parts}
-use Rattle.std.proofs.lemmas.List.Folds.{list_any-append}
 use Rattle.usbip_urb.specs.declared.code.TheConstants.{MAX_LIVE}
 use Rattle.usb_base.specs.declared.setup.Setup.{Setup}
 use Rattle.usb_base.specs.declared.endpoint.EpTable.{EpTable}
@@ -13,7 +11,7 @@ use Rattle.control_route.specs.Changes.{is_change}
 use Rattle.model_device.specs.Transfer.{is_control}
 use Rattle.redir_host.specs.state.Sound.{Each}
 use Rattle.gate_history.specs.client.Requests.{Request}
-use Rattle.gate_history.specs.client.Verdict.{Verdict, Now, Wire, Routed, IsoOut, Stream, verdict, by_transfer, goes_by_id}
+use Rattle.gate_history.specs.client.Verdict.{Verdict, Now, Wire, Routed, verdict, by_transfer, goes_by_id}
 use Rattle.gate_history.specs.write.Errno.{eshutdown, ebusy}
 use Rattle.gate_history.specs.state.Ids.{holds}
 use Rattle.gate_history.specs.step.Marks.{Submission}
@@ -29,7 +27,7 @@ use Rattle.direct_proof.specs.Tagged.{Tagged}
 use Rattle.direct_proof.specs.Cancels.{Behind}
 use Rattle.direct_proof.specs.Stale.{Clean}
 use Rattle.direct_proof.proofs.shared.Owed.{each-append, IsNewNumber}
-use Rattle.direct_proof.proofs.shared.Folds.{not-both}
+use Rattle.direct_proof.proofs.shared.Folds.{not-both, or-left, or-none, any-append}
 use Rattle.direct_proof.proofs.submits.Submitting.{AreBefore}
 use Rattle.direct_proof.proofs.streams.changes.Changing.{changer, touched, staying}
 
@@ -58,11 +56,9 @@ abbrev pub by_id : Submission → Bool
 by_id s = goes_by_id s.verdict
 
 touched-waits : (x : Route) (v : Verdict) → touches_stream x v ≡ true → goes_by_id v ≡ false
-touched-waits x (Now status) h = refl
 touched-waits x (Wire pipe) h = absurd (not-both (sym h))
 touched-waits x (Routed y) h = absurd (not-both (sym h))
-touched-waits x (IsoOut row) h = refl
-touched-waits x (Stream row) h = refl
+touched-waits x _ h = refl
 
 pub debts-changer : (st : State) (r : Request) (x : Route) (ps : List Pending) → debts_of (map (λ (p : Pending). p.submit) (staying x ps ++ fresh (changer st r x) ∷ [])) ≡ debts_of (map (λ (p : Pending). p.submit) ps) ++ debt_in (changer st r x) ∷ []
 debts-changer st r x [] = refl
@@ -77,7 +73,7 @@ debts-changer st r x (p ∷ ps) = go (touched x p) refl (debts-changer st r x ps
 
 pub new-debts : (id : ℕ) (ss : List Submission) → holds (map (λ (s : Submission). s.id) ss) id ≡ false → IsNew id (map debt_in ss)
 new-debts id [] h = tt
-new-debts id (s ∷ ss) h = let p = or_parts (id == s.id) (holds (map (λ (y : Submission). y.id) ss) id) h in (flip id s.id p.0, new-debts id ss p.1)
+new-debts id (s ∷ ss) h = let p = or-none (id == s.id) (holds (map (λ (y : Submission). y.id) ss) id) h in (flip id s.id p.0, new-debts id ss p.1)
   where
     flip : (a b : ℕ) → (a == b) ≡ false → (b == a) ≡ false
     flip a b e = grind (arith, e)
@@ -85,12 +81,12 @@ new-debts id (s ∷ ss) h = let p = or_parts (id == s.id) (holds (map (λ (y : S
 pub new-numbers : (n : ℕ) (ss : List Submission) → list_any (has_seq n) ss ≡ false → IsNewNumber n (debts_of ss)
 new-numbers n [] h = tt
 new-numbers n (s ∷ ss) h =
-    let p = or_parts (has_seq n s) (list_any (has_seq n) ss) h in
+    let p = or-none (has_seq n s) (list_any (has_seq n) ss) h in
     let rest = new-numbers n ss p.1 in
     elim (goes_by_id s.verdict) as (λ c. Each (λ (d : Debt). (number d.load == n) ≡ false) (map debt_in (cond c (s ∷ filter by_id ss) (filter by_id ss)))) [ true ↦ (p.0, rest) | false ↦ rest ]
 
 pub holds-front : (xs ys : List ℕ) (id : ℕ) → holds (xs ++ ys) id ≡ false → holds xs id ≡ false
-holds-front xs ys id h = (or_parts (holds xs id) (holds ys id) (sym (list_any-append (λ y. id == y) xs ys) ∙ h)).0
+holds-front xs ys id h = (or-none (holds xs id) (holds ys id) (sym (any-append (λ y. id == y) xs ys) ∙ h)).0
 
 -- ---- behind
 
@@ -98,11 +94,7 @@ pub zero-route : (r : Request) (x : Route) → is_change x ≡ true → is_contr
 zero-route r (route.SetConfig c) h = refl
 zero-route r (route.SetAlt i a) h = refl
 zero-route r route.Reset h = refl
-zero-route r route.GetConfig h = absurd (not-both (sym h))
-zero-route r (route.GetAlt i) h = absurd (not-both (sym h))
-zero-route r route.Local h = absurd (not-both (sym h))
-zero-route r route.Plain h = absurd (not-both (sym h))
-zero-route r route.Bad h = absurd (not-both (sym h))
+zero-route r _ h = absurd (not-both (sym h))
 
 pub behind-more : (es : List Entry) (e : Entry) → is_control (normal_of e.load).ep ≡ true → Behind es → Behind (es ++ e ∷ [])
 behind-more [] e h b = ((λ z. tt), tt)
@@ -110,7 +102,7 @@ behind-more (y ∷ es) e h b = ((λ z. each-append (λ (q : Entry). is_control (
 
 pub clean-true : (fence : Option ℕ) (down : ℕ → Bool) (p : Bool) → p ≡ true → (bs : List Tagged) → Clean fence down p bs
 clean-true fence down p h [] = tt
-clean-true fence down p h (b ∷ bs) = ((λ s. or_left p _ h), clean-true fence down p h bs)
+clean-true fence down p h (b ∷ bs) = ((λ s. or-left p _ h), clean-true fence down p h bs)
 
 pub before-all : (n : ℕ) (ps : List Pending) → AllByRecursion (λ (s : Submission). s.place < n) (map (λ (p : Pending). p.submit) ps) → AreBefore n ps
 before-all n [] h = tt

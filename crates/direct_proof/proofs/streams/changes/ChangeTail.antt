@@ -41,11 +41,7 @@ pub is-tail : (r : Request) (x : Route) (m : ℕ) (f : List ℕ) (last : ℕ) �
 is-tail r (route.SetConfig c) m f last h = record { first = _; rest = []; are = refl; asks-it = λ n. refl; mute = (refl, refl); rest_mute = tt; line = refl; some = omega arith }
 is-tail r (route.SetAlt i a) m f last h = record { first = _; rest = []; are = refl; asks-it = λ n. refl; mute = (refl, refl); rest_mute = tt; line = refl; some = omega arith }
 is-tail r route.Reset m f last h = record { first = _; rest = _; are = refl; asks-it = λ n. refl; mute = (refl, refl); rest_mute = ((refl, refl), tt); line = refl; some = omega arith }
-is-tail r route.GetConfig m f last h = absurd (not-both (sym h))
-is-tail r (route.GetAlt i) m f last h = absurd (not-both (sym h))
-is-tail r route.Local m f last h = absurd (not-both (sym h))
-is-tail r route.Plain m f last h = absurd (not-both (sym h))
-is-tail r route.Bad m f last h = absurd (not-both (sym h))
+is-tail r _ m f last h = absurd (not-both (sym h))
 
 -- ---- mute packets
 

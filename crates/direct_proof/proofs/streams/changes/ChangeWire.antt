@@ -87,11 +87,11 @@ module _ {S : Type 0} (m : Meaning S) (w : World S) (j : Shared) (r : Request) (
   new-line =
       ap (λ (l : List InLine). half_line j.half ++ l) (lines-append w.to_host (change_sent w.gate x) ∙ ap (λ (l : List InLine). lines w.to_host ++ l) (ap lines sent-is ∙ lines-append zs cs ∙ (λ i. stops-lines (is_ended (Some x)) zs each i ++ tail.line i)))
       ∙ sym (append_assoc (half_line j.half) (lines w.to_host) (at_host (entry_of (last_of 0 ids2) r x)))
-      ∙ (λ i. rel.coming i ++ at_host (entry_of (id-is i) r x))
+      ∙ (λ i. rel.line.coming i ++ at_host (entry_of (id-is i) r x))
       ∙ sym (at_hosts-more j.coming (entry_of (last_of 0 (change_ids w.gate x)) r x))
 
   pub new-calls-in : Each (λ (p : ℕ × RedirPacket). CallIsIn (called_endpoint p.1)) (w.to_host ++ change_sent w.gate x)
-  new-calls-in = each-append (λ (p : ℕ × RedirPacket). CallIsIn (called_endpoint p.1)) w.to_host (change_sent w.gate x) rel.calls_in
+  new-calls-in = each-append (λ (p : ℕ × RedirPacket). CallIsIn (called_endpoint p.1)) w.to_host (change_sent w.gate x) rel.line.calls_in
       (subst (Each (λ (p : ℕ × RedirPacket). CallIsIn (called_endpoint p.1))) (sym sent-is)
       (each-append (λ (p : ℕ × RedirPacket). CallIsIn (called_endpoint p.1)) zs cs (stops-in (is_ended (Some x)) zs each) (subst (Each (λ (p : ℕ × RedirPacket). CallIsIn (called_endpoint p.1))) (sym tail.are) (quiet tail.first tail.mute, quiets tail.rest tail.rest_mute))))
     where

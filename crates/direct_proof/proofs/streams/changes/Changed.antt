@@ -16,7 +16,7 @@ use Rattle.gate_history.specs.state.State.{submits, flying}
 use Rattle.gate_history.specs.state.Ups.{is_ended}
 use Rattle.gate_history.proofs.lemmas.state.Calls.{called-append, called-silent, route-silent, times-append}
 use Rattle.direct_run.specs.Moves.{World}
-use Rattle.direct_proof.specs.Tagged.{Tagged, Greeted, Plugged, ToldTable, ToldFaces, Answered, Packed, Stated, Bye}
+use Rattle.direct_proof.specs.Tagged.{Tagged, Stated}
 use Rattle.direct_proof.specs.Shared.{Shared}
 use Rattle.direct_proof.specs.Related.{Related}
 use Rattle.direct_proof.specs.Calls.{Controls, IsKept, CallIsKept, StatusIsKept, calls_on, statuses_on}
@@ -85,14 +85,8 @@ module _ {S : Type 0} (m : Meaning S) (w : World S) (j : Shared) (r : Request) (
       statuses (b ∷ bs) h = (go b h.0, statuses bs h.1)
         where
           go : (b : Tagged) → StatusIsKept w.gate.calls b → StatusIsKept (called (zs m w j r x change rel gate) w.gate.calls) b
-          go Greeted k = tt
-          go (Plugged y) k = tt
-          go (ToldTable y) k = tt
-          go (ToldFaces y) k = tt
-          go (Answered y) k = tt
-          go (Packed y e p) k = tt
           go (Stated y n e status) k = kept-on n e k
-          go Bye k = tt
+          go _ k = tt
 
       few : (n k : ℕ) → times n (ids1 m w j r x change rel gate) ≡ k → times n (calls_on w.to_host) + times n (statuses_on j.back) ≤ 1 → times n (calls_on (w.to_host ++ change_sent w.gate x)) ≡ times n (calls_on w.to_host) + times n (calls_on (zs m w j r x change rel gate)) → times n (calls_on (zs m w j r x change rel gate)) ≤ times n (ids1 m w j r x change rel gate) →
           times n (calls_on (w.to_host ++ change_sent w.gate x)) + times n (statuses_on j.back) ≤ 1

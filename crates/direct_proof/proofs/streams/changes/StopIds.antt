@@ -2,7 +2,6 @@
 use Rattle.std.proofs.Common.{◌≡◌, ◌≢◌, ℕ, suc, ◌+◌, ◌≤◌, ◌<◌, ◌==◌, ◌||◌, Bool, true, false, cond, List, [], ◌∷◌, ◌++◌, length, Option, Some, None, is_some, refl, sym, ap, ◌∙◌, subst, arith}
 use Rattle.std.specs.Prelude.{get_or, slice_set, zip}
 use Rattle.std.proofs.lemmas.List.{get_or-set_same, get_or-set_other, length-set}
-use Rattle.std.proofs.lemmas.Bool.{or_left, or_right}
 use Rattle.usb_base.specs.Endpoint.{endpoint_index}
 use Rattle.redir_data.specs.declared.packet.RedirPacket.{RedirPacket}
 use Rattle.redir_host.specs.state.Sound.{Each}
@@ -15,7 +14,7 @@ use Rattle.direct_proof.specs.Kinds.{IsIn, UpFits}
 use Rattle.direct_proof.specs.Calls.{IsKept, CallIsKept, is_id, call_id, calls_on}
 use Rattle.direct_proof.specs.Running.{called_endpoint}
 use Rattle.direct_proof.proofs.streams.fills.FillLists.{weight}
-use Rattle.direct_proof.proofs.shared.Folds.{clash}
+use Rattle.direct_proof.proofs.shared.Folds.{clash, or-left, or-right}
 use Rattle.direct_proof.proofs.shared.UpsFound.{in-place}
 use Rattle.direct_proof.proofs.streams.changes.Stops.{stopping, stop-is}
 
@@ -46,7 +45,7 @@ kept-stop up id c n e free kept = go (endpoint_index e == endpoint_index up.ep) 
         apart x y f g = grind (arith, f, g)
     go true i =
         let same : endpoint_index e ≡ endpoint_index up.ep = equal (endpoint_index e) (endpoint_index up.ep) i in
-        or_left (is_id n (get_or c.started (endpoint_index e) None)) (is_id n (get_or (slice_set c.stopped (endpoint_index up.ep) (Some id)) (endpoint_index e) None))
+        or-left (is_id n (get_or c.started (endpoint_index e) None)) (is_id n (get_or (slice_set c.stopped (endpoint_index up.ep) (Some id)) (endpoint_index e) None))
         (left (is_id n (get_or c.started (endpoint_index e) None)) (is_id n (get_or c.stopped (endpoint_index e) None)) kept (ap (is_id n) (ap (λ (k : ℕ). get_or c.stopped k None) same ∙ free)))
       where
         equal : (x y : ℕ) → (x == y) ≡ true → x ≡ y
@@ -57,7 +56,7 @@ kept-stop up id c n e free kept = go (endpoint_index e == endpoint_index up.ep) 
         left false b x y = absurd (clash b x y)
 
 new-stop : (up : Up) (id : ℕ) (c : Calls) → IsIn up.ep → length c.stopped ≡ 32 → IsKept (stopped up.ep id c) id up.ep
-new-stop up id c h n = or_right (is_id id (get_or c.started (endpoint_index up.ep) None)) (is_id id (get_or (slice_set c.stopped (endpoint_index up.ep) (Some id)) (endpoint_index up.ep) None))
+new-stop up id c h n = or-right (is_id id (get_or c.started (endpoint_index up.ep) None)) (is_id id (get_or (slice_set c.stopped (endpoint_index up.ep) (Some id)) (endpoint_index up.ep) None))
     (ap (is_id id) (get_or-set_same c.stopped (endpoint_index up.ep) (Some id) None (subst (λ (k : ℕ). endpoint_index up.ep < k) (sym n) (in-place up.ep h))) ∙ itself id)
   where
     itself : (k : ℕ) → (k == k) ≡ true

@@ -1,5 +1,5 @@
 -- Lists, of which one in the middle is taken out.
-use Rattle.std.proofs.Common.{◌≡◌, ℕ, zero, suc, ◌≤◌, not, Bool, true, false, cond, List, [], ◌∷◌, ◌++◌, filter, Some, refl, ap, ◌∙◌, arith}
+use Rattle.std.proofs.Common.{◌≡◌, ℕ, zero, suc, ◌≤◌, ◌&&◌, not, Bool, true, false, cond, List, [], ◌∷◌, ◌++◌, filter, Some, refl, ap, ◌∙◌, arith}
 use Rattle.std.specs.List.{find}
 use Rattle.std.specs.Prelude.{slice_set}
 use Rattle.redir_host.specs.state.Sound.{Each}
@@ -45,3 +45,7 @@ apart-middle xs x ys h = λ n. let p : Live → Bool = λ l. is_number n l.load 
 pub each-end : {X : Type 0} (P : X → Type 0) (xs : List X) (x : X) → Each P xs → P x → Each P (xs ++ x ∷ [])
 each-end P [] x h k = (k, tt)
 each-end P (y ∷ xs) x h k = (h.0, each-end P xs x h.1 k)
+
+pub and-parts : (a b : Bool) → (a && b) ≡ true → (a ≡ true) × (b ≡ true)
+and-parts true b h = (refl, h)
+and-parts false b h = absurd (cc)

@@ -5,7 +5,6 @@ use Rattle.std.specs.Prelude.{slice_set}
 use Rattle.std.proofs.lemmas.List.{get_or-set_same, length-set, set-get_or}
 use Rattle.usb_base.specs.Endpoint.{endpoint_index}
 use Rattle.std.specs.Option.{option_map}
-use Rattle.std.proofs.lemmas.Bool.{and_parts}
 use Rattle.usbip_urb.specs.declared.packet.UrbPacket.{UrbPacket}
 use Rattle.usbip_urb.specs.declared.client.ClientPacket.{ClientPacket}
 use Rattle.usbip_urb.specs.declared.client.ClientPacket.TheVariants.{Urb}
@@ -22,7 +21,7 @@ use Rattle.direct_device.specs.Acting.{Deed, Answer, answers, answered_by, answe
 use Rattle.direct_device.specs.Legal.{CanAnswer, CanAnswerBy, IsEarliest}
 use Rattle.direct_proof.proofs.lists.Counts.{itself}
 use Rattle.direct_proof.proofs.streams.Keeping.{Does, does-nothing, does-then}
-use Rattle.direct_proof.proofs.streams.fills.FillLists.{AreApart, set-twice, find-middle, filter-middle, others, apart-middle, each-end}
+use Rattle.direct_proof.proofs.streams.fills.FillLists.{AreApart, set-twice, find-middle, filter-middle, others, apart-middle, each-end, and-parts}
 
 -- ---- what comes of those that wait, in their order
 
@@ -114,7 +113,7 @@ module _ {S : Type 0} (m : Meaning S) (ep max : ℕ) where
       n = number l.load
 
       parts : (is_waiting l.load.verdict ≡ true) × ((l.load.request.transfer.ep == ep) ≡ true)
-      parts = and_parts (is_waiting l.load.verdict) (l.load.request.transfer.ep == ep) waiting
+      parts = and-parts (is_waiting l.load.verdict) (l.load.request.transfer.ep == ep) waiting
 
       is_stream : is_waiting l.load.verdict ≡ true
       is_stream = parts.0

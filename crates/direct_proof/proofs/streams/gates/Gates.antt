@@ -50,13 +50,7 @@ is-gate st sound long = record {
 
 few-route : (x : Route) → length (route_packets x) ≤ 2
 few-route (route.SetConfig c) = omega arith
-few-route route.GetConfig = omega arith
-few-route (route.SetAlt i a) = omega arith
-few-route (route.GetAlt i) = omega arith
-few-route route.Reset = omega arith
-few-route route.Local = omega arith
-few-route route.Plain = omega arith
-few-route route.Bad = omega arith
+few-route _ = omega arith
 
 pub is-changing : (st : State) (x : Route) → IsSound st → AreLong st.calls → length st.streams ≡ 32 → Unstopped st.streams st.calls → IsChanging st x
 is-changing st x sound long places free = record {

@@ -1,47 +1,111 @@
 -- The host reads a start or a stop of a stream, and what is shared is kept.
-use Rattle.direct_proof.proofs.streams.hears.CalledFence.{called_world, called-moved, unheard-moved, unfenced, stays-clean, fenced-called}
-use Rattle.std.proofs.Common.{◌≡◌, ℕ, ◌+◌, ◌||◌, ◌⊎◌, inl, inr, Bool, true, false, cond, List, [], ◌∷◌, ◌++◌, map, Option, Some, None, is_some, refl, sym, ap, ◌∙◌, subst, arith}
-use Rattle.std.specs.List.{list_any}
-use Rattle.std.proofs.lemmas.Bool.{or_left, or_right}
+use Rattle.std.proofs.Common.{◌≡◌, ℕ, ◌||◌, Bool, true, false, List, [], ◌∷◌, ◌++◌, Option, Some, None, refl, sym, ap, ◌∙◌, subst, ◌+◌, ◌⊎◌, inl, inr, cond, map, arith}
 use Rattle.redir_data.specs.declared.packet.RedirPacket.{RedirPacket}
-use Rattle.redir_data.specs.Streams.{advanced}
 use Rattle.model_device.specs.Meaning.{Meaning}
+use Rattle.redir_host.specs.guest.Line.{Waiting as InLine}
+use Rattle.redir_host.specs.state.Sound.{Each}
+use Rattle.gate_history.specs.write.Bytes.{gateway_hello}
+use Rattle.direct_run.specs.Moves.{World, HostReads}
+use Rattle.direct_proof.specs.Shared.{Shared, lines, half_line, at_hosts, in_line, view}
+use Rattle.direct_proof.specs.Related.{Queued, Related}
+use Rattle.direct_proof.specs.Session.{Session, down_in, runs}
+use Rattle.direct_proof.specs.Calls.{Controls, Fenced, StatusIsKept, CallIsKept, call_id, statuses_on, calls_on}
+use Rattle.direct_proof.specs.Kinds.{CallIsIn, StartOfKind, TaggedOfKind}
+use Rattle.direct_proof.specs.Meets.{is_announced}
+use Rattle.direct_proof.specs.Cancels.{any_change, CancelsFit, moved, left, IsAsking}
+use Rattle.direct_proof.specs.Running.{called_endpoint, started_kind, StartsFit, passes, Quits, Trails, runs_after}
+use Rattle.direct_proof.proofs.streams.wires.Sorts.{IsCall, Calls_or, is-call, asks-parts, line_changes}
+use Rattle.direct_proof.proofs.shared.Folds.{clash, or-false, not-both, or-left, or-right}
+use Rattle.direct_proof.proofs.streams.hears.Calling.{HostCalls, host-calls}
+use Rattle.direct_proof.proofs.streams.hears.CalledFence.{called_world, called-moved, unheard-moved, unfenced, stays-clean, fenced-called}
+use Rattle.std.specs.List.{list_any}
+use Rattle.redir_data.specs.Streams.{advanced}
 use Rattle.redir_host.specs.declared.running.Running.{Running}
 use Rattle.redir_host.specs.guest.Packets.{runs_at}
-use Rattle.redir_host.specs.state.Sound.{Each}
 use Rattle.gate_history.specs.state.Ids.{times}
 use Rattle.gate_history.specs.state.Ups.{stream_of}
 use Rattle.gate_history.specs.declared.facts.Facts.{Facts}
 use Rattle.gate_history.proofs.lemmas.state.Calls.{times-append}
-use Rattle.direct_run.specs.Moves.{World, HostReads}
 use Rattle.direct_proof.specs.Moves.{move}
 use Rattle.direct_proof.specs.Tagged.{Tagged, Stated, on_wire, told}
-use Rattle.direct_proof.specs.Shared.{Shared, in_line, view}
 use Rattle.direct_proof.specs.Requests.{ran_of}
-use Rattle.direct_proof.specs.Related.{Related}
-use Rattle.direct_proof.specs.Session.{Session, down_in, runs}
-use Rattle.direct_proof.specs.Calls.{Controls, Fenced, StatusIsKept, CallIsKept, call_id, statuses_on, calls_on}
 use Rattle.direct_proof.specs.Ids.{Ids}
-use Rattle.direct_proof.specs.Kinds.{TaggedOfKind, StartOfKind}
-use Rattle.direct_proof.specs.Meets.{is_greeting, is_plug, is_bye}
-use Rattle.direct_proof.specs.Cancels.{any_change}
 use Rattle.direct_proof.specs.Stale.{asks, is_fence}
-use Rattle.direct_proof.specs.Running.{passes, called_endpoint, started_kind, Quits, Trails, runs_after}
 use Rattle.direct_proof.proofs.shared.Traces.{map-append}
 use Rattle.direct_proof.proofs.shared.Owed.{each-append}
 use Rattle.direct_proof.proofs.shared.Keeps.{Keeps, keeps-quiet}
-use Rattle.direct_proof.proofs.streams.wires.Sorts.{asks-parts, line_changes}
 use Rattle.direct_proof.proofs.streams.wires.SortsMore.{call-stays}
-use Rattle.direct_proof.proofs.shared.Folds.{clash, not-both}
 use Rattle.direct_proof.proofs.streams.wires.Folds.{or-either, quits-off}
 use Rattle.direct_proof.proofs.shared.Backs.{clean-append}
 use Rattle.direct_proof.proofs.shared.Streaming.{statuses-append}
-use Rattle.direct_proof.proofs.streams.wires.Growing.{any-last, plug-last, runs-last, told-last, no-fact-told, bye-last, way-stated}
+use Rattle.direct_proof.proofs.streams.wires.Growing.{runs-last, told-last, no-fact-told, way-stated}
+use Rattle.direct_proof.proofs.shared.Sending.{meets-sent, farewell-sent}
 use Rattle.direct_proof.proofs.streams.wires.Pending.{asked-pending}
-use Rattle.direct_proof.proofs.streams.hears.Calling.{HostCalls}
-use Rattle.direct_proof.proofs.streams.hears.Hearing.{asked-tail, call-of, cancels, controls-at, here, in-tail, is_call, known, line, not-first, starts-tail}
+
+-- ---- what is kept
 
 module _ {S : Type 0} (m : Meaning S) (w : World S) (j : Shared) (rel : Related m w j) (q : ℕ × RedirPacket) (ps : List (ℕ × RedirPacket)) (wire : w.to_host ≡ q ∷ ps) (x : ℕ) (at-x : called_endpoint q.1 ≡ Some x) where
+  is_call : IsCall q
+  is_call = subst (λ (o : Option ℕ). Calls_or o q) at-x (is-call q)
+
+  not-first : w.host.guest.first ≡ false
+  not-first = go w.host.guest.first refl
+    where
+      heads : q ∷ ps ≡ (0, gateway_hello) ∷ [] → q ≡ (0, gateway_hello)
+      heads e = cc
+
+      none : None ≡ Some x → ⊥
+      none e = cc
+
+      go : (b : Bool) → w.host.guest.first ≡ b → b ≡ false
+      go true h = absurd (none (sym (ap (λ (p : ℕ × RedirPacket). called_endpoint p.1) (heads (sym wire ∙ (rel.before h).wire))) ∙ at-x))
+      go false h = refl
+
+  line : half_line j.half ++ lines ps ≡ at_hosts j.coming
+  line = ap (λ (l : List InLine). half_line j.half ++ (l ++ lines ps)) (sym is_call.line) ∙ ap (λ (l : List (ℕ × RedirPacket)). half_line j.half ++ lines l) (sym wire) ∙ rel.line.coming
+
+  in-tail : Each (λ (p : ℕ × RedirPacket). CallIsIn (called_endpoint p.1)) (q ∷ ps)
+  in-tail = subst (Each (λ (p : ℕ × RedirPacket). CallIsIn (called_endpoint p.1))) wire rel.line.calls_in
+
+  asked-tail : Each (λ (p : ℕ × RedirPacket). IsAsking p.1) ps
+  asked-tail = (subst (Each (λ (p : ℕ × RedirPacket). IsAsking p.1)) wire (rel.asked not-first)).1
+
+  cancels : CancelsFit j.held ps j.coming
+  cancels = subst (λ (b : Bool). CancelsFit (moved b j.held j.coming) ps (left b j.coming)) is_call.first (subst (λ (l : List (ℕ × RedirPacket)). CancelsFit j.held l j.coming) wire rel.line.cancels).1
+
+  -- what is in line stays so
+  queued : Queued (record w { to_host = ps }) j
+  queued = record {
+    held = rel.line.held;
+    half = rel.line.half;
+    coming = line;
+    loads = rel.line.loads;
+    calls_in = in-tail.1;
+    cancels = cancels;
+    behind = rel.line.behind;
+  }
+
+  starts-tail : (changing : Bool) → StartsFit (m.table w.host.gadget) changing w.to_host → StartsFit (m.table w.host.gadget) changing ps
+  starts-tail changing h = subst (λ (b : Bool). StartsFit (m.table w.host.gadget) b ps) (ap (λ (b : Bool). changing || b) is_call.no_change ∙ or-false changing) (subst (StartsFit (m.table w.host.gadget) changing) wire h).1
+
+  controls-at : w.gate.lost ≡ false → Controls w.gate.calls (q ∷ ps) j.back
+  controls-at h = subst (λ (l : List (ℕ × RedirPacket)). Controls w.gate.calls l j.back) wire (rel.controls h)
+
+  here : w.host.unplugged ≡ false → w.gate.lost ≡ false
+  here plugged = go w.gate.lost refl
+    where
+      go : (b : Bool) → w.gate.lost ≡ b → b ≡ false
+      go true h = absurd (clash w.host.unplugged (rel.lost h).1 plugged)
+      go false h = refl
+
+  known : w.host.unplugged ≡ false → is_announced w j ≡ true
+  known plugged = rel.meets.announced not-first plugged
+
+  call-of : Session m w j → HostCalls m w.host w.gate.streams q
+  call-of session = host-calls m w.host w.gate.streams session.kinds rel.runs_at_in q x at-x in-tail.0 (any_change j.held || j.half)
+      (subst (StartsFit (m.table w.host.gadget) (any_change j.held || j.half)) wire session.starts).0
+      (subst (Each (λ (p : ℕ × RedirPacket). StartOfKind w.gate.streams (started_kind p.1))) wire session.start_kinds).0
+
   module _ (plugged : w.host.unplugged ≡ false) (there : w.gate.lost ≡ false) (session : Session m w j) (c : HostCalls m w.host w.gate.streams q) where
     abbrev b : Tagged
     b = Stated c.kind q.0 c.ep 0
@@ -56,13 +120,13 @@ module _ {S : Type 0} (m : Meaning S) (w : World S) (j : Shared) (rel : Related 
     new = called_world w ps c.running (on_wire b)
 
     controls : Controls w.gate.calls (q ∷ ps) j.back
-    controls = (controls-at m w j rel q ps wire x at-x) there
+    controls = controls-at there
 
     statuses : statuses_on (j.back ++ b ∷ []) ≡ statuses_on j.back ++ q.0 ∷ []
     statuses = statuses-append j.back (b ∷ [])
 
     new-fenced : Fenced w.gate.fence fenced' ps (j.back ++ b ∷ [])
-    new-fenced = fenced-called w.gate.fence j.fenced q ps j.back b (is_call m w j rel q ps wire x at-x).id statuses controls.once (subst (λ (l : List (ℕ × RedirPacket)). Fenced w.gate.fence j.fenced l j.back) wire (rel.fenced there))
+    new-fenced = fenced-called w.gate.fence j.fenced q ps j.back b is_call.id statuses controls.once (subst (λ (l : List (ℕ × RedirPacket)). Fenced w.gate.fence j.fenced l j.back) wire (rel.fenced there))
 
     trails : Trails w.gate.fence (down_in w.gate.streams) (q ∷ ps)
     trails = subst (Trails w.gate.fence (down_in w.gate.streams)) wire session.trails
@@ -72,12 +136,12 @@ module _ {S : Type 0} (m : Meaning S) (w : World S) (j : Shared) (rel : Related 
     covered down = go (or-either (asks w.gate.fence q) (list_any (asks w.gate.fence) ps) (trails.0 (ap (passes (down_in w.gate.streams)) c.at ∙ down)))
       where
         stop : (list_any line_changes (in_line q) ≡ true) ⊎ ((is_fence w.gate.fence q.0 ≡ true) × (call_id q ≡ q.0 ∷ [])) → is_fence w.gate.fence q.0 ≡ true
-        stop (inl k) = absurd (not-both (sym k ∙ ap (list_any line_changes) (is_call m w j rel q ps wire x at-x).line))
+        stop (inl k) = absurd (not-both (sym k ∙ ap (list_any line_changes) is_call.line))
         stop (inr k) = k.0
 
         go : (asks w.gate.fence q ≡ true) ⊎ (list_any (asks w.gate.fence) ps ≡ true) → ((any_change (j.held ++ j.coming) || fenced') || (is_fence w.gate.fence q.0 || false)) ≡ true
-        go (inl k) = or_right (any_change (j.held ++ j.coming) || fenced') (is_fence w.gate.fence q.0 || false) (or_left (is_fence w.gate.fence q.0) false (stop (asks-parts w.gate.fence q k)))
-        go (inr k) = or_left (any_change (j.held ++ j.coming) || fenced') (is_fence w.gate.fence q.0 || false) (asked-pending w.gate.fence fenced' j.half ps (j.back ++ b ∷ []) j.held j.coming (line m w j rel q ps wire x at-x) new-fenced k)
+        go (inl k) = or-right (any_change (j.held ++ j.coming) || fenced') (is_fence w.gate.fence q.0 || false) (or-left (is_fence w.gate.fence q.0) false (stop (asks-parts w.gate.fence q k)))
+        go (inr k) = or-left (any_change (j.held ++ j.coming) || fenced') (is_fence w.gate.fence q.0 || false) (asked-pending w.gate.fence fenced' j.half ps (j.back ++ b ∷ []) j.held j.coming line new-fenced k)
 
     same-told : told w.gate.facts (j.back ++ b ∷ []) ≡ told w.gate.facts j.back
     same-told = told-last w.gate.facts j.back b (no-fact-told c.kind q.0 c.ep 0)
@@ -90,55 +154,36 @@ module _ {S : Type 0} (m : Meaning S) (w : World S) (j : Shared) (rel : Related 
           (stays-clean (any_change (j.held ++ j.coming)) j.fenced (is_fence w.gate.fence q.0)) session.clean (covered, tt);
       quits = λ e down. subst (λ (r : Bool). Quits w.gate.fence e r ps) (sym (c.runs-are e)) (subst (Quits w.gate.fence e (runs w.host e)) wire (session.quits e down)).1;
       trails = trails.1;
-      starts = (starts-tail m w j rel q ps wire x at-x) (any_change j.held || j.half) session.starts;
+      starts = starts-tail (any_change j.held || j.half) session.starts;
       kinds = c.kinds;
       start_kinds = (subst (Each (λ (p : ℕ × RedirPacket). StartOfKind w.gate.streams (started_kind p.1))) wire session.start_kinds).1;
     }
 
     related : Related m new later
     related = record {
-      held = rel.held;
-      half = rel.half;
-      coming = line m w j rel q ps wire x at-x;
+      line = queued;
       answers = ap (λ (l : List (ℕ × RedirPacket)). l ++ on_wire b ∷ []) rel.answers ∙ sym (map-append on_wire j.back (b ∷ []));
-      loads = rel.loads;
       tagged = each-append (TaggedOfKind w.gate.streams) j.back (b ∷ []) rel.tagged ((c.is_in.low, c.is_in.high, refl), tt);
       ids = subst (Ids j.debts w.submits (j.held ++ j.coming)) (sym (runs-last j.back b refl)) rel.ids;
       real = rel.real;
-      calls_in = (in-tail m w j rel q ps wire x at-x).1;
       runs_at_in = c.ins;
-      meets = record {
-        host = rel.meets.host;
-        gate = λ h. rel.meets.gate (sym (any-last is_greeting j.back b refl) ∙ h);
-        before = λ h. absurd (clash w.host.guest.first h (not-first m w j rel q ps wire x at-x));
-        announced = λ h k. ap (λ (z : Bool). is_some w.gate.facts.connect || z) (any-last is_plug j.back b refl) ∙ (known m w j rel q ps wire x at-x) plugged;
-        asked = λ h. (asked-tail m w j rel q ps wire x at-x);
-        behind = λ h. let k = rel.meets.behind h in (any-last is_greeting j.back b refl ∙ k.0, any-last is_plug j.back b refl ∙ k.1, k.2);
-        once = plug-last j.back b refl refl rel.meets.once;
-        plugged = λ h. rel.meets.plugged (sym (any-last is_plug j.back b refl) ∙ h);
-        no_session = rel.meets.no_session;
-      };
+      before = λ h. absurd (clash w.host.guest.first h not-first);
+      asked = λ h. asked-tail;
+      meets = meets-sent w j (b ∷ []) refl refl rel.meets;
       debts = rel.debts;
       controls = λ h. record {
-        once = λ id. let o = controls.once id in let a = times-append id (call_id q) (calls_on ps) ∙ ap (λ (l : List ℕ). times id l + times id (calls_on ps)) (is_call m w j rel q ps wire x at-x).id in let z = ap (times id) statuses ∙ times-append id (statuses_on j.back) (q.0 ∷ []) in omega (arith, o, a, z);
+        once = λ id. let o = controls.once id in let a = times-append id (call_id q) (calls_on ps) ∙ ap (λ (l : List ℕ). times id l + times id (calls_on ps)) is_call.id in let z = ap (times id) statuses ∙ times-append id (statuses_on j.back) (q.0 ∷ []) in omega (arith, o, a, z);
         calls_kept = controls.calls_kept.1;
         statuses_kept = each-append (StatusIsKept w.gate.calls) j.back (b ∷ []) controls.statuses_kept (subst (CallIsKept w.gate.calls q.0) c.at controls.calls_kept.0, tt);
       };
       fenced = λ h. new-fenced;
-      cancels = cancels m w j rel q ps wire x at-x;
-      behind = rel.behind;
       alone = rel.alone;
       session = λ h k. new-session;
       ups = rel.ups;
-      lost = λ h. absurd (clash w.gate.lost h there);
-      gone = rel.gone;
-      reads = rel.reads;
-      refused = rel.refused;
       down = rel.down;
-      seen = rel.seen;
-      still = λ h. absurd (clash w.host.unplugged h plugged);
-      bye = λ h. any-last is_bye j.back b refl ∙ rel.bye h;
-      bye_last = bye-last j.back b (rel.bye plugged) refl;
+      lost = λ h. absurd (clash w.gate.lost h there);
+      sides = rel.sides;
+      farewell = farewell-sent new.host j.back (b ∷ []) plugged (rel.farewell.bye plugged) refl;
     }
 
     keep-heard : Keeps m w j (move m w HostReads)
@@ -149,36 +194,30 @@ module _ {S : Type 0} (m : Meaning S) (w : World S) (j : Shared) (rel : Related 
 
   unheard : w.host.unplugged ≡ true → Related m (record w { to_host = ps }) j
   unheard gone = record {
-    held = rel.held;
-    half = rel.half;
-    coming = line m w j rel q ps wire x at-x;
+    line = queued;
     answers = rel.answers;
-    loads = rel.loads;
     tagged = rel.tagged;
     ids = rel.ids;
     real = rel.real;
-    calls_in = (in-tail m w j rel q ps wire x at-x).1;
     runs_at_in = rel.runs_at_in;
+    before = λ h. absurd (clash w.host.guest.first h not-first);
+    asked = λ h. asked-tail;
     meets = record {
       host = rel.meets.host;
       gate = rel.meets.gate;
-      before = λ h. absurd (clash w.host.guest.first h (not-first m w j rel q ps wire x at-x));
       announced = λ h k. absurd (clash w.host.unplugged gone k);
-      asked = λ h. (asked-tail m w j rel q ps wire x at-x);
       behind = rel.meets.behind;
       once = rel.meets.once;
       plugged = rel.meets.plugged;
       no_session = rel.meets.no_session;
     };
     debts = rel.debts;
-    controls = λ h. let c = (controls-at m w j rel q ps wire x at-x) h in record {
+    controls = λ h. let c = controls-at h in record {
       once = λ id. let o = c.once id in let a = times-append id (call_id q) (calls_on ps) in omega (arith, o, a);
       calls_kept = c.calls_kept.1;
       statuses_kept = c.statuses_kept;
     };
     fenced = λ h. fewer w.gate.fence j.fenced (subst (λ (l : List (ℕ × RedirPacket)). Fenced w.gate.fence j.fenced l j.back) wire (rel.fenced h));
-    cancels = cancels m w j rel q ps wire x at-x;
-    behind = rel.behind;
     alone = rel.alone;
     session = λ h k. let s = rel.session h k in record {
       table = s.table;
@@ -186,20 +225,15 @@ module _ {S : Type 0} (m : Meaning S) (w : World S) (j : Shared) (rel : Related 
       clean = s.clean;
       quits = λ e down. quits-still e (subst (Quits w.gate.fence e (runs w.host e)) wire (s.quits e down)).1;
       trails = (subst (Trails w.gate.fence (down_in w.gate.streams)) wire s.trails).1;
-      starts = (starts-tail m w j rel q ps wire x at-x) (any_change j.held || j.half) s.starts;
+      starts = starts-tail (any_change j.held || j.half) s.starts;
       kinds = s.kinds;
       start_kinds = (subst (Each (λ (p : ℕ × RedirPacket). StartOfKind w.gate.streams (started_kind p.1))) wire s.start_kinds).1;
     };
     ups = rel.ups;
-    lost = rel.lost;
-    gone = rel.gone;
-    reads = rel.reads;
-    refused = rel.refused;
     down = rel.down;
-    seen = rel.seen;
-    still = rel.still;
-    bye = rel.bye;
-    bye_last = rel.bye_last;
+    lost = rel.lost;
+    sides = rel.sides;
+    farewell = rel.farewell;
   }
     where
       fewer : (fence : Option ℕ) (fenced : Bool) → Fenced fence fenced (q ∷ ps) j.back → Fenced fence fenced ps j.back
@@ -207,7 +241,7 @@ module _ {S : Type 0} (m : Meaning S) (w : World S) (j : Shared) (rel : Related 
       fewer (Some f) fenced h = ((λ k. let a = times-append f (call_id q) (calls_on ps) in h.0 (omega (arith, k, a))), h.1)
 
       quits-still : (e : ℕ) → Quits w.gate.fence e (runs_after e q.1 (runs w.host e)) ps → Quits w.gate.fence e (runs w.host e) ps
-      quits-still e h = subst (λ (rs : List Running). Quits w.gate.fence e (list_any (runs_at e) rs) ps) (sym (rel.still gone)) (quits-off w.gate.fence e (runs_after e q.1 (runs w.host e)) ps h)
+      quits-still e h = subst (λ (rs : List Running). Quits w.gate.fence e (list_any (runs_at e) rs) ps) (sym (rel.farewell.still gone)) (quits-off w.gate.fence e (runs_after e q.1 (runs w.host e)) ps h)
 
   keep-unheard : advanced w.host.guest q.1 ≡ w.host.guest → w.host.unplugged ≡ true → Keeps m w j (move m w HostReads)
   keep-unheard same gone = keeps-quiet m w j j (move m w HostReads) (record w { to_host = ps }) (unheard-moved m w q ps same wire gone) (unheard gone) refl
@@ -217,4 +251,4 @@ module _ {S : Type 0} (m : Meaning S) (w : World S) (j : Shared) (rel : Related 
     where
       by : (b : Bool) → w.host.unplugged ≡ b → Keeps m w j (move m w HostReads)
       by true gone = keep-unheard (call-stays w.host.guest q x at-x) gone
-      by false plugged = let s = rel.session ((here m w j rel q ps wire x at-x) plugged) ((known m w j rel q ps wire x at-x) plugged) in keep-heard plugged ((here m w j rel q ps wire x at-x) plugged) s ((call-of m w j rel q ps wire x at-x) s)
+      by false plugged = let s = rel.session (here plugged) (known plugged) in keep-heard plugged (here plugged) s (call-of s)

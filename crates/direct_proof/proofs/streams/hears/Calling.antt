@@ -1,8 +1,6 @@
 -- The host reads a start or a stop: its streams run as the packet says, and it tells of a success.
 use Rattle.std.proofs.Common.{◌≡◌, ℕ, ◌==◌, ◌||◌, not, Bool, true, false, cond, List, [], ◌∷◌, ◌++◌, Option, Some, None, refl, sym, ap, ◌∙◌, arith}
 use Rattle.std.specs.List.{list_any}
-use Rattle.std.proofs.lemmas.List.Folds.{list_any-append}
-use Rattle.std.proofs.Math.Bool.{or-false}
 use Rattle.redir_wire.specs.declared.packet.RedirControl.TheVariants as plain
 use Rattle.redir_data.specs.declared.packet.RedirPacket.{RedirPacket}
 use Rattle.redir_data.specs.declared.packet.RedirPacket.TheVariants.{Plain, Carrying}
@@ -50,7 +48,16 @@ pub started-runs : (k : StreamKind) (ep e : ℕ) (rs : List Running) → list_an
 started-runs k ep e rs = last (stopped ep rs) ∙ (λ i. stopped-runs ep e rs i || (ep == e)) ∙ by (ep == e) (list_any (runs_at e) rs)
   where
     last : (xs : List Running) → list_any (runs_at e) (xs ++ record { ep = ep; kind = k } ∷ []) ≡ (list_any (runs_at e) xs || (ep == e))
-    last xs = list_any-append (runs_at e) xs (record { ep = ep; kind = k } ∷ []) ∙ ap (λ (b : Bool). list_any (runs_at e) xs || b) (or-false (ep == e))
+    last [] = or-false (ep == e)
+      where
+        or-false : (b : Bool) → (b || false) ≡ b
+        or-false true = refl
+        or-false false = refl
+    last (x ∷ xs) = ap (λ (b : Bool). (x.ep == e) || b) (last xs) ∙ or-assoc (x.ep == e) (list_any (runs_at e) xs) (ep == e)
+      where
+        or-assoc : (a b c : Bool) → (a || (b || c)) ≡ ((a || b) || c)
+        or-assoc true b c = refl
+        or-assoc false b c = refl
 
     by : (b r : Bool) → (cond b false r || b) ≡ cond b true r
     by true r = refl
@@ -108,24 +115,9 @@ module _ {S : Type 0} (m : Meaning S) (h : Host S) (ups : List (Option Up)) (kin
   }
 
   pub host-calls : (q : ℕ × RedirPacket) (x : ℕ) → called_endpoint q.1 ≡ Some x → CallIsIn (called_endpoint q.1) → (changing : Bool) → CanStart (m.table h.gadget) changing (started_kind q.1) → StartOfKind ups (started_kind q.1) → HostCalls m h ups q
-  host-calls (id, Plain (plain.Hello x)) y called at changing can kind = absurd (none-some y called)
-  host-calls (id, Plain (plain.Connect c)) y called at changing can kind = absurd (none-some y called)
-  host-calls (id, Plain plain.Disconnect) y called at changing can kind = absurd (none-some y called)
-  host-calls (id, Plain plain.Reset) y called at changing can kind = absurd (none-some y called)
-  host-calls (id, Plain (plain.InterfaceInfo x)) y called at changing can kind = absurd (none-some y called)
-  host-calls (id, Plain (plain.EpInfo x)) y called at changing can kind = absurd (none-some y called)
-  host-calls (id, Plain (plain.SetConfiguration c)) y called at changing can kind = absurd (none-some y called)
-  host-calls (id, Plain plain.GetConfiguration) y called at changing can kind = absurd (none-some y called)
-  host-calls (id, Plain (plain.ConfigurationStatus s c)) y called at changing can kind = absurd (none-some y called)
-  host-calls (id, Plain (plain.SetAlt i a)) y called at changing can kind = absurd (none-some y called)
-  host-calls (id, Plain (plain.GetAlt i)) y called at changing can kind = absurd (none-some y called)
-  host-calls (id, Plain (plain.AltStatus s i a)) y called at changing can kind = absurd (none-some y called)
   host-calls (id, Plain (plain.StartIso e n k)) x called at changing can kind = starting id e Iso (Plain (plain.StartIso e n k)) refl at kind (ap (λ (b : Bool). start_move b h id Iso e) can.1) refl (λ y r. refl)
   host-calls (id, Plain (plain.StopIso e)) x called at changing can kind = stopping id e Iso (Plain (plain.StopIso e)) refl at refl refl (λ y r. refl)
-  host-calls (id, Plain (plain.IsoStatus s e)) y called at changing can kind = absurd (none-some y called)
   host-calls (id, Plain (plain.StartInterrupt e)) x called at changing can kind = starting id e Interrupt (Plain (plain.StartInterrupt e)) refl at kind (ap (λ (b : Bool). start_move b h id Interrupt e) can.1) refl (λ y r. refl)
   host-calls (id, Plain (plain.StopInterrupt e)) x called at changing can kind = stopping id e Interrupt (Plain (plain.StopInterrupt e)) refl at refl refl (λ y r. refl)
-  host-calls (id, Plain (plain.InterruptStatus s e)) y called at changing can kind = absurd (none-some y called)
-  host-calls (id, Plain plain.Cancel) y called at changing can kind = absurd (none-some y called)
-  host-calls (id, Plain plain.DisconnectAck) y called at changing can kind = absurd (none-some y called)
+  host-calls (id, Plain _) y called at changing can kind = absurd (none-some y called)
   host-calls (id, Carrying d) y called at changing can kind = absurd (none-some y called)

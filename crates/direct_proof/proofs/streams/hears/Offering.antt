@@ -1,8 +1,7 @@
 -- The device may send a packet of a stream: it goes on the way where the stream is up, and else is lost.
-use Rattle.std.proofs.Common.{◌≡◌, ℕ, ◌+◌, ◌≤◌, ◌||◌, Bool, true, false, cond, List, [], ◌∷◌, ◌++◌, map, Option, Some, None, is_some, refl, sym, ap, ◌∙◌, subst, arith}
+use Rattle.std.proofs.Common.{◌≡◌, ℕ, ◌||◌, Bool, true, false, cond, List, [], ◌∷◌, ◌++◌, map, Option, Some, None, is_some, refl, sym, ap, ◌∙◌, subst, arith}
 use Rattle.std.specs.Prelude.{IfSome}
 use Rattle.std.specs.List.{find}
-use Rattle.std.proofs.lemmas.Bool.{or_left}
 use Rattle.usb_base.specs.declared.endpoint.EpTable.{EpTable}
 use Rattle.usb_base.specs.declared.transfer.StreamPacket.{StreamPacket}
 use Rattle.redir_wire.specs.EpTable.{table_of}
@@ -13,7 +12,6 @@ use Rattle.redir_host.specs.declared.running.Running.{Running}
 use Rattle.redir_host.specs.device.Facts.{ep_info_of}
 use Rattle.redir_host.specs.device.Offering.{stream_packet}
 use Rattle.redir_host.specs.guest.Packets.{runs_at}
-use Rattle.gate_history.specs.state.Ids.{times}
 use Rattle.gate_history.specs.state.Ups.{stream_of}
 use Rattle.gate_history.specs.declared.facts.Facts.{Facts}
 use Rattle.direct_device.specs.Acting.{Offer, offered_by}
@@ -27,18 +25,19 @@ use Rattle.direct_proof.specs.Related.{Related}
 use Rattle.direct_proof.specs.Session.{Session, down_in, runs}
 use Rattle.direct_proof.specs.Ids.{Ids}
 use Rattle.direct_proof.specs.Kinds.{IsIn, OfKind, TaggedOfKind}
-use Rattle.direct_proof.specs.Calls.{StatusIsKept, statuses_on, calls_on}
-use Rattle.direct_proof.specs.Meets.{is_announced, is_greeting, is_plug, is_bye}
+use Rattle.direct_proof.specs.Meets.{is_announced}
 use Rattle.direct_proof.specs.Cancels.{any_change}
 use Rattle.direct_proof.specs.Running.{StartsFit, Quits}
 use Rattle.direct_proof.proofs.shared.Traces.{map-append}
 use Rattle.direct_proof.proofs.shared.Owed.{each-append}
 use Rattle.direct_proof.proofs.shared.Keeps.{Keeps, keeps-quiet}
 use Rattle.direct_proof.proofs.streams.Keeping.{Does, keeps-made}
-use Rattle.direct_proof.proofs.shared.Folds.{clash}
+use Rattle.direct_proof.proofs.shared.Folds.{clash, or-left}
 use Rattle.direct_proof.proofs.shared.Backs.{clean-append}
 use Rattle.direct_proof.proofs.streams.wires.Folds.{quits-runs}
-use Rattle.direct_proof.proofs.streams.wires.Growing.{any-last, plug-last, found-each, found-any, statuses-last, runs-last, told-last, no-fact, fenced-same, bye-last, way-offered}
+use Rattle.direct_proof.proofs.streams.wires.Growing.{found-each, found-any, runs-last, told-last, no-fact, way-offered}
+use Rattle.direct_proof.proofs.shared.Sending.{meets-sent, farewell-sent}
+use Rattle.direct_proof.proofs.shared.Streaming.{controls-sent, fenced-sent}
 use Rattle.direct_proof.proofs.streams.wires.Pending.{asked-pending}
 use Rattle.direct_proof.proofs.streams.hears.Offered.{offered_world, offer-moved, offer-stands, offer-closed, offer-empty}
 
@@ -69,7 +68,7 @@ module _ {S : Type 0} (m : Meaning S) (laws : IsGadget m) (w : World S) (j : Sha
       none e = cc
 
       go : (x : Bool) → w.host.guest.first ≡ x → x ≡ false
-      go true h = absurd (none (ap (find (runs_at ep)) (sym (rel.meets.before h).running) ∙ found))
+      go true h = absurd (none (ap (find (runs_at ep)) (sym (rel.before h).running) ∙ found))
       go false h = refl
 
   known : is_announced w j ≡ true
@@ -99,19 +98,16 @@ module _ {S : Type 0} (m : Meaning S) (laws : IsGadget m) (w : World S) (j : Sha
   same-told : told w.gate.facts (j.back ++ Packed s.kind ep sent.1 ∷ []) ≡ told w.gate.facts j.back
   same-told = told-last w.gate.facts j.back (Packed s.kind ep sent.1) (no-fact s.kind ep sent.1)
 
-  same-statuses : statuses_on (j.back ++ Packed s.kind ep sent.1 ∷ []) ≡ statuses_on j.back
-  same-statuses = statuses-last j.back (Packed s.kind ep sent.1) refl
-
   pending : down_in w.gate.streams ep ≡ true → (any_change (j.held ++ j.coming) || j.fenced) ≡ true
-  pending down = asked-pending w.gate.fence j.fenced j.half w.to_host j.back j.held j.coming rel.coming (rel.fenced here) (quits-runs w.gate.fence ep w.to_host (subst (λ (r : Bool). Quits w.gate.fence ep r w.to_host) runs-now (session.quits ep down)))
+  pending down = asked-pending w.gate.fence j.fenced j.half w.to_host j.back j.held j.coming rel.line.coming (rel.fenced here) (quits-runs w.gate.fence ep w.to_host (subst (λ (r : Bool). Quits w.gate.fence ep r w.to_host) runs-now (session.quits ep down)))
 
   new-session : Session m new later
   new-session = record {
     table = ap (λ (f : Facts). f.table) same-told ∙ session.table ∙ ap (λ (t : EpTable). table_of (ep_info_of both_caps t)) (sym facts.table);
     faces = ap (λ (f : Facts). f.interfaces) same-told ∙ session.faces ∙ ap Some (sym facts.interfaces);
     clean = clean-append w.gate.fence (down_in w.gate.streams) (any_change (j.held ++ j.coming) || j.fenced) (any_change (j.held ++ j.coming) || j.fenced) j.back (Packed s.kind ep sent.1 ∷ [])
-        (λ e. or_left (any_change (j.held ++ j.coming) || j.fenced) (false || false) e) session.clean
-        ((λ down. or_left (any_change (j.held ++ j.coming) || j.fenced) (false || false) (pending down)), tt);
+        (λ e. or-left (any_change (j.held ++ j.coming) || j.fenced) (false || false) e) session.clean
+        ((λ down. or-left (any_change (j.held ++ j.coming) || j.fenced) (false || false) (pending down)), tt);
     quits = session.quits;
     trails = session.trails;
     starts = subst (λ (t : EpTable). StartsFit t (any_change j.held || j.half) w.to_host) (sym facts.table) session.starts;
@@ -121,55 +117,32 @@ module _ {S : Type 0} (m : Meaning S) (laws : IsGadget m) (w : World S) (j : Sha
 
   related : Related m new later
   related = record {
-    held = rel.held;
-    half = rel.half;
-    coming = rel.coming;
+    line = rel.line;
     answers = ap (λ (l : List (ℕ × RedirPacket)). l ++ stream_packet s.kind ep sent.1 ∷ []) rel.answers ∙ sym (map-append on_wire j.back (Packed s.kind ep sent.1 ∷ []));
-    loads = rel.loads;
     tagged = each-append (TaggedOfKind w.gate.streams) j.back (Packed s.kind ep sent.1 ∷ []) rel.tagged (came, tt);
     ids = subst (Ids j.debts w.submits (j.held ++ j.coming)) (sym (runs-last j.back (Packed s.kind ep sent.1) refl)) rel.ids;
     real = rel.real;
-    calls_in = rel.calls_in;
     runs_at_in = rel.runs_at_in;
-    meets = record {
-      host = rel.meets.host;
-      gate = λ h. rel.meets.gate (sym (any-last is_greeting j.back (Packed s.kind ep sent.1) refl) ∙ h);
-      before = λ h. absurd (clash w.host.guest.first h not-first);
-      announced = λ h k. ap (λ (x : Bool). is_some w.gate.facts.connect || x) (any-last is_plug j.back (Packed s.kind ep sent.1) refl) ∙ known;
-      asked = rel.meets.asked;
-      behind = λ h. let k = rel.meets.behind h in (any-last is_greeting j.back (Packed s.kind ep sent.1) refl ∙ k.0, any-last is_plug j.back (Packed s.kind ep sent.1) refl ∙ k.1, k.2);
-      once = plug-last j.back (Packed s.kind ep sent.1) refl refl rel.meets.once;
-      plugged = λ h. rel.meets.plugged (sym (any-last is_plug j.back (Packed s.kind ep sent.1) refl) ∙ h);
-      no_session = rel.meets.no_session;
-    };
+    before = λ h. absurd (clash w.host.guest.first h not-first);
+    asked = rel.asked;
+    meets = meets-sent w j (Packed s.kind ep sent.1 ∷ []) refl refl rel.meets;
     debts = rel.debts;
-    controls = λ h. let c = rel.controls h in record {
-      once = λ id. subst (λ (l : List ℕ). times id (calls_on w.to_host) + times id l ≤ 1) (sym same-statuses) (c.once id);
-      calls_kept = c.calls_kept;
-      statuses_kept = each-append (StatusIsKept w.gate.calls) j.back (Packed s.kind ep sent.1 ∷ []) c.statuses_kept (tt, tt);
-    };
-    fenced = λ h. fenced-same w.gate.fence j.fenced w.to_host j.back (j.back ++ Packed s.kind ep sent.1 ∷ []) same-statuses (rel.fenced h);
-    cancels = rel.cancels;
-    behind = rel.behind;
+    controls = λ h. controls-sent w.gate.calls w.to_host j.back (Packed s.kind ep sent.1 ∷ []) refl (tt, tt) (rel.controls h);
+    fenced = λ h. fenced-sent w.gate.fence j.fenced w.to_host j.back (Packed s.kind ep sent.1 ∷ []) refl (rel.fenced h);
     alone = rel.alone;
     session = λ h k. new-session;
     ups = rel.ups;
-    lost = λ h. absurd (clash w.gate.lost h here);
-    gone = rel.gone;
-    reads = rel.reads;
-    refused = rel.refused;
     down = rel.down;
-    seen = rel.seen;
-    still = rel.still;
-    bye = λ h. any-last is_bye j.back (Packed s.kind ep sent.1) refl ∙ rel.bye h;
-    bye_last = bye-last j.back (Packed s.kind ep sent.1) (rel.bye plugged) refl;
+    lost = λ h. absurd (clash w.gate.lost h here);
+    sides = rel.sides;
+    farewell = farewell-sent new.host j.back (Packed s.kind ep sent.1 ∷ []) plugged (rel.farewell.bye plugged) refl;
   }
 
   not-gone : j.gone ≡ false
   not-gone = go j.gone refl
     where
       go : (x : Bool) → j.gone ≡ x → x ≡ false
-      go true h = absurd (clash w.gate.lost (rel.gone h) here)
+      go true h = absurd (clash w.gate.lost (rel.sides.gone h) here)
       go false h = refl
 
   offered-does : Does m (view w j) (Offer ep ∷ []) (view new later) []

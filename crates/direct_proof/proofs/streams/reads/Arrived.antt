@@ -24,10 +24,10 @@ use Rattle.direct_proof.specs.Kinds.{IsIn, OfKind}
 use Rattle.direct_proof.specs.Stale.{asks, ends}
 use Rattle.direct_proof.proofs.shared.Keeps.{Keeps, keeps-quiet}
 use Rattle.direct_proof.proofs.streams.Keeping.{Does, does-then, keeps-made}
-use Rattle.direct_proof.proofs.streams.wires.Growing.{no-fact, fenced-same}
+use Rattle.direct_proof.proofs.streams.wires.Growing.{fenced-same}
 use Rattle.direct_proof.proofs.streams.wires.UpRows.{hold-rows, fits-hold, rows-refl}
 use Rattle.direct_proof.proofs.streams.fills.Filling.{Holds, holds-again, hold-twice}
-use Rattle.direct_proof.proofs.streams.reads.Reading.{read_world, read-here, read-related}
+use Rattle.direct_proof.proofs.streams.reads.Reading.{read_world, read-here, read-related, packet-of}
 use Rattle.direct_proof.proofs.streams.reads.Quiet.{idle-made}
 use Rattle.direct_proof.proofs.streams.reads.Stating.{each-refl}
 use Rattle.direct_proof.proofs.streams.reads.Arriving.{arrival-means, arrives-as, filling_of, kind_iso, stay_by, told_by_fills, sent_by_fills, arrived_world, arrives-made, debts-stay}
@@ -53,7 +53,7 @@ module _ {S : Type 0} (m : Meaning S) (w : World S) (j : Shared) (place : ℕ) (
   came : move m w (GateReads place) ≡ gate_made left (mark_as w.gate (arrives w.gate ep (kind_iso k) p (stream_of w.gate.streams ep)) None)
   came =
       ap (gate_reads w place) rel.answers
-      ∙ (λ i. cond (rel.reads i) (quiet left) (gate_made left (arrival-means w.gate place k ep p is-in.low rel.tagged.0.2 i)))
+      ∙ (λ i. cond (rel.sides.reads i) (quiet left) (gate_made left (arrival-means w.gate place k ep p is-in.low rel.tagged.0.2 i)))
 
   fenced-tail : Fenced w.gate.fence j.fenced w.to_host bs
   fenced-tail = fenced-same w.gate.fence j.fenced w.to_host (Packed k ep p ∷ bs) bs refl (rel.fenced (read-here m w j (Packed k ep p) bs rel))
@@ -62,11 +62,7 @@ module _ {S : Type 0} (m : Meaning S) (w : World S) (j : Shared) (place : ℕ) (
   lost-packet down = keeps-quiet m w before later (move m w (GateReads place)) (read_world w bs (suc w.gate.items) w.gate.live w.gate.streams w.gate.fence)
       (came ∙ ap (λ (o : Option Up). gate_made left (mark_as w.gate (arrives w.gate ep (kind_iso k) p o) None)) down ∙ idle-made left)
       (read-related m w j (Packed k ep p) bs rel (suc w.gate.items) w.gate.live w.gate.streams w.gate.fence (record {
-        no_run = refl;
-        no_fact = no-fact k ep p;
-        no_greeting = refl;
-        no_plug = refl;
-        no_bye = refl;
+        packet = packet-of k ep p;
         rows = rows-refl w.gate.streams;
         fits = rel.ups;
         down = rel.down;
@@ -133,11 +129,7 @@ module _ {S : Type 0} (m : Meaning S) (w : World S) (j : Shared) (place : ℕ) (
     held-packet = keeps-made m w before later (move m w (GateReads place)) new (map Urb (sent_by_fills ep f.fillings w.gate.live)) (Arrive ep ∷ map Answer (told_by_fills ep f.fillings w.gate.live))
         (came ∙ ap (λ (o : Option Up). gate_made left (mark_as w.gate (arrives w.gate ep (kind_iso k) p o) None)) here ∙ ap (λ e. gate_made left (mark_as w.gate e None)) (arrives-as w.gate k ep p up kind) ∙ arrives-made left ep f)
         (read-related m w j (Packed k ep p) bs rel (suc w.gate.items) (stay_by ep f.fillings w.gate.live) (hold ep f.left w.gate.streams) w.gate.fence (record {
-          no_run = refl;
-          no_fact = no-fact k ep p;
-          no_greeting = refl;
-          no_plug = refl;
-          no_bye = refl;
+          packet = packet-of k ep p;
           rows = hold-rows ep f.left w.gate.streams is-in rel.ups.count_is;
           fits = fits-hold ep f.left w.gate.streams is-in rel.ups;
           down = λ h. absurd (not-some (sym (all-down ep) ∙ sym (ap (λ (ups : List (Option Up)). stream_of ups ep) (rel.down h)) ∙ here));

@@ -23,7 +23,7 @@ use Rattle.gate_history.specs.write.Answers.{answers_at}
 use Rattle.gate_history.specs.write.Notes.{is_by_answer, notes_of}
 use Rattle.gate_history.specs.declared.note.Note.{Note}
 use Rattle.gate_history.specs.declared.note.Note.TheVariants as note
-use Rattle.gate_history.specs.client.Verdict.{Verdict, Now, Wire, Routed, IsoOut, Stream, is_iso, goes_by_id}
+use Rattle.gate_history.specs.client.Verdict.{Verdict, Now, is_iso, goes_by_id}
 use Rattle.gate_history.specs.state.Ups.{Up, stream_of, hold}
 use Rattle.gate_history.proofs.lemmas.Lists.{filter-all, filter-map, map-map}
 use Rattle.gate_history.proofs.lemmas.step.NoCancel.{asks-none, none-cancelled, stays-uncancelled}
@@ -152,10 +152,7 @@ all_submits ps = map (λ (q : Pending). q.submit) ps
 
 waits-no-id : (v : Verdict) → goes_by_id v ≡ true → (b : Bool) → (is_waiting v && b) ≡ true → ⊥
 waits-no-id (Now status) g b w = absurd (cc)
-waits-no-id (Wire pipe) g b w = absurd (cc)
-waits-no-id (Routed r) g b w = absurd (cc)
-waits-no-id (IsoOut row) g b w = absurd (cc)
-waits-no-id (Stream row) g b w = absurd (cc)
+waits-no-id _ g b w = absurd (cc)
 
 -- what waits for a stream is no debt
 pub debts-stay : (ep : ℕ) (fs : List Filling) (ps : List Pending) → debts_of (map (λ (p : Pending). p.submit) (stay_by ep fs ps)) ≡ debts_of (map (λ (p : Pending). p.submit) ps)

@@ -1,9 +1,11 @@
 -- The gateway reads a packet that is neither an answer nor a fact: what is shared is kept, whatever it makes of streams, of those
 -- that wait for them, and of the fence.
-use Rattle.std.proofs.Common.{◌≡◌, ℕ, ◌||◌, ◌⊎◌, inl, inr, Bool, true, false, List, [], ◌∷◌, ◌++◌, map, Option, None, is_some, refl, sym, ap, ◌∙◌, subst, arith}
+use Rattle.std.proofs.Common.{◌≡◌, ℕ, ◌||◌, Bool, true, false, List, [], ◌∷◌, ◌++◌, map, Option, None, is_some, refl, sym, ap, ◌∙◌, subst, arith}
 use Rattle.std.specs.List.{list_any}
 use Rattle.model_device.specs.Meaning.{Meaning}
 use Rattle.redir_host.specs.state.Sound.{Each}
+use Rattle.usb_base.specs.declared.transfer.StreamPacket.{StreamPacket}
+use Rattle.redir_host.specs.declared.running.StreamKind.{StreamKind}
 use Rattle.gate_history.specs.state.Facts.{tell}
 use Rattle.gate_history.specs.step.Marks.{Fact}
 use Rattle.gate_history.specs.step.Meaning.{fact_of}
@@ -14,7 +16,7 @@ use Rattle.gate_history.specs.declared.facts.Facts.{Facts}
 use Rattle.gate_history.proofs.lemmas.state.Calls.{times-append}
 use Rattle.direct_run.specs.Moves.{World}
 use Rattle.direct_proof.specs.Requests.{Coming, Debt, debts_of}
-use Rattle.direct_proof.specs.Tagged.{Tagged, Greeted, on_wire, ran_in, runs_in, told}
+use Rattle.direct_proof.specs.Tagged.{Tagged, Packed, Stated, on_wire, ran_in, runs_in, told}
 use Rattle.direct_proof.specs.Shared.{Shared}
 use Rattle.direct_proof.specs.Related.{Related}
 use Rattle.direct_proof.specs.Calls.{Fenced, statuses_on, status_id}
@@ -25,20 +27,33 @@ use Rattle.direct_proof.specs.Cancels.{any_change}
 use Rattle.direct_proof.specs.Session.{down_in, runs}
 use Rattle.direct_proof.specs.Stale.{ends, asks, Clean}
 use Rattle.direct_proof.specs.Running.{Trails}
+use Rattle.direct_proof.proofs.shared.Backs.{early-greets, farewell-read}
 use Rattle.direct_proof.proofs.shared.Folds.{clash, not-both}
+use Rattle.direct_proof.proofs.streams.wires.Growing.{no-fact, no-fact-told}
 use Rattle.direct_proof.proofs.streams.wires.Folds.{clean-fence, quits-fence, trails-fence}
 use Rattle.direct_proof.proofs.streams.wires.UpRows.{SameRows, same-down, tagged-rows, kinds-rows, starts-rows}
 
 abbrev pub read_world : {S : Type 0} → World S → List Tagged → ℕ → List Pending → List (Option Up) → Option ℕ → World S
 read_world w bs items live ups fence = record w { to_gate = map on_wire bs; gate = record w.gate { items = items; live = live; streams = ups; fence = fence } }
 
--- what the packet is, and how the gateway is after it
-pub record MayRead {S : Type 0} (w : World S) (fenced : Bool) (b : Tagged) (bs : List Tagged) (live : List Pending) (ups : List (Option Up)) (fence : Option ℕ) : Type 0 where
+-- a stream's packet or status: no answer, no fact, and none of the device's coming and going
+pub record OfStream (b : Tagged) : Type 0 where
   pub no_run : ran_in b ≡ []
   pub no_fact : fact_of (on_wire b).1 ≡ None
   pub no_greeting : is_greeting b ≡ false
   pub no_plug : is_plug b ≡ false
   pub no_bye : is_bye b ≡ false
+
+pub packet-of : (k : StreamKind) (ep : ℕ) (p : StreamPacket) → OfStream (Packed k ep p)
+packet-of k ep p = record { no_run = refl; no_fact = no-fact k ep p; no_greeting = refl; no_plug = refl; no_bye = refl }
+
+pub status-of : (k : StreamKind) (id ep status : ℕ) → OfStream (Stated k id ep status)
+status-of k id ep status = record { no_run = refl; no_fact = no-fact-told k id ep status; no_greeting = refl; no_plug = refl; no_bye = refl }
+
+-- what the packet is, and how the gateway is after it
+pub record MayRead {S : Type 0} (w : World S) (fenced : Bool) (b : Tagged) (bs : List Tagged) (live : List Pending) (ups : List (Option Up)) (fence : Option ℕ) : Type 0 where
+  pub packet : OfStream b
+  pub open packet use *
   pub rows : SameRows w.gate.streams ups
   pub fits : UpsFit ups
   pub down : w.gate.imported ≡ false → ups ≡ no_streams
@@ -61,22 +76,18 @@ module _ {S : Type 0} (m : Meaning S) (w : World S) (j : Shared) (b : Tagged) (b
 
   pub read-related : (items : ℕ) (live : List Pending) (ups : List (Option Up)) (fence : Option ℕ) → MayRead w j.fenced b bs live ups fence → Related m (read_world w bs items live ups fence) (record j { back = bs })
   read-related items live ups fence may = record {
-    held = rel.held;
-    half = rel.half;
-    coming = rel.coming;
+    line = rel.line;
     answers = refl;
-    loads = rel.loads;
     tagged = tagged-rows w.gate.streams ups may.rows bs rel.tagged.1;
     ids = subst (Ids j.debts w.submits (j.held ++ j.coming)) (ap (λ (l : List Coming). l ++ runs_in bs) may.no_run) rel.ids;
     real = rel.real;
-    calls_in = rel.calls_in;
     runs_at_in = rel.runs_at_in;
+    before = λ h. absurd (not-both (sym (early-greets b bs (rel.before h).back) ∙ may.no_greeting));
+    asked = rel.asked;
     meets = record {
       host = rel.meets.host;
       gate = λ h. rel.meets.gate (λ i. may.no_greeting i || h i);
-      before = λ h. absurd (no-first (rel.meets.before h).back);
       announced = λ h k. sym known ∙ rel.meets.announced h k;
-      asked = rel.meets.asked;
       behind = λ h. let k = rel.meets.behind h in (sym (ap (λ (x : Bool). x || list_any is_greeting bs) may.no_greeting) ∙ k.0, sym (ap (λ (x : Bool). x || list_any is_plug bs) may.no_plug) ∙ k.1, k.2);
       once = rel.meets.once.1;
       plugged = λ h. rel.meets.plugged (ap (λ (x : Bool). x || list_any is_plug bs) may.no_plug ∙ h);
@@ -89,8 +100,6 @@ module _ {S : Type 0} (m : Meaning S) (w : World S) (j : Shared) (b : Tagged) (b
       statuses_kept = c.statuses_kept.1;
     };
     fenced = λ h. may.fenced-is;
-    cancels = rel.cancels;
-    behind = rel.behind;
     alone = λ h. ((rel.alone h).0, may.no_fence (rel.alone h).1);
     session = λ h k. let s = rel.session h (known ∙ k) in record {
       table = sym (ap (λ (f : Facts). f.table) same-told) ∙ s.table;
@@ -104,24 +113,12 @@ module _ {S : Type 0} (m : Meaning S) (w : World S) (j : Shared) (b : Tagged) (b
       start_kinds = starts-rows w.gate.streams ups may.rows w.to_host s.start_kinds;
     };
     ups = may.fits;
-    lost = λ h. absurd (clash w.gate.lost h read-here);
-    gone = rel.gone;
-    reads = rel.reads;
-    refused = rel.refused;
     down = may.down;
-    seen = rel.seen;
-    still = rel.still;
-    bye = λ h. sym (ap (λ (x : Bool). x || list_any is_bye bs) may.no_bye) ∙ rel.bye h;
-    bye_last = rel.bye_last.1;
+    lost = λ h. absurd (clash w.gate.lost h read-here);
+    sides = rel.sides;
+    farewell = farewell-read w.host b bs rel.farewell;
   }
     where
-      no-first : (b ∷ bs ≡ Greeted ∷ []) ⊎ (b ∷ bs ≡ []) → ⊥
-      no-first (inl e) = not-both (sym (ap is_greeting (heads e)) ∙ may.no_greeting)
-        where
-          heads : b ∷ bs ≡ Greeted ∷ [] → b ≡ Greeted
-          heads z = cc
-      no-first (inr e) = absurd (cc)
-
       same-told : told w.gate.facts (b ∷ bs) ≡ told w.gate.facts bs
       same-told = ap (λ (o : Option Fact). told (tell w.gate.facts o) bs) may.no_fact
 

@@ -24,9 +24,8 @@ use Rattle.direct_proof.specs.Stale.{asks, ends}
 use Rattle.direct_proof.proofs.shared.Keeps.{Keeps, keeps-quiet}
 use Rattle.direct_proof.proofs.streams.fills.FillLists.{weight}
 use Rattle.direct_proof.proofs.streams.wires.SortsMore.{all-asks-over, all-ends-over}
-use Rattle.direct_proof.proofs.streams.wires.Growing.{no-fact-told}
 use Rattle.direct_proof.proofs.streams.wires.UpRows.{rows-refl}
-use Rattle.direct_proof.proofs.streams.reads.Reading.{read_world, read-here, read-related}
+use Rattle.direct_proof.proofs.streams.reads.Reading.{read_world, read-here, read-related, status-of}
 use Rattle.direct_proof.proofs.streams.reads.Quiet.{stated-made}
 
 stated-means : (st : State) (place : ℕ) (k : StreamKind) (id ep : ℕ) →
@@ -86,14 +85,10 @@ keep-stated {S = S} m w j place k id ep status bs rel0 =
     zero-status : Related m w (record j { back = Stated k id ep 0 ∷ bs }) → Keeps m w (record j { back = Stated k id ep 0 ∷ bs }) (move m w (GateReads place))
     zero-status rel = keeps-quiet m w (record j { back = Stated k id ep 0 ∷ bs }) (record j { back = bs }) (move m w (GateReads place)) (read_world w bs (suc w.gate.items) w.gate.live w.gate.streams (lifted id w.gate.fence))
         (ap (gate_reads w place) rel.answers
-        ∙ (λ i. cond (rel.reads i) (quiet (record w { to_gate = map on_wire bs })) (gate_made (record w { to_gate = map on_wire bs }) (stated-means w.gate place k id ep i)))
+        ∙ (λ i. cond (rel.sides.reads i) (quiet (record w { to_gate = map on_wire bs })) (gate_made (record w { to_gate = map on_wire bs }) (stated-means w.gate place k id ep i)))
         ∙ stated-made (record w { to_gate = map on_wire bs }) id ep)
         (read-related m w j (Stated k id ep 0) bs rel (suc w.gate.items) w.gate.live w.gate.streams (lifted id w.gate.fence) (record {
-          no_run = refl;
-          no_fact = no-fact-told k id ep 0;
-          no_greeting = refl;
-          no_plug = refl;
-          no_bye = refl;
+          packet = status-of k id ep 0;
           rows = rows-refl w.gate.streams;
           fits = rel.ups;
           down = rel.down;

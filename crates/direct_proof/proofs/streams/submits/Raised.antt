@@ -2,8 +2,6 @@
 use Rattle.direct_proof.proofs.streams.submits.RaisedLists.{packets-none, none-runs}
 use Rattle.std.proofs.Common.{◌≡◌, ℕ, ◌+◌, ◌≤◌, ◌==◌, ◌||◌, ◌⊎◌, Bool, true, false, cond, List, [], ◌∷◌, ◌++◌, Option, Some, None, is_none, refl, sym, ap, ◌∙◌, subst, arith, append-nil}
 use Rattle.std.specs.List.{list_any}
-use Rattle.std.proofs.lemmas.Bool.{or_parts}
-use Rattle.std.proofs.lemmas.List.Folds.{list_any-append}
 use Rattle.usb_base.specs.Endpoint.{row_of}
 use Rattle.usb_base.specs.declared.endpoint.EpKind.TheVariants as kind
 use Rattle.usb_base.specs.declared.endpoint.EpRow.{EpRow}
@@ -20,7 +18,7 @@ use Rattle.gate_history.specs.client.Verdict.{is_iso}
 use Rattle.gate_history.proofs.lemmas.state.Calls.{AreLong, times-append}
 use Rattle.direct_device.specs.Direct.{way_if}
 use Rattle.direct_run.specs.Moves.{World}
-use Rattle.direct_proof.specs.Tagged.{Tagged, Greeted, Plugged, ToldTable, ToldFaces, Answered, Packed, Stated, Bye}
+use Rattle.direct_proof.specs.Tagged.{Tagged, Stated}
 use Rattle.direct_proof.specs.Shared.{Shared, lines, half_line, way_of}
 use Rattle.direct_proof.specs.Related.{Related}
 use Rattle.direct_proof.specs.Session.{Session, down_in, runs}
@@ -32,7 +30,7 @@ use Rattle.direct_proof.specs.Stale.{is_stale, asks}
 use Rattle.direct_proof.proofs.shared.Owed.{each-append}
 use Rattle.direct_proof.proofs.streams.fills.FillLists.{weight}
 use Rattle.direct_proof.proofs.streams.submits.Still.{IsStill}
-use Rattle.direct_proof.proofs.shared.Folds.{clash, lines-append}
+use Rattle.direct_proof.proofs.shared.Folds.{clash, or-none, any-append, lines-append}
 use Rattle.direct_proof.proofs.shared.Streaming.{calls-append, trails-append}
 use Rattle.direct_proof.proofs.streams.wires.Folds.{clean-weaker, quits-more, trails-weaker, starts-append, cancels-more}
 use Rattle.direct_proof.proofs.streams.wires.Sorts.{is_of as is_at}
@@ -60,19 +58,13 @@ module _ {S : Type 0} (m : Meaning S) (w : World S) (j : Shared) (ep id : ℕ) (
   statuses-kept (b ∷ bs) f t k = (go b f.0 t.0 k.0, statuses-kept bs f.1 t.1 k.1)
     where
       go : (b : Tagged) → is_stale (down_in w.gate.streams) b ≡ false → TaggedOfKind w.gate.streams b → StatusIsKept w.gate.calls b → StatusIsKept (started ep id w.gate.calls) b
-      go Greeted x y z = tt
-      go (Plugged c) x y z = tt
-      go (ToldTable t) x y z = tt
-      go (ToldFaces i) x y z = tt
-      go (Answered c) x y z = tt
-      go (Packed i e p) x y z = tt
       go (Stated i n e status) x y z = kept-other w.gate.calls id ep n e h (record { low = y.0; high = y.1 }) ((fresh-other m w j ep id row rel s h kinds same-row down long free) e x) z
-      go Bye x y z = tt
+      go _ x y z = tt
 
   controls : Controls (started ep id w.gate.calls) (ps m w j ep id row rel s h kinds same-row down long free) j.back
   controls = let c = rel.controls s.there in record {
     once = λ n. go n (n == id) refl c;
-    calls_kept = each-append (λ (p : ℕ × RedirPacket). CallIsKept (started ep id w.gate.calls) p.0 (called_endpoint p.1)) w.to_host ((q m w j ep id row rel s h kinds same-row down long free) ∷ []) (calls-kept w.to_host (none-called m w j ep id row rel s h kinds same-row down long free) rel.calls_in c.calls_kept)
+    calls_kept = each-append (λ (p : ℕ × RedirPacket). CallIsKept (started ep id w.gate.calls) p.0 (called_endpoint p.1)) w.to_host ((q m w j ep id row rel s h kinds same-row down long free) ∷ []) (calls-kept w.to_host (none-called m w j ep id row rel s h kinds same-row down long free) rel.line.calls_in c.calls_kept)
         (subst (CallIsKept (started ep id w.gate.calls) id) (sym (start m w j ep id row rel s h kinds same-row down long free).called) (kept-new w.gate.calls id ep long h), tt);
     statuses_kept = statuses-kept j.back s.fresh rel.tagged c.statuses_kept;
   }
@@ -97,7 +89,7 @@ module _ {S : Type 0} (m : Meaning S) (w : World S) (j : Shared) (ep id : ℕ) (
   asks-start false = tt
 
   no-change : ((any_change j.held || j.half) || list_any (asks None) w.to_host) ≡ false
-  no-change = λ i. ((or_parts (any_change j.held) (any_change j.coming) (sym (list_any-append is_change j.held j.coming) ∙ s.entries)).0 i || s.half-is i) || (ap (λ (f : Option ℕ). list_any (asks f) w.to_host) (sym s.no_fence) ∙ s.none_asks) i
+  no-change = λ i. ((or-none (any_change j.held) (any_change j.coming) (sym (any-append is_change j.held j.coming) ∙ s.entries)).0 i || s.half-is i) || (ap (λ (f : Option ℕ). list_any (asks f) w.to_host) (sym s.no_fence) ∙ s.none_asks) i
 
   can : CanStart (m.table w.host.gadget) ((any_change j.held || j.half) || list_any (asks None) w.to_host) (started_kind (start_packet ep row))
   can = subst (CanStart (m.table w.host.gadget) ((any_change j.held || j.half) || list_any (asks None) w.to_host)) (sym (start m w j ep id row rel s h kinds same-row down long free).started-is) (no-change, can-start (m.table w.host.gadget) (start m w j ep id row rel s h kinds same-row down long free).kind ep row h same-row (start m w j ep id row rel s h kinds same-row down long free).fits)
@@ -122,12 +114,12 @@ module _ {S : Type 0} (m : Meaning S) (w : World S) (j : Shared) (ep id : ℕ) (
   pub after-raised : AfterWait m w j (ps m w j ep id row rel s h kinds same-row down long free) (started ep id w.gate.calls) (ups m w j ep id row rel s h kinds same-row down long free)
   after-raised = record {
     tagged = (tagged m w j ep id row rel s h kinds same-row down long free) j.back s.fresh rel.tagged;
-    calls_in = each-append (λ (p : ℕ × RedirPacket). CallIsIn (called_endpoint p.1)) w.to_host ((q m w j ep id row rel s h kinds same-row down long free) ∷ []) rel.calls_in (subst CallIsIn (sym (start m w j ep id row rel s h kinds same-row down long free).called) h, tt);
-    line = ap (λ (l : List InLine). half_line j.half ++ l) (lines-append w.to_host ((q m w j ep id row rel s h kinds same-row down long free) ∷ []) ∙ ap (λ (l : List InLine). lines w.to_host ++ (l ++ [])) (call m w j ep id row rel s h kinds same-row down long free).line ∙ append-nil (lines w.to_host)) ∙ rel.coming;
+    calls_in = each-append (λ (p : ℕ × RedirPacket). CallIsIn (called_endpoint p.1)) w.to_host ((q m w j ep id row rel s h kinds same-row down long free) ∷ []) rel.line.calls_in (subst CallIsIn (sym (start m w j ep id row rel s h kinds same-row down long free).called) h, tt);
+    line = ap (λ (l : List InLine). half_line j.half ++ l) (lines-append w.to_host ((q m w j ep id row rel s h kinds same-row down long free) ∷ []) ∙ ap (λ (l : List InLine). lines w.to_host ++ (l ++ [])) (call m w j ep id row rel s h kinds same-row down long free).line ∙ append-nil (lines w.to_host)) ∙ rel.line.coming;
     controls = controls;
     fenced-is = subst (λ (f : Option ℕ). Fenced f j.fenced (ps m w j ep id row rel s h kinds same-row down long free) j.back) (sym s.no_fence) s.fenced-is;
-    asked = λ first. each-append (λ (p : ℕ × RedirPacket). IsAsking p.1) w.to_host ((q m w j ep id row rel s h kinds same-row down long free) ∷ []) (rel.meets.asked first) (asks-start (is_iso row.kind), tt);
-    cancels = cancels-more j.held w.to_host (q m w j ep id row rel s h kinds same-row down long free) j.coming (call m w j ep id row rel s h kinds same-row down long free).no_cancel rel.cancels;
+    asked = λ first. each-append (λ (p : ℕ × RedirPacket). IsAsking p.1) w.to_host ((q m w j ep id row rel s h kinds same-row down long free) ∷ []) (rel.asked first) (asks-start (is_iso row.kind), tt);
+    cancels = cancels-more j.held w.to_host (q m w j ep id row rel s h kinds same-row down long free) j.coming (call m w j ep id row rel s h kinds same-row down long free).no_cancel rel.line.cancels;
     session = new-session;
     fits = fits-set w.gate.streams ep (Some (up m w j ep id row rel s h kinds same-row down long free)) h (h, refl, kinds) rel.ups;
   }

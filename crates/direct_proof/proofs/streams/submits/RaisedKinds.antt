@@ -16,7 +16,7 @@ use Rattle.gate_history.specs.write.Packets.{start_packet}
 use Rattle.gate_history.specs.state.Ups.{Up, stream_of}
 use Rattle.gate_history.proofs.lemmas.state.Calls.{AreLong}
 use Rattle.direct_run.specs.Moves.{World}
-use Rattle.direct_proof.specs.Tagged.{Tagged, Greeted, Plugged, ToldTable, ToldFaces, Answered, Packed, Stated, Bye}
+use Rattle.direct_proof.specs.Tagged.{Tagged, Answered, Packed, Stated}
 use Rattle.direct_proof.specs.Shared.{Shared}
 use Rattle.direct_proof.specs.Related.{Related}
 use Rattle.direct_proof.specs.Session.{down_in, runs}
@@ -72,14 +72,9 @@ module _ {S : Type 0} (m : Meaning S) (w : World S) (j : Shared) (ep id : ℕ) (
   down-less e d = sym (ap is_none (up-other e (down-other e d))) ∙ d
 
   pub stale-less : (b : Tagged) → is_stale (down_in ups) b ≡ true → is_stale (down_in w.gate.streams) b ≡ true
-  stale-less Greeted z = z
-  stale-less (Plugged c) z = z
-  stale-less (ToldTable t) z = z
-  stale-less (ToldFaces x) z = z
-  stale-less (Answered c) z = z
   stale-less (Packed x e p) z = down-less e z
   stale-less (Stated x n e status) z = down-less e z
-  stale-less Bye z = z
+  stale-less _ z = z
 
   -- what isn't stale is of another endpoint
   pub fresh-other : (e : ℕ) → down_in w.gate.streams e ≡ false → (e == ep) ≡ false
@@ -97,14 +92,10 @@ module _ {S : Type 0} (m : Meaning S) (w : World S) (j : Shared) (ep id : ℕ) (
   tagged (b ∷ bs) f t = (go b f.0 t.0, tagged bs f.1 t.1)
     where
       go : (b : Tagged) → is_stale (down_in w.gate.streams) b ≡ false → TaggedOfKind w.gate.streams b → TaggedOfKind ups b
-      go Greeted z y = tt
-      go (Plugged c) z y = tt
-      go (ToldTable t) z y = tt
-      go (ToldFaces x) z y = tt
       go (Answered c) z y = y
       go (Packed k e p) z y = (y.0, y.1, y.2, kind-other e k (fresh-other e z) y.3)
       go (Stated k n e status) z y = y
-      go Bye z y = tt
+      go _ z y = tt
 
   pub runs-not : runs w.host ep ≡ false
   runs-not = go (runs w.host ep) refl

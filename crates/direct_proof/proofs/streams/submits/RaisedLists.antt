@@ -1,7 +1,6 @@
 -- A wire without packets of a stream that is down, and a stream that stays up.
 use Rattle.std.proofs.Common.{◌≡◌, ℕ, ◌==◌, ◌&&◌, Bool, true, false, cond, List, [], ◌∷◌, ◌++◌, refl, sym, ap, ◌∙◌, arith}
 use Rattle.std.specs.List.{list_any}
-use Rattle.std.proofs.lemmas.Bool.{or_parts}
 use Rattle.redir_host.specs.declared.running.Running.{Running}
 use Rattle.redir_host.specs.guest.Packets.{runs_at}
 use Rattle.redir_host.specs.state.Sound.{Each}
@@ -12,7 +11,7 @@ use Rattle.direct_proof.specs.Shared.{Shared}
 use Rattle.direct_proof.specs.Related.{Related}
 use Rattle.direct_proof.specs.Session.{Session}
 use Rattle.direct_proof.specs.Stale.{is_stale}
-use Rattle.direct_proof.proofs.shared.Folds.{clash}
+use Rattle.direct_proof.proofs.shared.Folds.{clash, or-none}
 use Rattle.direct_proof.proofs.streams.submits.Waited.{AfterWait}
 
 -- ---- a wire without packets of a stream that is down
@@ -37,19 +36,19 @@ packets-none down iso e h (b ∷ bs) k = (λ i. go b k.0 i ++ packets-none down 
 
 pub none-runs : (ep : ℕ) (rs : List Running) → list_any (runs_at ep) rs ≡ false → Each (λ (s : Running). (s.ep == ep) ≡ false) rs
 none-runs ep [] h = tt
-none-runs ep (s ∷ rs) h = let p = or_parts (s.ep == ep) (list_any (runs_at ep) rs) h in (p.0, none-runs ep rs p.1)
+none-runs ep (s ∷ rs) h = let p = or-none (s.ep == ep) (list_any (runs_at ep) rs) h in (p.0, none-runs ep rs p.1)
 
 -- ---- a stream that is up stays up, and nothing is sent
 
 pub after-kept : {S : Type 0} (m : Meaning S) (w : World S) (j : Shared) → Related m w j → w.gate.lost ≡ false → Session m w j → AfterWait m w j w.to_host w.gate.calls w.gate.streams
 after-kept m w j rel there s = record {
   tagged = rel.tagged;
-  calls_in = rel.calls_in;
-  line = rel.coming;
+  calls_in = rel.line.calls_in;
+  line = rel.line.coming;
   controls = rel.controls there;
   fenced-is = rel.fenced there;
-  asked = rel.meets.asked;
-  cancels = rel.cancels;
+  asked = rel.asked;
+  cancels = rel.line.cancels;
   session = record { table = s.table; faces = s.faces; clean = s.clean; quits = s.quits; trails = s.trails; starts = s.starts; kinds = s.kinds; start_kinds = s.start_kinds };
   fits = rel.ups;
 }

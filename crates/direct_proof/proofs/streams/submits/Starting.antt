@@ -4,8 +4,6 @@ use Rattle.std.specs.Prelude.{get_or, slice_set}
 use Rattle.std.specs.List.{list_any, flat_map}
 use Rattle.std.specs.Option.{option_to_list}
 use Rattle.std.proofs.lemmas.List.{get_or-set_same, get_or-set_other}
-use Rattle.std.proofs.lemmas.Bool.{or_left, or_right}
-use Rattle.std.proofs.lemmas.List.Folds.{list_any-append}
 use Rattle.usb_base.specs.Endpoint.{endpoint_index, is_in_endpoint, row_of}
 use Rattle.usb_base.specs.declared.endpoint.EpKind.{EpKind}
 use Rattle.usb_base.specs.declared.endpoint.EpKind.TheVariants as kind
@@ -23,12 +21,12 @@ use Rattle.gate_history.specs.state.Ids.{times, holds}
 use Rattle.gate_history.specs.write.Packets.{start_packet}
 use Rattle.gate_history.specs.client.Verdict.{is_iso}
 use Rattle.gate_history.proofs.lemmas.state.Calls.{AreLong, times-append}
-use Rattle.direct_proof.specs.Tagged.{Tagged, Greeted, Plugged, ToldTable, ToldFaces, Answered, Packed, Stated, Bye, is_kind}
+use Rattle.direct_proof.specs.Tagged.{Tagged, Stated, is_kind}
 use Rattle.direct_proof.specs.Kinds.{IsIn}
 use Rattle.direct_proof.specs.Calls.{IsKept, CallIsKept, StatusIsKept, is_id, call_id, calls_on, status_id, statuses_on}
 use Rattle.direct_proof.specs.Running.{called_endpoint, started_kind}
 use Rattle.direct_proof.proofs.streams.fills.FillLists.{weight}
-use Rattle.direct_proof.proofs.shared.Folds.{clash, not-both}
+use Rattle.direct_proof.proofs.shared.Folds.{clash, not-both, or-left, or-right, any-append}
 use Rattle.direct_proof.proofs.streams.wires.Folds.{or-either}
 use Rattle.direct_proof.proofs.shared.UpsFound.{in-place, places-differ}
 
@@ -80,19 +78,19 @@ can-start table k ep row h same fits = λ i. small ep h i && (in-byte ep h i && 
 held-id : (id i : ℕ) (xs : List (Option ℕ)) → is_id id (get_or xs i None) ≡ true → list_any (λ x. id == x) (flat_map option_to_list xs) ≡ true
 held-id id i [] h = absurd (not-both (sym h))
 held-id id zero (None ∷ xs) h = absurd (not-both (sym h))
-held-id id zero (Some x ∷ xs) h = or_left (id == x) (list_any (λ y. id == y) (flat_map option_to_list xs)) (flip x id h)
+held-id id zero (Some x ∷ xs) h = or-left (id == x) (list_any (λ y. id == y) (flat_map option_to_list xs)) (flip x id h)
   where
     flip : (a b : ℕ) → (a == b) ≡ true → (b == a) ≡ true
     flip a b e = grind (arith, e)
 held-id id (suc i) (None ∷ xs) h = held-id id i xs h
-held-id id (suc i) (Some x ∷ xs) h = or_right (id == x) (list_any (λ y. id == y) (flat_map option_to_list xs)) (held-id id i xs h)
+held-id id (suc i) (Some x ∷ xs) h = or-right (id == x) (list_any (λ y. id == y) (flat_map option_to_list xs)) (held-id id i xs h)
 
 pub kept-held : (c : Calls) (id ep : ℕ) → IsKept c id ep → holds (call_ids c) id ≡ true
-kept-held c id ep h = list_any-append (λ x. id == x) (flat_map option_to_list c.started) (flat_map option_to_list c.stopped) ∙ go (or-either (is_id id (get_or c.started (endpoint_index ep) None)) (is_id id (get_or c.stopped (endpoint_index ep) None)) h)
+kept-held c id ep h = any-append (λ x. id == x) (flat_map option_to_list c.started) (flat_map option_to_list c.stopped) ∙ go (or-either (is_id id (get_or c.started (endpoint_index ep) None)) (is_id id (get_or c.stopped (endpoint_index ep) None)) h)
   where
     go : (is_id id (get_or c.started (endpoint_index ep) None) ≡ true) ⊎ (is_id id (get_or c.stopped (endpoint_index ep) None) ≡ true) → (list_any (λ x. id == x) (flat_map option_to_list c.started) || list_any (λ x. id == x) (flat_map option_to_list c.stopped)) ≡ true
-    go (inl k) = or_left (list_any (λ x. id == x) (flat_map option_to_list c.started)) (list_any (λ x. id == x) (flat_map option_to_list c.stopped)) (held-id id (endpoint_index ep) c.started k)
-    go (inr k) = or_right (list_any (λ x. id == x) (flat_map option_to_list c.started)) (list_any (λ x. id == x) (flat_map option_to_list c.stopped)) (held-id id (endpoint_index ep) c.stopped k)
+    go (inl k) = or-left (list_any (λ x. id == x) (flat_map option_to_list c.started)) (list_any (λ x. id == x) (flat_map option_to_list c.stopped)) (held-id id (endpoint_index ep) c.started k)
+    go (inr k) = or-right (list_any (λ x. id == x) (flat_map option_to_list c.started)) (list_any (λ x. id == x) (flat_map option_to_list c.stopped)) (held-id id (endpoint_index ep) c.stopped k)
 
 -- an id that is held nowhere is on no wire
 none-here : (c : Calls) (id other ep : ℕ) → holds (call_ids c) id ≡ false → IsKept c other ep → (id == other) ≡ false
@@ -115,19 +113,13 @@ no-statuses c id free [] h = refl
 no-statuses c id free (b ∷ bs) h = let rest = no-statuses c id free bs h.1 in let a = times-append id (status_id b) (statuses_on bs) in let z = go b h.0 in omega (arith, rest, a, z)
   where
     go : (b : Tagged) → StatusIsKept c b → times id (status_id b) ≡ 0
-    go Greeted k = refl
-    go (Plugged x) k = refl
-    go (ToldTable t) k = refl
-    go (ToldFaces i) k = refl
-    go (Answered x) k = refl
-    go (Packed x e p) k = refl
     go (Stated x n e status) k = ap (λ (b : Bool). weight b + 0) (none-here c id n e free k)
-    go Bye k = refl
+    go _ k = refl
 
 -- ---- with one start more
 
 pub kept-new : (c : Calls) (id ep : ℕ) → AreLong c → IsIn ep → IsKept (started ep id c) id ep
-kept-new c id ep long h = or_left (is_id id (get_or (slice_set c.started (endpoint_index ep) (Some id)) (endpoint_index ep) None)) _ (ap (is_id id) (get_or-set_same c.started (endpoint_index ep) (Some id) None (subst (λ (n : ℕ). endpoint_index ep < n) (sym long.started) (in-place ep h))) ∙ itself id)
+kept-new c id ep long h = or-left (is_id id (get_or (slice_set c.started (endpoint_index ep) (Some id)) (endpoint_index ep) None)) _ (ap (is_id id) (get_or-set_same c.started (endpoint_index ep) (Some id) None (subst (λ (n : ℕ). endpoint_index ep < n) (sym long.started) (in-place ep h))) ∙ itself id)
   where
     itself : (n : ℕ) → (n == n) ≡ true
     itself n = grind arith

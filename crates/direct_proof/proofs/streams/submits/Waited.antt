@@ -90,51 +90,31 @@ debts-waiter st r row (p ∷ ps) =
 
 pub waits-related : {S : Type 0} (m : Meaning S) (w : World S) (j : Shared) (r : Request) (row : EpRow) → Related m w j → w.gate.imported ≡ true → w.gate.lost ≡ false → AfterWait m w j (waits_world w r row).to_host (waits_world w r row).gate.calls (waits_world w r row).gate.streams → Related m (waits_world w r row) j
 waits-related {S = S} m w j r row rel imported there a = record {
-  held = rel.held;
-  half = rel.half;
-  coming = a.line;
+  line = record {
+    held = rel.line.held;
+    half = rel.line.half;
+    coming = a.line;
+    loads = rel.line.loads;
+    calls_in = a.calls_in;
+    cancels = a.cancels;
+    behind = rel.line.behind;
+  };
   answers = rel.answers;
-  loads = rel.loads;
   tagged = a.tagged;
   ids = ids-named j.debts w.submits (j.held ++ j.coming) (runs_in j.back) r.number rel.real rel.ids;
   real = rel.real;
-  calls_in = a.calls_in;
   runs_at_in = rel.runs_at_in;
-  meets = record {
-    host = rel.meets.host;
-    gate = rel.meets.gate;
-    before = λ h. absurd (clash w.host.guest.first h (rel.meets.behind (rel.meets.no_session imported there)).2);
-    announced = rel.meets.announced;
-    asked = a.asked;
-    behind = rel.meets.behind;
-    once = rel.meets.once;
-    plugged = rel.meets.plugged;
-    no_session = rel.meets.no_session;
-  };
+  before = λ h. absurd (clash w.host.guest.first h (rel.meets.behind (rel.meets.no_session imported there)).2);
+  asked = a.asked;
+  meets = rel.meets;
   debts = λ h. ap (λ (l : List Debt). l ++ debts_of w.gate.abandoned) (debts-stay r.transfer.ep (fill_for w.gate r row).fillings (with_waiter w.gate r row) ∙ debts-waiter w.gate r row w.gate.live) ∙ rel.debts h;
   controls = λ h. a.controls;
   fenced = λ h. a.fenced-is;
-  cancels = a.cancels;
-  behind = rel.behind;
   alone = rel.alone;
-  session = λ h k. record {
-    table = a.session.table;
-    faces = a.session.faces;
-    clean = a.session.clean;
-    quits = a.session.quits;
-    trails = a.session.trails;
-    starts = a.session.starts;
-    kinds = a.session.kinds;
-    start_kinds = a.session.start_kinds;
-  };
+  session = λ h k. a.session;
   ups = a.fits;
-  lost = λ h. absurd (clash w.gate.lost h there);
-  gone = rel.gone;
-  reads = rel.reads;
-  refused = rel.refused;
   down = λ h. absurd (clash w.gate.imported imported h);
-  seen = rel.seen;
-  still = rel.still;
-  bye = rel.bye;
-  bye_last = rel.bye_last;
+  lost = λ h. absurd (clash w.gate.lost h there);
+  sides = rel.sides;
+  farewell = rel.farewell;
 }

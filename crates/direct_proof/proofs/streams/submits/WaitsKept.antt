@@ -84,7 +84,7 @@ module _ {S : Type 0} (m : Meaning S) (w : World S) (j : Shared) (place : ℕ) (
   made : (row : EpRow) → by_stream (stream_at w.gate.streams ep) (Stream first) ≡ Stream row → made_of m d r ≡ Stream row
   made row kept =
       ap (by_stream (stream_at d.streams ep)) (
-      (λ i. verdict (sym (rel.seen imported) i) (length-map w.gate.live live_of i) ((list_any-map (λ (l : Live). changes l.load.verdict) live_of w.gate.live ∙ sym (list_any-map (λ (x : Submission). changes x.verdict) (λ (p : Pending). p.submit) w.gate.live)) i) (m.table w.host.gadget) (wide i) r)
+      (λ i. verdict (sym (rel.sides.seen imported) i) (length-map w.gate.live live_of i) ((list_any-map (λ (l : Live). changes l.load.verdict) live_of w.gate.live ∙ sym (list_any-map (λ (x : Submission). changes x.verdict) (λ (p : Pending). p.submit) w.gate.live)) i) (m.table w.host.gadget) (wide i) r)
       ∙ same-verdict w.gate.lost (length w.gate.live) (change_waits w.gate) (m.table w.host.gadget) w.gate.facts.table (wide_bulk w.gate.agreed) r (sym same-row)
       ∙ v)
       ∙ kept

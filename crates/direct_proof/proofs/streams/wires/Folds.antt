@@ -1,9 +1,6 @@
 -- The folds over the wires: how they grow at the end and lose their first, and what they say where no change is under way.
 use Rattle.std.proofs.Common.{◌≡◌, ℕ, ◌||◌, ◌⊎◌, inl, inr, Bool, true, false, List, [], ◌∷◌, ◌++◌, Option, Some, None, refl, sym, ap, ◌∙◌, subst}
 use Rattle.std.specs.List.{list_any}
-use Rattle.std.proofs.lemmas.Bool.{or_left, or_parts}
-use Rattle.std.proofs.Math.Bool.{or-false}
-use Rattle.std.proofs.lemmas.List.Folds.{list_any-append}
 use Rattle.usb_base.specs.declared.endpoint.EpTable.{EpTable}
 use Rattle.redir_data.specs.declared.packet.RedirPacket.{RedirPacket}
 use Rattle.redir_host.specs.state.Sound.{Each}
@@ -13,7 +10,7 @@ use Rattle.direct_proof.specs.Stale.{Clean, asks, ends, is_stale}
 use Rattle.direct_proof.specs.Running.{Quits, Trails, StartsFit, runs_after, called_endpoint, passes}
 use Rattle.direct_proof.specs.Cancels.{CancelsFit, moved, left, begins, is_cancel}
 use Rattle.direct_proof.proofs.streams.wires.Sorts.{runs-less, runs-same, is_of}
-use Rattle.direct_proof.proofs.shared.Folds.{clash, not-both, or-assoc}
+use Rattle.direct_proof.proofs.shared.Folds.{any-append, clash, not-both, or-assoc, or-false, or-left, or-none}
 
 -- ---- tests
 
@@ -30,7 +27,7 @@ clean-weaker fence down down' p h (b ∷ bs) c = ((λ s. c.0 (h b s)), clean-wea
 -- where no change is under way, nothing is stale
 pub silent : (fence : Option ℕ) (down : ℕ → Bool) (bs : List Tagged) → Clean fence down false bs → list_any (ends fence) bs ≡ false → Each (λ b. is_stale down b ≡ false) bs
 silent fence down [] c e = tt
-silent fence down (b ∷ bs) c e = let parts = or_parts (ends fence b) (list_any (ends fence) bs) e in (go e (is_stale down b) refl, silent fence down bs c.1 parts.1)
+silent fence down (b ∷ bs) c e = let parts = or-none (ends fence b) (list_any (ends fence) bs) e in (go e (is_stale down b) refl, silent fence down bs c.1 parts.1)
   where
     go : list_any (ends fence) (b ∷ bs) ≡ false → (x : Bool) → is_stale down b ≡ x → x ≡ false
     go none true h = absurd (clash (list_any (ends fence) (b ∷ bs)) (c.0 h) none)
@@ -65,7 +62,7 @@ pub quits-more : (fence : Option ℕ) (ep : ℕ) (r : Bool) (ps : List (ℕ × R
 quits-more fence ep true [] q k h = absurd (not-both h)
 quits-more fence ep false [] q k h = ((λ e. absurd (not-both (sym e))), runs-same ep q.1 false k)
 quits-more fence ep r (p ∷ ps) q k h = (
-  (λ e. list_any-append (asks fence) (p ∷ ps) (q ∷ []) ∙ or_left (list_any (asks fence) (p ∷ ps)) (list_any (asks fence) (q ∷ [])) (h.0 e)),
+  (λ e. any-append (asks fence) (p ∷ ps) (q ∷ []) ∙ or-left (list_any (asks fence) (p ∷ ps)) (list_any (asks fence) (q ∷ [])) (h.0 e)),
   quits-more fence ep (runs_after ep p.1 r) ps q k h.1,
 )
 
@@ -93,7 +90,7 @@ trails-fence a b down (p ∷ ps) h k = ((λ e. sym (any-same (asks a) (asks b) (
 
 pub no-trails : (fence : Option ℕ) (down : ℕ → Bool) (ps : List (ℕ × RedirPacket)) → list_any (asks fence) ps ≡ false → Trails fence down ps → Each (λ (p : ℕ × RedirPacket). passes down (called_endpoint p.1) ≡ false) ps
 no-trails fence down [] h k = tt
-no-trails fence down (p ∷ ps) h k = (go (passes down (called_endpoint p.1)) refl, no-trails fence down ps (or_parts (asks fence p) (list_any (asks fence) ps) h).1 k.1)
+no-trails fence down (p ∷ ps) h k = (go (passes down (called_endpoint p.1)) refl, no-trails fence down ps (or-none (asks fence p) (list_any (asks fence) ps) h).1 k.1)
   where
     go : (b : Bool) → passes down (called_endpoint p.1) ≡ b → b ≡ false
     go true e = absurd (clash (list_any (asks fence) (p ∷ ps)) (k.0 e) h)

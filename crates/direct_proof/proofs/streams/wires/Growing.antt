@@ -1,8 +1,6 @@
 -- One packet more on the wire to the gateway: what stays as it was.
 use Rattle.std.proofs.Common.{◌≡◌, ℕ, ◌==◌, ◌&&◌, ◌||◌, Bool, true, false, cond, List, [], ◌∷◌, ◌++◌, Option, Some, None, refl, sym, ap, ◌∙◌, subst, arith, append-nil}
 use Rattle.std.specs.List.{list_any, find}
-use Rattle.std.proofs.Math.Bool.{or-false}
-use Rattle.std.proofs.lemmas.List.Folds.{list_any-append}
 use Rattle.usb_base.specs.declared.transfer.StreamPacket.{StreamPacket}
 use Rattle.redir_data.specs.declared.packet.RedirPacket.{RedirPacket}
 use Rattle.redir_host.specs.declared.running.StreamKind.{StreamKind}
@@ -19,16 +17,10 @@ use Rattle.direct_device.specs.Direct.{way_if}
 use Rattle.direct_proof.specs.Requests.{Coming}
 use Rattle.direct_proof.specs.Tagged.{Tagged, Packed, Stated, on_wire, runs_in, ran_in, told, packets_in, is_kind}
 use Rattle.direct_proof.specs.Shared.{way_of}
-use Rattle.direct_proof.specs.Calls.{Fenced, statuses_on, status_id}
-use Rattle.direct_proof.specs.Meets.{ByeLast, PlugOnce, is_bye, is_greeting, is_plug}
+use Rattle.direct_proof.specs.Calls.{Fenced, statuses_on}
 use Rattle.direct_proof.specs.Kinds.{OfKind}
-use Rattle.direct_proof.proofs.shared.Folds.{not-both}
 use Rattle.direct_proof.proofs.shared.Backs.{told-append}
-use Rattle.direct_proof.proofs.shared.Streaming.{statuses-append}
 use Rattle.direct_proof.proofs.shared.WireBack.{runs_in-append, packets_in-append}
-
-pub any-last : {X : Type 0} (p : X → Bool) (xs : List X) (x : X) → p x ≡ false → list_any p (xs ++ x ∷ []) ≡ list_any p xs
-any-last p xs x h = list_any-append p xs (x ∷ []) ∙ ap (λ (b : Bool). list_any p xs || (b || false)) h ∙ or-false (list_any p xs)
 
 -- what a search finds
 pub found-each : {X : Type 0} (P : X → Type 0) (p : X → Bool) (xs : List X) (x : X) → Each P xs → find p xs ≡ Some x → P x × (p x ≡ true)
@@ -47,9 +39,6 @@ found-any {X = X} p (y ∷ ys) x e = go (p y) e (found-any p ys x)
     go true z rest = refl
     go false z rest = rest z
 
-pub statuses-last : (bs : List Tagged) (b : Tagged) → status_id b ≡ [] → statuses_on (bs ++ b ∷ []) ≡ statuses_on bs
-statuses-last bs b h = statuses-append bs (b ∷ []) ∙ ap (λ (l : List ℕ). statuses_on bs ++ (l ++ [])) h ∙ append-nil (statuses_on bs)
-
 pub runs-last : (bs : List Tagged) (b : Tagged) → ran_in b ≡ [] → runs_in (bs ++ b ∷ []) ≡ runs_in bs
 runs-last bs b h = runs_in-append bs (b ∷ []) ∙ ap (λ (l : List Coming). runs_in bs ++ (l ++ [])) h ∙ append-nil (runs_in bs)
 
@@ -67,18 +56,6 @@ no-fact-told Interrupt id ep status = refl
 pub fenced-same : (fence : Option ℕ) (fenced : Bool) (ps : List (ℕ × RedirPacket)) (bs cs : List Tagged) → statuses_on cs ≡ statuses_on bs → Fenced fence fenced ps bs → Fenced fence fenced ps cs
 fenced-same None fenced ps bs cs e h = h
 fenced-same (Some f) fenced ps bs cs e h = (h.0, λ k. ap (times f) e ∙ h.1 k)
-
-pub bye-last : (bs : List Tagged) (b : Tagged) → list_any is_bye bs ≡ false → is_bye b ≡ false → ByeLast (bs ++ b ∷ [])
-bye-last [] b h n = ((λ e. refl), tt)
-bye-last (x ∷ bs) b h n = go (is_bye x) refl h (bye-last bs b)
-  where
-    go : (c : Bool) → is_bye x ≡ c → (c || list_any is_bye bs) ≡ false → (list_any is_bye bs ≡ false → is_bye b ≡ false → ByeLast (bs ++ b ∷ [])) → ByeLast (x ∷ (bs ++ b ∷ []))
-    go true e k rest = absurd (not-both k)
-    go false e k rest = ((λ z. absurd (not-both (sym z ∙ e))), rest k n)
-
-pub plug-last : (bs : List Tagged) (b : Tagged) → is_greeting b ≡ false → is_plug b ≡ false → PlugOnce bs → PlugOnce (bs ++ b ∷ [])
-plug-last [] b g n h = ((λ e. absurd (not-both (sym e ∙ n))), tt)
-plug-last (x ∷ bs) b g n h = ((λ e. let k = h.0 e in (any-last is_greeting bs b g ∙ k.0, any-last is_plug bs b n ∙ k.1)), plug-last bs b g n h.1)
 
 -- ---- the way of a stream
 

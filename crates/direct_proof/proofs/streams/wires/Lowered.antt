@@ -10,7 +10,7 @@ use Rattle.redir_host.specs.declared.running.StreamKind.{StreamKind}
 use Rattle.redir_host.specs.state.Sound.{Each}
 use Rattle.gate_history.specs.state.Ups.{Up, stream_at, stream_of, unless, lower}
 use Rattle.direct_device.specs.Direct.{way_if}
-use Rattle.direct_proof.specs.Tagged.{Tagged, Greeted, Plugged, ToldTable, ToldFaces, Answered, Packed, Stated, Bye}
+use Rattle.direct_proof.specs.Tagged.{Tagged, Answered, Packed, Stated}
 use Rattle.direct_proof.specs.Shared.{way_of}
 use Rattle.direct_proof.specs.Kinds.{OfKind, TaggedOfKind, StartOfKind, UpsFit, UpFits}
 use Rattle.direct_proof.specs.Session.{down_in}
@@ -32,14 +32,10 @@ module _ (test : Up → Bool) (ups : List (Option Up)) where
   tagged-lower (b ∷ bs) t = (go b t.0, tagged-lower bs t.1)
     where
       go : (b : Tagged) → TaggedOfKind ups b → TaggedOfKind (lower test ups) b
-      go Greeted y = tt
-      go (Plugged c) y = tt
-      go (ToldTable x) y = tt
-      go (ToldFaces x) y = tt
       go (Answered c) y = y
       go (Packed k e p) y = (y.0, y.1, y.2, kind-at e k y.3)
       go (Stated k n e status) y = y
-      go Bye y = tt
+      go _ y = tt
 
   pub kinds-lower : (rs : List Running) → Each (λ (s : Running). OfKind (stream_of ups s.ep) s.kind) rs → Each (λ (s : Running). OfKind (stream_of (lower test ups) s.ep) s.kind) rs
   kinds-lower [] t = tt

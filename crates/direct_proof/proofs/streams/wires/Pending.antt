@@ -1,8 +1,6 @@
 -- What asks on the wire to the host is a change that is to be performed, or the fence's stop.
 use Rattle.std.proofs.Common.{◌≡◌, ℕ, ◌+◌, ◌≤◌, ◌||◌, ◌⊎◌, inl, inr, Bool, true, false, cond, List, [], ◌∷◌, ◌++◌, Option, Some, None, refl, sym, ap, ◌∙◌, arith}
 use Rattle.std.specs.List.{list_any}
-use Rattle.std.proofs.lemmas.Bool.{or_left, or_right}
-use Rattle.std.proofs.lemmas.List.Folds.{list_any-append}
 use Rattle.redir_data.specs.declared.packet.RedirPacket.{RedirPacket}
 use Rattle.control_route.specs.declared.route.Route.{Route}
 use Rattle.control_route.specs.declared.route.Route.TheVariants as route
@@ -17,7 +15,7 @@ use Rattle.direct_proof.specs.Stale.{asks, is_fence}
 use Rattle.direct_proof.specs.Cancels.{any_change, is_change}
 use Rattle.direct_proof.specs.Calls.{Fenced, calls_on, call_id}
 use Rattle.direct_proof.proofs.streams.wires.Sorts.{line_changes, form_changes, asks-parts}
-use Rattle.direct_proof.proofs.shared.Folds.{not-both}
+use Rattle.direct_proof.proofs.shared.Folds.{not-both, or-left, or-right, any-append}
 use Rattle.direct_proof.proofs.streams.wires.Folds.{or-either}
 use Rattle.gate_history.proofs.lemmas.state.Calls.{times-append}
 
@@ -25,23 +23,15 @@ use Rattle.gate_history.proofs.lemmas.state.Calls.{times-append}
 
 route-changes : (r : Request) (x : Route) → form_changes (form_by r (Routed x)) ≡ true → changes (Routed x) ≡ true
 route-changes r (route.SetConfig c) h = refl
-route-changes r route.GetConfig h = absurd (not-both (sym h))
 route-changes r (route.SetAlt i a) h = refl
-route-changes r (route.GetAlt i) h = absurd (not-both (sym h))
 route-changes r route.Reset h = refl
-route-changes r route.Local h = absurd (not-both (sym h))
-route-changes r route.Plain h = absurd (not-both (sym h))
-route-changes r route.Bad h = absurd (not-both (sym h))
+route-changes r _ h = absurd (not-both (sym h))
 
 reset-changes : (x : Route) → resets (Routed x) ≡ true → changes (Routed x) ≡ true
 reset-changes (route.SetConfig c) h = refl
-reset-changes route.GetConfig h = absurd (not-both (sym h))
 reset-changes (route.SetAlt i a) h = refl
-reset-changes (route.GetAlt i) h = absurd (not-both (sym h))
 reset-changes route.Reset h = refl
-reset-changes route.Local h = absurd (not-both (sym h))
-reset-changes route.Plain h = absurd (not-both (sym h))
-reset-changes route.Bad h = absurd (not-both (sym h))
+reset-changes _ h = absurd (not-both (sym h))
 
 in-line : (v : Verdict) (b : Bool) → (b ≡ true → changes v ≡ true) → (l : InLine) → (line_changes l ≡ true → changes v ≡ true) → list_any line_changes (cond b (Reset ∷ []) [] ++ l ∷ []) ≡ true → changes v ≡ true
 in-line v true reset l by h = reset refl
@@ -69,11 +59,11 @@ entry-changes e = go e.load.verdict
 
 pub coming-changes : (es : List Entry) → list_any line_changes (at_hosts es) ≡ true → any_change es ≡ true
 coming-changes [] h = absurd (not-both (sym h))
-coming-changes (e ∷ es) h = go (coming-changes es) (or-either (list_any line_changes (at_host e)) (list_any line_changes (at_hosts es)) (sym (list_any-append line_changes (at_host e) (at_hosts es)) ∙ h))
+coming-changes (e ∷ es) h = go (coming-changes es) (or-either (list_any line_changes (at_host e)) (list_any line_changes (at_hosts es)) (sym (any-append line_changes (at_host e) (at_hosts es)) ∙ h))
   where
     go : (list_any line_changes (at_hosts es) ≡ true → any_change es ≡ true) → (list_any line_changes (at_host e) ≡ true) ⊎ (list_any line_changes (at_hosts es) ≡ true) → any_change (e ∷ es) ≡ true
-    go rest (inl k) = or_left (changes e.load.verdict) (any_change es) (entry-changes e k)
-    go rest (inr k) = or_right (changes e.load.verdict) (any_change es) (rest k)
+    go rest (inl k) = or-left (changes e.load.verdict) (any_change es) (entry-changes e k)
+    go rest (inr k) = or-right (changes e.load.verdict) (any_change es) (rest k)
 
 -- ---- what asks on a wire
 
@@ -100,11 +90,11 @@ asked-by fence (q ∷ ps) h = go (asked-by fence ps) (or-either (asks fence q) (
     lined = list_any line_changes (lines ps)
 
     in-front : (list_any line_changes (in_line q) ≡ true) ⊎ ((is_fence fence q.0 ≡ true) × (call_id q ≡ q.0 ∷ [])) → (list_any line_changes (lines (q ∷ ps)) ≡ true) ⊎ Stops fence (q ∷ ps)
-    in-front (inl k) = inl (list_any-append line_changes (in_line q) (lines ps) ∙ or_left (list_any line_changes (in_line q)) (list_any line_changes (lines ps)) k)
+    in-front (inl k) = inl (any-append line_changes (in_line q) (lines ps) ∙ or-left (list_any line_changes (in_line q)) (list_any line_changes (lines ps)) k)
     in-front (inr k) = inr (stops-here fence q ps k.0 k.1)
 
     behind : (list_any line_changes (lines ps) ≡ true) ⊎ Stops fence ps → (list_any line_changes (lines (q ∷ ps)) ≡ true) ⊎ Stops fence (q ∷ ps)
-    behind (inl k) = inl (list_any-append line_changes (in_line q) (lines ps) ∙ or_right (list_any line_changes (in_line q)) (list_any line_changes (lines ps)) k)
+    behind (inl k) = inl (any-append line_changes (in_line q) (lines ps) ∙ or-right (list_any line_changes (in_line q)) (list_any line_changes (lines ps)) k)
     behind (inr k) = inr (stops-later fence q ps k)
 
     go : (list_any (asks fence) ps ≡ true → (list_any line_changes (lines ps) ≡ true) ⊎ Stops fence ps) → (asks fence q ≡ true) ⊎ (list_any (asks fence) ps ≡ true) → (list_any line_changes (lines (q ∷ ps)) ≡ true) ⊎ Stops fence (q ∷ ps)
@@ -121,6 +111,6 @@ pub asked-pending : (fence : Option ℕ) (fenced half : Bool) (ps : List (ℕ ×
 asked-pending fence fenced half ps back held coming line fit h = go (asked-by fence ps h)
   where
     go : (list_any line_changes (lines ps) ≡ true) ⊎ Stops fence ps → (any_change (held ++ coming) || fenced) ≡ true
-    go (inl k) = or_left (any_change (held ++ coming)) fenced (list_any-append is_change held coming ∙ or_right (any_change held) (any_change coming) (coming-changes coming
-        (ap (list_any line_changes) (sym line) ∙ list_any-append line_changes (half_line half) (lines ps) ∙ or_right (list_any line_changes (half_line half)) (list_any line_changes (lines ps)) k)))
-    go (inr k) = or_right (any_change (held ++ coming)) fenced (fence-comes fence fenced ps back fit k)
+    go (inl k) = or-left (any_change (held ++ coming)) fenced (any-append is_change held coming ∙ or-right (any_change held) (any_change coming) (coming-changes coming
+        (ap (list_any line_changes) (sym line) ∙ any-append line_changes (half_line half) (lines ps) ∙ or-right (list_any line_changes (half_line half)) (list_any line_changes (lines ps)) k)))
+    go (inr k) = or-right (any_change (held ++ coming)) fenced (fence-comes fence fenced ps back fit k)

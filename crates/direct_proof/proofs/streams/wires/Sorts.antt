@@ -18,41 +18,23 @@ use Rattle.direct_proof.specs.Cancels.{begins, is_cancel}
 abbrev pub form_changes : Form → Bool
 form_changes (form.SetConfiguration c) = true
 form_changes (form.SetAlt i a) = true
-form_changes (form.Control s) = false
-form_changes (form.Bulk s) = false
-form_changes form.Interrupt = false
-form_changes form.GetConfiguration = false
-form_changes (form.GetAlt i) = false
+form_changes _ = false
 
 abbrev pub line_changes : InLine → Bool
 line_changes Reset = true
-line_changes (Waits place id f t) = form_changes f
+line_changes (Waits 0 id f t) = form_changes f
 
 no : false ≡ true → ⊥
 no e = cc
 
 -- what asks is a change that is put in line, or the fence's stop
 pub asks-parts : (fence : Option ℕ) (q : ℕ × RedirPacket) → asks fence q ≡ true → (list_any line_changes (in_line q) ≡ true) ⊎ ((is_fence fence q.0 ≡ true) × (call_id q ≡ q.0 ∷ []))
-asks-parts fence (id, Plain (plain.Hello x)) h = absurd (no h)
-asks-parts fence (id, Plain (plain.Connect c)) h = absurd (no h)
-asks-parts fence (id, Plain plain.Disconnect) h = absurd (no h)
 asks-parts fence (id, Plain plain.Reset) h = inl refl
-asks-parts fence (id, Plain (plain.InterfaceInfo x)) h = absurd (no h)
-asks-parts fence (id, Plain (plain.EpInfo x)) h = absurd (no h)
 asks-parts fence (id, Plain (plain.SetConfiguration c)) h = inl refl
-asks-parts fence (id, Plain plain.GetConfiguration) h = absurd (no h)
-asks-parts fence (id, Plain (plain.ConfigurationStatus s c)) h = absurd (no h)
 asks-parts fence (id, Plain (plain.SetAlt i a)) h = inl refl
-asks-parts fence (id, Plain (plain.GetAlt i)) h = absurd (no h)
-asks-parts fence (id, Plain (plain.AltStatus s i a)) h = absurd (no h)
-asks-parts fence (id, Plain (plain.StartIso e n k)) h = absurd (no h)
 asks-parts fence (id, Plain (plain.StopIso e)) h = inr (h, refl)
-asks-parts fence (id, Plain (plain.IsoStatus s e)) h = absurd (no h)
-asks-parts fence (id, Plain (plain.StartInterrupt e)) h = absurd (no h)
 asks-parts fence (id, Plain (plain.StopInterrupt e)) h = inr (h, refl)
-asks-parts fence (id, Plain (plain.InterruptStatus s e)) h = absurd (no h)
-asks-parts fence (id, Plain plain.Cancel) h = absurd (no h)
-asks-parts fence (id, Plain plain.DisconnectAck) h = absurd (no h)
+asks-parts fence (id, Plain _) h = absurd (no h)
 asks-parts fence (id, Carrying d) h = absurd (no h)
 
 -- ---- starts and stops
@@ -72,66 +54,28 @@ Calls_or None q = (call_id q ≡ []) × (started_kind q.1 ≡ None)
 Calls_or (Some e) q = IsCall q
 
 pub is-call : (q : ℕ × RedirPacket) → Calls_or (called_endpoint q.1) q
-is-call (id, Plain (plain.Hello x)) = (refl, refl)
-is-call (id, Plain (plain.Connect c)) = (refl, refl)
-is-call (id, Plain plain.Disconnect) = (refl, refl)
-is-call (id, Plain plain.Reset) = (refl, refl)
-is-call (id, Plain (plain.InterfaceInfo x)) = (refl, refl)
-is-call (id, Plain (plain.EpInfo x)) = (refl, refl)
-is-call (id, Plain (plain.SetConfiguration c)) = (refl, refl)
-is-call (id, Plain plain.GetConfiguration) = (refl, refl)
-is-call (id, Plain (plain.ConfigurationStatus s c)) = (refl, refl)
-is-call (id, Plain (plain.SetAlt i a)) = (refl, refl)
-is-call (id, Plain (plain.GetAlt i)) = (refl, refl)
-is-call (id, Plain (plain.AltStatus s i a)) = (refl, refl)
 is-call (id, Plain (plain.StartIso e n k)) = record { endpoint = e; at = refl; id = refl; line = refl; first = refl; no_cancel = refl; no_change = refl }
 is-call (id, Plain (plain.StopIso e)) = record { endpoint = e; at = refl; id = refl; line = refl; first = refl; no_cancel = refl; no_change = refl }
-is-call (id, Plain (plain.IsoStatus s e)) = (refl, refl)
 is-call (id, Plain (plain.StartInterrupt e)) = record { endpoint = e; at = refl; id = refl; line = refl; first = refl; no_cancel = refl; no_change = refl }
 is-call (id, Plain (plain.StopInterrupt e)) = record { endpoint = e; at = refl; id = refl; line = refl; first = refl; no_cancel = refl; no_change = refl }
-is-call (id, Plain (plain.InterruptStatus s e)) = (refl, refl)
-is-call (id, Plain plain.Cancel) = (refl, refl)
-is-call (id, Plain plain.DisconnectAck) = (refl, refl)
+is-call (id, Plain _) = (refl, refl)
 is-call (id, Carrying d) = (refl, refl)
+
+started : (b : Bool) → cond b true true ≡ false → cond b true false ≡ false
+started true h = h
+started false h = refl
+
+stopped : (b : Bool) → cond b false false ≡ false
+stopped true = refl
+stopped false = refl
 
 -- where a stream that runs doesn't run behind a packet, one that doesn't run doesn't either
 pub runs-less : (ep : ℕ) (p : RedirPacket) → runs_after ep p true ≡ false → runs_after ep p false ≡ false
-runs-less ep (Plain (plain.Hello x)) h = refl
-runs-less ep (Plain (plain.Connect c)) h = refl
-runs-less ep (Plain plain.Disconnect) h = refl
-runs-less ep (Plain plain.Reset) h = refl
-runs-less ep (Plain (plain.InterfaceInfo x)) h = refl
-runs-less ep (Plain (plain.EpInfo x)) h = refl
-runs-less ep (Plain (plain.SetConfiguration c)) h = refl
-runs-less ep (Plain plain.GetConfiguration) h = refl
-runs-less ep (Plain (plain.ConfigurationStatus s c)) h = refl
-runs-less ep (Plain (plain.SetAlt i a)) h = refl
-runs-less ep (Plain (plain.GetAlt i)) h = refl
-runs-less ep (Plain (plain.AltStatus s i a)) h = refl
-runs-less ep (Plain (plain.StartIso e n k)) h = go (e == ep) h
-  where
-    go : (b : Bool) → cond b true true ≡ false → cond b true false ≡ false
-    go true k = k
-    go false k = refl
-runs-less ep (Plain (plain.StopIso e)) h = go (e == ep)
-  where
-    go : (b : Bool) → cond b false false ≡ false
-    go true = refl
-    go false = refl
-runs-less ep (Plain (plain.IsoStatus s e)) h = refl
-runs-less ep (Plain (plain.StartInterrupt e)) h = go (e == ep) h
-  where
-    go : (b : Bool) → cond b true true ≡ false → cond b true false ≡ false
-    go true k = k
-    go false k = refl
-runs-less ep (Plain (plain.StopInterrupt e)) h = go (e == ep)
-  where
-    go : (b : Bool) → cond b false false ≡ false
-    go true = refl
-    go false = refl
-runs-less ep (Plain (plain.InterruptStatus s e)) h = refl
-runs-less ep (Plain plain.Cancel) h = refl
-runs-less ep (Plain plain.DisconnectAck) h = refl
+runs-less ep (Plain (plain.StartIso e n k)) h = started (e == ep) h
+runs-less ep (Plain (plain.StartInterrupt e)) h = started (e == ep) h
+runs-less ep (Plain (plain.StopIso e)) h = stopped (e == ep)
+runs-less ep (Plain (plain.StopInterrupt e)) h = stopped (e == ep)
+runs-less ep (Plain _) h = refl
 runs-less ep (Carrying d) h = refl
 
 -- a packet of another endpoint, or of none, leaves a stream as it is
@@ -140,24 +84,8 @@ is_of ep None = false
 is_of ep (Some e) = e == ep
 
 pub runs-same : (ep : ℕ) (p : RedirPacket) (r : Bool) → is_of ep (called_endpoint p) ≡ false → runs_after ep p r ≡ r
-runs-same ep (Plain (plain.Hello x)) r h = refl
-runs-same ep (Plain (plain.Connect c)) r h = refl
-runs-same ep (Plain plain.Disconnect) r h = refl
-runs-same ep (Plain plain.Reset) r h = refl
-runs-same ep (Plain (plain.InterfaceInfo x)) r h = refl
-runs-same ep (Plain (plain.EpInfo x)) r h = refl
-runs-same ep (Plain (plain.SetConfiguration c)) r h = refl
-runs-same ep (Plain plain.GetConfiguration) r h = refl
-runs-same ep (Plain (plain.ConfigurationStatus s c)) r h = refl
-runs-same ep (Plain (plain.SetAlt i a)) r h = refl
-runs-same ep (Plain (plain.GetAlt i)) r h = refl
-runs-same ep (Plain (plain.AltStatus s i a)) r h = refl
 runs-same ep (Plain (plain.StartIso e n k)) r h = ap (λ (b : Bool). cond b true r) h
 runs-same ep (Plain (plain.StopIso e)) r h = ap (λ (b : Bool). cond b false r) h
-runs-same ep (Plain (plain.IsoStatus s e)) r h = refl
 runs-same ep (Plain (plain.StartInterrupt e)) r h = ap (λ (b : Bool). cond b true r) h
 runs-same ep (Plain (plain.StopInterrupt e)) r h = ap (λ (b : Bool). cond b false r) h
-runs-same ep (Plain (plain.InterruptStatus s e)) r h = refl
-runs-same ep (Plain plain.Cancel) r h = refl
-runs-same ep (Plain plain.DisconnectAck) r h = refl
-runs-same ep (Carrying d) r h = refl
+runs-same ep _ r h = refl

@@ -9,7 +9,7 @@ use Rattle.redir_host.specs.declared.running.StreamKind.{StreamKind}
 use Rattle.redir_host.specs.state.Sound.{Each}
 use Rattle.gate_history.specs.state.Ids.{times}
 use Rattle.gate_history.proofs.lemmas.state.Calls.{times-append}
-use Rattle.direct_proof.specs.Tagged.{Tagged, Greeted, Plugged, ToldTable, ToldFaces, Answered, Packed, Stated, Bye}
+use Rattle.direct_proof.specs.Tagged.{Tagged, Stated}
 use Rattle.direct_proof.specs.Stale.{asks, ends}
 use Rattle.direct_proof.specs.Running.{called_endpoint, started_kind}
 use Rattle.direct_proof.specs.Calls.{call_id, status_id, calls_on, statuses_on}
@@ -18,25 +18,7 @@ use Rattle.direct_proof.proofs.streams.fills.FillLists.{weight}
 -- a start or stop says nothing of capabilities
 pub call-stays : (g : RedirState) (q : ℕ × RedirPacket) (x : ℕ) → called_endpoint q.1 ≡ Some x → advanced g q.1 ≡ g
 call-stays g (id, Plain (plain.Hello y)) x h = absurd (cc)
-call-stays g (id, Plain (plain.Connect c)) x h = refl
-call-stays g (id, Plain plain.Disconnect) x h = refl
-call-stays g (id, Plain plain.Reset) x h = refl
-call-stays g (id, Plain (plain.InterfaceInfo y)) x h = refl
-call-stays g (id, Plain (plain.EpInfo y)) x h = refl
-call-stays g (id, Plain (plain.SetConfiguration c)) x h = refl
-call-stays g (id, Plain plain.GetConfiguration) x h = refl
-call-stays g (id, Plain (plain.ConfigurationStatus s c)) x h = refl
-call-stays g (id, Plain (plain.SetAlt i a)) x h = refl
-call-stays g (id, Plain (plain.GetAlt i)) x h = refl
-call-stays g (id, Plain (plain.AltStatus s i a)) x h = refl
-call-stays g (id, Plain (plain.StartIso e n k)) x h = refl
-call-stays g (id, Plain (plain.StopIso e)) x h = refl
-call-stays g (id, Plain (plain.IsoStatus s e)) x h = refl
-call-stays g (id, Plain (plain.StartInterrupt e)) x h = refl
-call-stays g (id, Plain (plain.StopInterrupt e)) x h = refl
-call-stays g (id, Plain (plain.InterruptStatus s e)) x h = refl
-call-stays g (id, Plain plain.Cancel) x h = refl
-call-stays g (id, Plain plain.DisconnectAck) x h = refl
+call-stays g (id, Plain _) x h = refl
 call-stays g (id, Carrying d) x h = refl
 
 -- ---- where a fence's stop isn't on the wire
@@ -46,37 +28,14 @@ no-weight true h = absurd (omega (arith, h))
 no-weight false h = refl
 
 pub asks-over : (f : ℕ) (q : ℕ × RedirPacket) → times f (call_id q) ≡ 0 → asks (Some f) q ≡ asks None q
-asks-over f (id, Plain (plain.Hello x)) h = refl
-asks-over f (id, Plain (plain.Connect c)) h = refl
-asks-over f (id, Plain plain.Disconnect) h = refl
-asks-over f (id, Plain plain.Reset) h = refl
-asks-over f (id, Plain (plain.InterfaceInfo x)) h = refl
-asks-over f (id, Plain (plain.EpInfo x)) h = refl
-asks-over f (id, Plain (plain.SetConfiguration c)) h = refl
-asks-over f (id, Plain plain.GetConfiguration) h = refl
-asks-over f (id, Plain (plain.ConfigurationStatus s c)) h = refl
-asks-over f (id, Plain (plain.SetAlt i a)) h = refl
-asks-over f (id, Plain (plain.GetAlt i)) h = refl
-asks-over f (id, Plain (plain.AltStatus s i a)) h = refl
-asks-over f (id, Plain (plain.StartIso e n k)) h = refl
 asks-over f (id, Plain (plain.StopIso e)) h = no-weight (f == id) h
-asks-over f (id, Plain (plain.IsoStatus s e)) h = refl
-asks-over f (id, Plain (plain.StartInterrupt e)) h = refl
 asks-over f (id, Plain (plain.StopInterrupt e)) h = no-weight (f == id) h
-asks-over f (id, Plain (plain.InterruptStatus s e)) h = refl
-asks-over f (id, Plain plain.Cancel) h = refl
-asks-over f (id, Plain plain.DisconnectAck) h = refl
+asks-over f (id, Plain _) h = refl
 asks-over f (id, Carrying d) h = refl
 
 pub ends-over : (f : ℕ) (b : Tagged) → times f (status_id b) ≡ 0 → ends (Some f) b ≡ ends None b
-ends-over f Greeted h = refl
-ends-over f (Plugged c) h = refl
-ends-over f (ToldTable t) h = refl
-ends-over f (ToldFaces i) h = refl
-ends-over f (Answered c) h = refl
-ends-over f (Packed k ep p) h = refl
 ends-over f (Stated k id ep status) h = no-weight (f == id) h
-ends-over f Bye h = refl
+ends-over f _ h = refl
 
 pub all-asks-over : (f : ℕ) (ps : List (ℕ × RedirPacket)) → times f (calls_on ps) ≡ 0 → Each (λ p. asks (Some f) p ≡ asks None p) ps
 all-asks-over f [] h = tt
@@ -92,24 +51,6 @@ endpoint_in (Some s) = Some s.1
 
 -- what is started is called
 pub started-called : (p : RedirPacket) (s : StreamKind × ℕ) → started_kind p ≡ Some s → called_endpoint p ≡ Some s.1
-started-called (Plain (plain.Hello x)) z h = absurd (cc)
-started-called (Plain (plain.Connect c)) z h = absurd (cc)
-started-called (Plain plain.Disconnect) z h = absurd (cc)
-started-called (Plain plain.Reset) z h = absurd (cc)
-started-called (Plain (plain.InterfaceInfo x)) z h = absurd (cc)
-started-called (Plain (plain.EpInfo x)) z h = absurd (cc)
-started-called (Plain (plain.SetConfiguration c)) z h = absurd (cc)
-started-called (Plain plain.GetConfiguration) z h = absurd (cc)
-started-called (Plain (plain.ConfigurationStatus s c)) z h = absurd (cc)
-started-called (Plain (plain.SetAlt i a)) z h = absurd (cc)
-started-called (Plain (plain.GetAlt i)) z h = absurd (cc)
-started-called (Plain (plain.AltStatus s i a)) z h = absurd (cc)
 started-called (Plain (plain.StartIso e n k)) z h = ap (λ (o : Option (StreamKind × ℕ)). endpoint_in o) h
-started-called (Plain (plain.StopIso e)) z h = absurd (cc)
-started-called (Plain (plain.IsoStatus s e)) z h = absurd (cc)
 started-called (Plain (plain.StartInterrupt e)) z h = ap (λ (o : Option (StreamKind × ℕ)). endpoint_in o) h
-started-called (Plain (plain.StopInterrupt e)) z h = absurd (cc)
-started-called (Plain (plain.InterruptStatus s e)) z h = absurd (cc)
-started-called (Plain plain.Cancel) z h = absurd (cc)
-started-called (Plain plain.DisconnectAck) z h = absurd (cc)
-started-called (Carrying d) z h = absurd (cc)
+started-called _ z h = absurd (cc)

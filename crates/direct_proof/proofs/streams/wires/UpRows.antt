@@ -12,7 +12,7 @@ use Rattle.redir_host.specs.declared.running.StreamKind.{StreamKind}
 use Rattle.redir_host.specs.state.Sound.{Each}
 use Rattle.gate_history.specs.state.Ups.{Up, stream_at, stream_of, hold}
 use Rattle.gate_history.specs.client.Verdict.{is_iso}
-use Rattle.direct_proof.specs.Tagged.{Tagged, Greeted, Plugged, ToldTable, ToldFaces, Answered, Packed, Stated, Bye, is_kind}
+use Rattle.direct_proof.specs.Tagged.{Tagged, Answered, Packed, Stated, is_kind}
 use Rattle.direct_proof.specs.Kinds.{IsIn, OfKind, TaggedOfKind, StartOfKind, UpsFit, UpFits}
 use Rattle.direct_proof.specs.Session.{down_in}
 use Rattle.direct_proof.specs.Running.{started_kind}
@@ -76,14 +76,10 @@ tagged-rows a b h [] t = tt
 tagged-rows a b h (x ∷ bs) t = (go x t.0, tagged-rows a b h bs t.1)
   where
     go : (x : Tagged) → TaggedOfKind a x → TaggedOfKind b x
-    go Greeted f = tt
-    go (Plugged c) f = tt
-    go (ToldTable z) f = tt
-    go (ToldFaces i) f = tt
     go (Answered c) f = f
     go (Packed k ep p) f = (f.0, f.1, f.2, kind-by-row (stream_of b ep) (stream_of a ep) k (h ep) f.3)
     go (Stated k id ep status) f = f
-    go Bye f = tt
+    go _ f = tt
 
 pub kinds-rows : (a b : List (Option Up)) → SameRows a b → (rs : List Running) → Each (λ (s : Running). OfKind (stream_of a s.ep) s.kind) rs → Each (λ (s : Running). OfKind (stream_of b s.ep) s.kind) rs
 kinds-rows a b h [] t = tt

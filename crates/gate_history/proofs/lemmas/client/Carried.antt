@@ -103,14 +103,8 @@ by_endpoint-carried wide r row is way =
 -- ---- endpoint 0
 
 by_route-carried : (wide : Bool) (rt : Route) (t : Request) → IsSent wide Control t.transfer → IsCarried wide (by_route rt) t
-by_route-carried wide route.Local t sent = tt
-by_route-carried wide (route.SetConfig configuration) t sent = tt
-by_route-carried wide route.GetConfig t sent = tt
-by_route-carried wide (route.SetAlt interface alt) t sent = tt
-by_route-carried wide (route.GetAlt interface) t sent = tt
-by_route-carried wide route.Reset t sent = tt
 by_route-carried wide route.Plain t sent = sent
-by_route-carried wide route.Bad t sent = tt
+by_route-carried wide _ t sent = tt
 
 no-length : (n : ℕ) → (not (n == 0) && true) ≡ false → n ≡ 0
 no-length n e = elim (eqb_tells n 0) [ inl h ↦ h.1 | inr h ↦ absurd (true≢false (rw h.0 at e)) ]

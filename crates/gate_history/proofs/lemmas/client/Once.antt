@@ -10,7 +10,7 @@ use Rattle.usbip_urb.specs.declared.client.ClientPacket.{ClientPacket}
 use Rattle.usbip_urb.specs.declared.client.ClientPacket.TheVariants.{Urb}
 use Rattle.gate_history.specs.step.Items.{Item}
 use Rattle.gate_history.specs.write.Errno.{econnreset}
-use Rattle.gate_history.specs.client.Verdict.{Verdict, Now, Wire, Routed, IsoOut, Stream, goes_by_id, is_wire}
+use Rattle.gate_history.specs.client.Verdict.{Verdict, Wire, Routed, goes_by_id, is_wire}
 use Rattle.gate_history.specs.host.Fillings.{Transferred, Isochronous}
 use Rattle.gate_history.specs.step.Marks.{Submission, Effect, Replies, Imports, Opens, Waits, Unlinks, Mark}
 use Rattle.gate_history.specs.state.Sides.{or_else}
@@ -269,11 +269,9 @@ unasked : (e : Effect) (s : Submission) → is_counted (ends e s) ≡ true → a
 unasked (Unlinks by target) s h = of s.verdict (s.request.number == target) h
   where
     of : (v : Verdict) (b : Bool) → is_counted (cond (is_waiting v && b) (Some (ByUnlink by)) None) ≡ true → cond (goes_by_id v && b) (Some by) None ≡ None
-    of (Now status) b h = refl
     of (Wire pipe) b h = absurd (false≢true h)
     of (Routed r) b h = absurd (false≢true h)
-    of (IsoOut row) b h = refl
-    of (Stream row) b h = refl
+    of _ b h = refl
 unasked _ s h = refl
 
 due-is : (ms : List Mark) (m : Mark) (s : Submission) → Present ms s → is_counted (ends m.what s) ≡ true → due s (unlinker ms s) (ends m.what s) ≡ answer_of (m ∷ ms) s

@@ -64,20 +64,14 @@ sends-if false v w h k = k
 
 sends-route : (r : Route) → HasRoute (by_route r)
 sends-route route.Local = tt
-sends-route (route.SetConfig configuration) = omega arith
-sends-route route.GetConfig = omega arith
-sends-route (route.SetAlt interface alt) = omega arith
-sends-route (route.GetAlt interface) = omega arith
-sends-route route.Reset = omega arith
 sends-route route.Plain = tt
 sends-route route.Bad = tt
+sends-route _ = omega arith
 
 sends-kind : (r : Request) (row : EpRow) (k : EpKind) → HasRoute (by_kind r row k)
-sends-kind r row kind.Control = tt
 sends-kind r row kind.Iso = sends-if r.is_in _ _ tt tt
-sends-kind r row kind.Bulk = tt
 sends-kind r row kind.Interrupt = sends-if r.is_in _ _ tt tt
-sends-kind r row kind.Invalid = tt
+sends-kind r row _ = tt
 
 -- else it is answered at once
 unless : (b : Bool) (status : ℤ) (w : Verdict) → HasRoute w → HasRoute (cond b (Now status) w)
@@ -105,26 +99,18 @@ verdict-sends lost n changing table wide r = unless lost eshutdown _ (unless (le
 
 kept-room : (o : Option Up) (v : Verdict) → is_none (at_once (by_stream o v)) ≡ true → is_none (at_once v) ≡ true
 kept-room (Some up) (Stream row) h = refl
-kept-room (Some up) (Now status) h = h
-kept-room (Some up) (Wire pipe) h = h
-kept-room (Some up) (Routed r) h = h
-kept-room (Some up) (IsoOut row) h = h
+kept-room (Some up) _ h = h
 kept-room None v h = h
 
 kept-sends : (o : Option Up) (v : Verdict) → HasRoute v → HasRoute (by_stream o v)
 kept-sends (Some up) (Stream row) h = tt
-kept-sends (Some up) (Now status) h = h
-kept-sends (Some up) (Wire pipe) h = h
-kept-sends (Some up) (Routed r) h = h
-kept-sends (Some up) (IsoOut row) h = h
+kept-sends (Some up) _ h = h
 kept-sends None v h = h
 
 none-at-once : (v : Verdict) → is_none (at_once v) ≡ true → at_once v ≡ None
 none-at-once (Now status) h = absurd (false≢true h)
-none-at-once (Wire pipe) h = refl
-none-at-once (Routed r) h = refl
 none-at-once (IsoOut row) h = absurd (false≢true h)
-none-at-once (Stream row) h = refl
+none-at-once _ h = refl
 
 -- ---- of an effect
 

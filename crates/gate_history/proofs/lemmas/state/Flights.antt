@@ -185,18 +185,7 @@ record IsAlone (e : Effect) : Type 0 where
 
 alone : (e : Effect) → imports e ≡ true → IsAlone e
 alone (Imports reply) h = record { stays = refl; keeps = refl }
-alone Idle h = absurd (false≢true h)
-alone (Replies reply) h = absurd (false≢true h)
-alone (Opens s) h = absurd (false≢true h)
-alone (Waits s fill) h = absurd (false≢true h)
-alone (Unlinks by target) h = absurd (false≢true h)
-alone (Agrees caps) h = absurd (false≢true h)
-alone (Answers id outcome) h = absurd (false≢true h)
-alone (Arrives ep fill) h = absurd (false≢true h)
-alone (StreamTold id ep status) h = absurd (false≢true h)
-alone (Disconnects id) h = absurd (false≢true h)
-alone (Ends side) h = absurd (false≢true h)
-alone (Refuses r) h = absurd (false≢true h)
+alone _ h = absurd (false≢true h)
 
 abbrev AtMostOne : List Submission → Type 0
 AtMostOne [] = Unit {0}
@@ -222,13 +211,7 @@ filter-same-twice ss q =
 
 few-route : (r : Route) → length (route_packets r) ≤ 2
 few-route (route.SetConfig configuration) = omega arith
-few-route route.GetConfig = omega arith
-few-route (route.SetAlt interface alt) = omega arith
-few-route (route.GetAlt interface) = omega arith
-few-route route.Reset = omega arith
-few-route route.Local = omega arith
-few-route route.Plain = omega arith
-few-route route.Bad = omega arith
+few-route _ = omega arith
 
 record Adds (st : State) (e : Effect) : Type 0 where
   count : ℕ
@@ -282,11 +265,8 @@ starts-more st e s row one by_id are = record {
 }
 
 waits-more : (st : State) (s : Submission) (fill : Fill) (v : Verdict) → is_waiting v ≡ true → Adds st (Waits (record s { verdict = v }) fill)
-waits-more st s fill (Now status) h = absurd (false≢true h)
-waits-more st s fill (Wire pipe) h = absurd (false≢true h)
-waits-more st s fill (Routed r) h = absurd (false≢true h)
-waits-more st s fill (IsoOut row) h = absurd (false≢true h)
 waits-more st s fill (Stream row) h = starts-more st (Waits (record s { verdict = Stream row }) fill) (record s { verdict = Stream row }) row refl refl refl
+waits-more st s fill _ h = absurd (false≢true h)
 
 opens-more : (st : State) (s : Submission) (v : Verdict) → length st.streams ≡ 32 → HasRoute v →
     (is_none (ends (Opens (record s { verdict = v })) (record s { verdict = v })) ≡ true → goes_by_id v ≡ true → s.id ≡ last_of 0 (drawn_for st s.request v)) → Adds st (Opens (record s { verdict = v }))
@@ -588,10 +568,7 @@ few-told st place h p = of-response OpensFew few-aside st place h (response_of p
 
 few-accepted : (st : State) (s : Submission) (v : Verdict) → length s.request.descs ≤ MAX_PACKETS → OpensFew (accepted_as st s v)
 few-accepted st s (Now status) few = (few, tt)
-few-accepted st s (Wire pipe) few = (few, tt)
-few-accepted st s (Routed r) few = (few, tt)
-few-accepted st s (IsoOut row) few = (few, tt)
-few-accepted st s (Stream row) few = (few, tt)
+few-accepted st s _ few = (few, tt)
 
 few-submit : (st : State) (r : Request) (v : Verdict) → length r.descs ≤ MAX_PACKETS → OpensFew (accepts st r v)
 few-submit st r v few =

@@ -22,7 +22,7 @@ use Rattle.usbip_urb.specs.declared.client.ClientPacket.{ClientPacket}
 use Rattle.usbip_urb.specs.declared.client.ClientPacket.TheVariants.{Op, Urb}
 use Rattle.gate_history.specs.step.Items.{Item, Asked, ClientWrong, ClientLeft, Told, HostWrong, HostLeft}
 use Rattle.gate_history.specs.client.Requests.{Request, request_of}
-use Rattle.gate_history.specs.client.Verdict.{Verdict, Now, Wire, Routed, IsoOut, Stream}
+use Rattle.gate_history.specs.client.Verdict.{Verdict, Now}
 use Rattle.gate_history.specs.step.Marks.{Submission, Effect, Mark}
 use Rattle.gate_history.specs.state.Sides.{is_client, agrees, refuses_client, ends_client, closes_host, client_over, host_over, agreed}
 use Rattle.gate_history.specs.state.Ups.{Up, stream_at, stream_of}
@@ -53,10 +53,7 @@ client-op st place (op.RepImport status device) = record { closes = refl; agrees
 
 client-accepted : (st : State) (s : Submission) (v : Verdict) → SparesHost (accepted_as st s v)
 client-accepted st s (Now status) = record { closes = refl; agrees-none = refl }
-client-accepted st s (Wire pipe) = record { closes = refl; agrees-none = refl }
-client-accepted st s (Routed r) = record { closes = refl; agrees-none = refl }
-client-accepted st s (IsoOut row) = record { closes = refl; agrees-none = refl }
-client-accepted st s (Stream row) = record { closes = refl; agrees-none = refl }
+client-accepted st s _ = record { closes = refl; agrees-none = refl }
 
 client-submit : (st : State) (r : Request) (v : Verdict) → SparesHost (accepts st r v)
 client-submit st r v =

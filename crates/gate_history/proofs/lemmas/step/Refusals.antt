@@ -23,9 +23,9 @@ use Rattle.redir_data.specs.declared.packet.RedirPacket.{RedirPacket}
 use Rattle.redir_data.specs.declared.packet.RedirPacket.TheVariants.{Plain, Carrying}
 use Rattle.gate_history.specs.declared.note.Note.{Note}
 use Rattle.gate_history.specs.declared.note.Note.TheVariants as note
-use Rattle.gate_history.specs.step.Items.{Item, Asked, ClientWrong, ClientLeft, Told, HostWrong, HostLeft}
-use Rattle.gate_history.specs.client.Verdict.{Verdict, Now, Wire, Routed, IsoOut, Stream}
-use Rattle.gate_history.specs.step.Marks.{Submission, Effect, Idle, Replies, Imports, Opens, Waits, Unlinks, Agrees, Answers, Arrives, StreamTold, Disconnects, Ends, Refuses, Mark}
+use Rattle.gate_history.specs.step.Items.{Item, Asked, Told}
+use Rattle.gate_history.specs.client.Verdict.{Verdict, Now}
+use Rattle.gate_history.specs.step.Marks.{Submission, Effect, Idle, Mark}
 use Rattle.gate_history.specs.state.Sides.{refusal, refused_at, leaves, is_loss}
 use Rattle.gate_history.specs.client.Submits.{Pending, has_id, ends}
 use Rattle.gate_history.specs.state.Ups.{stream_of}
@@ -52,10 +52,7 @@ imports-all st (Some c) = refl
 
 accepts-all : (st : State) (s : Submission) (v : Verdict) → refused_at (accepted_as st s v) ≡ None
 accepts-all st s (Now status) = refl
-accepts-all st s (Wire pipe) = refl
-accepts-all st s (Routed r) = refl
-accepts-all st s (IsoOut row) = refl
-accepts-all st s (Stream row) = refl
+accepts-all st s _ = refl
 
 asked-so : (st : State) (place : ℕ) (p : ClientPacket) → refused_at (meaning st (Asked place p)) ≡ client_rule st place p
 asked-so st place (Op (op.ReqDevlist status)) = chosen st.imported _ _ (Some (refusal Client place AlreadyImported)) None refl refl
@@ -104,11 +101,8 @@ told-so st place h (Carrying d) = by-response st place h (response_of (Carrying 
 
 pub refused-so : (st : State) (x : Item) → refused_at (meaning st x) ≡ cause st x
 refused-so st (Asked place p) = asked-so st place p
-refused-so st (ClientWrong place reason) = refl
-refused-so st ClientLeft = refl
 refused-so st (Told place h p) = told-so st place h p
-refused-so st (HostWrong place reason) = refl
-refused-so st HostLeft = refl
+refused-so st _ = refl
 
 -- ---- among the notes
 
@@ -127,18 +121,7 @@ own-refusal (Some r) = refl
 -- notes that are told first are no refusals
 told-first : (e : Effect) → filter is_refusal (import_notes e ++ submit_notes e ++ unlink_notes e ++ arrival_notes e) ≡ []
 told-first Idle = refl
-told-first (Replies reply) = refl
-told-first (Imports reply) = refl
-told-first (Opens s) = refl
-told-first (Waits s fill) = refl
-told-first (Unlinks by target) = refl
-told-first (Agrees caps) = refl
-told-first (Answers id outcome) = refl
-told-first (Arrives ep fill) = refl
-told-first (StreamTold id ep status) = refl
-told-first (Disconnects id) = refl
-told-first (Ends side) = refl
-told-first (Refuses r) = refl
+told-first _ = refl
 
 joined : (xs ys : List Note) → filter is_refusal xs ≡ [] → filter is_refusal (xs ++ ys) ≡ filter is_refusal ys
 joined xs ys none = filter-append is_refusal xs ys ∙ ap (λ (ns : List Note). ns ++ filter is_refusal ys) none

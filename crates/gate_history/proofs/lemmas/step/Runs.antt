@@ -18,9 +18,9 @@ use Rattle.usb_base.specs.declared.transfer.StreamPacket.{StreamPacket}
 use Rattle.usb_base.specs.Endpoint.{is_in_endpoint}
 use Rattle.usbip_urb.specs.declared.client.ClientPacket.{ClientPacket}
 use Rattle.usbip_urb.specs.declared.client.ClientPacket.TheVariants.{Op, Urb}
-use Rattle.gate_history.specs.step.Items.{Item, Asked, ClientWrong, ClientLeft, Told, HostWrong, HostLeft}
+use Rattle.gate_history.specs.step.Items.{Item, Asked, Told}
 use Rattle.gate_history.specs.client.Requests.{Request, request_of}
-use Rattle.gate_history.specs.client.Verdict.{Verdict, Now, Wire, Routed, IsoOut, Stream}
+use Rattle.gate_history.specs.client.Verdict.{Verdict, Now}
 use Rattle.gate_history.specs.step.Marks.{Submission, Effect, Mark}
 use Rattle.gate_history.specs.state.Ups.{Up, stream_at, stream_of}
 use Rattle.gate_history.specs.state.State.{State, state_of, has_number}
@@ -49,10 +49,7 @@ placed-op st place (op.RepImport status device) = tt
 
 placed-accepted : (st : State) (s : Submission) (v : Verdict) → s.place ≡ st.items → IsPlaced st.items (accepted_as st s v)
 placed-accepted st s (Now status) h = (h, tt)
-placed-accepted st s (Wire pipe) h = (h, tt)
-placed-accepted st s (Routed r) h = (h, tt)
-placed-accepted st s (IsoOut row) h = (h, tt)
-placed-accepted st s (Stream row) h = (h, tt)
+placed-accepted st s _ h = (h, tt)
 
 placed-submit : (st : State) (r : Request) (v : Verdict) → IsPlaced st.items (accepts st r v)
 placed-submit st r v =
@@ -99,11 +96,8 @@ placed-told st place h p = placed-response st.items st place h (response_of p)
 
 pub placed-meaning : (st : State) (x : Item) → IsPlaced st.items (meaning st x)
 placed-meaning st (Asked place packet) = placed-asked st place packet
-placed-meaning st (ClientWrong place reason) = tt
-placed-meaning st ClientLeft = tt
 placed-meaning st (Told place header packet) = placed-told st place header packet
-placed-meaning st (HostWrong place reason) = tt
-placed-meaning st HostLeft = tt
+placed-meaning st _ = tt
 
 -- ---- one item
 

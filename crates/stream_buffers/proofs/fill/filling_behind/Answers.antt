@@ -1,35 +1,23 @@
-use Rattle.std.proofs.Common.{◌≡◌, ℕ, ◌+◌, ◌<◌, ◌||◌, nat_le, true, false, length, refl, sym, ap, ◌∙◌, take, drop, length-drop, arith}
-use Rattle.stream_buffers.specs.Interrupt.{ends, fills, bodies}
+use Rattle.std.proofs.Common.{ℕ, ◌+◌, true, false, length, refl, sym, ap, ◌∙◌, take, drop, length-drop, arith}
+use Rattle.stream_buffers.specs.Interrupt.{fills, bodies}
 use Rattle.stream_buffers.proofs.Found.{least_found, none_more}
-use Rattle.stream_buffers.proofs.Fillings.{there, fills_here, go_on, seen_more}
+use Rattle.stream_buffers.proofs.Fillings.{looked, go_on, seen_more}
 use Rattle.stream_buffers.proofs.fill.filling_behind.Goals as goal
 
 pub returns-then-fills-clause-last : goal.returns-then-fills-clause-last
 returns-then-fills-clause-last c =
     let a = c.args in
     let items = drop a.from a.packets.now.items in
-    let k = c.loop-last.last in
-    let p = c.packet_behind-packet.result.now in
-    let within : k < length items = omega (arith, c.loop-last-test.true, c.len.ensures, length-drop a.from a.packets.now.items) in
-    let read = there items k p within c.packet_behind-packet.ensures in
-    let seen = c.loop-last.invariant.is_seen.bytes ∙ ap (λ (n : ℕ). length (bodies (take n items))) c.loop-last.invariant.at in
-    let came : c.from.result + length c.as_slice.result.now ≡ c.loop-last.seen.bytes + length p.body = cc in
-    let passes : (ends a.max_packet p || nat_le a.wanted (c.loop-last.seen.bytes + length p.body)) ≡ true = ap (λ (n : ℕ). ends a.max_packet p || nat_le a.wanted n) (sym came) ∙ sym c.fills.ensures ∙ c.if-fills.true in
-    sym (least_found (fills a.max_packet a.wanted items) k (length items) c.loop-last.invariant.none (fills_here a.max_packet a.wanted items k c.loop-last.seen.bytes p within read seen ∙ passes) within)
+    let look = looked a.max_packet a.wanted items c.loop-last.last c.loop-last.seen.bytes (c.from.result + length c.as_slice.result.now) c.packet_behind-packet.result.now true (omega (arith, c.loop-last-test.true, c.len.ensures, length-drop a.from a.packets.now.items)) c.packet_behind-packet.ensures (c.loop-last.invariant.is_seen.bytes ∙ ap (λ (n : ℕ). length (bodies (take n items))) c.loop-last.invariant.at) (cc) (sym c.fills.ensures ∙ c.if-fills.true) in
+    sym (least_found (fills a.max_packet a.wanted items) c.loop-last.last (length items) c.loop-last.invariant.none look.fills_is look.within)
 
 pub loop-last-preserved : goal.loop-last-preserved
 loop-last-preserved c =
     let a = c.args in
     let items = drop a.from a.packets.now.items in
-    let k = c.loop-last.last in
-    let p = c.packet_behind-packet.result.now in
-    let within : k < length items = omega (arith, c.loop-last-test.true, c.len.ensures, length-drop a.from a.packets.now.items) in
-    let read = there items k p within c.packet_behind-packet.ensures in
-    let seen = c.loop-last.invariant.is_seen.bytes ∙ ap (λ (n : ℕ). length (bodies (take n items))) c.loop-last.invariant.at in
-    let came : c.from.result + length c.as_slice.result.now ≡ c.loop-last.seen.bytes + length p.body = cc in
-    let fails : (ends a.max_packet p || nat_le a.wanted (c.loop-last.seen.bytes + length p.body)) ≡ false = ap (λ (n : ℕ). ends a.max_packet p || nat_le a.wanted n) (sym came) ∙ sym c.fills.ensures ∙ c.if-fills.false in
+    let look = looked a.max_packet a.wanted items c.loop-last.last c.loop-last.seen.bytes (c.from.result + length c.as_slice.result.now) c.packet_behind-packet.result.now false (omega (arith, c.loop-last-test.true, c.len.ensures, length-drop a.from a.packets.now.items)) c.packet_behind-packet.ensures (c.loop-last.invariant.is_seen.bytes ∙ ap (λ (n : ℕ). length (bodies (take n items))) c.loop-last.invariant.at) (cc) (sym c.fills.ensures ∙ c.if-fills.false) in
     record {
-      is_seen = seen_more a.max_packet items c.loop-last.seen k (c.from.result + length c.as_slice.result.now) p c.loop-last.invariant.is_seen c.loop-last.invariant.at within read came (go_on a.max_packet a.wanted (c.loop-last.seen.bytes + length p.body) p fails);
+      is_seen = seen_more a.max_packet items c.loop-last.seen c.loop-last.last _ c.packet_behind-packet.result.now c.loop-last.invariant.is_seen c.loop-last.invariant.at look.within look.read look.came (go_on a.max_packet a.wanted _ c.packet_behind-packet.result.now look.test_is);
       at = refl;
-      none = none_more (fills a.max_packet a.wanted items) k c.loop-last.invariant.none (fills_here a.max_packet a.wanted items k c.loop-last.seen.bytes p within read seen ∙ fails);
+      none = none_more (fills a.max_packet a.wanted items) c.loop-last.last c.loop-last.invariant.none look.fills_is;
     }

@@ -14,4 +14,4 @@ loop-place-preserved c =
     c.in_ok-push.ensures.ok
     ∙ ap (λ (l : List IsoDesc). l ++ c.filled_by.result ∷ []) c.loop-place.invariant
     ∙ ap (λ (d : IsoDesc). all_filled (take i ds) ps ++ d ∷ []) c.filled_by.ensures
-    ∙ sym (filled_more ds c.as_slice-desc-items.result.now ps i c.packet_behind.result.now c.as_slice-desc-items.ensures in_ds in_ps c.packet_behind.ensures)
+    ∙ sym (filled_more ds c.as_slice-desc-items.result.now ps i c.packet_behind.result.now (record { same = c.as_slice-desc-items.ensures; in_ds = in_ds; in_ps = in_ps; is = c.packet_behind.ensures }))

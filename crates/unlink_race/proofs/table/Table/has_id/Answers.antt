@@ -7,4 +7,4 @@ use Rattle.unlink_race.proofs.table.Table.has_id.Goals as goal
 pub returns : goal.returns
 returns c =
     let index = indexed c.self.view_is c.self.invariant.1 in
-    c.is_some.ensures ∙ ap is_some (c.flying.ensures _ c.args.self.now index (standing c.self.invariant.0 c.self.view_is)) ∙ zip_any (has_id c.args.id) _ c.args.self.now index.long
+    c.is_some.ensures ∙ ap is_some (c.first.ensures _ c.args.self.now index (standing c.self.invariant.0 c.self.view_is)) ∙ zip_any (has_id c.args.id) _ c.args.self.now index.long
