@@ -1,5 +1,5 @@
 -- What is known of the doors, and what they tell.
-use Rattle.std.specs.Prelude.{◌≡◌, ◌⊎◌, ◌≤◌, ◌+◌, ◌-◌, ◌^◌, ℕ, min, Bool, true, false, if◌then◌else◌, List, [], ◌∷◌, ◌++◌, Option, Some, IfSome}
+use Rattle.std.specs.Prelude.{◌≡◌, ◌⊎◌, ◌≤◌, ◌+◌, ◌-◌, ◌^◌, ℕ, min, ◌||◌, Bool, true, false, if◌then◌else◌, List, [], ◌∷◌, ◌++◌, Option, Some, IfSome}
 use Rattle.usb_base.specs.declared.side.Side.{Side}
 use Rattle.usb_base.specs.declared.side.Side.TheVariants.{Client, Host}
 use Rattle.gate_outside.specs.declared.turn.Turn.{Turn}
@@ -9,7 +9,7 @@ use Rattle.session_tape.specs.Tapes.{Counts, OneFault}
 use Rattle.bridge_run.specs.declared.serve_end.ServeEnd.{ServeEnd}
 use Rattle.bridge_run.specs.declared.serve_end.ServeEnd.TheVariants.{Ended, LinkFault, WriteFault, Idle, Spent, Memory}
 use Rattle.bridge_run.specs.Events.{Event}
-use Rattle.bridge_run.specs.Recorded.{event_line}
+use Rattle.bridge_run.specs.Recorded.{has_any, event_line}
 use Rattle.bridge_run.specs.Course.{Course}
 
 pub record Outside : Type 0 where
@@ -153,15 +153,16 @@ pub record IsRecordedInPart (w : Outside) (out : Written) (before behind : Cours
   pub to_host : w.host.written ≡ Some before.to_host
   pub told : IsTold out before.told
 
--- Memory ran out in the event that the call takes, by when it had sent so much to each side. The lines that waited are
--- there, and that of the event, without those of its refusals. Of what it had sent a front is written to each side whose
--- link is up, and none of its refusals is told.
+-- Memory may have run out in the event that the call takes, by when it had sent some bytes, so many to each side. The
+-- lines that waited are there, and that of the event, without those of its refusals. Of what it had sent a front is
+-- written to each side whose link is up, and none of its refusals is told.
 pub record IsRecordedUntold (ran_out : List Event → Event → List ℕ → List ℕ → Type 0) (w : Outside) (out : Written) (before behind : Course) (held : List ℕ) : Type 0 where
   pub event : Event
   pub takes : behind.events ≡ event ∷ before.events
   pub sent_client : List ℕ
   pub sent_host : List ℕ
   pub stopped : ran_out before.events event sent_client sent_host
+  pub some : (has_any sent_client || has_any sent_host) ≡ true
   pub held-is : held ≡ before.recorded ++ (before.waiting ++ event_line event)
   pub lost : List ℕ
   pub all-is : behind.recorded ≡ held ++ lost

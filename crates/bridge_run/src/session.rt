@@ -6,9 +6,8 @@ ghost use Rattle.bridge_run.specs.Course.{Course, Next};
 ghost use Rattle.bridge_run.specs.Course.{AtDoor, AtClient, Takes};
 ghost use Rattle.bridge_run.specs.Calls.{Goes, put, quiet};
 ghost use Rattle.bridge_run.specs.Outside.{outside, gathering, written, faults, Tells, Cut};
-ghost use Rattle.bridge_run.specs.RanOut.{RanOutWithin};
 ghost use Rattle.bridge_run.specs.Recorded.{sends_any, is_last};
-ghost use Rattle.bridge_run.specs.Serves.{Leaves};
+ghost use Rattle.bridge_run.specs.Serves.{MayRunOut, Leaves};
 ghost use Rattle.bridge_run.specs.inner.Keeping.{Agrees, Wears, IsLive, rounds_of, up_of};
 ghost use Rattle.bridge_run.specs.inner.Follows.{Prepared, Follows, HasFaults, IsCutEnd, Puts, setting, Runs, polls, behind};
 ghost use Rattle.bridge_run.specs.Outside.{HasCause, HasReason};
@@ -92,7 +91,7 @@ impl<C: Served + Drop> Session<C> {
         requires { Agrees self.old.kept (outside (D.link doors.old) (D.door doors.old)) }
         ensures course { (first : C.First) (begun told : Option (List ℕ)) (c : Course) → IsPart (C.runs_out first) (C.sends first) c.events (event_of event.entry) self.old.sent.to_client self.old.sent.to_host → AreUp self.old.kept c
             → Tells (outside (D.link doors.old) (D.door doors.old)) (gathering begun told (T.contents tape.old) self.old.waiting) c
-            → Cut (RanOutWithin (C.runs_out first) (C.sends first)) (outside (D.link doors.new) (D.door doors.new)) (gathering begun told (T.contents tape.new) self.new.waiting) c (put (C.sends first) (event_of event.entry) c) }
+            → Cut (MayRunOut result (C.runs_out first) (C.sends first)) (outside (D.link doors.new) (D.door doors.new)) (gathering begun told (T.contents tape.new) self.new.waiting) c (put (C.sends first) (event_of event.entry) c) }
         ensures log { (first : C.First) (terms : Terms) (events : List PastEvent) (begun : D) → terms.taped ≡ T.made tape.old → IsPart (C.runs_out first) (C.sends first) events (event_of event.entry) self.old.sent.to_client self.old.sent.to_host
             → IsStopping D.call_gives terms (C.sends first) (event_of event.entry) events self.old.kept begun doors.old → StopLogs result D.call_gives (C.runs_out first) terms (C.sends first) (event_of event.entry) events begun doors.new }
         ensures faults { (sink : ℕ) → HasCause result (outside (D.link doors.old) (D.door doors.old)) (outside (D.link doors.new) (D.door doors.new)) (faults sink (T.counts tape.old)) (faults sink (T.counts tape.new)) }

@@ -14,7 +14,7 @@ use Rattle.bridge_run.specs.Calls.{Outcome, Goes, Stops, call, course_of}
 use Rattle.bridge_run.specs.Outside.{Outside, Written, Faults, written, Tells, IsBetween, IsRecordedInPart, IsRecordedUntold, HasLines, Cut}
 use Rattle.bridge_run.specs.RanOut.{RanOutWithin}
 use Rattle.bridge_run.specs.GateStops.{gate_runs_out}
-use Rattle.bridge_run.specs.Serves.{Reaches, NoneWaits, EndsSo, CutShort, Leaves}
+use Rattle.bridge_run.specs.Serves.{MayRunOut, Reaches, NoneWaits, EndsSo, CutShort, Leaves}
 use Rattle.bridge_run.proofs.lemmas.events.Gather.{ended-waiting}
 use Rattle.usbgate_tapes.specs.declared.status.Status.{Status}
 use Rattle.usbgate_tapes.specs.declared.status.Status.TheVariants.{Done, Usage, Refused, ReadFault, WriteFault, LinkFault, OutOfMemory, BadTape, Idle, Spent}
@@ -65,9 +65,17 @@ plays asked c d e new out held reaches tells tape-is room none s =
 
 -- ---- a run that was cut short
 
--- where memory runs out within an event
-abbrev stopping : Asked → List Event → Event → List ℕ → List ℕ → Type 0
-stopping asked = RanOutWithin (gate_runs_out asked.first_id) (served asked)
+-- where memory may have run out within an event, by how the run ended
+abbrev stopping : Asked → ServeEnd → List Event → Event → List ℕ → List ℕ → Type 0
+stopping asked x = MayRunOut x (gate_runs_out asked.first_id) (served asked)
+
+ran-within : (asked : Asked) (x : ServeEnd) (events : List Event) (e : Event) (client host : List ℕ) → stopping asked x events e client host → RanOutWithin (gate_runs_out asked.first_id) (served asked) events e client host
+ran-within asked end.Memory events e client host so = so
+ran-within asked (end.LinkFault side) events e client host so = so
+ran-within asked end.WriteFault events e client host so = absurd so
+ran-within asked (end.Ended refused) events e client host so = absurd so
+ran-within asked end.Idle events e client host so = absurd so
+ran-within asked end.Spent events e client host so = absurd so
 
 -- what the lines of a course's events and its links have
 record Facts (asked : Asked) (d : Course) : Type 0 where
@@ -213,10 +221,10 @@ behind-first first taped all more lost is =
     append_cancel_left first all (taped ++ more ++ lost) (is ∙ append_assoc first taped (more ++ lost) ∙ ap (λ (l : List ℕ). first ++ l) (sym (append_assoc taped more lost)))
 
 -- all lines of the call's event are there
-recorded-all : (asked : Asked) (c before : Course) (next : Next) (new : Outside) (out : Written) (held : List ℕ) → Reaches (setting_of asked) (Goes Making c) (Goes next before)
-    → Cut (stopping asked) new out before (course_of (call (setting_of asked) next before)) → held ≡ (course_of (call (setting_of asked) next before)).recorded → length held ≤ tape_limit → Facts asked (course_of (call (setting_of asked) next before))
+recorded-all : (asked : Asked) (x : ServeEnd) (c before : Course) (next : Next) (new : Outside) (out : Written) (held : List ℕ) → Reaches (setting_of asked) (Goes Making c) (Goes next before)
+    → Cut (stopping asked x) new out before (course_of (call (setting_of asked) next before)) → held ≡ (course_of (call (setting_of asked) next before)).recorded → length held ≤ tape_limit → Facts asked (course_of (call (setting_of asked) next before))
     → Whole asked (course_of (call (setting_of asked) next before)) → PlaysInPart asked c new held
-recorded-all asked c before next new out held reaches cut is room f w =
+recorded-all asked x c before next new out held reaches cut is room f w =
     let p = served asked in
     let behind = course_of (call (setting_of asked) next before) in
     let taped = f.taped in
@@ -250,10 +258,10 @@ recorded-some asked c before next new out held reaches some room f w =
 -- ---- memory ran out in an event
 
 -- the event's own line is there
-recorded-line : (asked : Asked) (c before : Course) (next : Next) (new : Outside) (out : Written) (held : List ℕ) → Reaches (setting_of asked) (Goes Making c) (Goes next before)
-    → Cut (stopping asked) new out before (course_of (call (setting_of asked) next before)) → IsRecordedUntold (stopping asked) new out before (course_of (call (setting_of asked) next before)) held → length held ≤ tape_limit → Whole asked before
+recorded-line : (asked : Asked) (x : ServeEnd) (c before : Course) (next : Next) (new : Outside) (out : Written) (held : List ℕ) → Reaches (setting_of asked) (Goes Making c) (Goes next before)
+    → Cut (stopping asked x) new out before (course_of (call (setting_of asked) next before)) → IsRecordedUntold (stopping asked x) new out before (course_of (call (setting_of asked) next before)) held → length held ≤ tape_limit → Whole asked before
     → Whole asked (course_of (call (setting_of asked) next before)) → PlaysInPart asked c new held
-recorded-line asked c before next new out held reaches cut line room b f =
+recorded-line asked x c before next new out held reaches cut line room b f =
     let p = served asked in
     let first = first_comment asked.first_id in
     let behind = course_of (call (setting_of asked) next before) in
@@ -272,7 +280,7 @@ recorded-line asked c before next new out held reaches cut line room b f =
       events = events;
       lines = lines;
       more = [];
-      are_lines = inr (record { lines-are = refl; client = line.sent_client; host = line.sent_host; ran_out = line.stopped });
+      are_lines = inr (record { lines-are = refl; client = line.sent_client; host = line.sent_host; ran_out = ran-within asked x before.events line.event line.sent_client line.sent_host line.stopped });
       held-is = held-is ∙ all ∙ sym (append-nil (first ++ lines));
       ends = inl (line.takes, refl);
       behind = comes.to;
@@ -283,9 +291,9 @@ recorded-line asked c before next new out held reaches cut line room b f =
       host = front-between new.host.written before.to_host behind.to_host (to_host p events) f.lost cut.to_host (ap (to_host p) (sym line.takes) ∙ f.host-is);
     }
 
-cut-plays : (asked : Asked) (c before : Course) (next : Next) (new : Outside) (out : Written) (held : List ℕ) → Reaches (setting_of asked) (Goes Making c) (Goes next before)
-    → Cut (stopping asked) new out before (course_of (call (setting_of asked) next before)) → out.tape ≡ Some held → length held ≤ tape_limit → At (served asked) (first_comment asked.first_id) next before → PlaysInPart asked c new held
-cut-plays asked c before next new out held reaches cut tape-is room at-next = go (subst (λ (o : Option (List ℕ)). IfSome o (λ (l : List ℕ). HasLines (stopping asked) new out before behind l)) tape-is cut.tape)
+cut-plays : (asked : Asked) (x : ServeEnd) (c before : Course) (next : Next) (new : Outside) (out : Written) (held : List ℕ) → Reaches (setting_of asked) (Goes Making c) (Goes next before)
+    → Cut (stopping asked x) new out before (course_of (call (setting_of asked) next before)) → out.tape ≡ Some held → length held ≤ tape_limit → At (served asked) (first_comment asked.first_id) next before → PlaysInPart asked c new held
+cut-plays asked x c before next new out held reaches cut tape-is room at-next = go (subst (λ (o : Option (List ℕ)). IfSome o (λ (l : List ℕ). HasLines (stopping asked x) new out before behind l)) tape-is cut.tape)
   where
     behind : Course
     behind = course_of (call (setting_of asked) next before)
@@ -296,10 +304,10 @@ cut-plays asked c before next new out held reaches cut tape-is room at-next = go
     all : Whole asked behind
     all = outcome-whole asked (call (setting_of asked) next before) comes
 
-    go : HasLines (stopping asked) new out before behind held → PlaysInPart asked c new held
-    go (inl is) = recorded-all asked c before next new out held reaches cut is room (outcome-facts asked (call (setting_of asked) next before) comes) all
+    go : HasLines (stopping asked x) new out before behind held → PlaysInPart asked c new held
+    go (inl is) = recorded-all asked x c before next new out held reaches cut is room (outcome-facts asked (call (setting_of asked) next before) comes) all
     go (inr (inl some)) = recorded-some asked c before next new out held reaches some room (at-facts asked next before at-next) all
-    go (inr (inr line)) = recorded-line asked c before next new out held reaches cut line room (at-whole asked next before at-next) all
+    go (inr (inr line)) = recorded-line asked x c before next new out held reaches cut line room (at-whole asked next before at-next) all
 
 -- ---- each end
 
@@ -323,8 +331,8 @@ reached asked c o f r =
 ended-plays : (asked : Asked) (c : Course) (e : ServeEnd) (new : Outside) (out : Written) (held : List ℕ) → ((d : Course) → NoneWaits e d → d.waiting ≡ []) → IsFresh asked c → out.tape ≡ Some held → length held ≤ tape_limit → EndsSo (setting_of asked) (Goes Making c) e new out → Plays asked c new held
 ended-plays asked c e new out held none f tape-is room x = plays asked c x.course e new out held x.reaches x.tells tape-is room (none x.course (ended-waiting (setting_of asked) Making c e x.course x.reaches)) (reached asked c (Stops e x.course) f x.reaches)
 
-short-plays : (asked : Asked) (c : Course) (new : Outside) (out : Written) (held : List ℕ) → IsFresh asked c → out.tape ≡ Some held → length held ≤ tape_limit → CutShort (gate_runs_out asked.first_id) (setting_of asked) (Goes Making c) new out → PlaysInPart asked c new held
-short-plays asked c new out held f tape-is room x = cut-plays asked c x.course x.next new out held x.reaches x.cut tape-is room (reached asked c (Goes x.next x.course) f x.reaches)
+short-plays : (asked : Asked) (e : ServeEnd) (c : Course) (new : Outside) (out : Written) (held : List ℕ) → IsFresh asked c → out.tape ≡ Some held → length held ≤ tape_limit → CutShort e (gate_runs_out asked.first_id) (setting_of asked) (Goes Making c) new out → PlaysInPart asked c new held
+short-plays asked e c new out held f tape-is room x = cut-plays asked e c x.course x.next new out held x.reaches x.cut tape-is room (reached asked c (Goes x.next x.course) f x.reaches)
 
 end-replays : (asked : Asked) (c : Course) (e : ServeEnd) (new : Outside) (out : Written) (held : List ℕ) → IsFresh asked c → out.tape ≡ Some held → length held ≤ tape_limit → Leaves e (gate_runs_out asked.first_id) (setting_of asked) (Goes Making c) new out
     → Replays (ended_as e) asked c new held
@@ -332,9 +340,9 @@ end-replays asked c (end.Ended None) new out held f tape-is room x = ended-plays
 end-replays asked c (end.Ended (Some r)) new out held f tape-is room x = ended-plays asked c (end.Ended (Some r)) new out held (λ d h. h) f tape-is room x
 end-replays asked c end.Idle new out held f tape-is room x = ended-plays asked c end.Idle new out held (λ d h. h) f tape-is room x
 end-replays asked c end.Spent new out held f tape-is room x = ended-plays asked c end.Spent new out held (λ d h. h) f tape-is room x
-end-replays asked c (end.LinkFault side) new out held f tape-is room x = short-plays asked c new out held f tape-is room x
-end-replays asked c end.WriteFault new out held f tape-is room x = inr (short-plays asked c new out held f tape-is room x)
-end-replays asked c end.Memory new out held f tape-is room x = inr (short-plays asked c new out held f tape-is room x)
+end-replays asked c (end.LinkFault side) new out held f tape-is room x = short-plays asked (end.LinkFault side) c new out held f tape-is room x
+end-replays asked c end.WriteFault new out held f tape-is room x = inr (short-plays asked end.WriteFault c new out held f tape-is room x)
+end-replays asked c end.Memory new out held f tape-is room x = inr (short-plays asked end.Memory c new out held f tape-is room x)
 
 -- ---- nothing was done
 

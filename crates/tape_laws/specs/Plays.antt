@@ -57,7 +57,7 @@ pub record WroteFront (known : Option (List ℕ)) (all : List ℕ) : Type 0 wher
 
 -- ---- a run that was cut short
 
--- memory ran out in the latest event, and the comments of its refusals are missing
+-- memory may have run out in the latest event, and the comments of its refusals are missing
 pub record LacksComments (asked : Asked) (e : Event) (events : List Event) (lines : List ℕ) : Type 0 where
   pub lines-are : lines ≡ recorded (served asked) events ++ event_line e
   pub client : List ℕ
@@ -87,9 +87,9 @@ abbrev pub rest_text : Asked → Progress (List GateEvent) → List ℕ → List
 rest_text asked behind more =
     let command = over_events (replay asked.first_id) in let x = read_lines command behind (tape_lines more) in x.text ++ last_text command x
 
--- The run was cut short, by a fault or for want of memory, within a call. The tape has the lines of the first of the events
--- that were taken, by that call, too, and behind them less than the lines of the next one. Its replay prints what these first
--- events send, and then what it makes of the rest; and of no other event was anything written to the links.
+-- The run was cut short, by a fault or for want of memory, within a call. The tape has the lines of the first of the
+-- events that were taken, by that call, too, and behind them less than the lines of the next one. Its replay prints what
+-- these first events send, and then what it makes of the rest; and of no other event was anything written to the links.
 pub record PlaysInPart (asked : Asked) (c : Course) (new : Outside) (held : List ℕ) : Type 0 where
   pub next : Next
   pub course : Course

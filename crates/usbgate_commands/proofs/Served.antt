@@ -14,8 +14,7 @@ use Rattle.gate_outside.specs.Faults.{Rose}
 use Rattle.session_tape.specs.Tapes.{Counts, counts}
 use Rattle.bridge_run.specs.Outside.{Outside, Written, Faults, outside, written, faults, OneRose, NoFault, Tells, Cut, HasCause, IsBetween}
 use Rattle.bridge_run.specs.Events.{Event}
-use Rattle.bridge_run.specs.RanOut.{RanOutWithin}
-use Rattle.bridge_run.specs.Serves.{CutShort}
+use Rattle.bridge_run.specs.Serves.{MayRunOut, CutShort}
 use Rattle.usbgate_tapes.specs.declared.status.Status.{Status}
 use Rattle.usbgate_tapes.specs.declared.status.Status.TheVariants.{Done, Usage, Refused, ReadFault, WriteFault, LinkFault, OutOfMemory, BadTape, Idle, Spent}
 use Rattle.usbgate_commands.specs.Serving.{Asked}
@@ -45,7 +44,7 @@ untold-more : (begun known : Option (List ℕ)) (told : List ℕ) → IfSome beg
 untold-more None known told is = tt
 untold-more (Some first) known told is = as_it_is known told is
 
-unmade : {runs_out : List Event → Event → List ℕ → List ℕ → Type 0} → (s : Setting) (c : Course) (w : Outside) (begun out : Option (List ℕ)) → Tells w (written begun out None) c → CutShort runs_out s (Goes Making c) w (written begun out None)
+unmade : {runs_out : List Event → Event → List ℕ → List ℕ → Type 0} → (s : Setting) (c : Course) (w : Outside) (begun out : Option (List ℕ)) → Tells w (written begun out None) c → CutShort end.Memory runs_out s (Goes Making c) w (written begun out None)
 unmade s c w begun out tells = record {
   next = Making;
   course = c;
@@ -99,12 +98,12 @@ no-guest (turns ∷ later) c w begun out tells = record {
   tape = tt;
 }
 
-unasked : {runs_out : List Event → Event → List ℕ → List ℕ → Type 0} → (s : Setting) (c : Course) (w : Outside) (begun out : Option (List ℕ)) → c.client_up ≡ false → Tells w (written begun out None) c → CutShort runs_out s (Goes AtDoor c) w (written begun out None)
+unasked : {runs_out : List Event → Event → List ℕ → List ℕ → Type 0} → (s : Setting) (c : Course) (w : Outside) (begun out : Option (List ℕ)) → c.client_up ≡ false → Tells w (written begun out None) c → CutShort end.Memory runs_out s (Goes AtDoor c) w (written begun out None)
 unasked {runs_out = runs_out} s c w begun out down tells = record {
   next = AtDoor;
   course = c;
   reaches = record { count = 0; is = refl };
-  cut = subst (λ (d : Course). Cut (RanOutWithin runs_out s.served) w (written begun out None) c d) (sym (ap (λ (b : Bool). course_of (cond b (Goes AtClient c) (come c.clients c))) down)) (no-guest c.clients c w begun out tells);
+  cut = subst (λ (d : Course). Cut (MayRunOut end.Memory runs_out s.served) w (written begun out None) c d) (sym (ap (λ (b : Bool). course_of (cond b (Goes AtClient c) (come c.clients c))) down)) (no-guest c.clients c w begun out tells);
 }
 
 pub unlent : (asked : AskedLent) (w : Outside) (count : ℕ) (out : Option (List ℕ)) → Lends OutOfMemory asked w w count count out out

@@ -13,8 +13,8 @@ use Rattle.bridge_run.specs.Prescribed.{Prescribed, gained, drops, first_of}
 use Rattle.bridge_run.specs.Course.{Setting, Course, Next, AtClient, AtHost, AtEnd}
 use Rattle.bridge_run.specs.Calls.{Outcome, Goes, put, make}
 use Rattle.bridge_run.specs.Outside.{Outside, Written, Faults, NoFault, HasCause, Tells, Cut}
-use Rattle.bridge_run.specs.RanOut.{RanOutWithin}
-use Rattle.bridge_run.specs.Serves.{Reaches, Leaves}
+use Rattle.bridge_run.specs.RanOut.{Never}
+use Rattle.bridge_run.specs.Serves.{Reaches, MayRunOut, Leaves}
 
 -- what an event sends, and the lines that tell its refusals
 pub record Prepared (p : Prescribed) (events : List Event) (e : Event) (sent : Sent) (lines : List ℕ) : Type 0 where
@@ -55,7 +55,7 @@ IsCutEnd Spent = ⊥
 
 abbrev pub Puts : Result Bool ServeEnd → (List Event → Type 0) → (List Event → Event → List ℕ → List ℕ → Type 0) → Prescribed → Event → Kept → Outside → Written → Course → Type 0
 Puts (Ok dropped) stands runs_out p e k w out c = Follows stands p k w out (put p e c) × (dropped ≡ drops p c.events e)
-Puts (Err end) stands runs_out p e k w out c = Cut (RanOutWithin runs_out p) w out c (put p e c)
+Puts (Err end) stands runs_out p e k w out c = Cut (MayRunOut end runs_out p) w out c (put p e c)
 
 -- ---- some calls
 
@@ -88,9 +88,6 @@ pub record IsOpen (w : Outside) : Type 0 where
   pub door : w.door.made ≡ true
 
 -- no event is taken yet
-abbrev pub Never : List Event → Event → List ℕ → List ℕ → Type 0
-Never events e client host = ⊥
-
 abbrev pub Opens : {T : Type 0} → Result T ServeEnd → Prescribed → Outside → Written → Course → Type 0
 Opens (Ok _) p w out c = Tells w out (make p c)
 Opens (Err e) p w out c = Cut Never w out c (make p c)

@@ -12,7 +12,8 @@ use Rattle.bridge_run.specs.Outside.{Outside, Shows, Tells, IsTold, IsBetween, I
 use Rattle.bridge_run.specs.Serves.{CutShort, Begins}
 use Rattle.bridge_run.specs.inner.Links.{WritesFront}
 use Rattle.bridge_run.specs.inner.Keeping.{begun}
-use Rattle.bridge_run.specs.inner.Follows.{Follows, Never, Opens}
+use Rattle.bridge_run.specs.RanOut.{Never}
+use Rattle.bridge_run.specs.inner.Follows.{Follows, Opens}
 use Rattle.bridge_run.proofs.lemmas.calls.Course.{reaches-none, cut-next}
 use Rattle.bridge_run.proofs.lemmas.events.Put.{between-none, between-front, if-told}
 use Rattle.bridge_run.proofs.lemmas.calls.Answers.{same-recorded, door-cut, not_accepted, call-door}
@@ -35,7 +36,7 @@ opening-before p c w out t =
     opening-cut p c w out t.client.turns-is t.host.turns-is t.clients t.client.written-is t.told t.tape (between-none c.to_host w.host.written (c.to_host ++ p.to_host []) (p.to_host []) t.host.written-is refl)
 
 -- nothing was done
-pub making-short : {runs_out : List Event → Event → List ℕ → List ℕ → Type 0} → (s : Setting) (c : Course) (w : Outside) (out : Written) → Tells w out c → CutShort runs_out s (Goes Making c) w out
+pub making-short : {end : ServeEnd} {runs_out : List Event → Event → List ℕ → List ℕ → Type 0} → (s : Setting) (c : Course) (w : Outside) (out : Written) → Tells w out c → CutShort end runs_out s (Goes Making c) w out
 making-short s c w out t = cut-next s (Goes Making c) Making c (make s.served c) w out (reaches-none s (Goes Making c)) refl (opening-before s.served c w out t)
 
 pub not_dialled : {ran_out : List Event → Event → List ℕ → List ℕ → Type 0} → (p : Prescribed) (c : Course) (w w' : Outside) (out : Written) → Tells w out c → w'.host ≡ faulted w.host → w'.client ≡ w.client → w'.door ≡ w.door → Cut ran_out w' out c (make p c)
@@ -99,13 +100,13 @@ begun-follows stands p idle budget w out c b s none t = record {
 -- ---- with a door alone
 
 -- nothing was done
-pub door-short : {runs_out : List Event → Event → List ℕ → List ℕ → Type 0} → (s : Setting) (c : Course) (w : Outside) (out : Written) → c.client_up ≡ false → Tells w out c → CutShort runs_out s (Goes AtDoor c) w out
+pub door-short : {end : ServeEnd} {runs_out : List Event → Event → List ℕ → List ℕ → Type 0} → (s : Setting) (c : Course) (w : Outside) (out : Written) → c.client_up ≡ false → Tells w out c → CutShort end runs_out s (Goes AtDoor c) w out
 door-short s c w out down t =
     cut-next s (Goes AtDoor c) AtDoor c (course_of (come c.clients c)) w out (reaches-none s (Goes AtDoor c)) (ap course_of (call-door s c down))
     (door-cut w out c t.client.turns-is t.host.turns-is t.clients t.client.written-is t.host.written-is t.told t.tape)
 
 -- the door could not be made
-pub door-unmade : {runs_out : List Event → Event → List ℕ → List ℕ → Type 0} → (s : Setting) (c : Course) (w w' : Outside) (out : Written) → c.client_up ≡ false → Tells w out c → w'.client ≡ faulted w.client → w'.host ≡ w.host → w'.door ≡ w.door → CutShort runs_out s (Goes AtDoor c) w' out
+pub door-unmade : {end : ServeEnd} {runs_out : List Event → Event → List ℕ → List ℕ → Type 0} → (s : Setting) (c : Course) (w w' : Outside) (out : Written) → c.client_up ≡ false → Tells w out c → w'.client ≡ faulted w.client → w'.host ≡ w.host → w'.door ≡ w.door → CutShort end runs_out s (Goes AtDoor c) w' out
 door-unmade s c w w' out down t client host door =
     cut-next s (Goes AtDoor c) AtDoor c (course_of (come c.clients c)) w' out (reaches-none s (Goes AtDoor c)) (ap course_of (call-door s c down)) (not_accepted w w' out c t client host door)
 

@@ -16,8 +16,7 @@ use Rattle.bridge_run.specs.Recorded.{has_any, sends_any, is_last, piece, is_ful
 use Rattle.bridge_run.specs.Course.{Setting, Course, Next, Making, AtDoor, AtClient, AtHost, AtEnd, Takes}
 use Rattle.bridge_run.specs.Calls.{Outcome, Goes, Stops, course_of, room, sends_now, is_due, lines_with, put, settle, ends_next, take_event, come, turned, heard, poll, gathered, rest, call, and_then, calls}
 use Rattle.bridge_run.specs.Outside.{Outside, gathering, written, HasLines}
-use Rattle.bridge_run.specs.RanOut.{RanOutWithin}
-use Rattle.bridge_run.specs.Serves.{Reaches, NoneWaits, EndsSo, CutShort, Leaves}
+use Rattle.bridge_run.specs.Serves.{Reaches, NoneWaits, EndsSo, MayRunOut, CutShort, Leaves}
 
 -- ---- an event behind which it ends
 
@@ -229,6 +228,7 @@ part-of ran_out w begun told tape (Some held) waiting c d is = go is
           sent_client = untold.sent_client;
           sent_host = untold.sent_host;
           stopped = untold.stopped;
+          some = untold.some;
           held-is = untold.held-is;
           lost = untold.lost;
           all-is = untold.all-is;
@@ -238,8 +238,8 @@ part-of ran_out w begun told tape (Some held) waiting c d is = go is
         }))
     go (inr (inl part)) = inr (inl (record { more = part.more; lost = part.lost; held-is = part.held-is; all-is = part.all-is; to_client = part.to_client; to_host = part.to_host; told = part.told }))
 
-cut-short : {runs_out : List Event → Event → List ℕ → List ℕ → Type 0} → (s : Setting) (next : Next) (c : Course) (w : Outside) (begun told tape : Option (List ℕ)) (waiting : List ℕ) → CutShort runs_out s (Goes next c) w (gathering begun told tape waiting) → CutShort runs_out s (Goes next c) w (written begun told tape)
-cut-short {runs_out = runs_out} s next c w begun told tape waiting x = record {
+cut-short : {e : ServeEnd} {runs_out : List Event → Event → List ℕ → List ℕ → Type 0} → (s : Setting) (next : Next) (c : Course) (w : Outside) (begun told tape : Option (List ℕ)) (waiting : List ℕ) → CutShort e runs_out s (Goes next c) w (gathering begun told tape waiting) → CutShort e runs_out s (Goes next c) w (written begun told tape)
+cut-short {e = e} {runs_out = runs_out} s next c w begun told tape waiting x = record {
   next = x.next;
   course = x.course;
   reaches = x.reaches;
@@ -250,7 +250,7 @@ cut-short {runs_out = runs_out} s next c w begun told tape waiting x = record {
     to_client = x.cut.to_client;
     to_host = x.cut.to_host;
     told = x.cut.told;
-    tape = part-of (RanOutWithin runs_out s.served) w begun told tape tape waiting x.course _ x.cut.tape;
+    tape = part-of (MayRunOut e runs_out s.served) w begun told tape tape waiting x.course _ x.cut.tape;
   };
 }
 

@@ -24,7 +24,7 @@ use Rattle.session_tape.specs.Tapes.{Counts, GrowsInPart}
 use Rattle.bridge_run.specs.Recorded.{lines_of, sends_any, is_last, is_full, written_if, waiting_if}
 use Rattle.bridge_run.specs.Calls.{put, sends_now}
 use Rattle.bridge_run.specs.Outside.{Outside, Shows, Tells, IsTold, IsToldBetween, IsBetween, IsOneOf, HasLines, IsTaped, Cut, Written, HasCause, faults}
-use Rattle.bridge_run.specs.RanOut.{RanOutWithin}
+use Rattle.bridge_run.specs.Serves.{MayRunOut}
 use Rattle.bridge_run.specs.inner.Links.{wrote_if, WritesFront, closed_if}
 use Rattle.bridge_run.specs.inner.Keeping.{refusing}
 use Rattle.bridge_run.specs.inner.Follows.{Prepared, Follows, Puts}
@@ -359,7 +359,7 @@ refusing-none refusals go k k' none stays is =
     ∙ ap (λ (r : Option Refusal). record k { refused = r }) (or_else-none k.refused)
 
 -- an error that a `?` hands on
-pub cut-puts : (Q : ServeEnd → Type 0) (result : Result Bool ServeEnd) (stands : List Event → Type 0) (runs_out : List Event → Event → List ℕ → List ℕ → Type 0) (p : Prescribed) (e : Event) (k : Kept) (w : Outside) (out : Written) (c : Course) → IsErrAnd result Q → Cut (RanOutWithin runs_out p) w out c (put p e c)
+pub cut-puts : (Q : ServeEnd → Type 0) (result : Result Bool ServeEnd) (stands : List Event → Type 0) (runs_out : List Event → Event → List ℕ → List ℕ → Type 0) (p : Prescribed) (e : Event) (k : Kept) (w : Outside) (out : Written) (c : Course) → IsErrAnd result Q → ((end : ServeEnd) → Cut (MayRunOut end runs_out p) w out c (put p e c))
     → Puts result stands runs_out p e k w out c
 cut-puts Q (Ok x) stands runs_out p e k w out c is cut = absurd is
-cut-puts Q (Err x) stands runs_out p e k w out c is cut = cut
+cut-puts Q (Err x) stands runs_out p e k w out c is cut = cut x

@@ -54,6 +54,7 @@ all-lines p c e due =
 -- what the event had sent before memory ran out, and what of that is written
 pub record Sent (ran_out : List Event → Event → List ℕ → List ℕ → Type 0) (c : Course) (e : Event) (client host : List ℕ) (w : Outside) (out : Written) : Type 0 where
   pub stopped : ran_out c.events e client host
+  pub some : (has_any client || has_any host) ≡ true
   pub to_client : IsBetween c.to_client w.client.written (cond c.client_up (c.to_client ++ client) c.to_client)
   pub to_host : IsBetween c.to_host w.host.written (cond c.host_up (c.to_host ++ host) c.to_host)
   pub told : IsTold out c.told
@@ -73,6 +74,7 @@ recorded-line {ran_out = ran_out} p c e w out client host sent (Some held) known
       sent_client = client;
       sent_host = host;
       stopped = sent.stopped;
+      some = sent.some;
       held-is = same;
       lost = comments;
       all-is = all-lines p c e due ∙ ap (λ (l : List ℕ). l ++ comments) (sym same);

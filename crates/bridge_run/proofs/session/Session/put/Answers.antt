@@ -1,4 +1,4 @@
-use Rattle.std.proofs.Common.{ℕ, Bool, ◌||◌, List, Result, refl, sym, ◌∙◌, ap, subst}
+use Rattle.std.proofs.Common.{ℕ, Bool, ◌||◌, List, Result, sym, ◌∙◌, ap, subst}
 use Rattle.usb_base.specs.declared.side.Side.TheVariants.{Client, Host}
 use Rattle.usb_base.specs.declared.refusal.Refusal.{Refusal}
 use Rattle.std.specs.Io.KnownBytes.{Appends}
@@ -50,7 +50,7 @@ returns-in_err-record_event-clause-course g c = λ first begun k f.
     let left = ap (λ (k : Kept). k.left) c.prepare.ensures.kept ∙ f.left in
     let due = due-of p k e c.prepare.new.self.sent c.prepare.new.self.lines c.prepare.new.self.kept c.is_due-due.result prepared up_client up_host left c.is_due-due.ensures in
     cut-puts _ c.from_residual.result (g.C.Served.stands first c.prepare.new.self.core) (g.C.Served.runs_out first) p e c.prepare.new.self.kept w out k c.from_residual.ensures.1
-    (put-in_entry p k e c.prepare.new.self.sent c.prepare.new.self.lines c.is_due-due.result w (gathering begun (g.K.Sink.contents c.args.out.now) (g.T.Tape.contents c.args.tape.now) c.args.self.now.waiting) out c.prepare.new.self.waiting prepared f.tells f.tells.told due c.prepare.ensures.waiting c.in_err-record_event.ensures.err)
+    (λ end. put-in_entry p k e c.prepare.new.self.sent c.prepare.new.self.lines c.is_due-due.result w (gathering begun (g.K.Sink.contents c.args.out.now) (g.T.Tape.contents c.args.tape.now) c.args.self.now.waiting) out c.prepare.new.self.waiting prepared f.tells f.tells.told due c.prepare.ensures.waiting c.in_err-record_event.ensures.err)
 
 pub returns-in_err-record_event-clause-faults : goal.returns-in_err-record_event-clause-faults
 returns-in_err-record_event-clause-faults g c =
@@ -75,7 +75,7 @@ returns-in_err-write_link-clause-course g c = λ first begun k f.
     let due = due-of p k e c.prepare.new.self.sent c.prepare.new.self.lines c.prepare.new.self.kept c.is_due-due.result prepared up_client up_host left c.is_due-due.ensures in
     let recorded = recorded-by p k e sent c.is_due-due.result (gathering begun (g.K.Sink.contents c.args.out.now) (g.T.Tape.contents c.args.tape.now) c.args.self.now.waiting) (gathering begun (g.K.Sink.contents c.args.out.now) (g.T.Tape.contents c.record_event.new.tape) c.record_event.new.waiting) c.prepare.new.self.waiting c.prepare.ensures.waiting due c.in_ok-record_event.ensures.ok c.in_ok-record_event.ensures.waits in
     cut-puts _ c.from_residual-in_err-write_link.result (g.C.Served.stands first c.prepare.new.self.core) (g.C.Served.runs_out first) p e c.prepare.new.self.kept (outside (g.D.Doors.link c.write_link.new.doors) (g.D.Doors.door c.write_link.new.doors)) (gathering begun (g.K.Sink.contents c.args.out.now) (g.T.Tape.contents c.record_event.new.tape) c.record_event.new.waiting) k c.from_residual-in_err-write_link.ensures.1
-    (put-in_client p k e sent lines c.is_due-due.result (outside (g.D.Doors.link c.args.doors.now) (g.D.Doors.door c.args.doors.now)) (outside (g.D.Doors.link c.write_link.new.doors) (g.D.Doors.door c.write_link.new.doors)) (gathering begun (g.K.Sink.contents c.args.out.now) (g.T.Tape.contents c.args.tape.now) c.args.self.now.waiting) (gathering begun (g.K.Sink.contents c.args.out.now) (g.T.Tape.contents c.record_event.new.tape) c.record_event.new.waiting) c.prepare.new.self.kept.client_up prepared f.tells f.tells.told recorded up_client
+    (λ end. put-in_client p k e sent lines c.is_due-due.result (outside (g.D.Doors.link c.args.doors.now) (g.D.Doors.door c.args.doors.now)) (outside (g.D.Doors.link c.write_link.new.doors) (g.D.Doors.door c.write_link.new.doors)) (gathering begun (g.K.Sink.contents c.args.out.now) (g.T.Tape.contents c.args.tape.now) c.args.self.now.waiting) (gathering begun (g.K.Sink.contents c.args.out.now) (g.T.Tape.contents c.record_event.new.tape) c.record_event.new.waiting) c.prepare.new.self.kept.client_up prepared f.tells f.tells.told recorded up_client
     (subst (λ (b : List ℕ). WritesFront c.prepare.new.self.kept.client_up b (g.D.Doors.link c.args.doors.now Client) (g.D.Doors.link c.write_link.new.doors Client)) c.as_slice.ensures c.in_err-write_link.ensures.link)
     c.in_err-write_link.ensures.other c.in_err-write_link.ensures.door)
 
@@ -93,7 +93,7 @@ returns-in_err-write_link-2-clause-course g c = λ first begun k f.
     let recorded = recorded-by p k e sent c.is_due-due.result (gathering begun (g.K.Sink.contents c.args.out.now) (g.T.Tape.contents c.args.tape.now) c.args.self.now.waiting) (gathering begun (g.K.Sink.contents c.args.out.now) (g.T.Tape.contents c.record_event.new.tape) c.record_event.new.waiting) c.prepare.new.self.waiting c.prepare.ensures.waiting due c.in_ok-record_event.ensures.ok c.in_ok-record_event.ensures.waits in
     let wrote_client = c.in_ok-write_link.ensures.link ∙ ap (λ (b : List ℕ). wrote_if c.prepare.new.self.kept.client_up b (g.D.Doors.link c.args.doors.now Client)) c.as_slice.ensures in
     cut-puts _ c.from_residual-in_err-write_link-2.result (g.C.Served.stands first c.prepare.new.self.core) (g.C.Served.runs_out first) p e c.prepare.new.self.kept (outside (g.D.Doors.link c.write_link-2.new.doors) (g.D.Doors.door c.write_link-2.new.doors)) (gathering begun (g.K.Sink.contents c.args.out.now) (g.T.Tape.contents c.record_event.new.tape) c.record_event.new.waiting) k c.from_residual-in_err-write_link-2.ensures.1
-    (put-in_host p k e sent lines c.is_due-due.result (outside (g.D.Doors.link c.args.doors.now) (g.D.Doors.door c.args.doors.now)) (outside (g.D.Doors.link c.write_link-2.new.doors) (g.D.Doors.door c.write_link-2.new.doors)) (gathering begun (g.K.Sink.contents c.args.out.now) (g.T.Tape.contents c.args.tape.now) c.args.self.now.waiting) (gathering begun (g.K.Sink.contents c.args.out.now) (g.T.Tape.contents c.record_event.new.tape) c.record_event.new.waiting) c.prepare.new.self.kept.client_up c.prepare.new.self.kept.host_up prepared f.tells f.tells.told recorded up_client up_host
+    (λ end. put-in_host p k e sent lines c.is_due-due.result (outside (g.D.Doors.link c.args.doors.now) (g.D.Doors.door c.args.doors.now)) (outside (g.D.Doors.link c.write_link-2.new.doors) (g.D.Doors.door c.write_link-2.new.doors)) (gathering begun (g.K.Sink.contents c.args.out.now) (g.T.Tape.contents c.args.tape.now) c.args.self.now.waiting) (gathering begun (g.K.Sink.contents c.args.out.now) (g.T.Tape.contents c.record_event.new.tape) c.record_event.new.waiting) c.prepare.new.self.kept.client_up c.prepare.new.self.kept.host_up prepared f.tells f.tells.told recorded up_client up_host
     (c.in_err-write_link-2.ensures.other ∙ wrote_client)
     (subst (λ (l : Link). WritesFront c.prepare.new.self.kept.host_up sent.to_host l (g.D.Doors.link c.write_link-2.new.doors Host)) c.in_ok-write_link.ensures.other
     (subst (λ (b : List ℕ). WritesFront c.prepare.new.self.kept.host_up b (g.D.Doors.link c.write_link.new.doors Host) (g.D.Doors.link c.write_link-2.new.doors Host)) c.as_slice-2.ensures c.in_err-write_link-2.ensures.link))
