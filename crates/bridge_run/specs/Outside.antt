@@ -1,5 +1,5 @@
 -- What is known of the doors, and what they tell.
-use Rattle.std.specs.Prelude.{◌≡◌, ◌⊎◌, ◌≤◌, ◌+◌, ◌-◌, ◌^◌, ℕ, min, Bool, true, false, List, [], ◌∷◌, ◌++◌, Option, Some, IfSome}
+use Rattle.std.specs.Prelude.{◌≡◌, ◌⊎◌, ◌≤◌, ◌+◌, ◌-◌, ◌^◌, ℕ, min, ◌||◌, Bool, true, false, if◌then◌else◌, List, [], ◌∷◌, ◌++◌, Option, Some, IfSome}
 use Rattle.usb_base.specs.declared.side.Side.{Side}
 use Rattle.usb_base.specs.declared.side.Side.TheVariants.{Client, Host}
 use Rattle.gate_outside.specs.declared.turn.Turn.{Turn}
@@ -9,7 +9,7 @@ use Rattle.session_tape.specs.Tapes.{Counts, OneFault}
 use Rattle.bridge_run.specs.declared.serve_end.ServeEnd.{ServeEnd}
 use Rattle.bridge_run.specs.declared.serve_end.ServeEnd.TheVariants.{Ended, LinkFault, WriteFault, Idle, Spent, Memory}
 use Rattle.bridge_run.specs.Events.{Event}
-use Rattle.bridge_run.specs.Recorded.{event_line}
+use Rattle.bridge_run.specs.Recorded.{has_any, event_line}
 use Rattle.bridge_run.specs.Course.{Course}
 
 pub record Outside : Type 0 where
@@ -20,19 +20,20 @@ pub record Outside : Type 0 where
 abbrev pub outside : (Side → Link) → Door → Outside
 outside links door = record { client = links Client; host = links Host; door = door }
 
--- the bytes of the sink, which takes the lines of refusals, and those of the tape, where they are told; and the lines
--- that wait to be written to the tape
+-- the bytes of the sink, which takes the lines of refusals, as serving began and now, and those of the tape, each where
+-- they are told; and the lines that wait to be written to the tape
 pub record Written : Type 0 where
+  pub begun : Option (List ℕ)
   pub told : Option (List ℕ)
   pub tape : Option (List ℕ)
   pub waiting : List ℕ
 
-abbrev pub gathering : Option (List ℕ) → Option (List ℕ) → List ℕ → Written
-gathering told tape waiting = record { told = told; tape = tape; waiting = waiting }
+abbrev pub gathering : Option (List ℕ) → Option (List ℕ) → Option (List ℕ) → List ℕ → Written
+gathering begun told tape waiting = record { begun = begun; told = told; tape = tape; waiting = waiting }
 
 -- none wait
-abbrev pub written : Option (List ℕ) → Option (List ℕ) → Written
-written told tape = gathering told tape []
+abbrev pub written : Option (List ℕ) → Option (List ℕ) → Option (List ℕ) → Written
+written begun told tape = gathering begun told tape []
 
 -- ---- causes, by the counts of faults
 
@@ -111,16 +112,20 @@ pub record Shows (link : Link) (up : Bool) (turns : List Turn) (written : List �
   pub turns-is : link.turns ≡ Some turns
   pub written-is : link.written ≡ Some written
 
+-- a sink that told its bytes as serving began tells these now; of one that told none, nothing is known
+abbrev pub IsTold : Written → List ℕ → Type 0
+IsTold out bytes = IfSome out.begun (λ first. out.told ≡ Some bytes)
+
 -- a tape that tells its bytes has those of the course, and its lines wait
 abbrev pub IsTaped : Written → Course → Type 0
 IsTaped out c = IfSome out.tape (λ held. (held ≡ c.recorded) × (out.waiting ≡ c.waiting))
 
--- the doors and the sink tell that this is their course, and so does the tape, where it tells its bytes
+-- the doors tell that this is their course, and so do the sink and the tape, each where it tells its bytes
 pub record Tells (w : Outside) (out : Written) (c : Course) : Type 0 where
   pub client : Shows w.client c.client_up c.client c.to_client
   pub host : Shows w.host c.host_up c.host c.to_host
   pub clients : w.door.to_come ≡ Some c.clients
-  pub told : out.told ≡ Some c.told
+  pub told : IsTold out c.told
   pub tape : IsTaped out c
 
 -- at least the first bytes are written, and at most the last
@@ -129,6 +134,10 @@ pub record IsBetween (least : List ℕ) (known : Option (List ℕ)) (most : List
   pub lost : List ℕ
   pub known-is : known ≡ Some (least ++ more)
   pub most-is : most ≡ least ++ more ++ lost
+
+-- and of a sink that told its bytes as serving began
+abbrev pub IsToldBetween : List ℕ → Written → List ℕ → Type 0
+IsToldBetween least out most = IfSome out.begun (λ first. IsBetween least out.told most)
 
 -- it is as before a call or as behind it
 abbrev pub IsOneOf : {X : Type 0} → X → Option X → X → Type 0
@@ -142,28 +151,36 @@ pub record IsRecordedInPart (w : Outside) (out : Written) (before behind : Cours
   pub all-is : behind.recorded ≡ before.recorded ++ more ++ lost
   pub to_client : w.client.written ≡ Some before.to_client
   pub to_host : w.host.written ≡ Some before.to_host
-  pub told : out.told ≡ Some before.told
+  pub told : IsTold out before.told
 
--- the lines that waited are there, and that of the event which the call takes, without those of its refusals: memory ran
--- out as it was taken
-pub record IsRecordedUntold (before behind : Course) (held : List ℕ) : Type 0 where
+-- Memory may have run out in the event that the call takes, by when it had sent some bytes, so many to each side. The
+-- lines that waited are there, and that of the event, without those of its refusals. Of what it had sent a front is
+-- written to each side whose link is up, and none of its refusals is told.
+pub record IsRecordedUntold (ran_out : List Event → Event → List ℕ → List ℕ → Type 0) (w : Outside) (out : Written) (before behind : Course) (held : List ℕ) : Type 0 where
   pub event : Event
   pub takes : behind.events ≡ event ∷ before.events
+  pub sent_client : List ℕ
+  pub sent_host : List ℕ
+  pub stopped : ran_out before.events event sent_client sent_host
+  pub some : (has_any sent_client || has_any sent_host) ≡ true
   pub held-is : held ≡ before.recorded ++ (before.waiting ++ event_line event)
   pub lost : List ℕ
   pub all-is : behind.recorded ≡ held ++ lost
+  pub to_client : IsBetween before.to_client w.client.written (if before.client_up then before.to_client ++ sent_client else before.to_client)
+  pub to_host : IsBetween before.to_host w.host.written (if before.host_up then before.to_host ++ sent_host else before.to_host)
+  pub told : IsTold out before.told
 
 -- what a tape has of a call that was cut
-abbrev pub HasLines : Outside → Written → Course → Course → List ℕ → Type 0
-HasLines w out before behind held = (held ≡ behind.recorded) ⊎ (IsRecordedInPart w out before behind held ⊎ IsRecordedUntold before behind held)
+abbrev pub HasLines : (List Event → Event → List ℕ → List ℕ → Type 0) → Outside → Written → Course → Course → List ℕ → Type 0
+HasLines ran_out w out before behind held = (held ≡ behind.recorded) ⊎ (IsRecordedInPart w out before behind held ⊎ IsRecordedUntold ran_out w out before behind held)
 
 -- a call that the first course makes and that leads to the second was cut: what it writes is written in part, and not
--- before the line of its event is recorded
-pub record Cut (w : Outside) (out : Written) (before behind : Course) : Type 0 where
+-- before the line of its event is recorded; by where memory may run out within an event
+pub record Cut (ran_out : List Event → Event → List ℕ → List ℕ → Type 0) (w : Outside) (out : Written) (before behind : Course) : Type 0 where
   pub client : IsOneOf before.client w.client.turns behind.client
   pub host : IsOneOf before.host w.host.turns behind.host
   pub clients : IsOneOf before.clients w.door.to_come behind.clients
   pub to_client : IsBetween before.to_client w.client.written behind.to_client
   pub to_host : IsBetween before.to_host w.host.written behind.to_host
-  pub told : IsBetween before.told out.told behind.told
-  pub tape : IfSome out.tape (λ held. HasLines w out before behind held)
+  pub told : IsToldBetween before.told out behind.told
+  pub tape : IfSome out.tape (λ held. HasLines ran_out w out before behind held)

@@ -30,3 +30,11 @@ pub record Unrecorded (taped : Bool) (p : Prescribed) (events : List Event) (e :
 -- what is served ran out of memory within the event, or the loop did behind it
 abbrev pub RanOut : (List Event → Event → List ℕ → List ℕ → Type 0) → Bool → Prescribed → List Event → Event → List ℕ → List ℕ → Type 0
 RanOut runs_out taped p events e client host = runs_out events e client host ⊎ (Untold p events e client host ⊎ Unrecorded taped p events e client host)
+
+-- it ran out within the event, whose line could be recorded: within what is served, or for the line of a refusal
+abbrev pub RanOutWithin : (List Event → Event → List ℕ → List ℕ → Type 0) → Prescribed → List Event → Event → List ℕ → List ℕ → Type 0
+RanOutWithin runs_out p events e client host = runs_out events e client host ⊎ Untold p events e client host
+
+-- it doesn't run out
+abbrev pub Never : List Event → Event → List ℕ → List ℕ → Type 0
+Never events e client host = ⊥

@@ -1,7 +1,11 @@
--- What serving leaves, by how it ended, over doors, a sink and a tape that tell.
-use Rattle.std.specs.Prelude.{◌≡◌, ℕ, false, []}
+-- What serving leaves, by how it ended, over doors that tell, and a sink and a tape that may. What is served says where
+-- memory may run out within an event.
+use Rattle.std.specs.Prelude.{◌≡◌, ℕ, false, List, []}
 use Rattle.bridge_run.specs.declared.serve_end.ServeEnd.{ServeEnd}
 use Rattle.bridge_run.specs.declared.serve_end.ServeEnd.TheVariants.{Ended, LinkFault, WriteFault, Idle, Spent, Memory}
+use Rattle.bridge_run.specs.Events.{Event}
+use Rattle.bridge_run.specs.Prescribed.{Prescribed}
+use Rattle.bridge_run.specs.RanOut.{RanOutWithin, Never}
 use Rattle.bridge_run.specs.Course.{Setting, Course, Next}
 use Rattle.bridge_run.specs.Calls.{Outcome, Goes, Stops, call, calls, course_of}
 use Rattle.bridge_run.specs.Outside.{Outside, Written, Tells, Cut}
@@ -17,20 +21,30 @@ pub record EndsSo (s : Setting) (from : Outcome) (e : ServeEnd) (w : Outside) (o
   pub reaches : Reaches s from (Stops e course)
   pub tells : Tells w out course
 
+-- memory may have run out within the event where a link failed, too, as what was sent by then was written, but not where
+-- the sink or the tape failed
+abbrev pub MayRunOut : ServeEnd → (List Event → Event → List ℕ → List ℕ → Type 0) → Prescribed → List Event → Event → List ℕ → List ℕ → Type 0
+MayRunOut Memory runs_out p = RanOutWithin runs_out p
+MayRunOut (LinkFault side) runs_out p = RanOutWithin runs_out p
+MayRunOut WriteFault runs_out p = Never
+MayRunOut (Ended refused) runs_out p = Never
+MayRunOut Idle runs_out p = Never
+MayRunOut Spent runs_out p = Never
+
 -- they have come to a call that was cut
-pub record CutShort (s : Setting) (from : Outcome) (w : Outside) (out : Written) : Type 0 where
+pub record CutShort (e : ServeEnd) (runs_out : List Event → Event → List ℕ → List ℕ → Type 0) (s : Setting) (from : Outcome) (w : Outside) (out : Written) : Type 0 where
   pub next : Next
   pub course : Course
   pub reaches : Reaches s from (Goes next course)
-  pub cut : Cut w out course (course_of (call s next course))
+  pub cut : Cut (MayRunOut e runs_out s.served) w out course (course_of (call s next course))
 
-abbrev pub Leaves : ServeEnd → Setting → Outcome → Outside → Written → Type 0
-Leaves (Ended refused) s from w out = EndsSo s from (Ended refused) w out
-Leaves Idle s from w out = EndsSo s from Idle w out
-Leaves Spent s from w out = EndsSo s from Spent w out
-Leaves (LinkFault side) s from w out = CutShort s from w out
-Leaves WriteFault s from w out = CutShort s from w out
-Leaves Memory s from w out = CutShort s from w out
+abbrev pub Leaves : ServeEnd → (List Event → Event → List ℕ → List ℕ → Type 0) → Setting → Outcome → Outside → Written → Type 0
+Leaves (Ended refused) runs_out s from w out = EndsSo s from (Ended refused) w out
+Leaves Idle runs_out s from w out = EndsSo s from Idle w out
+Leaves Spent runs_out s from w out = EndsSo s from Spent w out
+Leaves (LinkFault side) runs_out s from w out = CutShort (LinkFault side) runs_out s from w out
+Leaves WriteFault runs_out s from w out = CutShort WriteFault runs_out s from w out
+Leaves Memory runs_out s from w out = CutShort Memory runs_out s from w out
 
 -- at an end that is no fault no line waits to be written to the tape
 abbrev pub NoneWaits : ServeEnd → Course → Type 0
@@ -47,5 +61,6 @@ pub record Begins (idle budget : ℕ) (c : Course) : Type 0 where
   pub client_down : c.client_up ≡ false
   pub host_down : c.host_up ≡ false
   pub busy : c.busy ≡ false
+  pub none_waits : c.waiting ≡ []
   pub waits : c.waits ≡ idle
   pub left : c.left ≡ budget

@@ -41,9 +41,9 @@ pub fn serve_host<G: Gadget, D: Doors, K: Sink>(
     requires host_down { (D.link doors.old Host).up ≡ false }
     requires idle { 1 ≤ idle }
     requires budget { 1 ≤ budget }
-    // Over doors and a sink that tell.
-    ensures leaves { (c : Course) → Begins idle budget c → Tells (outside (D.link doors.old) (D.door doors.old)) (written (K.contents out.old) None) c
-        → Leaves result (record { served = lent_sends G.meaning gadget; idle = idle }) (Goes AtDoor c) (outside (D.link doors.new) (D.door doors.new)) (written (K.contents out.new) None) }
+    // Over doors that tell, and a sink that may.
+    ensures leaves { (c : Course) → Begins idle budget c → Tells (outside (D.link doors.old) (D.door doors.old)) (written (K.contents out.old) (K.contents out.old) None) c
+        → Leaves result (LentStops G.meaning gadget) (record { served = lent_sends G.meaning gadget; idle = idle }) (Goes AtDoor c) (outside (D.link doors.new) (D.door doors.new)) (written (K.contents out.old) (K.contents out.new) None) }
     // Over any doors, and any sink.
     ensures log { Logged result D.call_gives (LentStops G.meaning gadget) (Told K.write_gives out.old out.new) (record { host = None; door = listen.now; taped = false; idle = idle; budget = budget }) (lent_sends G.meaning gadget) doors.old doors.new }
     ensures cause { HasCause result (outside (D.link doors.old) (D.door doors.old)) (outside (D.link doors.new) (D.door doors.new)) (faults (K.faults out.old) (counts 0 0)) (faults (K.faults out.new) (counts 0 0)) }

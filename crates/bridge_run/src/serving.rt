@@ -54,9 +54,9 @@ pub fn serve<D: Doors, K: Sink, T: Tape>(
     requires idle { 1 ≤ idle }
     requires budget { 1 ≤ budget }
     requires first_id { (1 ≤ first_id) × (first_id ≤ 4294967295) }
-    // Over doors and a sink that tell, and a tape that may.
-    ensures leaves { (c : Course) → Begins idle budget c → Tells (outside (D.link doors.old) (D.door doors.old)) (written (K.contents out.old) (T.contents tape.old)) c
-        → Leaves result (record { served = gate_sends after_loss first_id; idle = idle }) (Goes Making c) (outside (D.link doors.new) (D.door doors.new)) (written (K.contents out.new) (T.contents tape.new)) }
+    // Over doors that tell, and a sink and a tape that may.
+    ensures leaves { (c : Course) → Begins idle budget c → Tells (outside (D.link doors.old) (D.door doors.old)) (written (K.contents out.old) (K.contents out.old) (T.contents tape.old)) c
+        → Leaves result (gate_runs_out first_id) (record { served = gate_sends after_loss first_id; idle = idle }) (Goes Making c) (outside (D.link doors.new) (D.door doors.new)) (written (K.contents out.old) (K.contents out.new) (T.contents tape.new)) }
     // Over any doors, any sink and any tape.
     ensures log { Logged result D.call_gives (gate_runs_out first_id) (Told K.write_gives out.old out.new) (record { host = Some host.now; door = listen.now; taped = T.made tape.old; idle = idle; budget = budget }) (gate_sends after_loss first_id) doors.old doors.new }
     ensures cause { HasCause result (outside (D.link doors.old) (D.door doors.old)) (outside (D.link doors.new) (D.door doors.new)) (faults (K.faults out.old) (T.counts tape.old)) (faults (K.faults out.new) (T.counts tape.new)) }

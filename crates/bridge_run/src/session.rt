@@ -7,7 +7,7 @@ ghost use Rattle.bridge_run.specs.Course.{AtDoor, AtClient, Takes};
 ghost use Rattle.bridge_run.specs.Calls.{Goes, put, quiet};
 ghost use Rattle.bridge_run.specs.Outside.{outside, gathering, written, faults, Tells, Cut};
 ghost use Rattle.bridge_run.specs.Recorded.{sends_any, is_last};
-ghost use Rattle.bridge_run.specs.Serves.{Leaves};
+ghost use Rattle.bridge_run.specs.Serves.{MayRunOut, Leaves};
 ghost use Rattle.bridge_run.specs.inner.Keeping.{Agrees, Wears, IsLive, rounds_of, up_of};
 ghost use Rattle.bridge_run.specs.inner.Follows.{Prepared, Follows, HasFaults, IsCutEnd, Puts, setting, Runs, polls, behind};
 ghost use Rattle.bridge_run.specs.Outside.{HasCause, HasReason};
@@ -89,9 +89,9 @@ impl<C: Served + Drop> Session<C> {
     /// and they are written to each side whose link is up. None of its refusals is told. Says how serving ends.
     fn stop<D: Doors, T: Tape>(&mut self, event: Event, doors: &mut D, tape: &mut T) -> ServeEnd
         requires { Agrees self.old.kept (outside (D.link doors.old) (D.door doors.old)) }
-        ensures course { (first : C.First) (told : Option (List ℕ)) (c : Course) → IsPart (C.runs_out first) (C.sends first) c.events (event_of event.entry) self.old.sent.to_client self.old.sent.to_host → AreUp self.old.kept c
-            → Tells (outside (D.link doors.old) (D.door doors.old)) (gathering told (T.contents tape.old) self.old.waiting) c
-            → Cut (outside (D.link doors.new) (D.door doors.new)) (gathering told (T.contents tape.new) self.new.waiting) c (put (C.sends first) (event_of event.entry) c) }
+        ensures course { (first : C.First) (begun told : Option (List ℕ)) (c : Course) → IsPart (C.runs_out first) (C.sends first) c.events (event_of event.entry) self.old.sent.to_client self.old.sent.to_host → AreUp self.old.kept c
+            → Tells (outside (D.link doors.old) (D.door doors.old)) (gathering begun told (T.contents tape.old) self.old.waiting) c
+            → Cut (MayRunOut result (C.runs_out first) (C.sends first)) (outside (D.link doors.new) (D.door doors.new)) (gathering begun told (T.contents tape.new) self.new.waiting) c (put (C.sends first) (event_of event.entry) c) }
         ensures log { (first : C.First) (terms : Terms) (events : List PastEvent) (begun : D) → terms.taped ≡ T.made tape.old → IsPart (C.runs_out first) (C.sends first) events (event_of event.entry) self.old.sent.to_client self.old.sent.to_host
             → IsStopping D.call_gives terms (C.sends first) (event_of event.entry) events self.old.kept begun doors.old → StopLogs result D.call_gives (C.runs_out first) terms (C.sends first) (event_of event.entry) events begun doors.new }
         ensures faults { (sink : ℕ) → HasCause result (outside (D.link doors.old) (D.door doors.old)) (outside (D.link doors.new) (D.door doors.new)) (faults sink (T.counts tape.old)) (faults sink (T.counts tape.new)) }
@@ -135,8 +135,8 @@ impl<C: Served + Drop> Session<C> {
         tape: &mut T,
     ) -> Result<bool, ServeEnd>
         requires { Agrees self.old.kept (outside (D.link doors.old) (D.door doors.old)) }
-        ensures course { (first : C.First) (c : Course) → Follows (C.stands first self.old.core) (C.sends first) self.old.kept (outside (D.link doors.old) (D.door doors.old)) (gathering (K.contents out.old) (T.contents tape.old) self.old.waiting) c
-            → Puts result (C.stands first self.new.core) (C.sends first) (event_of event.entry) self.new.kept (outside (D.link doors.new) (D.door doors.new)) (gathering (K.contents out.new) (T.contents tape.new) self.new.waiting) c }
+        ensures course { (first : C.First) (begun : Option (List ℕ)) (c : Course) → Follows (C.stands first self.old.core) (C.sends first) self.old.kept (outside (D.link doors.old) (D.door doors.old)) (gathering begun (K.contents out.old) (T.contents tape.old) self.old.waiting) c
+            → Puts result (C.stands first self.new.core) (C.runs_out first) (C.sends first) (event_of event.entry) self.new.kept (outside (D.link doors.new) (D.door doors.new)) (gathering begun (K.contents out.new) (T.contents tape.new) self.new.waiting) c }
         ensures log { (first : C.First) (terms : Terms) (asks : List Ask) (begun : D) (begun_out : K) → terms.taped ≡ T.made tape.old → IsTaking D.call_gives (C.stands first self.old.core) (Told K.write_gives begun_out out.old) terms (C.sends first) asks (event_of event.entry) self.old.kept begun doors.old
             → PutLogs result D.call_gives (C.stands first self.new.core) (C.runs_out first) (Told K.write_gives begun_out out.new) terms (C.sends first) asks (event_of event.entry) self.new.kept begun doors.new }
         ensures faults { HasFaults result (outside (D.link doors.old) (D.door doors.old)) (outside (D.link doors.new) (D.door doors.new)) (faults (K.faults out.old) (T.counts tape.old)) (faults (K.faults out.new) (T.counts tape.new)) }
@@ -184,8 +184,8 @@ impl<C: Served + Drop> Session<C> {
         tape: &mut T,
     ) -> Result<(), ServeEnd>
         requires { Agrees self.old.kept (outside (D.link doors.old) (D.door doors.old)) }
-        ensures course { (first : C.First) (next : Next) (c : Course) → Follows (C.stands first self.old.core) (C.sends first) self.old.kept (outside (D.link doors.old) (D.door doors.old)) (gathering (K.contents out.old) (T.contents tape.old) self.old.waiting) c
-            → Runs result (C.stands first self.new.core) (setting (C.sends first) self.old.kept) self.new.kept (outside (D.link doors.new) (D.door doors.new)) (gathering (K.contents out.new) (T.contents tape.new) self.new.waiting) (Goes (Takes (event_of event.entry) next) c) next }
+        ensures course { (first : C.First) (begun : Option (List ℕ)) (next : Next) (c : Course) → Follows (C.stands first self.old.core) (C.sends first) self.old.kept (outside (D.link doors.old) (D.door doors.old)) (gathering begun (K.contents out.old) (T.contents tape.old) self.old.waiting) c
+            → Runs result (C.stands first self.new.core) (C.runs_out first) (setting (C.sends first) self.old.kept) self.new.kept (outside (D.link doors.new) (D.door doors.new)) (gathering begun (K.contents out.new) (T.contents tape.new) self.new.waiting) (Goes (Takes (event_of event.entry) next) c) next }
         ensures log { (first : C.First) (terms : Terms) (asks : List Ask) (begun : D) (begun_out : K) → terms.taped ≡ T.made tape.old → IsTaking D.call_gives (C.stands first self.old.core) (Told K.write_gives begun_out out.old) terms (C.sends first) asks (event_of event.entry) self.old.kept begun doors.old
             → HappenLogs result D.call_gives (C.stands first self.new.core) (C.runs_out first) (Told K.write_gives begun_out out.new) terms (C.sends first) asks self.new.kept begun doors.new }
         ensures faults { HasFaults result (outside (D.link doors.old) (D.door doors.old)) (outside (D.link doors.new) (D.door doors.new)) (faults (K.faults out.old) (T.counts tape.old)) (faults (K.faults out.new) (T.counts tape.new)) }
@@ -214,8 +214,8 @@ impl<C: Served + Drop> Session<C> {
     ) -> Result<(), ServeEnd>
         requires agrees { Agrees self.old.kept (outside (D.link doors.old) (D.door doors.old)) }
         requires left { 0 < self.old.kept.left }
-        ensures course { (first : C.First) (c : Course) → Follows (C.stands first self.old.core) (C.sends first) self.old.kept (outside (D.link doors.old) (D.door doors.old)) (gathering (K.contents out.old) (T.contents tape.old) self.old.waiting) c
-            → Runs result (C.stands first self.new.core) (setting (C.sends first) self.old.kept) self.new.kept (outside (D.link doors.new) (D.door doors.new)) (gathering (K.contents out.new) (T.contents tape.new) self.new.waiting) (Goes AtDoor c) AtClient }
+        ensures course { (first : C.First) (begun : Option (List ℕ)) (c : Course) → Follows (C.stands first self.old.core) (C.sends first) self.old.kept (outside (D.link doors.old) (D.door doors.old)) (gathering begun (K.contents out.old) (T.contents tape.old) self.old.waiting) c
+            → Runs result (C.stands first self.new.core) (C.runs_out first) (setting (C.sends first) self.old.kept) self.new.kept (outside (D.link doors.new) (D.door doors.new)) (gathering begun (K.contents out.new) (T.contents tape.new) self.new.waiting) (Goes AtDoor c) AtClient }
         ensures log { (first : C.First) (terms : Terms) (begun : D) (begun_out : K) → terms.taped ≡ T.made tape.old → IsAsking RoundBegins D.call_gives (C.stands first self.old.core) (Told K.write_gives begun_out out.old) terms (C.sends first) self.old.kept begun doors.old
             → Logs result DoorAsked D.call_gives (C.stands first self.new.core) (C.runs_out first) (Told K.write_gives begun_out out.new) terms (C.sends first) self.new.kept begun doors.new }
         ensures faults { HasFaults result (outside (D.link doors.old) (D.door doors.old)) (outside (D.link doors.new) (D.door doors.new)) (faults (K.faults out.old) (T.counts tape.old)) (faults (K.faults out.new) (T.counts tape.new)) }
@@ -250,8 +250,8 @@ impl<C: Served + Drop> Session<C> {
     ) -> Result<(), ServeEnd>
         requires agrees { Agrees self.old.kept (outside (D.link doors.old) (D.door doors.old)) }
         requires left { 0 < self.old.kept.left }
-        ensures course { (first : C.First) (next : Next) (c : Course) → Follows (C.stands first self.old.core) (C.sends first) self.old.kept (outside (D.link doors.old) (D.door doors.old)) (gathering (K.contents out.old) (T.contents tape.old) self.old.waiting) c
-            → Runs result (C.stands first self.new.core) (setting (C.sends first) self.old.kept) self.new.kept (outside (D.link doors.new) (D.door doors.new)) (gathering (K.contents out.new) (T.contents tape.new) self.new.waiting) (Goes (quiet side next) c) next }
+        ensures course { (first : C.First) (begun : Option (List ℕ)) (next : Next) (c : Course) → Follows (C.stands first self.old.core) (C.sends first) self.old.kept (outside (D.link doors.old) (D.door doors.old)) (gathering begun (K.contents out.old) (T.contents tape.old) self.old.waiting) c
+            → Runs result (C.stands first self.new.core) (C.runs_out first) (setting (C.sends first) self.old.kept) self.new.kept (outside (D.link doors.new) (D.door doors.new)) (gathering begun (K.contents out.new) (T.contents tape.new) self.new.waiting) (Goes (quiet side next) c) next }
         ensures log { (first : C.First) (terms : Terms) (asks : List Ask) (begun : D) (begun_out : K) → terms.taped ≡ T.made tape.old → IsResting side D.call_gives (C.stands first self.old.core) (Told K.write_gives begun_out out.old) terms (C.sends first) asks self.old.kept begun doors.old
             → HappenLogs result D.call_gives (C.stands first self.new.core) (C.runs_out first) (Told K.write_gives begun_out out.new) terms (C.sends first) asks self.new.kept begun doors.new }
         ensures faults { HasFaults result (outside (D.link doors.old) (D.door doors.old)) (outside (D.link doors.new) (D.door doors.new)) (faults (K.faults out.old) (T.counts tape.old)) (faults (K.faults out.new) (T.counts tape.new)) }
@@ -280,8 +280,8 @@ impl<C: Served + Drop> Session<C> {
         requires agrees { Agrees self.old.kept (outside (D.link doors.old) (D.door doors.old)) }
         requires left { 0 < self.old.kept.left }
         requires room { length buf.old ≡ 65536 }
-        ensures course { (first : C.First) (c : Course) → Follows (C.stands first self.old.core) (C.sends first) self.old.kept (outside (D.link doors.old) (D.door doors.old)) (gathering (K.contents out.old) (T.contents tape.old) self.old.waiting) c
-            → Runs result (C.stands first self.new.core) (setting (C.sends first) self.old.kept) self.new.kept (outside (D.link doors.new) (D.door doors.new)) (gathering (K.contents out.new) (T.contents tape.new) self.new.waiting) (Goes (polls side) c) (behind side) }
+        ensures course { (first : C.First) (begun : Option (List ℕ)) (c : Course) → Follows (C.stands first self.old.core) (C.sends first) self.old.kept (outside (D.link doors.old) (D.door doors.old)) (gathering begun (K.contents out.old) (T.contents tape.old) self.old.waiting) c
+            → Runs result (C.stands first self.new.core) (C.runs_out first) (setting (C.sends first) self.old.kept) self.new.kept (outside (D.link doors.new) (D.door doors.new)) (gathering begun (K.contents out.new) (T.contents tape.new) self.new.waiting) (Goes (polls side) c) (behind side) }
         ensures log { (first : C.First) (terms : Terms) (begun : D) (begun_out : K) → terms.taped ≡ T.made tape.old → IsAsking (stage_of side) D.call_gives (C.stands first self.old.core) (Told K.write_gives begun_out out.old) terms (C.sends first) self.old.kept begun doors.old
             → Logs result (stage_behind side) D.call_gives (C.stands first self.new.core) (C.runs_out first) (Told K.write_gives begun_out out.new) terms (C.sends first) self.new.kept begun doors.new }
         ensures faults { HasFaults result (outside (D.link doors.old) (D.door doors.old)) (outside (D.link doors.new) (D.door doors.new)) (faults (K.faults out.old) (T.counts tape.old)) (faults (K.faults out.new) (T.counts tape.new)) }
@@ -321,8 +321,8 @@ impl<C: Served + Drop> Session<C> {
         requires agrees { Agrees self.old.kept (outside (D.link doors.old) (D.door doors.old)) }
         requires live { IsLive self.old.kept }
         requires room { length buf.old ≡ 65536 }
-        ensures course { (first : C.First) (c : Course) → Follows (C.stands first self.old.core) (C.sends first) self.old.kept (outside (D.link doors.old) (D.door doors.old)) (gathering (K.contents out.old) (T.contents tape.old) self.old.waiting) c
-            → Runs result (C.stands first self.new.core) (setting (C.sends first) self.old.kept) self.new.kept (outside (D.link doors.new) (D.door doors.new)) (gathering (K.contents out.new) (T.contents tape.new) self.new.waiting) (Goes AtDoor c) AtDoor }
+        ensures course { (first : C.First) (begun : Option (List ℕ)) (c : Course) → Follows (C.stands first self.old.core) (C.sends first) self.old.kept (outside (D.link doors.old) (D.door doors.old)) (gathering begun (K.contents out.old) (T.contents tape.old) self.old.waiting) c
+            → Runs result (C.stands first self.new.core) (C.runs_out first) (setting (C.sends first) self.old.kept) self.new.kept (outside (D.link doors.new) (D.door doors.new)) (gathering begun (K.contents out.new) (T.contents tape.new) self.new.waiting) (Goes AtDoor c) AtDoor }
         ensures log { (first : C.First) (terms : Terms) (begun : D) (begun_out : K) → terms.taped ≡ T.made tape.old → IsAsking RoundBegins D.call_gives (C.stands first self.old.core) (Told K.write_gives begun_out out.old) terms (C.sends first) self.old.kept begun doors.old
             → Logs result RoundBegins D.call_gives (C.stands first self.new.core) (C.runs_out first) (Told K.write_gives begun_out out.new) terms (C.sends first) self.new.kept begun doors.new }
         ensures faults { HasFaults result (outside (D.link doors.old) (D.door doors.old)) (outside (D.link doors.new) (D.door doors.new)) (faults (K.faults out.old) (T.counts tape.old)) (faults (K.faults out.new) (T.counts tape.new)) }
@@ -352,8 +352,8 @@ impl<C: Served + Drop> Session<C> {
         requires live { IsLive self.old.kept }
         requires room { length buf.old ≡ 65536 }
         requires fresh { self.old.kept.waits ≡ self.old.kept.idle }
-        ensures course { (first : C.First) (c : Course) → Follows (C.stands first self.old.core) (C.sends first) self.old.kept (outside (D.link doors.old) (D.door doors.old)) (gathering (K.contents out.old) (T.contents tape.old) self.old.waiting) c
-            → Leaves result (setting (C.sends first) self.old.kept) (Goes AtDoor c) (outside (D.link doors.new) (D.door doors.new)) (written (K.contents out.new) (T.contents tape.new)) }
+        ensures course { (first : C.First) (begun : Option (List ℕ)) (c : Course) → Follows (C.stands first self.old.core) (C.sends first) self.old.kept (outside (D.link doors.old) (D.door doors.old)) (gathering begun (K.contents out.old) (T.contents tape.old) self.old.waiting) c
+            → Leaves result (C.runs_out first) (setting (C.sends first) self.old.kept) (Goes AtDoor c) (outside (D.link doors.new) (D.door doors.new)) (written begun (K.contents out.new) (T.contents tape.new)) }
         ensures log { (first : C.First) (terms : Terms) (begun : D) (begun_out : K) → terms.taped ≡ T.made tape.old → IsAsking RoundBegins D.call_gives (C.stands first self.old.core) (Told K.write_gives begun_out out.old) terms (C.sends first) self.old.kept begun doors.old
             → Logged result D.call_gives (C.runs_out first) (Told K.write_gives begun_out out.new) terms (C.sends first) begun doors.new }
         ensures cause { HasCause result (outside (D.link doors.old) (D.door doors.old)) (outside (D.link doors.new) (D.door doors.new)) (faults (K.faults out.old) (T.counts tape.old)) (faults (K.faults out.new) (T.counts tape.new)) }

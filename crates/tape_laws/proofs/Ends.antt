@@ -1,6 +1,6 @@
 -- What a run of `serve` has recorded, by how it ended.
 use Rattle.std.proofs.Common.{◌≡◌, ◌⊎◌, ◌≤◌, ℕ, Bool, inl, inr, List, [], ◌∷◌, ◌++◌, length, Option, Some, None, IfSome, refl, sym, ap, ◌∙◌, subst, append_assoc, append-nil, arith}
-use Rattle.std.proofs.lemmas.List.{length-append}
+use Rattle.std.proofs.lemmas.List.{length-append, append_cancel_left}
 use Rattle.gate_history.specs.step.Events.{Event as GateEvent}
 use Rattle.gate_history.specs.step.History.{history}
 use Rattle.gate_history.specs.write.All.{counts_of}
@@ -12,7 +12,9 @@ use Rattle.bridge_run.specs.Events.{Event}
 use Rattle.bridge_run.specs.Course.{Course, Next, Making, AtDoor, AtClient, AtHost, AtEnd, Takes}
 use Rattle.bridge_run.specs.Calls.{Outcome, Goes, Stops, call, course_of}
 use Rattle.bridge_run.specs.Outside.{Outside, Written, Faults, written, Tells, IsBetween, IsRecordedInPart, IsRecordedUntold, HasLines, Cut}
-use Rattle.bridge_run.specs.Serves.{Reaches, NoneWaits, EndsSo, CutShort, Leaves}
+use Rattle.bridge_run.specs.RanOut.{RanOutWithin}
+use Rattle.bridge_run.specs.GateStops.{gate_runs_out}
+use Rattle.bridge_run.specs.Serves.{MayRunOut, Reaches, NoneWaits, EndsSo, CutShort, Leaves}
 use Rattle.bridge_run.proofs.lemmas.events.Gather.{ended-waiting}
 use Rattle.usbgate_tapes.specs.declared.status.Status.{Status}
 use Rattle.usbgate_tapes.specs.declared.status.Status.TheVariants.{Done, Usage, Refused, ReadFault, WriteFault, LinkFault, OutOfMemory, BadTape, Idle, Spent}
@@ -25,11 +27,12 @@ use Rattle.usbgate_commands.specs.Serving.{Asked}
 use Rattle.usbgate_commands.specs.Serves.{setting_of, ended_as, IsUnrecorded, IsRecorded, Serves, ServesBy}
 use Rattle.bridge_run.specs.Recorded.{event_line, lines_of as event_lines}
 use Rattle.tape_laws.specs.Recordings.{recorded, served, all_replayed}
+use Rattle.bridge_run.specs.Log.{IsFront}
 use Rattle.bridge_run.specs.Ups.{client_at, host_at, client_behind, to_clients}
 use Rattle.tape_laws.specs.Ups.{host_behind, to_host}
 use Rattle.tape_laws.specs.Begun.{IsFresh}
-use Rattle.tape_laws.specs.Plays.{read_of, Plays, WroteFront, PlaysInPart, Replays}
-use Rattle.tape_laws.proofs.Reading.{with_text}
+use Rattle.tape_laws.specs.Plays.{read_of, Plays, WroteFront, EndsTape, PlaysInPart, IsUnserved, Replays}
+use Rattle.tape_laws.proofs.Cutting.{cut-at, are-lines, ends-fit, client-front, host-front, call-takes}
 use Rattle.tape_laws.proofs.Events.{AllFit}
 use Rattle.tape_laws.proofs.Courses.{Holds, Stands, At, IsMaking, call-comes, calls-come}
 use Rattle.tape_laws.proofs.Courses as course
@@ -61,6 +64,18 @@ plays asked c d e new out held reaches tells tape-is room none s =
     }
 
 -- ---- a run that was cut short
+
+-- where memory may have run out within an event, by how the run ended
+abbrev stopping : Asked → ServeEnd → List Event → Event → List ℕ → List ℕ → Type 0
+stopping asked x = MayRunOut x (gate_runs_out asked.first_id) (served asked)
+
+ran-within : (asked : Asked) (x : ServeEnd) (events : List Event) (e : Event) (client host : List ℕ) → stopping asked x events e client host → RanOutWithin (gate_runs_out asked.first_id) (served asked) events e client host
+ran-within asked end.Memory events e client host so = so
+ran-within asked (end.LinkFault side) events e client host so = so
+ran-within asked end.WriteFault events e client host so = absurd so
+ran-within asked (end.Ended refused) events e client host so = absurd so
+ran-within asked end.Idle events e client host so = absurd so
+ran-within asked end.Spent events e client host so = absurd so
 
 -- what the lines of a course's events and its links have
 record Facts (asked : Asked) (d : Course) : Type 0 where
@@ -120,52 +135,14 @@ front-between known least most all later b is = record {
   all-is = is ∙ ap (λ (l : List ℕ). l ++ later) b.most-is ∙ append_assoc (least ++ b.more) b.lost later;
 }
 
--- all lines of the call's event are there
-recorded-all : (asked : Asked) (c before : Course) (next : Next) (new : Outside) (out : Written) (held : List ℕ) → Reaches (setting_of asked) (Goes Making c) (Goes next before)
-    → Cut new out before (course_of (call (setting_of asked) next before)) → held ≡ (course_of (call (setting_of asked) next before)).recorded → length held ≤ tape_limit → Facts asked (course_of (call (setting_of asked) next before))
-    → PlaysInPart asked c new held
-recorded-all asked c before next new out held reaches cut is room f =
-    let behind = course_of (call (setting_of asked) next before) in
-    let held-is : held ≡ recording asked f.taped = is ∙ f.recorded-is in
-    let fits : length (recording asked f.taped) ≤ tape_limit = subst (λ (l : List ℕ). length l ≤ tape_limit) held-is room in
-    let comes = recording-comes asked f.taped f.fit fits in
-    let end = rest_read asked comes.to [] in
-    record {
-      next = next;
-      course = before;
-      reaches = reaches;
-      events = f.taped;
-      later = f.later;
-      events-are = inr f.events-are;
-      rest = end.text ++ last_text (over_events (replay asked.first_id)) (with_text (all_replayed asked f.taped) end);
-      prints = front-text asked f.taped (read_of asked held) end (front-read asked f.taped [] held comes (held-is ∙ sym (append-nil (recording asked f.taped))));
-      client = front-between new.client.written before.to_client behind.to_client (to_clients (served asked) f.taped) [] cut.to_client (sym f.client-is ∙ sym (append-nil behind.to_client));
-      host = front-between new.host.written before.to_host behind.to_host (to_host (served asked) f.taped) f.lost cut.to_host f.host-is;
-    }
-
--- the lines of the call's event are there in part
-recorded-some : (asked : Asked) (c before behind : Course) (next : Next) (new : Outside) (out : Written) (held : List ℕ) → Reaches (setting_of asked) (Goes Making c) (Goes next before)
-    → IsRecordedInPart new out before behind held → length held ≤ tape_limit → Facts asked before → PlaysInPart asked c new held
-recorded-some asked c before behind next new out held reaches part room f =
-    let held-is : held ≡ recording asked f.taped ++ part.more = part.held-is ∙ ap (λ (l : List ℕ). l ++ part.more) f.recorded-is in
-    let whole : length (recording asked f.taped ++ part.more) ≤ tape_limit = subst (λ (l : List ℕ). length l ≤ tape_limit) held-is room in
-    let long = length-append (recording asked f.taped) part.more in
-    let comes = recording-comes asked f.taped f.fit (omega (arith, whole, long)) in
-    let end = rest_read asked comes.to part.more in
-    record {
-      next = next;
-      course = before;
-      reaches = reaches;
-      events = f.taped;
-      later = f.later;
-      events-are = inl f.events-are;
-      rest = end.text ++ last_text (over_events (replay asked.first_id)) (with_text (all_replayed asked f.taped) end);
-      prints = front-text asked f.taped (read_of asked held) end (front-read asked f.taped part.more held comes held-is);
-      client = front-of new.client.written (to_clients (served asked) f.taped) before.to_client [] part.to_client (sym f.client-is ∙ sym (append-nil before.to_client));
-      host = front-of new.host.written (to_host (served asked) f.taped) before.to_host f.lost part.to_host f.host-is;
-    }
-
--- ---- memory ran out in an event
+-- of more bytes it is a front, too
+front-longer : (known : Option (List ℕ)) (all whole : List ℕ) → WroteFront known all → IsFront all whole → WroteFront known whole
+front-longer known all whole w f = record {
+  front = w.front;
+  lost = w.lost ++ f.0;
+  known-is = w.known-is;
+  all-is = f.1 ∙ ap (λ (l : List ℕ). l ++ f.0) w.all-is ∙ append_assoc w.front w.lost f.0;
+}
 
 -- the lines of all events of a course and its links have what these record and send
 record Whole (asked : Asked) (d : Course) : Type 0 where
@@ -205,34 +182,118 @@ outcome-whole : (asked : Asked) (o : Outcome) → course.Comes (served asked) (f
 outcome-whole asked (Goes next d) h = at-whole asked next d h
 outcome-whole asked (Stops e d) h = stands-whole asked d (client_behind (served asked) d.events) (host_behind (served asked) d.events) h
 
--- the event's own line is there
-recorded-line : (asked : Asked) (c before : Course) (next : Next) (new : Outside) (out : Written) (held : List ℕ) → Reaches (setting_of asked) (Goes Making c) (Goes next before)
-    → Cut new out before (course_of (call (setting_of asked) next before)) → IsRecordedUntold before (course_of (call (setting_of asked) next before)) held → length held ≤ tape_limit → Whole asked before → Whole asked (course_of (call (setting_of asked) next before))
-    → PlaysInPart asked c new held
-recorded-line asked c before next new out held reaches cut line room b f =
-    let behind = course_of (call (setting_of asked) next before) in
-    let events = line.event ∷ before.events in
-    let held-is : held ≡ recording asked before.events ++ event_lines line.event [] =
-    line.held-is ∙ sym (append_assoc before.recorded before.waiting (event_line line.event)) ∙ ap (λ (l : List ℕ). l ++ event_line line.event) (sym b.lines-are) ∙ ap (λ (l : List ℕ). recording asked before.events ++ l) (sym (append-nil (event_line line.event))) in
-    let fits : length (recording asked before.events ++ event_lines line.event []) ≤ tape_limit = subst (λ (l : List ℕ). length l ≤ tape_limit) held-is room in
-    let comes = line-comes asked before.events line.event (subst AllFit line.takes f.fit) fits in
-    let end = rest_read asked comes.to [] in
+-- the events behind a call that was cut have their lines up to somewhere
+part : (asked : Asked) (c before : Course) (next : Next) (new : Outside) (held : List ℕ) → Reaches (setting_of asked) (Goes Making c) (Goes next before) → (taped later : List Event) (more lost : List ℕ)
+    → (course_of (call (setting_of asked) next before)).events ≡ later ++ taped → AllFit (course_of (call (setting_of asked) next before)).events → recorded (served asked) (later ++ taped) ≡ recorded (served asked) taped ++ more ++ lost
+    → held ≡ recording asked taped ++ more → length held ≤ tape_limit → WroteFront new.client.written (to_clients (served asked) taped) → WroteFront new.host.written (to_host (served asked) taped) → PlaysInPart asked c new held
+part asked c before next new held reaches taped later more lost are fits whole is room client host =
+    let p = served asked in
+    let first = first_comment asked.first_id in
+    let x = cut-at asked taped later more lost whole in
+    let events = x.first ++ taped in
+    let ends : EndsTape asked events (course_of (call (setting_of asked) next before)).events x.rest = subst (λ (l : List Event). EndsTape asked events l x.rest) (sym are) x.ends in
+    let held-is : held ≡ recording asked events ++ x.rest =
+    is ∙ append_assoc first (recorded p taped) more ∙ ap (λ (l : List ℕ). first ++ l) x.parts ∙ sym (append_assoc first (recorded p events) x.rest) in
+    let in_all : length (recording asked events ++ x.rest) ≤ tape_limit = subst (λ (l : List ℕ). length l ≤ tape_limit) held-is room in
+    let long = length-append (recording asked events) x.rest in
+    let comes = recording-comes asked events (ends-fit asked events (course_of (call (setting_of asked) next before)).events x.rest ends fits) (omega (arith, in_all, long)) in
     record {
       next = next;
       course = before;
       reaches = reaches;
       events = events;
-      later = [];
-      events-are = inr line.takes;
-      rest = end.text ++ last_text (over_events (replay asked.first_id)) (with_text (all_replayed asked events) end);
-      prints = front-text asked events (read_of asked held) end (ap (read_of asked) (held-is ∙ sym (append-nil (recording asked before.events ++ event_lines line.event []))) ∙ comes.reads.goes_on []);
-      client = front-between new.client.written before.to_client behind.to_client (to_clients (served asked) events) [] cut.to_client (ap (to_clients (served asked)) (sym line.takes) ∙ f.client-is ∙ sym (append-nil behind.to_client));
-      host = front-between new.host.written before.to_host behind.to_host (to_host (served asked) events) f.lost cut.to_host (ap (to_host (served asked)) (sym line.takes) ∙ f.host-is);
+      lines = recorded p events;
+      more = x.rest;
+      are_lines = are-lines asked events;
+      held-is = held-is;
+      ends = ends;
+      behind = comes.to;
+      kept-is = comes.kept-is;
+      bytes-are = omega (arith, comes.reads.bytes-are);
+      prints = front-text asked events (read_of asked held) (rest_read asked comes.to x.rest) (front-read asked events x.rest held comes held-is);
+      client = front-longer new.client.written (to_clients p taped) (to_clients p events) client (client-front p x.first taped);
+      host = front-longer new.host.written (to_host p taped) (to_host p events) host (host-front p x.first taped);
     }
 
-cut-plays : (asked : Asked) (c before : Course) (next : Next) (new : Outside) (out : Written) (held : List ℕ) → Reaches (setting_of asked) (Goes Making c) (Goes next before)
-    → Cut new out before (course_of (call (setting_of asked) next before)) → out.tape ≡ Some held → length held ≤ tape_limit → At (served asked) (first_comment asked.first_id) next before → PlaysInPart asked c new held
-cut-plays asked c before next new out held reaches cut tape-is room at-next = go (subst (λ (o : Option (List ℕ)). IfSome o (λ (l : List ℕ). HasLines new out before behind l)) tape-is cut.tape)
+-- what the tape hasn't, behind a first line
+behind-first : (first taped all more lost : List ℕ) → first ++ all ≡ first ++ taped ++ (more ++ lost) → all ≡ taped ++ more ++ lost
+behind-first first taped all more lost is =
+    append_cancel_left first all (taped ++ more ++ lost) (is ∙ append_assoc first taped (more ++ lost) ∙ ap (λ (l : List ℕ). first ++ l) (sym (append_assoc taped more lost)))
+
+-- all lines of the call's event are there
+recorded-all : (asked : Asked) (x : ServeEnd) (c before : Course) (next : Next) (new : Outside) (out : Written) (held : List ℕ) → Reaches (setting_of asked) (Goes Making c) (Goes next before)
+    → Cut (stopping asked x) new out before (course_of (call (setting_of asked) next before)) → held ≡ (course_of (call (setting_of asked) next before)).recorded → length held ≤ tape_limit → Facts asked (course_of (call (setting_of asked) next before))
+    → Whole asked (course_of (call (setting_of asked) next before)) → PlaysInPart asked c new held
+recorded-all asked x c before next new out held reaches cut is room f w =
+    let p = served asked in
+    let behind = course_of (call (setting_of asked) next before) in
+    let taped = f.taped in
+    let whole : first_comment asked.first_id ++ recorded p (f.later ++ taped) ≡ first_comment asked.first_id ++ recorded p taped ++ ([] ++ behind.waiting) =
+    ap (λ (l : List Event). recording asked l) (sym f.events-are) ∙ w.lines-are ∙ ap (λ (l : List ℕ). l ++ behind.waiting) f.recorded-is in
+    part asked c before next new held reaches taped f.later [] behind.waiting f.events-are w.fit (behind-first (first_comment asked.first_id) (recorded p taped) (recorded p (f.later ++ taped)) [] behind.waiting whole)
+    (is ∙ f.recorded-is ∙ sym (append-nil (recording asked taped))) room
+    (front-between new.client.written before.to_client behind.to_client (to_clients p taped) [] cut.to_client (sym f.client-is ∙ sym (append-nil behind.to_client)))
+    (front-between new.host.written before.to_host behind.to_host (to_host p taped) f.lost cut.to_host f.host-is)
+
+-- the lines of the call's event are there in part
+recorded-some : (asked : Asked) (c before : Course) (next : Next) (new : Outside) (out : Written) (held : List ℕ) → Reaches (setting_of asked) (Goes Making c) (Goes next before)
+    → IsRecordedInPart new out before (course_of (call (setting_of asked) next before)) held → length held ≤ tape_limit → Facts asked before → Whole asked (course_of (call (setting_of asked) next before)) → PlaysInPart asked c new held
+recorded-some asked c before next new out held reaches some room f w =
+    let p = served asked in
+    let first = first_comment asked.first_id in
+    let behind = course_of (call (setting_of asked) next before) in
+    let taped = f.taped in
+    let taken = call-takes (setting_of asked) next before in
+    let later = taken.0 ++ f.later in
+    let are : behind.events ≡ later ++ taped = taken.1 ∙ ap (λ (l : List Event). taken.0 ++ l) f.events-are ∙ sym (append_assoc taken.0 f.later taped) in
+    let whole : first ++ recorded p (later ++ taped) ≡ first ++ recorded p taped ++ (some.more ++ (some.lost ++ behind.waiting)) =
+    ap (λ (l : List Event). recording asked l) (sym are) ∙ w.lines-are ∙ ap (λ (l : List ℕ). l ++ behind.waiting) some.all-is
+    ∙ append_assoc (before.recorded ++ some.more) some.lost behind.waiting ∙ append_assoc before.recorded some.more (some.lost ++ behind.waiting)
+    ∙ ap (λ (l : List ℕ). l ++ (some.more ++ (some.lost ++ behind.waiting))) f.recorded-is in
+    part asked c before next new held reaches taped later some.more (some.lost ++ behind.waiting) are w.fit (behind-first first (recorded p taped) (recorded p (later ++ taped)) some.more (some.lost ++ behind.waiting) whole)
+    (some.held-is ∙ ap (λ (l : List ℕ). l ++ some.more) f.recorded-is) room
+    (front-of new.client.written (to_clients p taped) before.to_client [] some.to_client (sym f.client-is ∙ sym (append-nil before.to_client)))
+    (front-of new.host.written (to_host p taped) before.to_host f.lost some.to_host f.host-is)
+
+-- ---- memory ran out in an event
+
+-- the event's own line is there
+recorded-line : (asked : Asked) (x : ServeEnd) (c before : Course) (next : Next) (new : Outside) (out : Written) (held : List ℕ) → Reaches (setting_of asked) (Goes Making c) (Goes next before)
+    → Cut (stopping asked x) new out before (course_of (call (setting_of asked) next before)) → IsRecordedUntold (stopping asked x) new out before (course_of (call (setting_of asked) next before)) held → length held ≤ tape_limit → Whole asked before
+    → Whole asked (course_of (call (setting_of asked) next before)) → PlaysInPart asked c new held
+recorded-line asked x c before next new out held reaches cut line room b f =
+    let p = served asked in
+    let first = first_comment asked.first_id in
+    let behind = course_of (call (setting_of asked) next before) in
+    let events = line.event ∷ before.events in
+    let lines = recorded p before.events ++ event_line line.event in
+    let held-is : held ≡ recording asked before.events ++ event_lines line.event [] =
+    line.held-is ∙ sym (append_assoc before.recorded before.waiting (event_line line.event)) ∙ ap (λ (l : List ℕ). l ++ event_line line.event) (sym b.lines-are) ∙ ap (λ (l : List ℕ). recording asked before.events ++ l) (sym (append-nil (event_line line.event))) in
+    let all : recording asked before.events ++ event_lines line.event [] ≡ first ++ lines =
+    ap (λ (l : List ℕ). recording asked before.events ++ l) (append-nil (event_line line.event)) ∙ append_assoc first (recorded p before.events) (event_line line.event) in
+    let fits : length (recording asked before.events ++ event_lines line.event []) ≤ tape_limit = subst (λ (l : List ℕ). length l ≤ tape_limit) held-is room in
+    let comes = line-comes asked before.events line.event (subst AllFit line.takes f.fit) fits in
+    record {
+      next = next;
+      course = before;
+      reaches = reaches;
+      events = events;
+      lines = lines;
+      more = [];
+      are_lines = inr (record { lines-are = refl; client = line.sent_client; host = line.sent_host; ran_out = ran-within asked x before.events line.event line.sent_client line.sent_host line.stopped });
+      held-is = held-is ∙ all ∙ sym (append-nil (first ++ lines));
+      ends = inl (line.takes, refl);
+      behind = comes.to;
+      kept-is = comes.kept-is;
+      bytes-are = omega (arith, comes.reads.bytes-are, ap (λ (l : List ℕ). length l) all);
+      prints = front-text asked events (read_of asked held) (rest_read asked comes.to []) (ap (read_of asked) (held-is ∙ sym (append-nil (recording asked before.events ++ event_lines line.event []))) ∙ comes.reads.goes_on []);
+      client = front-between new.client.written before.to_client behind.to_client (to_clients p events) [] cut.to_client (ap (to_clients p) (sym line.takes) ∙ f.client-is ∙ sym (append-nil behind.to_client));
+      host = front-between new.host.written before.to_host behind.to_host (to_host p events) f.lost cut.to_host (ap (to_host p) (sym line.takes) ∙ f.host-is);
+    }
+
+cut-plays : (asked : Asked) (x : ServeEnd) (c before : Course) (next : Next) (new : Outside) (out : Written) (held : List ℕ) → Reaches (setting_of asked) (Goes Making c) (Goes next before)
+    → Cut (stopping asked x) new out before (course_of (call (setting_of asked) next before)) → out.tape ≡ Some held → length held ≤ tape_limit → At (served asked) (first_comment asked.first_id) next before → PlaysInPart asked c new held
+cut-plays asked x c before next new out held reaches cut tape-is room at-next = go (subst (λ (o : Option (List ℕ)). IfSome o (λ (l : List ℕ). HasLines (stopping asked x) new out before behind l)) tape-is cut.tape)
   where
     behind : Course
     behind = course_of (call (setting_of asked) next before)
@@ -240,10 +301,13 @@ cut-plays asked c before next new out held reaches cut tape-is room at-next = go
     comes : course.Comes (served asked) (first_comment asked.first_id) (call (setting_of asked) next before)
     comes = call-comes (setting_of asked) (first_comment asked.first_id) next before at-next
 
-    go : HasLines new out before behind held → PlaysInPart asked c new held
-    go (inl is) = recorded-all asked c before next new out held reaches cut is room (outcome-facts asked (call (setting_of asked) next before) comes)
-    go (inr (inl part)) = recorded-some asked c before behind next new out held reaches part room (at-facts asked next before at-next)
-    go (inr (inr line)) = recorded-line asked c before next new out held reaches cut line room (at-whole asked next before at-next) (outcome-whole asked (call (setting_of asked) next before) comes)
+    all : Whole asked behind
+    all = outcome-whole asked (call (setting_of asked) next before) comes
+
+    go : HasLines (stopping asked x) new out before behind held → PlaysInPart asked c new held
+    go (inl is) = recorded-all asked x c before next new out held reaches cut is room (outcome-facts asked (call (setting_of asked) next before) comes) all
+    go (inr (inl some)) = recorded-some asked c before next new out held reaches some room (at-facts asked next before at-next) all
+    go (inr (inr line)) = recorded-line asked x c before next new out held reaches cut line room (at-whole asked next before at-next) all
 
 -- ---- each end
 
@@ -252,7 +316,7 @@ fresh-making asked c f = record {
   events-are = f.begins.events;
   client_up-is = f.begins.client_down;
   recorded-is = f.recorded-is;
-  none_waits = f.none_waits;
+  none_waits = f.begins.none_waits;
   to_client-is = f.no_client;
   to_host-is = f.no_host;
   client = f.client;
@@ -267,43 +331,31 @@ reached asked c o f r =
 ended-plays : (asked : Asked) (c : Course) (e : ServeEnd) (new : Outside) (out : Written) (held : List ℕ) → ((d : Course) → NoneWaits e d → d.waiting ≡ []) → IsFresh asked c → out.tape ≡ Some held → length held ≤ tape_limit → EndsSo (setting_of asked) (Goes Making c) e new out → Plays asked c new held
 ended-plays asked c e new out held none f tape-is room x = plays asked c x.course e new out held x.reaches x.tells tape-is room (none x.course (ended-waiting (setting_of asked) Making c e x.course x.reaches)) (reached asked c (Stops e x.course) f x.reaches)
 
-short-plays : (asked : Asked) (c : Course) (new : Outside) (out : Written) (held : List ℕ) → IsFresh asked c → out.tape ≡ Some held → length held ≤ tape_limit → CutShort (setting_of asked) (Goes Making c) new out → PlaysInPart asked c new held
-short-plays asked c new out held f tape-is room x = cut-plays asked c x.course x.next new out held x.reaches x.cut tape-is room (reached asked c (Goes x.next x.course) f x.reaches)
+short-plays : (asked : Asked) (e : ServeEnd) (c : Course) (new : Outside) (out : Written) (held : List ℕ) → IsFresh asked c → out.tape ≡ Some held → length held ≤ tape_limit → CutShort e (gate_runs_out asked.first_id) (setting_of asked) (Goes Making c) new out → PlaysInPart asked c new held
+short-plays asked e c new out held f tape-is room x = cut-plays asked e c x.course x.next new out held x.reaches x.cut tape-is room (reached asked c (Goes x.next x.course) f x.reaches)
 
-end-replays : (asked : Asked) (c : Course) (e : ServeEnd) (new : Outside) (out : Written) (held : List ℕ) → IsFresh asked c → out.tape ≡ Some held → length held ≤ tape_limit → Leaves e (setting_of asked) (Goes Making c) new out
+end-replays : (asked : Asked) (c : Course) (e : ServeEnd) (new : Outside) (out : Written) (held : List ℕ) → IsFresh asked c → out.tape ≡ Some held → length held ≤ tape_limit → Leaves e (gate_runs_out asked.first_id) (setting_of asked) (Goes Making c) new out
     → Replays (ended_as e) asked c new held
 end-replays asked c (end.Ended None) new out held f tape-is room x = ended-plays asked c (end.Ended None) new out held (λ d h. h) f tape-is room x
 end-replays asked c (end.Ended (Some r)) new out held f tape-is room x = ended-plays asked c (end.Ended (Some r)) new out held (λ d h. h) f tape-is room x
 end-replays asked c end.Idle new out held f tape-is room x = ended-plays asked c end.Idle new out held (λ d h. h) f tape-is room x
 end-replays asked c end.Spent new out held f tape-is room x = ended-plays asked c end.Spent new out held (λ d h. h) f tape-is room x
-end-replays asked c (end.LinkFault side) new out held f tape-is room x = short-plays asked c new out held f tape-is room x
-end-replays asked c end.WriteFault new out held f tape-is room x = short-plays asked c new out held f tape-is room x
-end-replays asked c end.Memory new out held f tape-is room x = short-plays asked c new out held f tape-is room x
+end-replays asked c (end.LinkFault side) new out held f tape-is room x = short-plays asked (end.LinkFault side) c new out held f tape-is room x
+end-replays asked c end.WriteFault new out held f tape-is room x = inr (short-plays asked end.WriteFault c new out held f tape-is room x)
+end-replays asked c end.Memory new out held f tape-is room x = inr (short-plays asked end.Memory c new out held f tape-is room x)
 
 -- ---- nothing was done
 
-untouched : (asked : Asked) (c : Course) (old : Outside) (out : Written) (held : List ℕ) → IsFresh asked c → Tells old out c → PlaysInPart asked c old held
-untouched asked c old out held f tells =
-    let x = read_of asked held in
-    let command = over_events (replay asked.first_id) in
-    let made = made_text asked.first_id in
-    record {
-      next = Making;
-      course = c;
-      reaches = record { count = 0; is = refl };
-      events = [];
-      later = [];
-      events-are = inl f.begins.events;
-      rest = x.text ++ last_text command x;
-      prints = append_assoc made x.text (last_text command x) ∙ ap (λ (l : List ℕ). l ++ (x.text ++ last_text command x)) (sym (append-nil made));
-      client = front-of old.client.written [] [] [] (tells.client.written-is ∙ ap (λ (l : List ℕ). Some l) f.no_client) refl;
-      host = front-of old.host.written ((served asked).to_host []) [] ((served asked).to_host []) (tells.host.written-is ∙ ap (λ (l : List ℕ). Some l) f.no_host) refl;
-    }
+untouched : (asked : Asked) (c : Course) (old : Outside) (out : Written) → IsFresh asked c → Tells old out c → IsUnserved old
+untouched asked c old out f tells = record {
+  client = tells.client.written-is ∙ ap (λ (l : List ℕ). Some l) f.no_client;
+  host = tells.host.written-is ∙ ap (λ (l : List ℕ). Some l) f.no_host;
+}
 
-unmade-replays : (status : Status) (asked : Asked) (c : Course) (new : Outside) (held : List ℕ) (t t' : Counts) → IsUnmade status t t' → PlaysInPart asked c new held → Replays status asked c new held
+unmade-replays : (status : Status) (asked : Asked) (c : Course) (new : Outside) (held : List ℕ) (t t' : Counts) → IsUnmade status t t' → IsUnserved new → Replays status asked c new held
 unmade-replays Usage asked c new held t t' is x = x
-unmade-replays WriteFault asked c new held t t' is x = x
-unmade-replays OutOfMemory asked c new held t t' is x = x
+unmade-replays WriteFault asked c new held t t' is x = inl x
+unmade-replays OutOfMemory asked c new held t t' is x = inl x
 unmade-replays Done asked c new held t t' is x = absurd is
 unmade-replays Refused asked c new held t t' is x = absurd is
 unmade-replays ReadFault asked c new held t t' is x = absurd is
@@ -319,14 +371,14 @@ told-line None line recorded waiting h is none = tt
 told-line (Some l) line recorded waiting h is none = (h ∙ sym is, sym none)
 
 pub replays : (status : Status) (asked : Asked) (name : List ℕ) (old new : Outside) (f f' : Faults) (w w' : Written) (c : Course) (held : List ℕ) → asked.recording ≡ Some name → Serves status asked old new f f' w w' → IsFresh asked c
-    → Tells old (written w.told None) c → w'.tape ≡ Some held → length held ≤ tape_limit → Replays status asked c new held
+    → Tells old (written w.begun w.told None) c → w'.tape ≡ Some held → length held ≤ tape_limit → Replays status asked c new held
 replays status asked name old new f f' w w' c held asks serves fresh tells tape-is room = go (subst (λ (o : Option (List ℕ)). ServesBy o asked status old new f f' w w') asks serves)
   where
     go : IsUnrecorded status old new f f' w w' ⊎ IsRecorded asked status old new f f' w w' → Replays status asked c new held
     go (inl x) =
         unmade-replays status asked c new held f.tape f'.tape x.cause
-        (subst (λ (o : Outside). PlaysInPart asked c o held) (sym x.outside-is) (untouched asked c old (written w.told None) held fresh tells))
+        (subst IsUnserved (sym x.outside-is) (untouched asked c old (written w.begun w.told None) fresh tells))
     go (inr x) =
         subst (λ (s : Status). Replays s asked c new held) (sym x.ends.status-is)
         (end-replays asked c x.ends.end new w' held fresh tape-is room
-        (x.ends.leaves c fresh.begins (record { client = tells.client; host = tells.host; clients = tells.clients; told = tells.told; tape = told-line x.known (first_comment asked.first_id) c.recorded c.waiting x.first_line fresh.recorded-is fresh.none_waits })))
+        (x.ends.leaves c fresh.begins (record { client = tells.client; host = tells.host; clients = tells.clients; told = tells.told; tape = told-line x.known (first_comment asked.first_id) c.recorded c.waiting x.first_line fresh.recorded-is fresh.begins.none_waits })))

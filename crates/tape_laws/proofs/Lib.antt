@@ -3,4 +3,5 @@ mod Reading
 mod Events
 mod Courses
 mod Recording
+mod Cutting
 mod Ends

@@ -20,11 +20,10 @@ abbrev pub AllSendBytes : List (List Turn) → Type 0
 AllSendBytes [] = Unit {0}
 AllSendBytes (turns ∷ peers) = SendBytes turns × AllSendBytes peers
 
--- the tape has its first line, nothing waits, and the links have nothing
+-- the tape has its first line, and the links have nothing
 pub record IsFresh (asked : Asked) (c : Course) : Type 0 where
   pub begins : Begins asked.idle budget c
   pub recorded-is : c.recorded ≡ first_comment asked.first_id
-  pub none_waits : c.waiting ≡ []
   pub no_client : c.to_client ≡ []
   pub no_host : c.to_host ≡ []
   pub client : SendBytes c.client

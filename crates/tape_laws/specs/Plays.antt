@@ -1,5 +1,5 @@
 -- What a recording is read as, and what its replay prints, beside what was written to the links.
-use Rattle.std.specs.Prelude.{◌≡◌, ◌⊎◌, ℕ, false, List, ◌++◌, Option, Some}
+use Rattle.std.specs.Prelude.{◌≡◌, ◌⊎◌, ℕ, false, List, [], ◌∷◌, ◌++◌, length, Option, Some}
 use Rattle.session_tape.specs.Lines.{first_comment}
 use Rattle.gate_history.specs.step.Events.{Event as GateEvent}
 use Rattle.gate_history.specs.step.History.{history}
@@ -10,11 +10,16 @@ use Rattle.bridge_run.specs.Course.{Course, Next, Making}
 use Rattle.bridge_run.specs.Calls.{Goes, Stops, call, course_of}
 use Rattle.bridge_run.specs.Outside.{Outside}
 use Rattle.bridge_run.specs.Gate.{gate_events}
+use Rattle.bridge_run.specs.GateStops.{gate_runs_out}
+use Rattle.bridge_run.specs.Prescribed.{gained}
+use Rattle.bridge_run.specs.RanOut.{RanOutWithin}
+use Rattle.bridge_run.specs.Recorded.{event_line, lines_of}
 use Rattle.bridge_run.specs.Serves.{Reaches}
 use Rattle.usbgate_tapes.specs.declared.status.Status.{Status}
 use Rattle.usbgate_tapes.specs.declared.status.Status.TheVariants.{Done, Usage, Refused, ReadFault, WriteFault, LinkFault, OutOfMemory, BadTape, Idle, Spent}
 use Rattle.usbgate_tapes.specs.Text.{made_text, counts_line}
-use Rattle.usbgate_tapes.specs.tape.TapeCommand.{Reading, read_tape, tape_text}
+use Rattle.usbgate_tapes.specs.tape.Tape.{lines_of as tape_lines}
+use Rattle.usbgate_tapes.specs.tape.TapeCommand.{Progress, Reading, read_lines, read_tape, last_text, tape_text}
 use Rattle.usbgate_tapes.specs.tape.EventCommand.{over_events}
 use Rattle.usbgate_tapes.specs.Replay.{replay}
 use Rattle.usbgate_commands.specs.Serving.{Asked}
@@ -50,29 +55,71 @@ pub record WroteFront (known : Option (List ℕ)) (all : List ℕ) : Type 0 wher
   pub known-is : known ≡ Some front
   pub all-is : all ≡ front ++ lost
 
--- The run was cut short, by a fault or for want of memory, within a call. The replay of the tape prints what the first
--- of the events before that call send, or also the one that the call takes; and of no other event was anything written to
--- the links.
+-- ---- a run that was cut short
+
+-- memory may have run out in the latest event, and the comments of its refusals are missing
+pub record LacksComments (asked : Asked) (e : Event) (events : List Event) (lines : List ℕ) : Type 0 where
+  pub lines-are : lines ≡ recorded (served asked) events ++ event_line e
+  pub client : List ℕ
+  pub host : List ℕ
+  pub ran_out : RanOutWithin (gate_runs_out asked.first_id) (served asked) events e client host
+
+-- the lines of these events
+abbrev pub AreLines : Asked → List Event → List ℕ → Type 0
+AreLines asked [] lines = lines ≡ []
+AreLines asked (e ∷ events) lines = (lines ≡ recorded (served asked) (e ∷ events)) ⊎ LacksComments asked e events lines
+
+-- more events were taken, and of the lines of the next one this is a front, and not the whole
+pub record IsCutIn (asked : Asked) (events taken : List Event) (more : List ℕ) : Type 0 where
+  pub event : Event
+  pub after : List Event
+  pub taken-are : taken ≡ after ++ (event ∷ events)
+  pub missing : ℕ
+  pub lost : List ℕ
+  pub lines-are : lines_of event (gained (served asked).refusals events event) ≡ more ++ (missing ∷ lost)
+
+-- all that were taken have their lines, or these alone, and a front of the next one's
+abbrev pub EndsTape : Asked → List Event → List Event → List ℕ → Type 0
+EndsTape asked events taken more = ((taken ≡ events) × (more ≡ [])) ⊎ IsCutIn asked events taken more
+
+-- what `replay` prints for what stands behind lines that it has read
+abbrev pub rest_text : Asked → Progress (List GateEvent) → List ℕ → List ℕ
+rest_text asked behind more =
+    let command = over_events (replay asked.first_id) in let x = read_lines command behind (tape_lines more) in x.text ++ last_text command x
+
+-- The run was cut short, by a fault or for want of memory, within a call. The tape has the lines of the first of the
+-- events that were taken, by that call, too, and behind them less than the lines of the next one. Its replay prints what
+-- these first events send, and then what it makes of the rest; and of no other event was anything written to the links.
 pub record PlaysInPart (asked : Asked) (c : Course) (new : Outside) (held : List ℕ) : Type 0 where
   pub next : Next
   pub course : Course
   pub reaches : Reaches (setting_of asked) (Goes Making c) (Goes next course)
   pub events : List Event
-  pub later : List Event
-  pub events-are : (course.events ≡ later ++ events) ⊎ ((course_of (call (setting_of asked) next course)).events ≡ later ++ events)
-  pub rest : List ℕ
-  pub prints : text_of asked held ≡ made_text asked.first_id ++ all_replayed asked events ++ rest
+  pub lines : List ℕ
+  pub more : List ℕ
+  pub are_lines : AreLines asked events lines
+  pub held-is : held ≡ first_comment asked.first_id ++ lines ++ more
+  pub ends : EndsTape asked events (course_of (call (setting_of asked) next course)).events more
+  pub behind : Progress (List GateEvent)
+  pub kept-is : behind.kept ≡ gate_events events
+  pub bytes-are : behind.bytes ≡ length (first_comment asked.first_id ++ lines)
+  pub prints : text_of asked held ≡ made_text asked.first_id ++ all_replayed asked events ++ rest_text asked behind more
   pub client : WroteFront new.client.written (to_clients (served asked) events)
   pub host : WroteFront new.host.written (to_host (served asked) events)
+
+-- nothing was served, since no file was made, or its first line wasn't written
+pub record IsUnserved (new : Outside) : Type 0 where
+  pub client : new.client.written ≡ Some []
+  pub host : new.host.written ≡ Some []
 
 abbrev pub Replays : Status → Asked → Course → Outside → List ℕ → Type 0
 Replays Done asked c new held = Plays asked c new held
 Replays Refused asked c new held = Plays asked c new held
 Replays Idle asked c new held = Plays asked c new held
 Replays Spent asked c new held = Plays asked c new held
-Replays Usage asked c new held = PlaysInPart asked c new held
-Replays WriteFault asked c new held = PlaysInPart asked c new held
+Replays Usage asked c new held = IsUnserved new
+Replays WriteFault asked c new held = IsUnserved new ⊎ PlaysInPart asked c new held
 Replays (LinkFault side) asked c new held = PlaysInPart asked c new held
-Replays OutOfMemory asked c new held = PlaysInPart asked c new held
+Replays OutOfMemory asked c new held = IsUnserved new ⊎ PlaysInPart asked c new held
 Replays ReadFault asked c new held = ⊥
 Replays (BadTape number) asked c new held = ⊥

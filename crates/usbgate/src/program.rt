@@ -53,7 +53,7 @@ pub fn run<S: Source, K: Sink, D: Doors, T: MakeTape>(
     ensures load_simulates { (count : ℕ) → command_of (texts words.now) ≡ Command.Load count → result ≡ Status.Done → MadeSimulates count }
     ensures serves { (asked : Asked) → command_of (texts words.now) ≡ Command.Serve asked
         → Serves result asked (outside (D.link doors.old) (D.door doors.old)) (outside (D.link doors.new) (D.door doors.new))
-        (faults (K.faults out.old) (T.counts recording.old)) (faults (K.faults out.new) (T.counts recording.new)) (written (K.contents out.old) (T.contents recording.old)) (written (K.contents out.new) (T.contents recording.new)) }
+        (faults (K.faults out.old) (T.counts recording.old)) (faults (K.faults out.new) (T.counts recording.new)) (written (K.contents out.old) (K.contents out.old) (T.contents recording.old)) (written (K.contents out.old) (K.contents out.new) (T.contents recording.new)) }
     ensures lends { (asked : AskedLent) → command_of (texts words.now) ≡ Command.Host asked
         → Lends result asked (outside (D.link doors.old) (D.door doors.old)) (outside (D.link doors.new) (D.door doors.new))
         (K.faults out.old) (K.faults out.new) (K.contents out.old) (K.contents out.new) }

@@ -13,7 +13,8 @@ use Rattle.std.specs.Io.KnownBytes.{append_known}
 use Rattle.gate_outside.specs.Faults.{Rose}
 use Rattle.session_tape.specs.Tapes.{Counts, counts}
 use Rattle.bridge_run.specs.Outside.{Outside, Written, Faults, outside, written, faults, OneRose, NoFault, Tells, Cut, HasCause, IsBetween}
-use Rattle.bridge_run.specs.Serves.{CutShort}
+use Rattle.bridge_run.specs.Events.{Event}
+use Rattle.bridge_run.specs.Serves.{MayRunOut, CutShort}
 use Rattle.usbgate_tapes.specs.declared.status.Status.{Status}
 use Rattle.usbgate_tapes.specs.declared.status.Status.TheVariants.{Done, Usage, Refused, ReadFault, WriteFault, LinkFault, OutOfMemory, BadTape, Idle, Spent}
 use Rattle.usbgate_commands.specs.Serving.{Asked}
@@ -38,8 +39,13 @@ as_it_is known least is = record {
   most-is = sym (append-nil (least ++ []) ∙ append-nil least);
 }
 
-unmade : (s : Setting) (c : Course) (w : Outside) (out : Option (List ℕ)) → Tells w (written out None) c → CutShort s (Goes Making c) w (written out None)
-unmade s c w out tells = record {
+-- and of a sink that told its bytes as serving began
+untold-more : (begun known : Option (List ℕ)) (told : List ℕ) → IfSome begun (λ (first : List ℕ). known ≡ Some told) → IfSome begun (λ (first : List ℕ). IsBetween told known told)
+untold-more None known told is = tt
+untold-more (Some first) known told is = as_it_is known told is
+
+unmade : {runs_out : List Event → Event → List ℕ → List ℕ → Type 0} → (s : Setting) (c : Course) (w : Outside) (begun out : Option (List ℕ)) → Tells w (written begun out None) c → CutShort end.Memory runs_out s (Goes Making c) w (written begun out None)
+unmade s c w begun out tells = record {
   next = Making;
   course = c;
   reaches = record { count = 0; is = refl };
@@ -49,22 +55,22 @@ unmade s c w out tells = record {
     clients = inl tells.clients;
     to_client = as_it_is w.client.written c.to_client tells.client.written-is;
     to_host = unwritten w.host.written c.to_host (s.served.to_host []) tells.host.written-is;
-    told = as_it_is out c.told tells.told;
+    told = untold-more begun out c.told tells.told;
     tape = tt;
   };
 }
 
-unserved-so : (s : Setting) (w : Outside) (f : Faults) (out : Option (List ℕ)) → EndsOf s Making OutOfMemory w w f f (written out None) (written out None)
-unserved-so s w f out = record {
+unserved-so : {runs_out : List Event → Event → List ℕ → List ℕ → Type 0} → (s : Setting) (w : Outside) (f : Faults) (begun out : Option (List ℕ)) → EndsOf runs_out s Making OutOfMemory w w f f (written begun out None) (written begun out None)
+unserved-so s w f begun out = record {
   end = end.Memory;
   status-is = refl;
   cause = record { client = refl; host = refl; sink = refl };
   reason = tt;
-  leaves = λ c begins tells. unmade s c w out tells;
+  leaves = λ c begins tells. unmade s c w begun out tells;
 }
 
 unserved-by : (recording : Option (List ℕ)) (asked : Asked) (w : Outside) (f : Faults) (out : Written) → ServesBy recording asked OutOfMemory w w f f out out
-unserved-by None asked w f out = record { tape-is = refl; counts-are = refl; ends = unserved-so (setting_of asked) w (faults f.sink (counts 0 0)) out.told }
+unserved-by None asked w f out = record { tape-is = refl; counts-are = refl; ends = unserved-so (setting_of asked) w (faults f.sink (counts 0 0)) out.begun out.told }
 unserved-by (Some name) asked w f out = inl (record { outside-is = refl; sink = refl; told = refl; cause = refl })
 
 -- memory ran out before
@@ -72,32 +78,32 @@ pub unserved : (asked : Asked) (w : Outside) (f : Faults) (out : Written) → Se
 unserved asked w f out = unserved-by asked.recording asked w f out
 
 -- nobody is asked for at the door yet
-no-guest : (clients : List (List Turn)) (c : Course) (w : Outside) (out : Option (List ℕ)) → Tells w (written out None) c → Cut w (written out None) c (course_of (come clients c))
-no-guest [] c w out tells = record {
+no-guest : {ran_out : List Event → Event → List ℕ → List ℕ → Type 0} → (clients : List (List Turn)) (c : Course) (w : Outside) (begun out : Option (List ℕ)) → Tells w (written begun out None) c → Cut ran_out w (written begun out None) c (course_of (come clients c))
+no-guest [] c w begun out tells = record {
   client = inl tells.client.turns-is;
   host = inl tells.host.turns-is;
   clients = inl tells.clients;
   to_client = as_it_is w.client.written c.to_client tells.client.written-is;
   to_host = as_it_is w.host.written c.to_host tells.host.written-is;
-  told = as_it_is out c.told tells.told;
+  told = untold-more begun out c.told tells.told;
   tape = tt;
 }
-no-guest (turns ∷ later) c w out tells = record {
+no-guest (turns ∷ later) c w begun out tells = record {
   client = inl tells.client.turns-is;
   host = inl tells.host.turns-is;
   clients = inl tells.clients;
   to_client = as_it_is w.client.written c.to_client tells.client.written-is;
   to_host = as_it_is w.host.written c.to_host tells.host.written-is;
-  told = as_it_is out c.told tells.told;
+  told = untold-more begun out c.told tells.told;
   tape = tt;
 }
 
-unasked : (s : Setting) (c : Course) (w : Outside) (out : Option (List ℕ)) → c.client_up ≡ false → Tells w (written out None) c → CutShort s (Goes AtDoor c) w (written out None)
-unasked s c w out down tells = record {
+unasked : {runs_out : List Event → Event → List ℕ → List ℕ → Type 0} → (s : Setting) (c : Course) (w : Outside) (begun out : Option (List ℕ)) → c.client_up ≡ false → Tells w (written begun out None) c → CutShort end.Memory runs_out s (Goes AtDoor c) w (written begun out None)
+unasked {runs_out = runs_out} s c w begun out down tells = record {
   next = AtDoor;
   course = c;
   reaches = record { count = 0; is = refl };
-  cut = subst (λ (d : Course). Cut w (written out None) c d) (sym (ap (λ (b : Bool). course_of (cond b (Goes AtClient c) (come c.clients c))) down)) (no-guest c.clients c w out tells);
+  cut = subst (λ (d : Course). Cut (MayRunOut end.Memory runs_out s.served) w (written begun out None) c d) (sym (ap (λ (b : Bool). course_of (cond b (Goes AtClient c) (come c.clients c))) down)) (no-guest c.clients c w begun out tells);
 }
 
 pub unlent : (asked : AskedLent) (w : Outside) (count : ℕ) (out : Option (List ℕ)) → Lends OutOfMemory asked w w count count out out
@@ -106,7 +112,7 @@ unlent asked w count out = record {
   status-is = refl;
   cause = record { client = refl; host = refl; sink = refl };
   reason = tt;
-  leaves = λ c begins tells. unasked (setting_lent asked) c w out begins.client_down tells;
+  leaves = λ c begins tells. unasked (setting_lent asked) c w out out begins.client_down tells;
 }
 
 -- a link that didn't fail has the faults that it had

@@ -5,6 +5,7 @@ use Rattle.bridge_run.specs.declared.serve_end.ServeEnd.TheVariants as end
 use Rattle.bridge_run.specs.Course.{Setting, Course, Next, Making, AtDoor}
 use Rattle.bridge_run.specs.Calls.{Goes}
 use Rattle.bridge_run.specs.Gate.{gate_sends}
+use Rattle.bridge_run.specs.GateStops.{gate_runs_out}
 use Rattle.bridge_run.specs.Events.{Event}
 use Rattle.bridge_run.specs.Lent.{lent_sends}
 use Rattle.bridge_run.specs.LentStops.{LentStops}
@@ -60,14 +61,14 @@ ended_as end.Idle = Idle
 ended_as end.Spent = Spent
 ended_as end.Memory = OutOfMemory
 
--- it ends with the status of its end, which has its cause and its reason; and over doors and a sink that tell, and a tape that may,
--- these are left as that end leaves them
-pub record EndsOf (setting : Setting) (first : Next) (status : Status) (old new : Outside) (faults_old faults_new : Faults) (written_old written_new : Written) : Type 0 where
+-- it ends with the status of its end, which has its cause and its reason; and over doors that tell, and a sink and a tape
+-- that may, these are left as that end leaves them, by where memory may run out within an event
+pub record EndsOf (runs_out : List Event → Event → List ℕ → List ℕ → Type 0) (setting : Setting) (first : Next) (status : Status) (old new : Outside) (faults_old faults_new : Faults) (written_old written_new : Written) : Type 0 where
   pub end : ServeEnd
   pub status-is : status ≡ ended_as end
   pub cause : HasCause end old new faults_old faults_new
   pub reason : HasReason end setting.idle old new
-  pub leaves : (c : Course) → Begins setting.idle budget c → Tells old written_old c → Leaves end setting (Goes first c) new written_new
+  pub leaves : (c : Course) → Begins setting.idle budget c → Tells old written_old c → Leaves end runs_out setting (Goes first c) new written_new
 
 -- ---- serving, where the host is dialled first
 
@@ -82,13 +83,13 @@ pub record IsUnrecorded (status : Status) (old new : Outside) (faults_old faults
 pub record IsRecorded (asked : Asked) (status : Status) (old new : Outside) (faults_old faults_new : Faults) (written_old written_new : Written) : Type 0 where
   pub known : Option (List ℕ)
   pub first_line : IfSome known (λ held. held ≡ first_comment asked.first_id)
-  pub ends : EndsOf (setting_of asked) Making status old new faults_old faults_new (written written_old.told known) written_new
+  pub ends : EndsOf (gate_runs_out asked.first_id) (setting_of asked) Making status old new faults_old faults_new (written written_old.begun written_old.told known) written_new
 
 -- with no tape the outside's one is as it was
 pub record HasNoTape (asked : Asked) (status : Status) (old new : Outside) (faults_old faults_new : Faults) (written_old written_new : Written) : Type 0 where
   pub tape-is : written_new.tape ≡ written_old.tape
   pub counts-are : faults_new.tape ≡ faults_old.tape
-  pub ends : EndsOf (setting_of asked) Making status old new (faults faults_old.sink (counts 0 0)) (faults faults_new.sink (counts 0 0)) (written written_old.told None) (written written_new.told None)
+  pub ends : EndsOf (gate_runs_out asked.first_id) (setting_of asked) Making status old new (faults faults_old.sink (counts 0 0)) (faults faults_new.sink (counts 0 0)) (written written_old.begun written_old.told None) (written written_new.begun written_new.told None)
 
 abbrev pub ServesBy : Option (List ℕ) → Asked → Status → (old new : Outside) → (faults_old faults_new : Faults) → (written_old written_new : Written) → Type 0
 ServesBy None asked status old new faults_old faults_new written_old written_new = HasNoTape asked status old new faults_old faults_new written_old written_new
@@ -101,4 +102,4 @@ Serves status asked old new faults_old faults_new written_old written_new = Serv
 -- the guest is asked for first
 abbrev pub Lends : Status → AskedLent → (old new : Outside) → (faults_old faults_new : ℕ) → (contents_old contents_new : Option (List ℕ)) → Type 0
 Lends status asked old new faults_old faults_new contents_old contents_new =
-    EndsOf (setting_lent asked) AtDoor status old new (faults faults_old (counts 0 0)) (faults faults_new (counts 0 0)) (written contents_old None) (written contents_new None)
+    EndsOf (device_runs_out asked.device) (setting_lent asked) AtDoor status old new (faults faults_old (counts 0 0)) (faults faults_new (counts 0 0)) (written contents_old contents_old None) (written contents_old contents_new None)

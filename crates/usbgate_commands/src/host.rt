@@ -67,8 +67,8 @@ fn lend<G: Gadget, D: Doors, K: Sink>(
     requires host_down { (D.link doors.old Host).up ≡ false }
     requires idle { 1 ≤ lending.now.idle }
     ensures log { HasLog D.call_gives (LentStops G.meaning gadget) (Told K.write_gives out.old out.new) (terms_lent lending.now) (lent_sends G.meaning gadget) result doors.old doors.new }
-    ensures ends { EndsOf (record { served = lent_sends G.meaning gadget; idle = lending.now.idle }) AtDoor result (outside (D.link doors.old) (D.door doors.old)) (outside (D.link doors.new) (D.door doors.new))
-        (faults (K.faults out.old) (counts 0 0)) (faults (K.faults out.new) (counts 0 0)) (written (K.contents out.old) None) (written (K.contents out.new) None) }
+    ensures ends { EndsOf (LentStops G.meaning gadget) (record { served = lent_sends G.meaning gadget; idle = lending.now.idle }) AtDoor result (outside (D.link doors.old) (D.door doors.old)) (outside (D.link doors.new) (D.door doors.new))
+        (faults (K.faults out.old) (counts 0 0)) (faults (K.faults out.new) (counts 0 0)) (written (K.contents out.old) (K.contents out.old) None) (written (K.contents out.old) (K.contents out.new) None) }
 {
     let end = serve_host(
         alloc,

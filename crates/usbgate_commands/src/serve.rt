@@ -37,7 +37,7 @@ pub fn serve<D: Doors, K: Sink, T: MakeTape>(
     requires idle { 1 ≤ serving.now.idle }
     requires first_id { (1 ≤ serving.now.first_id) × (serving.now.first_id < 2 ^ 32) }
     ensures serves { Serves result serving.now (outside (D.link doors.old) (D.door doors.old)) (outside (D.link doors.new) (D.door doors.new))
-        (faults (K.faults out.old) (T.counts recording.old)) (faults (K.faults out.new) (T.counts recording.new)) (written (K.contents out.old) (T.contents recording.old)) (written (K.contents out.new) (T.contents recording.new)) }
+        (faults (K.faults out.old) (T.counts recording.old)) (faults (K.faults out.new) (T.counts recording.new)) (written (K.contents out.old) (K.contents out.old) (T.contents recording.old)) (written (K.contents out.old) (K.contents out.new) (T.contents recording.new)) }
     ensures log { ServesByLog D.call_gives (Told K.write_gives out.old out.new) result serving.now doors.old doors.new }
     ensures causes { HasServed result (outside (D.link doors.old) (D.door doors.old)) (outside (D.link doors.new) (D.door doors.new))
         (faults (K.faults out.old) (T.counts recording.old)) (faults (K.faults out.new) (T.counts recording.new)) }
@@ -94,8 +94,8 @@ fn between<D: Doors, K: Sink, T: Tape>(
     requires first_id { (1 ≤ serving.now.first_id) × (serving.now.first_id < 2 ^ 32) }
     requires made { T.made tape.old ≡ is_some serving.now.recording }
     ensures log { HasLog D.call_gives (gate_runs_out serving.now.first_id) (Told K.write_gives out.old out.new) (terms_of serving.now) (gate_sends serving.now.after_loss serving.now.first_id) result doors.old doors.new }
-    ensures ends { EndsOf (setting_of serving.now) Making result (outside (D.link doors.old) (D.door doors.old)) (outside (D.link doors.new) (D.door doors.new))
-        (faults (K.faults out.old) (T.counts tape.old)) (faults (K.faults out.new) (T.counts tape.new)) (written (K.contents out.old) (T.contents tape.old)) (written (K.contents out.new) (T.contents tape.new)) }
+    ensures ends { EndsOf (gate_runs_out serving.now.first_id) (setting_of serving.now) Making result (outside (D.link doors.old) (D.door doors.old)) (outside (D.link doors.new) (D.door doors.new))
+        (faults (K.faults out.old) (T.counts tape.old)) (faults (K.faults out.new) (T.counts tape.new)) (written (K.contents out.old) (K.contents out.old) (T.contents tape.old)) (written (K.contents out.old) (K.contents out.new) (T.contents tape.new)) }
 {
     let end = bridge_run::serve(
         alloc,

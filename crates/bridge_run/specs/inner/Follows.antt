@@ -13,7 +13,8 @@ use Rattle.bridge_run.specs.Prescribed.{Prescribed, gained, drops, first_of}
 use Rattle.bridge_run.specs.Course.{Setting, Course, Next, AtClient, AtHost, AtEnd}
 use Rattle.bridge_run.specs.Calls.{Outcome, Goes, put, make}
 use Rattle.bridge_run.specs.Outside.{Outside, Written, Faults, NoFault, HasCause, Tells, Cut}
-use Rattle.bridge_run.specs.Serves.{Reaches, Leaves}
+use Rattle.bridge_run.specs.RanOut.{Never}
+use Rattle.bridge_run.specs.Serves.{Reaches, MayRunOut, Leaves}
 
 -- what an event sends, and the lines that tell its refusals
 pub record Prepared (p : Prescribed) (events : List Event) (e : Event) (sent : Sent) (lines : List ℕ) : Type 0 where
@@ -52,9 +53,9 @@ IsCutEnd Spent = ⊥
 
 -- ---- one event
 
-abbrev pub Puts : Result Bool ServeEnd → (List Event → Type 0) → Prescribed → Event → Kept → Outside → Written → Course → Type 0
-Puts (Ok dropped) stands p e k w out c = Follows stands p k w out (put p e c) × (dropped ≡ drops p c.events e)
-Puts (Err end) stands p e k w out c = Cut w out c (put p e c)
+abbrev pub Puts : Result Bool ServeEnd → (List Event → Type 0) → (List Event → Event → List ℕ → List ℕ → Type 0) → Prescribed → Event → Kept → Outside → Written → Course → Type 0
+Puts (Ok dropped) stands runs_out p e k w out c = Follows stands p k w out (put p e c) × (dropped ≡ drops p c.events e)
+Puts (Err end) stands runs_out p e k w out c = Cut (MayRunOut end runs_out p) w out c (put p e c)
 
 -- ---- some calls
 
@@ -66,9 +67,9 @@ pub record Comes (stands : List Event → Type 0) (s : Setting) (k : Kept) (w : 
   pub reaches : Reaches s from (Goes next course)
   pub follows : Follows stands s.served k w out course
 
-abbrev pub Runs : {T : Type 0} → Result T ServeEnd → (List Event → Type 0) → Setting → Kept → Outside → Written → Outcome → Next → Type 0
-Runs (Ok _) stands s k w out from next = Comes stands s k w out from next
-Runs (Err e) stands s k w out from next = Leaves e s from w out
+abbrev pub Runs : {T : Type 0} → Result T ServeEnd → (List Event → Type 0) → (List Event → Event → List ℕ → List ℕ → Type 0) → Setting → Kept → Outside → Written → Outcome → Next → Type 0
+Runs (Ok _) stands runs_out s k w out from next = Comes stands s k w out from next
+Runs (Err e) stands runs_out s k w out from next = Leaves e runs_out s from w out
 
 -- where a side is polled, and what comes behind that
 abbrev pub polls : Side → Next
@@ -86,6 +87,7 @@ pub record IsOpen (w : Outside) : Type 0 where
   pub host : w.host.up ≡ true
   pub door : w.door.made ≡ true
 
+-- no event is taken yet
 abbrev pub Opens : {T : Type 0} → Result T ServeEnd → Prescribed → Outside → Written → Course → Type 0
 Opens (Ok _) p w out c = Tells w out (make p c)
-Opens (Err e) p w out c = Cut w out c (make p c)
+Opens (Err e) p w out c = Cut Never w out c (make p c)

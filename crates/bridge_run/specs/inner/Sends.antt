@@ -1,9 +1,9 @@
 -- What an event has sent.
-use Rattle.std.specs.Prelude.{◌≡◌, ◌⊎◌, ℕ, ◌++◌, ◌∷◌, ◌||◌, List}
+use Rattle.std.specs.Prelude.{◌≡◌, ℕ, ◌++◌, ◌∷◌, ◌||◌, List}
 use Rattle.bridge_run.specs.Events.{Event}
 use Rattle.bridge_run.specs.declared.sent.Sent.{Sent}
 use Rattle.bridge_run.specs.Prescribed.{Prescribed, gained}
-use Rattle.bridge_run.specs.RanOut.{Untold}
+use Rattle.bridge_run.specs.RanOut.{RanOutWithin}
 use Rattle.bridge_run.specs.Log.{IsFront}
 
 pub record Sends (p : Prescribed) (events : List Event) (e : Event) (old new : Sent) : Type 0 where
@@ -20,7 +20,7 @@ pub record Sends (p : Prescribed) (events : List Event) (e : Event) (old new : S
 pub record IsPart (runs_out : List Event → Event → List ℕ → List ℕ → Type 0) (p : Prescribed) (events : List Event) (e : Event) (client host : List ℕ) : Type 0 where
   pub to_client : IsFront client (gained p.to_client events e)
   pub to_host : IsFront host (gained p.to_host events e)
-  pub ran_out : runs_out events e client host ⊎ Untold p events e client host
+  pub ran_out : RanOutWithin runs_out p events e client host
 
 pub record SendsPart (runs_out : List Event → Event → List ℕ → List ℕ → Type 0) (p : Prescribed) (events : List Event) (e : Event) (old new : Sent) : Type 0 where
   pub client : List ℕ

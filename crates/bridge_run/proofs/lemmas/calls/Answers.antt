@@ -15,10 +15,10 @@ use Rattle.bridge_run.specs.Prescribed.{Prescribed}
 use Rattle.bridge_run.specs.Course.{Setting, Course, Next, AtDoor, AtClient, AtHost, AtEnd, Takes}
 use Rattle.bridge_run.specs.Calls.{Goes, room, come, down, heard, poll, call, course_of}
 use Rattle.bridge_run.specs.Calls.{turned as passed}
-use Rattle.bridge_run.specs.Outside.{Outside, outside, NoFault, Shows, Tells, IsBetween, IsOneOf, HasLines, IsTaped, Cut, Written, Faults}
+use Rattle.bridge_run.specs.Outside.{Outside, outside, NoFault, Shows, Tells, IsTold, IsBetween, IsOneOf, HasLines, IsTaped, Cut, Written, Faults}
 use Rattle.bridge_run.specs.inner.Keeping.{up_of, with_up}
 use Rattle.bridge_run.specs.inner.Follows.{Follows, setting, polls, behind}
-use Rattle.bridge_run.proofs.lemmas.events.Put.{between-none, all-recorded}
+use Rattle.bridge_run.proofs.lemmas.events.Put.{between-none, all-recorded, if-told}
 
 -- ---- the door
 
@@ -122,17 +122,17 @@ pub between-same : (x : List ℕ) (known : Option (List ℕ)) (y : List ℕ) →
 between-same x known y e f = between-none x known y [] e (f ∙ sym (append-nil x))
 
 -- nothing was recorded either
-pub same-recorded : (P : Type 0) (w : Outside) (out : Written) (c d : Course) (known : Option (List ℕ)) → IfSome known (λ held. (held ≡ c.recorded) × P) → d.recorded ≡ c.recorded → IfSome known (λ held. HasLines w out c d held)
-same-recorded P w out c d known is same = all-recorded P w out c d known (subst (λ (r : List ℕ). IfSome known (λ held. (held ≡ r) × P)) (sym same) is)
+pub same-recorded : (ran_out : List Event → Event → List ℕ → List ℕ → Type 0) (P : Type 0) (w : Outside) (out : Written) (c d : Course) (known : Option (List ℕ)) → IfSome known (λ held. (held ≡ c.recorded) × P) → d.recorded ≡ c.recorded → IfSome known (λ held. HasLines ran_out w out c d held)
+same-recorded ran_out P w out c d known is same = all-recorded ran_out P w out c d known (subst (λ (r : List ℕ). IfSome known (λ held. (held ≡ r) × P)) (sym same) is)
 
 come-writes : (clients : List (List Turn)) (c : Course) → WroteNothing c (course_of (come clients c))
 come-writes [] c = record { to_client = refl; to_host = refl; told = refl; recorded = refl }
 come-writes (turns ∷ later) c = record { to_client = refl; to_host = refl; told = refl; recorded = refl }
 
 -- nobody has come, and the turns and all that was written are as they were
-pub door-cut : (w : Outside) (out : Written) (c : Course) → w.client.turns ≡ Some c.client → w.host.turns ≡ Some c.host → w.door.to_come ≡ Some c.clients
-    → w.client.written ≡ Some c.to_client → w.host.written ≡ Some c.to_host → out.told ≡ Some c.told → IsTaped out c → Cut w out c (course_of (come c.clients c))
-door-cut w out c client host clients to_client to_host told tape =
+pub door-cut : {ran_out : List Event → Event → List ℕ → List ℕ → Type 0} → (w : Outside) (out : Written) (c : Course) → w.client.turns ≡ Some c.client → w.host.turns ≡ Some c.host → w.door.to_come ≡ Some c.clients
+    → w.client.written ≡ Some c.to_client → w.host.written ≡ Some c.to_host → IsTold out c.told → IsTaped out c → Cut ran_out w out c (course_of (come c.clients c))
+door-cut {ran_out = ran_out} w out c client host clients to_client to_host told tape =
     let d = course_of (come c.clients c) in
     let same = come-writes c.clients c in
     record {
@@ -141,11 +141,11 @@ door-cut w out c client host clients to_client to_host told tape =
       clients = inl clients;
       to_client = between-same c.to_client w.client.written d.to_client to_client same.to_client;
       to_host = between-same c.to_host w.host.written d.to_host to_host same.to_host;
-      told = between-same c.told out.told d.told told same.told;
-      tape = same-recorded _ w out c d out.tape tape same.recorded;
+      told = if-told out.begun (λ (is : out.told ≡ Some c.told). between-same c.told out.told d.told is same.told) told;
+      tape = same-recorded ran_out _ w out c d out.tape tape same.recorded;
     }
 
-pub not_accepted : (w w' : Outside) (out : Written) (c : Course) → Tells w out c → w'.client ≡ faulted w.client → w'.host ≡ w.host → w'.door ≡ w.door → Cut w' out c (course_of (come c.clients c))
+pub not_accepted : {ran_out : List Event → Event → List ℕ → List ℕ → Type 0} → (w w' : Outside) (out : Written) (c : Course) → Tells w out c → w'.client ≡ faulted w.client → w'.host ≡ w.host → w'.door ≡ w.door → Cut ran_out w' out c (course_of (come c.clients c))
 not_accepted w w' out c t client host door =
     door-cut w' out c (ap (λ (l : Link). l.turns) client ∙ t.client.turns-is) (ap (λ (l : Link). l.turns) host ∙ t.host.turns-is) (ap (λ (d : Door). d.to_come) door ∙ t.clients)
     (ap (λ (l : Link). l.written) client ∙ t.client.written-is) (ap (λ (l : Link). l.written) host ∙ t.host.written-is) t.told t.tape
@@ -313,29 +313,29 @@ failed-turns old new up turns written behind s fails is = go fails.turns
     go (inl same) = inl (same ∙ s.turns-is)
     go (inr t) = inr (t.4 ∙ ap Some (sym (is ∙ ap (λ (ts : List Turn). after room (pending ts)) (some-is turns t.0 (sym s.turns-is ∙ t.2)) ∙ ap (λ (ts : List Turn). after room ts) t.3)))
 
-pub failed-cut : (side : Side) (s : Setting) (links links' : Side → Link) (door door' : Door) (out : Written) (c : Course) → Tells (outside links door) out c → is_up side c ≡ true → OneMoved side links links' door door'
-    → PollFails (links side) (links' side) → Cut (outside links' door') out c (course_of (call s (polls side) c))
-failed-cut Client s links links' door door' out c t up moved fails =
+pub failed-cut : {ran_out : List Event → Event → List ℕ → List ℕ → Type 0} → (side : Side) (s : Setting) (links links' : Side → Link) (door door' : Door) (out : Written) (c : Course) → Tells (outside links door) out c → is_up side c ≡ true → OneMoved side links links' door door'
+    → PollFails (links side) (links' side) → Cut ran_out (outside links' door') out c (course_of (call s (polls side) c))
+failed-cut {ran_out = ran_out} Client s links links' door door' out c t up moved fails =
     let m = heard-moves Client AtHost (answer room (pending c.client)) (given room (pending c.client)) (passed Client c) in
-    subst (λ (d : Course). Cut (outside links' door') out c d) (ap course_of (sym (call-poll s Client c up))) (record {
+    subst (λ (d : Course). Cut ran_out (outside links' door') out c d) (ap course_of (sym (call-poll s Client c up))) (record {
       client = failed-turns (links Client) (links' Client) c.client_up c.client c.to_client _ t.client fails m.client;
       host = inl (ap (λ (l : Link). l.turns) moved.other-is ∙ t.host.turns-is);
       clients = inl (ap (λ (d : Door). d.to_come) moved.door-is ∙ t.clients);
       to_client = between-same c.to_client _ _ (ap (λ (l : Link). l.written) fails.same ∙ t.client.written-is) m.writes.to_client;
       to_host = between-same c.to_host _ _ (ap (λ (l : Link). l.written) moved.other-is ∙ t.host.written-is) m.writes.to_host;
-      told = between-same c.told _ _ t.told m.writes.told;
-      tape = same-recorded _ _ out c _ out.tape t.tape m.writes.recorded;
+      told = if-told out.begun (λ (is : out.told ≡ Some c.told). between-same c.told _ _ is m.writes.told) t.told;
+      tape = same-recorded ran_out _ _ out c _ out.tape t.tape m.writes.recorded;
     })
-failed-cut Host s links links' door door' out c t up moved fails =
+failed-cut {ran_out = ran_out} Host s links links' door door' out c t up moved fails =
     let m = heard-moves Host AtEnd (answer room (pending c.host)) (given room (pending c.host)) (passed Host c) in
-    subst (λ (d : Course). Cut (outside links' door') out c d) (ap course_of (sym (call-poll s Host c up))) (record {
+    subst (λ (d : Course). Cut ran_out (outside links' door') out c d) (ap course_of (sym (call-poll s Host c up))) (record {
       client = inl (ap (λ (l : Link). l.turns) moved.other-is ∙ t.client.turns-is);
       host = failed-turns (links Host) (links' Host) c.host_up c.host c.to_host _ t.host fails m.host;
       clients = inl (ap (λ (d : Door). d.to_come) moved.door-is ∙ t.clients);
       to_client = between-same c.to_client _ _ (ap (λ (l : Link). l.written) moved.other-is ∙ t.client.written-is) m.writes.to_client;
       to_host = between-same c.to_host _ _ (ap (λ (l : Link). l.written) fails.same ∙ t.host.written-is) m.writes.to_host;
-      told = between-same c.told _ _ t.told m.writes.told;
-      tape = same-recorded _ _ out c _ out.tape t.tape m.writes.recorded;
+      told = if-told out.begun (λ (is : out.told ≡ Some c.told). between-same c.told _ _ is m.writes.told) t.told;
+      tape = same-recorded ran_out _ _ out c _ out.tape t.tape m.writes.recorded;
     })
 
 pub up-is : (side : Side) (stands : List Event → Type 0) (p : Prescribed) (k : Kept) (w : Outside) (out : Written) (c : Course) (b : Bool) → Follows stands p k w out c → up_of side k ≡ b → is_up side c ≡ b

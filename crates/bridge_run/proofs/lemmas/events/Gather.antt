@@ -16,7 +16,7 @@ use Rattle.bridge_run.specs.Recorded.{has_any, sends_any, is_last, piece, is_ful
 use Rattle.bridge_run.specs.Course.{Setting, Course, Next, Making, AtDoor, AtClient, AtHost, AtEnd, Takes}
 use Rattle.bridge_run.specs.Calls.{Outcome, Goes, Stops, course_of, room, sends_now, is_due, lines_with, put, settle, ends_next, take_event, come, turned, heard, poll, gathered, rest, call, and_then, calls}
 use Rattle.bridge_run.specs.Outside.{Outside, gathering, written, HasLines}
-use Rattle.bridge_run.specs.Serves.{Reaches, NoneWaits, EndsSo, CutShort, Leaves}
+use Rattle.bridge_run.specs.Serves.{Reaches, NoneWaits, EndsSo, MayRunOut, CutShort, Leaves}
 
 -- ---- an event behind which it ends
 
@@ -200,9 +200,9 @@ none-waits : (known : Option (List ℕ)) (waiting : List ℕ) (c : Course) → I
 none-waits None waiting c is none = tt
 none-waits (Some held) waiting c is none = (is.0, sym none)
 
-ends-so : (s : Setting) (next : Next) (c : Course) (e : ServeEnd) (w : Outside) (told tape : Option (List ℕ)) (waiting : List ℕ) → ((d : Course) → NoneWaits e d → d.waiting ≡ [])
-    → EndsSo s (Goes next c) e w (gathering told tape waiting) → EndsSo s (Goes next c) e w (written told tape)
-ends-so s next c e w told tape waiting none x = record {
+ends-so : (s : Setting) (next : Next) (c : Course) (e : ServeEnd) (w : Outside) (begun told tape : Option (List ℕ)) (waiting : List ℕ) → ((d : Course) → NoneWaits e d → d.waiting ≡ [])
+    → EndsSo s (Goes next c) e w (gathering begun told tape waiting) → EndsSo s (Goes next c) e w (written begun told tape)
+ends-so s next c e w begun told tape waiting none x = record {
   course = x.course;
   reaches = x.reaches;
   tells = record {
@@ -214,18 +214,32 @@ ends-so s next c e w told tape waiting none x = record {
   };
 }
 
-part-of : (w : Outside) (told tape known : Option (List ℕ)) (waiting : List ℕ) (c d : Course) → IfSome known (λ held. HasLines w (gathering told tape waiting) c d held)
-    → IfSome known (λ held. HasLines w (written told tape) c d held)
-part-of w told tape None waiting c d is = tt
-part-of w told tape (Some held) waiting c d is = go is
+part-of : (ran_out : List Event → Event → List ℕ → List ℕ → Type 0) (w : Outside) (begun told tape known : Option (List ℕ)) (waiting : List ℕ) (c d : Course) → IfSome known (λ held. HasLines ran_out w (gathering begun told tape waiting) c d held)
+    → IfSome known (λ held. HasLines ran_out w (written begun told tape) c d held)
+part-of ran_out w begun told tape None waiting c d is = tt
+part-of ran_out w begun told tape (Some held) waiting c d is = go is
   where
-    go : HasLines w (gathering told tape waiting) c d held → HasLines w (written told tape) c d held
+    go : HasLines ran_out w (gathering begun told tape waiting) c d held → HasLines ran_out w (written begun told tape) c d held
     go (inl all) = inl all
-    go (inr (inr untold)) = inr (inr untold)
+    go (inr (inr untold)) =
+        inr (inr (record {
+          event = untold.event;
+          takes = untold.takes;
+          sent_client = untold.sent_client;
+          sent_host = untold.sent_host;
+          stopped = untold.stopped;
+          some = untold.some;
+          held-is = untold.held-is;
+          lost = untold.lost;
+          all-is = untold.all-is;
+          to_client = untold.to_client;
+          to_host = untold.to_host;
+          told = untold.told;
+        }))
     go (inr (inl part)) = inr (inl (record { more = part.more; lost = part.lost; held-is = part.held-is; all-is = part.all-is; to_client = part.to_client; to_host = part.to_host; told = part.told }))
 
-cut-short : (s : Setting) (next : Next) (c : Course) (w : Outside) (told tape : Option (List ℕ)) (waiting : List ℕ) → CutShort s (Goes next c) w (gathering told tape waiting) → CutShort s (Goes next c) w (written told tape)
-cut-short s next c w told tape waiting x = record {
+cut-short : {e : ServeEnd} {runs_out : List Event → Event → List ℕ → List ℕ → Type 0} → (s : Setting) (next : Next) (c : Course) (w : Outside) (begun told tape : Option (List ℕ)) (waiting : List ℕ) → CutShort e runs_out s (Goes next c) w (gathering begun told tape waiting) → CutShort e runs_out s (Goes next c) w (written begun told tape)
+cut-short {e = e} {runs_out = runs_out} s next c w begun told tape waiting x = record {
   next = x.next;
   course = x.course;
   reaches = x.reaches;
@@ -236,15 +250,15 @@ cut-short s next c w told tape waiting x = record {
     to_client = x.cut.to_client;
     to_host = x.cut.to_host;
     told = x.cut.told;
-    tape = part-of w told tape tape waiting x.course _ x.cut.tape;
+    tape = part-of (MayRunOut e runs_out s.served) w begun told tape tape waiting x.course _ x.cut.tape;
   };
 }
 
 -- at an end that is no fault nothing waits, and at any other what waits is on no tape
-pub leaves-written : (e : ServeEnd) (s : Setting) (next : Next) (c : Course) (w : Outside) (told tape : Option (List ℕ)) (waiting : List ℕ) → Leaves e s (Goes next c) w (gathering told tape waiting) → Leaves e s (Goes next c) w (written told tape)
-leaves-written (end.Ended refused) s next c w told tape waiting x = ends-so s next c (end.Ended refused) w told tape waiting (λ d h. h) x
-leaves-written end.Idle s next c w told tape waiting x = ends-so s next c end.Idle w told tape waiting (λ d h. h) x
-leaves-written end.Spent s next c w told tape waiting x = ends-so s next c end.Spent w told tape waiting (λ d h. h) x
-leaves-written (end.LinkFault side) s next c w told tape waiting x = cut-short s next c w told tape waiting x
-leaves-written end.WriteFault s next c w told tape waiting x = cut-short s next c w told tape waiting x
-leaves-written end.Memory s next c w told tape waiting x = cut-short s next c w told tape waiting x
+pub leaves-written : (e : ServeEnd) (runs_out : List Event → Event → List ℕ → List ℕ → Type 0) (s : Setting) (next : Next) (c : Course) (w : Outside) (begun told tape : Option (List ℕ)) (waiting : List ℕ) → Leaves e runs_out s (Goes next c) w (gathering begun told tape waiting) → Leaves e runs_out s (Goes next c) w (written begun told tape)
+leaves-written (end.Ended refused) runs_out s next c w begun told tape waiting x = ends-so s next c (end.Ended refused) w begun told tape waiting (λ d h. h) x
+leaves-written end.Idle runs_out s next c w begun told tape waiting x = ends-so s next c end.Idle w begun told tape waiting (λ d h. h) x
+leaves-written end.Spent runs_out s next c w begun told tape waiting x = ends-so s next c end.Spent w begun told tape waiting (λ d h. h) x
+leaves-written (end.LinkFault side) runs_out s next c w begun told tape waiting x = cut-short s next c w begun told tape waiting x
+leaves-written end.WriteFault runs_out s next c w begun told tape waiting x = cut-short s next c w begun told tape waiting x
+leaves-written end.Memory runs_out s next c w begun told tape waiting x = cut-short s next c w begun told tape waiting x

@@ -20,7 +20,7 @@ use Rattle.bridge_run.specs.Events.{Event}
 use Rattle.bridge_run.specs.Prescribed.{gained}
 use Rattle.bridge_run.specs.Recorded.{has_any}
 use Rattle.bridge_run.specs.Lent.{each, used, out_addresses, in_addresses, refusal_in, is_refusal, behind_piece, acts_behind, acts_of, is_coming, has_come, lent_bytes, refused_by, lent_refusals, lent_sends}
-use Rattle.bridge_run.specs.LentStops.{ActStops, ActsStop, LentStops}
+use Rattle.bridge_run.specs.LentStops.{ActsStop, LentStops}
 use Rattle.bridge_run.specs.Log.{IsFront}
 use Rattle.bridge_run.specs.inner.Sends.{SendsPart}
 use Rattle.bridge_run.specs.inner.Lending.{Acts, StopsIn, Halts, IsLent, act_of}

@@ -23,7 +23,8 @@ use Rattle.bridge_run.specs.Course.{Course}
 use Rattle.session_tape.specs.Tapes.{Counts, GrowsInPart}
 use Rattle.bridge_run.specs.Recorded.{lines_of, sends_any, is_last, is_full, written_if, waiting_if}
 use Rattle.bridge_run.specs.Calls.{put, sends_now}
-use Rattle.bridge_run.specs.Outside.{Outside, Shows, Tells, IsBetween, IsOneOf, HasLines, IsTaped, Cut, Written, HasCause, faults}
+use Rattle.bridge_run.specs.Outside.{Outside, Shows, Tells, IsTold, IsToldBetween, IsBetween, IsOneOf, HasLines, IsTaped, Cut, Written, HasCause, faults}
+use Rattle.bridge_run.specs.Serves.{MayRunOut}
 use Rattle.bridge_run.specs.inner.Links.{wrote_if, WritesFront, closed_if}
 use Rattle.bridge_run.specs.inner.Keeping.{refusing}
 use Rattle.bridge_run.specs.inner.Follows.{Prepared, Follows, Puts}
@@ -103,10 +104,18 @@ pub first_of-append : (xs ys : List Refusal) → first_of (xs ++ ys) ≡ or_else
 first_of-append [] ys = refl
 first_of-append (x ∷ xs) ys = refl
 
-told-all : (known new : Option (List ℕ)) (x b : List ℕ) → known ≡ Some x → Appends known new b → new ≡ Some (x ++ b)
-told-all (Some y) (Some z) x b e a = let same : y ≡ x = cc in ap Some (a ∙ ap (λ (l : List ℕ). l ++ b) same)
-told-all (Some y) None x b e a = absurd a
-told-all None new x b e a = cc
+appended : (known new : Option (List ℕ)) (x b : List ℕ) → known ≡ Some x → Appends known new b → new ≡ Some (x ++ b)
+appended (Some y) (Some z) x b e a = let same : y ≡ x = cc in ap Some (a ∙ ap (λ (l : List ℕ). l ++ b) same)
+appended (Some y) None x b e a = absurd a
+appended None new x b e a = cc
+
+-- of a sink that told its bytes as serving began
+pub if-told : {A B : Type 0} → (begun : Option (List ℕ)) → (A → B) → IfSome begun (λ (first : List ℕ). A) → IfSome begun (λ (first : List ℕ). B)
+if-told None f is = tt
+if-told (Some first) f is = f is
+
+pub tells-more : (begun known new : Option (List ℕ)) (x b : List ℕ) → IfSome begun (λ (first : List ℕ). known ≡ Some x) → Appends known new b → IfSome begun (λ (first : List ℕ). new ≡ Some (x ++ b))
+tells-more begun known new x b is a = if-told begun (λ (e : known ≡ Some x). appended known new x b e a) is
 
 -- ---- the tape
 
@@ -168,15 +177,15 @@ taped p c e sent lines due out out' prepared is recorded =
     (moved (λ (l : List ℕ). written_if (due || is_full (l ++ lines_of e sent.refusals)) (l ++ lines_of e sent.refusals)) (λ (l : List ℕ). waiting_if (due || is_full (l ++ lines_of e sent.refusals)) (l ++ lines_of e sent.refusals))
     out.tape out'.tape out.waiting out'.waiting c.recorded c.waiting is recorded.tape-is recorded.waits))
 
-pub all-recorded : (P : Type 0) (w : Outside) (out : Written) (c d : Course) (known : Option (List ℕ)) → IfSome known (λ held. (held ≡ d.recorded) × P) → IfSome known (λ held. HasLines w out c d held)
-all-recorded P w out c d None is = tt
-all-recorded P w out c d (Some held) is = inl is.0
+pub all-recorded : (ran_out : List Event → Event → List ℕ → List ℕ → Type 0) (P : Type 0) (w : Outside) (out : Written) (c d : Course) (known : Option (List ℕ)) → IfSome known (λ held. (held ≡ d.recorded) × P) → IfSome known (λ held. HasLines ran_out w out c d held)
+all-recorded ran_out P w out c d None is = tt
+all-recorded ran_out P w out c d (Some held) is = inl is.0
 
 -- a front of them is recorded, and nothing is sent
-recorded-front : (P : Type 0) (w : Outside) (out : Written) (c d : Course) (front back : List ℕ) → d.recorded ≡ c.recorded ++ (front ++ back) → w.client.written ≡ Some c.to_client → w.host.written ≡ Some c.to_host → out.told ≡ Some c.told
-    → (known : Option (List ℕ)) → IfSome known (λ held. (held ≡ c.recorded) × P) → IfSome (append_known known front) (λ held. HasLines w out c d held)
-recorded-front P w out c d front back all client host told None is = tt
-recorded-front P w out c d front back all client host told (Some held) is = inr (inl (record {
+recorded-front : (ran_out : List Event → Event → List ℕ → List ℕ → Type 0) (P : Type 0) (w : Outside) (out : Written) (c d : Course) (front back : List ℕ) → d.recorded ≡ c.recorded ++ (front ++ back) → w.client.written ≡ Some c.to_client → w.host.written ≡ Some c.to_host → IsTold out c.told
+    → (known : Option (List ℕ)) → IfSome known (λ held. (held ≡ c.recorded) × P) → IfSome (append_known known front) (λ held. HasLines ran_out w out c d held)
+recorded-front ran_out P w out c d front back all client host told None is = tt
+recorded-front ran_out P w out c d front back all client host told (Some held) is = inr (inl (record {
   more = front;
   lost = back;
   held-is = ap (λ (l : List ℕ). l ++ front) is.0;
@@ -187,12 +196,12 @@ recorded-front P w out c d front back all client host told (Some held) is = inr 
 }))
 
 -- of what a call writes of those that wait a front is written
-pub written-front : (writes : List ℕ → List ℕ) (w : Outside) (out : Written) (c d : Course) (known known' : Option (List ℕ)) (waiting : List ℕ) → GrowsInPart known known' (writes waiting) → IfSome known (λ held. (held ≡ c.recorded) × (waiting ≡ c.waiting))
-    → d.recorded ≡ c.recorded ++ writes c.waiting → w.client.written ≡ Some c.to_client → w.host.written ≡ Some c.to_host → out.told ≡ Some c.told → IfSome known' (λ held. HasLines w out c d held)
-written-front writes w out c d None known' waiting grows has all client host told = subst (λ (k : Option (List ℕ)). IfSome k (λ held. HasLines w out c d held)) (sym grows.grows) tt
-written-front writes w out c d (Some held) known' waiting grows has all client host told =
+pub written-front : (ran_out : List Event → Event → List ℕ → List ℕ → Type 0) (writes : List ℕ → List ℕ) (w : Outside) (out : Written) (c d : Course) (known known' : Option (List ℕ)) (waiting : List ℕ) → GrowsInPart known known' (writes waiting) → IfSome known (λ held. (held ≡ c.recorded) × (waiting ≡ c.waiting))
+    → d.recorded ≡ c.recorded ++ writes c.waiting → w.client.written ≡ Some c.to_client → w.host.written ≡ Some c.to_host → IsTold out c.told → IfSome known' (λ held. HasLines ran_out w out c d held)
+written-front ran_out writes w out c d None known' waiting grows has all client host told = subst (λ (k : Option (List ℕ)). IfSome k (λ held. HasLines ran_out w out c d held)) (sym grows.grows) tt
+written-front ran_out writes w out c d (Some held) known' waiting grows has all client host told =
     let whole : d.recorded ≡ c.recorded ++ (grows.front ++ grows.back) = all ∙ ap (λ (l : List ℕ). c.recorded ++ writes l) (sym has.1) ∙ ap (λ (l : List ℕ). c.recorded ++ l) grows.parts in
-    subst (λ (k : Option (List ℕ)). IfSome k (λ (l : List ℕ). HasLines w out c d l)) (sym grows.grows) (recorded-front _ w out c d grows.front grows.back whole client host told (Some held) has)
+    subst (λ (k : Option (List ℕ)). IfSome k (λ (l : List ℕ). HasLines ran_out w out c d l)) (sym grows.grows) (recorded-front ran_out _ w out c d grows.front grows.back whole client host told (Some held) has)
 
 none-recorded : (known : Option (List ℕ)) → append_known known [] ≡ known
 none-recorded None = refl
@@ -201,7 +210,7 @@ none-recorded (Some held) = ap Some (append-nil held)
 pub put-follows : (stands : List Event → Type 0) (p : Prescribed) (k k' : Kept) (w w' : Outside) (out out' : Written) (c : Course) (e : Event) (sent : Sent) (lines : List ℕ) (due : Bool)
     (old-stands : List Event → Type 0) → Follows old-stands p k w out c → Prepared p c.events e sent lines → stands (e ∷ c.events) → k' ≡ refusing sent.refusals sent.lets_go k
     → Shows w'.client (put p e c).client_up (put p e c).client (put p e c).to_client → Shows w'.host (put p e c).host_up (put p e c).host (put p e c).to_host
-    → w'.door ≡ w.door → Appends out.told out'.told lines → IsRecorded p c e sent due out out' → Follows stands p k' w' out' (put p e c)
+    → w'.door ≡ w.door → IsTold out' (c.told ++ lines) → IsRecorded p c e sent due out out' → Follows stands p k' w' out' (put p e c)
 put-follows stands p k k' w w' out out' c e sent lines due old-stands f prepared now kept client host door written recorded =
     let refusals = prepared.refusals in
     record {
@@ -211,8 +220,7 @@ put-follows stands p k k' w w' out out' c e sent lines due old-stands f prepared
         host = host;
         clients = ap (λ (d : Door). d.to_come) door ∙ f.tells.clients;
         tape = taped p c e sent lines due out out' prepared f.tells.tape recorded;
-        told = told-all out.told out'.told c.told lines f.tells.told written
-            ∙ ap (λ (l : List ℕ). Some (c.told ++ l)) (prepared.lines-is ∙ ap (flat_map refusal_line) refusals);
+        told = subst (λ (l : List ℕ). IsTold out' (c.told ++ l)) (prepared.lines-is ∙ ap (flat_map refusal_line) refusals) written;
       };
       client_up = ap (λ (k : Kept). k.client_up) kept ∙ ap (λ (u : Bool). u && not (refuses Client sent.refusals || sent.lets_go)) f.client_up ∙ ap (λ (d : Bool). c.client_up && not d) (dropped-is p c.events e sent lines prepared);
       host_up = ap (λ (k : Kept). k.host_up) kept ∙ ap (λ (u : Bool). u && not (refuses Host sent.refusals)) f.host_up ∙ ap (λ (rs : List Refusal). c.host_up && not (refuses Host rs)) refusals;
@@ -234,16 +242,15 @@ client-before p c e l s = (inl s.turns-is, between-none c.to_client l.written (p
 host-before : (p : Prescribed) (c : Course) (e : Event) (l : Link) → Shows l c.host_up c.host c.to_host → IsOneOf c.host l.turns (put p e c).host × IsBetween c.to_host l.written (put p e c).to_host
 host-before p c e l s = (inl s.turns-is, between-none c.to_host l.written (put p e c).to_host _ s.written-is (more_if c.host_up c.to_host (gained p.to_host c.events e)))
 
-pub told-before : (p : Prescribed) (c : Course) (e : Event) (out : Option (List ℕ)) → out ≡ Some c.told → IsBetween c.told out (put p e c).told
-told-before p c e out s = between-none c.told out (put p e c).told _ s refl
+pub told-before : (p : Prescribed) (c : Course) (e : Event) (out : Written) → IsTold out c.told → IsToldBetween c.told out (put p e c).told
+told-before p c e out s = if-told out.begun (λ (is : out.told ≡ Some c.told). between-none c.told out.told (put p e c).told _ is refl) s
 
 -- while its lines are recorded
-pub put-in_entry : (p : Prescribed) (c : Course) (e : Event) (sent : Sent) (lines : List ℕ) (due : Bool) (w : Outside) (out out' : Written) (waiting : List ℕ) → Prepared p c.events e sent lines → Tells w out c → out'.told ≡ out.told → due ≡ sends_now p e c
-    → waiting ≡ out.waiting → GrowsInPart out.tape out'.tape (written_if (due || is_full (waiting ++ lines_of e sent.refusals)) (waiting ++ lines_of e sent.refusals)) → Cut w out' c (put p e c)
-put-in_entry p c e sent lines due w out out' waiting prepared t told due-is same grows =
+pub put-in_entry : {ran_out : List Event → Event → List ℕ → List ℕ → Type 0} → (p : Prescribed) (c : Course) (e : Event) (sent : Sent) (lines : List ℕ) (due : Bool) (w : Outside) (out out' : Written) (waiting : List ℕ) → Prepared p c.events e sent lines → Tells w out c → IsTold out' c.told → due ≡ sends_now p e c
+    → waiting ≡ out.waiting → GrowsInPart out.tape out'.tape (written_if (due || is_full (waiting ++ lines_of e sent.refusals)) (waiting ++ lines_of e sent.refusals)) → Cut ran_out w out' c (put p e c)
+put-in_entry {ran_out = ran_out} p c e sent lines due w out out' waiting prepared t told due-is same grows =
     let client = client-before p c e w.client t.client in
     let host = host-before p c e w.host t.host in
-    let still = told ∙ t.told in
     let all : (put p e c).recorded ≡ c.recorded ++ written_if (due || is_full (c.waiting ++ lines_of e sent.refusals)) (c.waiting ++ lines_of e sent.refusals) =
     ap (λ (rs : List Refusal). c.recorded ++ written_if (sends_now p e c || is_full (c.waiting ++ lines_of e rs)) (c.waiting ++ lines_of e rs)) (sym prepared.refusals)
     ∙ ap (λ (d : Bool). c.recorded ++ written_if (d || is_full (c.waiting ++ lines_of e sent.refusals)) (c.waiting ++ lines_of e sent.refusals)) (sym due-is) in
@@ -253,14 +260,14 @@ put-in_entry p c e sent lines due w out out' waiting prepared t told due-is same
       clients = inl t.clients;
       to_client = client.1;
       to_host = host.1;
-      told = told-before p c e out'.told still;
-      tape = written-front (λ (l : List ℕ). written_if (due || is_full (l ++ lines_of e sent.refusals)) (l ++ lines_of e sent.refusals)) w out' c (put p e c) out.tape out'.tape out.waiting
-          (subst (λ (l : List ℕ). GrowsInPart out.tape out'.tape (written_if (due || is_full (l ++ lines_of e sent.refusals)) (l ++ lines_of e sent.refusals))) same grows) t.tape all t.client.written-is t.host.written-is still;
+      told = told-before p c e out' told;
+      tape = written-front ran_out (λ (l : List ℕ). written_if (due || is_full (l ++ lines_of e sent.refusals)) (l ++ lines_of e sent.refusals)) w out' c (put p e c) out.tape out'.tape out.waiting
+          (subst (λ (l : List ℕ). GrowsInPart out.tape out'.tape (written_if (due || is_full (l ++ lines_of e sent.refusals)) (l ++ lines_of e sent.refusals))) same grows) t.tape all t.client.written-is t.host.written-is told;
     }
 
 -- before anything is written
-pub put-before : (p : Prescribed) (c : Course) (e : Event) (w : Outside) (out : Written) → Tells w out c → Cut w out c (put p e c)
-put-before p c e w out t =
+pub put-before : {ran_out : List Event → Event → List ℕ → List ℕ → Type 0} → (p : Prescribed) (c : Course) (e : Event) (w : Outside) (out : Written) → Tells w out c → Cut ran_out w out c (put p e c)
+put-before {ran_out = ran_out} p c e w out t =
     let client = client-before p c e w.client t.client in
     let host = host-before p c e w.host t.host in
     record {
@@ -269,15 +276,15 @@ put-before p c e w out t =
       clients = inl t.clients;
       to_client = client.1;
       to_host = host.1;
-      told = told-before p c e out.told t.told;
-      tape = subst (λ (known : Option (List ℕ)). IfSome known (λ held. HasLines w out c (put p e c) held)) (none-recorded out.tape)
-          (recorded-front _ w out c (put p e c) [] _ refl t.client.written-is t.host.written-is t.told out.tape t.tape);
+      told = told-before p c e out t.told;
+      tape = subst (λ (known : Option (List ℕ)). IfSome known (λ held. HasLines ran_out w out c (put p e c) held)) (none-recorded out.tape)
+          (recorded-front ran_out _ w out c (put p e c) [] _ refl t.client.written-is t.host.written-is t.told out.tape t.tape);
     }
 
 -- within what goes to the client
-pub put-in_client : (p : Prescribed) (c : Course) (e : Event) (sent : Sent) (lines : List ℕ) (due : Bool) (w w' : Outside) (out out' : Written) (up : Bool) → Prepared p c.events e sent lines → Tells w out c → out'.told ≡ out.told → IsRecorded p c e sent due out out'
-    → up ≡ c.client_up → WritesFront up sent.to_client w.client w'.client → w'.host ≡ w.host → w'.door ≡ w.door → Cut w' out' c (put p e c)
-put-in_client p c e sent lines due w w' out out' up prepared t told recorded u front host door =
+pub put-in_client : {ran_out : List Event → Event → List ℕ → List ℕ → Type 0} → (p : Prescribed) (c : Course) (e : Event) (sent : Sent) (lines : List ℕ) (due : Bool) (w w' : Outside) (out out' : Written) (up : Bool) → Prepared p c.events e sent lines → Tells w out c → IsTold out' c.told → IsRecorded p c e sent due out out'
+    → up ≡ c.client_up → WritesFront up sent.to_client w.client w'.client → w'.host ≡ w.host → w'.door ≡ w.door → Cut ran_out w' out' c (put p e c)
+put-in_client {ran_out = ran_out} p c e sent lines due w w' out out' up prepared t told recorded u front host door =
     let h = host-before p c e w'.host (subst (λ (l : Link). Shows l c.host_up c.host c.to_host) (sym host) t.host) in
     record {
       client = inl (ap (λ (l : Link). l.turns) front.link ∙ t.client.turns-is);
@@ -286,15 +293,15 @@ put-in_client p c e sent lines due w w' out out' up prepared t told recorded u f
       to_client = subst (λ (b : List ℕ). IsBetween c.to_client w'.client.written (cond c.client_up (c.to_client ++ b) c.to_client)) prepared.client
           (between-front c.client_up c.to_client sent.to_client w.client w'.client c.client t.client (subst (λ (v : Bool). WritesFront v sent.to_client w.client w'.client) u front));
       to_host = h.1;
-      told = told-before p c e out'.told (told ∙ t.told);
-      tape = all-recorded _ w' out' c (put p e c) out'.tape (taped p c e sent lines due out out' prepared t.tape recorded);
+      told = told-before p c e out' told;
+      tape = all-recorded ran_out _ w' out' c (put p e c) out'.tape (taped p c e sent lines due out out' prepared t.tape recorded);
     }
 
 -- within what goes to the host, behind all that goes to the client
-pub put-in_host : (p : Prescribed) (c : Course) (e : Event) (sent : Sent) (lines : List ℕ) (due : Bool) (w w' : Outside) (out out' : Written) (uc uh : Bool) → Prepared p c.events e sent lines → Tells w out c → out'.told ≡ out.told → IsRecorded p c e sent due out out'
+pub put-in_host : {ran_out : List Event → Event → List ℕ → List ℕ → Type 0} → (p : Prescribed) (c : Course) (e : Event) (sent : Sent) (lines : List ℕ) (due : Bool) (w w' : Outside) (out out' : Written) (uc uh : Bool) → Prepared p c.events e sent lines → Tells w out c → IsTold out' c.told → IsRecorded p c e sent due out out'
     → uc ≡ c.client_up → uh ≡ c.host_up
-    → w'.client ≡ wrote_if uc sent.to_client w.client → WritesFront uh sent.to_host w.host w'.host → w'.door ≡ w.door → Cut w' out' c (put p e c)
-put-in_host p c e sent lines due w w' out out' uc uh prepared t told recorded vc vh client front door =
+    → w'.client ≡ wrote_if uc sent.to_client w.client → WritesFront uh sent.to_host w.host w'.host → w'.door ≡ w.door → Cut ran_out w' out' c (put p e c)
+put-in_host {ran_out = ran_out} p c e sent lines due w w' out out' uc uh prepared t told recorded vc vh client front door =
     let all = subst (λ (b : List ℕ). Shows (wrote_if c.client_up sent.to_client w.client) c.client_up c.client (cond c.client_up (c.to_client ++ b) c.to_client)) prepared.client
     (wrote-shows c.client_up sent.to_client w.client c.client c.to_client t.client) in
     let is = client ∙ ap (λ (v : Bool). wrote_if v sent.to_client w.client) vc in
@@ -305,30 +312,33 @@ put-in_host p c e sent lines due w w' out out' uc uh prepared t told recorded vc
       to_client = between-all c.to_client w'.client.written (put p e c).to_client _ (ap (λ (l : Link). l.written) is ∙ all.written-is) (more_if c.client_up c.to_client (gained p.to_client c.events e));
       to_host = subst (λ (b : List ℕ). IsBetween c.to_host w'.host.written (cond c.host_up (c.to_host ++ b) c.to_host)) prepared.host
           (between-front c.host_up c.to_host sent.to_host w.host w'.host c.host t.host (subst (λ (v : Bool). WritesFront v sent.to_host w.host w'.host) vh front));
-      told = told-before p c e out'.told (told ∙ t.told);
-      tape = all-recorded _ w' out' c (put p e c) out'.tape (taped p c e sent lines due out out' prepared t.tape recorded);
+      told = told-before p c e out' told;
+      tape = all-recorded ran_out _ w' out' c (put p e c) out'.tape (taped p c e sent lines due out out' prepared t.tape recorded);
     }
 
-told-front : (known new : Option (List ℕ)) (x b : List ℕ) → known ≡ Some x → AppendsFront known new b → IsBetween x new (x ++ b)
-told-front known new x b e a = record {
+appended-front : (known new : Option (List ℕ)) (x b : List ℕ) → known ≡ Some x → AppendsFront known new b → IsBetween x new (x ++ b)
+appended-front known new x b e a = record {
   more = a.front;
   lost = a.back;
-  known-is = told-all known new x a.front e a.appends;
+  known-is = appended known new x a.front e a.appends;
   most-is = ap (λ (l : List ℕ). x ++ l) a.parts ∙ sym (append_assoc x a.front a.back);
 }
 
+pub tells-front : (begun known new : Option (List ℕ)) (x b : List ℕ) → IfSome begun (λ (first : List ℕ). known ≡ Some x) → AppendsFront known new b → IfSome begun (λ (first : List ℕ). IsBetween x new (x ++ b))
+tells-front begun known new x b is a = if-told begun (λ (e : known ≡ Some x). appended-front known new x b e a) is
+
 -- within the lines of refusals, behind all that goes to both sides
-pub put-in_lines : (p : Prescribed) (c : Course) (e : Event) (sent : Sent) (lines : List ℕ) (due : Bool) (w w' : Outside) (out out' : Written) → Prepared p c.events e sent lines → Tells w out c
+pub put-in_lines : {ran_out : List Event → Event → List ℕ → List ℕ → Type 0} → (p : Prescribed) (c : Course) (e : Event) (sent : Sent) (lines : List ℕ) (due : Bool) (w w' : Outside) (out out' : Written) → Prepared p c.events e sent lines → Tells w out c
     → Shows w'.client (put p e c).client_up (put p e c).client (put p e c).to_client → Shows w'.host (put p e c).host_up (put p e c).host (put p e c).to_host
-    → w'.door ≡ w.door → AppendsFront out.told out'.told lines → IsRecorded p c e sent due out out' → Cut w' out' c (put p e c)
-put-in_lines p c e sent lines due w w' out out' prepared t client host door front recorded = record {
+    → w'.door ≡ w.door → IsToldBetween c.told out' (c.told ++ lines) → IsRecorded p c e sent due out out' → Cut ran_out w' out' c (put p e c)
+put-in_lines {ran_out = ran_out} p c e sent lines due w w' out out' prepared t client host door front recorded = record {
   client = inr client.turns-is;
   host = inr host.turns-is;
   clients = inl (ap (λ (d : Door). d.to_come) door ∙ t.clients);
   to_client = between-all c.to_client w'.client.written (put p e c).to_client _ client.written-is (more_if c.client_up c.to_client (gained p.to_client c.events e));
   to_host = between-all c.to_host w'.host.written (put p e c).to_host _ host.written-is (more_if c.host_up c.to_host (gained p.to_host c.events e));
-  told = subst (λ (l : List ℕ). IsBetween c.told out'.told (c.told ++ l)) (prepared.lines-is ∙ ap (flat_map refusal_line) prepared.refusals) (told-front out.told out'.told c.told lines t.told front);
-  tape = all-recorded _ w' out' c (put p e c) out'.tape (taped p c e sent lines due out out' prepared t.tape recorded);
+  told = subst (λ (l : List ℕ). IsToldBetween c.told out' (c.told ++ l)) (prepared.lines-is ∙ ap (flat_map refusal_line) prepared.refusals) front;
+  tape = all-recorded ran_out _ w' out' c (put p e c) out'.tape (taped p c e sent lines due out out' prepared t.tape recorded);
 }
 
 -- ---- a side that isn't refused
@@ -349,7 +359,7 @@ refusing-none refusals go k k' none stays is =
     ∙ ap (λ (r : Option Refusal). record k { refused = r }) (or_else-none k.refused)
 
 -- an error that a `?` hands on
-pub cut-puts : (Q : ServeEnd → Type 0) (result : Result Bool ServeEnd) (stands : List Event → Type 0) (p : Prescribed) (e : Event) (k : Kept) (w : Outside) (out : Written) (c : Course) → IsErrAnd result Q → Cut w out c (put p e c)
-    → Puts result stands p e k w out c
-cut-puts Q (Ok x) stands p e k w out c is cut = absurd is
-cut-puts Q (Err x) stands p e k w out c is cut = cut
+pub cut-puts : (Q : ServeEnd → Type 0) (result : Result Bool ServeEnd) (stands : List Event → Type 0) (runs_out : List Event → Event → List ℕ → List ℕ → Type 0) (p : Prescribed) (e : Event) (k : Kept) (w : Outside) (out : Written) (c : Course) → IsErrAnd result Q → ((end : ServeEnd) → Cut (MayRunOut end runs_out p) w out c (put p e c))
+    → Puts result stands runs_out p e k w out c
+cut-puts Q (Ok x) stands runs_out p e k w out c is cut = absurd is
+cut-puts Q (Err x) stands runs_out p e k w out c is cut = cut x

@@ -1,5 +1,5 @@
 -- The end of a round.
-use Rattle.std.proofs.Common.{◌≡◌, ◌⊎◌, ℕ, ◌+◌, ◌*◌, ◌-◌, ◌<◌, ◌≤◌, ◌==◌, not, Bool, true, false, cond, List, [], ◌++◌, IfSome, Result, Ok, Err, refl, sym, ap, ◌∙◌, subst, inl, inr, append-nil, arith}
+use Rattle.std.proofs.Common.{◌≡◌, ◌⊎◌, ℕ, ◌+◌, ◌*◌, ◌-◌, ◌<◌, ◌≤◌, ◌==◌, not, Bool, true, false, cond, List, [], ◌++◌, Some, IfSome, Result, Ok, Err, refl, sym, ap, ◌∙◌, subst, inl, inr, append-nil, arith}
 use Rattle.std.specs.Result.{OnOk}
 use Rattle.std.proofs.lemmas.Bool.{false≢true}
 use Rattle.std.proofs.Math.Nat.{mul-le-mul_left}
@@ -16,13 +16,13 @@ use Rattle.bridge_run.specs.Course.{Setting, Course, Next, AtDoor, AtEnd}
 use Rattle.session_tape.specs.Tapes.{GrowsInPart}
 use Rattle.bridge_run.specs.Recorded.{written_if, waiting_if}
 use Rattle.bridge_run.specs.Calls.{Outcome, Goes, Stops, gathered, rest, course_of}
-use Rattle.bridge_run.specs.Outside.{Outside, OneRose, NoFault, Tells, Cut, Written, Faults}
+use Rattle.bridge_run.specs.Outside.{Outside, OneRose, NoFault, Tells, IsTold, Cut, Written, Faults}
 use Rattle.bridge_run.specs.Serves.{Reaches}
 use Rattle.bridge_run.specs.inner.Keeping.{up_of, with_up, one_if, chances_of, Wears, rounds_of, IsLive, RestsBusy, Rests}
 use Rattle.bridge_run.specs.inner.Follows.{Follows, HasFaults, setting, Comes, Runs}
 use Rattle.bridge_run.proofs.lemmas.calls.Course.{reaches-call, runs-then}
 use Rattle.bridge_run.proofs.lemmas.events.Settle.{positive-not_zero, choice}
-use Rattle.bridge_run.proofs.lemmas.events.Put.{moved, written-front}
+use Rattle.bridge_run.proofs.lemmas.events.Put.{moved, written-front, if-told}
 use Rattle.bridge_run.proofs.lemmas.calls.Answers.{between-same}
 
 -- ---- faults
@@ -75,7 +75,7 @@ rest-is s c b last p q = choice c.busy (c.waits - 1 == 0) b last (Goes AtDoor (r
 
 -- what waits was written where the round brought nothing
 pub record Flushes (busy : Bool) (out out' : Written) : Type 0 where
-  pub told : out'.told ≡ out.told
+  pub told : (bytes : List ℕ) → IsTold out bytes → IsTold out' bytes
   pub tape : out'.tape ≡ append_known out.tape (written_if (not busy) out.waiting)
   pub waits : IfSome out'.tape (λ held. out'.waiting ≡ waiting_if (not busy) out.waiting)
 
@@ -86,7 +86,7 @@ flushed true stands p k w out out' c f is = record {
     client = f.tells.client;
     host = f.tells.host;
     clients = f.tells.clients;
-    told = is.told ∙ f.tells.told;
+    told = is.told c.told f.tells.told;
     tape = subst (λ (l : List ℕ). IfSome out'.tape (λ held. (held ≡ l) × (out'.waiting ≡ c.waiting))) (append-nil c.recorded)
         (moved (λ (l : List ℕ). []) (λ (l : List ℕ). l) out.tape out'.tape out.waiting out'.waiting c.recorded c.waiting f.tells.tape is.tape is.waits);
   };
@@ -103,7 +103,7 @@ flushed false stands p k w out out' c f is = record {
     client = f.tells.client;
     host = f.tells.host;
     clients = f.tells.clients;
-    told = is.told ∙ f.tells.told;
+    told = is.told c.told f.tells.told;
     tape = moved (λ (l : List ℕ). l) (λ (l : List ℕ). []) out.tape out'.tape out.waiting out'.waiting c.recorded c.waiting f.tells.tape is.tape is.waits;
   };
   client_up = f.client_up;
@@ -114,9 +114,9 @@ flushed false stands p k w out out' c f is = record {
   refused = f.refused;
 }
 
-rest-ok : (b : Bool) (stands : List Event → Type 0) (p : Prescribed) (idle : ℕ) (k k' : Kept) (w : Outside) (out : Written) (from : Outcome) (c : Course) → k.busy ≡ b → RestsBusy b k k' → k.idle ≡ idle
-    → Follows stands p k w out (cond b c (gathered c)) → Reaches (record { served = p; idle = idle }) from (Goes AtEnd c) → Runs {T = Unit {0}} (Ok tt) stands (record { served = p; idle = idle }) k' w out from AtDoor
-rest-ok true stands p idle k k' w out from c is r same f reach =
+rest-ok : (b : Bool) (stands : List Event → Type 0) (runs_out : List Event → Event → List ℕ → List ℕ → Type 0) (p : Prescribed) (idle : ℕ) (k k' : Kept) (w : Outside) (out : Written) (from : Outcome) (c : Course) → k.busy ≡ b → RestsBusy b k k' → k.idle ≡ idle
+    → Follows stands p k w out (cond b c (gathered c)) → Reaches (record { served = p; idle = idle }) from (Goes AtEnd c) → Runs {T = Unit {0}} (Ok tt) stands runs_out (record { served = p; idle = idle }) k' w out from AtDoor
+rest-ok true stands runs_out p idle k k' w out from c is r same f reach =
     let s : Setting = record { served = p; idle = idle } in
     let d = record c { busy = false; waits = idle } in
     record {
@@ -124,7 +124,7 @@ rest-ok true stands p idle k k' w out from c is r same f reach =
       reaches = reaches-call s from AtEnd c (Goes AtDoor d) reach (rest-is s c true (c.waits - 1 == 0) (sym f.busy ∙ is) refl);
       follows = rested stands p k k' w out c false k.idle f r idle same;
     }
-rest-ok false stands p idle k k' w out from c is r same f reach =
+rest-ok false stands runs_out p idle k k' w out from c is r same f reach =
     let s : Setting = record { served = p; idle = idle } in
     let fewer = ap (λ (n : ℕ). n - 1) f.waits in
     let positive : 0 < c.waits - 1 = omega (arith, r.1, ap (λ (k : Kept). k.waits) r.0, f.waits) in
@@ -136,9 +136,9 @@ rest-ok false stands p idle k k' w out from c is r same f reach =
       follows = rested stands p k k' w out (gathered c) false (k.waits - 1) f (r.0 ∙ ap (λ (b : Bool). record k { busy = b; waits = k.waits - 1 }) is) (c.waits - 1) fewer;
     }
 
-rest-idle : (stands : List Event → Type 0) (p : Prescribed) (idle : ℕ) (k k' : Kept) (w : Outside) (out : Written) (from : Outcome) (c : Course) → Rests (Err Idle) k k'
-    → Follows stands p k w out (gathered c) → Reaches (record { served = p; idle = idle }) from (Goes AtEnd c) → Runs {T = Unit {0}} (Err Idle) stands (record { served = p; idle = idle }) k' w out from AtDoor
-rest-idle stands p idle k k' w out from c r f reach =
+rest-idle : (stands : List Event → Type 0) (runs_out : List Event → Event → List ℕ → List ℕ → Type 0) (p : Prescribed) (idle : ℕ) (k k' : Kept) (w : Outside) (out : Written) (from : Outcome) (c : Course) → Rests (Err Idle) k k'
+    → Follows stands p k w out (gathered c) → Reaches (record { served = p; idle = idle }) from (Goes AtEnd c) → Runs {T = Unit {0}} (Err Idle) stands runs_out (record { served = p; idle = idle }) k' w out from AtDoor
+rest-idle stands runs_out p idle k k' w out from c r f reach =
     let s : Setting = record { served = p; idle = idle } in
     record {
       course = record (gathered c) { waits = c.waits - 1 };
@@ -147,16 +147,16 @@ rest-idle stands p idle k k' w out from c r f reach =
       tells = record { client = f.tells.client; host = f.tells.host; clients = f.tells.clients; told = f.tells.told; tape = f.tells.tape };
     }
 
-pub rests : (result : Result (Unit {0}) ServeEnd) (stands : List Event → Type 0) (p : Prescribed) (idle : ℕ) (k k' : Kept) (w : Outside) (out out' : Written) (from : Outcome) (c : Course) → Rests result k k' → k.idle ≡ idle
-    → Follows stands p k w out c → Flushes k.busy out out' → Reaches (record { served = p; idle = idle }) from (Goes AtEnd c) → Runs result stands (record { served = p; idle = idle }) k' w out' from AtDoor
-rests (Ok x) stands p idle k k' w out out' from c r same f is reach = rest-ok k.busy stands p idle k k' w out' from c refl r same (flushed k.busy stands p k w out out' c f is) reach
-rests (Err Idle) stands p idle k k' w out out' from c r same f is reach =
-    rest-idle stands p idle k k' w out' from c r (subst (λ (b : Bool). Follows stands p k w out' (cond b c (gathered c))) r.0 (flushed k.busy stands p k w out out' c f is)) reach
-rests (Err (Ended refused)) stands p idle k k' w out out' from c r same f is reach = absurd r
-rests (Err Spent) stands p idle k k' w out out' from c r same f is reach = absurd r
-rests (Err (LinkFault side)) stands p idle k k' w out out' from c r same f is reach = absurd r
-rests (Err WriteFault) stands p idle k k' w out out' from c r same f is reach = absurd r
-rests (Err Memory) stands p idle k k' w out out' from c r same f is reach = absurd r
+pub rests : (result : Result (Unit {0}) ServeEnd) (stands : List Event → Type 0) (runs_out : List Event → Event → List ℕ → List ℕ → Type 0) (p : Prescribed) (idle : ℕ) (k k' : Kept) (w : Outside) (out out' : Written) (from : Outcome) (c : Course) → Rests result k k' → k.idle ≡ idle
+    → Follows stands p k w out c → Flushes k.busy out out' → Reaches (record { served = p; idle = idle }) from (Goes AtEnd c) → Runs result stands runs_out (record { served = p; idle = idle }) k' w out' from AtDoor
+rests (Ok x) stands runs_out p idle k k' w out out' from c r same f is reach = rest-ok k.busy stands runs_out p idle k k' w out' from c refl r same (flushed k.busy stands p k w out out' c f is) reach
+rests (Err Idle) stands runs_out p idle k k' w out out' from c r same f is reach =
+    rest-idle stands runs_out p idle k k' w out' from c r (subst (λ (b : Bool). Follows stands p k w out' (cond b c (gathered c))) r.0 (flushed k.busy stands p k w out out' c f is)) reach
+rests (Err (Ended refused)) stands runs_out p idle k k' w out out' from c r same f is reach = absurd r
+rests (Err Spent) stands runs_out p idle k k' w out out' from c r same f is reach = absurd r
+rests (Err (LinkFault side)) stands runs_out p idle k k' w out out' from c r same f is reach = absurd r
+rests (Err WriteFault) stands runs_out p idle k k' w out out' from c r same f is reach = absurd r
+rests (Err Memory) stands runs_out p idle k k' w out out' from c r same f is reach = absurd r
 
 -- ---- what waits is written in part
 
@@ -176,8 +176,8 @@ rest-moves true last s c = record { client = refl; host = refl; clients = refl; 
 rest-moves false true s c = record { client = refl; host = refl; clients = refl; to_client = refl; to_host = refl; told = refl; recorded = refl }
 rest-moves false false s c = record { client = refl; host = refl; clients = refl; to_client = refl; to_host = refl; told = refl; recorded = refl }
 
-pub rest-cut : (s : Setting) (busy : Bool) (w : Outside) (out out' : Written) (c : Course) → busy ≡ c.busy → Tells w out c → out'.told ≡ out.told → GrowsInPart out.tape out'.tape (written_if (not busy) out.waiting) → Cut w out' c (course_of (rest s c))
-rest-cut s busy w out out' c is t told grows =
+pub rest-cut : {ran_out : List Event → Event → List ℕ → List ℕ → Type 0} → (s : Setting) (busy : Bool) (w : Outside) (out out' : Written) (c : Course) → busy ≡ c.busy → Tells w out c → IsTold out' c.told → GrowsInPart out.tape out'.tape (written_if (not busy) out.waiting) → Cut ran_out w out' c (course_of (rest s c))
+rest-cut {ran_out = ran_out} s busy w out out' c is t told grows =
     let d = course_of (rest s c) in
     let m : RestMoves c.busy c d = rest-moves c.busy (c.waits - 1 == 0) s c in
     record {
@@ -186,9 +186,9 @@ rest-cut s busy w out out' c is t told grows =
       clients = inl t.clients;
       to_client = between-same c.to_client w.client.written d.to_client t.client.written-is m.to_client;
       to_host = between-same c.to_host w.host.written d.to_host t.host.written-is m.to_host;
-      told = between-same c.told out'.told d.told (told ∙ t.told) m.told;
-      tape = written-front (λ (l : List ℕ). written_if (not busy) l) w out' c d out.tape out'.tape out.waiting grows t.tape
-          (m.recorded ∙ ap (λ (b : Bool). c.recorded ++ written_if (not b) c.waiting) (sym is)) t.client.written-is t.host.written-is (told ∙ t.told);
+      told = if-told out'.begun (λ (is : out'.told ≡ Some c.told). between-same c.told out'.told d.told is m.told) told;
+      tape = written-front ran_out (λ (l : List ℕ). written_if (not busy) l) w out' c d out.tape out'.tape out.waiting grows t.tape
+          (m.recorded ∙ ap (λ (b : Bool). c.recorded ++ written_if (not b) c.waiting) (sym is)) t.client.written-is t.host.written-is told;
     }
 
 -- ---- fewer rounds are left
@@ -242,8 +242,8 @@ live-if_ok (Err e) k m n w live left r = tt
 
 -- ---- one part of a round behind another
 
-pub goes-on : {T : Type 0} → (result : Result T ServeEnd) (stands stands2 : List Event → Type 0) (p : Prescribed) (k0 k1 k2 : Kept) (w w2 : Outside) (out out2 : Written) (from : Outcome) (next1 next2 : Next)
-    → (a : Comes stands (setting p k0) k1 w out from next1) → k1.idle ≡ k0.idle → Runs result stands2 (setting p k1) k2 w2 out2 (Goes next1 a.course) next2 → Runs result stands2 (setting p k0) k2 w2 out2 from next2
-goes-on result stands stands2 p k0 k1 k2 w w2 out out2 from next1 next2 a idle b =
-    runs-then result stands2 (setting p k0) k2 w2 out2 from next1 a.course next2 a.reaches
-    (subst (λ (i : ℕ). Runs result stands2 (record { served = p; idle = i }) k2 w2 out2 (Goes next1 a.course) next2) idle b)
+pub goes-on : {T : Type 0} → (result : Result T ServeEnd) (stands stands2 : List Event → Type 0) (runs_out : List Event → Event → List ℕ → List ℕ → Type 0) (p : Prescribed) (k0 k1 k2 : Kept) (w w2 : Outside) (out out2 : Written) (from : Outcome) (next1 next2 : Next)
+    → (a : Comes stands (setting p k0) k1 w out from next1) → k1.idle ≡ k0.idle → Runs result stands2 runs_out (setting p k1) k2 w2 out2 (Goes next1 a.course) next2 → Runs result stands2 runs_out (setting p k0) k2 w2 out2 from next2
+goes-on result stands stands2 runs_out p k0 k1 k2 w w2 out out2 from next1 next2 a idle b =
+    runs-then result stands2 runs_out (setting p k0) k2 w2 out2 from next1 a.course next2 a.reaches
+    (subst (λ (i : ℕ). Runs result stands2 runs_out (record { served = p; idle = i }) k2 w2 out2 (Goes next1 a.course) next2) idle b)

@@ -41,10 +41,10 @@ choice a b u v x y z p q = ap (λ (k : Bool). cond k x (cond b y z)) p ∙ ap (�
 over-is : (k : Kept) (c : Course) (b : Bool) → k.client_up ≡ c.client_up → k.host_up ≡ c.host_up → is_over k ≡ b → (not c.client_up && not c.host_up) ≡ b
 over-is k c b p q is = ap (λ (u : Bool). not u && not c.host_up) (sym p) ∙ ap (λ (u : Bool). not k.client_up && not u) (sym q) ∙ is
 
-pub settled : (result : Result (Unit {0}) ServeEnd) (stands : List Event → Type 0) (p : Prescribed) (idle : ℕ) (k : Kept) (w : Outside) (out : Written) (from : Outcome) (now : Next) (b : Course) (next : Next) (c : Course)
+pub settled : (result : Result (Unit {0}) ServeEnd) (stands : List Event → Type 0) (runs_out : List Event → Event → List ℕ → List ℕ → Type 0) (p : Prescribed) (idle : ℕ) (k : Kept) (w : Outside) (out : Written) (from : Outcome) (now : Next) (b : Course) (next : Next) (c : Course)
     → Settles result k → Follows stands p k w out c → Reaches (record { served = p; idle = idle }) from (Goes now b) → call (record { served = p; idle = idle }) now b ≡ settle (record { served = p; idle = idle }) next c
-    → Runs result stands (record { served = p; idle = idle }) k w out from next
-settled (Ok x) stands p idle k w out from now b next c is f r e =
+    → Runs result stands runs_out (record { served = p; idle = idle }) k w out from next
+settled (Ok x) stands runs_out p idle k w out from now b next c is f r e =
     let s : Setting = record { served = p; idle = idle } in
     record {
       course = c;
@@ -52,7 +52,7 @@ settled (Ok x) stands p idle k w out from now b next c is f r e =
           (over-is k c false f.client_up f.host_up is.0) (ap (λ (n : ℕ). n == 0) (sym f.left) ∙ positive-not_zero k.left is.1));
       follows = f;
     }
-settled (Err (Ended refused)) stands p idle k w out from now b next c is f r e =
+settled (Err (Ended refused)) stands runs_out p idle k w out from now b next c is f r e =
     let s : Setting = record { served = p; idle = idle } in
     record {
       course = c;
@@ -60,7 +60,7 @@ settled (Err (Ended refused)) stands p idle k w out from now b next c is f r e =
           (over-is k c true f.client_up f.host_up is.0) refl ∙ ap (λ (o : Option Refusal). Stops (Ended o) c) (sym (is.1 ∙ f.refused)));
       tells = f.tells;
     }
-settled (Err Spent) stands p idle k w out from now b next c is f r e =
+settled (Err Spent) stands runs_out p idle k w out from now b next c is f r e =
     let s : Setting = record { served = p; idle = idle } in
     record {
       course = c;
@@ -68,10 +68,10 @@ settled (Err Spent) stands p idle k w out from now b next c is f r e =
           (over-is k c false f.client_up f.host_up is.0) (ap (λ (n : ℕ). n == 0) (sym f.left ∙ is.1)));
       tells = f.tells;
     }
-settled (Err Idle) stands p idle k w out from now b next c is f r e = absurd is
-settled (Err Memory) stands p idle k w out from now b next c is f r e = absurd is
-settled (Err WriteFault) stands p idle k w out from now b next c is f r e = absurd is
-settled (Err (LinkFault side)) stands p idle k w out from now b next c is f r e = absurd is
+settled (Err Idle) stands runs_out p idle k w out from now b next c is f r e = absurd is
+settled (Err Memory) stands runs_out p idle k w out from now b next c is f r e = absurd is
+settled (Err WriteFault) stands runs_out p idle k w out from now b next c is f r e = absurd is
+settled (Err (LinkFault side)) stands runs_out p idle k w out from now b next c is f r e = absurd is
 
 -- what a taken event comes to where no end of the client is next, and where one is
 pub take-settles : (s : Setting) (e : Event) (next : Next) (c : Course) (refused : Bool) → refused ≡ drops s.served c.events e → ends_next e refused ≡ false

@@ -13,7 +13,7 @@ use Rattle.bridge_run.specs.Prescribed.{Prescribed, gained}
 use Rattle.bridge_run.specs.Recorded.{has_any, event_line, lines_of, is_last, is_full, written_if}
 use Rattle.bridge_run.specs.Course.{Course}
 use Rattle.bridge_run.specs.Calls.{put, is_due, lines_with}
-use Rattle.bridge_run.specs.Outside.{Outside, Written, Shows, Tells, IsBetween, IsTaped, HasLines, Cut}
+use Rattle.bridge_run.specs.Outside.{Outside, Written, Shows, Tells, IsTold, IsBetween, IsTaped, HasLines, Cut}
 use Rattle.bridge_run.specs.Log.{IsFront}
 use Rattle.bridge_run.specs.inner.Links.{wrote_if, WritesFront}
 use Rattle.bridge_run.proofs.lemmas.events.Put.{more_if, wrote-shows, between-all, between-front, told-before}
@@ -51,31 +51,52 @@ all-lines p c e due =
 
 -- ---- the tape
 
+-- what the event had sent before memory ran out, and what of that is written
+pub record Sent (ran_out : List Event → Event → List ℕ → List ℕ → Type 0) (c : Course) (e : Event) (client host : List ℕ) (w : Outside) (out : Written) : Type 0 where
+  pub stopped : ran_out c.events e client host
+  pub some : (has_any client || has_any host) ≡ true
+  pub to_client : IsBetween c.to_client w.client.written (cond c.client_up (c.to_client ++ client) c.to_client)
+  pub to_host : IsBetween c.to_host w.host.written (cond c.host_up (c.to_host ++ host) c.to_host)
+  pub told : IsTold out c.told
+
 -- its line is there, behind those that waited
-recorded-line : (p : Prescribed) (c : Course) (e : Event) (w : Outside) (out : Written) (known known' : Option (List ℕ)) (waiting : List ℕ) → is_due p e c ≡ true → IfSome known (λ held. (held ≡ c.recorded) × (waiting ≡ c.waiting))
-    → known' ≡ append_known known (waiting ++ (event_line e ++ [])) → IfSome known' (λ held. HasLines w out c (put p e c) held)
-recorded-line p c e w out None known' waiting due has is = subst (λ (k : Option (List ℕ)). IfSome k (λ held. HasLines w out c (put p e c) held)) (sym is) tt
-recorded-line p c e w out (Some held) known' waiting due has is =
+recorded-line : {ran_out : List Event → Event → List ℕ → List ℕ → Type 0} → (p : Prescribed) (c : Course) (e : Event) (w : Outside) (out : Written) (client host : List ℕ) → Sent ran_out c e client host w out → (known known' : Option (List ℕ)) (waiting : List ℕ) → is_due p e c ≡ true → IfSome known (λ held. (held ≡ c.recorded) × (waiting ≡ c.waiting))
+    → known' ≡ append_known known (waiting ++ (event_line e ++ [])) → IfSome known' (λ held. HasLines ran_out w out c (put p e c) held)
+recorded-line {ran_out = ran_out} p c e w out client host sent None known' waiting due has is = subst (λ (k : Option (List ℕ)). IfSome k (λ held. HasLines ran_out w out c (put p e c) held)) (sym is) tt
+recorded-line {ran_out = ran_out} p c e w out client host sent (Some held) known' waiting due has is =
     let same : held ++ (waiting ++ (event_line e ++ [])) ≡ c.recorded ++ (c.waiting ++ event_line e) =
     ap (λ (l : List ℕ). l ++ (waiting ++ (event_line e ++ []))) has.0 ∙ ap (λ (l : List ℕ). c.recorded ++ (l ++ (event_line e ++ []))) has.1 ∙ ap (λ (l : List ℕ). c.recorded ++ (c.waiting ++ l)) (append-nil (event_line e)) in
     let comments = flat_map refusal_comment (gained p.refusals c.events e) in
-    subst (λ (k : Option (List ℕ)). IfSome k (λ held. HasLines w out c (put p e c) held)) (sym is)
-    (inr (inr (record { event = e; takes = refl; held-is = same; lost = comments; all-is = all-lines p c e due ∙ ap (λ (l : List ℕ). l ++ comments) (sym same) })))
+    subst (λ (k : Option (List ℕ)). IfSome k (λ held. HasLines ran_out w out c (put p e c) held)) (sym is)
+    (inr (inr (record {
+      event = e;
+      takes = refl;
+      sent_client = client;
+      sent_host = host;
+      stopped = sent.stopped;
+      some = sent.some;
+      held-is = same;
+      lost = comments;
+      all-is = all-lines p c e due ∙ ap (λ (l : List ℕ). l ++ comments) (sym same);
+      to_client = sent.to_client;
+      to_host = sent.to_host;
+      told = sent.told;
+    })))
 
-pub stop-recorded : (p : Prescribed) (c : Course) (e : Event) (client host : List ℕ) (refusals : List Refusal) (w : Outside) (out out' : Written) (waiting : List ℕ) → IsFront client (gained p.to_client c.events e) → IsFront host (gained p.to_host c.events e)
-    → (has_any client || has_any host) ≡ true → refusals ≡ [] → waiting ≡ out.waiting → IsTaped out c → out'.tape ≡ append_known out.tape (waiting ++ lines_of e refusals) → IfSome out'.tape (λ held. HasLines w out' c (put p e c) held)
-stop-recorded p c e client host refusals w out out' waiting f g some none same taped is =
-    recorded-line p c e w out' out.tape out'.tape out.waiting (due-bytes p c e client host f g some) taped
+pub stop-recorded : (ran_out : List Event → Event → List ℕ → List ℕ → Type 0) (p : Prescribed) (c : Course) (e : Event) (client host : List ℕ) (refusals : List Refusal) (w : Outside) (out out' : Written) (waiting : List ℕ) → Sent ran_out c e client host w out' → IsFront client (gained p.to_client c.events e) → IsFront host (gained p.to_host c.events e)
+    → (has_any client || has_any host) ≡ true → refusals ≡ [] → waiting ≡ out.waiting → IsTaped out c → out'.tape ≡ append_known out.tape (waiting ++ lines_of e refusals) → IfSome out'.tape (λ held. HasLines ran_out w out' c (put p e c) held)
+stop-recorded ran_out p c e client host refusals w out out' waiting sent f g some none same taped is =
+    recorded-line {ran_out = ran_out} p c e w out' client host sent out.tape out'.tape out.waiting (due-bytes p c e client host f g some) taped
     (is ∙ ap (λ (l : List ℕ). append_known out.tape (l ++ lines_of e refusals)) same ∙ ap (λ (rs : List Refusal). append_known out.tape (out.waiting ++ (event_line e ++ flat_map refusal_comment rs))) none)
 
 -- a front of that is there, and nothing is written
-recorded-part : (p : Prescribed) (c : Course) (e : Event) (w : Outside) (out : Written) (known known' : Option (List ℕ)) (waiting : List ℕ) → is_due p e c ≡ true → IfSome known (λ held. (held ≡ c.recorded) × (waiting ≡ c.waiting))
-    → GrowsInPart known known' (waiting ++ (event_line e ++ [])) → w.client.written ≡ Some c.to_client → w.host.written ≡ Some c.to_host → out.told ≡ Some c.told → IfSome known' (λ held. HasLines w out c (put p e c) held)
-recorded-part p c e w out None known' waiting due has grows client host told = subst (λ (k : Option (List ℕ)). IfSome k (λ held. HasLines w out c (put p e c) held)) (sym grows.grows) tt
-recorded-part p c e w out (Some held) known' waiting due has grows client host told =
+recorded-part : (ran_out : List Event → Event → List ℕ → List ℕ → Type 0) (p : Prescribed) (c : Course) (e : Event) (w : Outside) (out : Written) (known known' : Option (List ℕ)) (waiting : List ℕ) → is_due p e c ≡ true → IfSome known (λ held. (held ≡ c.recorded) × (waiting ≡ c.waiting))
+    → GrowsInPart known known' (waiting ++ (event_line e ++ [])) → w.client.written ≡ Some c.to_client → w.host.written ≡ Some c.to_host → IsTold out c.told → IfSome known' (λ held. HasLines ran_out w out c (put p e c) held)
+recorded-part ran_out p c e w out None known' waiting due has grows client host told = subst (λ (k : Option (List ℕ)). IfSome k (λ held. HasLines ran_out w out c (put p e c) held)) (sym grows.grows) tt
+recorded-part ran_out p c e w out (Some held) known' waiting due has grows client host told =
     let comments = flat_map refusal_comment (gained p.refusals c.events e) in
     let parts : c.waiting ++ event_line e ≡ grows.front ++ grows.back = ap (λ (l : List ℕ). l ++ event_line e) (sym has.1) ∙ ap (λ (l : List ℕ). waiting ++ l) (sym (append-nil (event_line e))) ∙ grows.parts in
-    subst (λ (k : Option (List ℕ)). IfSome k (λ held. HasLines w out c (put p e c) held)) (sym grows.grows)
+    subst (λ (k : Option (List ℕ)). IfSome k (λ held. HasLines ran_out w out c (put p e c) held)) (sym grows.grows)
     (inr (inl (record {
       more = grows.front;
       lost = grows.back ++ comments;
@@ -87,12 +108,12 @@ recorded-part p c e w out (Some held) known' waiting due has grows client host t
       told = told;
     })))
 
-pub stop-unrecorded : (p : Prescribed) (c : Course) (e : Event) (client host : List ℕ) (refusals : List Refusal) (w : Outside) (out out' : Written) (waiting : List ℕ) → IsFront client (gained p.to_client c.events e) → IsFront host (gained p.to_host c.events e)
-    → (has_any client || has_any host) ≡ true → refusals ≡ [] → waiting ≡ out.waiting → Tells w out c → out'.told ≡ out.told → GrowsInPart out.tape out'.tape (waiting ++ lines_of e refusals) → IfSome out'.tape (λ held. HasLines w out' c (put p e c) held)
-stop-unrecorded p c e client host refusals w out out' waiting f g some none same t told grows =
-    recorded-part p c e w out' out.tape out'.tape out.waiting (due-bytes p c e client host f g some) t.tape
+pub stop-unrecorded : (ran_out : List Event → Event → List ℕ → List ℕ → Type 0) (p : Prescribed) (c : Course) (e : Event) (client host : List ℕ) (refusals : List Refusal) (w : Outside) (out out' : Written) (waiting : List ℕ) → IsFront client (gained p.to_client c.events e) → IsFront host (gained p.to_host c.events e)
+    → (has_any client || has_any host) ≡ true → refusals ≡ [] → waiting ≡ out.waiting → Tells w out c → IsTold out' c.told → GrowsInPart out.tape out'.tape (waiting ++ lines_of e refusals) → IfSome out'.tape (λ held. HasLines ran_out w out' c (put p e c) held)
+stop-unrecorded ran_out p c e client host refusals w out out' waiting f g some none same t told grows =
+    recorded-part ran_out p c e w out' out.tape out'.tape out.waiting (due-bytes p c e client host f g some) t.tape
     (subst (λ (rs : List Refusal). GrowsInPart out.tape out'.tape (out.waiting ++ (event_line e ++ flat_map refusal_comment rs))) none (subst (λ (l : List ℕ). GrowsInPart out.tape out'.tape (l ++ lines_of e refusals)) same grows))
-    t.client.written-is t.host.written-is (told ∙ t.told)
+    t.client.written-is t.host.written-is told
 
 -- ---- the links
 
@@ -128,10 +149,10 @@ pub still-shows : (u : Bool) (t : List Turn) (x : List ℕ) (old new : Link) →
 still-shows u t x old new is s = subst (λ (l : Link). Shows l u t x) (sym is) s
 
 -- the call is cut
-pub stop-cut : (p : Prescribed) (c : Course) (e : Event) (client host : List ℕ) (w w' : Outside) (out out' : Written) → IsFront client (gained p.to_client c.events e) → IsFront host (gained p.to_host c.events e) → Tells w out c → out'.told ≡ out.told
+pub stop-cut : {ran_out : List Event → Event → List ℕ → List ℕ → Type 0} → (p : Prescribed) (c : Course) (e : Event) (client host : List ℕ) (w w' : Outside) (out out' : Written) → IsFront client (gained p.to_client c.events e) → IsFront host (gained p.to_host c.events e) → Tells w out c → IsTold out' c.told
     → w'.client.turns ≡ Some c.client → w'.host.turns ≡ Some c.host → w'.door ≡ w.door
     → IsBetween c.to_client w'.client.written (cond c.client_up (c.to_client ++ client) c.to_client) → IsBetween c.to_host w'.host.written (cond c.host_up (c.to_host ++ host) c.to_host)
-    → IfSome out'.tape (λ held. HasLines w' out' c (put p e c) held) → Cut w' out' c (put p e c)
+    → IfSome out'.tape (λ held. HasLines ran_out w' out' c (put p e c) held) → Cut ran_out w' out' c (put p e c)
 stop-cut p c e client host w w' out out' f g t told client-turns host-turns door to_client to_host tape =
     record {
       client = inl client-turns;
@@ -139,6 +160,6 @@ stop-cut p c e client host w w' out out' f g t told client-turns host-turns door
       clients = inl (ap (λ (d : Door). d.to_come) door ∙ t.clients);
       to_client = longer c.client_up c.to_client client f.0 (gained p.to_client c.events e) w'.client.written f.1 to_client;
       to_host = longer c.host_up c.to_host host g.0 (gained p.to_host c.events e) w'.host.written g.1 to_host;
-      told = told-before p c e out'.told (told ∙ t.told);
+      told = told-before p c e out' told;
       tape = tape;
     }

@@ -22,15 +22,15 @@ use Rattle.bridge_run.proofs.lending.serve_host.Goals as goal
 
 pub returns-in-Err-clause-leaves : goal.returns-in-Err-clause-leaves
 returns-in-Err-clause-leaves g c = λ k b t.
-    door-short (record { served = lent_sends g.G.Gadget.meaning c.args.gadget; idle = c.args.idle }) k (outside (g.D.Doors.link c.args.doors.now) (g.D.Doors.door c.args.doors.now)) (written (g.K.Sink.contents c.args.out.now) None) b.client_down t
+    door-short (record { served = lent_sends g.G.Gadget.meaning c.args.gadget; idle = c.args.idle }) k (outside (g.D.Doors.link c.args.doors.now) (g.D.Doors.door c.args.doors.now)) (written (g.K.Sink.contents c.args.out.now) (g.K.Sink.contents c.args.out.now) None) b.client_down t
 
 pub returns-in-Err-vec-clause-leaves : goal.returns-in-Err-vec-clause-leaves
 returns-in-Err-vec-clause-leaves g c = λ k b t.
-    door-short (record { served = lent_sends g.G.Gadget.meaning c.args.gadget; idle = c.args.idle }) k (outside (g.D.Doors.link c.args.doors.now) (g.D.Doors.door c.args.doors.now)) (written (g.K.Sink.contents c.args.out.now) None) b.client_down t
+    door-short (record { served = lent_sends g.G.Gadget.meaning c.args.gadget; idle = c.args.idle }) k (outside (g.D.Doors.link c.args.doors.now) (g.D.Doors.door c.args.doors.now)) (written (g.K.Sink.contents c.args.out.now) (g.K.Sink.contents c.args.out.now) None) b.client_down t
 
 pub returns-in-Err-listen-clause-leaves : goal.returns-in-Err-listen-clause-leaves
 returns-in-Err-listen-clause-leaves g c = λ k b t.
-    door-unmade (record { served = lent_sends g.G.Gadget.meaning c.args.gadget; idle = c.args.idle }) k (outside (g.D.Doors.link c.args.doors.now) (g.D.Doors.door c.args.doors.now)) (outside (g.D.Doors.link c.listen.new.self) (g.D.Doors.door c.listen.new.self)) (written (g.K.Sink.contents c.args.out.now) None)
+    door-unmade (record { served = lent_sends g.G.Gadget.meaning c.args.gadget; idle = c.args.idle }) k (outside (g.D.Doors.link c.args.doors.now) (g.D.Doors.door c.args.doors.now)) (outside (g.D.Doors.link c.listen.new.self) (g.D.Doors.door c.listen.new.self)) (written (g.K.Sink.contents c.args.out.now) (g.K.Sink.contents c.args.out.now) None)
     b.client_down t c.in-Err-listen.ensures.listens.1 c.in-Err-listen.ensures.other c.in-Err-listen.ensures.listens.0
 
 pub returns-clause-leaves : goal.returns-clause-leaves
@@ -40,11 +40,11 @@ returns-clause-leaves g c = λ k b t.
     let p = lent_sends m first in
     let w = outside (g.D.Doors.link c.listen.new.self) (g.D.Doors.door c.listen.new.self) in
     let ends = outside (g.D.Doors.link c.run.new.doors) (g.D.Doors.door c.run.new.doors) in
-    let out = written (g.K.Sink.contents c.args.out.now) None in
+    let out = written (g.K.Sink.contents c.args.out.now) (g.K.Sink.contents c.args.out.now) None in
     let core = c.new-session.result.core in
     let stands : List Event → Type 0 = λ events. IsLent m first core events in
-    subst (λ (q : Kept). Follows stands p q w (gathering (g.K.Sink.contents c.args.out.now) None c.new-session.result.waiting) k → Leaves c.run.result (setting p q) (Goes AtDoor k) ends (written (g.K.Sink.contents c.run.new.out) None)) (c.new-session.ensures.kept ∙ c.new.ensures) (c.run.ensures.course first k)
-    (subst (λ (l : List ℕ). Follows stands p (begun false c.args.idle c.args.budget) w (gathering (g.K.Sink.contents c.args.out.now) None l) k) (sym c.new-session.ensures.waiting)
+    subst (λ (q : Kept). Follows stands p q w (gathering (g.K.Sink.contents c.args.out.now) (g.K.Sink.contents c.args.out.now) None c.new-session.result.waiting) k → Leaves c.run.result (LentStops m first) (setting p q) (Goes AtDoor k) ends (written (g.K.Sink.contents c.args.out.now) (g.K.Sink.contents c.run.new.out) None)) (c.new-session.ensures.kept ∙ c.new.ensures) (c.run.ensures.course first (g.K.Sink.contents c.args.out.now) k)
+    (subst (λ (l : List ℕ). Follows stands p (begun false c.args.idle c.args.budget) w (gathering (g.K.Sink.contents c.args.out.now) (g.K.Sink.contents c.args.out.now) None l) k) (sym c.new-session.ensures.waiting)
     (door-follows stands p c.args.idle c.args.budget
     (outside (g.D.Doors.link c.args.doors.now) (g.D.Doors.door c.args.doors.now)) w out k b (subst (λ x. IsLent m first x []) (sym c.new-session.ensures.core) c.in-Ok.ensures) refl t
     c.in_default.ensures.listens.1 c.in_default.ensures.other c.in_default.ensures.listens.0))

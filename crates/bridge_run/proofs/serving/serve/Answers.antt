@@ -15,26 +15,26 @@ use Rattle.bridge_run.specs.GateStops.{gate_runs_out}
 use Rattle.bridge_run.proofs.lemmas.calls.Course.{reaches-none, reaches-call, leaves-then, cut-leaves, cut-next}
 use Rattle.bridge_run.proofs.lemmas.events.Rest.{faults-then}
 use Rattle.bridge_run.proofs.lemmas.calls.Idle.{cut-reason, reason-from}
-use Rattle.bridge_run.proofs.lemmas.calls.Open.{making-short, begun-follows}
+use Rattle.bridge_run.proofs.lemmas.calls.Open.{making-short, begun-follows, never-cut}
 use Rattle.bridge_run.specs.Log.{Told}
 use Rattle.bridge_run.proofs.lemmas.calls.Sink.{told-none}
 use Rattle.bridge_run.proofs.lemmas.calls.Opening.{with_host, nothing-before, open-logged, opened-at}
 use Rattle.bridge_run.proofs.serving.serve.Goals as goal
 
 pub returns-in-Err-clause-leaves : goal.returns-in-Err-clause-leaves
-returns-in-Err-clause-leaves g c = λ k b t. making-short (record { served = gate_sends c.args.after_loss c.args.first_id; idle = c.args.idle }) k (outside (g.D.Doors.link c.args.doors.now) (g.D.Doors.door c.args.doors.now)) (written (g.K.Sink.contents c.args.out.now) (g.T.Tape.contents c.args.tape.now)) t
+returns-in-Err-clause-leaves g c = λ k b t. making-short (record { served = gate_sends c.args.after_loss c.args.first_id; idle = c.args.idle }) k (outside (g.D.Doors.link c.args.doors.now) (g.D.Doors.door c.args.doors.now)) (written (g.K.Sink.contents c.args.out.now) (g.K.Sink.contents c.args.out.now) (g.T.Tape.contents c.args.tape.now)) t
 
 pub returns-in-Err-vec-clause-leaves : goal.returns-in-Err-vec-clause-leaves
-returns-in-Err-vec-clause-leaves g c = λ k b t. making-short (record { served = gate_sends c.args.after_loss c.args.first_id; idle = c.args.idle }) k (outside (g.D.Doors.link c.args.doors.now) (g.D.Doors.door c.args.doors.now)) (written (g.K.Sink.contents c.args.out.now) (g.T.Tape.contents c.args.tape.now)) t
+returns-in-Err-vec-clause-leaves g c = λ k b t. making-short (record { served = gate_sends c.args.after_loss c.args.first_id; idle = c.args.idle }) k (outside (g.D.Doors.link c.args.doors.now) (g.D.Doors.door c.args.doors.now)) (written (g.K.Sink.contents c.args.out.now) (g.K.Sink.contents c.args.out.now) (g.T.Tape.contents c.args.tape.now)) t
 
 pub returns-in-Err-open-clause-leaves : goal.returns-in-Err-open-clause-leaves
 returns-in-Err-open-clause-leaves g c = λ k b t.
     let p = gate_sends c.args.after_loss c.args.first_id in
     let s : Setting = record { served = p; idle = c.args.idle } in
     let w = (outside (g.D.Doors.link c.open.new.doors) (g.D.Doors.door c.open.new.doors)) in
-    let out = written (g.K.Sink.contents c.args.out.now) (g.T.Tape.contents c.args.tape.now) in
-    cut-leaves c.in-Err-open.end s (Goes Making k) w out c.in-Err-open.ensures.cut
-    (cut-next s (Goes Making k) Making k (make p k) w out (reaches-none s (Goes Making k)) refl (c.in-Err-open.ensures.course p k out (c.as_slice.ensures ∙ c.in-Ok.ensures.sent ∙ ap (λ (l : List ℕ). l ++ out_host c.args.first_id []) c.new-hello.ensures) b.client_down t))
+    let out = written (g.K.Sink.contents c.args.out.now) (g.K.Sink.contents c.args.out.now) (g.T.Tape.contents c.args.tape.now) in
+    cut-leaves c.in-Err-open.end (gate_runs_out c.args.first_id) s (Goes Making k) w out c.in-Err-open.ensures.cut
+    (cut-next s (Goes Making k) Making k (make p k) w out (reaches-none s (Goes Making k)) refl (never-cut w out k (make p k) (c.in-Err-open.ensures.course p k out (c.as_slice.ensures ∙ c.in-Ok.ensures.sent ∙ ap (λ (l : List ℕ). l ++ out_host c.args.first_id []) c.new-hello.ensures) b.client_down t)))
 
 pub returns-clause-leaves : goal.returns-clause-leaves
 returns-clause-leaves g c = λ k b t.
@@ -43,14 +43,14 @@ returns-clause-leaves g c = λ k b t.
     let s : Setting = record { served = p; idle = c.args.idle } in
     let w = outside (g.D.Doors.link c.open.new.doors) (g.D.Doors.door c.open.new.doors) in
     let ends = outside (g.D.Doors.link c.run.new.doors) (g.D.Doors.door c.run.new.doors) in
-    let out = written (g.K.Sink.contents c.args.out.now) (g.T.Tape.contents c.args.tape.now) in
+    let out = written (g.K.Sink.contents c.args.out.now) (g.K.Sink.contents c.args.out.now) (g.T.Tape.contents c.args.tape.now) in
     let core = c.new-session.result.core in
     let stands : List Event → Type 0 = λ events. (core.after_loss ≡ c.args.after_loss) × Stands first core.gate (gate_events events) in
     let tells = c.in_default.ensures.course p k out (c.as_slice.ensures ∙ c.in-Ok.ensures.sent ∙ ap (λ (l : List ℕ). l ++ out_host first []) c.new-hello.ensures) b.client_down t in
-    leaves-then c.run.result s (Goes Making k) AtDoor (make p k) ends (written (g.K.Sink.contents c.run.new.out) (g.T.Tape.contents c.run.new.tape))
+    leaves-then c.run.result (gate_runs_out first) s (Goes Making k) AtDoor (make p k) ends (written (g.K.Sink.contents c.args.out.now) (g.K.Sink.contents c.run.new.out) (g.T.Tape.contents c.run.new.tape))
     (reaches-call s (Goes Making k) Making k (Goes AtDoor (make p k)) (reaches-none s (Goes Making k)) refl)
-    (subst (λ (q : Kept). Follows stands p q w (gathering (g.K.Sink.contents c.args.out.now) (g.T.Tape.contents c.args.tape.now) c.new-session.result.waiting) (make p k) → Leaves c.run.result (setting p q) (Goes AtDoor (make p k)) ends (written (g.K.Sink.contents c.run.new.out) (g.T.Tape.contents c.run.new.tape))) (c.new-session.ensures.kept ∙ c.new.ensures) (c.run.ensures.course (c.args.after_loss, first) (make p k))
-    (subst (λ (l : List ℕ). Follows stands p (begun true c.args.idle c.args.budget) w (gathering (g.K.Sink.contents c.args.out.now) (g.T.Tape.contents c.args.tape.now) l) (make p k)) (sym c.new-session.ensures.waiting)
+    (subst (λ (q : Kept). Follows stands p q w (gathering (g.K.Sink.contents c.args.out.now) (g.K.Sink.contents c.args.out.now) (g.T.Tape.contents c.args.tape.now) c.new-session.result.waiting) (make p k) → Leaves c.run.result (gate_runs_out first) (setting p q) (Goes AtDoor (make p k)) ends (written (g.K.Sink.contents c.args.out.now) (g.K.Sink.contents c.run.new.out) (g.T.Tape.contents c.run.new.tape))) (c.new-session.ensures.kept ∙ c.new.ensures) (c.run.ensures.course (c.args.after_loss, first) (g.K.Sink.contents c.args.out.now) (make p k))
+    (subst (λ (l : List ℕ). Follows stands p (begun true c.args.idle c.args.budget) w (gathering (g.K.Sink.contents c.args.out.now) (g.K.Sink.contents c.args.out.now) (g.T.Tape.contents c.args.tape.now) l) (make p k)) (sym c.new-session.ensures.waiting)
     (begun-follows stands p c.args.idle c.args.budget w out k b (subst (λ (x : Gateway). (x.after_loss ≡ c.args.after_loss) × Stands first x.gate (gate_events [])) (sym c.new-session.ensures.core) (refl, c.in-Ok.ensures.made)) refl tells)))
 
 pub returns-clause-cause : goal.returns-clause-cause

@@ -24,7 +24,7 @@ use Rattle.usbgate.proofs.program.run.Goals as goal
 
 pub returns-in_default-clause-serves : goal.returns-in_default-clause-serves
 returns-in_default-clause-serves g c = λ asked is.
-    unserved asked (outside (g.D.Doors.link c.args.doors.now) (g.D.Doors.door c.args.doors.now)) (faults (g.K.Sink.faults c.args.out.now) (g.T.Tape.counts c.args.recording.now)) (written (g.K.Sink.contents c.args.out.now) (g.T.Tape.contents c.args.recording.now))
+    unserved asked (outside (g.D.Doors.link c.args.doors.now) (g.D.Doors.door c.args.doors.now)) (faults (g.K.Sink.faults c.args.out.now) (g.T.Tape.counts c.args.recording.now)) (written (g.K.Sink.contents c.args.out.now) (g.K.Sink.contents c.args.out.now) (g.T.Tape.contents c.args.recording.now))
 
 pub returns-in_default-clause-lends : goal.returns-in_default-clause-lends
 returns-in_default-clause-lends g c = λ asked is.

@@ -18,7 +18,7 @@ use Rattle.bridge_run.proofs.lemmas.calls.Rounds.{gone-asking, took-taking, rest
 use Rattle.bridge_run.proofs.session.Session.ask.Goals as goal
 
 pub returns-in-Took-clause-course : goal.returns-in-Took-clause-course
-returns-in-Took-clause-course g c = λ first k f.
+returns-in-Took-clause-course g c = λ first begun k f.
     let side = c.args.side in
     let p = g.C.Served.sends first in
     let s = setting p c.args.self.now.kept in
@@ -28,7 +28,7 @@ returns-in-Took-clause-course g c = λ first k f.
     let links' = g.D.Doors.link c.poll.new.self in
     let door = g.D.Doors.door c.args.doors.now in
     let door' = g.D.Doors.door c.poll.new.self in
-    let out = gathering (g.K.Sink.contents c.args.out.now) (g.T.Tape.contents c.args.tape.now) c.args.self.now.waiting in
+    let out = gathering begun (g.K.Sink.contents c.args.out.now) (g.T.Tape.contents c.args.tape.now) c.args.self.now.waiting in
     let buf = c.poll.new.buf in
     let len : length buf ≡ 65536 = omega (arith, c.poll.auto.buf, c.requires.room) in
     let from = Goes (polls side) k in
@@ -39,14 +39,14 @@ returns-in-Took-clause-course g c = λ first k f.
     let f2 = took-follows stands p kept c.take.new.self (outside links' door') out (passed side k) n f1 c.take.ensures in
     let d = record (passed side k) { busy = true; left = (passed side k).left - n } in
     let next = Takes (piece side (take n buf)) (behind side) in
-    let run = subst (λ (e : Event). Runs c.happen.result (g.C.Served.stands first c.happen.new.self.core) (setting p c.take.new.self) c.happen.new.self.kept (outside (g.D.Doors.link c.happen.new.doors) (g.D.Doors.door c.happen.new.doors)) (gathering (g.K.Sink.contents c.happen.new.out) (g.T.Tape.contents c.happen.new.tape) c.happen.new.self.waiting) (Goes (Takes e (behind side)) d) (behind side))
-    c.piece.ensures (c.happen.ensures.course first (behind side) d f2) in
-    runs-then c.happen.result (g.C.Served.stands first c.happen.new.self.core) s c.happen.new.self.kept (outside (g.D.Doors.link c.happen.new.doors) (g.D.Doors.door c.happen.new.doors)) (gathering (g.K.Sink.contents c.happen.new.out) (g.T.Tape.contents c.happen.new.tape) c.happen.new.self.waiting) from next d (behind side)
+    let run = subst (λ (e : Event). Runs c.happen.result (g.C.Served.stands first c.happen.new.self.core) (g.C.Served.runs_out first) (setting p c.take.new.self) c.happen.new.self.kept (outside (g.D.Doors.link c.happen.new.doors) (g.D.Doors.door c.happen.new.doors)) (gathering begun (g.K.Sink.contents c.happen.new.out) (g.T.Tape.contents c.happen.new.tape) c.happen.new.self.waiting) (Goes (Takes e (behind side)) d) (behind side))
+    c.piece.ensures (c.happen.ensures.course first begun (behind side) d f2) in
+    runs-then c.happen.result (g.C.Served.stands first c.happen.new.self.core) (g.C.Served.runs_out first) s c.happen.new.self.kept (outside (g.D.Doors.link c.happen.new.doors) (g.D.Doors.door c.happen.new.doors)) (gathering begun (g.K.Sink.contents c.happen.new.out) (g.T.Tape.contents c.happen.new.tape) c.happen.new.self.waiting) from next d (behind side)
     (reaches-call s from (polls side) k (Goes next d) (reaches-none s from) (poll-call s side links door out k (Took n) buf f.tells up len c.in-Took.ensures.link.0))
-    (subst (λ (t : Setting). Runs c.happen.result (g.C.Served.stands first c.happen.new.self.core) t c.happen.new.self.kept (outside (g.D.Doors.link c.happen.new.doors) (g.D.Doors.door c.happen.new.doors)) (gathering (g.K.Sink.contents c.happen.new.out) (g.T.Tape.contents c.happen.new.tape) c.happen.new.self.waiting) (Goes next d) (behind side)) (ap (setting p) c.take.ensures) run)
+    (subst (λ (t : Setting). Runs c.happen.result (g.C.Served.stands first c.happen.new.self.core) (g.C.Served.runs_out first) t c.happen.new.self.kept (outside (g.D.Doors.link c.happen.new.doors) (g.D.Doors.door c.happen.new.doors)) (gathering begun (g.K.Sink.contents c.happen.new.out) (g.T.Tape.contents c.happen.new.tape) c.happen.new.self.waiting) (Goes next d) (behind side)) (ap (setting p) c.take.ensures) run)
 
 pub returns-in-NotYet-clause-course : goal.returns-in-NotYet-clause-course
-returns-in-NotYet-clause-course g c = λ first k f.
+returns-in-NotYet-clause-course g c = λ first begun k f.
     let side = c.args.side in
     let p = g.C.Served.sends first in
     let s = setting p c.args.self.now.kept in
@@ -56,7 +56,7 @@ returns-in-NotYet-clause-course g c = λ first k f.
     let links' = g.D.Doors.link c.poll.new.self in
     let door = g.D.Doors.door c.args.doors.now in
     let door' = g.D.Doors.door c.poll.new.self in
-    let out = gathering (g.K.Sink.contents c.args.out.now) (g.T.Tape.contents c.args.tape.now) c.args.self.now.waiting in
+    let out = gathering begun (g.K.Sink.contents c.args.out.now) (g.T.Tape.contents c.args.tape.now) c.args.self.now.waiting in
     let buf = c.poll.new.buf in
     let len : length buf ≡ 65536 = omega (arith, c.poll.auto.buf, c.requires.room) in
     let from = Goes (polls side) k in
@@ -64,12 +64,12 @@ returns-in-NotYet-clause-course g c = λ first k f.
     let moved : OneMoved side links links' door door' = record { other-is = c.in-NotYet.ensures.other; door-is = c.in-NotYet.ensures.door } in
     let f1 = passed-follows side stands p kept links links' door door' out k (length buf) f len moved (ap (λ (l : Link). l.up) c.in-NotYet.ensures.link.1) (ap (λ (l : Link). l.turns) c.in-NotYet.ensures.link.1) (ap (λ (l : Link). l.written) c.in-NotYet.ensures.link.1) in
     let next = quiet side (behind side) in
-    runs-then c.be_quiet.result (g.C.Served.stands first c.be_quiet.new.self.core) s c.be_quiet.new.self.kept (outside (g.D.Doors.link c.be_quiet.new.doors) (g.D.Doors.door c.be_quiet.new.doors)) (gathering (g.K.Sink.contents c.be_quiet.new.out) (g.T.Tape.contents c.be_quiet.new.tape) c.be_quiet.new.self.waiting) from next (passed side k) (behind side)
+    runs-then c.be_quiet.result (g.C.Served.stands first c.be_quiet.new.self.core) (g.C.Served.runs_out first) s c.be_quiet.new.self.kept (outside (g.D.Doors.link c.be_quiet.new.doors) (g.D.Doors.door c.be_quiet.new.doors)) (gathering begun (g.K.Sink.contents c.be_quiet.new.out) (g.T.Tape.contents c.be_quiet.new.tape) c.be_quiet.new.self.waiting) from next (passed side k) (behind side)
     (reaches-call s from (polls side) k (Goes next (passed side k)) (reaches-none s from) (poll-call s side links door out k NotYet buf f.tells up len c.in-NotYet.ensures.link.0))
-    (c.be_quiet.ensures.course first (behind side) (passed side k) f1)
+    (c.be_quiet.ensures.course first begun (behind side) (passed side k) f1)
 
 pub returns-in-Ended-clause-course : goal.returns-in-Ended-clause-course
-returns-in-Ended-clause-course g c = λ first k f.
+returns-in-Ended-clause-course g c = λ first begun k f.
     let side = c.args.side in
     let p = g.C.Served.sends first in
     let s = setting p c.args.self.now.kept in
@@ -79,7 +79,7 @@ returns-in-Ended-clause-course g c = λ first k f.
     let links' = g.D.Doors.link c.poll.new.self in
     let door = g.D.Doors.door c.args.doors.now in
     let door' = g.D.Doors.door c.poll.new.self in
-    let out = gathering (g.K.Sink.contents c.args.out.now) (g.T.Tape.contents c.args.tape.now) c.args.self.now.waiting in
+    let out = gathering begun (g.K.Sink.contents c.args.out.now) (g.T.Tape.contents c.args.tape.now) c.args.self.now.waiting in
     let buf = c.poll.new.buf in
     let len : length buf ≡ 65536 = omega (arith, c.poll.auto.buf, c.requires.room) in
     let from = Goes (polls side) k in
@@ -88,14 +88,14 @@ returns-in-Ended-clause-course g c = λ first k f.
     let f2 = ended-follows side stands p kept c.end.new.self links links' door door' out k (length buf) f len moved (ap (λ (l : Link). l.up) c.in-Ended.ensures.link.1) (ap (λ (l : Link). l.turns) c.in-Ended.ensures.link.1) (ap (λ (l : Link). l.written) c.in-Ended.ensures.link.1) c.end.ensures in
     let d = record (down side (passed side k)) { busy = true } in
     let next = Takes (end_of side) (behind side) in
-    let run = subst (λ (e : Event). Runs c.happen-in-Ended.result (g.C.Served.stands first c.happen-in-Ended.new.self.core) (setting p c.end.new.self) c.happen-in-Ended.new.self.kept (outside (g.D.Doors.link c.happen-in-Ended.new.doors) (g.D.Doors.door c.happen-in-Ended.new.doors)) (gathering (g.K.Sink.contents c.happen-in-Ended.new.out) (g.T.Tape.contents c.happen-in-Ended.new.tape) c.happen-in-Ended.new.self.waiting) (Goes (Takes e (behind side)) d) (behind side))
-    c.end_of.ensures (c.happen-in-Ended.ensures.course first (behind side) d f2) in
-    runs-then c.happen-in-Ended.result (g.C.Served.stands first c.happen-in-Ended.new.self.core) s c.happen-in-Ended.new.self.kept (outside (g.D.Doors.link c.happen-in-Ended.new.doors) (g.D.Doors.door c.happen-in-Ended.new.doors)) (gathering (g.K.Sink.contents c.happen-in-Ended.new.out) (g.T.Tape.contents c.happen-in-Ended.new.tape) c.happen-in-Ended.new.self.waiting) from next d (behind side)
+    let run = subst (λ (e : Event). Runs c.happen-in-Ended.result (g.C.Served.stands first c.happen-in-Ended.new.self.core) (g.C.Served.runs_out first) (setting p c.end.new.self) c.happen-in-Ended.new.self.kept (outside (g.D.Doors.link c.happen-in-Ended.new.doors) (g.D.Doors.door c.happen-in-Ended.new.doors)) (gathering begun (g.K.Sink.contents c.happen-in-Ended.new.out) (g.T.Tape.contents c.happen-in-Ended.new.tape) c.happen-in-Ended.new.self.waiting) (Goes (Takes e (behind side)) d) (behind side))
+    c.end_of.ensures (c.happen-in-Ended.ensures.course first begun (behind side) d f2) in
+    runs-then c.happen-in-Ended.result (g.C.Served.stands first c.happen-in-Ended.new.self.core) (g.C.Served.runs_out first) s c.happen-in-Ended.new.self.kept (outside (g.D.Doors.link c.happen-in-Ended.new.doors) (g.D.Doors.door c.happen-in-Ended.new.doors)) (gathering begun (g.K.Sink.contents c.happen-in-Ended.new.out) (g.T.Tape.contents c.happen-in-Ended.new.tape) c.happen-in-Ended.new.self.waiting) from next d (behind side)
     (reaches-call s from (polls side) k (Goes next d) (reaches-none s from) (poll-call s side links door out k Ended buf f.tells up len c.in-Ended.ensures.link.0))
-    (subst (λ (t : Setting). Runs c.happen-in-Ended.result (g.C.Served.stands first c.happen-in-Ended.new.self.core) t c.happen-in-Ended.new.self.kept (outside (g.D.Doors.link c.happen-in-Ended.new.doors) (g.D.Doors.door c.happen-in-Ended.new.doors)) (gathering (g.K.Sink.contents c.happen-in-Ended.new.out) (g.T.Tape.contents c.happen-in-Ended.new.tape) c.happen-in-Ended.new.self.waiting) (Goes next d) (behind side)) (ap (setting p) c.end.ensures ∙ setting-down p side kept) run)
+    (subst (λ (t : Setting). Runs c.happen-in-Ended.result (g.C.Served.stands first c.happen-in-Ended.new.self.core) (g.C.Served.runs_out first) t c.happen-in-Ended.new.self.kept (outside (g.D.Doors.link c.happen-in-Ended.new.doors) (g.D.Doors.door c.happen-in-Ended.new.doors)) (gathering begun (g.K.Sink.contents c.happen-in-Ended.new.out) (g.T.Tape.contents c.happen-in-Ended.new.tape) c.happen-in-Ended.new.self.waiting) (Goes next d) (behind side)) (ap (setting p) c.end.ensures ∙ setting-down p side kept) run)
 
 pub returns-in-Failed-clause-course : goal.returns-in-Failed-clause-course
-returns-in-Failed-clause-course g c = λ first k f.
+returns-in-Failed-clause-course g c = λ first begun k f.
     let side = c.args.side in
     let p = g.C.Served.sends first in
     let s = setting p c.args.self.now.kept in
@@ -105,7 +105,7 @@ returns-in-Failed-clause-course g c = λ first k f.
     let links' = g.D.Doors.link c.poll.new.self in
     let door = g.D.Doors.door c.args.doors.now in
     let door' = g.D.Doors.door c.poll.new.self in
-    let out = gathering (g.K.Sink.contents c.args.out.now) (g.T.Tape.contents c.args.tape.now) c.args.self.now.waiting in
+    let out = gathering begun (g.K.Sink.contents c.args.out.now) (g.T.Tape.contents c.args.tape.now) c.args.self.now.waiting in
     let buf = c.poll.new.buf in
     let len : length buf ≡ 65536 = omega (arith, c.poll.auto.buf, c.requires.room) in
     let from = Goes (polls side) k in

@@ -16,27 +16,27 @@ use Rattle.bridge_run.proofs.lemmas.calls.Rounds.{there-asking, came-taking, cli
 use Rattle.bridge_run.proofs.session.Session.ask_door.Goals as goal
 
 pub returns-in-Ok-true-clause-course : goal.returns-in-Ok-true-clause-course
-returns-in-Ok-true-clause-course g c = λ first k f.
+returns-in-Ok-true-clause-course g c = λ first begun k f.
     let p = g.C.Served.sends first in
     let kept = c.args.self.now.kept in
     let s = setting p kept in
     let w = outside (g.D.Doors.link c.args.doors.now) (g.D.Doors.door c.args.doors.now) in
     let w1 = outside (g.D.Doors.link c.accept.new.self) (g.D.Doors.door c.accept.new.self) in
     let w2 = outside (g.D.Doors.link c.happen.new.doors) (g.D.Doors.door c.happen.new.doors) in
-    let out = gathering (g.K.Sink.contents c.args.out.now) (g.T.Tape.contents c.args.tape.now) c.args.self.now.waiting in
-    let out2 = gathering (g.K.Sink.contents c.happen.new.out) (g.T.Tape.contents c.happen.new.tape) c.happen.new.self.waiting in
+    let out = gathering begun (g.K.Sink.contents c.args.out.now) (g.T.Tape.contents c.args.tape.now) c.args.self.now.waiting in
+    let out2 = gathering begun (g.K.Sink.contents c.happen.new.out) (g.T.Tape.contents c.happen.new.tape) c.happen.new.self.waiting in
     let stands2 = g.C.Served.stands first c.happen.new.self.core in
     let from = Goes AtDoor k in
     let down = sym f.client_up ∙ c.if-self.false in
     let a = accepted (g.C.Served.stands first c.args.self.now.core) p kept c.come.new.self w w1 out k f
     (subst (λ (b : Bool). Accepts {E = Fault} (Ok b) w.door w1.door w.client w1.client) c.in-Ok-true.field-0-test c.in-Ok-true.ensures.accepts) c.in-Ok-true.ensures.other c.come.ensures in
     let next = Takes ClientComes AtClient in
-    runs-then c.happen.result stands2 s c.happen.new.self.kept w2 out2 from next a.course AtClient
+    runs-then c.happen.result stands2 (g.C.Served.runs_out first) s c.happen.new.self.kept w2 out2 from next a.course AtClient
     (reaches-call s from AtDoor k (Goes next a.course) (reaches-none s from) (call-door s k down ∙ a.is))
-    (subst (λ (t : Setting). Runs c.happen.result stands2 t c.happen.new.self.kept w2 out2 (Goes next a.course) AtClient) (ap (setting p) c.come.ensures) (c.happen.ensures.course first AtClient a.course a.follows))
+    (subst (λ (t : Setting). Runs c.happen.result stands2 (g.C.Served.runs_out first) t c.happen.new.self.kept w2 out2 (Goes next a.course) AtClient) (ap (setting p) c.come.ensures) (c.happen.ensures.course first begun AtClient a.course a.follows))
 
 pub returns-in-Ok-false-clause-course : goal.returns-in-Ok-false-clause-course
-returns-in-Ok-false-clause-course g c = λ first k f.
+returns-in-Ok-false-clause-course g c = λ first begun k f.
     let p = g.C.Served.sends first in
     let kept = c.args.self.now.kept in
     let s = setting p kept in
@@ -44,7 +44,7 @@ returns-in-Ok-false-clause-course g c = λ first k f.
     let w1 = outside (g.D.Doors.link c.accept.new.self) (g.D.Doors.door c.accept.new.self) in
     let from = Goes AtDoor k in
     let down = sym f.client_up ∙ c.if-self.false in
-    let a = waited (g.C.Served.stands first c.args.self.now.core) p kept w w1 (gathering (g.K.Sink.contents c.args.out.now) (g.T.Tape.contents c.args.tape.now) c.args.self.now.waiting) k f
+    let a = waited (g.C.Served.stands first c.args.self.now.core) p kept w w1 (gathering begun (g.K.Sink.contents c.args.out.now) (g.T.Tape.contents c.args.tape.now) c.args.self.now.waiting) k f
     (subst (λ (b : Bool). Accepts {E = Fault} (Ok b) w.door w1.door w.client w1.client) c.in-Ok-false.field-0-test c.in-Ok-false.ensures.accepts) c.in-Ok-false.ensures.other in
     record {
       course = k;
@@ -53,12 +53,12 @@ returns-in-Ok-false-clause-course g c = λ first k f.
     }
 
 pub returns-in-Err-clause-course : goal.returns-in-Err-clause-course
-returns-in-Err-clause-course g c = λ first k f.
+returns-in-Err-clause-course g c = λ first begun k f.
     let p = g.C.Served.sends first in
     let s = setting p c.args.self.now.kept in
     let w = outside (g.D.Doors.link c.args.doors.now) (g.D.Doors.door c.args.doors.now) in
     let w' = outside (g.D.Doors.link c.accept.new.self) (g.D.Doors.door c.accept.new.self) in
-    let out = gathering (g.K.Sink.contents c.args.out.now) (g.T.Tape.contents c.args.tape.now) c.args.self.now.waiting in
+    let out = gathering begun (g.K.Sink.contents c.args.out.now) (g.T.Tape.contents c.args.tape.now) c.args.self.now.waiting in
     let from = Goes AtDoor k in
     let down = sym f.client_up ∙ c.if-self.false in
     cut-next s from AtDoor k (course_of (come k.clients k)) w' out (reaches-none s from) (ap course_of (call-door s k down))

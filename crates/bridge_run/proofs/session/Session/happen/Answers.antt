@@ -14,56 +14,56 @@ use Rattle.bridge_run.proofs.lemmas.calls.Log.{settled-logs}
 use Rattle.bridge_run.proofs.session.Session.happen.Goals as goal
 
 pub returns-in_err-dropped-clause-course : goal.returns-in_err-dropped-clause-course
-returns-in_err-dropped-clause-course g c = λ first next k f.
+returns-in_err-dropped-clause-course g c = λ first begun next k f.
     let p = g.C.Served.sends first in
     let s = setting p c.args.self.now.kept in
     let w = outside (g.D.Doors.link c.put.new.doors) (g.D.Doors.door c.put.new.doors) in
-    let out = gathering (g.K.Sink.contents c.put.new.out) (g.T.Tape.contents c.put.new.tape) c.put.new.self.waiting in
+    let out = gathering begun (g.K.Sink.contents c.put.new.out) (g.T.Tape.contents c.put.new.tape) c.put.new.self.waiting in
     let e = event_of c.args.event in
     let from = Goes (Takes e next) k in
     let end = c.in_err-dropped.field-0.0 in
-    subst (λ (r : Result (Unit {0}) ServeEnd). Runs r (g.C.Served.stands first c.put.new.self.core) s c.put.new.self.kept w out from next) (sym (is-err c.from_residual.result end c.from_residual.ensures.1))
-    (cut-leaves end s from w out c.in_err-dropped.ensures.cut (cut-next s from (Takes e next) k (put p e k) w out (reaches-none s from) (take-course s e next k) (c.in_err-dropped.ensures.course first k f)))
+    subst (λ (r : Result (Unit {0}) ServeEnd). Runs r (g.C.Served.stands first c.put.new.self.core) (g.C.Served.runs_out first) s c.put.new.self.kept w out from next) (sym (is-err c.from_residual.result end c.from_residual.ensures.1))
+    (cut-leaves end (g.C.Served.runs_out first) s from w out c.in_err-dropped.ensures.cut (cut-next s from (Takes e next) k (put p e k) w out (reaches-none s from) (take-course s e next k) (c.in_err-dropped.ensures.course first begun k f)))
 
 pub returns-in_err-put-clause-course : goal.returns-in_err-put-clause-course
-returns-in_err-put-clause-course g c = λ first next k f.
+returns-in_err-put-clause-course g c = λ first begun next k f.
     let p = g.C.Served.sends first in
     let s = setting p c.args.self.now.kept in
     let w = outside (g.D.Doors.link c.put-2.new.doors) (g.D.Doors.door c.put-2.new.doors) in
-    let out = gathering (g.K.Sink.contents c.put-2.new.out) (g.T.Tape.contents c.put-2.new.tape) c.put-2.new.self.waiting in
+    let out = gathering begun (g.K.Sink.contents c.put-2.new.out) (g.T.Tape.contents c.put-2.new.tape) c.put-2.new.self.waiting in
     let e = event_of c.args.event in
     let from = Goes (Takes e next) k in
     let end = c.in_err-put.field-0.0 in
-    let first_put = c.in_ok-dropped.ensures.course first k f in
+    let first_put = c.in_ok-dropped.ensures.course first begun k f in
     let ends = take-ends s e next k c.in_ok-dropped.dropped first_put.1 (sym c.ends_next.ensures ∙ c.if-not-ends_next.false) in
-    subst (λ (r : Result (Unit {0}) ServeEnd). Runs r (g.C.Served.stands first c.put-2.new.self.core) s c.put-2.new.self.kept w out from next) (sym (is-err c.from_residual-in_err-put.result end c.from_residual-in_err-put.ensures.1))
-    (cut-leaves end s from w out c.in_err-put.ensures.cut (cut-next s from (Takes ClientEnd next) (put p e k) (put p ClientEnd (put p e k)) w out
-    (reaches-call s from (Takes e next) k (Goes (Takes ClientEnd next) (put p e k)) (reaches-none s from) ends) (take-course s ClientEnd next (put p e k)) (c.in_err-put.ensures.course first (put p e k) first_put.0)))
+    subst (λ (r : Result (Unit {0}) ServeEnd). Runs r (g.C.Served.stands first c.put-2.new.self.core) (g.C.Served.runs_out first) s c.put-2.new.self.kept w out from next) (sym (is-err c.from_residual-in_err-put.result end c.from_residual-in_err-put.ensures.1))
+    (cut-leaves end (g.C.Served.runs_out first) s from w out c.in_err-put.ensures.cut (cut-next s from (Takes ClientEnd next) (put p e k) (put p ClientEnd (put p e k)) w out
+    (reaches-call s from (Takes e next) k (Goes (Takes ClientEnd next) (put p e k)) (reaches-none s from) ends) (take-course s ClientEnd next (put p e k)) (c.in_err-put.ensures.course first begun (put p e k) first_put.0)))
 
 pub returns-then-not-ends_next-clause-course : goal.returns-then-not-ends_next-clause-course
-returns-then-not-ends_next-clause-course g c = λ first next k f.
+returns-then-not-ends_next-clause-course g c = λ first begun next k f.
     let p = g.C.Served.sends first in
     let s = setting p c.args.self.now.kept in
     let w = outside (g.D.Doors.link c.put.new.doors) (g.D.Doors.door c.put.new.doors) in
-    let out = gathering (g.K.Sink.contents c.put.new.out) (g.T.Tape.contents c.put.new.tape) c.put.new.self.waiting in
+    let out = gathering begun (g.K.Sink.contents c.put.new.out) (g.T.Tape.contents c.put.new.tape) c.put.new.self.waiting in
     let e = event_of c.args.event in
     let from = Goes (Takes e next) k in
-    let first_put = c.in_ok-dropped.ensures.course first k f in
-    settled c.settle.result (g.C.Served.stands first c.put.new.self.core) p c.args.self.now.kept.idle c.put.new.self.kept w out from (Takes e next) k next (put p e k) c.settle.ensures first_put.0
+    let first_put = c.in_ok-dropped.ensures.course first begun k f in
+    settled c.settle.result (g.C.Served.stands first c.put.new.self.core) (g.C.Served.runs_out first) p c.args.self.now.kept.idle c.put.new.self.kept w out from (Takes e next) k next (put p e k) c.settle.ensures first_put.0
     (reaches-none s from) (take-settles s e next k c.in_ok-dropped.dropped first_put.1 (sym c.ends_next.ensures ∙ c.if-not-ends_next.true))
 
 pub returns-clause-course : goal.returns-clause-course
-returns-clause-course g c = λ first next k f.
+returns-clause-course g c = λ first begun next k f.
     let p = g.C.Served.sends first in
     let s = setting p c.args.self.now.kept in
     let w = outside (g.D.Doors.link c.put-2.new.doors) (g.D.Doors.door c.put-2.new.doors) in
-    let out = gathering (g.K.Sink.contents c.put-2.new.out) (g.T.Tape.contents c.put-2.new.tape) c.put-2.new.self.waiting in
+    let out = gathering begun (g.K.Sink.contents c.put-2.new.out) (g.T.Tape.contents c.put-2.new.tape) c.put-2.new.self.waiting in
     let e = event_of c.args.event in
     let from = Goes (Takes e next) k in
-    let first_put = c.in_ok-dropped.ensures.course first k f in
-    let second_put = c.in_ok-put.ensures.course first (put p e k) first_put.0 in
+    let first_put = c.in_ok-dropped.ensures.course first begun k f in
+    let second_put = c.in_ok-put.ensures.course first begun (put p e k) first_put.0 in
     let ends = take-ends s e next k c.in_ok-dropped.dropped first_put.1 (sym c.ends_next.ensures ∙ c.if-not-ends_next.false) in
-    settled c.settle-2.result (g.C.Served.stands first c.put-2.new.self.core) p c.args.self.now.kept.idle c.put-2.new.self.kept w out from (Takes ClientEnd next) (put p e k) next (put p ClientEnd (put p e k)) c.settle-2.ensures second_put.0
+    settled c.settle-2.result (g.C.Served.stands first c.put-2.new.self.core) (g.C.Served.runs_out first) p c.args.self.now.kept.idle c.put-2.new.self.kept w out from (Takes ClientEnd next) (put p e k) next (put p ClientEnd (put p e k)) c.settle-2.ensures second_put.0
     (reaches-call s from (Takes e next) k (Goes (Takes ClientEnd next) (put p e k)) (reaches-none s from) ends) (take-settles s ClientEnd next (put p e k) _ second_put.1 refl)
 
 pub returns-then-not-ends_next-clause-quiet : goal.returns-then-not-ends_next-clause-quiet

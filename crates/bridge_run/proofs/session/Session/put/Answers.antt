@@ -1,4 +1,4 @@
-use Rattle.std.proofs.Common.{ℕ, Bool, ◌||◌, List, Result, refl, sym, ◌∙◌, ap, subst}
+use Rattle.std.proofs.Common.{ℕ, Bool, ◌||◌, List, Result, sym, ◌∙◌, ap, subst}
 use Rattle.usb_base.specs.declared.side.Side.TheVariants.{Client, Host}
 use Rattle.usb_base.specs.declared.refusal.Refusal.{Refusal}
 use Rattle.std.specs.Io.KnownBytes.{Appends}
@@ -14,7 +14,7 @@ use Rattle.bridge_run.specs.inner.Follows.{HasFaults}
 use Rattle.bridge_run.proofs.lemmas.calls.Course.{is-err}
 use Rattle.bridge_run.specs.inner.Links.{wrote_if, WritesFront, closed_if}
 use Rattle.bridge_run.specs.inner.Keeping.{refusing}
-use Rattle.bridge_run.proofs.lemmas.events.Put.{due-of, recorded-by, tape-faults, cut-puts, dropped-is, put-client, put-host, put-follows, put-in_entry, put-in_client, put-in_host, put-in_lines, refusing-none}
+use Rattle.bridge_run.proofs.lemmas.events.Put.{due-of, recorded-by, tape-faults, cut-puts, dropped-is, put-client, put-host, put-follows, put-in_entry, put-in_client, put-in_host, put-in_lines, tells-more, tells-front, refusing-none}
 use Rattle.bridge_run.specs.Calls.{ends_next}
 use Rattle.bridge_run.specs.inner.Logging.{WroteMore, all_if, closing}
 use Rattle.bridge_run.proofs.lemmas.calls.Sink.{told-event, told-front}
@@ -23,10 +23,10 @@ use Rattle.bridge_run.proofs.lemmas.calls.Stop.{stopping, stop-logs, tape-logs}
 use Rattle.bridge_run.proofs.session.Session.put.Goals as goal
 
 pub returns-in-Err-clause-course : goal.returns-in-Err-clause-course
-returns-in-Err-clause-course g c = λ first k f.
-    c.stop.ensures.course first (g.K.Sink.contents c.args.out.now) k (c.in-Err.ensures.stops first k.events f.stands_for)
+returns-in-Err-clause-course g c = λ first begun k f.
+    c.stop.ensures.course first begun (g.K.Sink.contents c.args.out.now) k (c.in-Err.ensures.stops first k.events f.stands_for)
     (record { client = ap (λ (q : Kept). q.client_up) c.prepare.ensures.kept ∙ f.client_up; host = ap (λ (q : Kept). q.host_up) c.prepare.ensures.kept ∙ f.host_up })
-    (subst (λ (l : List ℕ). Tells (outside (g.D.Doors.link c.args.doors.now) (g.D.Doors.door c.args.doors.now)) (gathering (g.K.Sink.contents c.args.out.now) (g.T.Tape.contents c.args.tape.now) l) k) (sym c.prepare.ensures.waiting) f.tells)
+    (subst (λ (l : List ℕ). Tells (outside (g.D.Doors.link c.args.doors.now) (g.D.Doors.door c.args.doors.now)) (gathering begun (g.K.Sink.contents c.args.out.now) (g.T.Tape.contents c.args.tape.now) l) k) (sym c.prepare.ensures.waiting) f.tells)
 
 pub returns-in-Err-clause-log : goal.returns-in-Err-clause-log
 returns-in-Err-clause-log g c = λ first terms asks begun begun_out taped t.
@@ -39,18 +39,18 @@ returns-in-Err-clause-log g c = λ first terms asks begun begun_out taped t.
     (stopping gives (g.C.Served.stands first c.args.self.now.core) tells terms p asks e c.args.self.now.kept c.prepare.new.self.kept begun c.args.doors.now c.prepare.ensures.kept t))
 
 pub returns-in_err-record_event-clause-course : goal.returns-in_err-record_event-clause-course
-returns-in_err-record_event-clause-course g c = λ first k f.
+returns-in_err-record_event-clause-course g c = λ first begun k f.
     let p = g.C.Served.sends first in
     let e = event_of c.args.event in
     let w = outside (g.D.Doors.link c.args.doors.now) (g.D.Doors.door c.args.doors.now) in
-    let out = (gathering (g.K.Sink.contents c.args.out.now) (g.T.Tape.contents c.record_event.new.tape) c.record_event.new.waiting) in
+    let out = (gathering begun (g.K.Sink.contents c.args.out.now) (g.T.Tape.contents c.record_event.new.tape) c.record_event.new.waiting) in
     let prepared = c.in_default.ensures.prepared first k.events f.stands_for in
     let up_client = ap (λ (k : Kept). k.client_up) c.prepare.ensures.kept ∙ f.client_up in
     let up_host = ap (λ (k : Kept). k.host_up) c.prepare.ensures.kept ∙ f.host_up in
     let left = ap (λ (k : Kept). k.left) c.prepare.ensures.kept ∙ f.left in
     let due = due-of p k e c.prepare.new.self.sent c.prepare.new.self.lines c.prepare.new.self.kept c.is_due-due.result prepared up_client up_host left c.is_due-due.ensures in
-    cut-puts _ c.from_residual.result (g.C.Served.stands first c.prepare.new.self.core) p e c.prepare.new.self.kept w out k c.from_residual.ensures.1
-    (put-in_entry p k e c.prepare.new.self.sent c.prepare.new.self.lines c.is_due-due.result w (gathering (g.K.Sink.contents c.args.out.now) (g.T.Tape.contents c.args.tape.now) c.args.self.now.waiting) out c.prepare.new.self.waiting prepared f.tells refl due c.prepare.ensures.waiting c.in_err-record_event.ensures.err)
+    cut-puts _ c.from_residual.result (g.C.Served.stands first c.prepare.new.self.core) (g.C.Served.runs_out first) p e c.prepare.new.self.kept w out k c.from_residual.ensures.1
+    (λ end. put-in_entry p k e c.prepare.new.self.sent c.prepare.new.self.lines c.is_due-due.result w (gathering begun (g.K.Sink.contents c.args.out.now) (g.T.Tape.contents c.args.tape.now) c.args.self.now.waiting) out c.prepare.new.self.waiting prepared f.tells f.tells.told due c.prepare.ensures.waiting c.in_err-record_event.ensures.err)
 
 pub returns-in_err-record_event-clause-faults : goal.returns-in_err-record_event-clause-faults
 returns-in_err-record_event-clause-faults g c =
@@ -63,7 +63,7 @@ returns-in_err-record_event-clause-faults g c =
     (tape-faults end w sink old new c.in_err-record_event.ensures.cause)
 
 pub returns-in_err-write_link-clause-course : goal.returns-in_err-write_link-clause-course
-returns-in_err-write_link-clause-course g c = λ first k f.
+returns-in_err-write_link-clause-course g c = λ first begun k f.
     let p = g.C.Served.sends first in
     let e = event_of c.args.event in
     let sent = c.prepare.new.self.sent in
@@ -73,14 +73,14 @@ returns-in_err-write_link-clause-course g c = λ first k f.
     let up_host = ap (λ (k : Kept). k.host_up) c.prepare.ensures.kept ∙ f.host_up in
     let left = ap (λ (k : Kept). k.left) c.prepare.ensures.kept ∙ f.left in
     let due = due-of p k e c.prepare.new.self.sent c.prepare.new.self.lines c.prepare.new.self.kept c.is_due-due.result prepared up_client up_host left c.is_due-due.ensures in
-    let recorded = recorded-by p k e sent c.is_due-due.result (gathering (g.K.Sink.contents c.args.out.now) (g.T.Tape.contents c.args.tape.now) c.args.self.now.waiting) (gathering (g.K.Sink.contents c.args.out.now) (g.T.Tape.contents c.record_event.new.tape) c.record_event.new.waiting) c.prepare.new.self.waiting c.prepare.ensures.waiting due c.in_ok-record_event.ensures.ok c.in_ok-record_event.ensures.waits in
-    cut-puts _ c.from_residual-in_err-write_link.result (g.C.Served.stands first c.prepare.new.self.core) p e c.prepare.new.self.kept (outside (g.D.Doors.link c.write_link.new.doors) (g.D.Doors.door c.write_link.new.doors)) (gathering (g.K.Sink.contents c.args.out.now) (g.T.Tape.contents c.record_event.new.tape) c.record_event.new.waiting) k c.from_residual-in_err-write_link.ensures.1
-    (put-in_client p k e sent lines c.is_due-due.result (outside (g.D.Doors.link c.args.doors.now) (g.D.Doors.door c.args.doors.now)) (outside (g.D.Doors.link c.write_link.new.doors) (g.D.Doors.door c.write_link.new.doors)) (gathering (g.K.Sink.contents c.args.out.now) (g.T.Tape.contents c.args.tape.now) c.args.self.now.waiting) (gathering (g.K.Sink.contents c.args.out.now) (g.T.Tape.contents c.record_event.new.tape) c.record_event.new.waiting) c.prepare.new.self.kept.client_up prepared f.tells refl recorded up_client
+    let recorded = recorded-by p k e sent c.is_due-due.result (gathering begun (g.K.Sink.contents c.args.out.now) (g.T.Tape.contents c.args.tape.now) c.args.self.now.waiting) (gathering begun (g.K.Sink.contents c.args.out.now) (g.T.Tape.contents c.record_event.new.tape) c.record_event.new.waiting) c.prepare.new.self.waiting c.prepare.ensures.waiting due c.in_ok-record_event.ensures.ok c.in_ok-record_event.ensures.waits in
+    cut-puts _ c.from_residual-in_err-write_link.result (g.C.Served.stands first c.prepare.new.self.core) (g.C.Served.runs_out first) p e c.prepare.new.self.kept (outside (g.D.Doors.link c.write_link.new.doors) (g.D.Doors.door c.write_link.new.doors)) (gathering begun (g.K.Sink.contents c.args.out.now) (g.T.Tape.contents c.record_event.new.tape) c.record_event.new.waiting) k c.from_residual-in_err-write_link.ensures.1
+    (λ end. put-in_client p k e sent lines c.is_due-due.result (outside (g.D.Doors.link c.args.doors.now) (g.D.Doors.door c.args.doors.now)) (outside (g.D.Doors.link c.write_link.new.doors) (g.D.Doors.door c.write_link.new.doors)) (gathering begun (g.K.Sink.contents c.args.out.now) (g.T.Tape.contents c.args.tape.now) c.args.self.now.waiting) (gathering begun (g.K.Sink.contents c.args.out.now) (g.T.Tape.contents c.record_event.new.tape) c.record_event.new.waiting) c.prepare.new.self.kept.client_up prepared f.tells f.tells.told recorded up_client
     (subst (λ (b : List ℕ). WritesFront c.prepare.new.self.kept.client_up b (g.D.Doors.link c.args.doors.now Client) (g.D.Doors.link c.write_link.new.doors Client)) c.as_slice.ensures c.in_err-write_link.ensures.link)
     c.in_err-write_link.ensures.other c.in_err-write_link.ensures.door)
 
 pub returns-in_err-write_link-2-clause-course : goal.returns-in_err-write_link-2-clause-course
-returns-in_err-write_link-2-clause-course g c = λ first k f.
+returns-in_err-write_link-2-clause-course g c = λ first begun k f.
     let p = g.C.Served.sends first in
     let e = event_of c.args.event in
     let sent = c.prepare.new.self.sent in
@@ -90,17 +90,17 @@ returns-in_err-write_link-2-clause-course g c = λ first k f.
     let up_host = ap (λ (k : Kept). k.host_up) c.prepare.ensures.kept ∙ f.host_up in
     let left = ap (λ (k : Kept). k.left) c.prepare.ensures.kept ∙ f.left in
     let due = due-of p k e c.prepare.new.self.sent c.prepare.new.self.lines c.prepare.new.self.kept c.is_due-due.result prepared up_client up_host left c.is_due-due.ensures in
-    let recorded = recorded-by p k e sent c.is_due-due.result (gathering (g.K.Sink.contents c.args.out.now) (g.T.Tape.contents c.args.tape.now) c.args.self.now.waiting) (gathering (g.K.Sink.contents c.args.out.now) (g.T.Tape.contents c.record_event.new.tape) c.record_event.new.waiting) c.prepare.new.self.waiting c.prepare.ensures.waiting due c.in_ok-record_event.ensures.ok c.in_ok-record_event.ensures.waits in
+    let recorded = recorded-by p k e sent c.is_due-due.result (gathering begun (g.K.Sink.contents c.args.out.now) (g.T.Tape.contents c.args.tape.now) c.args.self.now.waiting) (gathering begun (g.K.Sink.contents c.args.out.now) (g.T.Tape.contents c.record_event.new.tape) c.record_event.new.waiting) c.prepare.new.self.waiting c.prepare.ensures.waiting due c.in_ok-record_event.ensures.ok c.in_ok-record_event.ensures.waits in
     let wrote_client = c.in_ok-write_link.ensures.link ∙ ap (λ (b : List ℕ). wrote_if c.prepare.new.self.kept.client_up b (g.D.Doors.link c.args.doors.now Client)) c.as_slice.ensures in
-    cut-puts _ c.from_residual-in_err-write_link-2.result (g.C.Served.stands first c.prepare.new.self.core) p e c.prepare.new.self.kept (outside (g.D.Doors.link c.write_link-2.new.doors) (g.D.Doors.door c.write_link-2.new.doors)) (gathering (g.K.Sink.contents c.args.out.now) (g.T.Tape.contents c.record_event.new.tape) c.record_event.new.waiting) k c.from_residual-in_err-write_link-2.ensures.1
-    (put-in_host p k e sent lines c.is_due-due.result (outside (g.D.Doors.link c.args.doors.now) (g.D.Doors.door c.args.doors.now)) (outside (g.D.Doors.link c.write_link-2.new.doors) (g.D.Doors.door c.write_link-2.new.doors)) (gathering (g.K.Sink.contents c.args.out.now) (g.T.Tape.contents c.args.tape.now) c.args.self.now.waiting) (gathering (g.K.Sink.contents c.args.out.now) (g.T.Tape.contents c.record_event.new.tape) c.record_event.new.waiting) c.prepare.new.self.kept.client_up c.prepare.new.self.kept.host_up prepared f.tells refl recorded up_client up_host
+    cut-puts _ c.from_residual-in_err-write_link-2.result (g.C.Served.stands first c.prepare.new.self.core) (g.C.Served.runs_out first) p e c.prepare.new.self.kept (outside (g.D.Doors.link c.write_link-2.new.doors) (g.D.Doors.door c.write_link-2.new.doors)) (gathering begun (g.K.Sink.contents c.args.out.now) (g.T.Tape.contents c.record_event.new.tape) c.record_event.new.waiting) k c.from_residual-in_err-write_link-2.ensures.1
+    (λ end. put-in_host p k e sent lines c.is_due-due.result (outside (g.D.Doors.link c.args.doors.now) (g.D.Doors.door c.args.doors.now)) (outside (g.D.Doors.link c.write_link-2.new.doors) (g.D.Doors.door c.write_link-2.new.doors)) (gathering begun (g.K.Sink.contents c.args.out.now) (g.T.Tape.contents c.args.tape.now) c.args.self.now.waiting) (gathering begun (g.K.Sink.contents c.args.out.now) (g.T.Tape.contents c.record_event.new.tape) c.record_event.new.waiting) c.prepare.new.self.kept.client_up c.prepare.new.self.kept.host_up prepared f.tells f.tells.told recorded up_client up_host
     (c.in_err-write_link-2.ensures.other ∙ wrote_client)
     (subst (λ (l : Link). WritesFront c.prepare.new.self.kept.host_up sent.to_host l (g.D.Doors.link c.write_link-2.new.doors Host)) c.in_ok-write_link.ensures.other
     (subst (λ (b : List ℕ). WritesFront c.prepare.new.self.kept.host_up b (g.D.Doors.link c.write_link.new.doors Host) (g.D.Doors.link c.write_link-2.new.doors Host)) c.as_slice-2.ensures c.in_err-write_link-2.ensures.link))
     (c.in_err-write_link-2.ensures.door ∙ c.in_ok-write_link.ensures.door))
 
 pub returns-in-Err-write_all-clause-course : goal.returns-in-Err-write_all-clause-course
-returns-in-Err-write_all-clause-course g c = λ first k f.
+returns-in-Err-write_all-clause-course g c = λ first begun k f.
     let p = g.C.Served.sends first in
     let e = event_of c.args.event in
     let sent = c.prepare.new.self.sent in
@@ -110,7 +110,7 @@ returns-in-Err-write_all-clause-course g c = λ first k f.
     let up_host = ap (λ (k : Kept). k.host_up) c.prepare.ensures.kept ∙ f.host_up in
     let left = ap (λ (k : Kept). k.left) c.prepare.ensures.kept ∙ f.left in
     let due = due-of p k e c.prepare.new.self.sent c.prepare.new.self.lines c.prepare.new.self.kept c.is_due-due.result prepared up_client up_host left c.is_due-due.ensures in
-    let recorded = recorded-by p k e sent c.is_due-due.result (gathering (g.K.Sink.contents c.args.out.now) (g.T.Tape.contents c.args.tape.now) c.args.self.now.waiting) (gathering (g.K.Sink.contents c.write_all.new.sink) (g.T.Tape.contents c.record_event.new.tape) c.record_event.new.waiting) c.prepare.new.self.waiting c.prepare.ensures.waiting due c.in_ok-record_event.ensures.ok c.in_ok-record_event.ensures.waits in
+    let recorded = recorded-by p k e sent c.is_due-due.result (gathering begun (g.K.Sink.contents c.args.out.now) (g.T.Tape.contents c.args.tape.now) c.args.self.now.waiting) (gathering begun (g.K.Sink.contents c.write_all.new.sink) (g.T.Tape.contents c.record_event.new.tape) c.record_event.new.waiting) c.prepare.new.self.waiting c.prepare.ensures.waiting due c.in_ok-record_event.ensures.ok c.in_ok-record_event.ensures.waits in
     let rc = refuses Client sent.refusals || sent.lets_go in
     let rh = refuses Host sent.refusals in
     let wrote_client = c.in_ok-write_link.ensures.link ∙ ap (λ (b : List ℕ). wrote_if c.prepare.new.self.kept.client_up b (g.D.Doors.link c.args.doors.now Client)) c.as_slice.ensures in
@@ -124,11 +124,11 @@ returns-in-Err-write_all-clause-course g c = λ first k f.
     let door = c.close_link-2.ensures.door ∙ c.close_link.ensures.door ∙ c.in_ok-write_link-2.ensures.door ∙ c.in_ok-write_link.ensures.door in
     let shows_client = put-client p k e sent lines (g.D.Doors.link c.args.doors.now Client) (g.D.Doors.link c.close_link-2.new.doors Client) c.prepare.new.self.kept.client_up prepared f.tells.client up_client client in
     let shows_host = put-host p k e sent lines (g.D.Doors.link c.args.doors.now Host) (g.D.Doors.link c.close_link-2.new.doors Host) c.prepare.new.self.kept.host_up prepared f.tells.host up_host host in
-    put-in_lines p k e sent lines c.is_due-due.result (outside (g.D.Doors.link c.args.doors.now) (g.D.Doors.door c.args.doors.now)) (outside (g.D.Doors.link c.close_link-2.new.doors) (g.D.Doors.door c.close_link-2.new.doors)) (gathering (g.K.Sink.contents c.args.out.now) (g.T.Tape.contents c.args.tape.now) c.args.self.now.waiting) (gathering (g.K.Sink.contents c.write_all.new.sink) (g.T.Tape.contents c.record_event.new.tape) c.record_event.new.waiting) prepared f.tells shows_client shows_host door
-    (subst (λ (b : List ℕ). AppendsFront (g.K.Sink.contents c.args.out.now) (g.K.Sink.contents c.write_all.new.sink) b) c.as_slice-3.ensures c.in-Err-write_all.ensures.err) recorded
+    put-in_lines p k e sent lines c.is_due-due.result (outside (g.D.Doors.link c.args.doors.now) (g.D.Doors.door c.args.doors.now)) (outside (g.D.Doors.link c.close_link-2.new.doors) (g.D.Doors.door c.close_link-2.new.doors)) (gathering begun (g.K.Sink.contents c.args.out.now) (g.T.Tape.contents c.args.tape.now) c.args.self.now.waiting) (gathering begun (g.K.Sink.contents c.write_all.new.sink) (g.T.Tape.contents c.record_event.new.tape) c.record_event.new.waiting) prepared f.tells shows_client shows_host door
+    (tells-front begun (g.K.Sink.contents c.args.out.now) (g.K.Sink.contents c.write_all.new.sink) k.told lines f.tells.told (subst (λ (b : List ℕ). AppendsFront (g.K.Sink.contents c.args.out.now) (g.K.Sink.contents c.write_all.new.sink) b) c.as_slice-3.ensures c.in-Err-write_all.ensures.err)) recorded
 
 pub returns-in-Ok-clause-course : goal.returns-in-Ok-clause-course
-returns-in-Ok-clause-course g c = λ first k f.
+returns-in-Ok-clause-course g c = λ first begun k f.
     let p = g.C.Served.sends first in
     let e = event_of c.args.event in
     let sent = c.prepare.new.self.sent in
@@ -138,7 +138,7 @@ returns-in-Ok-clause-course g c = λ first k f.
     let up_host = ap (λ (k : Kept). k.host_up) c.prepare.ensures.kept ∙ f.host_up in
     let left = ap (λ (k : Kept). k.left) c.prepare.ensures.kept ∙ f.left in
     let due = due-of p k e c.prepare.new.self.sent c.prepare.new.self.lines c.prepare.new.self.kept c.is_due-due.result prepared up_client up_host left c.is_due-due.ensures in
-    let recorded = recorded-by p k e sent c.is_due-due.result (gathering (g.K.Sink.contents c.args.out.now) (g.T.Tape.contents c.args.tape.now) c.args.self.now.waiting) (gathering (g.K.Sink.contents c.write_all.new.sink) (g.T.Tape.contents c.record_event.new.tape) c.record_event.new.waiting) c.prepare.new.self.waiting c.prepare.ensures.waiting due c.in_ok-record_event.ensures.ok c.in_ok-record_event.ensures.waits in
+    let recorded = recorded-by p k e sent c.is_due-due.result (gathering begun (g.K.Sink.contents c.args.out.now) (g.T.Tape.contents c.args.tape.now) c.args.self.now.waiting) (gathering begun (g.K.Sink.contents c.write_all.new.sink) (g.T.Tape.contents c.record_event.new.tape) c.record_event.new.waiting) c.prepare.new.self.waiting c.prepare.ensures.waiting due c.in_ok-record_event.ensures.ok c.in_ok-record_event.ensures.waits in
     let rc = refuses Client sent.refusals || sent.lets_go in
     let rh = refuses Host sent.refusals in
     let wrote_client = c.in_ok-write_link.ensures.link ∙ ap (λ (b : List ℕ). wrote_if c.prepare.new.self.kept.client_up b (g.D.Doors.link c.args.doors.now Client)) c.as_slice.ensures in
@@ -152,9 +152,9 @@ returns-in-Ok-clause-course g c = λ first k f.
     let door = c.close_link-2.ensures.door ∙ c.close_link.ensures.door ∙ c.in_ok-write_link-2.ensures.door ∙ c.in_ok-write_link.ensures.door in
     let shows_client = put-client p k e sent lines (g.D.Doors.link c.args.doors.now Client) (g.D.Doors.link c.close_link-2.new.doors Client) c.prepare.new.self.kept.client_up prepared f.tells.client up_client client in
     let shows_host = put-host p k e sent lines (g.D.Doors.link c.args.doors.now Host) (g.D.Doors.link c.close_link-2.new.doors Host) c.prepare.new.self.kept.host_up prepared f.tells.host up_host host in (
-      put-follows (g.C.Served.stands first c.prepare.new.self.core) p c.args.self.now.kept c.refuse.new.self (outside (g.D.Doors.link c.args.doors.now) (g.D.Doors.door c.args.doors.now)) (outside (g.D.Doors.link c.close_link-2.new.doors) (g.D.Doors.door c.close_link-2.new.doors)) (gathering (g.K.Sink.contents c.args.out.now) (g.T.Tape.contents c.args.tape.now) c.args.self.now.waiting) (gathering (g.K.Sink.contents c.write_all.new.sink) (g.T.Tape.contents c.record_event.new.tape) c.record_event.new.waiting) k e sent lines c.is_due-due.result
+      put-follows (g.C.Served.stands first c.prepare.new.self.core) p c.args.self.now.kept c.refuse.new.self (outside (g.D.Doors.link c.args.doors.now) (g.D.Doors.door c.args.doors.now)) (outside (g.D.Doors.link c.close_link-2.new.doors) (g.D.Doors.door c.close_link-2.new.doors)) (gathering begun (g.K.Sink.contents c.args.out.now) (g.T.Tape.contents c.args.tape.now) c.args.self.now.waiting) (gathering begun (g.K.Sink.contents c.write_all.new.sink) (g.T.Tape.contents c.record_event.new.tape) c.record_event.new.waiting) k e sent lines c.is_due-due.result
           (g.C.Served.stands first c.args.self.now.core) f prepared (c.in_default.ensures.stands first k.events f.stands_for) (c.refuse.ensures ∙ ap (refusing sent.refusals sent.lets_go) c.prepare.ensures.kept) shows_client shows_host door
-          (subst (λ (b : List ℕ). Appends (g.K.Sink.contents c.args.out.now) (g.K.Sink.contents c.write_all.new.sink) b) c.as_slice-3.ensures c.in-Ok.ensures.ok) recorded,
+          (tells-more begun (g.K.Sink.contents c.args.out.now) (g.K.Sink.contents c.write_all.new.sink) k.told lines f.tells.told (subst (λ (b : List ℕ). Appends (g.K.Sink.contents c.args.out.now) (g.K.Sink.contents c.write_all.new.sink) b) c.as_slice-3.ensures c.in-Ok.ensures.ok)) recorded,
       c.drops_client-dropped.ensures ∙ dropped-is p k.events e sent lines prepared,
     )
 

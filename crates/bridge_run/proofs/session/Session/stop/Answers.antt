@@ -3,7 +3,10 @@ use Rattle.usb_base.specs.declared.side.Side.TheVariants.{Client, Host}
 use Rattle.gate_outside.specs.Link.{Link}
 use Rattle.bridge_run.specs.Events.{event_of}
 use Rattle.bridge_run.specs.declared.serve_end.ServeEnd.{ServeEnd}
-use Rattle.bridge_run.specs.Outside.{outside, gathering}
+use Rattle.bridge_run.specs.declared.serve_end.ServeEnd.TheVariants.{LinkFault, Memory}
+use Rattle.bridge_run.specs.Calls.{put}
+use Rattle.bridge_run.specs.Outside.{outside, gathering, Cut}
+use Rattle.bridge_run.specs.Serves.{MayRunOut}
 use Rattle.bridge_run.specs.inner.Stopping.{StopLogs}
 use Rattle.bridge_run.proofs.lemmas.events.Put.{put-before}
 use Rattle.bridge_run.proofs.lemmas.events.Stop.{stop-recorded, stop-unrecorded, link-still, link-front, link-all, turns-all, still-shows, stop-cut}
@@ -11,26 +14,26 @@ use Rattle.bridge_run.proofs.lemmas.calls.Stop.{stop-none, stop-tape, stop-clien
 use Rattle.bridge_run.proofs.session.Session.stop.Goals as goal
 
 pub returns-then-not-has_bytes-clause-course : goal.returns-then-not-has_bytes-clause-course
-returns-then-not-has_bytes-clause-course g c = λ first told k part up t.
-    put-before (g.C.Served.sends first) k (event_of c.args.event) (outside (g.D.Doors.link c.args.doors.now) (g.D.Doors.door c.args.doors.now)) (gathering told (g.T.Tape.contents c.args.tape.now) c.args.self.now.waiting) t
+returns-then-not-has_bytes-clause-course g c = λ first begun told k part up t.
+    put-before (g.C.Served.sends first) k (event_of c.args.event) (outside (g.D.Doors.link c.args.doors.now) (g.D.Doors.door c.args.doors.now)) (gathering begun told (g.T.Tape.contents c.args.tape.now) c.args.self.now.waiting) t
 
 pub returns-in-Err-clause-course : goal.returns-in-Err-clause-course
-returns-in-Err-clause-course g c = λ first told k part up t.
+returns-in-Err-clause-course g c = λ first begun told k part up t.
     let p = g.C.Served.sends first in
     let e = event_of c.args.event in
     let client = c.args.self.now.sent.to_client in
     let host = c.args.self.now.sent.to_host in
     let links = g.D.Doors.link c.args.doors.now in
     let w = outside links (g.D.Doors.door c.args.doors.now) in
-    let out = gathering told (g.T.Tape.contents c.args.tape.now) c.args.self.now.waiting in
-    let out' = gathering told (g.T.Tape.contents c.record_event.new.tape) c.record_event.new.waiting in
-    stop-cut p k e client host w w out out' part.to_client part.to_host t refl t.client.turns-is t.host.turns-is refl
+    let out = gathering begun told (g.T.Tape.contents c.args.tape.now) c.args.self.now.waiting in
+    let out' = gathering begun told (g.T.Tape.contents c.record_event.new.tape) c.record_event.new.waiting in
+    stop-cut p k e client host w w out out' part.to_client part.to_host t t.told t.client.turns-is t.host.turns-is refl
     (link-still k.client_up k.to_client client (links Client) (links Client) k.client t.client refl)
     (link-still k.host_up k.to_host host (links Host) (links Host) k.host t.host refl)
-    (stop-unrecorded p k e client host c.clear.new.self w out out' c.args.self.now.waiting part.to_client part.to_host (sym c.has_bytes.ensures ∙ c.if-not-has_bytes.false) c.clear.ensures refl t refl c.in-Err.ensures.err)
+    (stop-unrecorded (MayRunOut c.in-Err.end (g.C.Served.runs_out first) p) p k e client host c.clear.new.self w out out' c.args.self.now.waiting part.to_client part.to_host (sym c.has_bytes.ensures ∙ c.if-not-has_bytes.false) c.clear.ensures refl t t.told c.in-Err.ensures.err)
 
 pub returns-in-Err-write_link-clause-course : goal.returns-in-Err-write_link-clause-course
-returns-in-Err-write_link-clause-course g c = λ first told k part up t.
+returns-in-Err-write_link-clause-course g c = λ first begun told k part up t.
     let p = g.C.Served.sends first in
     let e = event_of c.args.event in
     let kept = c.args.self.now.kept in
@@ -40,16 +43,18 @@ returns-in-Err-write_link-clause-course g c = λ first told k part up t.
     let links1 = g.D.Doors.link c.write_link.new.doors in
     let w = outside links (g.D.Doors.door c.args.doors.now) in
     let w1 = outside links1 (g.D.Doors.door c.write_link.new.doors) in
-    let out = gathering told (g.T.Tape.contents c.args.tape.now) c.args.self.now.waiting in
-    let out' = gathering told (g.T.Tape.contents c.record_event.new.tape) c.record_event.new.waiting in
-    stop-cut p k e client host w w1 out out' part.to_client part.to_host t refl
+    let out = gathering begun told (g.T.Tape.contents c.args.tape.now) c.args.self.now.waiting in
+    let out' = gathering begun told (g.T.Tape.contents c.record_event.new.tape) c.record_event.new.waiting in
+    let to_client = link-front k.client_up kept.client_up k.to_client client c.as_slice-to_client.result.now (links Client) (links1 Client) k.client t.client up.client c.as_slice-to_client.ensures c.in-Err-write_link.ensures.link in
+    let to_host = link-still k.host_up k.to_host host (links Host) (links1 Host) k.host t.host c.in-Err-write_link.ensures.other in
+    subst (λ (x : ServeEnd). Cut (MayRunOut x (g.C.Served.runs_out first) p) w1 out' k (put p e k)) (sym c.in-Err-write_link.ensures.fault)
+    (stop-cut p k e client host w w1 out out' part.to_client part.to_host t t.told
     (ap (λ (l : Link). l.turns) c.in-Err-write_link.ensures.link.link ∙ t.client.turns-is) (ap (λ (l : Link). l.turns) c.in-Err-write_link.ensures.other ∙ t.host.turns-is) c.in-Err-write_link.ensures.door
-    (link-front k.client_up kept.client_up k.to_client client c.as_slice-to_client.result.now (links Client) (links1 Client) k.client t.client up.client c.as_slice-to_client.ensures c.in-Err-write_link.ensures.link)
-    (link-still k.host_up k.to_host host (links Host) (links1 Host) k.host t.host c.in-Err-write_link.ensures.other)
-    (stop-recorded p k e client host c.clear.new.self w1 out out' c.args.self.now.waiting part.to_client part.to_host (sym c.has_bytes.ensures ∙ c.if-not-has_bytes.false) c.clear.ensures refl t.tape c.in_default.ensures.ok)
+    to_client to_host
+    (stop-recorded (MayRunOut (LinkFault Client) (g.C.Served.runs_out first) p) p k e client host c.clear.new.self w1 out out' c.args.self.now.waiting (record { stopped = part.ran_out; some = sym c.has_bytes.ensures ∙ c.if-not-has_bytes.false; to_client = to_client; to_host = to_host; told = t.told }) part.to_client part.to_host (sym c.has_bytes.ensures ∙ c.if-not-has_bytes.false) c.clear.ensures refl t.tape c.in_default.ensures.ok))
 
 pub returns-in-Err-write_link-2-clause-course : goal.returns-in-Err-write_link-2-clause-course
-returns-in-Err-write_link-2-clause-course g c = λ first told k part up t.
+returns-in-Err-write_link-2-clause-course g c = λ first begun told k part up t.
     let p = g.C.Served.sends first in
     let e = event_of c.args.event in
     let kept = c.args.self.now.kept in
@@ -60,19 +65,21 @@ returns-in-Err-write_link-2-clause-course g c = λ first told k part up t.
     let links2 = g.D.Doors.link c.write_link-2.new.doors in
     let w = outside links (g.D.Doors.door c.args.doors.now) in
     let w2 = outside links2 (g.D.Doors.door c.write_link-2.new.doors) in
-    let out = gathering told (g.T.Tape.contents c.args.tape.now) c.args.self.now.waiting in
-    let out' = gathering told (g.T.Tape.contents c.record_event.new.tape) c.record_event.new.waiting in
+    let out = gathering begun told (g.T.Tape.contents c.args.tape.now) c.args.self.now.waiting in
+    let out' = gathering begun told (g.T.Tape.contents c.record_event.new.tape) c.record_event.new.waiting in
     let wrote = c.in-Err-write_link-2.ensures.other ∙ c.in_default-write_link.ensures.link in
     let still = c.in_default-write_link.ensures.other in
-    stop-cut p k e client host w w2 out out' part.to_client part.to_host t refl
+    let to_client = link-all k.client_up kept.client_up k.to_client client c.as_slice-to_client.result.now (links Client) (links2 Client) k.client t.client up.client c.as_slice-to_client.ensures wrote in
+    let to_host = link-front k.host_up kept.host_up k.to_host host c.as_slice-to_host.result.now (links1 Host) (links2 Host) k.host (still-shows k.host_up k.host k.to_host (links Host) (links1 Host) still t.host) up.host c.as_slice-to_host.ensures c.in-Err-write_link-2.ensures.link in
+    subst (λ (x : ServeEnd). Cut (MayRunOut x (g.C.Served.runs_out first) p) w2 out' k (put p e k)) (sym c.in-Err-write_link-2.ensures.fault)
+    (stop-cut p k e client host w w2 out out' part.to_client part.to_host t t.told
     (turns-all k.client_up kept.client_up k.to_client client c.as_slice-to_client.result.now (links Client) (links2 Client) k.client t.client up.client c.as_slice-to_client.ensures wrote)
     (ap (λ (l : Link). l.turns) c.in-Err-write_link-2.ensures.link.link ∙ ap (λ (l : Link). l.turns) still ∙ t.host.turns-is) (c.in-Err-write_link-2.ensures.door ∙ c.in_default-write_link.ensures.door)
-    (link-all k.client_up kept.client_up k.to_client client c.as_slice-to_client.result.now (links Client) (links2 Client) k.client t.client up.client c.as_slice-to_client.ensures wrote)
-    (link-front k.host_up kept.host_up k.to_host host c.as_slice-to_host.result.now (links1 Host) (links2 Host) k.host (still-shows k.host_up k.host k.to_host (links Host) (links1 Host) still t.host) up.host c.as_slice-to_host.ensures c.in-Err-write_link-2.ensures.link)
-    (stop-recorded p k e client host c.clear.new.self w2 out out' c.args.self.now.waiting part.to_client part.to_host (sym c.has_bytes.ensures ∙ c.if-not-has_bytes.false) c.clear.ensures refl t.tape c.in_default.ensures.ok)
+    to_client to_host
+    (stop-recorded (MayRunOut (LinkFault Host) (g.C.Served.runs_out first) p) p k e client host c.clear.new.self w2 out out' c.args.self.now.waiting (record { stopped = part.ran_out; some = sym c.has_bytes.ensures ∙ c.if-not-has_bytes.false; to_client = to_client; to_host = to_host; told = t.told }) part.to_client part.to_host (sym c.has_bytes.ensures ∙ c.if-not-has_bytes.false) c.clear.ensures refl t.tape c.in_default.ensures.ok))
 
 pub returns-clause-course : goal.returns-clause-course
-returns-clause-course g c = λ first told k part up t.
+returns-clause-course g c = λ first begun told k part up t.
     let p = g.C.Served.sends first in
     let e = event_of c.args.event in
     let kept = c.args.self.now.kept in
@@ -83,18 +90,19 @@ returns-clause-course g c = λ first told k part up t.
     let links2 = g.D.Doors.link c.write_link-2.new.doors in
     let w = outside links (g.D.Doors.door c.args.doors.now) in
     let w2 = outside links2 (g.D.Doors.door c.write_link-2.new.doors) in
-    let out = gathering told (g.T.Tape.contents c.args.tape.now) c.args.self.now.waiting in
-    let out' = gathering told (g.T.Tape.contents c.record_event.new.tape) c.record_event.new.waiting in
+    let out = gathering begun told (g.T.Tape.contents c.args.tape.now) c.args.self.now.waiting in
+    let out' = gathering begun told (g.T.Tape.contents c.record_event.new.tape) c.record_event.new.waiting in
     let wrote = c.in_default-write_link-2.ensures.other ∙ c.in_default-write_link.ensures.link in
     let still = c.in_default-write_link.ensures.other in
     let shows = still-shows k.host_up k.host k.to_host (links Host) (links1 Host) still t.host in
-    stop-cut p k e client host w w2 out out' part.to_client part.to_host t refl
+    let to_client = link-all k.client_up kept.client_up k.to_client client c.as_slice-to_client.result.now (links Client) (links2 Client) k.client t.client up.client c.as_slice-to_client.ensures wrote in
+    let to_host = link-all k.host_up kept.host_up k.to_host host c.as_slice-to_host.result.now (links1 Host) (links2 Host) k.host shows up.host c.as_slice-to_host.ensures c.in_default-write_link-2.ensures.link in
+    stop-cut p k e client host w w2 out out' part.to_client part.to_host t t.told
     (turns-all k.client_up kept.client_up k.to_client client c.as_slice-to_client.result.now (links Client) (links2 Client) k.client t.client up.client c.as_slice-to_client.ensures wrote)
     (turns-all k.host_up kept.host_up k.to_host host c.as_slice-to_host.result.now (links1 Host) (links2 Host) k.host shows up.host c.as_slice-to_host.ensures c.in_default-write_link-2.ensures.link)
     (c.in_default-write_link-2.ensures.door ∙ c.in_default-write_link.ensures.door)
-    (link-all k.client_up kept.client_up k.to_client client c.as_slice-to_client.result.now (links Client) (links2 Client) k.client t.client up.client c.as_slice-to_client.ensures wrote)
-    (link-all k.host_up kept.host_up k.to_host host c.as_slice-to_host.result.now (links1 Host) (links2 Host) k.host shows up.host c.as_slice-to_host.ensures c.in_default-write_link-2.ensures.link)
-    (stop-recorded p k e client host c.clear.new.self w2 out out' c.args.self.now.waiting part.to_client part.to_host (sym c.has_bytes.ensures ∙ c.if-not-has_bytes.false) c.clear.ensures refl t.tape c.in_default.ensures.ok)
+    to_client to_host
+    (stop-recorded (MayRunOut Memory (g.C.Served.runs_out first) p) p k e client host c.clear.new.self w2 out out' c.args.self.now.waiting (record { stopped = part.ran_out; some = sym c.has_bytes.ensures ∙ c.if-not-has_bytes.false; to_client = to_client; to_host = to_host; told = t.told }) part.to_client part.to_host (sym c.has_bytes.ensures ∙ c.if-not-has_bytes.false) c.clear.ensures refl t.tape c.in_default.ensures.ok)
 
 pub returns-then-not-has_bytes-clause-log : goal.returns-then-not-has_bytes-clause-log
 returns-then-not-has_bytes-clause-log g c = λ first terms events begun taped part s.
