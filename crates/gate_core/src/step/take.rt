@@ -13,45 +13,38 @@ ghost use Rattle.gate_core.specs.inner.Holds.{IsKept, Holds, Does, Leaves};
 ghost use Rattle.gate_history.specs.step.Fits.{IsItem, ItemFits};
 
 use crate::state::kept::Kept;
-use gate_history::{Item, Notes};
+use crate::write::outputs::Outputs;
+use gate_history::Item;
 use gate_parts::{client_refusal, host_refusal};
-use usb_base::{Bytes, Memory};
+use usb_base::Memory;
 use usbip_urb::{ClientPacket, UrbPacket};
 
 impl Kept {
     /// Takes the next item of a side that isn't over.
-    pub fn take(
-        &mut self,
-        item: Item,
-        to_client: &mut Bytes,
-        to_host: &mut Bytes,
-        notes: &mut Notes,
-    ) -> Result<(), Memory>
+    pub fn take(&mut self, item: Item, out: &mut Outputs) -> Result<(), Memory>
         requires kept { IsKept self.old }
         requires fits { ItemFits self.old.caps item }
         ensures kept { IsKept self.new }
         ensures ok { (st : State) (x : PastItem) → IsItem item x → Holds self.old st → IsSound st → is_left_out st x ≡ false
-            → OnOk result (Does st (mark_of st x) self.old self.new to_client.old to_client.new to_host.old to_host.new notes.old notes.new) }
-        ensures err { OnErr result (Leaves self.old self.new to_client.old to_client.new to_host.old to_host.new notes.old notes.new) }
+            → OnOk result (Does st (mark_of st x) self.old self.new out.old out.new) }
+        ensures err { OnErr result (Leaves self.old self.new out.old out.new) }
         ensures wants { (st : State) (x : PastItem) → IsItem item x → Holds self.old st → IsSound st → OnErr result (GivesSome st (mark_of st x)) }
     {
         match item {
-            Item::Asked { place, packet } => self.take_client(
-                place, packet, to_client, to_host, notes,
-            ),
+            Item::Asked { place, packet } => self.take_client(place, packet, out),
             Item::ClientWrong { place, reason } => {
-                self.refuse_client(client_refusal(place, reason), to_host, notes)
+                self.refuse_client(client_refusal(place, reason), out)
             }
-            Item::ClientLeft => self.client_left(to_host, notes),
+            Item::ClientLeft => self.client_left(out),
             Item::Told {
                 place,
                 header,
                 packet,
-            } => self.told(place, header, packet, to_client, to_host, notes),
+            } => self.told(place, header, packet, out),
             Item::HostWrong { place, reason } => {
-                self.refuse_host(host_refusal(place, reason), to_client, notes)
+                self.refuse_host(host_refusal(place, reason), out)
             }
-            Item::HostLeft => self.host_left(to_client, notes),
+            Item::HostLeft => self.host_left(out),
         }
     }
 
@@ -60,42 +53,33 @@ impl Kept {
         &mut self,
         place: u64,
         packet: ClientPacket,
-        to_client: &mut Bytes,
-        to_host: &mut Bytes,
-        notes: &mut Notes,
+        out: &mut Outputs,
     ) -> Result<(), Memory>
         requires kept { IsKept self.old }
         requires fits { IsClientPacket packet }
         ensures kept { IsKept self.new }
         ensures ok { (st : State) (at : ℕ) → place ≡ capped at → Holds self.old st → IsSound st → st.client_over ≡ false
-            → OnOk result (Does st (mark_as st (asked_meaning st at packet) None) self.old self.new to_client.old to_client.new to_host.old to_host.new notes.old notes.new) }
-        ensures err { OnErr result (Leaves self.old self.new to_client.old to_client.new to_host.old to_host.new notes.old notes.new) }
+            → OnOk result (Does st (mark_as st (asked_meaning st at packet) None) self.old self.new out.old out.new) }
+        ensures err { OnErr result (Leaves self.old self.new out.old out.new) }
     {
         match packet {
-            ClientPacket::Op(packet) => self.answer_op(place, &packet, to_client, to_host, notes),
-            ClientPacket::Urb(packet) => self.take_urb(place, packet, to_client, to_host, notes),
+            ClientPacket::Op(packet) => self.answer_op(place, &packet, out),
+            ClientPacket::Urb(packet) => self.take_urb(place, packet, out),
         }
     }
 
     /// Takes a URB request.
-    fn take_urb(
-        &mut self,
-        place: u64,
-        packet: UrbPacket,
-        to_client: &mut Bytes,
-        to_host: &mut Bytes,
-        notes: &mut Notes,
-    ) -> Result<(), Memory>
+    fn take_urb(&mut self, place: u64, packet: UrbPacket, out: &mut Outputs) -> Result<(), Memory>
         requires kept { IsKept self.old }
         requires fits { IsClientPacket (Urb packet) }
         ensures kept { IsKept self.new }
         ensures ok { (st : State) (at : ℕ) → place ≡ capped at → Holds self.old st → IsSound st → st.client_over ≡ false
-            → OnOk result (Does st (mark_as st (asked_meaning st at (Urb packet)) None) self.old self.new to_client.old to_client.new to_host.old to_host.new notes.old notes.new) }
-        ensures err { OnErr result (Leaves self.old self.new to_client.old to_client.new to_host.old to_host.new notes.old notes.new) }
+            → OnOk result (Does st (mark_as st (asked_meaning st at (Urb packet)) None) self.old self.new out.old out.new) }
+        ensures err { OnErr result (Leaves self.old self.new out.old out.new) }
     {
         match packet {
-            UrbPacket::Submit(submit) => self.submit(place, submit, to_client, to_host, notes),
-            UrbPacket::Unlink(unlink) => self.unlink(place, &unlink, to_client, to_host, notes),
+            UrbPacket::Submit(submit) => self.submit(place, submit, out),
+            UrbPacket::Unlink(unlink) => self.unlink(place, &unlink, out),
             // No client sends these.
             UrbPacket::RetSubmit(_) => Ok(()),
             UrbPacket::RetUnlink(_) => Ok(()),
