@@ -30,16 +30,18 @@ use crate::write::outputs::Outputs;
 use control_route::Route;
 use gate_history::{Note, Pipe, Request, Verdict};
 use gate_parts::{
-    Calls, ESHUTDOWN, client_refusal, decide, draw, packet_count, row_of, write_route, write_wire,
+    Calls, ESHUTDOWN, client_refusal, decide, draw, packet_count, row_of, wire_packet, write_route,
     write_without_packets,
 };
-use redir_wire::{WIDE_BULK_LENGTH, WIDE_IDS};
+use redir_data::move_data;
+use redir_wire::{WIDE_BULK_LENGTH, WIDE_IDS, Way};
 use unlink_race::{Live, LiveKind, StreamEnd};
 use usb_base::{Bytes, Memory, Reason};
 use usbip_urb::Submit;
 
 impl Kept {
-    /// A submit: a client that hasn't imported the device can't send one, nor one with a number that is live.
+    /// A submit: a client that hasn't imported the device can't send one, nor one with a number that is live. Any other is
+    /// accepted, and goes on by its verdict.
     pub fn submit(&mut self, place: u64, submit: Submit, out: &mut Outputs) -> Result<(), Memory>
         requires kept { IsKept self.old }
         requires fits { IsSubmit submit }
@@ -55,24 +57,11 @@ impl Kept {
             let place = place.saturating_add(4);
             return self.refuse_client(client_refusal(place, Reason::DuplicateSeq), out);
         }
-        self.accept(Request::of(submit), out)
-    }
-
-    /// A submit is accepted, and goes on by its verdict.
-    fn accept(&mut self, request: Request, out: &mut Outputs) -> Result<(), Memory>
-        requires kept { IsKept self.old }
-        requires imported { self.old.imported ≡ true }
-        requires number_free { list_any (has_number request.number) self.old.lives.live ≡ false }
-        requires whole { IsRequest (request_view request) }
-        ensures kept { IsKept self.new }
-        ensures ok { (st : State) → Holds self.old st → IsSound st
-            → OnOk result (Does st (mark_as st (accepts st (request_view request) (verdict_of st (request_view request))) None) self.old self.new out.old out.new) }
-        ensures err { OnErr result (Leaves self.old self.new out.old out.new) }
-    {
+        let request = Request::of(submit);
         match self.verdict(&request) {
             Verdict::Now(status) => self.answer_now(&request, status, out),
             Verdict::Wire(pipe) => self.send(pipe, request, out),
-            Verdict::Routed(route) => { self.send_route(route, request, out) }
+            Verdict::Routed(route) => self.send_route(route, request, out),
             Verdict::IsoOut(row) => self.send_iso(row, &request, out),
             Verdict::Stream(row) => self.wait(row, request, out),
         }
@@ -149,7 +138,8 @@ impl Kept {
             ep: transfer.ep,
             kind: pipe.kind(),
         };
-        write_wire(pipe, transfer, id, self.caps, &mut out.to_host)?;
+        let packet = wire_packet(pipe, transfer);
+        move_data(packet, id, Way::ToHost, self.caps, &mut out.to_host)?;
         let live = Live {
             seqnum: number,
             id,

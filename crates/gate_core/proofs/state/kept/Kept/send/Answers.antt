@@ -1,4 +1,4 @@
-use Rattle.std.proofs.Common.{◌≡◌, ℕ, [], ◌∷◌, ◌++◌, refl, sym, ap, ◌∙◌}
+use Rattle.std.proofs.Common.{◌≡◌, ℕ, List, [], ◌∷◌, ◌++◌, refl, sym, ap, ◌∙◌}
 use Rattle.std.proofs.lemmas.List.{append-nil}
 use Rattle.unlink_race.specs.declared.live.LiveKind.TheVariants as live_kind
 use Rattle.gate_history.specs.declared.note.Note.TheVariants as note
@@ -13,10 +13,15 @@ use Rattle.gate_history.specs.step.Meaning.{submission}
 use Rattle.gate_history.specs.write.Output.{fresh}
 use Rattle.gate_history.specs.write.Bytes.{host_packet_bytes}
 use Rattle.gate_history.specs.client.Views.{request_view, pipe_view}
+use Rattle.gate_history.proofs.lemmas.client.Carried.{can_be_written}
 use Rattle.gate_history.proofs.lemmas.state.Calls.{called-silent, wire-silent}
 use Rattle.gate_core.proofs.lemmas.state.Ids.{draw-is}
 use Rattle.gate_core.proofs.lemmas.client.Submit.{does-open}
 use Rattle.gate_core.proofs.state.kept.Kept.send.Goals as goal
+
+pub move_data-requires : goal.move_data-requires
+move_data-requires c =
+    can_be_written c.draw-id.result c.args.self.now.caps (pipe_view c.args.pipe) c.args.request.transfer c.wire_packet-packet.result c.draw-id.ensures.fits c.requires.sent c.wire_packet-packet.ensures
 
 pub returns-clause-ok : goal.returns-clause-ok
 returns-clause-ok c st h sound =
@@ -33,5 +38,6 @@ returns-clause-ok c st h sound =
       answered = capped-same old.answered c.requires.kept.answered_fits i;
     }))
     (sym (append-nil c.args.out.now.to_client))
-    (c.in_ok-write_wire.ensures.ok ∙ (λ i. c.args.out.now.to_host ++ sym (append-nil (host_packet_bytes old.caps (id i, wire_packet (pipe_view c.args.pipe) r.transfer))) i))
+    (c.in_ok-move_data.ensures.ok ∙ (λ i. c.args.out.now.to_host ++ host_packet_bytes old.caps (id i, c.wire_packet-packet.ensures i))
+    ∙ ap (λ (bs : List ℕ). c.args.out.now.to_host ++ bs) (sym (append-nil (host_packet_bytes old.caps (draw (greatest (wide_ids st.agreed)) (flying st) st.last, wire_packet (pipe_view c.args.pipe) r.transfer)))))
     (c.in_ok-push.ensures.ok ∙ ap (λ (n : ℕ). c.args.out.now.notes ++ note.Submitted r.number n ∷ []) id)
