@@ -1,11 +1,9 @@
 //! What becomes of an item: each kind of packet is taken by the function that knows it.
 
-ghost use Rattle.std.specs.Prelude.{◌≡◌, ℕ, None, false, OnOk, OnErr};
-ghost use Rattle.usbip_urb.specs.ClientPackets.{IsClientPacket};
-ghost use Rattle.usbip_urb.specs.declared.client.ClientPacket.TheVariants.{Urb};
-ghost use Rattle.gate_history.specs.step.Items.{Item as PastItem, capped};
+ghost use Rattle.std.specs.Prelude.{◌≡◌, false, OnOk, OnErr};
+ghost use Rattle.gate_history.specs.step.Items.{Item as PastItem};
 ghost use Rattle.gate_history.specs.state.State.{State};
-ghost use Rattle.gate_history.specs.step.Meaning.{mark_as, asked_meaning, mark_of};
+ghost use Rattle.gate_history.specs.step.Meaning.{mark_of};
 ghost use Rattle.gate_history.specs.step.Past.{is_left_out};
 ghost use Rattle.gate_history.specs.state.Sound.{IsSound};
 ghost use Rattle.gate_history.specs.step.Wants.{GivesSome};
@@ -31,7 +29,14 @@ impl Kept {
         ensures wants { (st : State) (x : PastItem) → IsItem item x → Holds self.old st → IsSound st → OnErr result (GivesSome st (mark_of st x)) }
     {
         match item {
-            Item::Asked { place, packet } => self.take_client(place, packet, out),
+            Item::Asked { place, packet } => match packet {
+                ClientPacket::Op(packet) => self.answer_op(place, &packet, out),
+                ClientPacket::Urb(UrbPacket::Submit(submit)) => self.submit(place, submit, out),
+                ClientPacket::Urb(UrbPacket::Unlink(unlink)) => self.unlink(place, &unlink, out),
+                // No client sends these.
+                ClientPacket::Urb(UrbPacket::RetSubmit(_)) => Ok(()),
+                ClientPacket::Urb(UrbPacket::RetUnlink(_)) => Ok(()),
+            },
             Item::ClientWrong { place, reason } => {
                 self.refuse_client(client_refusal(place, reason), out)
             }
@@ -45,44 +50,6 @@ impl Kept {
                 self.refuse_host(host_refusal(place, reason), out)
             }
             Item::HostLeft => self.host_left(out),
-        }
-    }
-
-    /// Takes a packet of the client.
-    fn take_client(
-        &mut self,
-        place: u64,
-        packet: ClientPacket,
-        out: &mut Outputs,
-    ) -> Result<(), Memory>
-        requires kept { IsKept self.old }
-        requires fits { IsClientPacket packet }
-        ensures kept { IsKept self.new }
-        ensures ok { (st : State) (at : ℕ) → place ≡ capped at → Holds self.old st → IsSound st → st.client_over ≡ false
-            → OnOk result (Does st (mark_as st (asked_meaning st at packet) None) self.old self.new out.old out.new) }
-        ensures err { OnErr result (Leaves self.old self.new out.old out.new) }
-    {
-        match packet {
-            ClientPacket::Op(packet) => self.answer_op(place, &packet, out),
-            ClientPacket::Urb(packet) => self.take_urb(place, packet, out),
-        }
-    }
-
-    /// Takes a URB request.
-    fn take_urb(&mut self, place: u64, packet: UrbPacket, out: &mut Outputs) -> Result<(), Memory>
-        requires kept { IsKept self.old }
-        requires fits { IsClientPacket (Urb packet) }
-        ensures kept { IsKept self.new }
-        ensures ok { (st : State) (at : ℕ) → place ≡ capped at → Holds self.old st → IsSound st → st.client_over ≡ false
-            → OnOk result (Does st (mark_as st (asked_meaning st at (Urb packet)) None) self.old self.new out.old out.new) }
-        ensures err { OnErr result (Leaves self.old self.new out.old out.new) }
-    {
-        match packet {
-            UrbPacket::Submit(submit) => self.submit(place, submit, out),
-            UrbPacket::Unlink(unlink) => self.unlink(place, &unlink, out),
-            // No client sends these.
-            UrbPacket::RetSubmit(_) => Ok(()),
-            UrbPacket::RetUnlink(_) => Ok(()),
         }
     }
 }
