@@ -1,5 +1,6 @@
 -- What the code's own values are of the definitions.
 pub mod Calls
+pub mod Outputs
 pub mod Holds
 pub mod Fill
 pub mod StreamEnd

@@ -10,10 +10,12 @@ ghost use Rattle.gate_history.specs.write.Bytes.{out_host};
 ghost use Rattle.gate_core.specs.step.Stands.{Stands, StandsFor, Takes, Stops, HasFailed};
 
 use crate::step::inner::Inner;
+use crate::write::outputs::Outputs;
 use gate_history::{Counts, Event, Notes};
 use gate_parts::write_hello;
 use std::alloc::Global;
 use std::marker::Model;
+use std::mem::swap;
 use usb_base::{Bytes, Memory};
 
 /// The gate between the streams of clients and of a host.
@@ -68,9 +70,14 @@ impl Gate {
         if let Some(memory) = self.inner.want {
             return Err(memory);
         }
-        let mut notes = Notes::new(self.inner.alloc);
-        match self.inner.take(event, to_client, to_host, &mut notes) {
-            Ok(()) => Ok(notes),
+        let mut out = Outputs::new(self.inner.alloc);
+        swap(to_client, &mut out.to_client);
+        swap(to_host, &mut out.to_host);
+        let taken = self.inner.take(event, &mut out);
+        swap(to_client, &mut out.to_client);
+        swap(to_host, &mut out.to_host);
+        match taken {
+            Ok(()) => Ok(out.notes),
             Err(memory) => {
                 self.inner.want = Some(memory);
                 Err(memory)

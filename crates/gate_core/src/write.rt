@@ -1,3 +1,4 @@
 //! What is sent and told.
 
+pub mod outputs;
 pub mod stop;

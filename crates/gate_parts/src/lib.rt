@@ -17,8 +17,8 @@ pub use state::id::draw;
 pub use state::streams::{Streams, Up};
 pub use write::answer::{write_all_sent, write_ret_unlink, write_without_packets};
 pub use write::ask::{
-    acknowledge, packet_count, write_cancel, write_cancel_of, write_hello, write_iso, write_route,
-    write_start, write_stop, write_wire,
+    acknowledge, packet_count, wire_packet, write_cancel, write_cancel_of, write_hello, write_iso,
+    write_route, write_start, write_stop,
 };
 pub use write::errno::{ECONNRESET, ESHUTDOWN};
 pub use write::finish::{row_of, write_completed, write_end_of, write_lost};

@@ -8,6 +8,7 @@ use Rattle.unlink_race.specs.declared.live.Live.{Live}
 use Rattle.unlink_race.specs.declared.live.LiveKind.{LiveKind}
 use Rattle.unlink_race.specs.Searches.{goes_by_id, has_number, is_stream}
 use Rattle.gate_history.specs.declared.note.Note.{Note}
+use Rattle.gate_core.specs.declared.write.outputs.Outputs.{Outputs}
 use Rattle.gate_core.specs.declared.state.kept.Kept.{Kept}
 use Rattle.gate_parts.specs.declared.state.calls.Called.{Called}
 use Rattle.gate_history.specs.step.Items.{capped}
@@ -79,28 +80,26 @@ pub record IsFirst (t : Kept) (first : ℕ) : Type 0 where
 
 -- ---- what is done with a mark, and so with an item
 
-pub record Does (st : State) (m : Mark) (old new : Kept) (client_old client_new host_old host_new : List ℕ) (notes_old notes_new : List Note) : Type 0 where
+pub record Does (st : State) (m : Mark) (old new : Kept) (out_old out_new : Outputs) : Type 0 where
   pub holds : Holds new (after st m)
-  pub client : client_new ≡ client_old ++ client_bytes_of st m
-  pub host : host_new ≡ host_old ++ host_bytes_of st m
-  pub notes : notes_new ≡ notes_old ++ notes_of st m
+  pub client : out_new.to_client ≡ out_old.to_client ++ client_bytes_of st m
+  pub host : out_new.to_host ≡ out_old.to_host ++ host_bytes_of st m
+  pub notes : out_new.notes ≡ out_old.notes ++ notes_of st m
   pub answered : new.answered ≡ capped (old.answered + length (filter is_ret_submit (to_client st m)))
   pub unlinked : new.unlinked ≡ capped (old.unlinked + length (filter is_won_unlink (to_client st m)))
   pub dropped : new.dropped ≡ capped (old.dropped + length (dropped st m))
 
 -- for want of memory nothing has changed
-pub record DoesNothing (old new : Kept) (client_old client_new host_old host_new : List ℕ) (notes_old notes_new : List Note) : Type 0 where
+pub record DoesNothing (old new : Kept) (out_old out_new : Outputs) : Type 0 where
   pub same : new ≡ old
-  pub client : client_new ≡ client_old
-  pub host : host_new ≡ host_old
-  pub notes : notes_new ≡ notes_old
+  pub outputs : out_new ≡ out_old
 
 -- for want of memory what is kept stands, and the outputs may have the first of what was to be sent and told
-pub record Leaves (old new : Kept) (client_old client_new host_old host_new : List ℕ) (notes_old notes_new : List Note) : Type 0 where
+pub record Leaves (old new : Kept) (out_old out_new : Outputs) : Type 0 where
   pub same : new ≡ old
-  pub client : Extends client_old client_new
-  pub host : Extends host_old host_new
-  pub notes : Extends notes_old notes_new
+  pub client : Extends out_old.to_client out_new.to_client
+  pub host : Extends out_old.to_host out_new.to_host
+  pub notes : Extends out_old.notes out_new.notes
 
 -- ---- all requests ended
 

@@ -21,6 +21,7 @@ use Rattle.gate_history.specs.step.Past.{is_left_out, past}
 use Rattle.gate_history.specs.step.Wants.{takes_memory, Wants}
 use Rattle.gate_history.specs.state.Sides.{client_over, host_over}
 use Rattle.gate_history.specs.state.State.{state_of}
+use Rattle.gate_core.specs.declared.write.outputs.Outputs.{Outputs}
 use Rattle.gate_core.specs.declared.state.kept.Kept.{Kept as Translator}
 use Rattle.gate_core.specs.step.Stands.{Translates, StreamStands, HasAll}
 use Rattle.gate_core.specs.inner.Holds.{items_of, DoesNothing}
@@ -98,15 +99,15 @@ FitsNext {S = S} {P = P} half r takes raw_packet raw_wrong =
 -- ---- a piece of it
 
 -- all that the piece brought was taken or is left out
-pub record Finished {S P : Type 0} (first : ℕ) (h : Half S P) (kept : Kept S) (t : Translator) (bytes piece : List ℕ) (before : List Item) (client_old client_new host_old host_new : List ℕ) (notes_old notes_new : List Note) : Type 0 where
+pub record Finished {S P : Type 0} (first : ℕ) (h : Half S P) (kept : Kept S) (t : Translator) (bytes piece : List ℕ) (before : List Item) (out_old out_new : Outputs) : Type 0 where
   pub all : HasAll h.stream.reader h.stream.start kept (bytes ++ piece) (h.came (onto (added h.stream bytes piece) before)) (h.stream.over (onto (added h.stream bytes piece) before))
   pub translates : Translates first (items_of t) (onto (added h.stream bytes piece) before)
-  pub sends : Sends first client_old client_new host_old host_new notes_old notes_new before (onto (added h.stream bytes piece) before)
+  pub sends : Sends first out_old out_new before (onto (added h.stream bytes piece) before)
   pub others_are : h.others (onto (added h.stream bytes piece) before) ≡ h.others before
   pub other_over : h.other_over (onto (added h.stream bytes piece) before) ≡ h.other_over before
 
 -- memory ran out for one of the items that the piece brought: those before it were taken
-pub record Halted {S P : Type 0} (first : ℕ) (h : Half S P) (kept : Kept S) (t : Translator) (bytes piece : List ℕ) (before : List Item) (client_old client_new host_old host_new : List ℕ) (notes_old notes_new : List Note) : Type 0 where
+pub record Halted {S P : Type 0} (first : ℕ) (h : Half S P) (kept : Kept S) (t : Translator) (bytes piece : List ℕ) (before : List Item) (out_old out_new : Outputs) : Type 0 where
   pub taken : List Item
   pub next : Item
   pub behind : List Item
@@ -114,21 +115,21 @@ pub record Halted {S P : Type 0} (first : ℕ) (h : Half S P) (kept : Kept S) (t
   pub wants : Wants first (onto taken before) next
   pub stands : StreamStands h.stream.reader h.stream.start kept (bytes ++ piece) (h.came (onto taken before)) (h.stream.over (onto taken before))
   pub translates : Translates first (items_of t) (onto taken before)
-  pub sends : Sends first client_old client_new host_old host_new notes_old notes_new before (onto taken before)
+  pub sends : Sends first out_old out_new before (onto taken before)
   pub others_are : h.others (onto taken before) ≡ h.others before
   pub other_over : h.other_over (onto taken before) ≡ h.other_over before
 
 -- memory ran out for the piece itself, which hasn't come
-pub record IsUnput {S : Type 0} (old new : Kept S) (t u : Translator) (piece client_old client_new host_old host_new : List ℕ) (notes_old notes_new : List Note) : Type 0 where
+pub record IsUnput {S : Type 0} (old new : Kept S) (t u : Translator) (piece : List ℕ) (out_old out_new : Outputs) : Type 0 where
   pub kept : new ≡ passed old
   pub some : (0 < length piece) × (old.over ≡ false)
-  pub nothing : DoesNothing t u client_old client_new host_old host_new notes_old notes_new
+  pub nothing : DoesNothing t u out_old out_new
 
 -- wherever the stream stood: the piece was taken, or memory ran out
-abbrev pub TakesPiece : {S P : Type 0} → Result (Unit {0}) Memory → (ℕ → Half S P) → Kept S → Kept S → Translator → Translator → List ℕ → List ℕ → List ℕ → List ℕ → List ℕ → List Note → List Note → Type 0
-TakesPiece (Ok v) half old new t u piece client_old client_new host_old host_new notes_old notes_new =
+abbrev pub TakesPiece : {S P : Type 0} → Result (Unit {0}) Memory → (ℕ → Half S P) → Kept S → Kept S → Translator → Translator → List ℕ → Outputs → Outputs → Type 0
+TakesPiece (Ok v) half old new t u piece out_old out_new =
     (first : ℕ) (bytes : List ℕ) (before : List Item) → IsAt first (half first) old t bytes before →
-    Finished first (half first) new u bytes piece before client_old client_new host_old host_new notes_old notes_new
-TakesPiece (Err memory) half old new t u piece client_old client_new host_old host_new notes_old notes_new =
+    Finished first (half first) new u bytes piece before out_old out_new
+TakesPiece (Err memory) half old new t u piece out_old out_new =
     (first : ℕ) (bytes : List ℕ) (before : List Item) → IsAt first (half first) old t bytes before →
-    IsUnput old new t u piece client_old client_new host_old host_new notes_old notes_new ⊎ Halted first (half first) new u bytes piece before client_old client_new host_old host_new notes_old notes_new
+    IsUnput old new t u piece out_old out_new ⊎ Halted first (half first) new u bytes piece before out_old out_new

@@ -11,6 +11,7 @@ use Rattle.redir_data.specs.declared.packet.RedirPacket.{RedirPacket}
 use Rattle.gate_history.specs.declared.item.Item.{Item as RawItem}
 use Rattle.gate_history.specs.declared.item.Item.TheVariants as raw
 use Rattle.gate_history.specs.declared.note.Note.{Note}
+use Rattle.gate_core.specs.declared.write.outputs.Outputs.{Outputs}
 use Rattle.gate_core.specs.declared.step.inner.Inner.{Inner}
 use Rattle.gate_history.specs.step.Items.{Item}
 use Rattle.gate_history.specs.step.Events.{Event}
@@ -59,18 +60,18 @@ ended_if over kept = if over then ended kept else kept
 -- ---- an event
 
 -- from these items to those this was sent and told
-pub record Sends (first : ℕ) (client_old client_new host_old host_new : List ℕ) (notes_old notes_new : List Note) (h k : List Item) : Type 0 where
-  pub client : Gains client_old client_new (out_client first (past first h)) (out_client first (past first k))
-  pub host : Gains host_old host_new (out_host first (past first h)) (out_host first (past first k))
-  pub told : Gains notes_old notes_new (all_of notes_of first (past first h)) (all_of notes_of first (past first k))
+pub record Sends (first : ℕ) (out_old out_new : Outputs) (h k : List Item) : Type 0 where
+  pub client : Gains out_old.to_client out_new.to_client (out_client first (past first h)) (out_client first (past first k))
+  pub host : Gains out_old.to_host out_new.to_host (out_host first (past first h)) (out_host first (past first k))
+  pub told : Gains out_old.notes out_new.notes (all_of notes_of first (past first h)) (all_of notes_of first (past first k))
 
-pub record TakesOn (first : ℕ) (new : Inner) (events : List Event) (e : Event) (client_old client_new host_old host_new : List ℕ) (notes_old notes_new : List Note) : Type 0 where
+pub record TakesOn (first : ℕ) (new : Inner) (events : List Event) (e : Event) (out_old out_new : Outputs) : Type 0 where
   pub stands : Stands first (kept_of new) (e ∷ events)
-  pub sends : Sends first client_old client_new host_old host_new notes_old notes_new (arrivals events) (arrivals (e ∷ events))
+  pub sends : Sends first out_old out_new (arrivals events) (arrivals (e ∷ events))
 
 -- whatever has come: the event was taken, or memory ran out
-abbrev pub TakesEvent : Result (Unit {0}) Memory → Inner → Inner → Event → List ℕ → List ℕ → List ℕ → List ℕ → List Note → List Note → Type 0
-TakesEvent (Ok v) old new e client_old client_new host_old host_new notes_old notes_new =
-    (first : ℕ) (events : List Event) → Stands first (kept_of old) events → TakesOn first new events e client_old client_new host_old host_new notes_old notes_new
-TakesEvent (Err memory) old new e client_old client_new host_old host_new notes_old notes_new =
-    (first : ℕ) (events : List Event) → Stands first (kept_of old) events → Stops first (kept_of new) events e client_old client_new host_old host_new
+abbrev pub TakesEvent : Result (Unit {0}) Memory → Inner → Inner → Event → Outputs → Outputs → Type 0
+TakesEvent (Ok v) old new e out_old out_new =
+    (first : ℕ) (events : List Event) → Stands first (kept_of old) events → TakesOn first new events e out_old out_new
+TakesEvent (Err memory) old new e out_old out_new =
+    (first : ℕ) (events : List Event) → Stands first (kept_of old) events → Stops first (kept_of new) events e out_old.to_client out_new.to_client out_old.to_host out_new.to_host

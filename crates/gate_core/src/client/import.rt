@@ -3,7 +3,6 @@
 ghost use Rattle.std.specs.Prelude.{◌≡◌, ℕ, List, IfSome, [], None, false, OnOk, OnErr};
 ghost use Rattle.usbip_op.specs.declared.packet.OpPacket.TheVariants.{ReqDevlist, ReqImport};
 ghost use Rattle.usbip_op.specs.Ranges.{IsWritable};
-ghost use Rattle.gate_history.specs.declared.note.Note.{Note as Told};
 ghost use Rattle.gate_history.specs.step.Items.{capped};
 ghost use Rattle.gate_history.specs.step.Marks.{Replies, Imports};
 ghost use Rattle.gate_history.specs.state.State.{State};
@@ -12,10 +11,11 @@ ghost use Rattle.gate_history.specs.step.Meaning.{mark_as, op_meaning, importabl
 ghost use Rattle.gate_core.specs.inner.Holds.{IsKept, Holds, Does, Leaves};
 
 use crate::state::kept::Kept;
-use gate_history::{Note, Notes};
+use crate::write::outputs::Outputs;
+use gate_history::Note;
 use gate_parts::{client_refusal, failed_import, import_reply, is_exported, list_reply};
 use redir_wire::Connect;
-use usb_base::{Bytes, Memory, Reason};
+use usb_base::{Memory, Reason};
 use usbip_op::{OpPacket, write_op};
 
 impl Kept {
@@ -24,21 +24,17 @@ impl Kept {
         &mut self,
         place: u64,
         packet: &OpPacket,
-        to_client: &mut Bytes,
-        to_host: &mut Bytes,
-        notes: &mut Notes,
+        out: &mut Outputs,
     ) -> Result<(), Memory>
         requires kept { IsKept self.old }
         ensures kept { IsKept self.new }
         ensures ok { (st : State) (at : ℕ) → place ≡ capped at → Holds self.old st → st.client_over ≡ false
-            → OnOk result (Does st (mark_as st (op_meaning st at packet.now) None) self.old self.new to_client.old to_client.new to_host.old to_host.new notes.old notes.new) }
-        ensures err { OnErr result (Leaves self.old self.new to_client.old to_client.new to_host.old to_host.new notes.old notes.new) }
+            → OnOk result (Does st (mark_as st (op_meaning st at packet.now) None) self.old self.new out.old out.new) }
+        ensures err { OnErr result (Leaves self.old self.new out.old out.new) }
     {
         match packet {
-            OpPacket::ReqDevlist { .. } => self.answer_list(place, to_client, to_host, notes),
-            OpPacket::ReqImport { busid, .. } => {
-                self.answer_import(place, busid, to_client, to_host, notes)
-            }
+            OpPacket::ReqDevlist { .. } => self.answer_list(place, out),
+            OpPacket::ReqImport { busid, .. } => { self.answer_import(place, busid, out) }
             // No client sends these.
             OpPacket::RepDevlist { .. } => Ok(()),
             OpPacket::RepImport { .. } => Ok(()),
@@ -46,28 +42,18 @@ impl Kept {
     }
 
     /// Answers a list request. A client that has imported the device can't ask.
-    fn answer_list(
-        &mut self,
-        place: u64,
-        to_client: &mut Bytes,
-        to_host: &mut Bytes,
-        notes: &mut Notes,
-    ) -> Result<(), Memory>
+    fn answer_list(&mut self, place: u64, out: &mut Outputs) -> Result<(), Memory>
         requires kept { IsKept self.old }
         ensures kept { IsKept self.new }
         ensures ok { (st : State) (at : ℕ) (status : ℕ) → place ≡ capped at → Holds self.old st → st.client_over ≡ false
-            → OnOk result (Does st (mark_as st (op_meaning st at (ReqDevlist status)) None) self.old self.new to_client.old to_client.new to_host.old to_host.new notes.old notes.new) }
-        ensures err { OnErr result (Leaves self.old self.new to_client.old to_client.new to_host.old to_host.new notes.old notes.new) }
+            → OnOk result (Does st (mark_as st (op_meaning st at (ReqDevlist status)) None) self.old self.new out.old out.new) }
+        ensures err { OnErr result (Leaves self.old self.new out.old out.new) }
     {
         if self.imported {
-            return self.refuse_client(
-                client_refusal(place, Reason::AlreadyImported),
-                to_host,
-                notes,
-            );
+            return self.refuse_client(client_refusal(place, Reason::AlreadyImported), out);
         }
         let reply = list_reply(self.alloc, &self.facts)?;
-        self.reply(&reply, to_client)
+        self.reply(&reply, out)
     }
 
     /// Answers an import request. A client that has imported the device can't ask again.
@@ -75,26 +61,20 @@ impl Kept {
         &mut self,
         place: u64,
         busid: &[u8; 32],
-        to_client: &mut Bytes,
-        to_host: &mut Bytes,
-        notes: &mut Notes,
+        out: &mut Outputs,
     ) -> Result<(), Memory>
         requires kept { IsKept self.old }
         ensures kept { IsKept self.new }
         ensures ok { (st : State) (at : ℕ) (status : ℕ) → place ≡ capped at → Holds self.old st → st.client_over ≡ false
-            → OnOk result (Does st (mark_as st (op_meaning st at (ReqImport status busid.now)) None) self.old self.new to_client.old to_client.new to_host.old to_host.new notes.old notes.new) }
-        ensures err { OnErr result (Leaves self.old self.new to_client.old to_client.new to_host.old to_host.new notes.old notes.new) }
+            → OnOk result (Does st (mark_as st (op_meaning st at (ReqImport status busid.now)) None) self.old self.new out.old out.new) }
+        ensures err { OnErr result (Leaves self.old self.new out.old out.new) }
     {
         if self.imported {
-            return self.refuse_client(
-                client_refusal(place, Reason::AlreadyImported),
-                to_host,
-                notes,
-            );
+            return self.refuse_client(client_refusal(place, Reason::AlreadyImported), out);
         }
         match self.importable(busid) {
-            Some(connect) => self.import(&connect, to_client, notes),
-            None => self.reply(&failed_import(), to_client),
+            Some(connect) => self.import(&connect, out),
+            None => self.reply(&failed_import(), out),
         }
     }
 
@@ -112,35 +92,30 @@ impl Kept {
     }
 
     /// The client imports the device.
-    fn import(
-        &mut self,
-        connect: &Connect,
-        to_client: &mut Bytes,
-        notes: &mut Notes,
-    ) -> Result<(), Memory>
+    fn import(&mut self, connect: &Connect, out: &mut Outputs) -> Result<(), Memory>
         requires kept { IsKept self.old }
         requires free { self.old.lives.abandoned ≡ [] }
         ensures kept { IsKept self.new }
-        ensures ok { (st : State) (host : List ℕ) → Holds self.old st
-            → OnOk result (Does st (mark_as st (Imports (import_of st.facts connect.now)) None) self.old self.new to_client.old to_client.new host host notes.old notes.new) }
-        ensures err { (host : List ℕ) → OnErr result (Leaves self.old self.new to_client.old to_client.new host host notes.old notes.new) }
+        ensures ok { (st : State) → Holds self.old st
+            → OnOk result (Does st (mark_as st (Imports (import_of st.facts connect.now)) None) self.old self.new out.old out.new) }
+        ensures err { OnErr result (Leaves self.old self.new out.old out.new) }
     {
-        notes.push(Note::Imported)?;
-        write_op(&import_reply(&self.facts, connect), to_client)?;
+        out.notes.push(Note::Imported)?;
+        write_op(&import_reply(&self.facts, connect), &mut out.to_client)?;
         self.imported = true;
         self.lost = false;
         Ok(())
     }
 
     /// Appends a reply that changes nothing.
-    fn reply(&self, reply: &OpPacket, to_client: &mut Bytes) -> Result<(), Memory>
+    fn reply(&self, reply: &OpPacket, out: &mut Outputs) -> Result<(), Memory>
         requires kept { IsKept self.now }
         requires writable { IsWritable reply.now }
-        ensures ok { (st : State) (host : List ℕ) (notes : List Told) → Holds self.now st
-            → OnOk result (Does st (mark_as st (Replies reply.now) None) self.now self.now to_client.old to_client.new host host notes notes) }
-        ensures err { OnErr result (to_client.new ≡ to_client.old) }
+        ensures ok { (st : State) → Holds self.now st
+            → OnOk result (Does st (mark_as st (Replies reply.now) None) self.now self.now out.old out.new) }
+        ensures err { OnErr result (Leaves self.now self.now out.old out.new) }
     {
-        write_op(reply, to_client)?;
+        write_op(reply, &mut out.to_client)?;
         Ok(())
     }
 }

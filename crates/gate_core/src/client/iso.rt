@@ -17,7 +17,8 @@ ghost use Rattle.gate_core.specs.inner.Holds.{IsKept, Holds, Does, Leaves};
 ghost use Rattle.gate_parts.specs.write.Extends.{Extends};
 
 use crate::state::kept::Kept;
-use gate_history::{Note, Notes, Request};
+use crate::write::outputs::Outputs;
+use gate_history::{Note, Request};
 use gate_parts::{Called, write_all_sent, write_iso, write_start};
 use usb_base::{Bytes, EpAddr, EpRow, Memory};
 use usbip_urb::part;
@@ -28,9 +29,7 @@ impl Kept {
         &mut self,
         row: EpRow,
         request: &Request,
-        to_client: &mut Bytes,
-        to_host: &mut Bytes,
-        notes: &mut Notes,
+        out: &mut Outputs,
     ) -> Result<(), Memory>
         requires kept { IsKept self.old }
         requires laid { IsLaid (request_view request.now) }
@@ -38,17 +37,17 @@ impl Kept {
         requires few_bytes { request.now.transfer.wanted ≤ MAX_LENGTH }
         ensures kept { IsKept self.new }
         ensures ok { (st : State) → Holds self.old st → IsSound st
-            → OnOk result (Does st (mark_as st (Opens (submission st (request_view request.now) (IsoOut row) [])) None) self.old self.new to_client.old to_client.new to_host.old to_host.new notes.old notes.new) }
-        ensures err { OnErr result (Leaves self.old self.new to_client.old to_client.new to_host.old to_host.new notes.old notes.new) }
+            → OnOk result (Does st (mark_as st (Opens (submission st (request_view request.now) (IsoOut row) [])) None) self.old self.new out.old out.new) }
+        ensures err { OnErr result (Leaves self.old self.new out.old out.new) }
     {
-        notes.push(Note::Submitted {
+        out.notes.push(Note::Submitted {
             seqnum: request.number,
             id: 0,
         })?;
         let ep = request.transfer.ep;
-        let called = self.write_start(ep, row, to_host)?;
-        let last = self.write_packets(request, called.last, to_host)?;
-        write_all_sent(self.alloc, &request.asked(), to_client)?;
+        let called = self.write_start(ep, row, &mut out.to_host)?;
+        let last = self.write_packets(request, called.last, &mut out.to_host)?;
+        write_all_sent(self.alloc, &request.asked(), &mut out.to_client)?;
         self.streams.raise(self.alloc, ep, row);
         self.calls = called.calls;
         self.last = last;

@@ -17,6 +17,7 @@ ghost use Rattle.gate_parts.specs.write.Extends.{Extends};
 ghost use Rattle.gate_parts.specs.state.Rows.{cancel_bytes, is_cancelled_row};
 
 use crate::state::kept::Kept;
+use crate::write::outputs::Outputs;
 use gate_history::{Note, Notes};
 use gate_parts::{Called, write_cancel_of};
 use usb_base::{Bytes, Memory, Refusal};
@@ -37,38 +38,33 @@ impl Kept {
     }
 
     /// The client has left.
-    pub fn client_left(&mut self, to_host: &mut Bytes, notes: &mut Notes) -> Result<(), Memory>
+    pub fn client_left(&mut self, out: &mut Outputs) -> Result<(), Memory>
         requires kept { IsKept self.old }
         ensures kept { IsKept self.new }
-        ensures ok { (st : State) (client : List ℕ) → Holds self.old st → OnOk result (Does st (mark_as st (Ends Client) None) self.old self.new client client to_host.old to_host.new notes.old notes.new) }
-        ensures err { (client : List ℕ) → OnErr result (Leaves self.old self.new client client to_host.old to_host.new notes.old notes.new) }
+        ensures ok { (st : State) → Holds self.old st → OnOk result (Does st (mark_as st (Ends Client) None) self.old self.new out.old out.new) }
+        ensures err { OnErr result (Leaves self.old self.new out.old out.new) }
         ensures wants { (st : State) → Holds self.old st → OnErr result (GivesSome st (mark_as st (Ends Client) None)) }
     {
-        self.write_cancels(to_host)?;
-        let called = self.write_stops(None, to_host)?;
-        self.tell_gone(notes)?;
+        self.write_cancels(&mut out.to_host)?;
+        let called = self.write_stops(None, &mut out.to_host)?;
+        self.tell_gone(&mut out.notes)?;
         self.leave(called);
         self.client_over = false;
         Ok(())
     }
 
     /// The client is refused.
-    pub fn refuse_client(
-        &mut self,
-        refusal: Refusal,
-        to_host: &mut Bytes,
-        notes: &mut Notes,
-    ) -> Result<(), Memory>
+    pub fn refuse_client(&mut self, refusal: Refusal, out: &mut Outputs) -> Result<(), Memory>
         requires kept { IsKept self.old }
         requires side { refusal.side ≡ Client }
         ensures kept { IsKept self.new }
-        ensures ok { (st : State) (client : List ℕ) → Holds self.old st → st.client_over ≡ false → OnOk result (Does st (mark_as st (Refuses refusal) None) self.old self.new client client to_host.old to_host.new notes.old notes.new) }
-        ensures err { (client : List ℕ) → OnErr result (Leaves self.old self.new client client to_host.old to_host.new notes.old notes.new) }
+        ensures ok { (st : State) → Holds self.old st → st.client_over ≡ false → OnOk result (Does st (mark_as st (Refuses refusal) None) self.old self.new out.old out.new) }
+        ensures err { OnErr result (Leaves self.old self.new out.old out.new) }
     {
-        self.write_cancels(to_host)?;
-        let called = self.write_stops(None, to_host)?;
-        notes.push(Note::ClientGone)?;
-        notes.push(Note::Refused(refusal))?;
+        self.write_cancels(&mut out.to_host)?;
+        let called = self.write_stops(None, &mut out.to_host)?;
+        out.notes.push(Note::ClientGone)?;
+        out.notes.push(Note::Refused(refusal))?;
         self.leave(called);
         self.client_over = true;
         Ok(())

@@ -26,67 +26,44 @@ ghost use Rattle.gate_parts.specs.state.Rows.{kind_of, IsFine};
 ghost use Rattle.gate_core.specs.inner.Holds.{IsKept, Holds, Does, Leaves, IsFree, CanAnswer, CanGo, HasOpened};
 
 use crate::state::kept::Kept;
+use crate::write::outputs::Outputs;
 use control_route::Route;
-use gate_history::{Note, Notes, Pipe, Request, Verdict};
+use gate_history::{Note, Pipe, Request, Verdict};
 use gate_parts::{
-    Calls, ESHUTDOWN, client_refusal, decide, draw, packet_count, row_of, write_route, write_wire,
+    Calls, ESHUTDOWN, client_refusal, decide, draw, packet_count, row_of, wire_packet, write_route,
     write_without_packets,
 };
-use redir_wire::{WIDE_BULK_LENGTH, WIDE_IDS};
+use redir_data::move_data;
+use redir_wire::{WIDE_BULK_LENGTH, WIDE_IDS, Way};
 use unlink_race::{Live, LiveKind, StreamEnd};
 use usb_base::{Bytes, Memory, Reason};
 use usbip_urb::Submit;
 
 impl Kept {
-    /// A submit: a client that hasn't imported the device can't send one, nor one with a number that is live.
-    pub fn submit(
-        &mut self,
-        place: u64,
-        submit: Submit,
-        to_client: &mut Bytes,
-        to_host: &mut Bytes,
-        notes: &mut Notes,
-    ) -> Result<(), Memory>
+    /// A submit: a client that hasn't imported the device can't send one, nor one with a number that is live. Any other is
+    /// accepted, and goes on by its verdict.
+    pub fn submit(&mut self, place: u64, submit: Submit, out: &mut Outputs) -> Result<(), Memory>
         requires kept { IsKept self.old }
         requires fits { IsSubmit submit }
         ensures kept { IsKept self.new }
         ensures ok { (st : State) (at : ℕ) → place ≡ capped at → Holds self.old st → IsSound st → st.client_over ≡ false
-            → OnOk result (Does st (mark_as st (urb_meaning st at (SubmitPacket submit)) None) self.old self.new to_client.old to_client.new to_host.old to_host.new notes.old notes.new) }
-        ensures err { OnErr result (Leaves self.old self.new to_client.old to_client.new to_host.old to_host.new notes.old notes.new) }
+            → OnOk result (Does st (mark_as st (urb_meaning st at (SubmitPacket submit)) None) self.old self.new out.old out.new) }
+        ensures err { OnErr result (Leaves self.old self.new out.old out.new) }
     {
         if !self.imported {
-            return self.refuse_client(client_refusal(place, Reason::NotImported), to_host, notes);
+            return self.refuse_client(client_refusal(place, Reason::NotImported), out);
         }
         if self.lives.has(submit.head.seqnum) {
             let place = place.saturating_add(4);
-            return self.refuse_client(client_refusal(place, Reason::DuplicateSeq), to_host, notes);
+            return self.refuse_client(client_refusal(place, Reason::DuplicateSeq), out);
         }
-        self.accept(Request::of(submit), to_client, to_host, notes)
-    }
-
-    /// A submit is accepted, and goes on by its verdict.
-    fn accept(
-        &mut self,
-        request: Request,
-        to_client: &mut Bytes,
-        to_host: &mut Bytes,
-        notes: &mut Notes,
-    ) -> Result<(), Memory>
-        requires kept { IsKept self.old }
-        requires imported { self.old.imported ≡ true }
-        requires number_free { list_any (has_number request.number) self.old.lives.live ≡ false }
-        requires whole { IsRequest (request_view request) }
-        ensures kept { IsKept self.new }
-        ensures ok { (st : State) → Holds self.old st → IsSound st
-            → OnOk result (Does st (mark_as st (accepts st (request_view request) (verdict_of st (request_view request))) None) self.old self.new to_client.old to_client.new to_host.old to_host.new notes.old notes.new) }
-        ensures err { OnErr result (Leaves self.old self.new to_client.old to_client.new to_host.old to_host.new notes.old notes.new) }
-    {
+        let request = Request::of(submit);
         match self.verdict(&request) {
-            Verdict::Now(status) => self.answer_now(&request, status, to_client, notes),
-            Verdict::Wire(pipe) => self.send(pipe, request, to_host, notes),
-            Verdict::Routed(route) => { self.send_route(route, request, to_client, to_host, notes) }
-            Verdict::IsoOut(row) => self.send_iso(row, &request, to_client, to_host, notes),
-            Verdict::Stream(row) => self.wait(row, request, to_client, to_host, notes),
+            Verdict::Now(status) => self.answer_now(&request, status, out),
+            Verdict::Wire(pipe) => self.send(pipe, request, out),
+            Verdict::Routed(route) => self.send_route(route, request, out),
+            Verdict::IsoOut(row) => self.send_iso(row, &request, out),
+            Verdict::Stream(row) => self.wait(row, request, out),
         }
     }
 
@@ -114,44 +91,37 @@ impl Kept {
         &mut self,
         request: &Request,
         status: i32,
-        to_client: &mut Bytes,
-        notes: &mut Notes,
+        out: &mut Outputs,
     ) -> Result<(), Memory>
         requires kept { IsKept self.old }
         requires packets { HasItsPackets request.now.packets request.now.descs }
         ensures kept { IsKept self.new }
-        ensures ok { (st : State) (host : List ℕ) → Holds self.old st → IsSound st
-            → OnOk result (Does st (mark_as st (Opens (submission st (request_view request.now) (Now status) [])) None) self.old self.new to_client.old to_client.new host host notes.old notes.new) }
-        ensures err { (host : List ℕ) → OnErr result (Leaves self.old self.new to_client.old to_client.new host host notes.old notes.new) }
+        ensures ok { (st : State) → Holds self.old st → IsSound st
+            → OnOk result (Does st (mark_as st (Opens (submission st (request_view request.now) (Now status) [])) None) self.old self.new out.old out.new) }
+        ensures err { OnErr result (Leaves self.old self.new out.old out.new) }
     {
-        notes.push(Note::Submitted {
+        out.notes.push(Note::Submitted {
             seqnum: request.number,
             id: 0,
         })?;
-        write_without_packets(self.alloc, &request.asked(), status, to_client)?;
+        write_without_packets(self.alloc, &request.asked(), status, &mut out.to_client)?;
         self.answered = self.answered.saturating_add(1);
         Ok(())
     }
 
     /// A transfer goes to the host as a packet of its own kind.
-    fn send(
-        &mut self,
-        pipe: Pipe,
-        request: Request,
-        to_host: &mut Bytes,
-        notes: &mut Notes,
-    ) -> Result<(), Memory>
+    fn send(&mut self, pipe: Pipe, request: Request, out: &mut Outputs) -> Result<(), Memory>
         requires kept { IsKept self.old }
         requires free { IsFree self.old request.number }
         requires sent { IsSent (wide_bulk self.old.caps) (pipe_view pipe) request.transfer }
         requires answered { CanAnswer (request_view request) (kind_of (Wire (pipe_view pipe)) request.transfer.ep) }
         ensures kept { IsKept self.new }
-        ensures ok { (st : State) (client : List ℕ) → Holds self.old st → IsSound st
-            → OnOk result (Does st (mark_as st (Opens (submission st (request_view request) (Wire (pipe_view pipe)) (next_ids st 1))) None) self.old self.new client client to_host.old to_host.new notes.old notes.new) }
-        ensures err { (client : List ℕ) → OnErr result (Leaves self.old self.new client client to_host.old to_host.new notes.old notes.new) }
+        ensures ok { (st : State) → Holds self.old st → IsSound st
+            → OnOk result (Does st (mark_as st (Opens (submission st (request_view request) (Wire (pipe_view pipe)) (next_ids st 1))) None) self.old self.new out.old out.new) }
+        ensures err { OnErr result (Leaves self.old self.new out.old out.new) }
     {
         let id = self.draw(self.last);
-        notes.push(Note::Submitted {
+        out.notes.push(Note::Submitted {
             seqnum: request.number,
             id,
         })?;
@@ -168,7 +138,8 @@ impl Kept {
             ep: transfer.ep,
             kind: pipe.kind(),
         };
-        write_wire(pipe, transfer, id, self.caps, to_host)?;
+        let packet = wire_packet(pipe, transfer);
+        move_data(packet, id, Way::ToHost, self.caps, &mut out.to_host)?;
         let live = Live {
             seqnum: number,
             id,
@@ -190,9 +161,7 @@ impl Kept {
         &mut self,
         route: Route,
         request: Request,
-        to_client: &mut Bytes,
-        to_host: &mut Bytes,
-        notes: &mut Notes,
+        out: &mut Outputs,
     ) -> Result<(), Memory>
         requires kept { IsKept self.old }
         requires free { IsFree self.old request.number }
@@ -200,14 +169,14 @@ impl Kept {
         requires some { 1 ≤ length (route_packets route) }
         ensures kept { IsKept self.new }
         ensures ok { (st : State) → Holds self.old st → IsSound st
-            → OnOk result (Does st (mark_as st (Opens (submission st (request_view request) (verdict.Routed route) (drawn_for st (request_view request) (verdict.Routed route)))) None) self.old self.new to_client.old to_client.new to_host.old to_host.new notes.old notes.new) }
-        ensures err { OnErr result (Leaves self.old self.new to_client.old to_client.new to_host.old to_host.new notes.old notes.new) }
+            → OnOk result (Does st (mark_as st (Opens (submission st (request_view request) (verdict.Routed route) (drawn_for st (request_view request) (verdict.Routed route)))) None) self.old self.new out.old out.new) }
+        ensures err { OnErr result (Leaves self.old self.new out.old out.new) }
     {
         let end = StreamEnd::Change(route);
-        self.write_ends(&end, ESHUTDOWN, to_client)?;
-        let called = self.write_stops(Some(route), to_host)?;
-        let id = self.ask_route(&route, called.last, to_host)?;
-        notes.push(Note::Submitted {
+        self.write_ends(&end, ESHUTDOWN, &mut out.to_client)?;
+        let called = self.write_stops(Some(route), &mut out.to_host)?;
+        let id = self.ask_route(&route, called.last, &mut out.to_host)?;
+        out.notes.push(Note::Submitted {
             seqnum: request.number,
             id,
         })?;

@@ -16,10 +16,11 @@ ghost use Rattle.gate_core.specs.inner.Unlink.{asked_of, CancelFits, HasMarked, 
 ghost use Rattle.gate_core.specs.inner.Holds.{IsKept, Holds, Does, Leaves};
 
 use crate::state::kept::Kept;
-use gate_history::{Note, Notes};
+use crate::write::outputs::Outputs;
+use gate_history::Note;
 use gate_parts::{ECONNRESET, client_refusal, write_cancel, write_ret_unlink};
 use unlink_race::LiveKind;
-use usb_base::{Bytes, Memory, Reason};
+use usb_base::{Memory, Reason};
 use usbip_urb::Unlink;
 
 /// What an unlink is told.
@@ -37,49 +38,35 @@ pub enum Asked {
 
 impl Kept {
     /// An unlink: a client that hasn't imported the device can't send one.
-    pub fn unlink(
-        &mut self,
-        place: u64,
-        unlink: &Unlink,
-        to_client: &mut Bytes,
-        to_host: &mut Bytes,
-        notes: &mut Notes,
-    ) -> Result<(), Memory>
+    pub fn unlink(&mut self, place: u64, unlink: &Unlink, out: &mut Outputs) -> Result<(), Memory>
         requires kept { IsKept self.old }
         ensures kept { IsKept self.new }
         ensures ok { (st : State) (at : ℕ) → place ≡ capped at → Holds self.old st → IsSound st → st.client_over ≡ false
-            → OnOk result (Does st (mark_as st (urb_meaning st at (UnlinkPacket unlink.now)) None) self.old self.new to_client.old to_client.new to_host.old to_host.new notes.old notes.new) }
-        ensures err { OnErr result (Leaves self.old self.new to_client.old to_client.new to_host.old to_host.new notes.old notes.new) }
+            → OnOk result (Does st (mark_as st (urb_meaning st at (UnlinkPacket unlink.now)) None) self.old self.new out.old out.new) }
+        ensures err { OnErr result (Leaves self.old self.new out.old out.new) }
     {
         if !self.imported {
-            return self.refuse_client(client_refusal(place, Reason::NotImported), to_host, notes);
+            return self.refuse_client(client_refusal(place, Reason::NotImported), out);
         }
-        self.ask_back(unlink.head.seqnum, unlink.target, to_client, to_host, notes)
+        self.ask_back(unlink.head.seqnum, unlink.target, out)
     }
 
     /// The unlink `by` asks for the submit `target` to be taken back. The first that does so is kept.
-    fn ask_back(
-        &mut self,
-        by: u32,
-        target: u32,
-        to_client: &mut Bytes,
-        to_host: &mut Bytes,
-        notes: &mut Notes,
-    ) -> Result<(), Memory>
+    fn ask_back(&mut self, by: u32, target: u32, out: &mut Outputs) -> Result<(), Memory>
         requires kept { IsKept self.old }
         ensures kept { IsKept self.new }
         ensures ok { (st : State) → Holds self.old st → IsSound st
-            → OnOk result (Does st (mark_as st (Unlinks by target) None) self.old self.new to_client.old to_client.new to_host.old to_host.new notes.old notes.new) }
-        ensures err { OnErr result (Leaves self.old self.new to_client.old to_client.new to_host.old to_host.new notes.old notes.new) }
+            → OnOk result (Does st (mark_as st (Unlinks by target) None) self.old self.new out.old out.new) }
+        ensures err { OnErr result (Leaves self.old self.new out.old out.new) }
     {
-        notes.push(Note::UnlinkAsked { by, target })?;
+        out.notes.push(Note::UnlinkAsked { by, target })?;
         let Some(at) = self.lives.place_of_number(target) else {
-            return write_ret_unlink(by, 0, to_client);
+            return write_ret_unlink(by, 0, &mut out.to_client);
         };
         match self.asked(at) {
-            Asked::Late => write_ret_unlink(by, 0, to_client),
+            Asked::Late => write_ret_unlink(by, 0, &mut out.to_client),
             Asked::Cancel(id) => {
-                write_cancel(id, self.caps, to_host)?;
+                write_cancel(id, self.caps, &mut out.to_host)?;
                 self.mark(at, by);
                 Ok(())
             }
@@ -88,7 +75,7 @@ impl Kept {
                 Ok(())
             }
             Asked::Taken => {
-                write_ret_unlink(by, ECONNRESET, to_client)?;
+                write_ret_unlink(by, ECONNRESET, &mut out.to_client)?;
                 self.take_back(at);
                 Ok(())
             }

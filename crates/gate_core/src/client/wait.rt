@@ -14,6 +14,7 @@ ghost use Rattle.gate_core.specs.inner.Holds.{IsKept, Holds, Does, Leaves, IsFre
 ghost use Rattle.gate_parts.specs.write.Extends.{Extends};
 
 use crate::state::kept::Kept;
+use crate::write::outputs::Outputs;
 use gate_history::{Note, Notes, Request};
 use gate_parts::{Up, row_of};
 use unlink_race::LiveKind;
@@ -22,27 +23,20 @@ use usb_base::{Bytes, EpRow, Memory};
 impl Kept {
     /// A request waits for packets of its endpoint's stream. It is started where it isn't up; one that is up keeps its
     /// row, and may hold packets that fill the request.
-    pub fn wait(
-        &mut self,
-        row: EpRow,
-        request: Request,
-        to_client: &mut Bytes,
-        to_host: &mut Bytes,
-        notes: &mut Notes,
-    ) -> Result<(), Memory>
+    pub fn wait(&mut self, row: EpRow, request: Request, out: &mut Outputs) -> Result<(), Memory>
         requires kept { IsKept self.old }
         requires free { IsFree self.old request.number }
         requires waits { CanWait (request_view request) }
         ensures kept { IsKept self.new }
         ensures ok { (st : State) → Holds self.old st → IsSound st
-            → OnOk result (Does st (mark_as st (accepts st (request_view request) (Stream row)) None) self.old self.new to_client.old to_client.new to_host.old to_host.new notes.old notes.new) }
-        ensures err { OnErr result (Leaves self.old self.new to_client.old to_client.new to_host.old to_host.new notes.old notes.new) }
+            → OnOk result (Does st (mark_as st (accepts st (request_view request) (Stream row)) None) self.old self.new out.old out.new) }
+        ensures err { OnErr result (Leaves self.old self.new out.old out.new) }
     {
         let ep = request.ep();
         let Some(mut up) = self.streams.take(ep) else {
-            return self.start(row, request, to_host, notes);
+            return self.start(row, request, out);
         };
-        let joined = self.join(&mut up, request, to_client, notes);
+        let joined = self.join(&mut up, request, &mut out.to_client, &mut out.notes);
         self.streams.put(ep, up);
         joined
     }
@@ -88,28 +82,22 @@ impl Kept {
     }
 
     /// A request waits for a stream that it starts.
-    fn start(
-        &mut self,
-        row: EpRow,
-        request: Request,
-        to_host: &mut Bytes,
-        notes: &mut Notes,
-    ) -> Result<(), Memory>
+    fn start(&mut self, row: EpRow, request: Request, out: &mut Outputs) -> Result<(), Memory>
         requires kept { IsKept self.old }
         requires free { IsFree self.old request.number }
         requires waits { CanWait (request_view request) }
         requires down { stream_at self.old.streams request.transfer.ep ≡ None }
         ensures kept { IsKept self.new }
-        ensures ok { (st : State) (client : List ℕ) → Holds self.old st → IsSound st
-            → OnOk result (Does st (mark_as st (accepts st (request_view request) (Stream row)) None) self.old self.new client client to_host.old to_host.new notes.old notes.new) }
-        ensures err { (client : List ℕ) → OnErr result (Leaves self.old self.new client client to_host.old to_host.new notes.old notes.new) }
+        ensures ok { (st : State) → Holds self.old st → IsSound st
+            → OnOk result (Does st (mark_as st (accepts st (request_view request) (Stream row)) None) self.old self.new out.old out.new) }
+        ensures err { OnErr result (Leaves self.old self.new out.old out.new) }
     {
-        notes.push(Note::Submitted {
+        out.notes.push(Note::Submitted {
             seqnum: request.number,
             id: 0,
         })?;
         let ep = request.ep();
-        let called = self.write_start(ep, row, to_host)?;
+        let called = self.write_start(ep, row, &mut out.to_host)?;
         let kind = LiveKind::Stream {
             ep,
             interface: row.interface,

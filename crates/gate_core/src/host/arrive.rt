@@ -13,6 +13,7 @@ ghost use Rattle.gate_core.specs.inner.Holds.{IsKept, Holds, Does, Leaves};
 ghost use Rattle.gate_parts.specs.write.Extends.{Extends};
 
 use crate::state::kept::Kept;
+use crate::write::outputs::Outputs;
 use gate_history::{Note, Notes};
 use gate_parts::{StreamIn, Up, finish_fronts, write_fillings};
 use usb_base::{Bytes, EpAddr, Memory, StreamPacket};
@@ -23,14 +24,13 @@ impl Kept {
         &mut self,
         stream: StreamIn,
         packet: StreamPacket,
-        to_client: &mut Bytes,
-        notes: &mut Notes,
+        out: &mut Outputs,
     ) -> Result<(), Memory>
         requires kept { IsKept self.old }
         ensures kept { IsKept self.new }
-        ensures ok { (st : State) (host : List ℕ) → Holds self.old st → IsSound st
-            → OnOk result (Does st (mark_as st (arrives st stream.endpoint stream.is_iso packet (stream_of st.streams stream.endpoint)) None) self.old self.new to_client.old to_client.new host host notes.old notes.new) }
-        ensures err { (host : List ℕ) → OnErr result (Leaves self.old self.new to_client.old to_client.new host host notes.old notes.new) }
+        ensures ok { (st : State) → Holds self.old st → IsSound st
+            → OnOk result (Does st (mark_as st (arrives st stream.endpoint stream.is_iso packet (stream_of st.streams stream.endpoint)) None) self.old self.new out.old out.new) }
+        ensures err { OnErr result (Leaves self.old self.new out.old out.new) }
         ensures wants { (st : State) → Holds self.old st → OnErr result (GivesSome st (mark_as st (arrives st stream.endpoint stream.is_iso packet (stream_of st.streams stream.endpoint)) None)) }
     {
         let Some(ep) = EpAddr::new(stream.endpoint) else {
@@ -39,7 +39,14 @@ impl Kept {
         let Some(mut up) = self.streams.take(ep) else {
             return Ok(());
         };
-        let received = self.receive(ep, &mut up, stream.is_iso, packet, to_client, notes);
+        let received = self.receive(
+            ep,
+            &mut up,
+            stream.is_iso,
+            packet,
+            &mut out.to_client,
+            &mut out.notes,
+        );
         self.streams.put(ep, up);
         received
     }

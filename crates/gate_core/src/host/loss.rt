@@ -17,6 +17,7 @@ ghost use Rattle.gate_parts.specs.write.Extends.{Extends};
 ghost use Rattle.gate_parts.specs.state.Rows.{lost_bytes, is_asked_back};
 
 use crate::state::kept::Kept;
+use crate::write::outputs::Outputs;
 use gate_history::{Facts, Note, Notes};
 use gate_parts::{acknowledge, write_lost};
 use usb_base::{Bytes, Memory, Refusal};
@@ -61,59 +62,48 @@ impl Kept {
     }
 
     /// The host has ended: its device is lost with it.
-    pub fn host_left(&mut self, to_client: &mut Bytes, notes: &mut Notes) -> Result<(), Memory>
+    pub fn host_left(&mut self, out: &mut Outputs) -> Result<(), Memory>
         requires kept { IsKept self.old }
         ensures kept { IsKept self.new }
-        ensures ok { (st : State) (host : List ℕ) → Holds self.old st → OnOk result (Does st (mark_as st (Ends Host) None) self.old self.new to_client.old to_client.new host host notes.old notes.new) }
-        ensures err { (host : List ℕ) → OnErr result (Leaves self.old self.new to_client.old to_client.new host host notes.old notes.new) }
+        ensures ok { (st : State) → Holds self.old st → OnOk result (Does st (mark_as st (Ends Host) None) self.old self.new out.old out.new) }
+        ensures err { OnErr result (Leaves self.old self.new out.old out.new) }
         ensures wants { (st : State) → Holds self.old st → OnErr result (GivesSome st (mark_as st (Ends Host) None)) }
     {
-        let unlinked = self.write_losses(to_client)?;
-        self.tell_loss(notes)?;
+        let unlinked = self.write_losses(&mut out.to_client)?;
+        self.tell_loss(&mut out.notes)?;
         self.lose(unlinked);
         self.host_over = true;
         Ok(())
     }
 
     /// The host is refused: its device is lost with it.
-    pub fn refuse_host(
-        &mut self,
-        refusal: Refusal,
-        to_client: &mut Bytes,
-        notes: &mut Notes,
-    ) -> Result<(), Memory>
+    pub fn refuse_host(&mut self, refusal: Refusal, out: &mut Outputs) -> Result<(), Memory>
         requires kept { IsKept self.old }
         requires side { refusal.side ≡ Host }
         ensures kept { IsKept self.new }
-        ensures ok { (st : State) (host : List ℕ) → Holds self.old st → OnOk result (Does st (mark_as st (Refuses refusal) None) self.old self.new to_client.old to_client.new host host notes.old notes.new) }
-        ensures err { (host : List ℕ) → OnErr result (Leaves self.old self.new to_client.old to_client.new host host notes.old notes.new) }
+        ensures ok { (st : State) → Holds self.old st → OnOk result (Does st (mark_as st (Refuses refusal) None) self.old self.new out.old out.new) }
+        ensures err { OnErr result (Leaves self.old self.new out.old out.new) }
     {
-        let unlinked = self.write_losses(to_client)?;
-        self.tell_loss(notes)?;
-        notes.push(Note::Refused(refusal))?;
+        let unlinked = self.write_losses(&mut out.to_client)?;
+        self.tell_loss(&mut out.notes)?;
+        out.notes.push(Note::Refused(refusal))?;
         self.lose(unlinked);
         self.host_over = true;
         Ok(())
     }
 
     /// The device is gone, and the host waits for this packet of it to be acknowledged.
-    pub fn disconnect(
-        &mut self,
-        id: u64,
-        to_client: &mut Bytes,
-        to_host: &mut Bytes,
-        notes: &mut Notes,
-    ) -> Result<(), Memory>
+    pub fn disconnect(&mut self, id: u64, out: &mut Outputs) -> Result<(), Memory>
         requires kept { IsKept self.old }
         requires id_fits { IdFits (wide_ids self.old.caps) id }
         ensures kept { IsKept self.new }
-        ensures ok { (st : State) → Holds self.old st → OnOk result (Does st (mark_as st (Disconnects id) None) self.old self.new to_client.old to_client.new to_host.old to_host.new notes.old notes.new) }
-        ensures err { OnErr result (Leaves self.old self.new to_client.old to_client.new to_host.old to_host.new notes.old notes.new) }
+        ensures ok { (st : State) → Holds self.old st → OnOk result (Does st (mark_as st (Disconnects id) None) self.old self.new out.old out.new) }
+        ensures err { OnErr result (Leaves self.old self.new out.old out.new) }
         ensures wants { (st : State) → Holds self.old st → OnErr result (GivesSome st (mark_as st (Disconnects id) None)) }
     {
-        let unlinked = self.write_losses(to_client)?;
-        self.tell_loss(notes)?;
-        acknowledge(id, self.caps, to_host)?;
+        let unlinked = self.write_losses(&mut out.to_client)?;
+        self.tell_loss(&mut out.notes)?;
+        acknowledge(id, self.caps, &mut out.to_host)?;
         self.lose(unlinked);
         Ok(())
     }

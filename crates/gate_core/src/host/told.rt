@@ -26,14 +26,15 @@ ghost use Rattle.gate_core.specs.inner.Holds.{IsKept, Holds, Does, Leaves};
 ghost use Rattle.gate_history.specs.step.Fits.{ResponseFits, ToldFits};
 
 use crate::state::kept::Kept;
-use gate_history::{Note, Notes};
+use crate::write::outputs::Outputs;
+use gate_history::Note;
 use gate_parts::{
     Response, data_of, head_size, lifted, mismatch, status_of, stream_in, stream_packet,
     write_completed,
 };
 use redir_data::{RedirData, RedirPacket};
 use redir_wire::{ANNOUNCED, Caps, Header, Hello, RedirControl};
-use usb_base::{Bytes, Memory, Refusal, UsbStatus};
+use usb_base::{Memory, Refusal, UsbStatus};
 
 impl Kept {
     /// Takes a packet of the host, which begins at `place` of its stream.
@@ -42,25 +43,19 @@ impl Kept {
         place: u64,
         header: Header,
         packet: RedirPacket,
-        to_client: &mut Bytes,
-        to_host: &mut Bytes,
-        notes: &mut Notes,
+        out: &mut Outputs,
     ) -> Result<(), Memory>
         requires kept { IsKept self.old }
         requires fits { ToldFits self.old.caps header packet }
         ensures kept { IsKept self.new }
         ensures ok { (st : State) (at : ℕ) → place ≡ capped at → Holds self.old st → IsSound st → st.host_over ≡ false
-            → OnOk result (Does st (mark_as st (told_meaning st at header packet) (fact_of packet)) self.old self.new to_client.old to_client.new to_host.old to_host.new notes.old notes.new) }
-        ensures err { OnErr result (Leaves self.old self.new to_client.old to_client.new to_host.old to_host.new notes.old notes.new) }
+            → OnOk result (Does st (mark_as st (told_meaning st at header packet) (fact_of packet)) self.old self.new out.old out.new) }
+        ensures err { OnErr result (Leaves self.old self.new out.old out.new) }
         ensures wants { (st : State) (at : ℕ) → place ≡ capped at → Holds self.old st → IsSound st → OnErr result (GivesSome st (mark_as st (told_meaning st at header packet) (fact_of packet))) }
     {
         match packet {
-            RedirPacket::Plain(packet) => {
-                self.told_control(place, &header, &packet, to_client, to_host, notes)
-            }
-            RedirPacket::Carrying(packet) => {
-                self.told_data(place, &header, packet, to_client, notes)
-            }
+            RedirPacket::Plain(packet) => { self.told_control(place, &header, &packet, out) }
+            RedirPacket::Carrying(packet) => { self.told_data(place, &header, packet, out) }
         }
     }
 
@@ -70,21 +65,20 @@ impl Kept {
         place: u64,
         header: &Header,
         packet: RedirData,
-        to_client: &mut Bytes,
-        notes: &mut Notes,
+        out: &mut Outputs,
     ) -> Result<(), Memory>
         requires kept { IsKept self.old }
         requires fits { ResponseFits header.now.kind (response_of (Carrying packet)) }
         ensures kept { IsKept self.new }
-        ensures ok { (st : State) (at : ℕ) (host : List ℕ) → place ≡ capped at → Holds self.old st → IsSound st
-            → OnOk result (Does st (mark_as st (data_meaning st at header.now packet) None) self.old self.new to_client.old to_client.new host host notes.old notes.new) }
-        ensures err { (host : List ℕ) → OnErr result (Leaves self.old self.new to_client.old to_client.new host host notes.old notes.new) }
+        ensures ok { (st : State) (at : ℕ) → place ≡ capped at → Holds self.old st → IsSound st
+            → OnOk result (Does st (mark_as st (data_meaning st at header.now packet) None) self.old self.new out.old out.new) }
+        ensures err { OnErr result (Leaves self.old self.new out.old out.new) }
         ensures wants { (st : State) (at : ℕ) → place ≡ capped at → Holds self.old st → IsSound st → OnErr result (GivesSome st (mark_as st (data_meaning st at header.now packet) None)) }
     {
         let Some(stream) = stream_in(&packet) else {
-            return self.respond(place, header, data_of(packet), to_client, notes);
+            return self.respond(place, header, data_of(packet), out);
         };
-        self.arrive(stream, stream_packet(packet), to_client, notes)
+        self.arrive(stream, stream_packet(packet), out)
     }
 
     /// Takes a packet that moves no data.
@@ -93,16 +87,14 @@ impl Kept {
         place: u64,
         header: &Header,
         packet: &RedirControl,
-        to_client: &mut Bytes,
-        to_host: &mut Bytes,
-        notes: &mut Notes,
+        out: &mut Outputs,
     ) -> Result<(), Memory>
         requires kept { IsKept self.old }
         requires fits { ToldFits self.old.caps header.now (Plain packet.now) }
         ensures kept { IsKept self.new }
         ensures ok { (st : State) (at : ℕ) → place ≡ capped at → Holds self.old st → IsSound st → st.host_over ≡ false
-            → OnOk result (Does st (mark_as st (told_meaning st at header.now (Plain packet.now)) (fact_of (Plain packet.now))) self.old self.new to_client.old to_client.new to_host.old to_host.new notes.old notes.new) }
-        ensures err { OnErr result (Leaves self.old self.new to_client.old to_client.new to_host.old to_host.new notes.old notes.new) }
+            → OnOk result (Does st (mark_as st (told_meaning st at header.now (Plain packet.now)) (fact_of (Plain packet.now))) self.old self.new out.old out.new) }
+        ensures err { OnErr result (Leaves self.old self.new out.old out.new) }
         ensures wants { (st : State) (at : ℕ) → place ≡ capped at → Holds self.old st → IsSound st → OnErr result (GivesSome st (mark_as st (told_meaning st at header.now (Plain packet.now)) (fact_of (Plain packet.now)))) }
     {
         match packet {
@@ -110,14 +102,14 @@ impl Kept {
                 self.agree(hello);
                 Ok(())
             }
-            RedirControl::Disconnect => self.disconnect(header.id, to_client, to_host, notes),
+            RedirControl::Disconnect => self.disconnect(header.id, out),
             RedirControl::IsoStatus { status, endpoint } => {
-                self.told_stream(header.id, *endpoint, *status, to_client)
+                self.told_stream(header.id, *endpoint, *status, out)
             }
             RedirControl::InterruptStatus { status, endpoint } => {
-                self.told_stream(header.id, *endpoint, *status, to_client)
+                self.told_stream(header.id, *endpoint, *status, out)
             }
-            _ => self.told_fact(place, header, packet, to_client, notes),
+            _ => self.told_fact(place, header, packet, out),
         }
     }
 
@@ -137,16 +129,16 @@ impl Kept {
         id: u64,
         endpoint: u8,
         status: u8,
-        to_client: &mut Bytes,
+        out: &mut Outputs,
     ) -> Result<(), Memory>
         requires kept { IsKept self.old }
         ensures kept { IsKept self.new }
-        ensures ok { (st : State) (host : List ℕ) (notes : List Note) → Holds self.old st → IsSound st
-            → OnOk result (Does st (mark_as st (StreamTold id endpoint (status_of status)) None) self.old self.new to_client.old to_client.new host host notes notes) }
-        ensures err { (host : List ℕ) (notes : List Note) → OnErr result (Leaves self.old self.new to_client.old to_client.new host host notes notes) }
+        ensures ok { (st : State) → Holds self.old st → IsSound st
+            → OnOk result (Does st (mark_as st (StreamTold id endpoint (status_of status)) None) self.old self.new out.old out.new) }
+        ensures err { OnErr result (Leaves self.old self.new out.old out.new) }
         ensures wants { (st : State) → Holds self.old st → IsSound st → OnErr result (GivesSome st (mark_as st (StreamTold id endpoint (status_of status)) None)) }
     {
-        self.end_stream(endpoint, UsbStatus::from_byte(status), to_client)?;
+        self.end_stream(endpoint, UsbStatus::from_byte(status), &mut out.to_client)?;
         self.fence = lifted(id, self.fence);
         Ok(())
     }
@@ -157,18 +149,17 @@ impl Kept {
         place: u64,
         header: &Header,
         packet: &RedirControl,
-        to_client: &mut Bytes,
-        notes: &mut Notes,
+        out: &mut Outputs,
     ) -> Result<(), Memory>
         requires kept { IsKept self.old }
         requires fits { ResponseFits header.now.kind (response_of (Plain packet.now)) }
         ensures kept { IsKept self.new }
-        ensures ok { (st : State) (at : ℕ) (host : List ℕ) → place ≡ capped at → Holds self.old st → IsSound st → st.host_over ≡ false
-            → OnOk result (Does st (mark_as st (by_response st at header.now (response_of (Plain packet.now))) (fact_of (Plain packet.now))) self.old self.new to_client.old to_client.new host host notes.old notes.new) }
-        ensures err { (host : List ℕ) → OnErr result (Leaves self.old self.new to_client.old to_client.new host host notes.old notes.new) }
+        ensures ok { (st : State) (at : ℕ) → place ≡ capped at → Holds self.old st → IsSound st → st.host_over ≡ false
+            → OnOk result (Does st (mark_as st (by_response st at header.now (response_of (Plain packet.now))) (fact_of (Plain packet.now))) self.old self.new out.old out.new) }
+        ensures err { OnErr result (Leaves self.old self.new out.old out.new) }
         ensures wants { (st : State) (at : ℕ) → place ≡ capped at → Holds self.old st → IsSound st → OnErr result (GivesSome st (mark_as st (by_response st at header.now (response_of (Plain packet.now))) (fact_of (Plain packet.now)))) }
     {
-        self.respond(place, header, status_of(packet), to_client, notes)?;
+        self.respond(place, header, status_of(packet), out)?;
         self.learn(packet);
         Ok(())
     }
@@ -190,19 +181,18 @@ impl Kept {
         place: u64,
         header: &Header,
         response: Option<Response>,
-        to_client: &mut Bytes,
-        notes: &mut Notes,
+        out: &mut Outputs,
     ) -> Result<(), Memory>
         requires kept { IsKept self.old }
         requires fits { ResponseFits header.now.kind (option_map response_view response) }
         ensures kept { IsKept self.new }
-        ensures ok { (st : State) (at : ℕ) (host : List ℕ) → place ≡ capped at → Holds self.old st → IsSound st
-            → OnOk result (Does st (mark_as st (by_response st at header.now (option_map response_view response)) None) self.old self.new to_client.old to_client.new host host notes.old notes.new) }
-        ensures err { (host : List ℕ) → OnErr result (Leaves self.old self.new to_client.old to_client.new host host notes.old notes.new) }
+        ensures ok { (st : State) (at : ℕ) → place ≡ capped at → Holds self.old st → IsSound st
+            → OnOk result (Does st (mark_as st (by_response st at header.now (option_map response_view response)) None) self.old self.new out.old out.new) }
+        ensures err { OnErr result (Leaves self.old self.new out.old out.new) }
         ensures wants { (st : State) (at : ℕ) → place ≡ capped at → Holds self.old st → IsSound st → OnErr result (GivesSome st (mark_as st (by_response st at header.now (option_map response_view response)) None)) }
     {
         match response {
-            Some(response) => self.answer(place, header, response, to_client, notes),
+            Some(response) => self.answer(place, header, response, out),
             None => Ok(()),
         }
     }
@@ -214,24 +204,23 @@ impl Kept {
         place: u64,
         header: &Header,
         response: Response,
-        to_client: &mut Bytes,
-        notes: &mut Notes,
+        out: &mut Outputs,
     ) -> Result<(), Memory>
         requires kept { IsKept self.old }
         requires fits { ResponseFits header.now.kind (Some (response_view response)) }
         ensures kept { IsKept self.new }
-        ensures ok { (st : State) (at : ℕ) (host : List ℕ) → place ≡ capped at → Holds self.old st → IsSound st
-            → OnOk result (Does st (mark_as st (by_response st at header.now (Some (response_view response))) None) self.old self.new to_client.old to_client.new host host notes.old notes.new) }
-        ensures err { (host : List ℕ) → OnErr result (Leaves self.old self.new to_client.old to_client.new host host notes.old notes.new) }
+        ensures ok { (st : State) (at : ℕ) → place ≡ capped at → Holds self.old st → IsSound st
+            → OnOk result (Does st (mark_as st (by_response st at header.now (Some (response_view response))) None) self.old self.new out.old out.new) }
+        ensures err { OnErr result (Leaves self.old self.new out.old out.new) }
         ensures wants { (st : State) (at : ℕ) → place ≡ capped at → Holds self.old st → IsSound st → OnErr result (GivesSome st (mark_as st (by_response st at header.now (Some (response_view response))) None)) }
     {
         let Some(at) = self.lives.place_of_id(header.id) else {
             return Ok(());
         };
         if let Some(refusal) = self.mismatch_of(at, place, header, &response) {
-            return self.refuse_host(refusal, to_client, notes);
+            return self.refuse_host(refusal, out);
         }
-        self.complete(at, response, to_client, notes)
+        self.complete(at, response, out)
     }
 
     /// What is wrong of an answer of the request in flight at a place, whether its client is there or gone.
@@ -251,27 +240,27 @@ impl Kept {
     }
 
     /// The request in flight at a place ends by its answer. Of one whose client is gone nothing is sent.
-    fn complete(
-        &mut self,
-        at: usize,
-        response: Response,
-        to_client: &mut Bytes,
-        notes: &mut Notes,
-    ) -> Result<(), Memory>
+    fn complete(&mut self, at: usize, response: Response, out: &mut Outputs) -> Result<(), Memory>
         requires kept { IsKept self.old }
         requires there { at < length (in_flight self.old.lives) }
         requires fits { IfSome (slice_get self.old.lives.live at) (λ l. IsAnswer l (response_view response)) }
         ensures kept { IsKept self.new }
-        ensures ok { (st : State) (host : List ℕ) (id : ℕ) → position (has_id id) (in_flight self.old.lives) ≡ Some at → Holds self.old st → IsSound st
-            → OnOk result (Does st (mark_as st (completes id (response_view response) (find (submit_has_id id) (submits st ++ st.abandoned))) None) self.old self.new to_client.old to_client.new host host notes.old notes.new) }
-        ensures err { (host : List ℕ) → OnErr result (Leaves self.old self.new to_client.old to_client.new host host notes.old notes.new) }
+        ensures ok { (st : State) (id : ℕ) → position (has_id id) (in_flight self.old.lives) ≡ Some at → Holds self.old st → IsSound st
+            → OnOk result (Does st (mark_as st (completes id (response_view response) (find (submit_has_id id) (submits st ++ st.abandoned))) None) self.old self.new out.old out.new) }
+        ensures err { OnErr result (Leaves self.old self.new out.old out.new) }
         ensures wants { (st : State) (id : ℕ) → position (has_id id) (in_flight self.old.lives) ≡ Some at → Holds self.old st → IsSound st → OnErr result (GivesSome st (mark_as st (completes id (response_view response) (find (submit_has_id id) (submits st ++ st.abandoned))) None)) }
     {
         let Some(live) = self.lives.at(at) else {
             self.lives.finish_at(at);
             return Ok(());
         };
-        let won = write_completed(self.alloc, live, response, to_client, notes)?;
+        let won = write_completed(
+            self.alloc,
+            live,
+            response,
+            &mut out.to_client,
+            &mut out.notes,
+        )?;
         self.lives.finish_at(at);
         self.answered = self.answered.saturating_add(u64::from(!won));
         self.unlinked = self.unlinked.saturating_add(u64::from(won));

@@ -11,11 +11,12 @@ ghost use Rattle.gate_core.specs.inner.Sides.{IsSide, IsAt, FitsNext, TakesPiece
 use crate::state::kept::Kept;
 use crate::step::side::GateSide;
 use crate::step::translator::Translator;
-use gate_history::{Event, Item, Notes};
+use crate::write::outputs::Outputs;
+use gate_history::{Event, Item};
 use packet_stream::{ReadError, Stream};
 use redir_data::{FromHost, RedirState};
 use std::alloc::Global;
-use usb_base::{Bytes, Memory};
+use usb_base::Memory;
 use usbip_urb::ClientFormat;
 
 /// Both streams, and what is kept of their items.
@@ -46,15 +47,9 @@ impl Inner {
     }
 
     /// Takes the next event.
-    pub fn take(
-        &mut self,
-        event: Event,
-        to_client: &mut Bytes,
-        to_host: &mut Bytes,
-        notes: &mut Notes,
-    ) -> Result<(), Memory>
+    pub fn take(&mut self, event: Event, out: &mut Outputs) -> Result<(), Memory>
         requires { HasPast (kept_of self.old) }
-        ensures { TakesEvent result self.old self.new (event_of event.entry) to_client.old to_client.new to_host.old to_host.new notes.old notes.new }
+        ensures { TakesEvent result self.old self.new (event_of event.entry) out.old out.new }
     {
         match event {
             Event::ClientPiece(piece) => take_piece(
@@ -62,55 +57,39 @@ impl Inner {
                 &mut self.client,
                 &mut self.translator,
                 piece,
-                to_client,
-                to_host,
-                notes,
+                out,
             ),
-            Event::ClientEnd => self.change_client(to_client, to_host, notes),
+            Event::ClientEnd => self.change_client(out),
             Event::HostPiece(piece) => take_piece(
                 self.alloc,
                 &mut self.host,
                 &mut self.translator,
                 piece,
-                to_client,
-                to_host,
-                notes,
+                out,
             ),
-            Event::HostEnd => self.end_host(to_client, to_host, notes),
+            Event::HostEnd => self.end_host(out),
         }
     }
 
     /// Takes the client's end. The next client may come.
-    fn change_client(
-        &mut self,
-        to_client: &mut Bytes,
-        to_host: &mut Bytes,
-        notes: &mut Notes,
-    ) -> Result<(), Memory>
+    fn change_client(&mut self, out: &mut Outputs) -> Result<(), Memory>
         requires { HasPast (kept_of self.old) }
-        ensures { TakesEvent result self.old self.new ClientEnd to_client.old to_client.new to_host.old to_host.new notes.old notes.new }
+        ensures { TakesEvent result self.old self.new ClientEnd out.old out.new }
     {
-        self.translator
-            .take(Item::ClientLeft, to_client, to_host, notes)?;
+        self.translator.take(Item::ClientLeft, out)?;
         self.client = Stream::new(self.alloc, ());
         Ok(())
     }
 
     /// Takes the host's end.
-    fn end_host(
-        &mut self,
-        to_client: &mut Bytes,
-        to_host: &mut Bytes,
-        notes: &mut Notes,
-    ) -> Result<(), Memory>
+    fn end_host(&mut self, out: &mut Outputs) -> Result<(), Memory>
         requires { HasPast (kept_of self.old) }
-        ensures { TakesEvent result self.old self.new HostEnd to_client.old to_client.new to_host.old to_host.new notes.old notes.new }
+        ensures { TakesEvent result self.old self.new HostEnd out.old out.new }
     {
         if self.host.is_over() {
             return Ok(());
         }
-        self.translator
-            .take(Item::HostLeft, to_client, to_host, notes)?;
+        self.translator.take(Item::HostLeft, out)?;
         self.host.end();
         Ok(())
     }
@@ -122,18 +101,16 @@ fn take_piece<S: GateSide>(
     stream: &mut Stream<S>,
     translator: &mut Translator,
     piece: &[u8],
-    to_client: &mut Bytes,
-    to_host: &mut Bytes,
-    notes: &mut Notes,
+    out: &mut Outputs,
 ) -> Result<(), Memory>
     requires side { (first : ℕ) → IsSide first (S.half first) (reads S.format S.after) S.takes_memory S.over_in S.raw_packet S.raw_wrong }
     requires fits { FitsNext S.half (reads S.format S.after) S.takes_memory S.raw_packet S.raw_wrong }
     requires past { ∥ ((first : ℕ) × ((bytes : List ℕ) × ((before : List PastItem) × IsAt first (S.half first) stream.old translator.old bytes before))) ∥₁ }
-    ensures { TakesPiece result S.half stream.old stream.new translator.old translator.new piece.now to_client.old to_client.new to_host.old to_host.new notes.old notes.new }
+    ensures { TakesPiece result S.half stream.old stream.new translator.old translator.new piece.now out.old out.new }
 {
     stream.put(piece)?;
     'items: while let Some(item) = next_item(alloc, stream)? {
-        translator.take(item, to_client, to_host, notes)?;
+        translator.take(item, out)?;
         close(stream, translator.kept());
     }
     Ok(())

@@ -1,11 +1,9 @@
 //! What becomes of an item: each kind of packet is taken by the function that knows it.
 
-ghost use Rattle.std.specs.Prelude.{◌≡◌, ℕ, None, false, OnOk, OnErr};
-ghost use Rattle.usbip_urb.specs.ClientPackets.{IsClientPacket};
-ghost use Rattle.usbip_urb.specs.declared.client.ClientPacket.TheVariants.{Urb};
-ghost use Rattle.gate_history.specs.step.Items.{Item as PastItem, capped};
+ghost use Rattle.std.specs.Prelude.{◌≡◌, false, OnOk, OnErr};
+ghost use Rattle.gate_history.specs.step.Items.{Item as PastItem};
 ghost use Rattle.gate_history.specs.state.State.{State};
-ghost use Rattle.gate_history.specs.step.Meaning.{mark_as, asked_meaning, mark_of};
+ghost use Rattle.gate_history.specs.step.Meaning.{mark_of};
 ghost use Rattle.gate_history.specs.step.Past.{is_left_out};
 ghost use Rattle.gate_history.specs.state.Sound.{IsSound};
 ghost use Rattle.gate_history.specs.step.Wants.{GivesSome};
@@ -13,92 +11,45 @@ ghost use Rattle.gate_core.specs.inner.Holds.{IsKept, Holds, Does, Leaves};
 ghost use Rattle.gate_history.specs.step.Fits.{IsItem, ItemFits};
 
 use crate::state::kept::Kept;
-use gate_history::{Item, Notes};
+use crate::write::outputs::Outputs;
+use gate_history::Item;
 use gate_parts::{client_refusal, host_refusal};
-use usb_base::{Bytes, Memory};
+use usb_base::Memory;
 use usbip_urb::{ClientPacket, UrbPacket};
 
 impl Kept {
     /// Takes the next item of a side that isn't over.
-    pub fn take(
-        &mut self,
-        item: Item,
-        to_client: &mut Bytes,
-        to_host: &mut Bytes,
-        notes: &mut Notes,
-    ) -> Result<(), Memory>
+    pub fn take(&mut self, item: Item, out: &mut Outputs) -> Result<(), Memory>
         requires kept { IsKept self.old }
         requires fits { ItemFits self.old.caps item }
         ensures kept { IsKept self.new }
         ensures ok { (st : State) (x : PastItem) → IsItem item x → Holds self.old st → IsSound st → is_left_out st x ≡ false
-            → OnOk result (Does st (mark_of st x) self.old self.new to_client.old to_client.new to_host.old to_host.new notes.old notes.new) }
-        ensures err { OnErr result (Leaves self.old self.new to_client.old to_client.new to_host.old to_host.new notes.old notes.new) }
+            → OnOk result (Does st (mark_of st x) self.old self.new out.old out.new) }
+        ensures err { OnErr result (Leaves self.old self.new out.old out.new) }
         ensures wants { (st : State) (x : PastItem) → IsItem item x → Holds self.old st → IsSound st → OnErr result (GivesSome st (mark_of st x)) }
     {
         match item {
-            Item::Asked { place, packet } => self.take_client(
-                place, packet, to_client, to_host, notes,
-            ),
+            Item::Asked { place, packet } => match packet {
+                ClientPacket::Op(packet) => self.answer_op(place, &packet, out),
+                ClientPacket::Urb(UrbPacket::Submit(submit)) => self.submit(place, submit, out),
+                ClientPacket::Urb(UrbPacket::Unlink(unlink)) => self.unlink(place, &unlink, out),
+                // No client sends these.
+                ClientPacket::Urb(UrbPacket::RetSubmit(_)) => Ok(()),
+                ClientPacket::Urb(UrbPacket::RetUnlink(_)) => Ok(()),
+            },
             Item::ClientWrong { place, reason } => {
-                self.refuse_client(client_refusal(place, reason), to_host, notes)
+                self.refuse_client(client_refusal(place, reason), out)
             }
-            Item::ClientLeft => self.client_left(to_host, notes),
+            Item::ClientLeft => self.client_left(out),
             Item::Told {
                 place,
                 header,
                 packet,
-            } => self.told(place, header, packet, to_client, to_host, notes),
+            } => self.told(place, header, packet, out),
             Item::HostWrong { place, reason } => {
-                self.refuse_host(host_refusal(place, reason), to_client, notes)
+                self.refuse_host(host_refusal(place, reason), out)
             }
-            Item::HostLeft => self.host_left(to_client, notes),
-        }
-    }
-
-    /// Takes a packet of the client.
-    fn take_client(
-        &mut self,
-        place: u64,
-        packet: ClientPacket,
-        to_client: &mut Bytes,
-        to_host: &mut Bytes,
-        notes: &mut Notes,
-    ) -> Result<(), Memory>
-        requires kept { IsKept self.old }
-        requires fits { IsClientPacket packet }
-        ensures kept { IsKept self.new }
-        ensures ok { (st : State) (at : ℕ) → place ≡ capped at → Holds self.old st → IsSound st → st.client_over ≡ false
-            → OnOk result (Does st (mark_as st (asked_meaning st at packet) None) self.old self.new to_client.old to_client.new to_host.old to_host.new notes.old notes.new) }
-        ensures err { OnErr result (Leaves self.old self.new to_client.old to_client.new to_host.old to_host.new notes.old notes.new) }
-    {
-        match packet {
-            ClientPacket::Op(packet) => self.answer_op(place, &packet, to_client, to_host, notes),
-            ClientPacket::Urb(packet) => self.take_urb(place, packet, to_client, to_host, notes),
-        }
-    }
-
-    /// Takes a URB request.
-    fn take_urb(
-        &mut self,
-        place: u64,
-        packet: UrbPacket,
-        to_client: &mut Bytes,
-        to_host: &mut Bytes,
-        notes: &mut Notes,
-    ) -> Result<(), Memory>
-        requires kept { IsKept self.old }
-        requires fits { IsClientPacket (Urb packet) }
-        ensures kept { IsKept self.new }
-        ensures ok { (st : State) (at : ℕ) → place ≡ capped at → Holds self.old st → IsSound st → st.client_over ≡ false
-            → OnOk result (Does st (mark_as st (asked_meaning st at (Urb packet)) None) self.old self.new to_client.old to_client.new to_host.old to_host.new notes.old notes.new) }
-        ensures err { OnErr result (Leaves self.old self.new to_client.old to_client.new to_host.old to_host.new notes.old notes.new) }
-    {
-        match packet {
-            UrbPacket::Submit(submit) => self.submit(place, submit, to_client, to_host, notes),
-            UrbPacket::Unlink(unlink) => self.unlink(place, &unlink, to_client, to_host, notes),
-            // No client sends these.
-            UrbPacket::RetSubmit(_) => Ok(()),
-            UrbPacket::RetUnlink(_) => Ok(()),
+            Item::HostLeft => self.host_left(out),
         }
     }
 }

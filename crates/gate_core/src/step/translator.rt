@@ -11,10 +11,11 @@ ghost use Rattle.gate_core.specs.inner.Holds.{Holds, IsFirst, IsKept, Does, Does
 ghost use Rattle.gate_history.specs.step.Fits.{IsItem, ItemFits};
 
 use crate::state::kept::Kept;
-use gate_history::{Item, Notes};
+use crate::write::outputs::Outputs;
+use gate_history::Item;
 use std::alloc::Global;
 use std::marker::Model;
-use usb_base::{Bytes, Memory};
+use usb_base::Memory;
 
 /// What becomes of the items of both streams.
 #[derive(Drop)]
@@ -53,26 +54,18 @@ impl Translator {
 
     /// Takes the next item of a side that isn't over: it appends what that sends to each side, and what it tells. For
     /// want of memory nothing has changed.
-    pub fn take(
-        &mut self,
-        item: Item,
-        to_client: &mut Bytes,
-        to_host: &mut Bytes,
-        notes: &mut Notes,
-    ) -> Result<(), Memory>
+    pub fn take(&mut self, item: Item, out: &mut Outputs) -> Result<(), Memory>
         requires { ItemFits self.old.caps item }
         ensures ok { OnOk result ((st : State) (x : PastItem) → IsItem item x → Holds self.old st → IsSound st → is_left_out st x ≡ false
-            → Does st (mark_of st x) self.old self.new to_client.old to_client.new to_host.old to_host.new notes.old notes.new) }
-        ensures err { OnErr result (DoesNothing self.old self.new to_client.old to_client.new to_host.old to_host.new notes.old notes.new) }
+            → Does st (mark_of st x) self.old self.new out.old out.new) }
+        ensures err { OnErr result (DoesNothing self.old self.new out.old out.new) }
         ensures wants { OnErr result ((st : State) (x : PastItem) → IsItem item x → Holds self.old st → IsSound st → GivesSome st (mark_of st x)) }
     {
-        let before = (to_client.len(), to_host.len(), notes.len());
-        match self.kept.take(item, to_client, to_host, notes) {
+        let before = out.lengths();
+        match self.kept.take(item, out) {
             Ok(()) => Ok(()),
             Err(memory) => {
-                to_client.cut(before.0);
-                to_host.cut(before.1);
-                notes.cut(before.2);
+                out.back_to(before);
                 Err(memory)
             }
         }

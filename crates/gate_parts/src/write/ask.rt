@@ -10,9 +10,9 @@ ghost use Rattle.redir_data.specs.declared.packet.RedirPacket.TheVariants.{Plain
 ghost use Rattle.redir_data.specs.declared.packet.RedirData.TheVariants as data_packet;
 ghost use Rattle.gate_history.specs.write.Packets.{wire_packet, route_packets, start_packet, stop_packet};
 ghost use Rattle.gate_history.specs.write.Bytes.{host_packet_bytes, gateway_hello};
-ghost use Rattle.gate_history.specs.state.Flight.{wide_ids, wide_bulk};
+ghost use Rattle.gate_history.specs.state.Flight.{wide_ids};
 ghost use Rattle.gate_history.specs.client.Views.{pipe_view};
-ghost use Rattle.gate_history.specs.client.Carried.{HasItsSetup, LengthFits, IsSent};
+ghost use Rattle.gate_history.specs.client.Carried.{HasItsSetup, LengthFits};
 ghost use Rattle.gate_parts.specs.state.Rows.{cancel_bytes, is_cancelled_row};
 ghost use Rattle.gate_history.specs.step.Marks.{Disconnects};
 ghost use Rattle.gate_history.specs.write.Output.{acknowledgements};
@@ -21,32 +21,14 @@ use crate::state::streams::Up;
 use crate::write::field::field;
 use control_route::Route;
 use gate_history::Pipe;
-use redir_data::{RedirData, move_data, write_iso_out};
-use redir_wire::{ANNOUNCED, Caps, DISCONNECT_ACK, Hello, RedirControl, Way, Words, write_control};
+use redir_data::{RedirData, write_iso_out};
+use redir_wire::{ANNOUNCED, Caps, DISCONNECT_ACK, Hello, RedirControl, Words, write_control};
 use std::alloc::Global;
 use unlink_race::{Live, LiveKind};
 use usb_base::{Bytes, EpAddr, EpKind, EpRow, Memory, Transfer};
 
-/// Appends the packet that carries a transfer to the host, with this id. The transfer's body is moved into the packet, and
-/// to `out`, by one copy where it is short; `out` stands for want of memory.
-pub fn write_wire(
-    pipe: Pipe,
-    transfer: Transfer,
-    id: u64,
-    caps: Caps,
-    out: &mut Bytes,
-) -> Result<(), Memory>
-    requires sent { IsSent (wide_bulk caps) (pipe_view pipe) transfer }
-    requires id_fits { IdFits (wide_ids caps) id }
-    ensures ok { OnOk result (out.new ≡ out.old ++ host_packet_bytes caps (id, wire_packet (pipe_view pipe) transfer)) }
-    ensures err { OnErr result (out.new ≡ out.old) }
-{
-    let packet = wire_packet(pipe, transfer);
-    move_data(packet, id, Way::ToHost, caps, out)
-}
-
-// The packet that carries a transfer to the host.
-fn wire_packet(pipe: Pipe, transfer: Transfer) -> RedirData
+/// The packet that carries a transfer to the host, into which the transfer's body is moved.
+pub fn wire_packet(pipe: Pipe, transfer: Transfer) -> RedirData
     requires setup { HasItsSetup (pipe_view pipe) transfer.setup transfer.wanted }
     requires length_fits { LengthFits true (pipe_view pipe) transfer.wanted }
     ensures { Carrying result ≡ wire_packet (pipe_view pipe) transfer }

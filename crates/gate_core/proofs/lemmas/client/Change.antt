@@ -15,6 +15,7 @@ use Rattle.unlink_race.specs.declared.live.StreamEnd.TheVariants.{Change}
 use Rattle.unlink_race.specs.Searches.{touched_by}
 use Rattle.gate_history.specs.declared.note.Note.{Note}
 use Rattle.gate_history.specs.declared.note.Note.TheVariants as note
+use Rattle.gate_core.specs.declared.write.outputs.Outputs.{Outputs}
 use Rattle.gate_core.specs.declared.state.kept.Kept.{Kept}
 use Rattle.gate_history.specs.step.Items.{capped}
 use Rattle.gate_history.specs.write.Errno.{eshutdown}
@@ -105,7 +106,7 @@ module _ (st : State) (sound : IsSound st) (q : Request) (r : Route) where
       ∙ (λ i. ended_packets e (touched_by r) packet st.live ++ (answers_at change None (own i) ++ []))
       ∙ append-nil (ended_packets e (touched_by r) packet st.live)
 
-  pub does-change : (old new : Kept) (client_old client_new host_old host_new : List ℕ) (notes_old notes_new : List Note) → Holds old st →
+  pub does-change : (old new : Kept) (out_old out_new : Outputs) → Holds old st →
       old.unlinked ≤ 2 ^ 64 - 1 → old.dropped ≤ 2 ^ 64 - 1 →
       new ≡ record old {
         lives = record { live = filter (λ l. not (touched_by r l)) old.lives.live ++ row (fresh change) ∷ []; abandoned = old.lives.abandoned };
@@ -114,11 +115,11 @@ module _ (st : State) (sound : IsSound st) (q : Request) (r : Route) where
         last = last_of old.last (drawn_for st q (Routed r));
         answered = capped (old.answered + length (filter (touched_by r) old.lives.live));
       } →
-      client_new ≡ client_old ++ flat_map (ended_bytes (Change r) eshutdown) old.lives.live →
-      host_new ≡ host_old ++ flat_map (host_packet_bytes old.caps) (zip (drawn_for st q (Routed r)) (packets_of st.streams (Routed r) q)) →
-      notes_new ≡ notes_old ++ note.Submitted q.number change.id ∷ [] →
-      Does st (mark_as st (Opens change) None) old new client_old client_new host_old host_new notes_old notes_new
-  does-change old new client_old client_new host_old host_new notes_old notes_new h unlinked_fits dropped_fits is client host notes =
+      out_new.to_client ≡ out_old.to_client ++ flat_map (ended_bytes (Change r) eshutdown) old.lives.live →
+      out_new.to_host ≡ out_old.to_host ++ flat_map (host_packet_bytes old.caps) (zip (drawn_for st q (Routed r)) (packets_of st.streams (Routed r) q)) →
+      out_new.notes ≡ out_old.notes ++ note.Submitted q.number change.id ∷ [] →
+      Does st (mark_as st (Opens change) None) old new out_old out_new
+  does-change old new out_old out_new h unlinked_fits dropped_fits is client host notes =
       let asked : List (ℕ × RedirPacket) = zip (drawn_for st q (Routed r)) (packets_of st.streams (Routed r) q) in
       let done = counted-all e (touched_by r) packet is_ret_submit (λ l. refl) st.live all-so in
       let won = counted-none e (touched_by r) packet is_won_unlink (λ l. refl) st.live all-so in
@@ -137,13 +138,13 @@ module _ (st : State) (sound : IsSound st) (q : Request) (r : Route) where
           live = ap (λ (k : Kept). k.lives.live) is ∙ ap (λ (ls : List Live). filter (λ l. not (touched_by r l)) ls ++ row (fresh change) ∷ []) h.live ∙ sym live-rows;
           abandoned = ap (λ (k : Kept). map unmarked k.lives.abandoned) is ∙ h.abandoned ∙ ap (map left_row) (sym (filter-all st.abandoned));
         };
-        client = client ∙ ap (λ (bs : List ℕ). client_old ++ bs)
+        client = client ∙ ap (λ (bs : List ℕ). out_old.to_client ++ bs)
             (ap (flat_map (ended_bytes (Change r) eshutdown)) h.live ∙ sym (ended-bytes e (touched_by r) packet st.live all-so)
             ∙ ap (λ (ps : List UrbPacket). flat_map client_spelling (map Urb ps)) (sym change-sent));
-        host = host ∙ ap (λ (bs : List ℕ). host_old ++ bs)
+        host = host ∙ ap (λ (bs : List ℕ). out_old.to_host ++ bs)
             ((λ i. flat_map (host_packet_bytes (h.caps i)) asked)
             ∙ ap (flat_map (host_packet_bytes st.agreed)) (sym (append-nil asked) ∙ ap (λ (ps : List (ℕ × RedirPacket)). (ps ++ asked) ++ []) (sym (none-cancelled e stays-uncancelled st.live))));
-        notes = notes ∙ ap (λ (ns : List Note). notes_old ++ note.Submitted q.number change.id ∷ ns) (sym (change-noted st change touched ByChange others own refl)) ∙ closing (answer_notes st e);
+        notes = notes ∙ ap (λ (ns : List Note). out_old.notes ++ note.Submitted q.number change.id ∷ ns) (sym (change-noted st change touched ByChange others own refl)) ∙ closing (answer_notes st e);
         answered = ap (λ (k : Kept). k.answered) is ∙ ap (λ (ls : List Live). capped (old.answered + length (filter (touched_by r) ls))) h.live
             ∙ ap (λ (n : ℕ). capped (old.answered + n)) (sym done)
             ∙ ap (λ (ps : List UrbPacket). capped (old.answered + length (filter is_ret_submit (map Urb ps)))) (sym change-sent);
@@ -154,5 +155,5 @@ module _ (st : State) (sound : IsSound st) (q : Request) (r : Route) where
             ∙ ap (λ (ss : List Submission). capped (old.dropped + length ss)) (sym (change-dropped st change touched ByChange others own refl));
       }
     where
-      closing : (ns : List Note) → notes_old ++ note.Submitted q.number change.id ∷ ns ≡ notes_old ++ (((((note.Submitted q.number change.id ∷ []) ++ ns) ++ []) ++ []) ++ [])
-      closing ns = ap (λ (l : List Note). notes_old ++ note.Submitted q.number change.id ∷ l) (sym (append-nil ns) ∙ sym (append-nil (ns ++ [])) ∙ sym (append-nil ((ns ++ []) ++ [])))
+      closing : (ns : List Note) → out_old.notes ++ note.Submitted q.number change.id ∷ ns ≡ out_old.notes ++ (((((note.Submitted q.number change.id ∷ []) ++ ns) ++ []) ++ []) ++ [])
+      closing ns = ap (λ (l : List Note). out_old.notes ++ note.Submitted q.number change.id ∷ l) (sym (append-nil ns) ∙ sym (append-nil (ns ++ [])) ∙ sym (append-nil ((ns ++ []) ++ [])))

@@ -12,6 +12,7 @@ use Rattle.unlink_race.specs.declared.live.Live.{Live}
 use Rattle.unlink_race.specs.Searches.{goes_by_id as is_answered_by_id}
 use Rattle.gate_history.specs.declared.note.Note.{Note}
 use Rattle.gate_history.specs.declared.note.Note.TheVariants as note
+use Rattle.gate_core.specs.declared.write.outputs.Outputs.{Outputs}
 use Rattle.gate_core.specs.declared.state.kept.Kept.{Kept}
 use Rattle.gate_history.specs.step.Items.{capped}
 use Rattle.gate_history.specs.step.Marks.{Effect, Ends, Refuses}
@@ -125,12 +126,12 @@ module _ (st : State) (e : Effect) (first : List Note) (l : IsLeaving st e first
   left-answers = (λ i. l.silent i ++ answered st e) ∙ leaving-answered st e l.gone
 
   -- what is kept, sent and told
-  pub does-leave : (c : Called) (old new : Kept) (client host_old host_new : List ℕ) (notes_old notes_new : List Note) → Holds old st → old.answered ≤ 2 ^ 64 - 1 → old.unlinked ≤ 2 ^ 64 - 1 → HasParted st e c →
+  pub does-leave : (c : Called) (old new : Kept) (out : Outputs) (host_new : List ℕ) (notes_new : List Note) → Holds old st → old.answered ≤ 2 ^ 64 - 1 → old.unlinked ≤ 2 ^ 64 - 1 → HasParted st e c →
       new ≡ record (left_of old c (length (opened e))) { client_over = turned refuses_client ends_client e old.client_over } →
-      host_new ≡ host_old ++ (flat_map (cancel_bytes old.caps) old.lives.live ++ flat_map (host_packet_bytes old.caps) (zip (drawn_by st e) (asked_packets st.streams e))) →
-      notes_new ≡ notes_old ++ (first ++ when (not old.client_over) note.ClientGone ++ refusal_notes (refused_at e)) →
-      Does st (mark_as st e None) old new client client host_old host_new notes_old notes_new
-  does-leave c old new client host_old host_new notes_old notes_new h answered_fits unlinked_fits parted is host notes =
+      host_new ≡ out.to_host ++ (flat_map (cancel_bytes old.caps) old.lives.live ++ flat_map (host_packet_bytes old.caps) (zip (drawn_by st e) (asked_packets st.streams e))) →
+      notes_new ≡ out.notes ++ (first ++ when (not old.client_over) note.ClientGone ++ refusal_notes (refused_at e)) →
+      Does st (mark_as st e None) old new out (record out { to_host = host_new; notes = notes_new })
+  does-leave c old new out host_new notes_new h answered_fits unlinked_fits parted is host notes =
       let asking : List (ℕ × RedirPacket) = zip (drawn_by st e) (asked_packets st.streams e) in
       let rows : length old.lives.live ≡ length st.live = ap length h.live ∙ length-map st.live row in
       record {
@@ -153,12 +154,12 @@ module _ (st : State) (e : Effect) (first : List Note) (l : IsLeaving st e first
               ∙ sym (map-append left_row st.abandoned (filter (λ s. goes_by_id s.verdict) (submits st)))
               ∙ ap (λ (b : Bool). map left_row (cond b (st.abandoned ++ filter (λ s. goes_by_id s.verdict) (submits st)) (cond (is_loss e) [] (filter (λ s. not (is_answered e s)) st.abandoned)))) (sym l.gone);
         };
-        client = sym (append-nil client) ∙ ap (λ (ps : List ClientPacket). client ++ flat_map client_spelling ps) (sym left-answers);
-        host = host ∙ ap (λ (bs : List ℕ). host_old ++ bs)
+        client = sym (append-nil out.to_client) ∙ ap (λ (ps : List ClientPacket). out.to_client ++ flat_map client_spelling ps) (sym left-answers);
+        host = host ∙ ap (λ (bs : List ℕ). out.to_host ++ bs)
             ((λ i. flat_map (cancel_bytes (h.caps i)) (h.live i) ++ flat_map (host_packet_bytes (h.caps i)) asking) ∙ ap (λ (bs : List ℕ). bs ++ flat_map (host_packet_bytes st.agreed) asking) (cancel-rows st.agreed (cancels e) l.cancel_is st.live)
             ∙ sym (flat_map-append (host_packet_bytes st.agreed) (map cancel (filter (cancels e) st.live)) asking)
             ∙ ap (flat_map (host_packet_bytes st.agreed)) (sym (append-nil (map cancel (filter (cancels e) st.live) ++ asking)) ∙ (λ i. (map cancel (filter (cancels e) st.live) ++ asking) ++ sym (l.no_word st.agreed) i)));
-        notes = notes ∙ ap (λ (ns : List Note). notes_old ++ ns)
+        notes = notes ∙ ap (λ (ns : List Note). out.notes ++ ns)
             (ap (λ (ns : List Note). (ns ++ when (not old.client_over) note.ClientGone) ++ refusal_notes (refused_at e)) (sym (append-nil first) ∙ sym (append-nil (first ++ [])))
             ∙ (λ i. (((sym l.told_first i ++ sym left-notes i) ++ when ((sym l.keeps i && st.imported) && not st.lost) note.DeviceGone) ++ when (sym l.gone i && not (h.client_over i)) note.ClientGone) ++ refusal_notes (refused_at e)));
         answered = ap (λ (k : Kept). k.answered) is ∙ capped-same old.answered answered_fits ∙ ap (λ (ps : List ClientPacket). capped (old.answered + length (filter is_ret_submit ps))) (sym left-answers);

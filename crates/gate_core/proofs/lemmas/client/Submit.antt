@@ -10,6 +10,7 @@ use Rattle.redir_data.specs.declared.packet.RedirPacket.{RedirPacket}
 use Rattle.unlink_race.specs.declared.live.Live.{Live}
 use Rattle.gate_history.specs.declared.note.Note.{Note}
 use Rattle.gate_history.specs.declared.note.Note.TheVariants as note
+use Rattle.gate_core.specs.declared.write.outputs.Outputs.{Outputs}
 use Rattle.gate_core.specs.declared.state.kept.Kept.{Kept}
 use Rattle.gate_history.specs.step.Items.{capped}
 use Rattle.gate_history.specs.client.Verdict.{Verdict}
@@ -57,7 +58,7 @@ module _ (st : State) (s : Submission) (placed : s.place ≡ st.items) (sound : 
   own = ap (λ (b : Bool). cond b (at_once s.verdict) (cond (is_touched s.verdict s.verdict) (Some ByChange) None)) (own-place s.place)
 
   -- what is kept, sent and told, where so many more are live
-  pub does-open : (old new : Kept) (more : List Pending) (client_old client_new host_old host_new : List ℕ) (notes_old notes_new : List Note) → Holds old st →
+  pub does-open : (old new : Kept) (more : List Pending) (out_old out_new : Outputs) → Holds old st →
       old.unlinked ≤ 2 ^ 64 - 1 → old.dropped ≤ 2 ^ 64 - 1 →
       cond (is_none (at_once s.verdict)) (fresh s ∷ []) [] ≡ more →
       is_by_answer (at_once s.verdict) ≡ false → is_by_client (at_once s.verdict) ≡ false →
@@ -69,11 +70,11 @@ module _ (st : State) (s : Submission) (placed : s.place ≡ st.items) (sound : 
         last = last_of old.last (drawn_for st s.request s.verdict);
         answered = capped (old.answered + length (filter is_ret_submit (map Urb (answers_at s None (at_once s.verdict)))));
       } →
-      client_new ≡ client_old ++ flat_map client_spelling (map Urb (answers_at s None (at_once s.verdict))) →
-      host_new ≡ host_old ++ flat_map (host_packet_bytes old.caps) (zip (drawn_for st s.request s.verdict) (packets_of st.streams s.verdict s.request)) →
-      notes_new ≡ notes_old ++ note.Submitted s.request.number s.id ∷ [] →
-      Does st (mark_as st (Opens s) None) old new client_old client_new host_old host_new notes_old notes_new
-  does-open old new more client_old client_new host_old host_new notes_old notes_new h unlinked_fits dropped_fits kept by_answer by_client none_won is client host notes =
+      out_new.to_client ≡ out_old.to_client ++ flat_map client_spelling (map Urb (answers_at s None (at_once s.verdict))) →
+      out_new.to_host ≡ out_old.to_host ++ flat_map (host_packet_bytes old.caps) (zip (drawn_for st s.request s.verdict) (packets_of st.streams s.verdict s.request)) →
+      out_new.notes ≡ out_old.notes ++ note.Submitted s.request.number s.id ∷ [] →
+      Does st (mark_as st (Opens s) None) old new out_old out_new
+  does-open old new more out_old out_new h unlinked_fits dropped_fits kept by_answer by_client none_won is client host notes =
       let e = Opens s in
       let sent : answered st e ≡ map Urb (answers_at s None (at_once s.verdict)) = opening-answered st s others own in
       record {
@@ -92,16 +93,16 @@ module _ (st : State) (s : Submission) (placed : s.place ≡ st.items) (sound : 
               ∙ ap (map row) (ap (λ (ps : List Pending). st.live ++ ps) (sym kept) ∙ sym (opening-left st s others own));
           abandoned = ap (λ (k : Kept). map unmarked k.lives.abandoned) is ∙ h.abandoned ∙ ap (map left_row) (sym (filter-all st.abandoned));
         };
-        client = client ∙ ap (λ (ps : List ClientPacket). client_old ++ flat_map client_spelling ps) (sym sent);
-        host = host ∙ ap (λ (bs : List ℕ). host_old ++ bs)
+        client = client ∙ ap (λ (ps : List ClientPacket). out_old.to_client ++ flat_map client_spelling ps) (sym sent);
+        host = host ∙ ap (λ (bs : List ℕ). out_old.to_host ++ bs)
             ((λ i. flat_map (host_packet_bytes (h.caps i)) (zip (drawn_for st s.request s.verdict) (packets_of st.streams s.verdict s.request)))
             ∙ ap (flat_map (host_packet_bytes st.agreed)) (sym (append-nil (zip (drawn_for st s.request s.verdict) (packets_of st.streams s.verdict s.request)))
             ∙ ap (λ (ps : List (ℕ × RedirPacket)). (ps ++ zip (drawn_for st s.request s.verdict) (packets_of st.streams s.verdict s.request)) ++ []) (sym (none-cancelled e stays-uncancelled st.live))));
-        notes = notes ∙ ap (λ (ns : List Note). notes_old ++ note.Submitted s.request.number s.id ∷ ns) (sym (opening-noted st s others own by_answer)) ∙ closing (answer_notes st e);
+        notes = notes ∙ ap (λ (ns : List Note). out_old.notes ++ note.Submitted s.request.number s.id ∷ ns) (sym (opening-noted st s others own by_answer)) ∙ closing (answer_notes st e);
         answered = ap (λ (k : Kept). k.answered) is ∙ ap (λ (ps : List ClientPacket). capped (old.answered + length (filter is_ret_submit ps))) (sym sent);
         unlinked = ap (λ (k : Kept). k.unlinked) is ∙ capped-same old.unlinked unlinked_fits ∙ ap (λ (ps : List ClientPacket). capped (old.unlinked + length ps)) (sym none_won ∙ ap (filter is_won_unlink) (sym sent));
         dropped = ap (λ (k : Kept). k.dropped) is ∙ capped-same old.dropped dropped_fits ∙ ap (λ (ss : List Submission). capped (old.dropped + length ss)) (sym (opening-dropped st s others own by_client));
       }
     where
-      closing : (ns : List Note) → notes_old ++ note.Submitted s.request.number s.id ∷ ns ≡ notes_old ++ (((((note.Submitted s.request.number s.id ∷ []) ++ ns) ++ []) ++ []) ++ [])
-      closing ns = ap (λ (l : List Note). notes_old ++ note.Submitted s.request.number s.id ∷ l) (sym (append-nil ns) ∙ sym (append-nil (ns ++ [])) ∙ sym (append-nil ((ns ++ []) ++ [])))
+      closing : (ns : List Note) → out_old.notes ++ note.Submitted s.request.number s.id ∷ ns ≡ out_old.notes ++ (((((note.Submitted s.request.number s.id ∷ []) ++ ns) ++ []) ++ []) ++ [])
+      closing ns = ap (λ (l : List Note). out_old.notes ++ note.Submitted s.request.number s.id ∷ l) (sym (append-nil ns) ∙ sym (append-nil (ns ++ [])) ∙ sym (append-nil ((ns ++ []) ++ [])))

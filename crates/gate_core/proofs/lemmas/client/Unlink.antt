@@ -14,6 +14,7 @@ use Rattle.unlink_race.specs.declared.live.Live.{Live}
 use Rattle.unlink_race.specs.Searches.{has_number}
 use Rattle.gate_history.specs.declared.note.Note.{Note}
 use Rattle.gate_history.specs.declared.note.Note.TheVariants as note
+use Rattle.gate_core.specs.declared.write.outputs.Outputs.{Outputs}
 use Rattle.gate_core.specs.declared.state.kept.Kept.{Kept}
 use Rattle.gate_core.specs.declared.client.unlink.Asked.{Asked}
 use Rattle.gate_history.specs.state.Sides.{or_else}
@@ -112,19 +113,19 @@ one-numbered t st target h sound =
 
 -- ---- what is done
 
-pub does-unlink : (st : State) (by target : ℕ) (told : Asked) (old new : Kept) (client_old client_new host_old host_new : List ℕ) (notes_old notes_new : List Note) → Holds old st → IsSound st →
+pub does-unlink : (st : State) (by target : ℕ) (told : Asked) (old new : Kept) (out_old out_new : Outputs) → Holds old st → IsSound st →
     old.answered ≤ 2 ^ 64 - 1 → old.dropped ≤ 2 ^ 64 - 1 → Told old.caps target by old.lives.live told →
     new ≡ record old { lives = record { live = left_told told target by old.lives.live; abandoned = old.lives.abandoned }; unlinked = capped (old.unlinked + taken_count told) } →
-    client_new ≡ client_old ++ (cond (is_late told) (spelling (ret_unlink by (pos 0))) [] ++ taken_bytes by told) →
-    host_new ≡ host_old ++ told_bytes old.caps told →
-    notes_new ≡ notes_old ++ note.UnlinkAsked by target ∷ [] →
-    Does st (mark_as st (Unlinks by target) None) old new client_old client_new host_old host_new notes_old notes_new
-does-unlink st by target told old new client_old client_new host_old host_new notes_old notes_new h sound answered_fits dropped_fits t is client host notes =
+    out_new.to_client ≡ out_old.to_client ++ (cond (is_late told) (spelling (ret_unlink by (pos 0))) [] ++ taken_bytes by told) →
+    out_new.to_host ≡ out_old.to_host ++ told_bytes old.caps told →
+    out_new.notes ≡ out_old.notes ++ note.UnlinkAsked by target ∷ [] →
+    Does st (mark_as st (Unlinks by target) None) old new out_old out_new
+does-unlink st by target told old new out_old out_new h sound answered_fits dropped_fits t is client host notes =
     let so = all-so by target st sound in
     let e : Effect = Unlinks by target in
     let found : Bool = list_any (λ p. is_target target p || is_taken target p) st.live in
     does-ending st e (is_taken_row target) (back by target) (unlinks-ending st by target) so old new (left_told told target by old.lives.live) 0 (taken_count told)
-    client_old client_new host_old host_new notes_old notes_new h dropped_fits
+    out_old out_new h dropped_fits
     (counted-none e (is_taken_row target) (back by target) is_ret_submit (λ l. refl) st.live so)
     (counted-all e (is_taken_row target) (back by target) is_won_unlink (λ l. refl) st.live so ∙ ap (λ (ls : List Live). length (filter (is_taken_row target) ls)) (sym h.live) ∙ sym t.count)
     (t.rows ∙ ap (asked_rows target by) h.live ∙ ap (map (asked_row target by)) (sym (stay-rows e (is_taken_row target) (back by target) st.live so)) ∙ asked-rows by target (filter (λ p. is_none (ends e p.submit)) st.live))
@@ -133,8 +134,8 @@ does-unlink st by target told old new client_old client_new host_old host_new no
       answered = capped-same old.answered answered_fits i;
       unlinked = capped (old.unlinked + taken_count told);
     }))
-    (client ∙ (λ i. client_old ++ (reply (is_late told) found (sym (found-rows old.caps by target st.live (all-going st sound)) ∙ ap (list_any (is_found_row old.caps target by)) (sym h.live) ∙ t.late) i ++ t.back i)))
-    (host ∙ ap (λ (bs : List ℕ). host_old ++ bs) (t.bytes ∙ (λ i. flat_map (cancel_row (h.caps i) target) (h.live i)) ∙ cancelled-rows st.agreed by target st.live))
+    (client ∙ (λ i. out_old.to_client ++ (reply (is_late told) found (sym (found-rows old.caps by target st.live (all-going st sound)) ∙ ap (list_any (is_found_row old.caps target by)) (sym h.live) ∙ t.late) i ++ t.back i)))
+    (host ∙ ap (λ (bs : List ℕ). out_old.to_host ++ bs) (t.bytes ∙ (λ i. flat_map (cancel_row (h.caps i) target) (h.live i)) ∙ cancelled-rows st.agreed by target st.live))
     notes
   where
     reply : (late found : Bool) → found ≡ not late → cond late (spelling (ret_unlink by (pos 0))) [] ≡ flat_map client_spelling (cond found [] (Urb (ret_unlink by (pos 0)) ∷ []))

@@ -14,6 +14,7 @@ use Rattle.unlink_race.specs.declared.live.LiveKind.TheVariants as live_kind
 use Rattle.unlink_race.specs.Searches.{waits_for, has_number}
 use Rattle.gate_history.specs.declared.note.Note.{Note}
 use Rattle.gate_history.specs.declared.note.Note.TheVariants as note
+use Rattle.gate_core.specs.declared.write.outputs.Outputs.{Outputs}
 use Rattle.gate_core.specs.declared.state.kept.Kept.{Kept}
 use Rattle.gate_history.specs.step.Items.{capped}
 use Rattle.gate_history.specs.client.Requests.{Request}
@@ -123,20 +124,20 @@ accepts-up st r told up at =
     ap (λ (v : Verdict). accepted_as st (submission st r v (drawn_for st r v)) v) (ap (λ (o : Option Up). by_stream o (Stream told)) at)
     ∙ ap (λ (o : Option Up). Waits (submission st r (Stream up.row) []) (fill up.row.max_packet (waiting st r.transfer.ep ++ r ∷ []) (held_of o))) at
 
-pub does-join : (st : State) (sound : IsSound st) (r : Request) (told : EpRow) (up up_new : Up) (old emptied mid new : Kept) (client_old client_new host : List ℕ) (notes_old notes_new : List Note) → Holds old st → IsKept old →
+pub does-join : (st : State) (sound : IsSound st) (r : Request) (told : EpRow) (up up_new : Up) (old emptied mid new : Kept) (out : Outputs) (client_new : List ℕ) (notes_new : List Note) → Holds old st → IsKept old →
     list_any (has_number r.number) old.lives.live ≡ false → stream_at old.streams r.transfer.ep ≡ Some up →
     emptied ≡ record old { streams = slice_set old.streams (endpoint_index r.transfer.ep) None } →
     HasJoined up up_new r emptied mid →
     new ≡ record mid { streams = slice_set mid.streams (endpoint_index r.transfer.ep) (Some up_new) } →
-    client_new ≡ client_old ++ up_bytes r.transfer.ep up (emptied.lives.live ++ joining_row up r ∷ []) →
-    notes_new ≡ notes_old ++ note.Submitted r.number 0 ∷ filled_notes (up_fill r.transfer.ep up (emptied.lives.live ++ joining_row up r ∷ [])) →
-    Does st (mark_as st (accepts st r (Stream told)) None) old new client_old client_new host host notes_old notes_new
-does-join st sound r told up up_new old emptied mid new client_old client_new host notes_old notes_new h k free at emptied-is joined is client notes =
+    client_new ≡ out.to_client ++ up_bytes r.transfer.ep up (emptied.lives.live ++ joining_row up r ∷ []) →
+    notes_new ≡ out.notes ++ note.Submitted r.number 0 ∷ filled_notes (up_fill r.transfer.ep up (emptied.lives.live ++ joining_row up r ∷ [])) →
+    Does st (mark_as st (accepts st r (Stream told)) None) old new out (record out { to_client = client_new; notes = notes_new })
+does-join st sound r told up up_new old emptied mid new out client_new notes_new h k free at emptied-is joined is client notes =
     let there : stream_at st.streams r.transfer.ep ≡ Some up = ap (λ (ups : List (Option Up)). stream_at ups r.transfer.ep) (sym h.streams) ∙ at in
     let same = ap (λ (t : Kept). t.lives.live) emptied-is in
-    subst (λ (x : Effect). Does st (mark_as st x None) old new client_old client_new host host notes_old notes_new) (sym (accepts-up st r told up there))
+    subst (λ (x : Effect). Does st (mark_as st x None) old new out (record out { to_client = client_new; notes = notes_new })) (sym (accepts-up st r told up there))
     (does-fill-up st (e st sound r up.row up.held) up.row.max_packet r.transfer.ep up.held (filler st sound r up.row up.held) (all st sound r up.row up.held old.lives.live h.live free)
-    up up_new old (with_row (joining_row up r) emptied) mid new client_old client_new host host notes_old notes_new (f st sound r up.row up.held) h k.unlinked_fits k.dropped_fits at refl
+    up up_new old (with_row (joining_row up r) emptied) mid new out (record out { to_client = client_new; notes = notes_new }) (f st sound r up.row up.held) h k.unlinked_fits k.dropped_fits at refl
     (filled st sound r up.row up.held)
     (ap (λ (o : Option Up). next_ids st (length (starts o r.transfer.ep up.row))) there)
     (ap (λ (o : Option Up). hold r.transfer.ep (f st sound r up.row up.held).left (raised old.streams (record { ep = r.transfer.ep; row = up.row; held = [] }) o)) at)
@@ -174,7 +175,7 @@ nothing : (max_packet : ℕ) (rs : List Request) → fill max_packet rs [] ≡ n
 nothing max_packet [] = refl
 nothing max_packet (r ∷ rs) = ap (λ cut. filled_by r.number [] cut (fill max_packet rs)) (nothing-cut max_packet r)
 
-pub does-start : (st : State) (sound : IsSound st) (r : Request) (told : EpRow) (old new : Kept) (calls_new : Calls) (last_new : ℕ) (client host_old host_new : List ℕ) (notes_old notes_new : List Note) → Holds old st → IsKept old →
+pub does-start : (st : State) (sound : IsSound st) (r : Request) (told : EpRow) (old new : Kept) (calls_new : Calls) (last_new : ℕ) (out : Outputs) (host_new : List ℕ) (notes_new : List Note) → Holds old st → IsKept old →
     list_any (has_number r.number) old.lives.live ≡ false → stream_at old.streams r.transfer.ep ≡ None →
     new ≡ record old {
       lives = record { live = old.lives.live ++ row_for r (live_kind.Stream r.transfer.ep told.interface) 0 ∷ []; abandoned = old.lives.abandoned };
@@ -184,18 +185,18 @@ pub does-start : (st : State) (sound : IsSound st) (r : Request) (told : EpRow) 
     } →
     calls_new ≡ called (zip (next_ids st (length (starts (stream_at st.streams r.transfer.ep) r.transfer.ep told))) (starts (stream_at st.streams r.transfer.ep) r.transfer.ep told)) old.calls →
     last_new ≡ last_of old.last (next_ids st (length (starts (stream_at st.streams r.transfer.ep) r.transfer.ep told))) →
-    host_new ≡ host_old ++ flat_map (host_packet_bytes st.agreed) (zip (next_ids st (length (starts (stream_at st.streams r.transfer.ep) r.transfer.ep told))) (starts (stream_at st.streams r.transfer.ep) r.transfer.ep told)) →
-    notes_new ≡ notes_old ++ note.Submitted r.number 0 ∷ [] →
-    Does st (mark_as st (accepts st r (Stream told)) None) old new client client host_old host_new notes_old notes_new
-does-start st sound r told old new calls_new last_new client host_old host_new notes_old notes_new h k free at is calls-is last-is host notes =
+    host_new ≡ out.to_host ++ flat_map (host_packet_bytes st.agreed) (zip (next_ids st (length (starts (stream_at st.streams r.transfer.ep) r.transfer.ep told))) (starts (stream_at st.streams r.transfer.ep) r.transfer.ep told)) →
+    notes_new ≡ out.notes ++ note.Submitted r.number 0 ∷ [] →
+    Does st (mark_as st (accepts st r (Stream told)) None) old new out (record out { to_host = host_new; notes = notes_new })
+does-start st sound r told old new calls_new last_new out host_new notes_new h k free at is calls-is last-is host notes =
     let there : stream_at st.streams r.transfer.ep ≡ None = ap (λ (ups : List (Option Up)). stream_at ups r.transfer.ep) (sym h.streams) ∙ at in
     let up : Up = record { ep = r.transfer.ep; row = told; held = [] } in
     let rows = old.lives.live ++ row (fresh (s st sound r told [])) ∷ [] in
     let none : fill told.max_packet (requests (waiters r.transfer.ep (present st (e st sound r told [])))) [] ≡ none_filled [] = nothing told.max_packet (requests (waiters r.transfer.ep (present st (e st sound r told [])))) in
     let left : (f st sound r told []).left ≡ [] = ap (λ (x : Fill). x.left) (nothing told.max_packet (waiting st r.transfer.ep ++ r ∷ [])) in
-    subst (λ (x : Effect). Does st (mark_as st x None) old new client client host_old host_new notes_old notes_new) (sym (accepts-down st r told there))
+    subst (λ (x : Effect). Does st (mark_as st x None) old new out (record out { to_host = host_new; notes = notes_new })) (sym (accepts-down st r told there))
     (does-fill st (e st sound r told []) told.max_packet r.transfer.ep [] (filler st sound r told []) (all st sound r told [] old.lives.live h.live free)
-    old new rows client client host_old host_new notes_old notes_new h k.unlinked_fits k.dropped_fits
+    old new rows out (record out { to_host = host_new; notes = notes_new }) h k.unlinked_fits k.dropped_fits
     (rows-are st sound r told [] old.lives.live h.live)
     (is ∙ (λ i. record old {
       lives = record { live = without_firsts (length (sym none i).fillings) (waits_for r.transfer.ep) rows; abandoned = old.lives.abandoned };
@@ -204,6 +205,6 @@ does-start st sound r told old new calls_new last_new client host_old host_new n
       last = last-is i;
       answered = (capped-same old.answered k.answered_fits ∙ ap (λ (x : Fill). capped (old.answered + length x.fillings)) (sym none)) i;
     }))
-    (sym (append-nil client) ∙ ap (λ (bs : List ℕ). client ++ bs) (sym (nothing-sent told.max_packet (waiting_rows r.transfer.ep rows))))
+    (sym (append-nil out.to_client) ∙ ap (λ (bs : List ℕ). out.to_client ++ bs) (sym (nothing-sent told.max_packet (waiting_rows r.transfer.ep rows))))
     host
-    (notes ∙ ap (λ (x : Fill). notes_old ++ note.Submitted r.number 0 ∷ filled_notes x) (sym none)))
+    (notes ∙ ap (λ (x : Fill). out.notes ++ note.Submitted r.number 0 ∷ filled_notes x) (sym none)))

@@ -28,6 +28,7 @@ use Rattle.unlink_race.specs.Requests.{Requests, in_flight}
 use Rattle.unlink_race.proofs.Firsts.{took_none}
 use Rattle.gate_history.specs.declared.note.Note.{Note}
 use Rattle.gate_history.specs.declared.note.Note.TheVariants as note
+use Rattle.gate_core.specs.declared.write.outputs.Outputs.{Outputs}
 use Rattle.gate_core.specs.declared.state.kept.Kept.{Kept}
 use Rattle.gate_history.specs.step.Items.{capped}
 use Rattle.gate_history.specs.declared.facts.Facts.{Facts}
@@ -196,7 +197,7 @@ module _ (st : State) (id : ℕ) (o : Outcome) where
   abbrev pub told_of : List Pending → List Note
   told_of ps = map (λ p. note.Answered p.submit.request.number) ps
 
-  pub does-answer : (old new : Kept) (rows left : List Live) (found : List Pending) (client_old client_new host : List ℕ) (notes_old notes_new : List Note) → Holds old st → old.dropped ≤ 2 ^ 64 - 1 →
+  pub does-answer : (old new : Kept) (rows left : List Live) (found : List Pending) (out : Outputs) (client_new : List ℕ) (notes_new : List Note) → Holds old st → old.dropped ≤ 2 ^ 64 - 1 →
       filter (pending_has_id id) st.live ≡ found →
       rows ≡ map row (filter (λ p. not (pending_has_id id p)) st.live) →
       map unmarked left ≡ map left_row (filter (λ s. not (has_id id s)) st.abandoned) →
@@ -205,10 +206,10 @@ module _ (st : State) (id : ℕ) (o : Outcome) where
         answered = capped (old.answered + length (filter is_ret_submit (sent found)));
         unlinked = capped (old.unlinked + length (filter is_won_unlink (sent found)));
       } →
-      client_new ≡ client_old ++ flat_map client_spelling (sent found) →
-      notes_new ≡ notes_old ++ told_of found →
-      Does st (mark_as st (Answers id o) None) old new client_old client_new host host notes_old notes_new
-  does-answer old new rows left found client_old client_new host notes_old notes_new h few one live_is left_is is client notes =
+      client_new ≡ out.to_client ++ flat_map client_spelling (sent found) →
+      notes_new ≡ out.notes ++ told_of found →
+      Does st (mark_as st (Answers id o) None) old new out (record out { to_client = client_new; notes = notes_new })
+  does-answer old new rows left found out client_new notes_new h few one live_is left_is is client notes =
       let sends : sent found ≡ to_client st (mark_as st (Answers id o) None) = sym (answer-sent st id o ∙ ap sent one) in
       let tells : told_of found ≡ answer_notes st (Answers id o) = sym (answer-noted st id o ∙ ap told_of one) in
       record {
@@ -226,11 +227,11 @@ module _ (st : State) (id : ℕ) (o : Outcome) where
           live = ap (λ (k : Kept). k.lives.live) is ∙ live_is ∙ ap (map row) (sym (answer-left st id o));
           abandoned = ap (λ (k : Kept). map unmarked k.lives.abandoned) is ∙ left_is;
         };
-        client = client ∙ ap (λ (ps : List ClientPacket). client_old ++ flat_map client_spelling ps) sends;
-        host = host-same st.agreed (Answers id o) host st.live stays-uncancelled
-            ∙ ap (λ (ps : List (ℕ × RedirPacket)). host ++ flat_map (host_packet_bytes st.agreed) ps)
+        client = client ∙ ap (λ (ps : List ClientPacket). out.to_client ++ flat_map client_spelling ps) sends;
+        host = host-same st.agreed (Answers id o) out.to_host st.live stays-uncancelled
+            ∙ ap (λ (ps : List (ℕ × RedirPacket)). out.to_host ++ flat_map (host_packet_bytes st.agreed) ps)
             (sym (append-nil (map cancel (filter (cancels (Answers id o)) st.live))) ∙ sym (append-nil (map cancel (filter (cancels (Answers id o)) st.live) ++ [])));
-        notes = notes ∙ ap (λ (ns : List Note). notes_old ++ ns)
+        notes = notes ∙ ap (λ (ns : List Note). out.notes ++ ns)
             (tells ∙ sym (append-nil (answer_notes st (Answers id o))) ∙ sym (append-nil (answer_notes st (Answers id o) ++ [])) ∙ sym (append-nil ((answer_notes st (Answers id o) ++ []) ++ [])));
         answered = ap (λ (k : Kept). k.answered) is ∙ ap (λ (ps : List ClientPacket). capped (old.answered + length (filter is_ret_submit ps))) sends;
         unlinked = ap (λ (k : Kept). k.unlinked) is ∙ ap (λ (ps : List ClientPacket). capped (old.unlinked + length (filter is_won_unlink ps))) sends;
@@ -244,16 +245,16 @@ module _ (st : State) (id : ℕ) (response : Response) (sound : IsSound st) wher
   waits = find-append (has_id id) (submits st) st.abandoned ∙ ap (λ (o : Option Submission). option_or o (find (has_id id) st.abandoned)) (find-map (has_id id) (λ (p : Pending). p.submit) st.live)
 
   -- of a live one, by its row
-  pub does-live : (old : Kept) (lives : Requests) (l : Live) (won : Bool) (answered unlinked : ℕ) (client_old client_new host : List ℕ) (notes_old notes_new : List Note) → Holds old st → old.dropped ≤ 2 ^ 64 - 1 →
+  pub does-live : (old : Kept) (lives : Requests) (l : Live) (won : Bool) (answered unlinked : ℕ) (out : Outputs) (client_new : List ℕ) (notes_new : List Note) → Holds old st → old.dropped ≤ 2 ^ 64 - 1 →
       find (has_row_id id) old.lives.live ≡ Some l →
       lives ≡ record old.lives { live = without_first (has_row_id id) old.lives.live } →
-      ((s : Submission) → row_of s l.unlinker ≡ l → client_new ≡ client_old ++ flat_map spelling (answers_by s (seen s.request s.verdict response) l.unlinker)) →
+      ((s : Submission) → row_of s l.unlinker ≡ l → client_new ≡ out.to_client ++ flat_map spelling (answers_by s (seen s.request s.verdict response) l.unlinker)) →
       ((s : Submission) → row_of s l.unlinker ≡ l → IsCounted (map Urb (answers_by s (seen s.request s.verdict response) l.unlinker)) won) →
-      notes_new ≡ notes_old ++ note.Answered l.seqnum ∷ [] →
+      notes_new ≡ out.notes ++ note.Answered l.seqnum ∷ [] →
       answered ≡ capped (old.answered + cond won 0 1) →
       unlinked ≡ capped (old.unlinked + cond won 1 0) →
-      Does st (mark_as st (completes id response (find (has_id id) (submits st ++ st.abandoned))) None) old (record old { lives = lives; answered = answered; unlinked = unlinked }) client_old client_new host host notes_old notes_new
-  does-live old lives l won answered unlinked client_old client_new host notes_old notes_new h few found rest client counted notes answered_is unlinked_is =
+      Does st (mark_as st (completes id response (find (has_id id) (submits st ++ st.abandoned))) None) old (record old { lives = lives; answered = answered; unlinked = unlinked }) out (record out { to_client = client_new; notes = notes_new })
+  does-live old lives l won answered unlinked out client_new notes_new h few found rest client counted notes answered_is unlinked_is =
       let p = map-some row (find (pending_has_id id) st.live) l (sym (find-rows id st.live) ∙ ap (find (has_row_id id)) (sym h.live) ∙ found) in
       let s = p.from.submit in
       let by : l.unlinker ≡ p.from.unlinker = ap (λ (k : Live). k.unlinker) (sym p.is) in
@@ -263,8 +264,8 @@ module _ (st : State) (id : ℕ) (response : Response) (sound : IsSound st) wher
       let count = counted s its in
       let effect : Answers id o ≡ completes id response (find (has_id id) (submits st ++ st.abandoned)) =
       sym (ap (completes id response) (waits ∙ ap (λ (q : Option Pending). option_or (option_map (λ (r : Pending). r.submit) q) (find (has_id id) st.abandoned)) p.found)) in
-      subst (λ (e : Effect). Does st (mark_as st e None) old (record old { lives = lives; answered = answered; unlinked = unlinked }) client_old client_new host host notes_old notes_new) effect
-      (does-answer st id o old (record old { lives = lives; answered = answered; unlinked = unlinked }) lives.live lives.abandoned (p.from ∷ []) client_old client_new host notes_old notes_new h few
+      subst (λ (e : Effect). Does st (mark_as st e None) old (record old { lives = lives; answered = answered; unlinked = unlinked }) out (record out { to_client = client_new; notes = notes_new })) effect
+      (does-answer st id o old (record old { lives = lives; answered = answered; unlinked = unlinked }) lives.live lives.abandoned (p.from ∷ []) out client_new notes_new h few
       (found-alone st id sound ∙ ap option_to_list p.found)
       (ap (λ (r : Requests). r.live) rest ∙ ap (without_first (has_row_id id)) h.live ∙ live-without st id sound)
       (ap (λ (r : Requests). map unmarked r.abandoned) rest ∙ h.abandoned
@@ -274,8 +275,8 @@ module _ (st : State) (id : ℕ) (response : Response) (sound : IsSound st) wher
         answered = (answered_is ∙ ap (λ (n : ℕ). capped (old.answered + n)) (sym count.answered ∙ sym (ap (λ (ps : List ClientPacket). length (filter is_ret_submit ps)) one))) i;
         unlinked = (unlinked_is ∙ ap (λ (n : ℕ). capped (old.unlinked + n)) (sym count.unlinked ∙ sym (ap (λ (ps : List ClientPacket). length (filter is_won_unlink ps)) one))) i;
       })
-      (client s its ∙ ap (λ (bs : List ℕ). client_old ++ bs) (sym (flat_map-map client_spelling Urb (answers_by s o l.unlinker)) ∙ sym (ap (flat_map client_spelling) one)))
-      (notes ∙ ap (λ (n : ℕ). notes_old ++ note.Answered n ∷ []) (ap (λ (k : Live). k.seqnum) (sym p.is))))
+      (client s its ∙ ap (λ (bs : List ℕ). out.to_client ++ bs) (sym (flat_map-map client_spelling Urb (answers_by s o l.unlinker)) ∙ sym (ap (flat_map client_spelling) one)))
+      (notes ∙ ap (λ (n : ℕ). out.notes ++ note.Answered n ∷ []) (ap (λ (k : Live). k.seqnum) (sym p.is))))
 
   -- which is told
   pub live-gives : (old : Kept) (l : Live) → Holds old st → find (has_row_id id) old.lives.live ≡ Some l →
@@ -289,12 +290,12 @@ module _ (st : State) (id : ℕ) (response : Response) (sound : IsSound st) wher
       subst (λ (e : Effect). GivesSome st (mark_as st e None)) effect (by-answer st (Answers id o) None (omega (arith, one)))
 
   -- of one whose client is gone, or of none
-  pub does-late : (old : Kept) (lives : Requests) (client host : List ℕ) (notes : List Note) → Holds old st → old.answered ≤ 2 ^ 64 - 1 → old.unlinked ≤ 2 ^ 64 - 1 → old.dropped ≤ 2 ^ 64 - 1 →
+  pub does-late : (old : Kept) (lives : Requests) (out : Outputs) → Holds old st → old.answered ≤ 2 ^ 64 - 1 → old.unlinked ≤ 2 ^ 64 - 1 → old.dropped ≤ 2 ^ 64 - 1 →
       find (has_row_id id) old.lives.live ≡ None →
       lives ≡ record old.lives { abandoned = without_first (has_row_id id) old.lives.abandoned } →
-      Does st (mark_as st (completes id response (find (has_id id) (submits st ++ st.abandoned))) None) old (record old { lives = lives }) client client host host notes notes
-  does-late old lives client host notes h answered_fits unlinked_fits dropped_fits missing rest =
-      subst (λ (o : Option Submission). Does st (mark_as st (completes id response o) None) old (record old { lives = lives }) client client host host notes notes)
+      Does st (mark_as st (completes id response (find (has_id id) (submits st ++ st.abandoned))) None) old (record old { lives = lives }) out out
+  does-late old lives out h answered_fits unlinked_fits dropped_fits missing rest =
+      subst (λ (o : Option Submission). Does st (mark_as st (completes id response o) None) old (record old { lives = lives }) out out)
       (sym (waits ∙ ap (λ (q : Option Pending). option_or (option_map (λ (r : Pending). r.submit) q) (find (has_id id) st.abandoned)) none))
       (of (find (has_id id) st.abandoned) refl)
     where
@@ -304,18 +305,18 @@ module _ (st : State) (id : ℕ) (response : Response) (sound : IsSound st) wher
       rows : lives.live ≡ map row (filter (λ p. not (pending_has_id id p)) st.live)
       rows = ap (λ (r : Requests). r.live) rest ∙ sym (without-none (has_row_id id) old.lives.live missing) ∙ ap (without_first (has_row_id id)) h.live ∙ live-without st id sound
 
-      of : (o : Option Submission) → find (has_id id) st.abandoned ≡ o → Does st (mark_as st (completes id response o) None) old (record old { lives = lives }) client client host host notes notes
+      of : (o : Option Submission) → find (has_id id) st.abandoned ≡ o → Does st (mark_as st (completes id response o) None) old (record old { lives = lives }) out out
       of (Some s) e =
-          does-answer st id (seen s.request s.verdict response) old (record old { lives = lives }) lives.live lives.abandoned [] client client host notes notes h dropped_fits
+          does-answer st id (seen s.request s.verdict response) old (record old { lives = lives }) lives.live lives.abandoned [] out out.to_client out.notes h dropped_fits
           (found-alone st id sound ∙ ap option_to_list none) rows
           (ap (λ (r : Requests). map unmarked r.abandoned) rest ∙ abandoned-without st id sound old.lives.abandoned h.abandoned)
           (λ i. record old { lives = lives; answered = capped-same old.answered answered_fits i; unlinked = capped-same old.unlinked unlinked_fits i })
-          (sym (append-nil client)) (sym (append-nil notes))
+          (sym (append-nil out.to_client)) (sym (append-nil out.notes))
       of None e =
           let nobody = map-none unmarked (find (has_row_id id) old.lives.abandoned) (find-unmarked id old.lives.abandoned ∙ ap (find (has_row_id id)) h.abandoned ∙ find-left id st.abandoned ∙ ap (option_map left_row) e) in
           let same : lives ≡ old.lives = rest ∙ ap (λ (ls : List Live). record old.lives { abandoned = ls }) (without-none (has_row_id id) old.lives.abandoned nobody) in
-          subst (λ (r : Requests). Does st (mark_as st Idle None) old (record old { lives = r }) client client host host notes notes) (sym same)
-          (does-idle st old client host notes h answered_fits unlinked_fits dropped_fits)
+          subst (λ (r : Requests). Does st (mark_as st Idle None) old (record old { lives = r }) out out) (sym same)
+          (does-idle st old out h answered_fits unlinked_fits dropped_fits)
 
 -- ---- what is wrong of an answer
 
@@ -410,10 +411,10 @@ response-closes : (st : State) (at : ℕ) (h : Header) (response : Option Respon
 response-closes st at h None = refl
 response-closes st at h (Some response) = answer-closes st at h response (find (has_id h.id) (submits st ++ st.abandoned))
 
-pub does-tell : (st : State) (at : ℕ) (header : Header) (response : Option Response) (fact : Option Fact) (old mid : Kept) (client_old client_new host_old host_new : List ℕ) (notes_old notes_new : List Note) → st.host_over ≡ false →
-    Does st (mark_as st (by_response st at header response) None) old mid client_old client_new host_old host_new notes_old notes_new →
-    Does st (mark_as st (by_response st at header response) fact) old (record mid { facts = cond mid.host_over mid.facts (tell mid.facts fact) }) client_old client_new host_old host_new notes_old notes_new
-does-tell st at header response fact old mid client_old client_new host_old host_new notes_old notes_new going d =
+pub does-tell : (st : State) (at : ℕ) (header : Header) (response : Option Response) (fact : Option Fact) (old mid : Kept) (out_old out_new : Outputs) → st.host_over ≡ false →
+    Does st (mark_as st (by_response st at header response) None) old mid out_old out_new →
+    Does st (mark_as st (by_response st at header response) fact) old (record mid { facts = cond mid.host_over mid.facts (tell mid.facts fact) }) out_old out_new
+does-tell st at header response fact old mid out_old out_new going d =
     record {
       holds = record {
         facts = ap (λ (b : Bool). cond b mid.facts (tell mid.facts fact)) over ∙ of (is_loss (by_response st at header response)) mid.facts d.holds.facts;
@@ -446,11 +447,11 @@ does-tell st at header response fact old mid client_old client_new host_old host
 
 -- ---- a hello, and all else but a disconnect
 
-pub does-agree : (st : State) (old : Kept) (caps : Caps) (client host : List ℕ) (notes : List Note) → Holds old st → old.answered ≤ 2 ^ 64 - 1 → old.unlinked ≤ 2 ^ 64 - 1 → old.dropped ≤ 2 ^ 64 - 1 →
-    Does st (mark_as st (Agrees caps) None) old (record old { caps = caps }) client client host host notes notes
-does-agree st old caps client host notes h answered_fits unlinked_fits dropped_fits =
-    does-steady st (Agrees caps) (agrees-steady st caps) old (record old { caps = caps }) old.lives.live client client host host notes notes h answered_fits unlinked_fits dropped_fits
-    (rows-same (Agrees caps) old.lives.live st.live (λ s. refl) h.live) refl (sym (append-nil client)) (host-same st.agreed (Agrees caps) host st.live stays-uncancelled) (sym (append-nil notes))
+pub does-agree : (st : State) (old : Kept) (caps : Caps) (out : Outputs) → Holds old st → old.answered ≤ 2 ^ 64 - 1 → old.unlinked ≤ 2 ^ 64 - 1 → old.dropped ≤ 2 ^ 64 - 1 →
+    Does st (mark_as st (Agrees caps) None) old (record old { caps = caps }) out out
+does-agree st old caps out h answered_fits unlinked_fits dropped_fits =
+    does-steady st (Agrees caps) (agrees-steady st caps) old (record old { caps = caps }) old.lives.live out out h answered_fits unlinked_fits dropped_fits
+    (rows-same (Agrees caps) old.lives.live st.live (λ s. refl) h.live) refl (sym (append-nil out.to_client)) (host-same st.agreed (Agrees caps) out.to_host st.live stays-uncancelled) (sym (append-nil out.notes))
 
 pub told-other : (st : State) (at : ℕ) (h : Header) (p : RedirControl) → ((hello : Hello) → p ≡ plain.Hello hello → ⊥) → (p ≡ plain.Disconnect → ⊥) →
     ((status endpoint : ℕ) → p ≡ plain.IsoStatus status endpoint → ⊥) → ((status endpoint : ℕ) → p ≡ plain.InterruptStatus status endpoint → ⊥) →

@@ -8,6 +8,7 @@ use Rattle.usb_base.specs.Endpoint.{IsEndpoint, endpoint_index}
 use Rattle.usb_base.specs.declared.transfer.StreamPacket.{StreamPacket}
 use Rattle.gate_history.specs.declared.note.Note.{Note}
 use Rattle.gate_history.specs.declared.note.Note.TheVariants as note
+use Rattle.gate_core.specs.declared.write.outputs.Outputs.{Outputs}
 use Rattle.gate_core.specs.declared.state.kept.Kept.{Kept}
 use Rattle.gate_history.specs.client.Requests.{Request}
 use Rattle.gate_history.specs.host.Fillings.{Fill, none_filled, fill}
@@ -122,16 +123,16 @@ module _ (st : State) (sound : IsSound st) (ep : ℕ) (packet : StreamPacket) (u
       (subst Differ (sym here) (all-differ st.live sound.numbers))
 
   -- it is held, and may fill requests
-  pub does-hold : (up_new : Up) (old between mid new : Kept) (client_old client_new host : List ℕ) (notes_old notes_new : List Note) → Holds old st → IsKept old →
+  pub does-hold : (up_new : Up) (old between mid new : Kept) (out : Outputs) (client_new : List ℕ) (notes_new : List Note) → Holds old st → IsKept old →
       stream_at old.streams ep ≡ Some up →
       between ≡ record old { streams = slice_set old.streams (endpoint_index ep) None } →
       HasEnded ep (with_packet packet up) up_new between mid →
       new ≡ record mid { streams = slice_set mid.streams (endpoint_index ep) (Some up_new) } →
-      client_new ≡ client_old ++ up_bytes ep (with_packet packet up) between.lives.live →
-      notes_new ≡ notes_old ++ note.Arrived ep ∷ filled_notes (up_fill ep (with_packet packet up) between.lives.live) →
-      Does st (mark_as st held None) old new client_old client_new host host notes_old notes_new
-  does-hold up_new old between mid new client_old client_new host notes_old notes_new h k at between-is ended is client notes =
-      does-fill-up st held up.row.max_packet ep (up.held ++ packet ∷ []) arrives-filler all up up_new old between mid new client_old client_new host host notes_old notes_new
+      client_new ≡ out.to_client ++ up_bytes ep (with_packet packet up) between.lives.live →
+      notes_new ≡ out.notes ++ note.Arrived ep ∷ filled_notes (up_fill ep (with_packet packet up) between.lives.live) →
+      Does st (mark_as st held None) old new out (record out { to_client = client_new; notes = notes_new })
+  does-hold up_new old between mid new out client_new notes_new h k at between-is ended is client notes =
+      does-fill-up st held up.row.max_packet ep (up.held ++ packet ∷ []) arrives-filler all up up_new old between mid new out (record out { to_client = client_new; notes = notes_new })
       (fill up.row.max_packet (waiting st ep) (up.held ++ packet ∷ [])) h k.unlinked_fits k.dropped_fits at refl filled refl refl
       (ap (λ (t : Kept). t.lives.live) between-is ∙ h.live ∙ ap (map row) (sym here))
       (between-is ∙ ap (λ (t : Kept). record old { lives = t.lives; streams = slice_set old.streams (endpoint_index ep) None }) (sym between-is))
@@ -165,12 +166,12 @@ module _ (st : State) (ep : ℕ) (up : Up) (at : stream_at st.streams ep ≡ Som
   }
 
   -- it is told, and nothing changes
-  pub does-lose : (old new : Kept) (client host : List ℕ) (notes_old notes_new : List Note) → Holds old st → IsKept old → new ≡ old →
-      notes_new ≡ notes_old ++ note.Arrived ep ∷ [] → Does st (mark_as st lost None) old new client client host host notes_old notes_new
-  does-lose old new client host notes_old notes_new h k is notes =
-      does-steady st lost lost-steady old new old.lives.live client client host host notes_old notes_new h k.answered_fits k.unlinked_fits k.dropped_fits
+  pub does-lose : (old new : Kept) (out : Outputs) (notes_new : List Note) → Holds old st → IsKept old → new ≡ old →
+      notes_new ≡ out.notes ++ note.Arrived ep ∷ [] → Does st (mark_as st lost None) old new out (record out { notes = notes_new })
+  does-lose old new out notes_new h k is notes =
+      does-steady st lost lost-steady old new old.lives.live out (record out { notes = notes_new }) h k.answered_fits k.unlinked_fits k.dropped_fits
       (rows-same lost old.lives.live st.live (λ s. refl) h.live)
-      (is ∙ ap (λ (ups : List (Option Up)). record old { streams = ups }) (sym same)) (sym (append-nil client)) (host-same st.agreed lost host st.live stays-uncancelled) notes
+      (is ∙ ap (λ (ups : List (Option Up)). record old { streams = ups }) (sym same)) (sym (append-nil out.to_client)) (host-same st.agreed lost out.to_host st.live stays-uncancelled) notes
     where
       there : stream_at old.streams ep ≡ Some up
       there = ap (λ (ups : List (Option Up)). stream_at ups ep) h.streams ∙ at
@@ -188,32 +189,32 @@ pub on-ok : {T E : Type 0} {P Q R S : Type 0} (r : Result T E) → (P → Q → 
 on-ok (Ok v) f p q r = f p q r
 on-ok (Err e) f p q r = tt
 
-pub does-receive : (st : State) (sound : IsSound st) (endpoint : ℕ) (iso : Bool) (packet : StreamPacket) (up up_new : Up) (old between mid new : Kept) (client_old client_new host : List ℕ) (notes_old notes_new : List Note) → Holds old st → IsKept old →
+pub does-receive : (st : State) (sound : IsSound st) (endpoint : ℕ) (iso : Bool) (packet : StreamPacket) (up up_new : Up) (old between mid new : Kept) (out : Outputs) (client_new : List ℕ) (notes_new : List Note) → Holds old st → IsKept old →
     IsEndpoint endpoint → stream_at old.streams endpoint ≡ Some up →
     between ≡ record old { streams = slice_set old.streams (endpoint_index endpoint) None } →
     new ≡ record mid { streams = slice_set mid.streams (endpoint_index endpoint) (Some up_new) } →
     HasReceived endpoint iso packet up up_new between mid →
-    client_new ≡ client_old ++ received_bytes endpoint iso packet up between.lives.live →
-    notes_new ≡ notes_old ++ note.Arrived endpoint ∷ received_notes endpoint iso packet up between.lives.live →
-    Does st (mark_as st (arrives st endpoint iso packet (stream_of st.streams endpoint)) None) old new client_old client_new host host notes_old notes_new
-does-receive st sound endpoint iso packet up up_new old between mid new client_old client_new host notes_old notes_new h k byte at between-is is received client notes =
+    client_new ≡ out.to_client ++ received_bytes endpoint iso packet up between.lives.live →
+    notes_new ≡ out.notes ++ note.Arrived endpoint ∷ received_notes endpoint iso packet up between.lives.live →
+    Does st (mark_as st (arrives st endpoint iso packet (stream_of st.streams endpoint)) None) old new out (record out { to_client = client_new; notes = notes_new })
+does-receive st sound endpoint iso packet up up_new old between mid new out client_new notes_new h k byte at between-is is received client notes =
     let there : stream_of st.streams endpoint ≡ Some up = of-address st.streams endpoint byte ∙ ap (λ (ups : List (Option Up)). stream_at ups endpoint) (sym h.streams) ∙ at in
-    subst (λ (o : Option Up). Does st (mark_as st (arrives st endpoint iso packet o) None) old new client_old client_new host host notes_old notes_new) (sym there)
+    subst (λ (o : Option Up). Does st (mark_as st (arrives st endpoint iso packet o) None) old new out (record out { to_client = client_new; notes = notes_new })) (sym there)
     (by (is_held iso up) received client notes)
   where
     by : (b : Bool) → HasReceivedIf endpoint b packet up up_new between mid →
-        client_new ≡ client_old ++ cond b (up_bytes endpoint (with_packet packet up) between.lives.live) [] →
-        notes_new ≡ notes_old ++ note.Arrived endpoint ∷ cond b (filled_notes (up_fill endpoint (with_packet packet up) between.lives.live)) [] →
-        Does st (mark_as st (Arrives endpoint (cond b (fill up.row.max_packet (waiting st endpoint) (up.held ++ packet ∷ [])) (none_filled up.held))) None) old new client_old client_new host host notes_old notes_new
-    by true r cl nt = does-hold st sound endpoint packet up up_new old between mid new client_old client_new host notes_old notes_new h k at between-is r is cl nt
+        client_new ≡ out.to_client ++ cond b (up_bytes endpoint (with_packet packet up) between.lives.live) [] →
+        notes_new ≡ out.notes ++ note.Arrived endpoint ∷ cond b (filled_notes (up_fill endpoint (with_packet packet up) between.lives.live)) [] →
+        Does st (mark_as st (Arrives endpoint (cond b (fill up.row.max_packet (waiting st endpoint) (up.held ++ packet ∷ [])) (none_filled up.held))) None) old new out (record out { to_client = client_new; notes = notes_new })
+    by true r cl nt = does-hold st sound endpoint packet up up_new old between mid new out client_new notes_new h k at between-is r is cl nt
     by false r cl nt =
         let same : new ≡ old =
         is ∙ ap (λ (t : Kept). record t { streams = slice_set t.streams (endpoint_index endpoint) (Some up_new) }) (r.same ∙ between-is)
         ∙ ap (λ (ups : List (Option Up)). record old { streams = ups })
         (set-twice old.streams (endpoint_index endpoint) None (Some up_new) ∙ ap (slice_set old.streams (endpoint_index endpoint)) (ap (λ (u : Up). Some u) r.up_same ∙ sym at)
         ∙ set-back old.streams (endpoint_index endpoint) None) in
-        subst (λ (bs : List ℕ). Does st (mark_as st (Arrives endpoint (none_filled up.held)) None) old new client_old bs host host notes_old notes_new) (sym (cl ∙ append-nil client_old))
-        (does-lose st endpoint up (ap (λ (ups : List (Option Up)). stream_at ups endpoint) (sym h.streams) ∙ at) old new client_old host notes_old notes_new h k same nt)
+        subst (λ (bs : List ℕ). Does st (mark_as st (Arrives endpoint (none_filled up.held)) None) old new out (record out { to_client = bs; notes = notes_new })) (sym (cl ∙ append-nil out.to_client))
+        (does-lose st endpoint up (ap (λ (ups : List (Option Up)). stream_at ups endpoint) (sym h.streams) ∙ at) old new out notes_new h k same nt)
 
 pub on-err : {T E : Type 0} {P Q R U S : Type 0} (r : Result T E) → (P → Q → R → U → S) → OnErr r P → OnErr r Q → OnErr r R → OnErr r U → OnErr r S
 on-err (Ok v) f p q r u = tt

@@ -16,6 +16,7 @@ use Rattle.unlink_race.specs.declared.live.Live.{Live}
 use Rattle.unlink_race.specs.Searches.{waits_for}
 use Rattle.gate_history.specs.declared.note.Note.{Note}
 use Rattle.gate_history.specs.declared.note.Note.TheVariants as note
+use Rattle.gate_core.specs.declared.write.outputs.Outputs.{Outputs}
 use Rattle.gate_core.specs.declared.state.kept.Kept.{Kept}
 use Rattle.gate_history.specs.step.Items.{capped}
 use Rattle.gate_history.specs.host.Fillings.{Filling, Fill, fill}
@@ -85,7 +86,7 @@ module _ (st : State) (e : Effect) (max_packet ep : ℕ) (packets : List StreamP
   undropped-so = filled-dropped st e ep fs ends-so ∙ ap (map (λ (p : Pending). p.submit)) all.undropped
 
   -- the rows of all that are there are these, and it tells this before the answers
-  pub does-fill : (old new : Kept) (rows : List Live) (client_old client_new host_old host_new : List ℕ) (notes_old notes_new : List Note) → Holds old st → old.unlinked ≤ 2 ^ 64 - 1 → old.dropped ≤ 2 ^ 64 - 1 →
+  pub does-fill : (old new : Kept) (rows : List Live) (out_old out_new : Outputs) → Holds old st → old.unlinked ≤ 2 ^ 64 - 1 → old.dropped ≤ 2 ^ 64 - 1 →
       rows ≡ map row (present st e) →
       new ≡ record old {
         lives = record { live = without_firsts (length fs) (waits_for ep) rows; abandoned = old.lives.abandoned };
@@ -94,11 +95,11 @@ module _ (st : State) (e : Effect) (max_packet ep : ℕ) (packets : List StreamP
         last = last_of old.last (drawn_by st e);
         answered = capped (old.answered + length fs);
       } →
-      client_new ≡ client_old ++ filled_bytes max_packet (waiting_rows ep rows) packets →
-      host_new ≡ host_old ++ flat_map (host_packet_bytes st.agreed) (asking st.streams (mark_as st e None)) →
-      notes_new ≡ notes_old ++ (import_notes e ++ submit_notes e ++ unlink_notes e ++ arrival_notes e ++ filled_notes (fill max_packet (requests (waiters ep (present st e))) packets)) →
-      Does st (mark_as st e None) old new client_old client_new host_old host_new notes_old notes_new
-  does-fill old new rows client_old client_new host_old host_new notes_old notes_new h unlinked_fits dropped_fits rows-are is client host notes =
+      out_new.to_client ≡ out_old.to_client ++ filled_bytes max_packet (waiting_rows ep rows) packets →
+      out_new.to_host ≡ out_old.to_host ++ flat_map (host_packet_bytes st.agreed) (asking st.streams (mark_as st e None)) →
+      out_new.notes ≡ out_old.notes ++ (import_notes e ++ submit_notes e ++ unlink_notes e ++ arrival_notes e ++ filled_notes (fill max_packet (requests (waiters ep (present st e))) packets)) →
+      Does st (mark_as st e None) old new out_old out_new
+  does-fill old new rows out_old out_new h unlinked_fits dropped_fits rows-are is client host notes =
       record {
         holds = record {
           facts = ap (λ (k : Kept). k.facts) is ∙ h.facts ∙ sym (ap (λ (b : Bool). cond b no_facts (tell st.facts None)) l.keeps);
@@ -116,10 +117,10 @@ module _ (st : State) (e : Effect) (max_packet ep : ℕ) (packets : List StreamP
               ∙ ap (map left_row) (sym (filter-same (λ s. not (is_answered e s)) (λ s. true) st.abandoned (every (λ s. not (is_answered e s) ≡ true) (λ s. ap not (l.answers_none s)) st.abandoned) ∙ filter-all st.abandoned))
               ∙ (λ i. map left_row (cond (sym l.stays i) (st.abandoned ++ filter (λ s. goes_by_id s.verdict) (submits st)) (cond (sym l.keeps i) [] (filter (λ s. not (is_answered e s)) st.abandoned))));
         };
-        client = client ∙ ap (λ (bs : List ℕ). client_old ++ bs) (ap (λ (ls : List Live). filled_bytes max_packet (waiting_rows ep ls) packets) rows-are ∙ sym all.sent ∙ ap (flat_map client_spelling) (sym sent-so));
-        host = host ∙ ap (λ (ps : List (ℕ × RedirPacket)). host_old ++ flat_map (host_packet_bytes st.agreed) ps)
+        client = client ∙ ap (λ (bs : List ℕ). out_old.to_client ++ bs) (ap (λ (ls : List Live). filled_bytes max_packet (waiting_rows ep ls) packets) rows-are ∙ sym all.sent ∙ ap (flat_map client_spelling) (sym sent-so));
+        host = host ∙ ap (λ (ps : List (ℕ × RedirPacket)). out_old.to_host ++ flat_map (host_packet_bytes st.agreed) ps)
             (sym (append-nil (asking st.streams (mark_as st e None))) ∙ (λ i. sym (none-cancelled e l.no_cancel st.live) i ++ asking st.streams (mark_as st e None) ++ sym (l.no_word st.agreed) i));
-        notes = notes ∙ ap (λ (ns : List Note). notes_old ++ ns)
+        notes = notes ∙ ap (λ (ns : List Note). out_old.notes ++ ns)
             ((λ i. told ++ sym told-so i) ∙ sym (append-nil (told ++ answer_notes st e)) ∙ sym (append-nil ((told ++ answer_notes st e) ++ [])) ∙ sym (append-nil (((told ++ answer_notes st e) ++ []) ++ []))
             ∙ (λ i. (((told ++ answer_notes st e) ++ when ((sym l.keeps i && st.imported) && not st.lost) note.DeviceGone) ++ when (sym l.stays i && not st.client_over) note.ClientGone) ++ refusal_notes (sym l.no_place i)));
         answered = ap (λ (k : Kept). k.answered) is ∙ ap (λ (n : ℕ). capped (old.answered + n)) (sym (ap (λ (ps : List ClientPacket). length (filter is_ret_submit ps)) sent-so ∙ all.counted));
@@ -131,7 +132,7 @@ module _ (st : State) (e : Effect) (max_packet ep : ℕ) (packets : List StreamP
       told = import_notes e ++ submit_notes e ++ unlink_notes e ++ arrival_notes e
 
   -- the same of a stream that is up, whose place was emptied meanwhile
-  pub does-fill-up : (up up_new : Up) (old between mid new : Kept) (client_old client_new host_old host_new : List ℕ) (notes_old notes_new : List Note) (f : Fill) → Holds old st → old.unlinked ≤ 2 ^ 64 - 1 → old.dropped ≤ 2 ^ 64 - 1 →
+  pub does-fill-up : (up up_new : Up) (old between mid new : Kept) (out_old out_new : Outputs) (f : Fill) → Holds old st → old.unlinked ≤ 2 ^ 64 - 1 → old.dropped ≤ 2 ^ 64 - 1 →
       stream_at old.streams ep ≡ Some up → up.row.max_packet ≡ max_packet →
       f ≡ fill max_packet (requests (waiters ep (present st e))) packets →
       drawn_by st e ≡ [] → moved_streams e old.streams ≡ hold ep f.left old.streams →
@@ -139,11 +140,11 @@ module _ (st : State) (e : Effect) (max_packet ep : ℕ) (packets : List StreamP
       between ≡ record old { lives = between.lives; streams = slice_set old.streams (endpoint_index ep) None } → between.lives.abandoned ≡ old.lives.abandoned →
       HasEnded ep (record up { held = packets }) up_new between mid →
       new ≡ record mid { streams = slice_set mid.streams (endpoint_index ep) (Some up_new) } →
-      client_new ≡ client_old ++ up_bytes ep (record up { held = packets }) between.lives.live →
-      host_new ≡ host_old →
-      notes_new ≡ notes_old ++ (import_notes e ++ submit_notes e ++ unlink_notes e ++ arrival_notes e ++ filled_notes (up_fill ep (record up { held = packets }) between.lives.live)) →
-      Does st (mark_as st e None) old new client_old client_new host_old host_new notes_old notes_new
-  does-fill-up up up_new old between mid new client_old client_new host_old host_new notes_old notes_new f h unlinked_fits dropped_fits here size f-is no_ids moves rows-are between-is left-same ended is client host notes =
+      out_new.to_client ≡ out_old.to_client ++ up_bytes ep (record up { held = packets }) between.lives.live →
+      out_new.to_host ≡ out_old.to_host →
+      out_new.notes ≡ out_old.notes ++ (import_notes e ++ submit_notes e ++ unlink_notes e ++ arrival_notes e ++ filled_notes (up_fill ep (record up { held = packets }) between.lives.live)) →
+      Does st (mark_as st e None) old new out_old out_new
+  does-fill-up up up_new old between mid new out_old out_new f h unlinked_fits dropped_fits here size f-is no_ids moves rows-are between-is left-same ended is client host notes =
       let rows = between.lives.live in
       let filled : up_fill ep (record up { held = packets }) rows ≡ fill max_packet (requests (waiters ep (present st e))) packets =
       (λ i. rows_fill (size i) (waiting_rows ep (rows-are i)) packets) ∙ all.by_rows in
@@ -154,7 +155,7 @@ module _ (st : State) (e : Effect) (max_packet ep : ℕ) (packets : List StreamP
       ∙ ap stands (ended.left ∙ ap (λ (x : Fill). record up { held = x.left }) (filled ∙ sym f-is))
       ∙ ap (λ (o : Option Up). slice_set old.streams i (option_map (λ (u : Up). record u { held = f.left }) o)) (sym here)
       ∙ sym moves in
-      does-fill old new rows client_old client_new host_old host_new notes_old notes_new h unlinked_fits dropped_fits rows-are
+      does-fill old new rows out_old out_new h unlinked_fits dropped_fits rows-are
       (is ∙ ap (λ (k : Kept). record k { streams = slice_set k.streams i (Some up_new) }) (ended.is ∙ ap (λ (k : Kept). record k {
         lives = record { live = without_firsts (length (up_fill ep (record up { held = packets }) rows).fillings) (waits_for ep) rows; abandoned = between.lives.abandoned };
         answered = capped (k.answered + length (up_fill ep (record up { held = packets }) rows).fillings);
@@ -166,6 +167,6 @@ module _ (st : State) (e : Effect) (max_packet ep : ℕ) (packets : List StreamP
         last = last_of old.last (sym no_ids j);
         answered = capped (old.answered + length (filled j).fillings);
       }))
-      (client ∙ ap (λ (n : ℕ). client_old ++ filled_bytes n (waiting_rows ep rows) packets) size)
-      (host ∙ sym (append-nil host_old) ∙ ap (λ (ids : List ℕ). host_old ++ flat_map (host_packet_bytes st.agreed) (zip ids (asked_packets st.streams e))) (sym no_ids))
-      (notes ∙ ap (λ (x : Fill). notes_old ++ (import_notes e ++ submit_notes e ++ unlink_notes e ++ arrival_notes e ++ filled_notes x)) filled)
+      (client ∙ ap (λ (n : ℕ). out_old.to_client ++ filled_bytes n (waiting_rows ep rows) packets) size)
+      (host ∙ sym (append-nil out_old.to_host) ∙ ap (λ (ids : List ℕ). out_old.to_host ++ flat_map (host_packet_bytes st.agreed) (zip ids (asked_packets st.streams e))) (sym no_ids))
+      (notes ∙ ap (λ (x : Fill). out_old.notes ++ (import_notes e ++ submit_notes e ++ unlink_notes e ++ arrival_notes e ++ filled_notes x)) filled)

@@ -13,6 +13,7 @@ use Rattle.unlink_race.specs.declared.live.Live.{Live}
 use Rattle.unlink_race.specs.Requests.{no_requests}
 use Rattle.gate_history.specs.declared.note.Note.{Note}
 use Rattle.gate_history.specs.declared.note.Note.TheVariants as note
+use Rattle.gate_core.specs.declared.write.outputs.Outputs.{Outputs}
 use Rattle.gate_core.specs.declared.state.kept.Kept.{Kept}
 use Rattle.gate_history.specs.step.Items.{capped}
 use Rattle.gate_history.specs.step.Marks.{Submission, Fact, Effect, Disconnects, Ends, Refuses}
@@ -167,13 +168,13 @@ module _ (st : State) (e : Effect) (told : Option Fact) (l : IsLoss st e) where
   lost-cancels = ap (map cancel) (none-pass (cancels e) l.no_cancel st.live)
 
   -- what is kept, sent and told
-  pub does-loss : (old new : Kept) (client_old client_new host_old host_new : List ℕ) (notes_old notes_new : List Note) → Holds old st → old.dropped ≤ 2 ^ 64 - 1 →
+  pub does-loss : (old new : Kept) (out_old out_new : Outputs) → Holds old st → old.dropped ≤ 2 ^ 64 - 1 →
       new ≡ record (lost_of old) { host_over = turned closes_host never e old.host_over } →
-      client_new ≡ client_old ++ flat_map lost_bytes old.lives.live →
-      host_new ≡ host_old ++ flat_map (host_packet_bytes old.caps) (acknowledgements old.caps e) →
-      notes_new ≡ notes_old ++ (when (old.imported && not old.lost) note.DeviceGone ++ refusal_notes (refused_at e)) →
-      Does st (mark_as st e told) old new client_old client_new host_old host_new notes_old notes_new
-  does-loss old new client_old client_new host_old host_new notes_old notes_new h few is client host notes =
+      out_new.to_client ≡ out_old.to_client ++ flat_map lost_bytes old.lives.live →
+      out_new.to_host ≡ out_old.to_host ++ flat_map (host_packet_bytes old.caps) (acknowledgements old.caps e) →
+      out_new.notes ≡ out_old.notes ++ (when (old.imported && not old.lost) note.DeviceGone ++ refusal_notes (refused_at e)) →
+      Does st (mark_as st e told) old new out_old out_new
+  does-loss old new out_old out_new h few is client host notes =
       let m = mark_as st e told in
       let count = lost-counted st.live in
       let rows : length old.lives.live ≡ length (map row st.live) = ap length h.live in
@@ -198,11 +199,11 @@ module _ (st : State) (e : Effect) (told : Option Fact) (l : IsLoss st e) where
           abandoned = ap (λ (k : Kept). map unmarked k.lives.abandoned) is
               ∙ (λ i. map left_row (cond (sym l.stays i) (st.abandoned ++ filter (λ s. goes_by_id s.verdict) (submits st)) (cond (sym l.loss i) [] (filter (λ s. not (is_answered e s)) st.abandoned))));
         };
-        client = client ∙ ap (λ (bs : List ℕ). client_old ++ bs) (ap (flat_map lost_bytes) h.live ∙ sym (lost-packets st.live) ∙ ap (flat_map client_spelling) (sym answers));
-        host = host ∙ ap (λ (bs : List ℕ). host_old ++ bs)
+        client = client ∙ ap (λ (bs : List ℕ). out_old.to_client ++ bs) (ap (flat_map lost_bytes) h.live ∙ sym (lost-packets st.live) ∙ ap (flat_map client_spelling) (sym answers));
+        host = host ∙ ap (λ (bs : List ℕ). out_old.to_host ++ bs)
             ((λ i. flat_map (host_packet_bytes (h.caps i)) (acknowledgements (h.caps i) e))
             ∙ (λ i. flat_map (host_packet_bytes st.agreed) (sym lost-cancels i ++ zip (sym l.no_ids i) (sym l.no_packets i) ++ acknowledgements st.agreed e)));
-        notes = notes ∙ ap (λ (ns : List Note). notes_old ++ ns)
+        notes = notes ∙ ap (λ (ns : List Note). out_old.notes ++ ns)
             (ap (λ (ns : List Note). ns ++ refusal_notes (refused_at e)) (sym (append-nil (when (old.imported && not old.lost) note.DeviceGone)))
             ∙ (λ i. (((sym l.no_notes i ++ sym lost-notes i) ++ when ((sym l.loss i && h.imported i) && not (h.lost i)) note.DeviceGone) ++ when (sym l.stays i && not st.client_over) note.ClientGone) ++ refusal_notes (refused_at e)));
         answered = ap (λ (k : Kept). k.answered) is ∙ ap (λ (n : ℕ). capped (old.answered + n)) (sym done);

@@ -9,6 +9,7 @@ use Rattle.usbip_urb.specs.declared.packet.UrbPacket.{UrbPacket}
 use Rattle.usbip_urb.specs.declared.client.ClientPacket.TheVariants.{Urb}
 use Rattle.unlink_race.specs.declared.live.Live.{Live}
 use Rattle.gate_history.specs.declared.note.Note.{Note}
+use Rattle.gate_core.specs.declared.write.outputs.Outputs.{Outputs}
 use Rattle.gate_core.specs.declared.state.kept.Kept.{Kept}
 use Rattle.gate_history.specs.step.Items.{capped}
 use Rattle.gate_history.specs.step.Marks.{Effect, StreamTold}
@@ -67,15 +68,15 @@ module _ (st : State) (sound : IsSound st) (id ep : ℕ) (status : UsbStatus) wh
   all-so : Each (EndsSo told (is_told ep status) packet) st.live
   all-so = Each-weaker IsGoing (EndsSo told (is_told ep status) packet) told-so st.live (all-going st sound)
 
-  pub does-tell_stream : (old mid new : Kept) (client_old client_new host : List ℕ) (notes : List Note) → Holds old st → old.unlinked ≤ 2 ^ 64 - 1 → old.dropped ≤ 2 ^ 64 - 1 →
+  pub does-tell_stream : (old mid new : Kept) (out : Outputs) (client_new : List ℕ) → Holds old st → old.unlinked ≤ 2 ^ 64 - 1 → old.dropped ≤ 2 ^ 64 - 1 →
       HasStreamEnd ep status old mid →
       new ≡ record mid { fence = lifted id mid.fence } →
-      client_new ≡ client_old ++ flat_map (status_bytes ep status) old.lives.live →
-      Does st (mark_as st (StreamTold id ep status) None) old new client_old client_new host host notes notes
-  does-tell_stream old mid new client_old client_new host notes h unlinked_fits dropped_fits ended is client =
+      client_new ≡ out.to_client ++ flat_map (status_bytes ep status) old.lives.live →
+      Does st (mark_as st (StreamTold id ep status) None) old new out (record out { to_client = client_new })
+  does-tell_stream old mid new out client_new h unlinked_fits dropped_fits ended is client =
       does-ending st told (is_told ep status) packet (stream_told-ending st id ep status) all-so old new
       (filter (λ l. not (is_told ep status l)) old.lives.live) (length (filter (is_told ep status) old.lives.live)) 0
-      client_old client_new host host notes notes h dropped_fits
+      out (record out { to_client = client_new }) h dropped_fits
       (counted-all told (is_told ep status) packet is_ret_submit (λ l. refl) st.live all-so ∙ ap (λ (ls : List Live). length (filter (is_told ep status) ls)) (sym h.live))
       (counted-none told (is_told ep status) packet is_won_unlink (λ l. refl) st.live all-so)
       (ap (filter (λ l. not (is_told ep status l))) h.live ∙ sym (stay-rows told (is_told ep status) packet st.live all-so) ∙ ap (map row) (sym (asks-none told (λ s. refl) (filter (λ p. is_none (ends told p.submit)) st.live))))
@@ -87,7 +88,7 @@ module _ (st : State) (sound : IsSound st) (id ep : ℕ) (status : UsbStatus) wh
         answered = capped (old.answered + length (filter (is_told ep status) old.lives.live));
         unlinked = capped-same old.unlinked unlinked_fits i;
       }))
-      client (host-same st.agreed told host st.live stays-uncancelled) (sym (append-nil notes))
+      client (host-same st.agreed told out.to_host st.live stays-uncancelled) (sym (append-nil out.notes))
 
   -- each of them is answered
   pub tell-gives : 0 < length (filter (is_told ep status) (map row st.live)) → GivesSome st (mark_as st told None)

@@ -15,6 +15,7 @@ use Rattle.redir_data.specs.declared.packet.RedirPacket.{RedirPacket}
 use Rattle.unlink_race.specs.declared.live.Live.{Live}
 use Rattle.gate_history.specs.declared.note.Note.{Note}
 use Rattle.gate_history.specs.declared.note.Note.TheVariants as note
+use Rattle.gate_core.specs.declared.write.outputs.Outputs.{Outputs}
 use Rattle.gate_core.specs.declared.state.kept.Kept.{Kept}
 use Rattle.gate_history.specs.step.Items.{capped}
 use Rattle.gate_history.specs.step.Marks.{Submission, Effect}
@@ -142,7 +143,7 @@ module _ (st : State) (e : Effect) (test : Live → Bool) (packet : Live → Urb
       ∙ ap length (filter-append which (replies st e) (map Urb (ended_packets e test packet st.live)) ∙ ap (λ (ps : List ClientPacket). ps ++ filter which (map Urb (ended_packets e test packet st.live))) none)
 
   -- so many submits and unlinks are answered
-  pub does-ending : (old new : Kept) (rows : List Live) (done won : ℕ) (client_old client_new host_old host_new : List ℕ) (notes_old notes_new : List Note) → Holds old st → old.dropped ≤ 2 ^ 64 - 1 →
+  pub does-ending : (old new : Kept) (rows : List Live) (done won : ℕ) (out_old out_new : Outputs) → Holds old st → old.dropped ≤ 2 ^ 64 - 1 →
       length (filter is_ret_submit (map Urb (ended_packets e test packet st.live))) ≡ done →
       length (filter is_won_unlink (map Urb (ended_packets e test packet st.live))) ≡ won →
       rows ≡ map row (map (ask e) (filter (λ p. is_none (ends e p.submit)) st.live)) →
@@ -153,11 +154,11 @@ module _ (st : State) (e : Effect) (test : Live → Bool) (packet : Live → Urb
         answered = capped (old.answered + done);
         unlinked = capped (old.unlinked + won);
       } →
-      client_new ≡ client_old ++ (flat_map client_spelling (replies st e) ++ flat_map (λ l. cond (test l) (spelling (packet l)) []) old.lives.live) →
-      host_new ≡ host_old ++ flat_map (host_packet_bytes st.agreed) (map cancel (filter (cancels e) st.live)) →
-      notes_new ≡ notes_old ++ (import_notes e ++ submit_notes e ++ unlink_notes e ++ arrival_notes e) →
-      Does st (mark_as st e None) old new client_old client_new host_old host_new notes_old notes_new
-  does-ending old new rows done won client_old client_new host_old host_new notes_old notes_new h dropped_fits done-is won-is rows-are is client host notes =
+      out_new.to_client ≡ out_old.to_client ++ (flat_map client_spelling (replies st e) ++ flat_map (λ l. cond (test l) (spelling (packet l)) []) old.lives.live) →
+      out_new.to_host ≡ out_old.to_host ++ flat_map (host_packet_bytes st.agreed) (map cancel (filter (cancels e) st.live)) →
+      out_new.notes ≡ out_old.notes ++ (import_notes e ++ submit_notes e ++ unlink_notes e ++ arrival_notes e) →
+      Does st (mark_as st e None) old new out_old out_new
+  does-ending old new rows done won out_old out_new h dropped_fits done-is won-is rows-are is client host notes =
       record {
         holds = record {
           facts = ap (λ (k : Kept). k.facts) is ∙ h.facts ∙ sym (ap (λ (b : Bool). cond b no_facts (tell st.facts None)) l.keeps);
@@ -175,15 +176,15 @@ module _ (st : State) (e : Effect) (test : Live → Bool) (packet : Live → Urb
               ∙ ap (map left_row) (sym (filter-same (λ s. not (is_answered e s)) (λ s. true) st.abandoned (every (λ s. not (is_answered e s) ≡ true) (λ s. ap not (l.answers_none s)) st.abandoned) ∙ filter-all st.abandoned))
               ∙ (λ i. map left_row (cond (sym l.stays i) (st.abandoned ++ filter (λ s. goes_by_id s.verdict) (submits st)) (cond (sym l.keeps i) [] (filter (λ s. not (is_answered e s)) st.abandoned))));
         };
-        client = client ∙ ap (λ (bs : List ℕ). client_old ++ bs)
+        client = client ∙ ap (λ (bs : List ℕ). out_old.to_client ++ bs)
             ((λ i. flat_map client_spelling (replies st e) ++ flat_map (λ l. cond (test l) (spelling (packet l)) []) (h.live i))
             ∙ ap (λ (bs : List ℕ). flat_map client_spelling (replies st e) ++ bs) (sym (ended-bytes e test packet st.live so))
             ∙ sym (flat_map-append client_spelling (replies st e) (map Urb (ended_packets e test packet st.live)))
             ∙ ap (flat_map client_spelling) (sym ending-sent));
-        host = host ∙ ap (λ (ps : List (ℕ × RedirPacket)). host_old ++ flat_map (host_packet_bytes st.agreed) ps)
+        host = host ∙ ap (λ (ps : List (ℕ × RedirPacket)). out_old.to_host ++ flat_map (host_packet_bytes st.agreed) ps)
             (sym (append-nil (map cancel (filter (cancels e) st.live))) ∙ sym (append-nil (map cancel (filter (cancels e) st.live) ++ []))
             ∙ (λ i. (map cancel (filter (cancels e) st.live) ++ zip (sym l.no_ids i) (sym l.no_packets i)) ++ sym (l.no_word st.agreed) i));
-        notes = notes ∙ ap (λ (ns : List Note). notes_old ++ ns)
+        notes = notes ∙ ap (λ (ns : List Note). out_old.notes ++ ns)
             (sym (append-nil told) ∙ sym (append-nil (told ++ [])) ∙ sym (append-nil ((told ++ []) ++ [])) ∙ sym (append-nil (((told ++ []) ++ []) ++ []))
             ∙ (λ i. (((told ++ sym unanswered i) ++ when ((sym l.keeps i && st.imported) && not st.lost) note.DeviceGone) ++ when (sym l.stays i && not st.client_over) note.ClientGone) ++ refusal_notes (sym l.no_place i)));
         answered = ap (λ (k : Kept). k.answered) is ∙ ap (λ (n : ℕ). capped (old.answered + n)) (sym (ending-counted is_ret_submit l.no_answer ∙ done-is));

@@ -12,6 +12,7 @@ use Rattle.redir_data.specs.sound.Joined.{stream_sound}
 use Rattle.usbip_urb.specs.Sound.ClientPackets.{client_packets_sound}
 use Rattle.gate_history.specs.declared.note.Note.{Note}
 use Rattle.gate_history.specs.declared.item.Item.TheVariants as raw
+use Rattle.gate_core.specs.declared.write.outputs.Outputs.{Outputs}
 use Rattle.gate_core.specs.declared.step.inner.Inner.{Inner}
 use Rattle.gate_core.specs.declared.state.kept.Kept.{Kept as Translator}
 use Rattle.gate_history.specs.step.Items.{ClientLeft, HostLeft}
@@ -79,28 +80,28 @@ stands-first first g works translator client host = record {
 
 -- ---- a client's end
 
-pub ends-client : (first : ℕ) (old : Inner) (t : Translator) (kept : Kept (Unit {0})) (events : List Event) (client_old client_new host_old host_new : List ℕ) (notes_old notes_new : List Note) → Stands first (kept_of old) events →
-    TakesItem old.translator t raw.ClientLeft client_old client_new host_old host_new notes_old notes_new → kept ≡ record { state = tt; rest = []; place = 0; held = []; at = 0; over = false } →
-    TakesOn first (record old { client = kept; translator = t }) events ClientEnd client_old client_new host_old host_new notes_old notes_new
-ends-client first old t kept events client_old client_new host_old host_new notes_old notes_new stands takes is =
+pub ends-client : (first : ℕ) (old : Inner) (t : Translator) (kept : Kept (Unit {0})) (events : List Event) (out_old out_new : Outputs) → Stands first (kept_of old) events →
+    TakesItem old.translator t raw.ClientLeft out_old out_new → kept ≡ record { state = tt; rest = []; place = 0; held = []; at = 0; over = false } →
+    TakesOn first (record old { client = kept; translator = t }) events ClientEnd out_old out_new
+ends-client first old t kept events out_old out_new stands takes is =
     let xs = arrivals events in
     let does = takes (state_of first (past first xs)) ClientLeft refl stands.translates.state (state-sound first xs) refl in
     record {
       stands = record {
         works = stands.works;
-        translates = translates-item first old.translator t xs ClientLeft client_old client_new host_old host_new notes_old notes_new stands.translates refl does;
+        translates = translates-item first old.translator t xs ClientLeft out_old out_new stands.translates refl does;
         client = client-first kept is;
         host = all-same host_reader host_start old.host old.host (host_bytes events) (told xs) (told xs) (host_over (past first xs)) (host_over (past first (ClientLeft ∷ xs))) refl refl (left-host first xs) stands.host;
       };
-      sends = sends-item first old.translator t xs xs ClientLeft client_old client_old client_new host_old host_old host_new notes_old notes_old notes_new
-          (sends-none first client_old host_old notes_old xs) refl does;
+      sends = sends-item first old.translator t xs xs ClientLeft out_old out_old out_new
+          (sends-none first out_old xs) refl does;
     }
 
 -- ---- the host's end
 
 -- it was over before
-pub ends-again : (first : ℕ) (g : Inner) (events : List Event) (client host : List ℕ) (notes : List Note) → Stands first (kept_of g) events → g.host.over ≡ true → TakesOn first g events HostEnd client client host host notes notes
-ends-again first g events client host notes stands over =
+pub ends-again : (first : ℕ) (g : Inner) (events : List Event) (out : Outputs) → Stands first (kept_of g) events → g.host.over ≡ true → TakesOn first g events HostEnd out out
+ends-again first g events out stands over =
     let xs = arrivals events in
     let ended : host_over (past first xs) ≡ true = sym stands.host.over_is ∙ over in
     let same : past first (HostLeft ∷ xs) ≡ past first xs = past-skipped first xs HostLeft ended in
@@ -111,13 +112,13 @@ ends-again first g events client host notes stands over =
         client = all-same client_reader client_start g.client g.client (client_bytes events) (asked xs) (asked xs) (client_over (past first xs)) (client_over (past first (HostLeft ∷ xs))) refl refl (ap client_over same) stands.client;
         host = all-same host_reader host_start g.host g.host (host_bytes events) (told xs) (told xs) (host_over (past first xs)) (host_over (past first (HostLeft ∷ xs))) refl refl (ap host_over same) stands.host;
       };
-      sends = sends-past first client client host host notes notes xs xs (HostLeft ∷ xs) same (sends-none first client host notes xs);
+      sends = sends-past first out out xs xs (HostLeft ∷ xs) same (sends-none first out xs);
     }
 
-pub ends-host : (first : ℕ) (old : Inner) (t : Translator) (kept : Kept RedirState) (events : List Event) (client_old client_new host_old host_new : List ℕ) (notes_old notes_new : List Note) → Stands first (kept_of old) events →
-    old.host.over ≡ false → TakesItem old.translator t raw.HostLeft client_old client_new host_old host_new notes_old notes_new → kept ≡ ended old.host →
-    TakesOn first (record old { host = kept; translator = t }) events HostEnd client_old client_new host_old host_new notes_old notes_new
-ends-host first old t kept events client_old client_new host_old host_new notes_old notes_new stands runs takes is =
+pub ends-host : (first : ℕ) (old : Inner) (t : Translator) (kept : Kept RedirState) (events : List Event) (out_old out_new : Outputs) → Stands first (kept_of old) events →
+    old.host.over ≡ false → TakesItem old.translator t raw.HostLeft out_old out_new → kept ≡ ended old.host →
+    TakesOn first (record old { host = kept; translator = t }) events HostEnd out_old out_new
+ends-host first old t kept events out_old out_new stands runs takes is =
     let xs = arrivals events in
     let taken : is_left_out (state_of first (past first xs)) HostLeft ≡ false = sym stands.host.over_is ∙ runs in
     let does = takes (state_of first (past first xs)) HostLeft refl stands.translates.state (state-sound first xs) taken in
@@ -125,7 +126,7 @@ ends-host first old t kept events client_old client_new host_old host_new notes_
     record {
       stands = record {
         works = stands.works;
-        translates = translates-item first old.translator t xs HostLeft client_old client_new host_old host_new notes_old notes_new stands.translates taken does;
+        translates = translates-item first old.translator t xs HostLeft out_old out_new stands.translates taken does;
         client = all-same client_reader client_start old.client old.client (client_bytes events) (asked xs) (asked xs) (client_over (past first xs)) (client_over (past first (HostLeft ∷ xs))) refl refl (left-client first xs) stands.client;
         host = record {
           over_is = ap (λ (k : Kept RedirState). k.over) is ∙ sym over;
@@ -137,13 +138,13 @@ ends-host first old t kept events client_old client_new host_old host_new notes_
           fits = stands.host.fits;
         };
       };
-      sends = sends-item first old.translator t xs xs HostLeft client_old client_old client_new host_old host_old host_new notes_old notes_old notes_new
-          (sends-none first client_old host_old notes_old xs) taken does;
+      sends = sends-item first old.translator t xs xs HostLeft out_old out_old out_new
+          (sends-none first out_old xs) taken does;
     }
 
 -- ---- memory ran out for an end
 
-pub stops-end : (first : ℕ) (old : Inner) (t : Translator) (events : List Event) (e : Event) (client_old client_new host_old host_new : List ℕ) (notes_old notes_new : List Note) → Stands first (kept_of old) events →
-    DoesNothing old.translator t client_old client_new host_old host_new notes_old notes_new → FirstWants first (arrivals events) (brought events e) → Stops first (kept_of (record old { translator = t })) events e client_old client_new host_old host_new
-stops-end first old t events e client_old client_new host_old host_new notes_old notes_new stands nothing wants =
-    stops-still first old t events e client_old client_new host_old host_new notes_old notes_new nothing (stops-before first old events e client_old host_old (stands-for first old events stands) (inr wants))
+pub stops-end : (first : ℕ) (old : Inner) (t : Translator) (events : List Event) (e : Event) (out_old out_new : Outputs) → Stands first (kept_of old) events →
+    DoesNothing old.translator t out_old out_new → FirstWants first (arrivals events) (brought events e) → Stops first (kept_of (record old { translator = t })) events e out_old.to_client out_new.to_client out_old.to_host out_new.to_host
+stops-end first old t events e out_old out_new stands nothing wants =
+    stops-still first old t events e out_old out_new nothing (stops-before first old events e out_old.to_client out_old.to_host (stands-for first old events stands) (inr wants))

@@ -11,6 +11,7 @@ use Rattle.packet_stream.proofs.Laws.{IsSteady}
 use Rattle.packet_stream.proofs.Following.{follows-holds}
 use Rattle.redir_data.specs.declared.state.RedirState.{RedirState}
 use Rattle.gate_history.specs.declared.note.Note.{Note}
+use Rattle.gate_core.specs.declared.write.outputs.Outputs.{Outputs}
 use Rattle.gate_core.specs.declared.step.inner.Inner.{Inner}
 use Rattle.gate_core.specs.declared.state.kept.Kept.{Kept as Translator}
 use Rattle.gate_history.specs.step.Events.{Event, ClientPiece, HostPiece, client_bytes, host_bytes}
@@ -49,10 +50,10 @@ stands-all r steady start kept bytes given over all = record {
   none = λ ends. all.none (sym all.over_is ∙ ends);
 }
 
-pub err-event : (r : Result (Unit {0}) Memory) (old new : Inner) (e : Event) (client_old client_new host_old host_new : List ℕ) (notes_old notes_new : List Note) → IsErr r →
-    ((first : ℕ) (events : List Event) → Stands first (kept_of old) events → Stops first (kept_of new) events e client_old client_new host_old host_new) → TakesEvent r old new e client_old client_new host_old host_new notes_old notes_new
-err-event (Ok v) old new e client_old client_new host_old host_new notes_old notes_new is stops = absurd (true≢false (sym is))
-err-event (Err memory) old new e client_old client_new host_old host_new notes_old notes_new is stops = stops
+pub err-event : (r : Result (Unit {0}) Memory) (old new : Inner) (e : Event) (out_old out_new : Outputs) → IsErr r →
+    ((first : ℕ) (events : List Event) → Stands first (kept_of old) events → Stops first (kept_of new) events e out_old.to_client out_new.to_client out_old.to_host out_new.to_host) → TakesEvent r old new e out_old out_new
+err-event (Ok v) old new e out_old out_new is stops = absurd (true≢false (sym is))
+err-event (Err memory) old new e out_old out_new is stops = stops
 
 -- before anything of an event has come
 pub stops-before : (first : ℕ) (new : Inner) (events : List Event) (e : Event) (client host : List ℕ) → StandsFor first (kept_of new) events (arrivals events) →
@@ -81,20 +82,19 @@ stands-for first g events stands = record {
 }
 
 -- for want of memory the translator has changed nothing
-pub stops-still : (first : ℕ) (old : Inner) (t : Translator) (events : List Event) (e : Event) (client_old client_new host_old host_new : List ℕ) (notes_old notes_new : List Note) →
-    DoesNothing old.translator t client_old client_new host_old host_new notes_old notes_new → Stops first (kept_of old) events e client_old client_old host_old host_old →
-    Stops first (kept_of (record old { translator = t })) events e client_old client_new host_old host_new
-stops-still first old t events e client_old client_new host_old host_new notes_old notes_new nothing stops =
-    subst (λ (x : Translator). Stops first (kept_of (record old { translator = x })) events e client_old client_new host_old host_new) (sym nothing.same)
-    (subst (λ (x : List ℕ). Stops first (kept_of old) events e client_old x host_old host_new) (sym nothing.client)
-    (subst (λ (x : List ℕ). Stops first (kept_of old) events e client_old client_old host_old x) (sym nothing.host) stops))
+pub stops-still : (first : ℕ) (old : Inner) (t : Translator) (events : List Event) (e : Event) (out_old out_new : Outputs) →
+    DoesNothing old.translator t out_old out_new → Stops first (kept_of old) events e out_old.to_client out_old.to_client out_old.to_host out_old.to_host →
+    Stops first (kept_of (record old { translator = t })) events e out_old.to_client out_new.to_client out_old.to_host out_new.to_host
+stops-still first old t events e out_old out_new nothing stops =
+    subst (λ (x : Translator). Stops first (kept_of (record old { translator = x })) events e out_old.to_client out_new.to_client out_old.to_host out_new.to_host) (sym nothing.same)
+    (subst (λ (o : Outputs). Stops first (kept_of old) events e out_old.to_client o.to_client out_old.to_host o.to_host) (sym nothing.outputs) stops)
 
 -- ---- a piece of the client
 
-takes-asked : (first : ℕ) (old : Inner) (kept : Kept (Unit {0})) (t : Translator) (events : List Event) (piece client_old client_new host_old host_new : List ℕ) (notes_old notes_new : List Note) → Stands first (kept_of old) events →
-    Finished first (client_half first) kept t (client_bytes events) piece (arrivals events) client_old client_new host_old host_new notes_old notes_new →
-    TakesOn first (record old { client = kept; translator = t }) events (ClientPiece piece) client_old client_new host_old host_new notes_old notes_new
-takes-asked first old kept t events piece client_old client_new host_old host_new notes_old notes_new stands f = record {
+takes-asked : (first : ℕ) (old : Inner) (kept : Kept (Unit {0})) (t : Translator) (events : List Event) (piece : List ℕ) (out_old out_new : Outputs) → Stands first (kept_of old) events →
+    Finished first (client_half first) kept t (client_bytes events) piece (arrivals events) out_old out_new →
+    TakesOn first (record old { client = kept; translator = t }) events (ClientPiece piece) out_old out_new
+takes-asked first old kept t events piece out_old out_new stands f = record {
   stands = record {
     works = stands.works;
     translates = f.translates;
@@ -105,10 +105,10 @@ takes-asked first old kept t events piece client_old client_new host_old host_ne
   sends = f.sends;
 }
 
-halts-asked : (first : ℕ) (old : Inner) (kept : Kept (Unit {0})) (t : Translator) (events : List Event) (piece client_old client_new host_old host_new : List ℕ) (notes_old notes_new : List Note) → Stands first (kept_of old) events →
-    Halted first (client_half first) kept t (client_bytes events) piece (arrivals events) client_old client_new host_old host_new notes_old notes_new →
-    Stops first (kept_of (record old { client = kept; translator = t })) events (ClientPiece piece) client_old client_new host_old host_new
-halts-asked first old kept t events piece client_old client_new host_old host_new notes_old notes_new stands h = record {
+halts-asked : (first : ℕ) (old : Inner) (kept : Kept (Unit {0})) (t : Translator) (events : List Event) (piece : List ℕ) (out_old out_new : Outputs) → Stands first (kept_of old) events →
+    Halted first (client_half first) kept t (client_bytes events) piece (arrivals events) out_old out_new →
+    Stops first (kept_of (record old { client = kept; translator = t })) events (ClientPiece piece) out_old.to_client out_new.to_client out_old.to_host out_new.to_host
+halts-asked first old kept t events piece out_old out_new stands h = record {
   taken = h.taken;
   later = h.next ∷ h.behind;
   parts = h.parts;
@@ -126,26 +126,26 @@ halts-asked first old kept t events piece client_old client_new host_old host_ne
   host = h.sends.host;
 }
 
-unput-asked : (first : ℕ) (old : Inner) (kept : Kept (Unit {0})) (t : Translator) (events : List Event) (piece client_old client_new host_old host_new : List ℕ) (notes_old notes_new : List Note) → Stands first (kept_of old) events →
-    IsUnput old.client kept old.translator t piece client_old client_new host_old host_new notes_old notes_new → Stops first (kept_of (record old { client = kept; translator = t })) events (ClientPiece piece) client_old client_new host_old host_new
-unput-asked first old kept t events piece client_old client_new host_old host_new notes_old notes_new stands u =
-    stops-still first (record old { client = kept }) t events (ClientPiece piece) client_old client_new host_old host_new notes_old notes_new u.nothing
-    (stops-before first (record old { client = kept }) events (ClientPiece piece) client_old host_old (record {
+unput-asked : (first : ℕ) (old : Inner) (kept : Kept (Unit {0})) (t : Translator) (events : List Event) (piece : List ℕ) (out_old out_new : Outputs) → Stands first (kept_of old) events →
+    IsUnput old.client kept old.translator t piece out_old out_new → Stops first (kept_of (record old { client = kept; translator = t })) events (ClientPiece piece) out_old.to_client out_new.to_client out_old.to_host out_new.to_host
+unput-asked first old kept t events piece out_old out_new stands u =
+    stops-still first (record old { client = kept }) t events (ClientPiece piece) out_old out_new u.nothing
+    (stops-before first (record old { client = kept }) events (ClientPiece piece) out_old.to_client out_old.to_host (record {
       translates = stands.translates;
       client = stands-all client_reader client-steady client_start kept (client_bytes events) (asked (arrivals events)) (client_over (history first events))
           (all-passed client_reader client-steady client_start old.client kept (client_bytes events) (asked (arrivals events)) (client_over (history first events)) stands.client u.kept);
       host = (stands-for first old events stands).host;
     }) (inl (u.some.0, sym stands.client.over_is ∙ u.some.1)))
 
-pub took-asked : (r : Result (Unit {0}) Memory) (old : Inner) (kept : Kept (Unit {0})) (t : Translator) (piece client_old client_new host_old host_new : List ℕ) (notes_old notes_new : List Note) →
-    TakesPiece r client_half old.client kept old.translator t piece client_old client_new host_old host_new notes_old notes_new →
-    TakesEvent r old (record old { client = kept; translator = t }) (ClientPiece piece) client_old client_new host_old host_new notes_old notes_new
-took-asked (Ok v) old kept t piece client_old client_new host_old host_new notes_old notes_new takes = λ first events stands.
-    takes-asked first old kept t events piece client_old client_new host_old host_new notes_old notes_new stands (takes first (client_bytes events) (arrivals events) (record { all = stands.client; translates = stands.translates }))
-took-asked (Err memory) old kept t piece client_old client_new host_old host_new notes_old notes_new takes = λ first events stands.
+pub took-asked : (r : Result (Unit {0}) Memory) (old : Inner) (kept : Kept (Unit {0})) (t : Translator) (piece : List ℕ) (out_old out_new : Outputs) →
+    TakesPiece r client_half old.client kept old.translator t piece out_old out_new →
+    TakesEvent r old (record old { client = kept; translator = t }) (ClientPiece piece) out_old out_new
+took-asked (Ok v) old kept t piece out_old out_new takes = λ first events stands.
+    takes-asked first old kept t events piece out_old out_new stands (takes first (client_bytes events) (arrivals events) (record { all = stands.client; translates = stands.translates }))
+took-asked (Err memory) old kept t piece out_old out_new takes = λ first events stands.
     elim (takes first (client_bytes events) (arrivals events) (record { all = stands.client; translates = stands.translates })) [
-      | inl unput ↦ unput-asked first old kept t events piece client_old client_new host_old host_new notes_old notes_new stands unput
-      | inr halted ↦ halts-asked first old kept t events piece client_old client_new host_old host_new notes_old notes_new stands halted
+      | inl unput ↦ unput-asked first old kept t events piece out_old out_new stands unput
+      | inr halted ↦ halts-asked first old kept t events piece out_old out_new stands halted
     ]
 
 -- it stands somewhere
@@ -154,10 +154,10 @@ asked-past old has = ∥∥₁_map has (λ w. (w.0, (client_bytes w.1.0, (arriva
 
 -- ---- a piece of the host
 
-takes-told : (first : ℕ) (old : Inner) (kept : Kept RedirState) (t : Translator) (events : List Event) (piece client_old client_new host_old host_new : List ℕ) (notes_old notes_new : List Note) → Stands first (kept_of old) events →
-    Finished first (host_half first) kept t (host_bytes events) piece (arrivals events) client_old client_new host_old host_new notes_old notes_new →
-    TakesOn first (record old { host = kept; translator = t }) events (HostPiece piece) client_old client_new host_old host_new notes_old notes_new
-takes-told first old kept t events piece client_old client_new host_old host_new notes_old notes_new stands f = record {
+takes-told : (first : ℕ) (old : Inner) (kept : Kept RedirState) (t : Translator) (events : List Event) (piece : List ℕ) (out_old out_new : Outputs) → Stands first (kept_of old) events →
+    Finished first (host_half first) kept t (host_bytes events) piece (arrivals events) out_old out_new →
+    TakesOn first (record old { host = kept; translator = t }) events (HostPiece piece) out_old out_new
+takes-told first old kept t events piece out_old out_new stands f = record {
   stands = record {
     works = stands.works;
     translates = f.translates;
@@ -168,10 +168,10 @@ takes-told first old kept t events piece client_old client_new host_old host_new
   sends = f.sends;
 }
 
-halts-told : (first : ℕ) (old : Inner) (kept : Kept RedirState) (t : Translator) (events : List Event) (piece client_old client_new host_old host_new : List ℕ) (notes_old notes_new : List Note) → Stands first (kept_of old) events →
-    Halted first (host_half first) kept t (host_bytes events) piece (arrivals events) client_old client_new host_old host_new notes_old notes_new →
-    Stops first (kept_of (record old { host = kept; translator = t })) events (HostPiece piece) client_old client_new host_old host_new
-halts-told first old kept t events piece client_old client_new host_old host_new notes_old notes_new stands h = record {
+halts-told : (first : ℕ) (old : Inner) (kept : Kept RedirState) (t : Translator) (events : List Event) (piece : List ℕ) (out_old out_new : Outputs) → Stands first (kept_of old) events →
+    Halted first (host_half first) kept t (host_bytes events) piece (arrivals events) out_old out_new →
+    Stops first (kept_of (record old { host = kept; translator = t })) events (HostPiece piece) out_old.to_client out_new.to_client out_old.to_host out_new.to_host
+halts-told first old kept t events piece out_old out_new stands h = record {
   taken = h.taken;
   later = h.next ∷ h.behind;
   parts = h.parts;
@@ -189,26 +189,26 @@ halts-told first old kept t events piece client_old client_new host_old host_new
   host = h.sends.host;
 }
 
-unput-told : (first : ℕ) (old : Inner) (kept : Kept RedirState) (t : Translator) (events : List Event) (piece client_old client_new host_old host_new : List ℕ) (notes_old notes_new : List Note) → Stands first (kept_of old) events →
-    IsUnput old.host kept old.translator t piece client_old client_new host_old host_new notes_old notes_new → Stops first (kept_of (record old { host = kept; translator = t })) events (HostPiece piece) client_old client_new host_old host_new
-unput-told first old kept t events piece client_old client_new host_old host_new notes_old notes_new stands u =
-    stops-still first (record old { host = kept }) t events (HostPiece piece) client_old client_new host_old host_new notes_old notes_new u.nothing
-    (stops-before first (record old { host = kept }) events (HostPiece piece) client_old host_old (record {
+unput-told : (first : ℕ) (old : Inner) (kept : Kept RedirState) (t : Translator) (events : List Event) (piece : List ℕ) (out_old out_new : Outputs) → Stands first (kept_of old) events →
+    IsUnput old.host kept old.translator t piece out_old out_new → Stops first (kept_of (record old { host = kept; translator = t })) events (HostPiece piece) out_old.to_client out_new.to_client out_old.to_host out_new.to_host
+unput-told first old kept t events piece out_old out_new stands u =
+    stops-still first (record old { host = kept }) t events (HostPiece piece) out_old out_new u.nothing
+    (stops-before first (record old { host = kept }) events (HostPiece piece) out_old.to_client out_old.to_host (record {
       translates = stands.translates;
       host = stands-all host_reader host-steady host_start kept (host_bytes events) (told (arrivals events)) (host_over (history first events))
           (all-passed host_reader host-steady host_start old.host kept (host_bytes events) (told (arrivals events)) (host_over (history first events)) stands.host u.kept);
       client = (stands-for first old events stands).client;
     }) (inl (u.some.0, sym stands.host.over_is ∙ u.some.1)))
 
-pub took-told : (r : Result (Unit {0}) Memory) (old : Inner) (kept : Kept RedirState) (t : Translator) (piece client_old client_new host_old host_new : List ℕ) (notes_old notes_new : List Note) →
-    TakesPiece r host_half old.host kept old.translator t piece client_old client_new host_old host_new notes_old notes_new →
-    TakesEvent r old (record old { host = kept; translator = t }) (HostPiece piece) client_old client_new host_old host_new notes_old notes_new
-took-told (Ok v) old kept t piece client_old client_new host_old host_new notes_old notes_new takes = λ first events stands.
-    takes-told first old kept t events piece client_old client_new host_old host_new notes_old notes_new stands (takes first (host_bytes events) (arrivals events) (record { all = stands.host; translates = stands.translates }))
-took-told (Err memory) old kept t piece client_old client_new host_old host_new notes_old notes_new takes = λ first events stands.
+pub took-told : (r : Result (Unit {0}) Memory) (old : Inner) (kept : Kept RedirState) (t : Translator) (piece : List ℕ) (out_old out_new : Outputs) →
+    TakesPiece r host_half old.host kept old.translator t piece out_old out_new →
+    TakesEvent r old (record old { host = kept; translator = t }) (HostPiece piece) out_old out_new
+took-told (Ok v) old kept t piece out_old out_new takes = λ first events stands.
+    takes-told first old kept t events piece out_old out_new stands (takes first (host_bytes events) (arrivals events) (record { all = stands.host; translates = stands.translates }))
+took-told (Err memory) old kept t piece out_old out_new takes = λ first events stands.
     elim (takes first (host_bytes events) (arrivals events) (record { all = stands.host; translates = stands.translates })) [
-      | inl unput ↦ unput-told first old kept t events piece client_old client_new host_old host_new notes_old notes_new stands unput
-      | inr halted ↦ halts-told first old kept t events piece client_old client_new host_old host_new notes_old notes_new stands halted
+      | inl unput ↦ unput-told first old kept t events piece out_old out_new stands unput
+      | inr halted ↦ halts-told first old kept t events piece out_old out_new stands halted
     ]
 
 -- it stands somewhere

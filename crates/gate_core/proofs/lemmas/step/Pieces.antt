@@ -15,6 +15,7 @@ use Rattle.packet_stream.specs.Items.{packets, wrongs, items, added}
 use Rattle.packet_stream.proofs.Loops.{changed_to}
 use Rattle.gate_history.specs.declared.item.Item.{Item as RawItem}
 use Rattle.gate_history.specs.declared.note.Note.{Note}
+use Rattle.gate_core.specs.declared.write.outputs.Outputs.{Outputs}
 use Rattle.gate_core.specs.declared.state.kept.Kept.{Kept as Translator}
 use Rattle.gate_history.specs.step.Items.{Item}
 use Rattle.gate_history.specs.state.State.{State, state_of}
@@ -89,32 +90,32 @@ skip-all first d (x ∷ later) xs over e =
 
 -- ---- within the piece
 
-pub record Taking {S P : Type 0} (first : ℕ) (h : Half S P) (kept : Kept S) (t : Translator) (bytes piece : List ℕ) (before : List Item) (client_old client_new host_old host_new : List ℕ) (notes_old notes_new : List Note) : Type 0 where
+pub record Taking {S P : Type 0} (first : ℕ) (h : Half S P) (kept : Kept S) (t : Translator) (bytes piece : List ℕ) (before : List Item) (out_old out_new : Outputs) : Type 0 where
   pub taken : List Item
   pub stream : Taken h.stream kept bytes piece (h.came before) taken
   pub over_is : kept.over ≡ h.stream.over (onto taken before)
   pub translates : Translates first (items_of t) (onto taken before)
-  pub sends : Sends first client_old client_new host_old host_new notes_old notes_new before (onto taken before)
+  pub sends : Sends first out_old out_new before (onto taken before)
   pub others_are : h.others (onto taken before) ≡ h.others before
   pub other_over : h.other_over (onto taken before) ≡ h.other_over before
 
-pub taking-first : {S P : Type 0} (first : ℕ) (d : Side S P first) (old new : Kept S) (t : Translator) (bytes piece : List ℕ) (before : List Item) (client host : List ℕ) (notes : List Note) → AreBytes piece →
+pub taking-first : {S P : Type 0} (first : ℕ) (d : Side S P first) (old new : Kept S) (t : Translator) (bytes piece : List ℕ) (before : List Item) (out : Outputs) → AreBytes piece →
     HasAll d.half.stream.reader d.half.stream.start old bytes (d.half.came before) (d.half.stream.over before) → Translates first (items_of t) before → new ≡ after_piece old piece → Puts d.half.stream.reader piece old new →
-    Taking first d.half new t bytes piece before client client host host notes notes
-taking-first first d old new t bytes piece before client host notes are all translates is puts = record {
+    Taking first d.half new t bytes piece before out out
+taking-first first d old new t bytes piece before out are all translates is puts = record {
   taken = [];
   stream = taken-put d.half.stream d.steady old new bytes piece (d.half.came before) (d.half.stream.over before) are all is puts;
   over_is = over-put old new piece is ∙ all.over_is;
   translates = translates;
-  sends = sends-none first client host notes before;
+  sends = sends-none first out before;
   others_are = refl;
   other_over = refl;
 }
 
 -- the stream goes on behind what was taken
-pub goes-on : {S P : Type 0} (first : ℕ) (d : Side S P first) (kept : Kept S) (t : Translator) (bytes piece : List ℕ) (before : List Item) (client_old client_new host_old host_new : List ℕ) (notes_old notes_new : List Note) →
-    Taking first d.half kept t bytes piece before client_old client_new host_old host_new notes_old notes_new → kept.over ≡ false → GoesOn first d.half kept t
-goes-on {P = P} first d kept t bytes piece before client_old client_new host_old host_new notes_old notes_new k runs =
+pub goes-on : {S P : Type 0} (first : ℕ) (d : Side S P first) (kept : Kept S) (t : Translator) (bytes piece : List ℕ) (before : List Item) (out_old out_new : Outputs) →
+    Taking first d.half kept t bytes piece before out_old out_new → kept.over ≡ false → GoesOn first d.half kept t
+goes-on {P = P} first d kept t bytes piece before out_old out_new k runs =
     let g = k.stream.going runs in
     let came : d.half.came (onto k.taken before) ≡ d.half.came before ++ g.more = ap (λ (l : List Item). d.half.came (onto l before)) g.are ∙ came-onto first d g.more before in
     record {
@@ -126,33 +127,33 @@ goes-on {P = P} first d kept t bytes piece before client_old client_new host_old
     }
 
 -- what the translator says of an item that it took
-abbrev pub TakesItem : Translator → Translator → RawItem → List ℕ → List ℕ → List ℕ → List ℕ → List Note → List Note → Type 0
-TakesItem old new item client_old client_new host_old host_new notes_old notes_new =
-    (st : State) (x : Item) → IsItem item x → Holds old st → IsSound st → is_left_out st x ≡ false → Does st (mark_of st x) old new client_old client_new host_old host_new notes_old notes_new
+abbrev pub TakesItem : Translator → Translator → RawItem → Outputs → Outputs → Type 0
+TakesItem old new item out_old out_new =
+    (st : State) (x : Item) → IsItem item x → Holds old st → IsSound st → is_left_out st x ≡ false → Does st (mark_of st x) old new out_old out_new
 
 ended-over : {S : Type 0} (kept : Kept S) (flag over : Bool) → flag ≡ over → (over ≡ false → kept.over ≡ false) → (ended_if flag kept).over ≡ over
 ended-over kept true over e going = e
 ended-over kept false over e going = going (sym e) ∙ e
 
-taking-one : {S P : Type 0} (first : ℕ) (d : Side S P first) (old new : Kept S) (t u : Translator) (bytes piece : List ℕ) (before : List Item) (client_old client client_new host_old host host_new : List ℕ) (notes_old notes notes_new : List Note) (item : RawItem) (x : Item) →
-    (k : Taking first d.half old t bytes piece before client_old client host_old host notes_old notes) → old.over ≡ false → Taken d.half.stream new bytes piece (d.half.came before) (k.taken ++ x ∷ []) → IsItem item x →
+taking-one : {S P : Type 0} (first : ℕ) (d : Side S P first) (old new : Kept S) (t u : Translator) (bytes piece : List ℕ) (before : List Item) (out_old out out_new : Outputs) (item : RawItem) (x : Item) →
+    (k : Taking first d.half old t bytes piece before out_old out) → old.over ≡ false → Taken d.half.stream new bytes piece (d.half.came before) (k.taken ++ x ∷ []) → IsItem item x →
     ((xs : List Item) → is_left_out (state_of first (past first xs)) x ≡ d.half.stream.over xs) → ((xs : List Item) → d.half.others (x ∷ xs) ≡ d.half.others xs) → ((xs : List Item) → d.half.other_over (x ∷ xs) ≡ d.half.other_over xs) →
     ((xs : List Item) → d.half.stream.over (x ∷ xs) ≡ false → new.over ≡ false) →
-    TakesItem t u item client client_new host host_new notes notes_new → Taking first d.half (ended_if (d.flag u) new) u bytes piece before client_old client_new host_old host_new notes_old notes_new
-taking-one first d old new t u bytes piece before client_old client client_new host_old host host_new notes_old notes notes_new item x k runs stream is out others other going takes =
+    TakesItem t u item out out_new → Taking first d.half (ended_if (d.flag u) new) u bytes piece before out_old out_new
+taking-one first d old new t u bytes piece before out_old out out_new item x k runs stream is left others other going takes =
     let xs = onto k.taken before in
     let st = state_of first (past first xs) in
-    let taken : is_left_out st x ≡ false = out xs ∙ sym k.over_is ∙ runs in
+    let taken : is_left_out st x ≡ false = left xs ∙ sym k.over_is ∙ runs in
     let does = takes st x is k.translates.state (state-sound first xs) taken in
-    let translates = translates-item first t u xs x client client_new host host_new notes notes_new k.translates taken does in
+    let translates = translates-item first t u xs x out out_new k.translates taken does in
     let behind : onto (k.taken ++ x ∷ []) before ≡ x ∷ xs = onto-append k.taken (x ∷ []) before in
     record {
       taken = k.taken ++ x ∷ [];
       stream = taken-ended d.half.stream new bytes piece (d.half.came before) (k.taken ++ x ∷ []) stream (d.flag u);
       over_is = ended-over new (d.flag u) (d.half.stream.over (x ∷ xs)) (d.laws.over_is u (x ∷ xs) translates) (going xs) ∙ ap d.half.stream.over (sym behind);
       translates = subst (Translates first (items_of u)) (sym behind) translates;
-      sends = subst (Sends first client_old client_new host_old host_new notes_old notes_new before) (sym behind)
-          (sends-item first t u before xs x client_old client client_new host_old host host_new notes_old notes notes_new k.sends taken does);
+      sends = subst (Sends first out_old out_new before) (sym behind)
+          (sends-item first t u before xs x out_old out out_new k.sends taken does);
       others_are = ap d.half.others behind ∙ others xs ∙ k.others_are;
       other_over = ap d.half.other_over behind ∙ other xs ∙ k.other_over;
     }
@@ -160,31 +161,31 @@ taking-one first d old new t u bytes piece before client_old client client_new h
 pub same-item : (a b : RawItem) → ◌≡◌ {A = Result (Option RawItem) Memory} (Ok (Some a)) (Ok (Some b)) → a ≡ b
 same-item a b e = cc
 
-pub taking-item : {S P : Type 0} (first : ℕ) (d : Side S P first) (takes : P → Bool) (old new : Kept S) (t u : Translator) (bytes piece : List ℕ) (before : List Item) (client_old client client_new host_old host host_new : List ℕ) (notes_old notes notes_new : List Note) (item : RawItem) (answer : Result (Option (ℕ × P)) ReadError) →
-    item_next d.raw_packet d.raw_wrong answer ≡ Ok (Some item) → Changes answer old new → Nexts d.half.stream.reader takes answer old new → TakesItem t u item client client_new host host_new notes notes_new →
-    Taking first d.half old t bytes piece before client_old client host_old host notes_old notes →
-    Taking first d.half (ended_if (d.flag u) new) u bytes piece before client_old client_new host_old host_new notes_old notes_new
-taking-item first d takes old new t u bytes piece before client_old client client_new host_old host host_new notes_old notes notes_new item (Ok None) is changes nexts translator k = absurd cc
-taking-item first d takes old new t u bytes piece before client_old client client_new host_old host host_new notes_old notes notes_new item (Ok (Some i)) is changes nexts translator k =
+pub taking-item : {S P : Type 0} (first : ℕ) (d : Side S P first) (takes : P → Bool) (old new : Kept S) (t u : Translator) (bytes piece : List ℕ) (before : List Item) (out_old out out_new : Outputs) (item : RawItem) (answer : Result (Option (ℕ × P)) ReadError) →
+    item_next d.raw_packet d.raw_wrong answer ≡ Ok (Some item) → Changes answer old new → Nexts d.half.stream.reader takes answer old new → TakesItem t u item out out_new →
+    Taking first d.half old t bytes piece before out_old out →
+    Taking first d.half (ended_if (d.flag u) new) u bytes piece before out_old out_new
+taking-item first d takes old new t u bytes piece before out_old out out_new item (Ok None) is changes nexts translator k = absurd cc
+taking-item first d takes old new t u bytes piece before out_old out out_new item (Ok (Some i)) is changes nexts translator k =
     let a = taken-packet d.half.stream takes old new bytes piece (d.half.came before) k.taken i k.stream changes nexts in
     let x = d.half.stream.packet a.at i.1 in
     let it : IsItem item x = subst (λ (y : RawItem). IsItem y x) (same-item (d.raw_packet i.0 i.1) item is) (d.laws.is_packet i.0 a.at i.1 a.place-is) in
-    taking-one first d old new t u bytes piece before client_old client client_new host_old host host_new notes_old notes notes_new item x k changes.1 a.stream it
+    taking-one first d old new t u bytes piece before out_old out out_new item x k changes.1 a.stream it
     (λ xs. d.laws.out_packet xs a.at i.1) (λ xs. d.laws.others_packet xs a.at i.1) (λ xs. d.laws.other_packet xs a.at i.1) (λ xs _. changes.2) translator
-taking-item first d takes old new t u bytes piece before client_old client client_new host_old host host_new notes_old notes notes_new item (Err (Refused place why)) is changes nexts translator k =
+taking-item first d takes old new t u bytes piece before out_old out out_new item (Err (Refused place why)) is changes nexts translator k =
     let a = taken-wrong d.half.stream takes old new bytes piece (d.half.came before) k.taken place why k.stream changes nexts in
     let x = d.half.stream.wrong a.at why in
     let it : IsItem item x = subst (λ (y : RawItem). IsItem y x) (same-item (d.raw_wrong place why) item is) (d.laws.is_wrong place a.at why a.place-is) in
-    taking-one first d old new t u bytes piece before client_old client client_new host_old host host_new notes_old notes notes_new item x k changes.0 a.stream it
+    taking-one first d old new t u bytes piece before out_old out out_new item x k changes.0 a.stream it
     (λ xs. d.laws.out_wrong xs a.at why) (λ xs. d.laws.others_wrong xs a.at why) (λ xs. d.laws.other_wrong xs a.at why) (λ xs e. absurd (true≢false (sym (d.laws.over_wrong xs a.at why) ∙ e))) translator
-taking-item first d takes old new t u bytes piece before client_old client client_new host_old host host_new notes_old notes notes_new item (Err (OutOfMemory memory)) is changes nexts translator k = absurd cc
+taking-item first d takes old new t u bytes piece before out_old out out_new item (Err (OutOfMemory memory)) is changes nexts translator k = absurd cc
 
 -- ---- nothing more is there
 
-finished-going : {S P : Type 0} (first : ℕ) (d : Side S P first) (takes : P → Bool) (old new : Kept S) (t : Translator) (bytes piece : List ℕ) (before : List Item) (client_old client_new host_old host_new : List ℕ) (notes_old notes_new : List Note) →
-    Changes {P = P} (Ok None) old new → Nexts d.half.stream.reader takes (Ok None) old new → Taking first d.half old t bytes piece before client_old client_new host_old host_new notes_old notes_new → old.over ≡ false →
-    Finished first d.half new t bytes piece before client_old client_new host_old host_new notes_old notes_new
-finished-going {S = S} {P = P} first d takes old new t bytes piece before client_old client_new host_old host_new notes_old notes_new changes nexts k runs =
+finished-going : {S P : Type 0} (first : ℕ) (d : Side S P first) (takes : P → Bool) (old new : Kept S) (t : Translator) (bytes piece : List ℕ) (before : List Item) (out_old out_new : Outputs) →
+    Changes {P = P} (Ok None) old new → Nexts d.half.stream.reader takes (Ok None) old new → Taking first d.half old t bytes piece before out_old out_new → old.over ≡ false →
+    Finished first d.half new t bytes piece before out_old out_new
+finished-going {S = S} {P = P} first d takes old new t bytes piece before out_old out_new changes nexts k runs =
     let a = taken-all d.half.stream takes old new bytes piece (d.half.came before) k.taken k.stream changes nexts runs in
     let xs = onto k.taken before in
     let same : onto (added d.half.stream bytes piece) before ≡ xs = ap (λ (l : List Item). onto l before) a.parts in
@@ -196,15 +197,15 @@ finished-going {S = S} {P = P} first d takes old new t bytes piece before client
     record {
       all = subst (λ (l : List Item). HasAll d.half.stream.reader d.half.stream.start new (bytes ++ piece) (d.half.came l) (d.half.stream.over l)) (sym same) all;
       translates = subst (Translates first (items_of t)) (sym same) k.translates;
-      sends = subst (Sends first client_old client_new host_old host_new notes_old notes_new before) (sym same) k.sends;
+      sends = subst (Sends first out_old out_new before) (sym same) k.sends;
       others_are = ap d.half.others same ∙ k.others_are;
       other_over = ap d.half.other_over same ∙ k.other_over;
     }
 
-finished-over : {S P : Type 0} (first : ℕ) (d : Side S P first) (old new : Kept S) (t : Translator) (bytes piece : List ℕ) (before : List Item) (client_old client_new host_old host_new : List ℕ) (notes_old notes_new : List Note) →
-    AreBytes bytes → AreBytes piece → new ≡ passed old → Taking first d.half old t bytes piece before client_old client_new host_old host_new notes_old notes_new → old.over ≡ true →
-    Finished first d.half new t bytes piece before client_old client_new host_old host_new notes_old notes_new
-finished-over {S = S} first d old new t bytes piece before client_old client_new host_old host_new notes_old notes_new are more is k ends =
+finished-over : {S P : Type 0} (first : ℕ) (d : Side S P first) (old new : Kept S) (t : Translator) (bytes piece : List ℕ) (before : List Item) (out_old out_new : Outputs) →
+    AreBytes bytes → AreBytes piece → new ≡ passed old → Taking first d.half old t bytes piece before out_old out_new → old.over ≡ true →
+    Finished first d.half new t bytes piece before out_old out_new
+finished-over {S = S} first d old new t bytes piece before out_old out_new are more is k ends =
     let cut = cut-passed d.half.stream old new bytes piece k.taken is (k.stream.cut ends) in
     let xs = onto k.taken before in
     let over : d.half.stream.over xs ≡ true = sym k.over_is ∙ ends in
@@ -224,18 +225,18 @@ finished-over {S = S} first d old new t bytes piece before client_old client_new
         fits = AreBytes-append bytes piece are more;
       };
       translates = translates-past first t xs ys past-is k.translates;
-      sends = sends-past first client_old client_new host_old host_new notes_old notes_new before xs ys past-is k.sends;
+      sends = sends-past first out_old out_new before xs ys past-is k.sends;
       others_are = ap d.half.others same ∙ skipped.others-are ∙ k.others_are;
       other_over = d.laws.other_past ys xs past-is ∙ k.other_over;
     }
 
-finished-by : {S P : Type 0} (first : ℕ) (d : Side S P first) (takes : P → Bool) (old new : Kept S) (t : Translator) (bytes piece : List ℕ) (before : List Item) (client_old client_new host_old host_new : List ℕ) (notes_old notes_new : List Note) →
-    AreBytes bytes → AreBytes piece → Changes {P = P} (Ok None) old new → Nexts d.half.stream.reader takes (Ok None) old new → Taking first d.half old t bytes piece before client_old client_new host_old host_new notes_old notes_new →
-    (over : Bool) → old.over ≡ over → Finished first d.half new t bytes piece before client_old client_new host_old host_new notes_old notes_new
-finished-by first d takes old new t bytes piece before client_old client_new host_old host_new notes_old notes_new are more changes nexts k false runs =
-    finished-going first d takes old new t bytes piece before client_old client_new host_old host_new notes_old notes_new changes nexts k runs
-finished-by first d takes old new t bytes piece before client_old client_new host_old host_new notes_old notes_new are more changes nexts k true ends =
-    finished-over first d old new t bytes piece before client_old client_new host_old host_new notes_old notes_new are more changes k ends
+finished-by : {S P : Type 0} (first : ℕ) (d : Side S P first) (takes : P → Bool) (old new : Kept S) (t : Translator) (bytes piece : List ℕ) (before : List Item) (out_old out_new : Outputs) →
+    AreBytes bytes → AreBytes piece → Changes {P = P} (Ok None) old new → Nexts d.half.stream.reader takes (Ok None) old new → Taking first d.half old t bytes piece before out_old out_new →
+    (over : Bool) → old.over ≡ over → Finished first d.half new t bytes piece before out_old out_new
+finished-by first d takes old new t bytes piece before out_old out_new are more changes nexts k false runs =
+    finished-going first d takes old new t bytes piece before out_old out_new changes nexts k runs
+finished-by first d takes old new t bytes piece before out_old out_new are more changes nexts k true ends =
+    finished-over first d old new t bytes piece before out_old out_new are more changes k ends
 
 no-item : {P : Type 0} (packet : ℕ → P → RawItem) (wrong : ℕ → Reason → RawItem) (answer : Result (Option (ℕ × P)) ReadError) → item_next packet wrong answer ≡ Ok None → answer ≡ Ok None
 no-item packet wrong (Ok None) e = refl
@@ -243,12 +244,12 @@ no-item packet wrong (Ok (Some i)) e = absurd cc
 no-item packet wrong (Err (Refused place why)) e = absurd cc
 no-item packet wrong (Err (OutOfMemory memory)) e = absurd cc
 
-pub taking-all : {S P : Type 0} (first : ℕ) (d : Side S P first) (takes : P → Bool) (old new : Kept S) (t : Translator) (bytes piece : List ℕ) (before : List Item) (client_old client_new host_old host_new : List ℕ) (notes_old notes_new : List Note) (answer : Result (Option (ℕ × P)) ReadError) →
+pub taking-all : {S P : Type 0} (first : ℕ) (d : Side S P first) (takes : P → Bool) (old new : Kept S) (t : Translator) (bytes piece : List ℕ) (before : List Item) (out_old out_new : Outputs) (answer : Result (Option (ℕ × P)) ReadError) →
     AreBytes bytes → AreBytes piece → item_next d.raw_packet d.raw_wrong answer ≡ Ok None → Changes answer old new → Nexts d.half.stream.reader takes answer old new →
-    Taking first d.half old t bytes piece before client_old client_new host_old host_new notes_old notes_new → Finished first d.half new t bytes piece before client_old client_new host_old host_new notes_old notes_new
-taking-all {P = P} first d takes old new t bytes piece before client_old client_new host_old host_new notes_old notes_new answer are more is changes nexts k =
+    Taking first d.half old t bytes piece before out_old out_new → Finished first d.half new t bytes piece before out_old out_new
+taking-all {P = P} first d takes old new t bytes piece before out_old out_new answer are more is changes nexts k =
     let none = no-item d.raw_packet d.raw_wrong answer is in
-    finished-by first d takes old new t bytes piece before client_old client_new host_old host_new notes_old notes_new are more (changed_to old new answer (Ok None) changes none)
+    finished-by first d takes old new t bytes piece before out_old out_new are more (changed_to old new answer (Ok None) changes none)
     (subst (λ (x : Result (Option (ℕ × P)) ReadError). Nexts d.half.stream.reader takes x old new) none nexts) k old.over refl
 
 -- ---- memory ran out
@@ -292,10 +293,10 @@ wants-by first d takes same t xs (Err (OutOfMemory memory)) x is w translates ov
     })
 
 pub taking-halted : {S P : Type 0} (first : ℕ) (d : Side S P first) (takes : P → Bool) → ((n : ℕ) (p : P) → takes p ≡ takes_memory (d.half.stream.packet n p)) →
-    (old new : Kept S) (t : Translator) (bytes piece : List ℕ) (before : List Item) (client_old client_new host_old host_new : List ℕ) (notes_old notes_new : List Note) (answer : Result (Option (ℕ × P)) ReadError) →
+    (old new : Kept S) (t : Translator) (bytes piece : List ℕ) (before : List Item) (out_old out_new : Outputs) (answer : Result (Option (ℕ × P)) ReadError) →
     WantsItem t (item_next d.raw_packet d.raw_wrong answer) → Changes answer old new → Nexts d.half.stream.reader takes answer old new →
-    Taking first d.half old t bytes piece before client_old client_new host_old host_new notes_old notes_new → Halted first d.half new t bytes piece before client_old client_new host_old host_new notes_old notes_new
-taking-halted {S = S} {P = P} first d takes same old new t bytes piece before client_old client_new host_old host_new notes_old notes_new answer wants changes nexts k =
+    Taking first d.half old t bytes piece before out_old out_new → Halted first d.half new t bytes piece before out_old out_new
+taking-halted {S = S} {P = P} first d takes same old new t bytes piece before out_old out_new answer wants changes nexts k =
     let more = wants-more d.raw_packet d.raw_wrong t answer wants in
     let runs = more-runs old new answer more changes in
     let stuck = taken-stuck d.half.stream takes old new bytes piece (d.half.came before) k.taken answer more k.stream changes nexts in
@@ -319,21 +320,19 @@ taking-halted {S = S} {P = P} first d takes same old new t bytes piece before cl
       other_over = k.other_over;
     }
 
-pub nothing-done : (t : Translator) (client host : List ℕ) (notes : List Note) → DoesNothing t t client client host host notes notes
-nothing-done t client host notes = record { same = refl; client = refl; host = refl; notes = refl }
+pub nothing-done : (t : Translator) (out : Outputs) → DoesNothing t t out out
+nothing-done t out = record { same = refl; outputs = refl }
 
 -- for want of memory the translator has changed nothing
-pub halted-still : {S P : Type 0} (first : ℕ) (d : Side S P first) (kept : Kept S) (t u : Translator) (bytes piece : List ℕ) (before : List Item) (client_old client client_new host_old host host_new : List ℕ) (notes_old notes notes_new : List Note) →
-    DoesNothing t u client client_new host host_new notes notes_new → Halted first d.half kept t bytes piece before client_old client host_old host notes_old notes → Halted first d.half kept u bytes piece before client_old client_new host_old host_new notes_old notes_new
-halted-still first d kept t u bytes piece before client_old client client_new host_old host host_new notes_old notes notes_new nothing h =
-    subst (λ (x : Translator). Halted first d.half kept x bytes piece before client_old client_new host_old host_new notes_old notes_new) (sym nothing.same)
-    (subst (λ (x : List ℕ). Halted first d.half kept t bytes piece before client_old x host_old host_new notes_old notes_new) (sym nothing.client)
-    (subst (λ (x : List ℕ). Halted first d.half kept t bytes piece before client_old client host_old x notes_old notes_new) (sym nothing.host)
-    (subst (λ (x : List Note). Halted first d.half kept t bytes piece before client_old client host_old host notes_old x) (sym nothing.notes) h)))
+pub halted-still : {S P : Type 0} (first : ℕ) (d : Side S P first) (kept : Kept S) (t u : Translator) (bytes piece : List ℕ) (before : List Item) (out_old out out_new : Outputs) →
+    DoesNothing t u out out_new → Halted first d.half kept t bytes piece before out_old out → Halted first d.half kept u bytes piece before out_old out_new
+halted-still first d kept t u bytes piece before out_old out out_new nothing h =
+    subst (λ (x : Translator). Halted first d.half kept x bytes piece before out_old out_new) (sym nothing.same)
+    (subst (λ (o : Outputs). Halted first d.half kept t bytes piece before out_old o) (sym nothing.outputs) h)
 
-pub err-piece : {S P : Type 0} (r : Result (Unit {0}) Memory) (half : ℕ → Half S P) (old new : Kept S) (t u : Translator) (piece client_old client_new host_old host_new : List ℕ) (notes_old notes_new : List Note) → IsErr r →
+pub err-piece : {S P : Type 0} (r : Result (Unit {0}) Memory) (half : ℕ → Half S P) (old new : Kept S) (t u : Translator) (piece : List ℕ) (out_old out_new : Outputs) → IsErr r →
     ((first : ℕ) (bytes : List ℕ) (before : List Item) → IsAt first (half first) old t bytes before →
-    IsUnput old new t u piece client_old client_new host_old host_new notes_old notes_new ⊎ Halted first (half first) new u bytes piece before client_old client_new host_old host_new notes_old notes_new) →
-    TakesPiece r half old new t u piece client_old client_new host_old host_new notes_old notes_new
-err-piece (Ok v) half old new t u piece client_old client_new host_old host_new notes_old notes_new is stops = absurd (true≢false (sym is))
-err-piece (Err memory) half old new t u piece client_old client_new host_old host_new notes_old notes_new is stops = stops
+    IsUnput old new t u piece out_old out_new ⊎ Halted first (half first) new u bytes piece before out_old out_new) →
+    TakesPiece r half old new t u piece out_old out_new
+err-piece (Ok v) half old new t u piece out_old out_new is stops = absurd (true≢false (sym is))
+err-piece (Err memory) half old new t u piece out_old out_new is stops = stops

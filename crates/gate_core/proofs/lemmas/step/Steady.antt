@@ -13,6 +13,7 @@ use Rattle.redir_data.specs.declared.packet.RedirPacket.{RedirPacket}
 use Rattle.unlink_race.specs.declared.live.Live.{Live}
 use Rattle.gate_history.specs.declared.note.Note.{Note}
 use Rattle.gate_history.specs.declared.note.Note.TheVariants as note
+use Rattle.gate_core.specs.declared.write.outputs.Outputs.{Outputs}
 use Rattle.gate_core.specs.declared.state.kept.Kept.{Kept}
 use Rattle.gate_history.specs.step.Items.{capped}
 use Rattle.gate_history.specs.step.Marks.{Submission, Effect, Idle, Replies, Imports, Agrees}
@@ -86,7 +87,7 @@ module _ (st : State) (e : Effect) (l : IsSteady st e) where
       ∙ flat_map-none st.live)
       ∙ append-nil (replies st e)
 
-  pub does-steady : (old new : Kept) (rows : List Live) (client_old client_new host_old host_new : List ℕ) (notes_old notes_new : List Note) → Holds old st →
+  pub does-steady : (old new : Kept) (rows : List Live) (out_old out_new : Outputs) → Holds old st →
       old.answered ≤ 2 ^ 64 - 1 → old.unlinked ≤ 2 ^ 64 - 1 → old.dropped ≤ 2 ^ 64 - 1 →
       rows ≡ map row (map (ask e) st.live) →
       new ≡ record old {
@@ -97,11 +98,11 @@ module _ (st : State) (e : Effect) (l : IsSteady st e) where
         streams = moved_streams e old.streams;
         fence = moved_fence e old.fence;
       } →
-      client_new ≡ client_old ++ flat_map client_spelling (replies st e) →
-      host_new ≡ host_old ++ flat_map (host_packet_bytes st.agreed) (map cancel (filter (cancels e) st.live)) →
-      notes_new ≡ notes_old ++ (import_notes e ++ submit_notes e ++ unlink_notes e ++ arrival_notes e) →
-      Does st (mark_as st e None) old new client_old client_new host_old host_new notes_old notes_new
-  does-steady old new rows client_old client_new host_old host_new notes_old notes_new h answered_fits unlinked_fits dropped_fits asked is client host notes =
+      out_new.to_client ≡ out_old.to_client ++ flat_map client_spelling (replies st e) →
+      out_new.to_host ≡ out_old.to_host ++ flat_map (host_packet_bytes st.agreed) (map cancel (filter (cancels e) st.live)) →
+      out_new.notes ≡ out_old.notes ++ (import_notes e ++ submit_notes e ++ unlink_notes e ++ arrival_notes e) →
+      Does st (mark_as st e None) old new out_old out_new
+  does-steady old new rows out_old out_new h answered_fits unlinked_fits dropped_fits asked is client host notes =
       record {
         holds = record {
           facts = ap (λ (k : Kept). k.facts) is ∙ h.facts ∙ sym (ap (λ (b : Bool). cond b no_facts (tell st.facts None)) l.keeps);
@@ -119,11 +120,11 @@ module _ (st : State) (e : Effect) (l : IsSteady st e) where
               ∙ ap (map left_row) (sym (filter-same (λ s. not (is_answered e s)) (λ s. true) st.abandoned (every (λ s. not (is_answered e s) ≡ true) (λ s. ap not (l.answers_none s)) st.abandoned) ∙ filter-all st.abandoned))
               ∙ (λ i. map left_row (cond (sym l.stays i) (st.abandoned ++ filter (λ s. goes_by_id s.verdict) (submits st)) (cond (sym l.keeps i) [] (filter (λ s. not (is_answered e s)) st.abandoned))));
         };
-        client = client ∙ ap (λ (ps : List ClientPacket). client_old ++ flat_map client_spelling ps) (sym steady-answered);
-        host = host ∙ ap (λ (ps : List (ℕ × RedirPacket)). host_old ++ flat_map (host_packet_bytes st.agreed) ps)
+        client = client ∙ ap (λ (ps : List ClientPacket). out_old.to_client ++ flat_map client_spelling ps) (sym steady-answered);
+        host = host ∙ ap (λ (ps : List (ℕ × RedirPacket)). out_old.to_host ++ flat_map (host_packet_bytes st.agreed) ps)
             (sym (append-nil (map cancel (filter (cancels e) st.live))) ∙ sym (append-nil (map cancel (filter (cancels e) st.live) ++ []))
             ∙ (λ i. (map cancel (filter (cancels e) st.live) ++ zip (sym l.no_ids i) (sym l.no_packets i)) ++ sym (l.no_word st.agreed) i));
-        notes = notes ∙ ap (λ (ns : List Note). notes_old ++ ns)
+        notes = notes ∙ ap (λ (ns : List Note). out_old.notes ++ ns)
             (sym (append-nil told) ∙ sym (append-nil (told ++ [])) ∙ sym (append-nil ((told ++ []) ++ [])) ∙ sym (append-nil (((told ++ []) ++ []) ++ []))
             ∙ (λ i. (((told ++ sym steady-notes i) ++ when ((sym l.keeps i && st.imported) && not st.lost) note.DeviceGone) ++ when (sym l.stays i && not st.client_over) note.ClientGone) ++ refusal_notes (sym l.no_place i)));
         answered = ap (λ (k : Kept). k.answered) is ∙ capped-same old.answered answered_fits ∙ ap (λ (ps : List ClientPacket). capped (old.answered + length ps)) (sym l.no_answer ∙ ap (filter is_ret_submit) (sym steady-answered));
@@ -218,8 +219,8 @@ pub one-reply : (old new : List ℕ) (p : ClientPacket) → new ≡ old ++ clien
 one-reply old new p h = h ∙ ap (λ (bs : List ℕ). old ++ bs) (sym (append-nil (client_spelling p)))
 
 -- nothing is done
-pub does-idle : (st : State) (old : Kept) (client host : List ℕ) (notes : List Note) → Holds old st → old.answered ≤ 2 ^ 64 - 1 → old.unlinked ≤ 2 ^ 64 - 1 → old.dropped ≤ 2 ^ 64 - 1 →
-    Does st (mark_as st Idle None) old old client client host host notes notes
-does-idle st old client host notes h a u d =
-    does-steady st Idle (idle-steady st) old old old.lives.live client client host host notes notes h a u d
-    (rows-same Idle old.lives.live st.live (λ s. refl) h.live) refl (sym (append-nil client)) (host-same st.agreed Idle host st.live stays-uncancelled) (sym (append-nil notes))
+pub does-idle : (st : State) (old : Kept) (out : Outputs) → Holds old st → old.answered ≤ 2 ^ 64 - 1 → old.unlinked ≤ 2 ^ 64 - 1 → old.dropped ≤ 2 ^ 64 - 1 →
+    Does st (mark_as st Idle None) old old out out
+does-idle st old out h a u d =
+    does-steady st Idle (idle-steady st) old old old.lives.live out out h a u d
+    (rows-same Idle old.lives.live st.live (λ s. refl) h.live) refl (sym (append-nil out.to_client)) (host-same st.agreed Idle out.to_host st.live stays-uncancelled) (sym (append-nil out.notes))

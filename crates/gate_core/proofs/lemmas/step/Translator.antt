@@ -6,6 +6,7 @@ use Rattle.std.proofs.lemmas.List.Elements.{filter-append}
 use Rattle.packet_stream.proofs.Following.{capped-past}
 use Rattle.redir_wire.specs.Capability.{no_caps}
 use Rattle.gate_history.specs.declared.note.Note.{Note}
+use Rattle.gate_core.specs.declared.write.outputs.Outputs.{Outputs}
 use Rattle.gate_core.specs.declared.state.kept.Kept.{Kept as Translator}
 use Rattle.gate_history.specs.step.Items.{Item, capped}
 use Rattle.gate_history.specs.step.Marks.{Mark}
@@ -35,8 +36,8 @@ gains-then {A = A} a b c x y z p q = record {
   after-is = q.after-is ∙ ap (λ (l : List A). l ++ q.more) p.after-is ∙ append_assoc x p.more q.more;
 }
 
-pub sends-none : (first : ℕ) (client host : List ℕ) (notes : List Note) (h : List Item) → Sends first client client host host notes notes h h
-sends-none first client host notes h = record { client = gains-none client _; host = gains-none host _; told = gains-none notes _ }
+pub sends-none : (first : ℕ) (out : Outputs) (h : List Item) → Sends first out out h h
+sends-none first out h = record { client = gains-none out.to_client _; host = gains-none out.to_host _; told = gains-none out.notes _ }
 
 -- what depends on the past alone
 pub translates-past : (first : ℕ) (t : Translator) (xs ys : List Item) → past first ys ≡ past first xs → Translates first (items_of t) xs → Translates first (items_of t) ys
@@ -47,12 +48,12 @@ translates-past first t xs ys same h = record {
   dropped = h.dropped ∙ ap (λ (ms : List Mark). capped (length (all_of dropped first ms))) (sym same);
 }
 
-pub sends-past : (first : ℕ) (client_old client_new host_old host_new : List ℕ) (notes_old notes_new : List Note) (h k l : List Item) → past first l ≡ past first k →
-    Sends first client_old client_new host_old host_new notes_old notes_new h k → Sends first client_old client_new host_old host_new notes_old notes_new h l
-sends-past first client_old client_new host_old host_new notes_old notes_new h k l same s = record {
-  client = subst (λ (ms : List Mark). Gains client_old client_new (out_client first (past first h)) (out_client first ms)) (sym same) s.client;
-  host = subst (λ (ms : List Mark). Gains host_old host_new (out_host first (past first h)) (out_host first ms)) (sym same) s.host;
-  told = subst (λ (ms : List Mark). Gains notes_old notes_new (all_of notes_of first (past first h)) (all_of notes_of first ms)) (sym same) s.told;
+pub sends-past : (first : ℕ) (out_old out_new : Outputs) (h k l : List Item) → past first l ≡ past first k →
+    Sends first out_old out_new h k → Sends first out_old out_new h l
+sends-past first out_old out_new h k l same s = record {
+  client = subst (λ (ms : List Mark). Gains out_old.to_client out_new.to_client (out_client first (past first h)) (out_client first ms)) (sym same) s.client;
+  host = subst (λ (ms : List Mark). Gains out_old.to_host out_new.to_host (out_host first (past first h)) (out_host first ms)) (sym same) s.host;
+  told = subst (λ (ms : List Mark). Gains out_old.notes out_new.notes (all_of notes_of first (past first h)) (all_of notes_of first ms)) (sym same) s.told;
 }
 
 -- ---- one item
@@ -85,10 +86,10 @@ dropped-more first ms m old new e f =
     let b = dropped (state_of first ms) m in
     capped-past old (length a) (length b) new e f ∙ ap capped (sym (length-append a b))
 
-pub translates-item : (first : ℕ) (old new : Translator) (xs : List Item) (x : Item) (client_old client_new host_old host_new : List ℕ) (notes_old notes_new : List Note) → Translates first (items_of old) xs →
+pub translates-item : (first : ℕ) (old new : Translator) (xs : List Item) (x : Item) (out_old out_new : Outputs) → Translates first (items_of old) xs →
     is_left_out (state_of first (past first xs)) x ≡ false →
-    Does (state_of first (past first xs)) (mark_of (state_of first (past first xs)) x) old new client_old client_new host_old host_new notes_old notes_new → Translates first (items_of new) (x ∷ xs)
-translates-item first old new xs x client_old client_new host_old host_new notes_old notes_new t taken does =
+    Does (state_of first (past first xs)) (mark_of (state_of first (past first xs)) x) old new out_old out_new → Translates first (items_of new) (x ∷ xs)
+translates-item first old new xs x out_old out_new t taken does =
     let ms = past first xs in
     let m = mark_of (state_of first ms) x in
     let is = sym (past-taken first xs x taken) in
@@ -99,20 +100,20 @@ translates-item first old new xs x client_old client_new host_old host_new notes
       dropped = dropped-more first ms m old.dropped new.dropped t.dropped does.dropped ∙ ap (λ (l : List Mark). capped (length (all_of dropped first l))) is;
     }
 
-pub sends-item : (first : ℕ) (old new : Translator) (h xs : List Item) (x : Item) (client_old client client_new host_old host host_new : List ℕ) (notes_old notes notes_new : List Note) →
-    Sends first client_old client host_old host notes_old notes h xs → is_left_out (state_of first (past first xs)) x ≡ false →
-    Does (state_of first (past first xs)) (mark_of (state_of first (past first xs)) x) old new client client_new host host_new notes notes_new → Sends first client_old client_new host_old host_new notes_old notes_new h (x ∷ xs)
-sends-item first old new h xs x client_old client client_new host_old host host_new notes_old notes notes_new s taken does =
+pub sends-item : (first : ℕ) (old new : Translator) (h xs : List Item) (x : Item) (out_old out out_new : Outputs) →
+    Sends first out_old out h xs → is_left_out (state_of first (past first xs)) x ≡ false →
+    Does (state_of first (past first xs)) (mark_of (state_of first (past first xs)) x) old new out out_new → Sends first out_old out_new h (x ∷ xs)
+sends-item first old new h xs x out_old out out_new s taken does =
     let ms = past first xs in
     let st = state_of first ms in
     let m = mark_of st x in
     let is = past-taken first xs x taken in
     let hello = host_packet_bytes no_caps (0, gateway_hello) in
     record {
-      client = gains-then client_old client client_new (out_client first (past first h)) (out_client first ms) (out_client first (past first (x ∷ xs))) s.client
+      client = gains-then out_old.to_client out.to_client out_new.to_client (out_client first (past first h)) (out_client first ms) (out_client first (past first (x ∷ xs))) s.client
           (record { more = client_bytes_of st m; new-is = does.client; after-is = ap (out_client first) is });
-      host = gains-then host_old host host_new (out_host first (past first h)) (out_host first ms) (out_host first (past first (x ∷ xs))) s.host
+      host = gains-then out_old.to_host out.to_host out_new.to_host (out_host first (past first h)) (out_host first ms) (out_host first (past first (x ∷ xs))) s.host
           (record { more = host_bytes_of st m; new-is = does.host; after-is = ap (out_host first) is ∙ sym (append_assoc hello (all_of host_bytes_of first ms) (host_bytes_of st m)) });
-      told = gains-then notes_old notes notes_new (all_of notes_of first (past first h)) (all_of notes_of first ms) (all_of notes_of first (past first (x ∷ xs))) s.told
+      told = gains-then out_old.notes out.notes out_new.notes (all_of notes_of first (past first h)) (all_of notes_of first ms) (all_of notes_of first (past first (x ∷ xs))) s.told
           (record { more = notes_of st m; new-is = does.notes; after-is = ap (all_of notes_of first) is });
     }

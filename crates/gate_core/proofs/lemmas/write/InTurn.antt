@@ -1,11 +1,12 @@
 -- Packets that are sent one after another, with ids in turn.
-use Rattle.std.proofs.Common.{◌≡◌, ℕ, ◌+◌, ◌<◌, Bool, List, [], ◌∷◌, ◌++◌, length, take, get_or, Option, ap, ◌∙◌, append_assoc}
+use Rattle.std.proofs.Common.{◌≡◌, ℕ, ◌+◌, ◌<◌, Bool, List, [], ◌∷◌, ◌++◌, length, take, get_or, Option, sym, ap, ◌∙◌, append_assoc}
 use Rattle.std.specs.Prelude.{Result, Ok, Err, OnErr}
 use Rattle.std.specs.List.{flat_map}
 use Rattle.std.proofs.lemmas.List.{append-nil, take_more}
 use Rattle.std.proofs.lemmas.Grind.{flat_map-append}
 use Rattle.redir_data.specs.declared.packet.RedirPacket.{RedirPacket}
 use Rattle.gate_core.specs.declared.state.kept.Kept.{Kept}
+use Rattle.gate_core.specs.declared.write.outputs.Outputs.{Outputs}
 use Rattle.gate_history.specs.state.Ups.{Up}
 use Rattle.gate_parts.specs.declared.state.calls.Called.{Called}
 use Rattle.gate_history.specs.state.Ids.{greatest, last_of}
@@ -14,6 +15,7 @@ use Rattle.gate_history.specs.state.Calls.{called, last_or}
 use Rattle.gate_history.specs.write.Packets.{stop_of, stops}
 use Rattle.gate_history.specs.write.Bytes.{host_packet_bytes}
 use Rattle.gate_parts.specs.write.Extends.{Extends}
+use Rattle.gate_core.specs.inner.Holds.{Leaves}
 use Rattle.gate_core.specs.inner.Calls.{flying_in, ids_after, with_ids, after_stops, bytes_of}
 use Rattle.gate_history.proofs.lemmas.Lists.{Each}
 use Rattle.gate_history.proofs.lemmas.state.Calls.{IsSilent, draws-append, zip-append, last-append, last_or-append, called-append, called-silent}
@@ -65,3 +67,21 @@ extends-after {A = A} old mid new more is e = record { more = more ++ e.more; is
 pub on-err : {A E : Type 0} (r : Result A E) (P : Type 0) → P → OnErr r P
 on-err (Ok v) P h = tt
 on-err (Err e) P h = h
+
+-- ---- want of memory as the first bytes of an item are written
+
+pub leaves-client : (old new : Kept) (out : Outputs) (client_new : List ℕ) → new ≡ old → Extends out.to_client client_new → Leaves old new out (record out { to_client = client_new })
+leaves-client old new out client_new same written = record {
+  same = same;
+  client = written;
+  host = record { more = []; is = sym (append-nil out.to_host) };
+  notes = record { more = []; is = sym (append-nil out.notes) };
+}
+
+pub leaves-host : (old new : Kept) (out : Outputs) (host_new : List ℕ) → new ≡ old → Extends out.to_host host_new → Leaves old new out (record out { to_host = host_new })
+leaves-host old new out host_new same written = record {
+  same = same;
+  client = record { more = []; is = sym (append-nil out.to_client) };
+  host = written;
+  notes = record { more = []; is = sym (append-nil out.notes) };
+}

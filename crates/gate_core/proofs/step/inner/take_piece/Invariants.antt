@@ -8,7 +8,7 @@ use Rattle.gate_core.proofs.step.inner.take_piece.Given as goal
 abbrev pub invariant-items : goal.invariant-items
 invariant-items g l =
     (first : ℕ) (bytes : List ℕ) (before : List Item) → IsAt first (g.S.GateSide.half first) l.fn.stream l.fn.translator bytes before →
-    Taking first (g.S.GateSide.half first) l.stream l.translator bytes l.piece before l.fn.to_client l.to_client l.fn.to_host l.to_host l.fn.notes l.notes
+    Taking first (g.S.GateSide.half first) l.stream l.translator bytes l.piece before l.fn.out l.out
 
 abbrev pub decreases-items : goal.decreases-items
 decreases-items g l = left_of l.stream

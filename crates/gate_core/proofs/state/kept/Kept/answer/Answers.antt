@@ -18,23 +18,23 @@ use Rattle.gate_core.proofs.lemmas.write.InTurn.{on-err}
 use Rattle.gate_core.proofs.state.kept.Kept.answer.Goals as goal
 
 pub returns-in_default-clause-ok : goal.returns-in_default-clause-ok
-returns-in_default-clause-ok c st at host place h sound =
+returns-in_default-clause-ok c st at place h sound =
     let old = c.args.self.now in
     let k = c.requires.kept in
-    subst (λ (e : Effect). Does st (mark_as st e None) old old c.args.to_client.now c.args.to_client.now host host c.args.notes.now c.args.notes.now)
+    subst (λ (e : Effect). Does st (mark_as st e None) old old c.args.out.now c.args.out.now)
     (sym (ap (answer_to st at c.args.header.now (response_view c.args.response)) (nobody old st c.args.header.now.id h (sym c.place_of_id.ensures ∙ c.in_default.is))))
-    (does-idle st old c.args.to_client.now host c.args.notes.now h k.answered_fits k.unlinked_fits k.dropped_fits)
+    (does-idle st old c.args.out.now h k.answered_fits k.unlinked_fits k.dropped_fits)
 
 pub returns-in-Some-mismatch_of-clause-ok : goal.returns-in-Some-mismatch_of-clause-ok
-returns-in-Some-mismatch_of-clause-ok c st at host place h sound =
+returns-in-Some-mismatch_of-clause-ok c st at place h sound =
     let old = c.args.self.now in
     let header = c.args.header.now in
     let response = response_view c.args.response in
     let one = is-there (has_id header.id) old.lives c.in-Some.at (sym c.place_of_id.ensures ∙ c.in-Some.is) in
     let wrong = sym (wrong-at old st at c.args.place header response one.live h place c.requires.fits one.found) ∙ sym (c.mismatch_of.ensures.value one.live one.at) ∙ c.in-Some-mismatch_of.is in
-    subst (λ (e : Effect). OnOk c.refuse_host.result (Does st (mark_as st e None) old c.refuse_host.new.self c.args.to_client.now c.refuse_host.new.to_client host host c.args.notes.now c.refuse_host.new.notes))
+    subst (λ (e : Effect). OnOk c.refuse_host.result (Does st (mark_as st e None) old c.refuse_host.new.self c.args.out.now c.refuse_host.new.out))
     (sym (is-refused st at header response (find (submit_has_id header.id) (submits st ++ st.abandoned)) c.in-Some-mismatch_of.refusal wrong))
-    (c.refuse_host.ensures.ok st host h)
+    (c.refuse_host.ensures.ok st h)
 
 pub complete-requires-clause-fits : goal.complete-requires-clause-fits
 complete-requires-clause-fits c =
@@ -45,16 +45,16 @@ complete-requires-clause-fits c =
     (sym (c.mismatch_of.ensures.value one.live one.at) ∙ c.in_default-mismatch_of.is)
 
 pub returns-clause-ok : goal.returns-clause-ok
-returns-clause-ok c st at host place h sound =
+returns-clause-ok c st at place h sound =
     let old = c.args.self.now in
     let header = c.args.header.now in
     let response = response_view c.args.response in
     let is = sym c.place_of_id.ensures ∙ c.in-Some.is in
     let one = is-there (has_id header.id) old.lives c.in-Some.at is in
     let right = sym (wrong-at old st at c.args.place header response one.live h place c.requires.fits one.found) ∙ sym (c.mismatch_of.ensures.value one.live one.at) ∙ c.in_default-mismatch_of.is in
-    subst (λ (e : Effect). OnOk c.complete.result (Does st (mark_as st e None) old c.complete.new.self c.args.to_client.now c.complete.new.to_client host host c.args.notes.now c.complete.new.notes))
+    subst (λ (e : Effect). OnOk c.complete.result (Does st (mark_as st e None) old c.complete.new.self c.args.out.now c.complete.new.out))
     (sym (is-completed st at header response (find (submit_has_id header.id) (submits st ++ st.abandoned)) right))
-    (c.complete.ensures.ok st host header.id is h sound)
+    (c.complete.ensures.ok st header.id is h sound)
 
 pub returns-in-Some-mismatch_of-clause-wants : goal.returns-in-Some-mismatch_of-clause-wants
 returns-in-Some-mismatch_of-clause-wants c st at place h sound =

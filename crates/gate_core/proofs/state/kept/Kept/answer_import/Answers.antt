@@ -8,6 +8,6 @@ use Rattle.gate_core.proofs.state.kept.Kept.answer_import.Goals as goal
 
 pub returns-then-self-clause-ok : goal.returns-then-self-clause-ok
 returns-then-self-clause-ok c st at status place h going =
-    subst (λ (e : Effect). OnOk c.refuse_client.result (Does st (mark_as st e None) c.args.self.now c.refuse_client.new.self c.args.to_client.now c.args.to_client.now c.args.to_host.now c.refuse_client.new.to_host c.args.notes.now c.refuse_client.new.notes))
+    subst (λ (e : Effect). OnOk c.refuse_client.result (Does st (mark_as st e None) c.args.self.now c.refuse_client.new.self c.args.out.now c.refuse_client.new.out))
     (ap (λ r. Refuses r) (c.client_refusal.ensures.value at place) ∙ ap (λ (b : Bool). cond b (refused Client at AlreadyImported) (import_meaning st c.args.busid.now)) (sym (sym h.imported ∙ c.if-self.true)))
-    (c.refuse_client.ensures.ok st c.args.to_client.now h going)
+    (c.refuse_client.ensures.ok st h going)

@@ -9,8 +9,8 @@ returns-in-ReqImport-clause-ok c st at place h going = rw c.in-ReqImport.is (c.a
 
 pub returns-in-RepDevlist-clause-ok : goal.returns-in-RepDevlist-clause-ok
 returns-in-RepDevlist-clause-ok c st at place h going =
-    rw c.in-RepDevlist.is (does-idle st c.args.self.now c.args.to_client.now c.args.to_host.now c.args.notes.now h c.requires.kept.answered_fits c.requires.kept.unlinked_fits c.requires.kept.dropped_fits)
+    rw c.in-RepDevlist.is (does-idle st c.args.self.now c.args.out.now h c.requires.kept.answered_fits c.requires.kept.unlinked_fits c.requires.kept.dropped_fits)
 
 pub returns-in-RepImport-clause-ok : goal.returns-in-RepImport-clause-ok
 returns-in-RepImport-clause-ok c st at place h going =
-    rw c.in-RepImport.is (does-idle st c.args.self.now c.args.to_client.now c.args.to_host.now c.args.notes.now h c.requires.kept.answered_fits c.requires.kept.unlinked_fits c.requires.kept.dropped_fits)
+    rw c.in-RepImport.is (does-idle st c.args.self.now c.args.out.now h c.requires.kept.answered_fits c.requires.kept.unlinked_fits c.requires.kept.dropped_fits)

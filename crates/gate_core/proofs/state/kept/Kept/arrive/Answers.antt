@@ -19,14 +19,14 @@ use Rattle.gate_core.proofs.lemmas.write.InTurn as stopping
 use Rattle.gate_core.proofs.state.kept.Kept.arrive.Goals as goal
 
 pub returns-in_default-clause-ok : goal.returns-in_default-clause-ok
-returns-in_default-clause-ok c st host h sound =
+returns-in_default-clause-ok c st h sound =
     let k = c.requires.kept in
-    subst (λ (o : Option Up). Does st (mark_as st (arrives st c.args.stream.endpoint c.args.stream.is_iso c.args.packet o) None) c.args.self.now c.args.self.now c.args.to_client.now c.args.to_client.now host host c.args.notes.now c.args.notes.now)
+    subst (λ (o : Option Up). Does st (mark_as st (arrives st c.args.stream.endpoint c.args.stream.is_iso c.args.packet o) None) c.args.self.now c.args.self.now c.args.out.now c.args.out.now)
     (sym (of-none st.streams c.args.stream.endpoint (λ e. false≢true (c.in_default.ensures.is_some.1 e))))
-    (does-idle st c.args.self.now c.args.to_client.now host c.args.notes.now h k.answered_fits k.unlinked_fits k.dropped_fits)
+    (does-idle st c.args.self.now c.args.out.now h k.answered_fits k.unlinked_fits k.dropped_fits)
 
 pub returns-in_default-take-clause-ok : goal.returns-in_default-take-clause-ok
-returns-in_default-take-clause-ok c st host h sound =
+returns-in_default-take-clause-ok c st h sound =
     let k = c.requires.kept in
     let old = c.args.self.now in
     let at : stream_at old.streams c.args.stream.endpoint ≡ None = ap (stream_at old.streams) (sym c.in-Some.ensures.byte) ∙ sym c.in_default-take.ensures.up in
@@ -34,13 +34,13 @@ returns-in_default-take-clause-ok c st host h sound =
     c.in_default-take.ensures.rest ∙ (λ i. slice_set old.streams (endpoint_index (c.in-Some.ensures.byte i)) (sym at i)) ∙ set-back old.streams (endpoint_index c.args.stream.endpoint) None in
     let there : stream_of st.streams c.args.stream.endpoint ≡ None =
     of-address st.streams c.args.stream.endpoint (c.in-Some.ensures.is_some.0 refl) ∙ ap (λ (ups : List (Option Up)). stream_at ups c.args.stream.endpoint) (sym h.streams) ∙ at in
-    subst (λ (o : Option Up). Does st (mark_as st (arrives st c.args.stream.endpoint c.args.stream.is_iso c.args.packet o) None) old (record old { streams = c.take.new.self }) c.args.to_client.now c.args.to_client.now host host c.args.notes.now c.args.notes.now)
+    subst (λ (o : Option Up). Does st (mark_as st (arrives st c.args.stream.endpoint c.args.stream.is_iso c.args.packet o) None) old (record old { streams = c.take.new.self }) c.args.out.now c.args.out.now)
     (sym there)
-    (subst (λ (ups : List (Option Up)). Does st (mark_as st Idle None) old (record old { streams = ups }) c.args.to_client.now c.args.to_client.now host host c.args.notes.now c.args.notes.now) (sym same)
-    (does-idle st old c.args.to_client.now host c.args.notes.now h k.answered_fits k.unlinked_fits k.dropped_fits))
+    (subst (λ (ups : List (Option Up)). Does st (mark_as st Idle None) old (record old { streams = ups }) c.args.out.now c.args.out.now) (sym same)
+    (does-idle st old c.args.out.now h k.answered_fits k.unlinked_fits k.dropped_fits))
 
 pub returns-clause-ok : goal.returns-clause-ok
-returns-clause-ok c st host h sound =
+returns-clause-ok c st h sound =
     let old = c.args.self.now in
     let byte = c.in-Some.ensures.byte in
     let e = c.args.stream.endpoint in
@@ -48,17 +48,17 @@ returns-clause-ok c st host h sound =
     let at : stream_at old.streams e ≡ Some c.in-Some-take.up = ap (stream_at old.streams) (sym byte) ∙ sym c.in-Some-take.ensures.up in
     on-ok c.receive-received.result
     (λ r s t.
-    does-receive st sound e c.args.stream.is_iso c.args.packet c.in-Some-take.up c.receive-received.new.up old between c.receive-received.new.self _ c.args.to_client.now c.receive-received.new.to_client host c.args.notes.now c.receive-received.new.notes h
+    does-receive st sound e c.args.stream.is_iso c.args.packet c.in-Some-take.up c.receive-received.new.up old between c.receive-received.new.self _ c.args.out.now c.receive-received.new.to_client c.receive-received.new.notes h
     c.requires.kept (c.in-Some.ensures.is_some.0 refl) at
     (ap (λ (ups : List (Option Up)). record old { streams = ups }) (c.in-Some-take.ensures.rest ∙ ap (λ (n : ℕ). slice_set old.streams (endpoint_index n) None) byte))
     (ap (λ (ups : List (Option Up)). record c.receive-received.new.self { streams = ups }) (c.put.ensures ∙ ap (λ (n : ℕ). slice_set c.receive-received.new.self.streams (endpoint_index n) (Some c.receive-received.new.up)) byte))
     (subst (λ (n : ℕ). HasReceived n c.args.stream.is_iso c.args.packet c.in-Some-take.up c.receive-received.new.up between c.receive-received.new.self) byte r)
-    (s ∙ ap (λ (n : ℕ). c.args.to_client.now ++ received_bytes n c.args.stream.is_iso c.args.packet c.in-Some-take.up between.lives.live) byte)
-    (t ∙ ap (λ (n : ℕ). c.args.notes.now ++ note.Arrived n ∷ received_notes n c.args.stream.is_iso c.args.packet c.in-Some-take.up between.lives.live) byte))
+    (s ∙ ap (λ (n : ℕ). c.args.out.now.to_client ++ received_bytes n c.args.stream.is_iso c.args.packet c.in-Some-take.up between.lives.live) byte)
+    (t ∙ ap (λ (n : ℕ). c.args.out.now.notes ++ note.Arrived n ∷ received_notes n c.args.stream.is_iso c.args.packet c.in-Some-take.up between.lives.live) byte))
     c.receive-received.ensures.received c.receive-received.ensures.sent c.receive-received.ensures.told
 
 pub returns-clause-err : goal.returns-clause-err
-returns-clause-err c host =
+returns-clause-err c =
     let old = c.args.self.now in
     let i = endpoint_index c.in-Some.ep in
     on-err c.receive-received.result
@@ -69,7 +69,7 @@ returns-clause-err c host =
           ∙ (λ j. slice_set (c.in-Some-take.ensures.rest j) i (Some (up j)))
           ∙ set-twice old.streams i None (Some c.in-Some-take.up) ∙ ap (slice_set old.streams i) c.in-Some-take.ensures.up ∙ set-back old.streams i None);
       client = client;
-      host = record { more = []; is = sym (append-nil host) };
+      host = record { more = []; is = sym (append-nil c.args.out.now.to_host) };
       notes = notes;
     })
     c.receive-received.ensures.same c.receive-received.ensures.same_up c.receive-received.ensures.err c.receive-received.ensures.err_notes

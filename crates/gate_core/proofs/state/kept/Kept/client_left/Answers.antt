@@ -8,7 +8,7 @@ use Rattle.gate_history.specs.step.Marks.{Ends}
 use Rattle.gate_history.specs.write.Notes.{when}
 use Rattle.gate_core.proofs.lemmas.client.Leave.{end-leaves, left-none, does-leave}
 use Rattle.gate_core.proofs.lemmas.state.Ids.{parts-are, leaving-sent, stops-are}
-use Rattle.gate_core.proofs.lemmas.write.InTurn.{extends-after, on-err}
+use Rattle.gate_core.proofs.lemmas.write.InTurn.{extends-after, on-err, leaves-host}
 use Rattle.std.specs.Prelude.{filter}
 use Rattle.unlink_race.specs.declared.live.Live.{Live}
 use Rattle.redir_data.specs.declared.packet.RedirPacket.{RedirPacket}
@@ -18,20 +18,20 @@ use Rattle.gate_core.proofs.lemmas.write.Gives.{by-cancels, by-asked, by-leaving
 use Rattle.gate_core.proofs.state.kept.Kept.client_left.Goals as goal
 
 pub returns-clause-ok : goal.returns-clause-ok
-returns-clause-ok c st client h =
+returns-clause-ok c st h =
     let old = c.args.self.now in
-    does-leave st _ [] (end-leaves st) c.in_ok-called.called old _ client _ _ _ _ h c.requires.kept.answered_fits c.requires.kept.unlinked_fits
+    does-leave st _ [] (end-leaves st) c.in_ok-called.called old _ c.args.out.now _ _ h c.requires.kept.answered_fits c.requires.kept.unlinked_fits
     (parts-are old st h (Ends Client) c.in_ok-called.called refl c.in_ok-called.ensures.called)
     (ap (λ (k : Kept). record k { client_over = false }) (left-none c.in_ok-called.called old c.leave.new.self c.leave.ensures.left))
-    (leaving-sent old st h (Ends Client) refl c.args.to_host.now _ _ c.in_ok-write_cancels.ensures.ok c.in_ok-called.ensures.sent)
-    (c.in_ok-tell_gone.ensures.ok ∙ ap (λ (ns : List Note). c.args.notes.now ++ ns) (sym (append-nil (when (not old.client_over) note.ClientGone))))
+    (leaving-sent old st h (Ends Client) refl c.args.out.now.to_host _ _ c.in_ok-write_cancels.ensures.ok c.in_ok-called.ensures.sent)
+    (c.in_ok-tell_gone.ensures.ok ∙ ap (λ (ns : List Note). c.args.out.now.notes ++ ns) (sym (append-nil (when (not old.client_over) note.ClientGone))))
 
 pub returns-in_err-called-clause-err : goal.returns-in_err-called-clause-err
-returns-in_err-called-clause-err c client = on-err c.from_residual-in_err-called.result _ (record {
+returns-in_err-called-clause-err c = on-err c.from_residual-in_err-called.result _ (record {
   same = refl;
-  client = record { more = []; is = sym (append-nil client) };
-  host = extends-after c.args.to_host.now c.write_cancels.new.to_host c.write_stops.new.to_host _ c.in_ok-write_cancels.ensures.ok c.in_err-called.ensures.err;
-  notes = record { more = []; is = sym (append-nil c.args.notes.now) };
+  client = record { more = []; is = sym (append-nil c.args.out.now.to_client) };
+  host = extends-after c.args.out.now.to_host c.write_cancels.new.to_host c.write_stops.new.to_host _ c.in_ok-write_cancels.ensures.ok c.in_err-called.ensures.err;
+  notes = record { more = []; is = sym (append-nil c.args.out.now.notes) };
 })
 
 pub returns-in_err-write_cancels-clause-wants : goal.returns-in_err-write_cancels-clause-wants
@@ -52,3 +52,6 @@ returns-in_err-called-clause-wants c st h =
 pub returns-in_err-tell_gone-clause-wants : goal.returns-in_err-tell_gone-clause-wants
 returns-in_err-tell_gone-clause-wants c st h =
     on-err c.from_residual-in_err-tell_gone.result _ (by-leaving st (Ends Client) None refl (ap not (sym h.client_over) ∙ c.in_err-tell_gone.ensures.wants))
+
+pub returns-in_err-write_cancels-clause-err : goal.returns-in_err-write_cancels-clause-err
+returns-in_err-write_cancels-clause-err c = on-err c.from_residual.result _ (leaves-host c.args.self.now c.args.self.now c.args.out.now c.write_cancels.new.to_host refl c.in_err-write_cancels.ensures.err)

@@ -13,10 +13,10 @@ use Rattle.gate_core.proofs.lemmas.write.InTurn.{on-err}
 use Rattle.gate_core.proofs.state.kept.Kept.complete.Goals as goal
 
 pub returns-in_default-clause-ok : goal.returns-in_default-clause-ok
-returns-in_default-clause-ok c st host id is h sound =
+returns-in_default-clause-ok c st id is h sound =
     let k = c.requires.kept in
     let taken = left-taken (has_id id) c.args.self.now.lives c.args.at is (sym c.at.ensures ∙ ap option_copied c.in_default.is) in
-    does-late st id (response_view c.args.response) sound c.args.self.now c.finish_at.new.self c.args.to_client.now host c.args.notes.now h k.answered_fits k.unlinked_fits k.dropped_fits
+    does-late st id (response_view c.args.response) sound c.args.self.now c.finish_at.new.self c.args.out.now h k.answered_fits k.unlinked_fits k.dropped_fits
     taken.0 (c.finish_at.ensures.rest ∙ taken.1)
 
 pub write_completed-requires-clause-packets : goal.write_completed-requires-clause-packets
@@ -56,9 +56,9 @@ won-one true = refl
 won-one false = refl
 
 pub returns-clause-ok : goal.returns-clause-ok
-returns-clause-ok c st host id is h sound =
+returns-clause-ok c st id is h sound =
     let taken = live-taken (has_id id) c.args.self.now.lives c.args.at is c.in-Some.live.now (sym c.at.ensures ∙ ap option_copied c.in-Some.is) in
-    does-live st id (response_view c.args.response) sound c.args.self.now c.finish_at-2.new.self c.in-Some.live.now c.in_ok-won.won c.saturating_add-self.result c.saturating_add-self-2.result c.args.to_client.now c.write_completed.new.to_client host c.args.notes.now c.write_completed.new.notes
+    does-live st id (response_view c.args.response) sound c.args.self.now c.finish_at-2.new.self c.in-Some.live.now c.in_ok-won.won c.saturating_add-self.result c.saturating_add-self-2.result c.args.out.now c.write_completed.new.to_client c.write_completed.new.notes
     h c.requires.kept.dropped_fits taken.0 (c.finish_at-2.ensures.rest ∙ taken.1)
     c.in_ok-won.ensures.ok c.in_ok-won.ensures.counted c.in_ok-won.ensures.notes
     (c.saturating_add-self.ensures ∙ ap (λ (n : ℕ). capped (c.args.self.now.answered + n)) (c.from.ensures ∙ lost-one c.in_ok-won.won))

@@ -9,15 +9,15 @@ use Rattle.gate_history.specs.step.Marks.{Disconnects}
 use Rattle.gate_history.specs.write.Output.{acknowledgements}
 use Rattle.gate_parts.specs.state.Rows.{row}
 use Rattle.gate_core.proofs.lemmas.write.Gives.{by-lives, by-loss, by-word}
-use Rattle.gate_core.proofs.lemmas.write.InTurn.{on-err}
+use Rattle.gate_core.proofs.lemmas.write.InTurn.{on-err, leaves-client}
 use Rattle.gate_core.proofs.state.kept.Kept.disconnect.Goals as goal
 
 pub returns-clause-ok : goal.returns-clause-ok
 returns-clause-ok c st h =
     let old = c.args.self.now in
     let lost = lost-is c.in_ok-unlinked.unlinked old c.lose.new.self c.lose.ensures.lost c.in_ok-unlinked.ensures.count in
-    does-loss st _ _ (disconnect-loses st c.args.id) old _ _ _ _ _ _ _ h c.requires.kept.dropped_fits lost c.in_ok-unlinked.ensures.ok c.in_ok-acknowledge.ensures.ok
-    (c.in_ok-tell_loss.ensures.ok ∙ ap (λ (ns : List Note). c.args.notes.now ++ ns) (sym (append-nil (when (old.imported && not old.lost) note.DeviceGone))))
+    does-loss st _ _ (disconnect-loses st c.args.id) old _ _ _ h c.requires.kept.dropped_fits lost c.in_ok-unlinked.ensures.ok c.in_ok-acknowledge.ensures.ok
+    (c.in_ok-tell_loss.ensures.ok ∙ ap (λ (ns : List Note). c.args.out.now.notes ++ ns) (sym (append-nil (when (old.imported && not old.lost) note.DeviceGone))))
 
 pub returns-in_err-unlinked-clause-wants : goal.returns-in_err-unlinked-clause-wants
 returns-in_err-unlinked-clause-wants c st h =
@@ -31,3 +31,6 @@ pub returns-in_err-acknowledge-clause-wants : goal.returns-in_err-acknowledge-cl
 returns-in_err-acknowledge-clause-wants c st h =
     on-err c.from_residual-in_err-acknowledge.result _
     (by-word st (Disconnects c.args.id) None (subst (λ (caps : Caps). 0 < length (acknowledgements caps (Disconnects c.args.id))) h.caps c.in_err-acknowledge.ensures.wants))
+
+pub returns-in_err-unlinked-clause-err : goal.returns-in_err-unlinked-clause-err
+returns-in_err-unlinked-clause-err c = on-err c.from_residual.result _ (leaves-client c.args.self.now c.args.self.now c.args.out.now c.write_losses.new.to_client refl c.in_err-unlinked.ensures.err)

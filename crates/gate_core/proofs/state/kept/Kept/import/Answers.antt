@@ -10,9 +10,9 @@ use Rattle.gate_history.proofs.lemmas.step.NoCancel.{stays-uncancelled}
 use Rattle.gate_core.proofs.state.kept.Kept.import.Goals as goal
 
 pub returns-clause-ok : goal.returns-clause-ok
-returns-clause-ok c st host h =
+returns-clause-ok c st h =
     let old = c.args.self.now in
     let e = Imports (import_reply st.facts c.args.connect.now) in
-    does-steady st _ (imports-steady st _) old _ old.lives.live _ _ host host _ _ h c.requires.kept.answered_fits c.requires.kept.unlinked_fits c.requires.kept.dropped_fits
-    (rows-same e old.lives.live st.live (λ s. refl) h.live) refl (one-reply c.args.to_client.now c.write_op.new.out (Op (import_reply st.facts c.args.connect.now)) (c.in_ok-write_op.ensures ∙ ap (λ (r : OpPacket). c.args.to_client.now ++ client_spelling (Op r)) (c.import_reply.ensures.value ∙ ap (λ (f : Facts). import_reply f c.args.connect.now) h.facts)))
-    (host-same st.agreed e host st.live stays-uncancelled) c.in_ok-push.ensures.ok
+    does-steady st _ (imports-steady st _) old _ old.lives.live _ _ h c.requires.kept.answered_fits c.requires.kept.unlinked_fits c.requires.kept.dropped_fits
+    (rows-same e old.lives.live st.live (λ s. refl) h.live) refl (one-reply c.args.out.now.to_client c.write_op.new.out (Op (import_reply st.facts c.args.connect.now)) (c.in_ok-write_op.ensures ∙ ap (λ (r : OpPacket). c.args.out.now.to_client ++ client_spelling (Op r)) (c.import_reply.ensures.value ∙ ap (λ (f : Facts). import_reply f c.args.connect.now) h.facts)))
+    (host-same st.agreed e c.args.out.now.to_host st.live stays-uncancelled) c.in_ok-push.ensures.ok

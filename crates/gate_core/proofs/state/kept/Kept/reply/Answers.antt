@@ -7,8 +7,8 @@ use Rattle.gate_history.proofs.lemmas.step.NoCancel.{stays-uncancelled}
 use Rattle.gate_core.proofs.state.kept.Kept.reply.Goals as goal
 
 pub returns-clause-ok : goal.returns-clause-ok
-returns-clause-ok c st host notes h =
+returns-clause-ok c st h =
     let old = c.args.self.now in
     let e = Replies c.args.reply.now in
-    does-steady st _ (replies-steady st c.args.reply.now) old old old.lives.live _ _ host host notes notes h c.requires.kept.answered_fits c.requires.kept.unlinked_fits c.requires.kept.dropped_fits
-    (rows-same e old.lives.live st.live (λ s. refl) h.live) refl (one-reply c.args.to_client.now c.write_op.new.out (Op c.args.reply.now) c.in_ok-write_op.ensures) (host-same st.agreed e host st.live stays-uncancelled) (sym (append-nil notes))
+    does-steady st _ (replies-steady st c.args.reply.now) old old old.lives.live _ _ h c.requires.kept.answered_fits c.requires.kept.unlinked_fits c.requires.kept.dropped_fits
+    (rows-same e old.lives.live st.live (λ s. refl) h.live) refl (one-reply c.args.out.now.to_client c.write_op.new.out (Op c.args.reply.now) c.in_ok-write_op.ensures) (host-same st.agreed e c.args.out.now.to_host st.live stays-uncancelled) (sym (append-nil c.args.out.now.notes))

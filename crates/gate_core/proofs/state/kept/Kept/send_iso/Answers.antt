@@ -38,7 +38,7 @@ returns-clause-ok c st h sound =
     let drawn : ids_after old old.last (length (starting ++ isos)) ≡ drawn_for st r v = ids-are old st h (starting ++ isos) all same in
     let asked : with_ids old old.last (starting ++ isos) ≡ zip (drawn_for st r v) all = asked-are old st h (starting ++ isos) all same in
     let last = c.in_ok-last.ensures.last ∙ ap (λ (k : Called). last_of k.last (ids_after old k.last (length isos))) started ∙ sym (last-more old old.last starting isos) ∙ ap (last_of old.last) drawn in
-    does-open st (submission st r v []) refl sound (λ v. refl) old _ [] _ _ _ _ _ _ h c.requires.kept.unlinked_fits c.requires.kept.dropped_fits refl refl refl refl
+    does-open st (submission st r v []) refl sound (λ v. refl) old _ [] _ _ h c.requires.kept.unlinked_fits c.requires.kept.dropped_fits refl refl refl refl
     (λ i. record old {
       lives = record { live = sym (append-nil old.lives.live) i; abandoned = old.lives.abandoned };
       streams = c.raise.ensures i;
@@ -46,25 +46,25 @@ returns-clause-ok c st h sound =
       last = last i;
       answered = c.saturating_add-self.ensures i;
     })
-    (one-reply c.args.to_client.now c.write_all_sent.new.out (Urb (all_sent r))
-    (c.in_ok-write_all_sent.ensures.ok ∙ (λ i. c.args.to_client.now ++ spelling (all_sent (c.asked.ensures i)))))
+    (one-reply c.args.out.now.to_client c.write_all_sent.new.out (Urb (all_sent r))
+    (c.in_ok-write_all_sent.ensures.ok ∙ (λ i. c.args.out.now.to_client ++ spelling (all_sent (c.asked.ensures i)))))
     (c.in_ok-last.ensures.sent ∙ (λ i. c.in_ok-called.ensures.sent i ++ bytes_of old (started i).last isos)
-    ∙ append_assoc c.args.to_host.now (bytes_of old old.last starting) (bytes_of old (after_starts old (called_of old) starting).last isos)
-    ∙ ap (λ (bs : List _). c.args.to_host.now ++ bs) (sym (bytes-more old old.last starting isos) ∙ ap (flat_map (host_packet_bytes old.caps)) asked))
+    ∙ append_assoc c.args.out.now.to_host (bytes_of old old.last starting) (bytes_of old (after_starts old (called_of old) starting).last isos)
+    ∙ ap (λ (bs : List _). c.args.out.now.to_host ++ bs) (sym (bytes-more old old.last starting isos) ∙ ap (flat_map (host_packet_bytes old.caps)) asked))
     c.in_ok-push.ensures.ok
 
 pub returns-in_err-last-clause-err : goal.returns-in_err-last-clause-err
 returns-in_err-last-clause-err c = on-err c.from_residual-in_err-last.result _ (record {
   same = refl;
-  client = record { more = []; is = sym (append-nil c.args.to_client.now) };
-  host = extends-after c.args.to_host.now c.write_start.new.to_host c.write_packets.new.to_host _ c.in_ok-called.ensures.sent c.in_err-last.ensures.err;
+  client = record { more = []; is = sym (append-nil c.args.out.now.to_client) };
+  host = extends-after c.args.out.now.to_host c.write_start.new.to_host c.write_packets.new.to_host _ c.in_ok-called.ensures.sent c.in_err-last.ensures.err;
   notes = record { more = note.Submitted c.args.request.now.number 0 ∷ []; is = c.in_ok-push.ensures.ok };
 })
 
 pub returns-in_err-write_all_sent-clause-err : goal.returns-in_err-write_all_sent-clause-err
 returns-in_err-write_all_sent-clause-err c = on-err c.from_residual-in_err-write_all_sent.result _ (record {
   same = refl;
-  client = record { more = []; is = c.in_err-write_all_sent.ensures.err ∙ sym (append-nil c.args.to_client.now) };
-  host = extends-after c.args.to_host.now c.write_start.new.to_host c.write_packets.new.to_host _ c.in_ok-called.ensures.sent (record { more = bytes_of c.args.self.now c.in_ok-called.called.last (iso_packets (request_view c.args.request.now)); is = c.in_ok-last.ensures.sent });
+  client = record { more = []; is = c.in_err-write_all_sent.ensures.err ∙ sym (append-nil c.args.out.now.to_client) };
+  host = extends-after c.args.out.now.to_host c.write_start.new.to_host c.write_packets.new.to_host _ c.in_ok-called.ensures.sent (record { more = bytes_of c.args.self.now c.in_ok-called.called.last (iso_packets (request_view c.args.request.now)); is = c.in_ok-last.ensures.sent });
   notes = record { more = note.Submitted c.args.request.now.number 0 ∷ []; is = c.in_ok-push.ensures.ok };
 })

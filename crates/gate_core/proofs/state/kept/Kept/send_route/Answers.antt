@@ -59,7 +59,7 @@ returns-clause-ok c st h sound =
       answered = capped (old.answered + length (filter (touched_by by) (old.lives.live ++ l ∷ [])));
     } in
     let row : Live = row_for r (live_kind.Routed by) c.in_ok-id.id in
-    does-change st sound r by old _ _ _ _ _ _ _ h c.requires.kept.unlinked_fits c.requires.kept.dropped_fits
+    does-change st sound r by old _ _ _ h c.requires.kept.unlinked_fits c.requires.kept.dropped_fits
     (c.end_streams.ensures.ended
     ∙ ap (λ (k : Kept). record k { streams = lower (is_ended (Some by)) k.streams; calls = c.in_ok-called.called.calls }) c.drop_ended.ensures.dropped.is
     ∙ ap (λ (k : Kept). record k {
@@ -85,16 +85,16 @@ returns-clause-ok c st h sound =
     }))
     c.in_ok-write_ends.ensures.ok
     (c.in_ok-id.ensures.sent ∙ (λ i. c.in_ok-called.ensures.sent i ++ bytes_of old (stopped i).last asks)
-    ∙ append_assoc c.args.to_host.now (bytes_of old old.last before) (bytes_of old (after_stops old (called_of old) before).last asks)
-    ∙ ap (λ (bs : List ℕ). c.args.to_host.now ++ bs) (sym (bytes-more old old.last before asks) ∙ ap (flat_map (host_packet_bytes old.caps)) asked))
-    (c.in_ok-push.ensures.ok ∙ ap (λ (n : ℕ). c.args.notes.now ++ note.Submitted r.number n ∷ []) id)
+    ∙ append_assoc c.args.out.now.to_host (bytes_of old old.last before) (bytes_of old (after_stops old (called_of old) before).last asks)
+    ∙ ap (λ (bs : List ℕ). c.args.out.now.to_host ++ bs) (sym (bytes-more old old.last before asks) ∙ ap (flat_map (host_packet_bytes old.caps)) asked))
+    (c.in_ok-push.ensures.ok ∙ ap (λ (n : ℕ). c.args.out.now.notes ++ note.Submitted r.number n ∷ []) id)
 
 pub returns-in_err-write_ends-clause-err : goal.returns-in_err-write_ends-clause-err
 returns-in_err-write_ends-clause-err c = on-err c.from_residual.result _ (record {
   same = refl;
   client = c.in_err-write_ends.ensures.err;
-  host = record { more = []; is = sym (append-nil c.args.to_host.now) };
-  notes = record { more = []; is = sym (append-nil c.args.notes.now) };
+  host = record { more = []; is = sym (append-nil c.args.out.now.to_host) };
+  notes = record { more = []; is = sym (append-nil c.args.out.now.notes) };
 })
 
 pub returns-in_err-called-clause-err : goal.returns-in_err-called-clause-err
@@ -102,7 +102,7 @@ returns-in_err-called-clause-err c = on-err c.from_residual-in_err-called.result
   same = refl;
   client = record { more = flat_map (ended_bytes (Change c.args.route) eshutdown) c.args.self.now.lives.live; is = c.in_ok-write_ends.ensures.ok };
   host = c.in_err-called.ensures.err;
-  notes = record { more = []; is = sym (append-nil c.args.notes.now) };
+  notes = record { more = []; is = sym (append-nil c.args.out.now.notes) };
 })
 
 pub returns-in_err-id-clause-err : goal.returns-in_err-id-clause-err
@@ -110,13 +110,13 @@ returns-in_err-id-clause-err c = on-err c.from_residual-in_err-id.result _ (reco
   same = refl;
   client = record { more = flat_map (ended_bytes (Change c.args.route) eshutdown) c.args.self.now.lives.live; is = c.in_ok-write_ends.ensures.ok };
   host = record { more = bytes_of c.args.self.now c.args.self.now.last (stops_of c.args.self.now (Some c.args.route)); is = c.in_err-id.ensures.err ∙ c.in_ok-called.ensures.sent };
-  notes = record { more = []; is = sym (append-nil c.args.notes.now) };
+  notes = record { more = []; is = sym (append-nil c.args.out.now.notes) };
 })
 
 pub returns-in_err-push-clause-err : goal.returns-in_err-push-clause-err
 returns-in_err-push-clause-err c = on-err c.from_residual-in_err-push.result _ (record {
   same = refl;
   client = record { more = flat_map (ended_bytes (Change c.args.route) eshutdown) c.args.self.now.lives.live; is = c.in_ok-write_ends.ensures.ok };
-  host = extends-after c.args.to_host.now c.write_stops.new.to_host c.ask_route.new.to_host _ c.in_ok-called.ensures.sent (record { more = bytes_of c.args.self.now c.in_ok-called.called.last (route_packets c.args.route); is = c.in_ok-id.ensures.sent });
-  notes = record { more = []; is = c.in_err-push.ensures.err ∙ sym (append-nil c.args.notes.now) };
+  host = extends-after c.args.out.now.to_host c.write_stops.new.to_host c.ask_route.new.to_host _ c.in_ok-called.ensures.sent (record { more = bytes_of c.args.self.now c.in_ok-called.called.last (route_packets c.args.route); is = c.in_ok-id.ensures.sent });
+  notes = record { more = []; is = c.in_err-push.ensures.err ∙ sym (append-nil c.args.out.now.notes) };
 })

@@ -21,7 +21,7 @@ use Rattle.gate_core.proofs.lemmas.client.Wait.{does-start}
 use Rattle.gate_core.proofs.state.kept.Kept.start.Goals as goal
 
 pub returns-clause-ok : goal.returns-clause-ok
-returns-clause-ok c st client h sound =
+returns-clause-ok c st h sound =
     let old = c.args.self.now in
     let r = request_view c.args.request in
     let row = c.args.row in
@@ -34,7 +34,7 @@ returns-clause-ok c st client h sound =
     let started = c.in_ok-called.ensures.called ∙ ap (λ (n : ℕ). after_starts old (called_of old) (starts_of old n row)) ep in
     let live = c.row_of-live.ensures ∙ ap (λ (n : ℕ). row_for r (live_kind.Stream n row.interface) 0) ep in
     let raised = c.raise.ensures ∙ ap (λ (n : ℕ). raise (record { ep = n; row = row; held = [] }) old.streams) ep in
-    does-start st sound r row old c.open.new.self c.in_ok-called.called.calls c.in_ok-called.called.last client c.args.to_host.now c.write_start.new.to_host c.args.notes.now c.push.new.self h c.requires.kept
+    does-start st sound r row old c.open.new.self c.in_ok-called.called.calls c.in_ok-called.called.last c.args.out.now c.write_start.new.to_host c.push.new.self h c.requires.kept
     c.requires.free.number_free c.requires.down
     (c.open.ensures.opened.is ∙ (λ i. record old {
       lives = record { live = old.lives.live ++ live i ∷ []; abandoned = old.lives.abandoned };
@@ -44,22 +44,22 @@ returns-clause-ok c st client h sound =
     }))
     (ap (λ (k : Called). k.calls) started ∙ ap (λ l. called l old.calls) asked)
     (ap (λ (k : Called). k.last) started ∙ ap (last_of old.last) drawn)
-    (c.in_ok-called.ensures.sent ∙ ap (λ (n : ℕ). c.args.to_host.now ++ bytes_of old old.last (starts_of old n row)) ep
-    ∙ (λ i. c.args.to_host.now ++ flat_map (host_packet_bytes (h.caps i)) (asked i)))
+    (c.in_ok-called.ensures.sent ∙ ap (λ (n : ℕ). c.args.out.now.to_host ++ bytes_of old old.last (starts_of old n row)) ep
+    ∙ (λ i. c.args.out.now.to_host ++ flat_map (host_packet_bytes (h.caps i)) (asked i)))
     c.in_ok-push.ensures.ok
 
 pub returns-in_err-push-clause-err : goal.returns-in_err-push-clause-err
-returns-in_err-push-clause-err c client = on-err c.from_residual.result _ (record {
+returns-in_err-push-clause-err c = on-err c.from_residual.result _ (record {
   same = refl;
-  client = record { more = []; is = sym (append-nil client) };
-  host = record { more = []; is = sym (append-nil c.args.to_host.now) };
-  notes = record { more = []; is = c.in_err-push.ensures.err ∙ sym (append-nil c.args.notes.now) };
+  client = record { more = []; is = sym (append-nil c.args.out.now.to_client) };
+  host = record { more = []; is = sym (append-nil c.args.out.now.to_host) };
+  notes = record { more = []; is = c.in_err-push.ensures.err ∙ sym (append-nil c.args.out.now.notes) };
 })
 
 pub returns-in_err-called-clause-err : goal.returns-in_err-called-clause-err
-returns-in_err-called-clause-err c client = on-err c.from_residual-in_err-called.result _ (record {
+returns-in_err-called-clause-err c = on-err c.from_residual-in_err-called.result _ (record {
   same = refl;
-  client = record { more = []; is = sym (append-nil client) };
-  host = record { more = []; is = c.in_err-called.ensures.err ∙ sym (append-nil c.args.to_host.now) };
+  client = record { more = []; is = sym (append-nil c.args.out.now.to_client) };
+  host = record { more = []; is = c.in_err-called.ensures.err ∙ sym (append-nil c.args.out.now.to_host) };
   notes = record { more = note.Submitted c.args.request.number 0 ∷ []; is = c.in_ok-push.ensures.ok };
 })

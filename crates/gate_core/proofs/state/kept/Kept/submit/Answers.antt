@@ -1,4 +1,4 @@
-use Rattle.std.proofs.Common.{◌≡◌, ◌+◌, ℕ, not, cond, None, OnOk, sym, ap, subst, ◌∙◌, arith}
+use Rattle.std.proofs.Common.{◌≡◌, ◌+◌, ℕ, not, cond, true, false, None, OnOk, sym, ap, subst, ◌∙◌, arith, w32, length}
 use Rattle.std.specs.List.{list_any}
 use Rattle.usb_base.specs.declared.reason.Reason.TheVariants.{NotImported, DuplicateSeq}
 use Rattle.usb_base.specs.declared.side.Side.TheVariants.{Client}
@@ -6,39 +6,93 @@ use Rattle.unlink_race.specs.Searches.{has_number}
 use Rattle.gate_history.specs.step.Items.{capped}
 use Rattle.gate_history.specs.client.Requests.{Request, request_of}
 use Rattle.gate_history.specs.step.Marks.{Effect, Refuses}
-use Rattle.gate_history.specs.state.State.{is_number, submits}
-use Rattle.gate_history.specs.step.Meaning.{mark_as, refused, accepts, verdict_of}
-use Rattle.gate_core.specs.inner.Holds.{Does}
+use Rattle.gate_history.specs.state.State.{State, is_number, submits, change_waits}
+use Rattle.gate_history.specs.step.Meaning.{mark_as, refused, accepts, verdict_of, urb_meaning}
+use Rattle.gate_core.specs.declared.state.kept.Kept.{Kept}
+use Rattle.gate_core.specs.inner.Holds.{Holds, Does}
 use Rattle.gate_core.proofs.lemmas.state.Ids.{number-rows}
+use Rattle.std.specs.Prelude.{FitsSigned}
+use Rattle.std.proofs.lemmas.Int.{to_z-of_z}
+use Rattle.gate_history.specs.client.Verdict.{Verdict, Now}
+use Rattle.gate_history.specs.state.Flight.{wide_bulk}
+use Rattle.gate_parts.proofs.lemmas.client.Directions.{StatusFits, verdict-fits}
+use Rattle.gate_history.specs.client.Views.{request_view, verdict_view}
+use Rattle.gate_core.proofs.lemmas.client.Accept.{now-opens, wire-opens, routed-opens, iso-opens}
+use Rattle.usbip_urb.specs.declared.packet.Submit.{Submit}
+use Rattle.usbip_urb.specs.declared.packet.UrbPacket.TheVariants.{Submit as SubmitPacket}
 use Rattle.gate_core.proofs.state.kept.Kept.submit.Goals as goal
 
 further : (at place : ℕ) → place ≡ capped at → capped (place + 4) ≡ capped (at + 4)
 further at place e = omega (arith, e)
+
+-- one of a client that has imported the device, whose number is free, is accepted
+is-accepted : (old : Kept) (st : State) (at : ℕ) (s : Submit) (r : Request) → Holds old st → r ≡ request_of s → old.imported ≡ true → list_any (has_number s.head.seqnum) old.lives.live ≡ false →
+    accepts st r (verdict_of st r) ≡ urb_meaning st at (SubmitPacket s)
+is-accepted old st at s r h is imported free =
+    let here = sym h.imported ∙ imported in
+    let none = sym (ap (list_any (has_number s.head.seqnum)) h.live ∙ number-rows s.head.seqnum st.live) ∙ free in
+    ap (λ (q : Request). accepts st q (verdict_of st q)) is
+    ∙ (λ i. cond (not (sym here i)) (refused Client at NotImported) (cond (sym none i) (refused Client (at + 4) DuplicateSeq) (accepts st (request_of s) (verdict_of st (request_of s)))))
 
 pub returns-then-has-clause-ok : goal.returns-then-has-clause-ok
 returns-then-has-clause-ok c st at place h sound going =
     let s = c.args.submit in
     let here = sym h.imported ∙ c.if-not-self.false in
     let live = ap (list_any (has_number s.head.seqnum)) h.live ∙ number-rows s.head.seqnum st.live in
-    subst (λ (e : Effect). OnOk c.refuse_client-then-has.result (Does st (mark_as st e None) c.args.self.now c.refuse_client-then-has.new.self c.args.to_client.now c.args.to_client.now c.args.to_host.now c.refuse_client-then-has.new.to_host c.args.notes.now c.refuse_client-then-has.new.notes))
+    subst (λ (e : Effect). OnOk c.refuse_client-then-has.result (Does st (mark_as st e None) c.args.self.now c.refuse_client-then-has.new.self c.args.out.now c.refuse_client-then-has.new.out))
     (ap (λ r. Refuses r) (c.client_refusal-then-has.ensures.value (at + 4) (c.saturating_add-place.ensures ∙ further at c.args.place place))
     ∙ (λ i. cond (not (sym here i)) (refused Client at NotImported) (cond (sym (sym live ∙ sym c.has.ensures ∙ c.if-has.true) i) (refused Client (at + 4) DuplicateSeq) (accepts st (request_of s) (verdict_of st (request_of s))))))
-    (c.refuse_client-then-has.ensures.ok st c.args.to_client.now h going)
-
-pub returns-clause-ok : goal.returns-clause-ok
-returns-clause-ok c st at place h sound going =
-    let s = c.args.submit in
-    let here = sym h.imported ∙ c.if-not-self.false in
-    let live = ap (list_any (has_number s.head.seqnum)) h.live ∙ number-rows s.head.seqnum st.live in
-    subst (λ (e : Effect). OnOk c.accept.result (Does st (mark_as st e None) c.args.self.now c.accept.new.self c.args.to_client.now c.accept.new.to_client c.args.to_host.now c.accept.new.to_host c.args.notes.now c.accept.new.notes))
-    (ap (λ (r : Request). accepts st r (verdict_of st r)) c.of.ensures.value
-    ∙ (λ i. cond (not (sym here i)) (refused Client at NotImported) (cond (sym (sym live ∙ sym c.has.ensures ∙ c.if-has.false) i) (refused Client (at + 4) DuplicateSeq) (accepts st (request_of s) (verdict_of st (request_of s))))))
-    (c.accept.ensures.ok st h sound)
+    (c.refuse_client-then-has.ensures.ok st h going)
 
 pub returns-then-not-self-clause-ok : goal.returns-then-not-self-clause-ok
 returns-then-not-self-clause-ok c st at place h sound going =
     let s = c.args.submit in
-    subst (λ (e : Effect). OnOk c.refuse_client.result (Does st (mark_as st e None) c.args.self.now c.refuse_client.new.self c.args.to_client.now c.args.to_client.now c.args.to_host.now c.refuse_client.new.to_host c.args.notes.now c.refuse_client.new.notes))
+    subst (λ (e : Effect). OnOk c.refuse_client.result (Does st (mark_as st e None) c.args.self.now c.refuse_client.new.self c.args.out.now c.refuse_client.new.out))
     (ap (λ r. Refuses r) (c.client_refusal.ensures.value at place)
     ∙ (λ i. cond (not (sym (sym h.imported ∙ c.if-not-self.true) i)) (refused Client at NotImported) (cond (list_any (is_number s.head.seqnum) (submits st)) (refused Client (at + 4) DuplicateSeq) (accepts st (request_of s) (verdict_of st (request_of s))))))
-    (c.refuse_client.ensures.ok st c.args.to_client.now h going)
+    (c.refuse_client.ensures.ok st h going)
+
+pub send_route-requires-clause-some : goal.send_route-requires-clause-some
+send_route-requires-clause-some c = c.in-Routed.ensures.answered.sends
+
+pub returns-in-Now-clause-ok : goal.returns-in-Now-clause-ok
+returns-in-Now-clause-ok c st at place h sound going =
+    let r = request_view c.of-request.result in
+    let accepted = is-accepted c.args.self.now st at c.args.submit r h c.of-request.ensures.value c.if-not-self.false (sym c.has.ensures ∙ c.if-has.false) in
+    let now : Now c.in-Now.status ≡ verdict_of st r = sym (ap verdict_view c.in-Now.is) ∙ c.verdict.ensures.value st h in
+    let fits : FitsSigned w32 c.in-Now.status = subst StatusFits (sym now) (verdict-fits st.lost (length st.live) (change_waits st) st.facts.table (wide_bulk st.agreed) r) in
+    subst (λ (e : Effect). OnOk c.answer_now.result (Does st (mark_as st e None) c.args.self.now c.answer_now.new.self c.args.out.now c.answer_now.new.out))
+    (now-opens st r _ ∙ ap (accepts st r) (ap (λ s. Now s) (to_z-of_z w32 c.in-Now.status fits) ∙ now) ∙ accepted)
+    (c.answer_now.ensures.ok st h sound)
+
+pub returns-in-Wire-clause-ok : goal.returns-in-Wire-clause-ok
+returns-in-Wire-clause-ok c st at place h sound going =
+    let r = request_view c.of-request.result in
+    let accepted = is-accepted c.args.self.now st at c.args.submit r h c.of-request.ensures.value c.if-not-self.false (sym c.has.ensures ∙ c.if-has.false) in
+    subst (λ (e : Effect). OnOk c.send.result (Does st (mark_as st e None) c.args.self.now c.send.new.self c.args.out.now c.send.new.out))
+    (wire-opens st r _ ∙ ap (accepts st r) (sym (ap verdict_view c.in-Wire.is) ∙ c.verdict.ensures.value st h) ∙ accepted)
+    (c.send.ensures.ok st h sound)
+
+pub returns-in-Routed-clause-ok : goal.returns-in-Routed-clause-ok
+returns-in-Routed-clause-ok c st at place h sound going =
+    let r = request_view c.of-request.result in
+    let accepted = is-accepted c.args.self.now st at c.args.submit r h c.of-request.ensures.value c.if-not-self.false (sym c.has.ensures ∙ c.if-has.false) in
+    subst (λ (e : Effect). OnOk c.send_route.result (Does st (mark_as st e None) c.args.self.now c.send_route.new.self c.args.out.now c.send_route.new.out))
+    (routed-opens st r _ ∙ ap (accepts st r) (sym (ap verdict_view c.in-Routed.is) ∙ c.verdict.ensures.value st h) ∙ accepted)
+    (c.send_route.ensures.ok st h sound)
+
+pub returns-in-IsoOut-clause-ok : goal.returns-in-IsoOut-clause-ok
+returns-in-IsoOut-clause-ok c st at place h sound going =
+    let r = request_view c.of-request.result in
+    let accepted = is-accepted c.args.self.now st at c.args.submit r h c.of-request.ensures.value c.if-not-self.false (sym c.has.ensures ∙ c.if-has.false) in
+    subst (λ (e : Effect). OnOk c.send_iso.result (Does st (mark_as st e None) c.args.self.now c.send_iso.new.self c.args.out.now c.send_iso.new.out))
+    (iso-opens st r _ ∙ ap (accepts st r) (sym (ap verdict_view c.in-IsoOut.is) ∙ c.verdict.ensures.value st h) ∙ accepted)
+    (c.send_iso.ensures.ok st h sound)
+
+pub returns-in-Stream-clause-ok : goal.returns-in-Stream-clause-ok
+returns-in-Stream-clause-ok c st at place h sound going =
+    let r = request_view c.of-request.result in
+    let accepted = is-accepted c.args.self.now st at c.args.submit r h c.of-request.ensures.value c.if-not-self.false (sym c.has.ensures ∙ c.if-has.false) in
+    subst (λ (e : Effect). OnOk c.wait.result (Does st (mark_as st e None) c.args.self.now c.wait.new.self c.args.out.now c.wait.new.out))
+    (ap (accepts st r) (sym (ap verdict_view c.in-Stream.is) ∙ c.verdict.ensures.value st h) ∙ accepted)
+    (c.wait.ensures.ok st h sound)

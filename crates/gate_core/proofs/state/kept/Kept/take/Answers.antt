@@ -1,4 +1,7 @@
-use Rattle.std.proofs.Common.{◌≡◌, false, None, OnOk, OnErr, sym, ap, subst}
+use Rattle.std.proofs.Common.{◌≡◌, ℕ, false, None, OnOk, OnErr, sym, ap, subst}
+use Rattle.usbip_urb.specs.declared.client.ClientPacket.{ClientPacket}
+use Rattle.redir_wire.specs.declared.packet.Caps.{Caps}
+use Rattle.gate_history.specs.state.State.{State}
 use Rattle.gate_history.specs.declared.item.Item.{Item as RawItem}
 use Rattle.gate_history.specs.declared.item.Item.TheVariants as raw
 use Rattle.usb_base.specs.declared.side.Side.TheVariants.{Client, Host}
@@ -14,33 +17,45 @@ use Rattle.gate_core.proofs.lemmas.write.Gives.{asked-gives, refusal-gives}
 use Rattle.gate_core.proofs.lemmas.write.InTurn.{on-err}
 use Rattle.gate_core.proofs.state.kept.Kept.take.Goals as goal
 
+-- a packet of the client that can be taken gives something
+wants-asked : (caps : Caps) (st : State) (x : Item) (item : RawItem) (place : ℕ) (packet : ClientPacket) → item ≡ raw.Asked place packet → IsItem item x → ItemFits caps item → GivesSome st (mark_of st x)
+wants-asked caps st x item place packet of is fits =
+    let w : IsItem (raw.Asked place packet) x = subst (λ (r : RawItem). IsItem r x) of is in
+    subst (λ (y : Item). GivesSome st (mark_of st y)) (sym w.2) (asked-gives st w.0 packet (subst (λ (r : RawItem). ItemFits caps r) of fits))
+
 pub returns-in-ClientWrong-clause-ok : goal.returns-in-ClientWrong-clause-ok
 returns-in-ClientWrong-clause-ok c st x is h sound comes =
     let w : IsItem (raw.ClientWrong c.in-ClientWrong.place c.in-ClientWrong.reason) x = subst (λ (r : RawItem). IsItem r x) c.in-ClientWrong.is is in
-    subst (λ (y : Item). OnOk c.refuse_client.result (Does st (mark_of st y) c.args.self.now c.refuse_client.new.self c.args.to_client.now c.args.to_client.now c.args.to_host.now c.refuse_client.new.to_host c.args.notes.now c.refuse_client.new.notes)) (sym w.2)
-    (subst (λ (e : Effect). OnOk c.refuse_client.result (Does st (mark_as st e None) c.args.self.now c.refuse_client.new.self c.args.to_client.now c.args.to_client.now c.args.to_host.now c.refuse_client.new.to_host c.args.notes.now c.refuse_client.new.notes))
+    subst (λ (y : Item). OnOk c.refuse_client.result (Does st (mark_of st y) c.args.self.now c.refuse_client.new.self c.args.out.now c.refuse_client.new.out)) (sym w.2)
+    (subst (λ (e : Effect). OnOk c.refuse_client.result (Does st (mark_as st e None) c.args.self.now c.refuse_client.new.self c.args.out.now c.refuse_client.new.out))
     (ap (λ r. Refuses r) (c.client_refusal.ensures.value w.0 w.1))
-    (c.refuse_client.ensures.ok st c.args.to_client.now h (subst (λ (y : Item). is_left_out st y ≡ false) w.2 comes)))
+    (c.refuse_client.ensures.ok st h (subst (λ (y : Item). is_left_out st y ≡ false) w.2 comes)))
 
 pub returns-in-ClientLeft-clause-ok : goal.returns-in-ClientLeft-clause-ok
 returns-in-ClientLeft-clause-ok c st x is h sound comes =
-    subst (λ (y : Item). OnOk c.client_left.result (Does st (mark_of st y) c.args.self.now c.client_left.new.self c.args.to_client.now c.args.to_client.now c.args.to_host.now c.client_left.new.to_host c.args.notes.now c.client_left.new.notes))
+    subst (λ (y : Item). OnOk c.client_left.result (Does st (mark_of st y) c.args.self.now c.client_left.new.self c.args.out.now c.client_left.new.out))
     (sym (subst (λ (r : RawItem). IsItem r x) c.in-ClientLeft.is is))
-    (c.client_left.ensures.ok st c.args.to_client.now h)
+    (c.client_left.ensures.ok st h)
 
 pub returns-in-HostWrong-clause-ok : goal.returns-in-HostWrong-clause-ok
 returns-in-HostWrong-clause-ok c st x is h sound comes =
     let w : IsItem (raw.HostWrong c.in-HostWrong.place c.in-HostWrong.reason) x = subst (λ (r : RawItem). IsItem r x) c.in-HostWrong.is is in
-    subst (λ (y : Item). OnOk c.refuse_host.result (Does st (mark_of st y) c.args.self.now c.refuse_host.new.self c.args.to_client.now c.refuse_host.new.to_client c.args.to_host.now c.args.to_host.now c.args.notes.now c.refuse_host.new.notes)) (sym w.2)
-    (subst (λ (e : Effect). OnOk c.refuse_host.result (Does st (mark_as st e None) c.args.self.now c.refuse_host.new.self c.args.to_client.now c.refuse_host.new.to_client c.args.to_host.now c.args.to_host.now c.args.notes.now c.refuse_host.new.notes))
+    subst (λ (y : Item). OnOk c.refuse_host.result (Does st (mark_of st y) c.args.self.now c.refuse_host.new.self c.args.out.now c.refuse_host.new.out)) (sym w.2)
+    (subst (λ (e : Effect). OnOk c.refuse_host.result (Does st (mark_as st e None) c.args.self.now c.refuse_host.new.self c.args.out.now c.refuse_host.new.out))
     (ap (λ r. Refuses r) (c.host_refusal.ensures.value w.0 w.1))
-    (c.refuse_host.ensures.ok st c.args.to_host.now h))
+    (c.refuse_host.ensures.ok st h))
 
-pub returns-in-Asked-clause-wants : goal.returns-in-Asked-clause-wants
-returns-in-Asked-clause-wants c st x is h sound =
-    let w : IsItem (raw.Asked c.in-Asked.place c.in-Asked.packet) x = subst (λ (r : RawItem). IsItem r x) c.in-Asked.is is in
-    on-err c.take_client.result _
-    (subst (λ (y : Item). GivesSome st (mark_of st y)) (sym w.2) (asked-gives st w.0 c.in-Asked.packet (subst (λ (r : RawItem). ItemFits c.args.self.now.caps r) c.in-Asked.is c.requires.fits)))
+pub returns-in-Op-clause-wants : goal.returns-in-Op-clause-wants
+returns-in-Op-clause-wants c st x is h sound =
+    on-err c.answer_op.result _ (wants-asked c.args.self.now.caps st x c.args.item c.in-Asked.place c.in-Asked.packet c.in-Asked.is is c.requires.fits)
+
+pub returns-in-Urb-Submit-clause-wants : goal.returns-in-Urb-Submit-clause-wants
+returns-in-Urb-Submit-clause-wants c st x is h sound =
+    on-err c.submit.result _ (wants-asked c.args.self.now.caps st x c.args.item c.in-Asked.place c.in-Asked.packet c.in-Asked.is is c.requires.fits)
+
+pub returns-in-Urb-Unlink-clause-wants : goal.returns-in-Urb-Unlink-clause-wants
+returns-in-Urb-Unlink-clause-wants c st x is h sound =
+    on-err c.unlink.result _ (wants-asked c.args.self.now.caps st x c.args.item c.in-Asked.place c.in-Asked.packet c.in-Asked.is is c.requires.fits)
 
 pub returns-in-ClientWrong-clause-wants : goal.returns-in-ClientWrong-clause-wants
 returns-in-ClientWrong-clause-wants c st x is h sound =
@@ -61,6 +76,6 @@ returns-in-HostWrong-clause-wants c st x is h sound =
     let w : IsItem (raw.HostWrong c.in-HostWrong.place c.in-HostWrong.reason) x = subst (λ (r : RawItem). IsItem r x) c.in-HostWrong.is is in
     on-err c.refuse_host.result _ (subst (λ (y : Item). GivesSome st (mark_of st y)) (sym w.2) (refusal-gives st (refusal Host w.0 c.in-HostWrong.reason) None))
 
-pub returns-in-HostLeft-clause-wants : goal.returns-in-HostLeft-clause-wants
-returns-in-HostLeft-clause-wants c st x is h sound =
+pub returns-clause-wants : goal.returns-clause-wants
+returns-clause-wants c st x is h sound =
     subst (λ (y : Item). OnErr c.host_left.result (GivesSome st (mark_of st y))) (sym (subst (λ (r : RawItem). IsItem r x) c.in-HostLeft.is is)) (c.host_left.ensures.wants st h)

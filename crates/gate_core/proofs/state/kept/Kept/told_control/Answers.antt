@@ -14,18 +14,18 @@ returns-in-Hello-clause-ok c st at place h sound going =
     let caps = agreed (caps_of c.in-Hello.hello) announced in
     let k = c.requires.kept in
     rw c.in-Hello.is
-    (subst (λ (new : Kept). Does st (mark_as st (Agrees caps) None) c.args.self.now new c.args.to_client.now c.args.to_client.now c.args.to_host.now c.args.to_host.now c.args.notes.now c.args.notes.now) (sym c.agree.ensures.agreed)
-    (does-agree st c.args.self.now caps c.args.to_client.now c.args.to_host.now c.args.notes.now h k.answered_fits k.unlinked_fits k.dropped_fits))
+    (subst (λ (new : Kept). Does st (mark_as st (Agrees caps) None) c.args.self.now new c.args.out.now c.args.out.now) (sym c.agree.ensures.agreed)
+    (does-agree st c.args.self.now caps c.args.out.now h k.answered_fits k.unlinked_fits k.dropped_fits))
 
 pub returns-in_default : goal.returns-in_default
 returns-in_default c =
     record {
       kept = c.told_fact.ensures.kept;
       ok = λ st at place h sound going.
-          subst (λ (e : Effect). OnOk c.told_fact.result (Does st (mark_as st e (fact_of (Plain c.args.packet.now))) c.args.self.now c.told_fact.new.self c.args.to_client.now c.told_fact.new.to_client c.args.to_host.now c.args.to_host.now c.args.notes.now c.told_fact.new.notes))
+          subst (λ (e : Effect). OnOk c.told_fact.result (Does st (mark_as st e (fact_of (Plain c.args.packet.now))) c.args.self.now c.told_fact.new.self c.args.out.now c.told_fact.new.out))
           (sym (told-other st at c.args.header.now c.args.packet.now c.in_default.not-Hello c.in_default.not-Disconnect c.in_default.not-IsoStatus c.in_default.not-InterruptStatus))
-          (c.told_fact.ensures.ok st at c.args.to_host.now place h sound going);
-      err = c.told_fact.ensures.err c.args.to_host.now;
+          (c.told_fact.ensures.ok st at place h sound going);
+      err = c.told_fact.ensures.err;
       wants = λ st at place h sound.
           subst (λ (e : Effect). OnErr c.told_fact.result (GivesSome st (mark_as st e (fact_of (Plain c.args.packet.now)))))
           (sym (told-other st at c.args.header.now c.args.packet.now c.in_default.not-Hello c.in_default.not-Disconnect c.in_default.not-IsoStatus c.in_default.not-InterruptStatus))
@@ -34,17 +34,17 @@ returns-in_default c =
 
 pub returns-in-IsoStatus-clause-ok : goal.returns-in-IsoStatus-clause-ok
 returns-in-IsoStatus-clause-ok c st at place h sound going =
-    rw c.in-IsoStatus.is (c.told_stream.ensures.ok st c.args.to_host.now c.args.notes.now h sound)
+    rw c.in-IsoStatus.is (c.told_stream.ensures.ok st h sound)
 
 pub returns-in-IsoStatus-clause-err : goal.returns-in-IsoStatus-clause-err
-returns-in-IsoStatus-clause-err c = c.told_stream.ensures.err c.args.to_host.now c.args.notes.now
+returns-in-IsoStatus-clause-err c = c.told_stream.ensures.err
 
 pub returns-in-InterruptStatus-clause-ok : goal.returns-in-InterruptStatus-clause-ok
 returns-in-InterruptStatus-clause-ok c st at place h sound going =
-    rw c.in-InterruptStatus.is (c.told_stream-in-InterruptStatus.ensures.ok st c.args.to_host.now c.args.notes.now h sound)
+    rw c.in-InterruptStatus.is (c.told_stream-in-InterruptStatus.ensures.ok st h sound)
 
 pub returns-in-InterruptStatus-clause-err : goal.returns-in-InterruptStatus-clause-err
-returns-in-InterruptStatus-clause-err c = c.told_stream-in-InterruptStatus.ensures.err c.args.to_host.now c.args.notes.now
+returns-in-InterruptStatus-clause-err c = c.told_stream-in-InterruptStatus.ensures.err
 
 pub returns-in-IsoStatus-clause-wants : goal.returns-in-IsoStatus-clause-wants
 returns-in-IsoStatus-clause-wants c st at place h sound = rw c.in-IsoStatus.is (c.told_stream.ensures.wants st h sound)

@@ -9,18 +9,18 @@ use Rattle.gate_history.specs.step.Wants.{GivesSome}
 use Rattle.gate_core.proofs.state.kept.Kept.told_data.Goals as goal
 
 pub returns-in_default-clause-ok : goal.returns-in_default-clause-ok
-returns-in_default-clause-ok c st at host place h sound =
-    subst (λ (e : Effect). OnOk c.respond.result (Does st (mark_as st e None) c.args.self.now c.respond.new.self c.args.to_client.now c.respond.new.to_client host host c.args.notes.now c.respond.new.notes))
+returns-in_default-clause-ok c st at place h sound =
+    subst (λ (e : Effect). OnOk c.respond.result (Does st (mark_as st e None) c.args.self.now c.respond.new.self c.args.out.now c.respond.new.out))
     (ap (by_response st at c.args.header.now) c.data_of.ensures ∙ responds-so st at c.args.header.now c.args.packet (sym c.in_default.is ∙ c.stream_in.ensures))
-    (c.respond.ensures.ok st at host place h sound)
+    (c.respond.ensures.ok st at place h sound)
 
 pub returns-clause-ok : goal.returns-clause-ok
-returns-clause-ok c st at host place h sound =
+returns-clause-ok c st at place h sound =
     let x = c.in-Some.stream in
-    subst (λ (e : Effect). OnOk c.arrive.result (Does st (mark_as st e None) c.args.self.now c.arrive.new.self c.args.to_client.now c.arrive.new.to_client host host c.args.notes.now c.arrive.new.notes))
+    subst (λ (e : Effect). OnOk c.arrive.result (Does st (mark_as st e None) c.args.self.now c.arrive.new.self c.args.out.now c.arrive.new.out))
     (ap (λ (p : StreamPacket). arrives st x.endpoint x.is_iso p (stream_of st.streams x.endpoint)) c.stream_packet.ensures
     ∙ arrives-so st at c.args.header.now c.args.packet x (sym c.in-Some.is ∙ c.stream_in.ensures))
-    (c.arrive.ensures.ok st host h sound)
+    (c.arrive.ensures.ok st h sound)
 
 pub returns-in_default-clause-wants : goal.returns-in_default-clause-wants
 returns-in_default-clause-wants c st at place h sound =

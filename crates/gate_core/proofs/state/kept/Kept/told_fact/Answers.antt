@@ -10,17 +10,15 @@ use Rattle.gate_core.proofs.lemmas.write.InTurn.{on-err}
 use Rattle.gate_core.proofs.state.kept.Kept.told_fact.Goals as goal
 
 pub returns-clause-ok : goal.returns-clause-ok
-returns-clause-ok c st at host place h sound going =
+returns-clause-ok c st at place h sound going =
     let header = c.args.header.now in
     let packet = Plain c.args.packet.now in
     let old = c.args.self.now in
-    let client = c.args.to_client.now in
-    let notes = c.args.notes.now in
-    subst (λ (k : Kept). Does st (mark_as st (by_response st at header (response_of packet)) (fact_of packet)) old k client c.respond.new.to_client host host notes c.respond.new.notes)
+    subst (λ (k : Kept). Does st (mark_as st (by_response st at header (response_of packet)) (fact_of packet)) old k c.args.out.now c.respond.new.out)
     (sym c.learn.ensures.learned)
-    (does-tell st at header (response_of packet) (fact_of packet) old c.respond.new.self client c.respond.new.to_client host host notes c.respond.new.notes going
-    (subst (λ (r : Option Response). Does st (mark_as st (by_response st at header r) None) old c.respond.new.self client c.respond.new.to_client host host notes c.respond.new.notes) c.status_of.ensures
-    (c.in_ok-respond.ensures.ok st at host place h sound)))
+    (does-tell st at header (response_of packet) (fact_of packet) old c.respond.new.self c.args.out.now c.respond.new.out going
+    (subst (λ (r : Option Response). Does st (mark_as st (by_response st at header r) None) old c.respond.new.self c.args.out.now c.respond.new.out) c.status_of.ensures
+    (c.in_ok-respond.ensures.ok st at place h sound)))
 
 pub returns-in_err-respond-clause-wants : goal.returns-in_err-respond-clause-wants
 returns-in_err-respond-clause-wants c st at place h sound =

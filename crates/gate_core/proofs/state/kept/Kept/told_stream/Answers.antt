@@ -8,15 +8,15 @@ use Rattle.gate_core.proofs.lemmas.host.StreamStatus.{does-tell_stream, tell-giv
 use Rattle.unlink_race.specs.declared.live.Live.{Live}
 use Rattle.gate_history.specs.step.Wants.{GivesSome}
 use Rattle.gate_core.specs.inner.StreamEnd.{is_told}
-use Rattle.gate_core.proofs.lemmas.write.InTurn.{on-err}
+use Rattle.gate_core.proofs.lemmas.write.InTurn.{on-err, leaves-client}
 use Rattle.gate_core.proofs.state.kept.Kept.told_stream.Goals as goal
 
 pub returns-clause-ok : goal.returns-clause-ok
-returns-clause-ok c st host notes h sound =
+returns-clause-ok c st h sound =
     let old = c.args.self.now in
     let new = record c.end_stream.new.self { fence = c.lifted-self.result } in
-    subst (λ (s : UsbStatus). Does st (mark_as st (StreamTold c.args.id c.args.endpoint s) None) old new c.args.to_client.now c.end_stream.new.to_client host host notes notes) c.from_byte.ensures
-    (does-tell_stream st sound c.args.id c.args.endpoint c.from_byte.result old c.end_stream.new.self new c.args.to_client.now c.end_stream.new.to_client host notes h
+    subst (λ (s : UsbStatus). Does st (mark_as st (StreamTold c.args.id c.args.endpoint s) None) old new c.args.out.now (record c.args.out.now { to_client = c.end_stream.new.to_client })) c.from_byte.ensures
+    (does-tell_stream st sound c.args.id c.args.endpoint c.from_byte.result old c.end_stream.new.self new c.args.out.now c.end_stream.new.to_client h
     c.requires.kept.unlinked_fits c.requires.kept.dropped_fits c.in_ok-end_stream.ensures.ended (λ i. record c.end_stream.new.self { fence = c.lifted-self.ensures i }) c.in_ok-end_stream.ensures.sent)
 
 pub returns-in_err-end_stream-clause-wants : goal.returns-in_err-end_stream-clause-wants
@@ -25,3 +25,6 @@ returns-in_err-end_stream-clause-wants c st h sound =
     (subst (λ (s : UsbStatus). GivesSome st (mark_as st (StreamTold c.args.id c.args.endpoint s) None)) c.from_byte.ensures
     (tell-gives st sound c.args.id c.args.endpoint c.from_byte.result
     (subst (λ (ls : List Live). 0 < length (filter (is_told c.args.endpoint c.from_byte.result) ls)) h.live c.in_err-end_stream.ensures.wants)))
+
+pub returns-in_err-end_stream-clause-err : goal.returns-in_err-end_stream-clause-err
+returns-in_err-end_stream-clause-err c = on-err c.from_residual.result _ (leaves-client c.args.self.now c.end_stream.new.self c.args.out.now c.end_stream.new.to_client c.in_err-end_stream.ensures.same c.in_err-end_stream.ensures.err)

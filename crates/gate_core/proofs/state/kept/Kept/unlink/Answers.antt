@@ -9,7 +9,7 @@ use Rattle.gate_core.proofs.state.kept.Kept.unlink.Goals as goal
 pub returns-then-not-self-clause-ok : goal.returns-then-not-self-clause-ok
 returns-then-not-self-clause-ok c st at place h sound going =
     let u = c.args.unlink.now in
-    subst (λ (e : Effect). OnOk c.refuse_client.result (Does st (mark_as st e None) c.args.self.now c.refuse_client.new.self c.args.to_client.now c.args.to_client.now c.args.to_host.now c.refuse_client.new.to_host c.args.notes.now c.refuse_client.new.notes))
+    subst (λ (e : Effect). OnOk c.refuse_client.result (Does st (mark_as st e None) c.args.self.now c.refuse_client.new.self c.args.out.now c.refuse_client.new.out))
     (ap (λ r. Refuses r) (c.client_refusal.ensures.value at place)
     ∙ (λ i. cond (not (sym (sym h.imported ∙ c.if-not-self.true) i)) (refused Client at NotImported) (Unlinks u.head.seqnum u.target)))
-    (c.refuse_client.ensures.ok st c.args.to_client.now h going)
+    (c.refuse_client.ensures.ok st h going)

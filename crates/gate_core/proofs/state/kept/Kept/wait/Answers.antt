@@ -21,8 +21,8 @@ returns-in_default-clause-ok c st h sound =
     let same : c.take.new.self ≡ old.streams =
     c.in_default.ensures.rest ∙ (λ i. slice_set old.streams (endpoint_index (c.ep-ep.ensures i)) (sym at i)) ∙ set-back old.streams (endpoint_index r.transfer.ep) None in
     subst
-    (λ (ups : List (Option Up)). Holds (record old { streams = ups }) st → OnOk c.start.result (Does st (mark_as st (accepts st r (Stream c.args.row)) None) (record old { streams = ups }) c.start.new.self c.args.to_client.now c.args.to_client.now c.args.to_host.now c.start.new.to_host c.args.notes.now c.start.new.notes))
-    same (λ k. c.start.ensures.ok st c.args.to_client.now k sound) h
+    (λ (ups : List (Option Up)). Holds (record old { streams = ups }) st → OnOk c.start.result (Does st (mark_as st (accepts st r (Stream c.args.row)) None) (record old { streams = ups }) c.start.new.self c.args.out.now c.start.new.out))
+    same (λ k. c.start.ensures.ok st k sound) h
 
 pub returns-clause-ok : goal.returns-clause-ok
 returns-clause-ok c st h sound =
@@ -34,7 +34,7 @@ returns-clause-ok c st h sound =
     let at : stream_at old.streams r.transfer.ep ≡ Some up = ap (stream_at old.streams) (sym ep) ∙ sym c.in-Some.ensures.up in
     on-ok c.join-joined.result
     (λ j s t.
-    does-join st sound r c.args.row up c.join-joined.new.up old emptied c.join-joined.new.self _ c.args.to_client.now c.join-joined.new.to_client c.args.to_host.now c.args.notes.now c.join-joined.new.notes h c.requires.kept
+    does-join st sound r c.args.row up c.join-joined.new.up old emptied c.join-joined.new.self _ c.args.out.now c.join-joined.new.to_client c.join-joined.new.notes h c.requires.kept
     c.requires.free.number_free at
     (ap (λ (ups : List (Option Up)). record old { streams = ups }) (c.in-Some.ensures.rest ∙ ap (λ (n : ℕ). slice_set old.streams (endpoint_index n) None) ep))
     j
@@ -54,7 +54,7 @@ returns-clause-err c =
           ∙ (λ j. slice_set (c.in-Some.ensures.rest j) i (Some (up j)))
           ∙ set-twice old.streams i None (Some c.in-Some.up) ∙ ap (slice_set old.streams i) c.in-Some.ensures.up ∙ set-back old.streams i None);
       client = client;
-      host = record { more = []; is = sym (append-nil c.args.to_host.now) };
+      host = record { more = []; is = sym (append-nil c.args.out.now.to_host) };
       notes = notes;
     })
     c.join-joined.ensures.same c.join-joined.ensures.same_up c.join-joined.ensures.err c.join-joined.ensures.err_notes

@@ -10,10 +10,10 @@ use Rattle.gate_core.proofs.step.inner.Inner.change_client.Goals as goal
 
 pub returns-in_err-take : goal.returns-in_err-take
 returns-in_err-take c =
-    err-event c.from_residual.result c.args.self.now (record c.args.self.now { translator = c.take.new.self }) ClientEnd c.args.to_client.now c.take.new.to_client c.args.to_host.now c.take.new.to_host c.args.notes.now c.take.new.notes c.from_residual.ensures.0
-    (λ first events stands. stops-end first c.args.self.now c.take.new.self events ClientEnd c.args.to_client.now c.take.new.to_client c.args.to_host.now c.take.new.to_host c.args.notes.now c.take.new.notes stands c.in_err-take.ensures.err
+    err-event c.from_residual.result c.args.self.now (record c.args.self.now { translator = c.take.new.self }) ClientEnd c.args.out.now c.take.new.out c.from_residual.ensures.0
+    (λ first events stands. stops-end first c.args.self.now c.take.new.self events ClientEnd c.args.out.now c.take.new.out stands c.in_err-take.ensures.err
     (record { comes = refl; some = inr (c.in_err-take.ensures.wants (state_of first (history first events)) ClientLeft refl stands.translates.state (state-sound first (arrivals events))) }))
 
 pub returns : goal.returns
 returns c first events stands =
-    ends-client first c.args.self.now c.take.new.self c.new.result events c.args.to_client.now c.take.new.to_client c.args.to_host.now c.take.new.to_host c.args.notes.now c.take.new.notes stands c.in_ok-take.ensures.ok c.new.ensures.kept
+    ends-client first c.args.self.now c.take.new.self c.new.result events c.args.out.now c.take.new.out stands c.in_ok-take.ensures.ok c.new.ensures.kept

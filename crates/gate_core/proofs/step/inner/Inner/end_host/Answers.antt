@@ -10,12 +10,12 @@ use Rattle.gate_core.proofs.step.inner.Inner.end_host.Goals as goal
 
 pub returns-then-is_over : goal.returns-then-is_over
 returns-then-is_over c first events stands =
-    ends-again first c.args.self.now events c.args.to_client.now c.args.to_host.now c.args.notes.now stands (sym c.is_over.ensures ∙ c.if-is_over.true)
+    ends-again first c.args.self.now events c.args.out.now stands (sym c.is_over.ensures ∙ c.if-is_over.true)
 
 pub returns-in_err-take : goal.returns-in_err-take
 returns-in_err-take c =
-    err-event c.from_residual.result c.args.self.now (record c.args.self.now { translator = c.take.new.self }) HostEnd c.args.to_client.now c.take.new.to_client c.args.to_host.now c.take.new.to_host c.args.notes.now c.take.new.notes c.from_residual.ensures.0
-    (λ first events stands. stops-end first c.args.self.now c.take.new.self events HostEnd c.args.to_client.now c.take.new.to_client c.args.to_host.now c.take.new.to_host c.args.notes.now c.take.new.notes stands c.in_err-take.ensures.err
+    err-event c.from_residual.result c.args.self.now (record c.args.self.now { translator = c.take.new.self }) HostEnd c.args.out.now c.take.new.out c.from_residual.ensures.0
+    (λ first events stands. stops-end first c.args.self.now c.take.new.self events HostEnd c.args.out.now c.take.new.out stands c.in_err-take.ensures.err
     (record {
       comes = sym stands.host.over_is ∙ sym c.is_over.ensures ∙ c.if-is_over.false;
       some = inr (c.in_err-take.ensures.wants (state_of first (history first events)) HostLeft refl stands.translates.state (state-sound first (arrivals events)));
@@ -23,5 +23,5 @@ returns-in_err-take c =
 
 pub returns : goal.returns
 returns c first events stands =
-    ends-host first c.args.self.now c.take.new.self c.end.new.self events c.args.to_client.now c.take.new.to_client c.args.to_host.now c.take.new.to_host c.args.notes.now c.take.new.notes stands
+    ends-host first c.args.self.now c.take.new.self c.end.new.self events c.args.out.now c.take.new.out stands
     (sym c.is_over.ensures ∙ c.if-is_over.false) c.in_ok-take.ensures.ok c.end.ensures

@@ -28,12 +28,12 @@ pub returns-in-ClientPiece : goal.returns-in-ClientPiece
 returns-in-ClientPiece c =
     let old = c.args.self.now in
     let p = c.take_piece in
-    subst (λ e. TakesEvent p.result old (record old { client = p.new.stream; translator = p.new.translator }) (event_of e) c.args.to_client.now p.new.to_client c.args.to_host.now p.new.to_host c.args.notes.now p.new.notes) (sym c.in-ClientPiece.is)
-    (took-asked p.result old p.new.stream p.new.translator c.in-ClientPiece.piece.now c.args.to_client.now p.new.to_client c.args.to_host.now p.new.to_host c.args.notes.now p.new.notes p.ensures)
+    subst (λ e. TakesEvent p.result old (record old { client = p.new.stream; translator = p.new.translator }) (event_of e) c.args.out.now p.new.out) (sym c.in-ClientPiece.is)
+    (took-asked p.result old p.new.stream p.new.translator c.in-ClientPiece.piece.now c.args.out.now p.new.out p.ensures)
 
 pub returns-in-HostPiece : goal.returns-in-HostPiece
 returns-in-HostPiece c =
     let old = c.args.self.now in
     let p = c.take_piece-in-HostPiece in
-    subst (λ e. TakesEvent p.result old (record old { host = p.new.stream; translator = p.new.translator }) (event_of e) c.args.to_client.now p.new.to_client c.args.to_host.now p.new.to_host c.args.notes.now p.new.notes) (sym c.in-HostPiece.is)
-    (took-told p.result old p.new.stream p.new.translator c.in-HostPiece.piece.now c.args.to_client.now p.new.to_client c.args.to_host.now p.new.to_host c.args.notes.now p.new.notes p.ensures)
+    subst (λ e. TakesEvent p.result old (record old { host = p.new.stream; translator = p.new.translator }) (event_of e) c.args.out.now p.new.out) (sym c.in-HostPiece.is)
+    (took-told p.result old p.new.stream p.new.translator c.in-HostPiece.piece.now c.args.out.now p.new.out p.ensures)
