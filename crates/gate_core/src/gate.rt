@@ -68,6 +68,7 @@ impl Gate {
         if let Some(memory) = self.inner.want {
             return Err(memory);
         }
+        self.inner.keep_memory(to_client, to_host);
         let mut notes = Notes::new(self.inner.alloc);
         match self.inner.take(event, to_client, to_host, &mut notes) {
             Ok(()) => Ok(notes),
