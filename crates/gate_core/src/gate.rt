@@ -70,6 +70,7 @@ impl Gate {
         if let Some(memory) = self.inner.want {
             return Err(memory);
         }
+        self.inner.keep_memory(to_client, to_host);
         let mut out = Outputs::new(self.inner.alloc);
         swap(to_client, &mut out.to_client);
         swap(to_host, &mut out.to_host);

@@ -94,6 +94,14 @@ impl<F: PacketFormat> Stream<F> {
         &self.state
     }
 
+    /// Keeps the memory of an empty list for the bytes that come. What has come stands.
+    pub fn keep_memory(&mut self, empty: &mut Bytes)
+        ensures stands { self.new ≡ self.old }
+        ensures empty { empty.new ≡ empty.old }
+    {
+        self.bytes.keep_memory(empty);
+    }
+
     /// Puts a piece behind the bytes that are kept. A stream that is over stays as it is. For want of memory the piece
     /// hasn't come.
     pub fn put(&mut self, piece: &[u8]) -> Result<(), Memory>

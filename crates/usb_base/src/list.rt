@@ -14,6 +14,8 @@ pub struct List<T> {
     items: Vec<T>,
     /// How many of them, at the front, are no more of the list: their room is kept for what may be put before the others.
     front: usize,
+    /// Memory for later, that another list needed no more. What stands in it counts for nothing.
+    spare: Vec<T>,
 }
 
 /// Bytes, as they come from a peer or go to one.
@@ -37,6 +39,7 @@ impl<T> List<T> {
         List {
             items: Vec::new(alloc),
             front: 0,
+            spare: Vec::new(alloc),
         }
     }
 
@@ -133,7 +136,22 @@ impl List<u8> {
         let mut items = Vec::with_capacity(alloc, ROOM + piece.len())?;
         items.extend_from_slice(&[0; ROOM])?;
         items.extend_from_slice(piece)?;
-        Ok(List { items, front: ROOM })
+        Ok(List {
+            items,
+            front: ROOM,
+            spare: Vec::new(alloc),
+        })
+    }
+
+    /// These bytes, which are not copied.
+    pub fn of(alloc: Global, items: Vec<u8>) -> Self
+        ensures { result ≡ items.items }
+    {
+        List {
+            items,
+            front: 0,
+            spare: Vec::new(alloc),
+        }
     }
 
     /// Puts a piece at the end.
@@ -183,8 +201,8 @@ impl List<u8> {
     }
 
     /// Puts a piece of a stream at the end, where `awaited` bytes are to stand in all before any is taken: there is room
-    /// for them at once, and behind it none is moved again. Bytes are moved only where others before them were dropped. It
-    /// takes no memory for an empty piece.
+    /// for them at once, and behind it none is moved again. Bytes are moved only where others before them were dropped, no
+    /// fewer than they are or such that there is no room else. It takes no memory for an empty piece.
     pub fn receive(&mut self, piece: &[u8], awaited: usize) -> Result<(), Memory>
         ensures ok { OnOk result (self.new ≡ self.old ++ piece.now) }
         ensures err { OnErr result (self.new ≡ self.old) }
@@ -193,25 +211,58 @@ impl List<u8> {
         if piece.is_empty() {
             return Ok(());
         }
-        self.settle()?;
-        let missing = awaited.saturating_sub(self.len());
+        let missing = awaited.saturating_sub(self.len()).max(piece.len());
+        self.settle(missing)?;
         self.items.reserve(missing)?;
         self.append(piece)
     }
 
-    /// Moves the bytes up to the room that a long list has before them.
-    fn settle(&mut self) -> Result<(), Memory>
+    /// Keeps the memory of an empty list for later, where that is long, and more than what it keeps so far. The other list
+    /// has that then.
+    pub fn keep_memory(&mut self, empty: &mut List<u8>)
+        ensures stands { self.new ≡ self.old }
+        ensures empty { empty.new ≡ empty.old }
+    {
+        let least = LONG.max(self.spare.capacity());
+        if empty.is_empty() && empty.items.capacity() > least {
+            self.spare.clear();
+            empty.front = 0;
+            mem::swap(&mut self.spare, &mut empty.items);
+        }
+    }
+
+    /// An empty list, in the memory that is kept for later, if there is some.
+    fn in_spare(&mut self, alloc: Global) -> List<u8>
+        ensures stands { self.new ≡ self.old }
+        ensures empty { result ≡ [] }
+    {
+        let mut items = mem::replace(&mut self.spare, Vec::new(alloc));
+        items.clear();
+        List {
+            items,
+            front: 0,
+            spare: Vec::new(alloc),
+        }
+    }
+
+    /// Moves the bytes up to the room that a long list has before them, where that is worth it for so many more.
+    fn settle(&mut self, more: usize) -> Result<(), Memory>
         ensures { self.new ≡ self.old }
     {
         if self.items.is_empty() {
             self.items.extend_from_slice(&[0; ROOM])?;
             self.front = ROOM;
-        } else if self.front > ROOM {
+        } else if self.front > ROOM && self.is_movable(more) {
             let dropped = self.front - ROOM;
             self.front = ROOM;
             self.skip(dropped);
         }
         Ok(())
+    }
+
+    /// Whether the bytes are no more than those that were dropped before them, or have no room for so many behind them.
+    fn is_movable(&self, more: usize) -> bool {
+        self.len() <= self.front || self.items.capacity().saturating_sub(self.items.len()) < more
     }
 }
 
@@ -226,8 +277,8 @@ impl PacketBytes for Bytes {
         self.advance(count);
     }
 
-    /// Where the part is long, and at least half of what the memory of the list holds, that memory becomes its own, and
-    /// what stands behind is copied to another; else the part is copied.
+    /// Where the part is long, and no shorter than what stands behind it, the memory of the list becomes its own, and what
+    /// stands behind is copied to another; else the part is copied.
     fn take_part(
         &mut self,
         alloc: Global,
@@ -235,12 +286,12 @@ impl PacketBytes for Bytes {
         len: usize,
         size: usize,
     ) -> Result<Bytes, Memory> {
-        if len < LONG || len < self.items.len() / 2 {
+        if len < LONG || len < self.len() - size {
             let part = Bytes::copied(alloc, &self.as_slice()[from..from + len])?;
             self.advance(size);
             return Ok(part);
         }
-        let mut rest = List::new(alloc);
+        let mut rest = self.in_spare(alloc);
         rest.receive(&self.as_slice()[size..], 0)?;
         let mut part = mem::replace(self, rest);
         part.advance(from);

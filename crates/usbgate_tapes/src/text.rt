@@ -4,6 +4,7 @@ ghost use Rattle.std.specs.Prelude.{◌≡◌, ◌++◌, ◌∷◌, [], IfOk, On
 ghost use Rattle.std.specs.List.{flat_map};
 ghost use Rattle.usb_base.specs.Refusal.{refusal_line};
 ghost use Rattle.direct_run.specs.Lines.{item_line};
+ghost use Rattle.hex.specs.Hex.{encode_lower};
 ghost use Rattle.usbgate_tapes.specs.Text.{bytes_line, note_line, told_text, counts_line, bad_line as line_of_bad};
 
 pub mod printed;
@@ -26,11 +27,29 @@ pub fn push_bytes(alloc: Global, letter: u8, bytes: &[u8], text: &mut Bytes) -> 
     if bytes.is_empty() {
         return Ok(());
     }
-    let digits = hex::encode(alloc, bytes)?;
     text.push(letter)?;
     text.push(b' ')?;
-    text.append(digits.as_bytes())?;
+    push_digits(alloc, bytes, text)?;
     text.push(b'\n')
+}
+
+/// How many bytes are turned into digits on the stack at most.
+const SHORT: usize = 128;
+
+/// Appends the digits of bytes. For want of memory a front of them may be there.
+fn push_digits(alloc: Global, bytes: &[u8], text: &mut Bytes) -> Result<(), Memory>
+    ensures { OnOk result (text.new ≡ text.old ++ encode_lower bytes.now) }
+{
+    if bytes.len() > SHORT {
+        let digits = hex::encode(alloc, bytes)?;
+        return text.append(digits.as_bytes());
+    }
+    let mut room = [0; 2 * SHORT];
+    let digits = &mut room[..2 * bytes.len()];
+    match hex::encode_to_slice(bytes, digits) {
+        Ok(()) => text.append(digits),
+        Err(_) => unreachable!(),
+    }
 }
 
 /// Appends the line of each refusal among the notes. For want of memory a front of the lines may be there.
