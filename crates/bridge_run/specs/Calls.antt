@@ -8,7 +8,7 @@ use Rattle.gate_outside.specs.declared.turn.Turn.{Turn}
 use Rattle.gate_outside.specs.declared.turn.Polled.{Polled}
 use Rattle.gate_outside.specs.declared.turn.Polled.TheVariants.{Took, NotYet, Ended, Failed}
 use Rattle.gate_outside.specs.Turns.{pending, answer, given, after}
-use Rattle.bridge_run.specs.Events.{Event, ClientComes, ClientPiece, ClientQuiet, ClientEnd, HostPiece, HostEnd}
+use Rattle.bridge_run.specs.Events.{LinkEvent, ClientComes, ClientPiece, ClientQuiet, ClientEnd, HostPiece, HostEnd}
 use Rattle.bridge_run.specs.Recorded.{lines_of, sends_any, is_last, is_full, written_if, waiting_if}
 use Rattle.bridge_run.specs.declared.serve_end.ServeEnd.{ServeEnd}
 use Rattle.bridge_run.specs.declared.serve_end.ServeEnd.TheVariants as end
@@ -27,21 +27,21 @@ room = 65536
 -- ---- an event
 
 -- its lines don't wait where it sends anything, and where no more may come
-abbrev pub sends_now : Prescribed → Event → Course → Bool
+abbrev pub sends_now : Prescribed → LinkEvent → Course → Bool
 sends_now p e c = sends_any (gained p.to_client c.events e) (gained p.to_host c.events e) (gained p.refusals c.events e) (p.lets_go (e ∷ c.events)) || is_last c.client_up c.host_up c.left
 
 -- the lines that wait, and behind them its own
-abbrev pub lines_with : Prescribed → Event → Course → List ℕ
+abbrev pub lines_with : Prescribed → LinkEvent → Course → List ℕ
 lines_with p e c = c.waiting ++ lines_of e (gained p.refusals c.events e)
 
 -- they are written to the tape
-abbrev pub is_due : Prescribed → Event → Course → Bool
+abbrev pub is_due : Prescribed → LinkEvent → Course → Bool
 is_due p e c = sends_now p e c || is_full (lines_with p e c)
 
 -- its lines are put behind those that wait, and all of them are written to the tape where they are due. Then what it
 -- sends is written to each side whose link is up. Then a side that it refuses has its link closed, and a client that it
 -- lets go. What that client had still to send is lost.
-abbrev pub put : Prescribed → Event → Course → Course
+abbrev pub put : Prescribed → LinkEvent → Course → Course
 put p e c = let refused = gained p.refusals c.events e in record c {
   events = e ∷ c.events;
   client_up = c.client_up && not (drops p c.events e);
@@ -62,7 +62,7 @@ settle s next c =
     else Goes next c
 
 -- a client that was refused, or let go, has its end next
-abbrev pub ends_next : Event → Bool → Bool
+abbrev pub ends_next : LinkEvent → Bool → Bool
 ends_next ClientComes dropped = dropped
 ends_next (ClientPiece b) dropped = dropped
 ends_next ClientQuiet dropped = dropped
@@ -70,7 +70,7 @@ ends_next ClientEnd dropped = false
 ends_next (HostPiece b) dropped = dropped
 ends_next HostEnd dropped = dropped
 
-abbrev pub take_event : Setting → Event → Next → Course → Outcome
+abbrev pub take_event : Setting → LinkEvent → Next → Course → Outcome
 take_event s e next c =
     if ends_next e (drops s.served c.events e) then Goes (Takes ClientEnd next) (put s.served e c)
     else settle s next (put s.served e c)
@@ -82,11 +82,11 @@ abbrev pub come : List (List Turn) → Course → Outcome
 come [] c = Goes AtClient c
 come (turns ∷ clients) c = Goes (Takes ClientComes AtClient) (record c { client_up = true; client = turns; clients = clients; busy = true; left = c.left - 1 })
 
-abbrev pub piece : Side → List ℕ → Event
+abbrev pub piece : Side → List ℕ → LinkEvent
 piece Client b = ClientPiece b
 piece Host b = HostPiece b
 
-abbrev pub end_of : Side → Event
+abbrev pub end_of : Side → LinkEvent
 end_of Client = ClientEnd
 end_of Host = HostEnd
 

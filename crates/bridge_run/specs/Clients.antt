@@ -3,7 +3,7 @@ use Rattle.std.specs.Prelude.{ℕ, Bool, true, false, if◌then◌else◌, List,
 use Rattle.usb_base.specs.declared.side.Side.TheVariants.{Client}
 use Rattle.gate_outside.specs.declared.fault.Failed.{Failed as Fault}
 use Rattle.gate_outside.specs.Calls.{Call, Dial, Listen, Accept, Poll, Write, Close, written_by}
-use Rattle.bridge_run.specs.Events.{Event, ClientComes, ClientPiece, ClientQuiet, ClientEnd, HostPiece, HostEnd}
+use Rattle.bridge_run.specs.Events.{LinkEvent, ClientComes, ClientPiece, ClientQuiet, ClientEnd, HostPiece, HostEnd}
 use Rattle.bridge_run.specs.Prescribed.{Prescribed, gained}
 use Rattle.bridge_run.specs.Ups.{client_at, client_behind}
 
@@ -53,7 +53,7 @@ got_by (call ∷ calls) = with_call call (got_by calls)
 
 -- ---- by the events
 
-abbrev pub with_event : Event → List ℕ → Shares → Shares
+abbrev pub with_event : LinkEvent → List ℕ → Shares → Shares
 with_event ClientComes bytes shares = with_next bytes shares
 with_event (ClientPiece b) bytes shares = with_more bytes shares
 with_event ClientQuiet bytes shares = with_more bytes shares
@@ -62,6 +62,6 @@ with_event (HostPiece b) bytes shares = with_more bytes shares
 with_event HostEnd bytes shares = with_more bytes shares
 
 -- what each event sends to the client that is there, where that one's link is up
-abbrev pub sent_to_each : Prescribed → List Event → Shares
+abbrev pub sent_to_each : Prescribed → List LinkEvent → Shares
 sent_to_each p [] = no_shares
 sent_to_each p (e ∷ events) = with_event e (if client_at e (client_behind p events) then gained p.to_client events e else []) (sent_to_each p events)

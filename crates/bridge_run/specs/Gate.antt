@@ -10,13 +10,13 @@ use Rattle.gate_history.specs.step.History.{history}
 use Rattle.gate_history.specs.write.Notes.{notes_of}
 use Rattle.gate_history.specs.write.All.{all_of}
 use Rattle.gate_history.specs.write.Bytes.{out_client, out_host}
-use Rattle.bridge_run.specs.Events.{Event, ClientComes, ClientPiece, ClientQuiet, ClientEnd, HostPiece, HostEnd}
+use Rattle.bridge_run.specs.Events.{LinkEvent, ClientComes, ClientPiece, ClientQuiet, ClientEnd, HostPiece, HostEnd}
 use Rattle.bridge_run.specs.Prescribed.{Prescribed, gained}
 use Rattle.bridge_run.specs.declared.after_loss.AfterLoss.{AfterLoss}
 use Rattle.bridge_run.specs.declared.after_loss.AfterLoss.TheVariants.{Keep, Close}
 
 -- what an event is to a gate: that a client has come, or is quiet, is none
-abbrev pub gate_event : Event → Option GateEvent
+abbrev pub gate_event : LinkEvent → Option GateEvent
 gate_event ClientComes = None
 gate_event (ClientPiece b) = Some (gate.ClientPiece b)
 gate_event ClientQuiet = None
@@ -28,7 +28,7 @@ abbrev pub put_on : {A : Type 0} → Option A → List A → List A
 put_on None xs = xs
 put_on (Some x) xs = x ∷ xs
 
-abbrev pub gate_events : List Event → List GateEvent
+abbrev pub gate_events : List LinkEvent → List GateEvent
 gate_events [] = []
 gate_events (e ∷ events) = put_on (gate_event e) (gate_events events)
 
@@ -37,7 +37,7 @@ refusal_in (note.Refused refusal) = refusal ∷ []
 refusal_in _ = []
 
 -- all notes of these events, the earliest first
-abbrev pub gate_notes : ℕ → List Event → List Note
+abbrev pub gate_notes : ℕ → List LinkEvent → List Note
 gate_notes first events = all_of notes_of first (history first (gate_events events))
 
 -- the imported device is lost
@@ -50,7 +50,7 @@ lets_go Keep notes = false
 lets_go Close notes = list_any is_loss notes
 
 -- the client is let go behind the latest event where that loses its device
-abbrev pub let_go_by : AfterLoss → ℕ → List Event → Bool
+abbrev pub let_go_by : AfterLoss → ℕ → List LinkEvent → Bool
 let_go_by after first [] = false
 let_go_by after first (e ∷ events) = lets_go after (gained (gate_notes first) events e)
 

@@ -6,7 +6,7 @@ use Rattle.gate_history.specs.step.Past.{past}
 use Rattle.gate_history.specs.step.History.{brought, onto, arrivals, history}
 use Rattle.gate_history.specs.step.Wants.{IsHeld, FirstWants}
 use Rattle.gate_history.specs.write.Bytes.{out_client, out_host}
-use Rattle.bridge_run.specs.Events.{Event}
+use Rattle.bridge_run.specs.Events.{LinkEvent}
 use Rattle.bridge_run.specs.Gate.{gate_event, gate_events}
 
 -- the first of its items were taken, and what they send, and no more, was sent. Memory was wanted to hold the piece, or for
@@ -24,5 +24,5 @@ abbrev pub StopsAt : ℕ → List GateEvent → Option GateEvent → List ℕ �
 StopsAt first events None client host = ⊥
 StopsAt first events (Some e) client host = GateStops first events e client host
 
-abbrev pub gate_runs_out : ℕ → List Event → Event → List ℕ → List ℕ → Type 0
+abbrev pub gate_runs_out : ℕ → List LinkEvent → LinkEvent → List ℕ → List ℕ → Type 0
 gate_runs_out first events e client host = StopsAt first (gate_events events) (gate_event e) client host

@@ -9,7 +9,7 @@ use Rattle.redir_host.specs.declared.note.HostNote.{HostNote}
 use Rattle.redir_host.specs.declared.note.HostNote.TheVariants as note
 use Rattle.redir_host.specs.step.Acts.{Act, Piece, Perform, Offer}
 use Rattle.redir_host.specs.write.Output.{host_out, act_notes}
-use Rattle.bridge_run.specs.Events.{Event, ClientComes, ClientPiece, ClientQuiet, ClientEnd, HostPiece, HostEnd}
+use Rattle.bridge_run.specs.Events.{LinkEvent, ClientComes, ClientPiece, ClientQuiet, ClientEnd, HostPiece, HostEnd}
 use Rattle.bridge_run.specs.Prescribed.{Prescribed}
 
 -- ---- what is done with the device in a round
@@ -45,7 +45,7 @@ abbrev pub behind_piece : List HostNote → List Act → List Act
 behind_piece notes acts = if list_any is_refusal notes then acts else used acts
 
 -- the acts behind an event
-abbrev pub acts_behind : {S : Type 0} → Meaning S → S → List Act → Event → List Act
+abbrev pub acts_behind : {S : Type 0} → Meaning S → S → List Act → LinkEvent → List Act
 acts_behind m s acts ClientComes = acts
 acts_behind m s acts (ClientPiece b) = behind_piece (act_notes m s acts (Piece b)) (Piece b ∷ acts)
 acts_behind m s acts ClientQuiet = used acts
@@ -54,13 +54,13 @@ acts_behind m s acts (HostPiece b) = acts
 acts_behind m s acts HostEnd = acts
 
 -- all acts of these events, the latest first
-abbrev pub acts_of : {S : Type 0} → Meaning S → S → List Event → List Act
+abbrev pub acts_of : {S : Type 0} → Meaning S → S → List LinkEvent → List Act
 acts_of m s [] = []
 acts_of m s (e ∷ events) = acts_behind m s (acts_of m s events) e
 
 -- ---- what is sent
 
-abbrev pub is_coming : Event → Bool
+abbrev pub is_coming : LinkEvent → Bool
 is_coming ClientComes = true
 is_coming (ClientPiece b) = false
 is_coming ClientQuiet = false
@@ -68,15 +68,15 @@ is_coming ClientEnd = false
 is_coming (HostPiece b) = false
 is_coming HostEnd = false
 
-abbrev pub has_come : List Event → Bool
+abbrev pub has_come : List LinkEvent → Bool
 has_come [] = false
 has_come (e ∷ events) = is_coming e || has_come events
 
 -- once the guest has come, all that the host has sent, from its hello on
-abbrev pub lent_bytes : {S : Type 0} → Meaning S → S → List Event → List ℕ
+abbrev pub lent_bytes : {S : Type 0} → Meaning S → S → List LinkEvent → List ℕ
 lent_bytes m s events = if has_come events then host_out m s (acts_of m s events) else []
 
-abbrev pub refused_by : {S : Type 0} → Meaning S → S → List Act → Event → List Refusal
+abbrev pub refused_by : {S : Type 0} → Meaning S → S → List Act → LinkEvent → List Refusal
 refused_by m s acts ClientComes = []
 refused_by m s acts (ClientPiece b) = flat_map refusal_in (act_notes m s acts (Piece b))
 refused_by m s acts ClientQuiet = []
@@ -84,7 +84,7 @@ refused_by m s acts ClientEnd = []
 refused_by m s acts (HostPiece b) = []
 refused_by m s acts HostEnd = []
 
-abbrev pub lent_refusals : {S : Type 0} → Meaning S → S → List Event → List Refusal
+abbrev pub lent_refusals : {S : Type 0} → Meaning S → S → List LinkEvent → List Refusal
 lent_refusals m s [] = []
 lent_refusals m s (e ∷ events) = lent_refusals m s events ++ refused_by m s (acts_of m s events) e
 

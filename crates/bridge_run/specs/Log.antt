@@ -8,7 +8,7 @@ use Rattle.gate_outside.specs.declared.turn.Polled.{Polled}
 use Rattle.gate_outside.specs.declared.turn.Polled.TheVariants.{Took, NotYet, Ended, Failed}
 use Rattle.gate_outside.specs.Calls.{Call, Dial, Listen, Accept, Poll, Write, Close, Called, went}
 use Rattle.gate_outside.specs.Moved.{Moves}
-use Rattle.bridge_run.specs.Events.{Event, ClientComes, ClientQuiet, ClientEnd}
+use Rattle.bridge_run.specs.Events.{LinkEvent, ClientComes, ClientQuiet, ClientEnd}
 use Rattle.bridge_run.specs.declared.serve_end.ServeEnd.{ServeEnd}
 use Rattle.bridge_run.specs.declared.serve_end.ServeEnd.TheVariants as end
 use Rattle.bridge_run.specs.Prescribed.{Prescribed, first_of}
@@ -19,29 +19,29 @@ use Rattle.bridge_run.specs.Asks.{asks_of, taken, has_just_come, quiet_rounds, i
 
 -- ---- which events came, the latest first
 
-abbrev pub behind_accept : Result Bool Fault → List Event → List Event
+abbrev pub behind_accept : Result Bool Fault → List LinkEvent → List LinkEvent
 behind_accept (Ok true) events = ClientComes ∷ events
 behind_accept (Ok false) events = events
 behind_accept (Err _) events = events
 
 -- a client that has nothing is an event, too
-abbrev pub behind_rest : Side → List Event → List Event
+abbrev pub behind_rest : Side → List LinkEvent → List LinkEvent
 behind_rest Client events = ClientQuiet ∷ events
 behind_rest Host events = events
 
-abbrev pub behind_poll : Side → Polled → List ℕ → List Event → List Event
+abbrev pub behind_poll : Side → Polled → List ℕ → List LinkEvent → List LinkEvent
 behind_poll side (Took n) buf events = piece side (take n buf) ∷ events
 behind_poll side NotYet buf events = behind_rest side events
 behind_poll side Ended buf events = end_of side ∷ events
 behind_poll side Failed buf events = events
 
 -- a client whose link is closed has its end next, where that isn't what closed it
-abbrev pub behind_close : Side → List Event → List Event
+abbrev pub behind_close : Side → List LinkEvent → List LinkEvent
 behind_close Client [] = []
 behind_close Client (e ∷ events) = if ends_next e true then ClientEnd ∷ e ∷ events else e ∷ events
 behind_close Host events = events
 
-abbrev pub behind_call : Call → List Event → List Event
+abbrev pub behind_call : Call → List LinkEvent → List LinkEvent
 behind_call (Dial addr answer) events = events
 behind_call (Listen addr answer) events = events
 behind_call (Accept answer) events = behind_accept answer events
@@ -49,7 +49,7 @@ behind_call (Poll side polled buf) events = behind_poll side polled buf events
 behind_call (Write side bytes answer) events = events
 behind_call (Close side) events = behind_close side events
 
-abbrev pub events_of : List Call → List Event
+abbrev pub events_of : List Call → List LinkEvent
 events_of [] = []
 events_of (call ∷ calls) = behind_call call (events_of calls)
 
@@ -77,7 +77,7 @@ IsDialled (Some host) calls = calls ≡ Dial host (Ok tt) ∷ []
 -- ---- what was written
 
 -- all that these events send, to each side as far as its link was up, and no more
-pub record IsWritten (terms : Terms) (p : Prescribed) (events : List Event) (calls : List Call) : Type 0 where
+pub record IsWritten (terms : Terms) (p : Prescribed) (events : List LinkEvent) (calls : List Call) : Type 0 where
   pub client : went Client calls ≡ to_clients p events
   pub host : went Host calls ≡ sent_to_host (is_some terms.host) p events
 
@@ -85,14 +85,14 @@ abbrev pub IsFront : List ℕ → List ℕ → Type 0
 IsFront front all = (rest : List ℕ) × (all ≡ front ++ rest)
 
 -- to each side a front of that
-pub record IsWrittenInPart (terms : Terms) (p : Prescribed) (events : List Event) (calls : List Call) : Type 0 where
+pub record IsWrittenInPart (terms : Terms) (p : Prescribed) (events : List LinkEvent) (calls : List Call) : Type 0 where
   pub client : IsFront (went Client calls) (to_clients p events)
   pub host : IsFront (went Host calls) (sent_to_host (is_some terms.host) p events)
 
 -- ---- what may come
 
 -- somebody has come, and no link is up any more
-abbrev pub is_over : Terms → Prescribed → List Event → Bool
+abbrev pub is_over : Terms → Prescribed → List LinkEvent → Bool
 is_over terms p [] = false
 is_over terms p (e ∷ events) = not (client_behind p (e ∷ events)) && not (host_since (is_some terms.host) p (e ∷ events))
 
@@ -142,7 +142,7 @@ abbrev pub Told : {K : Type 0} → (K → List ℕ → Result ℕ Fault → K �
 Told write_gives old new bytes = Moves write_gives bytes old new
 
 -- all that these events send, and a line for each side that they refuse
-pub record Wrote (tells : List ℕ → Type 0) (terms : Terms) (p : Prescribed) (events : List Event) (calls : List Call) : Type 0 where
+pub record Wrote (tells : List ℕ → Type 0) (terms : Terms) (p : Prescribed) (events : List LinkEvent) (calls : List Call) : Type 0 where
   pub links : IsWritten terms p events calls
   pub told : tells (told_of p events)
 
@@ -151,13 +151,13 @@ abbrev pub InPart : (List ℕ → Type 0) → List ℕ → Type 0
 InPart tells bytes = (front : List ℕ) × (IsFront front bytes × tells front)
 
 -- a call failed: what the last event sends, and its lines, may be written in part
-pub record WroteInPart (tells : List ℕ → Type 0) (terms : Terms) (p : Prescribed) (events : List Event) (calls : List Call) : Type 0 where
+pub record WroteInPart (tells : List ℕ → Type 0) (terms : Terms) (p : Prescribed) (events : List LinkEvent) (calls : List Call) : Type 0 where
   pub links : IsWrittenInPart terms p events calls
   pub told : InPart tells (told_of p events)
 
 -- all that the events before the latest send, and of that what it had sent before memory ran out, to each side whose link
 -- was up; and no line for it
-pub record WroteSent (runs_out : List Event → Event → List ℕ → List ℕ → Type 0) (tells : List ℕ → Type 0) (terms : Terms) (p : Prescribed) (e : Event) (events : List Event) (calls : List Call) : Type 0 where
+pub record WroteSent (runs_out : List LinkEvent → LinkEvent → List ℕ → List ℕ → Type 0) (tells : List ℕ → Type 0) (terms : Terms) (p : Prescribed) (e : LinkEvent) (events : List LinkEvent) (calls : List Call) : Type 0 where
   pub to_client : List ℕ
   pub to_host : List ℕ
   pub ran_out : RanOut runs_out terms.taped p events e to_client to_host
@@ -166,11 +166,11 @@ pub record WroteSent (runs_out : List Event → Event → List ℕ → List ℕ 
   pub told : tells (told_of p events)
 
 -- memory ran out before all, or as the latest event was taken
-abbrev pub WroteBefore : (List Event → Event → List ℕ → List ℕ → Type 0) → (List ℕ → Type 0) → Terms → Prescribed → List Event → List Call → Type 0
+abbrev pub WroteBefore : (List LinkEvent → LinkEvent → List ℕ → List ℕ → Type 0) → (List ℕ → Type 0) → Terms → Prescribed → List LinkEvent → List Call → Type 0
 WroteBefore runs_out tells terms p [] calls = (calls ≡ []) × tells []
 WroteBefore runs_out tells terms p (e ∷ events) calls = WroteSent runs_out tells terms p e events calls
 
-abbrev pub HasWritten : ServeEnd → (List Event → Event → List ℕ → List ℕ → Type 0) → (List ℕ → Type 0) → Terms → Prescribed → List Event → List Call → Type 0
+abbrev pub HasWritten : ServeEnd → (List LinkEvent → LinkEvent → List ℕ → List ℕ → Type 0) → (List ℕ → Type 0) → Terms → Prescribed → List LinkEvent → List Call → Type 0
 HasWritten (end.Ended refused) runs_out tells terms p events calls = Wrote tells terms p events calls
 HasWritten end.Idle runs_out tells terms p events calls = Wrote tells terms p events calls
 HasWritten end.Spent runs_out tells terms p events calls = Wrote tells terms p events calls
@@ -235,7 +235,7 @@ HasEnded end.WriteFault terms p calls = JustCame calls ⊎ IsAtRest terms p call
 HasEnded end.Memory terms p calls = CameOrNone calls
 
 -- the calls that were made, one after the other, what they wrote and what the sink was told, and why it ended
-pub record Logged {D : Type 0} (e : ServeEnd) (gives : D → Call → D → Type 0) (runs_out : List Event → Event → List ℕ → List ℕ → Type 0) (tells : List ℕ → Type 0) (terms : Terms) (p : Prescribed) (old new : D) : Type 0 where
+pub record Logged {D : Type 0} (e : ServeEnd) (gives : D → Call → D → Type 0) (runs_out : List LinkEvent → LinkEvent → List ℕ → List ℕ → Type 0) (tells : List ℕ → Type 0) (terms : Terms) (p : Prescribed) (old new : D) : Type 0 where
   pub calls : List Call
   pub called : Called gives calls old new
   pub settled : Settled terms p calls

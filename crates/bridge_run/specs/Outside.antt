@@ -8,7 +8,7 @@ use Rattle.gate_outside.specs.Link.{Link, Door}
 use Rattle.session_tape.specs.Tapes.{Counts, OneFault}
 use Rattle.bridge_run.specs.declared.serve_end.ServeEnd.{ServeEnd}
 use Rattle.bridge_run.specs.declared.serve_end.ServeEnd.TheVariants.{Ended, LinkFault, WriteFault, Idle, Spent, Memory}
-use Rattle.bridge_run.specs.Events.{Event}
+use Rattle.bridge_run.specs.Events.{LinkEvent}
 use Rattle.bridge_run.specs.Recorded.{has_any, event_line}
 use Rattle.bridge_run.specs.Course.{Course}
 
@@ -156,8 +156,8 @@ pub record IsRecordedInPart (w : Outside) (out : Written) (before behind : Cours
 -- Memory may have run out in the event that the call takes, by when it had sent some bytes, so many to each side. The
 -- lines that waited are there, and that of the event, without those of its refusals. Of what it had sent a front is
 -- written to each side whose link is up, and none of its refusals is told.
-pub record IsRecordedUntold (ran_out : List Event → Event → List ℕ → List ℕ → Type 0) (w : Outside) (out : Written) (before behind : Course) (held : List ℕ) : Type 0 where
-  pub event : Event
+pub record IsRecordedUntold (ran_out : List LinkEvent → LinkEvent → List ℕ → List ℕ → Type 0) (w : Outside) (out : Written) (before behind : Course) (held : List ℕ) : Type 0 where
+  pub event : LinkEvent
   pub takes : behind.events ≡ event ∷ before.events
   pub sent_client : List ℕ
   pub sent_host : List ℕ
@@ -171,12 +171,12 @@ pub record IsRecordedUntold (ran_out : List Event → Event → List ℕ → Lis
   pub told : IsTold out before.told
 
 -- what a tape has of a call that was cut
-abbrev pub HasLines : (List Event → Event → List ℕ → List ℕ → Type 0) → Outside → Written → Course → Course → List ℕ → Type 0
+abbrev pub HasLines : (List LinkEvent → LinkEvent → List ℕ → List ℕ → Type 0) → Outside → Written → Course → Course → List ℕ → Type 0
 HasLines ran_out w out before behind held = (held ≡ behind.recorded) ⊎ (IsRecordedInPart w out before behind held ⊎ IsRecordedUntold ran_out w out before behind held)
 
 -- a call that the first course makes and that leads to the second was cut: what it writes is written in part, and not
 -- before the line of its event is recorded; by where memory may run out within an event
-pub record Cut (ran_out : List Event → Event → List ℕ → List ℕ → Type 0) (w : Outside) (out : Written) (before behind : Course) : Type 0 where
+pub record Cut (ran_out : List LinkEvent → LinkEvent → List ℕ → List ℕ → Type 0) (w : Outside) (out : Written) (before behind : Course) : Type 0 where
   pub client : IsOneOf before.client w.client.turns behind.client
   pub host : IsOneOf before.host w.host.turns behind.host
   pub clients : IsOneOf before.clients w.door.to_come behind.clients

@@ -3,7 +3,7 @@
 use Rattle.std.specs.Prelude.{◌≡◌, ℕ, false, List, []}
 use Rattle.bridge_run.specs.declared.serve_end.ServeEnd.{ServeEnd}
 use Rattle.bridge_run.specs.declared.serve_end.ServeEnd.TheVariants.{Ended, LinkFault, WriteFault, Idle, Spent, Memory}
-use Rattle.bridge_run.specs.Events.{Event}
+use Rattle.bridge_run.specs.Events.{LinkEvent}
 use Rattle.bridge_run.specs.Prescribed.{Prescribed}
 use Rattle.bridge_run.specs.RanOut.{RanOutWithin, Never}
 use Rattle.bridge_run.specs.Course.{Setting, Course, Next}
@@ -23,7 +23,7 @@ pub record EndsSo (s : Setting) (from : Outcome) (e : ServeEnd) (w : Outside) (o
 
 -- memory may have run out within the event where a link failed, too, as what was sent by then was written, but not where
 -- the sink or the tape failed
-abbrev pub MayRunOut : ServeEnd → (List Event → Event → List ℕ → List ℕ → Type 0) → Prescribed → List Event → Event → List ℕ → List ℕ → Type 0
+abbrev pub MayRunOut : ServeEnd → (List LinkEvent → LinkEvent → List ℕ → List ℕ → Type 0) → Prescribed → List LinkEvent → LinkEvent → List ℕ → List ℕ → Type 0
 MayRunOut Memory runs_out p = RanOutWithin runs_out p
 MayRunOut (LinkFault side) runs_out p = RanOutWithin runs_out p
 MayRunOut WriteFault runs_out p = Never
@@ -32,13 +32,13 @@ MayRunOut Idle runs_out p = Never
 MayRunOut Spent runs_out p = Never
 
 -- they have come to a call that was cut
-pub record CutShort (e : ServeEnd) (runs_out : List Event → Event → List ℕ → List ℕ → Type 0) (s : Setting) (from : Outcome) (w : Outside) (out : Written) : Type 0 where
+pub record CutShort (e : ServeEnd) (runs_out : List LinkEvent → LinkEvent → List ℕ → List ℕ → Type 0) (s : Setting) (from : Outcome) (w : Outside) (out : Written) : Type 0 where
   pub next : Next
   pub course : Course
   pub reaches : Reaches s from (Goes next course)
   pub cut : Cut (MayRunOut e runs_out s.served) w out course (course_of (call s next course))
 
-abbrev pub Leaves : ServeEnd → (List Event → Event → List ℕ → List ℕ → Type 0) → Setting → Outcome → Outside → Written → Type 0
+abbrev pub Leaves : ServeEnd → (List LinkEvent → LinkEvent → List ℕ → List ℕ → Type 0) → Setting → Outcome → Outside → Written → Type 0
 Leaves (Ended refused) runs_out s from w out = EndsSo s from (Ended refused) w out
 Leaves Idle runs_out s from w out = EndsSo s from Idle w out
 Leaves Spent runs_out s from w out = EndsSo s from Spent w out
@@ -56,7 +56,7 @@ NoneWaits WriteFault c = Unit {0}
 NoneWaits Memory c = Unit {0}
 
 -- nothing has happened yet
-pub record Begins (idle budget : ℕ) (c : Course) : Type 0 where
+pub record NothingYet (idle budget : ℕ) (c : Course) : Type 0 where
   pub events : c.events ≡ []
   pub client_down : c.client_up ≡ false
   pub host_down : c.host_up ≡ false

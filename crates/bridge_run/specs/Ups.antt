@@ -4,12 +4,12 @@ use Rattle.std.specs.Prelude.{ℕ, ◌&&◌, not, Bool, true, false, if◌then�
 use Rattle.std.specs.List.{flat_map}
 use Rattle.usb_base.specs.declared.side.Side.TheVariants.{Host}
 use Rattle.usb_base.specs.Refusal.{refusal_line}
-use Rattle.bridge_run.specs.Events.{Event, ClientComes, ClientPiece, ClientQuiet, ClientEnd, HostPiece, HostEnd}
+use Rattle.bridge_run.specs.Events.{LinkEvent, ClientComes, ClientPiece, ClientQuiet, ClientEnd, HostPiece, HostEnd}
 use Rattle.bridge_run.specs.Prescribed.{Prescribed, gained, refuses, drops}
 
 -- as an event is taken, by whether the link was up before: a client's link comes with the client, and a side has its end
 -- where its link is down
-abbrev pub client_at : Event → Bool → Bool
+abbrev pub client_at : LinkEvent → Bool → Bool
 client_at ClientComes up = true
 client_at (ClientPiece b) up = up
 client_at ClientQuiet up = up
@@ -17,7 +17,7 @@ client_at ClientEnd up = false
 client_at (HostPiece b) up = up
 client_at HostEnd up = up
 
-abbrev pub host_at : Event → Bool → Bool
+abbrev pub host_at : LinkEvent → Bool → Bool
 host_at ClientComes up = up
 host_at (ClientPiece b) up = up
 host_at ClientQuiet up = up
@@ -26,26 +26,26 @@ host_at (HostPiece b) up = up
 host_at HostEnd up = false
 
 -- behind an event a side that it refuses has its link closed, and a client that it lets go
-abbrev pub client_behind : Prescribed → List Event → Bool
+abbrev pub client_behind : Prescribed → List LinkEvent → Bool
 client_behind p [] = false
 client_behind p (e ∷ events) = client_at e (client_behind p events) && not (drops p events e)
 
 -- the host was dialled before the first event, or is nobody
-abbrev pub host_since : Bool → Prescribed → List Event → Bool
+abbrev pub host_since : Bool → Prescribed → List LinkEvent → Bool
 host_since dialled p [] = dialled
 host_since dialled p (e ∷ events) = host_at e (host_since dialled p events) && not (refuses Host (gained p.refusals events e))
 
 -- what each event sends to clients, where a client's link is up
-abbrev pub to_clients : Prescribed → List Event → List ℕ
+abbrev pub to_clients : Prescribed → List LinkEvent → List ℕ
 to_clients p [] = []
 to_clients p (e ∷ events) = to_clients p events ++ (if client_at e (client_behind p events) then gained p.to_client events e else [])
 
 -- what the making sends to the host, and then each event, where the host's link is up
-abbrev pub sent_to_host : Bool → Prescribed → List Event → List ℕ
+abbrev pub sent_to_host : Bool → Prescribed → List LinkEvent → List ℕ
 sent_to_host dialled p [] = if dialled then p.to_host [] else []
 sent_to_host dialled p (e ∷ events) = sent_to_host dialled p events ++ (if host_at e (host_since dialled p events) then gained p.to_host events e else [])
 
 -- a line for each side that an event refuses
-abbrev pub told_of : Prescribed → List Event → List ℕ
+abbrev pub told_of : Prescribed → List LinkEvent → List ℕ
 told_of p [] = []
 told_of p (e ∷ events) = told_of p events ++ flat_map refusal_line (gained p.refusals events e)

@@ -9,7 +9,7 @@ use usb_base::Side;
 /// What comes by the links: a client, the next piece of a side's stream, its end, or nothing from the client that is
 /// there.
 #[derive(Clone, Copy)]
-pub enum Event<'a> {
+pub enum LinkEvent<'a> {
     ClientComes,
     ClientPiece(&'a [u8]),
     ClientQuiet,
@@ -19,31 +19,31 @@ pub enum Event<'a> {
 }
 
 /// Whether a client's end comes behind the event that closed its link.
-pub fn ends_next(event: Event, dropped: bool) -> bool
+pub fn ends_next(event: LinkEvent, dropped: bool) -> bool
     ensures { result ≡ has_end_next (event_of event.entry) dropped }
 {
     match event {
-        Event::ClientEnd => false,
+        LinkEvent::ClientEnd => false,
         _ => dropped,
     }
 }
 
 /// A piece of a side's stream.
-pub fn piece(side: Side, bytes: &[u8]) -> Event<'_>
+pub fn piece(side: Side, bytes: &[u8]) -> LinkEvent<'_>
     ensures { event_of result ≡ piece_of side bytes.now }
 {
     match side {
-        Side::Client => Event::ClientPiece(bytes),
-        Side::Host => Event::HostPiece(bytes),
+        Side::Client => LinkEvent::ClientPiece(bytes),
+        Side::Host => LinkEvent::HostPiece(bytes),
     }
 }
 
 /// The end of a side.
-pub fn end_of(side: Side) -> Event<'static>
+pub fn end_of(side: Side) -> LinkEvent<'static>
     ensures { event_of result ≡ past_end_of side }
 {
     match side {
-        Side::Client => Event::ClientEnd,
-        Side::Host => Event::HostEnd,
+        Side::Client => LinkEvent::ClientEnd,
+        Side::Host => LinkEvent::HostEnd,
     }
 }

@@ -8,7 +8,7 @@ ghost use Rattle.bridge_run.specs.Gate.{gate_event, refusal_in, is_loss, lets_go
 ghost use Rattle.bridge_run.specs.Recorded.{has_any};
 
 use crate::after_loss::AfterLoss;
-use crate::event::Event;
+use crate::event::LinkEvent;
 use crate::sent::Sent;
 use crate::served::Served;
 use gate_core::Gate;
@@ -41,7 +41,7 @@ impl Served for Gateway {
     // none at an event that is none to a gate
     ghost takes_memory = { λ e. is_some (gate_event e) };
 
-    fn take(&mut self, event: Event, sent: &mut Sent) -> Result<(), Memory> {
+    fn take(&mut self, event: LinkEvent, sent: &mut Sent) -> Result<(), Memory> {
         match gate_event(event) {
             Some(event) => {
                 let notes = self
@@ -56,15 +56,15 @@ impl Served for Gateway {
 }
 
 /// What an event is to a gate: that a client has come, or is quiet, is none.
-fn gate_event(event: Event<'_>) -> Option<GateEvent<'_>>
+fn gate_event(event: LinkEvent<'_>) -> Option<GateEvent<'_>>
     ensures { option_map told_of result ≡ gate_event (event_of event.entry) }
 {
     match event {
-        Event::ClientComes | Event::ClientQuiet => None,
-        Event::ClientPiece(bytes) => Some(GateEvent::ClientPiece(bytes)),
-        Event::ClientEnd => Some(GateEvent::ClientEnd),
-        Event::HostPiece(bytes) => Some(GateEvent::HostPiece(bytes)),
-        Event::HostEnd => Some(GateEvent::HostEnd),
+        LinkEvent::ClientComes | LinkEvent::ClientQuiet => None,
+        LinkEvent::ClientPiece(bytes) => Some(GateEvent::ClientPiece(bytes)),
+        LinkEvent::ClientEnd => Some(GateEvent::ClientEnd),
+        LinkEvent::HostPiece(bytes) => Some(GateEvent::HostPiece(bytes)),
+        LinkEvent::HostEnd => Some(GateEvent::HostEnd),
     }
 }
 

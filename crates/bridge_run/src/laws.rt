@@ -2,7 +2,7 @@
 
 ghost use Rattle.std.specs.Prelude.{◌≡◌, ◌<◌, ◌∷◌, [], true, false, List, length};
 ghost use Rattle.bridge_run.specs.declared.serve_end.ServeEnd.{ServeEnd as End};
-ghost use Rattle.bridge_run.specs.Events.{Event as PastEvent};
+ghost use Rattle.bridge_run.specs.Events.{LinkEvent as PastEvent};
 ghost use Rattle.bridge_run.specs.Prescribed.{Prescribed, gained};
 ghost use Rattle.bridge_run.specs.Recorded.{sends_any};
 ghost use Rattle.bridge_run.specs.Course.{Setting, Course, Next};

@@ -9,10 +9,10 @@ ghost use Rattle.bridge_run.specs.Outside.{outside, written, faults, Tells, HasC
 ghost use Rattle.bridge_run.specs.Log.{Told, Logged};
 ghost use Rattle.bridge_run.specs.Lent.{lent_sends};
 ghost use Rattle.bridge_run.specs.LentStops.{LentStops};
-ghost use Rattle.bridge_run.specs.Serves.{Begins, Leaves};
+ghost use Rattle.bridge_run.specs.Serves.{NothingYet, Leaves};
 
-use crate::kept::Kept;
 use crate::lent::Lent;
+use crate::rounds::Rounds;
 use crate::serve_end::ServeEnd;
 use crate::serving::ROOM;
 use crate::session::Session;
@@ -42,7 +42,7 @@ pub fn serve_host<G: Gadget, D: Doors, K: Sink>(
     requires idle { 1 ≤ idle }
     requires budget { 1 ≤ budget }
     // Over doors that tell, and a sink that may.
-    ensures leaves { (c : Course) → Begins idle budget c → Tells (outside (D.link doors.old) (D.door doors.old)) (written (K.contents out.old) (K.contents out.old) None) c
+    ensures leaves { (c : Course) → NothingYet idle budget c → Tells (outside (D.link doors.old) (D.door doors.old)) (written (K.contents out.old) (K.contents out.old) None) c
         → Leaves result (LentStops G.meaning gadget) (record { served = lent_sends G.meaning gadget; idle = idle }) (Goes AtDoor c) (outside (D.link doors.new) (D.door doors.new)) (written (K.contents out.old) (K.contents out.new) None) }
     // Over any doors, and any sink.
     ensures log { Logged result D.call_gives (LentStops G.meaning gadget) (Told K.write_gives out.old out.new) (record { host = None; door = listen.now; taped = false; idle = idle; budget = budget }) (lent_sends G.meaning gadget) doors.old doors.new }
@@ -60,6 +60,6 @@ pub fn serve_host<G: Gadget, D: Doors, K: Sink>(
     if let Err(_) = doors.listen(listen) {
         return ServeEnd::LinkFault(Side::Client);
     }
-    let mut session = Session::new(alloc, core, Kept::new(false, idle, budget));
+    let mut session = Session::new(alloc, core, Rounds::new(false, idle, budget));
     session.run(&mut buf, doors, out, &mut NoTape)
 }

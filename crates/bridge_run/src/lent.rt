@@ -12,7 +12,7 @@ ghost use Rattle.bridge_run.specs.Lent.{each, used, behind_piece, acts_behind, i
 ghost use Rattle.bridge_run.specs.inner.Lending.{Acts, StopsIn, Halts, IsLent, act_of};
 ghost use Rattle.bridge_run.specs.Recorded.{has_any};
 
-use crate::event::Event;
+use crate::event::LinkEvent;
 use crate::sent::Sent;
 use crate::served::Served;
 use model_device::Gadget;
@@ -63,7 +63,7 @@ impl<G: Gadget> Lent<G> {
     }
 
     /// Does with the device what an event asks.
-    fn act(&mut self, event: Event, refusals: &mut List<Refusal>) -> Result<(), Memory>
+    fn act(&mut self, event: LinkEvent, refusals: &mut List<Refusal>) -> Result<(), Memory>
         ensures acts { OnOk result ((first : G) (past : ListOf Act) → Stands G.meaning first self.old.core past
             → Acts G.meaning first self.new.core past (acts_behind G.meaning first past (event_of event.entry)) self.old.waiting self.new.waiting) }
         ensures refusals { OnOk result ((first : G) (past : ListOf Act) → Stands G.meaning first self.old.core past
@@ -74,15 +74,15 @@ impl<G: Gadget> Lent<G> {
         ensures quiet { OnOk result (is_quiet (event_of event.entry) ≡ true → refusals.new ≡ refusals.old) }
     {
         match event {
-            Event::ClientComes => {
+            LinkEvent::ClientComes => {
                 self.has_come = true;
                 Ok(())
             }
-            Event::ClientPiece(bytes) => {
+            LinkEvent::ClientPiece(bytes) => {
                 hear(&mut self.core, bytes, refusals, &mut self.waiting)
             }
-            Event::ClientQuiet => use_device(&mut self.core, &mut self.waiting),
-            Event::ClientEnd | Event::HostPiece(_) | Event::HostEnd => Ok(()),
+            LinkEvent::ClientQuiet => use_device(&mut self.core, &mut self.waiting),
+            LinkEvent::ClientEnd | LinkEvent::HostPiece(_) | LinkEvent::HostEnd => Ok(()),
         }
     }
 
@@ -116,7 +116,7 @@ impl<G: Gadget> Served for Lent<G> {
     // a quiet guest's device is used, too
     ghost takes_memory = { λ e. true };
 
-    fn take(&mut self, event: Event, sent: &mut Sent) -> Result<(), Memory> {
+    fn take(&mut self, event: LinkEvent, sent: &mut Sent) -> Result<(), Memory> {
         let acted = self.act(event, &mut sent.refusals);
         self.hand_on(&mut sent.to_client);
         acted

@@ -5,12 +5,12 @@
 mod after_loss;
 mod event;
 mod gate;
-mod kept;
 mod laws;
 mod lending;
 mod lent;
 mod link;
 mod recording;
+mod rounds;
 mod sent;
 mod serve_end;
 mod served;

@@ -11,7 +11,7 @@ ghost use Rattle.bridge_run.specs.Recorded.{has_any, event_line, lines_of, is_fu
 ghost use Rattle.bridge_run.specs.inner.Follows.{IsCutEnd};
 ghost use Rattle.bridge_run.specs.inner.Recording.{TapeFaults};
 
-use crate::event::Event;
+use crate::event::LinkEvent;
 use crate::sent::Sent;
 use crate::serve_end::ServeEnd;
 use session_tape::{Tape, push_end, push_piece, push_refusal, record};
@@ -25,7 +25,7 @@ const PIECE: usize = 65_536;
 /// Where they are due, or 64 KiB wait, all of them are written to the tape.
 pub fn record_event<T: Tape>(
     alloc: Global,
-    event: Event,
+    event: LinkEvent,
     sent: &Sent,
     due: bool,
     waiting: &mut Bytes,
@@ -78,16 +78,16 @@ fn is_full(waiting: &Bytes) -> bool
     waiting.len() >= PIECE
 }
 
-fn push_event(event: Event, text: &mut Bytes) -> Result<(), Memory>
+fn push_event(event: LinkEvent, text: &mut Bytes) -> Result<(), Memory>
     ensures pushed { OnOk result (text.new ≡ text.old ++ event_line (event_of event.entry)) }
     ensures wants { OnErr result (is_recorded (event_of event.entry) ≡ true) }
 {
     match event {
-        Event::ClientComes | Event::ClientQuiet => Ok(()),
-        Event::ClientPiece(bytes) => push_piece(Side::Client, bytes, text),
-        Event::ClientEnd => push_end(Side::Client, text),
-        Event::HostPiece(bytes) => push_piece(Side::Host, bytes, text),
-        Event::HostEnd => push_end(Side::Host, text),
+        LinkEvent::ClientComes | LinkEvent::ClientQuiet => Ok(()),
+        LinkEvent::ClientPiece(bytes) => push_piece(Side::Client, bytes, text),
+        LinkEvent::ClientEnd => push_end(Side::Client, text),
+        LinkEvent::HostPiece(bytes) => push_piece(Side::Host, bytes, text),
+        LinkEvent::HostEnd => push_end(Side::Host, text),
     }
 }
 

@@ -1,10 +1,10 @@
 //! What is served.
 
 ghost use Rattle.std.specs.Prelude.{◌≡◌, ℕ, Bool, List, [], ◌∷◌, OnOk, OnErr, true};
-ghost use Rattle.bridge_run.specs.Events.{Event as PastEvent, event_of, is_quiet};
+ghost use Rattle.bridge_run.specs.Events.{LinkEvent as PastEvent, event_of, is_quiet};
 ghost use Rattle.bridge_run.specs.inner.Sends.{Sends, SendsPart};
 
-use crate::event::Event;
+use crate::event::LinkEvent;
 use crate::sent::Sent;
 use usb_base::Memory;
 
@@ -31,7 +31,7 @@ pub trait Served {
     /// Takes the next event, and appends what that sends. A quiet client is no ground to refuse a side, or to let the
     /// client go. For want of memory what was sent by then is there. Nothing stands for the client before, so that it
     /// can be handed over as it is.
-    fn take(&mut self, event: Event, sent: &mut Sent) -> Result<(), Memory>
+    fn take(&mut self, event: LinkEvent, sent: &mut Sent) -> Result<(), Memory>
         requires { sent.old.to_client ≡ [] }
         ensures stands { OnOk result ((first : First) (past : List PastEvent) → stands first self.old past → stands first self.new (event_of event.entry ∷ past)) }
         ensures sends { OnOk result ((first : First) (past : List PastEvent) → stands first self.old past → Sends (sends first) past (event_of event.entry) sent.old sent.new) }

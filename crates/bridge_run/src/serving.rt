@@ -8,7 +8,7 @@ ghost use Rattle.bridge_run.specs.Calls.{Goes};
 ghost use Rattle.bridge_run.specs.Outside.{Written, Faults, outside, written, faults, Tells, HasCause, HasReason};
 ghost use Rattle.bridge_run.specs.Gate.{gate_sends};
 ghost use Rattle.bridge_run.specs.GateStops.{gate_runs_out};
-ghost use Rattle.bridge_run.specs.Serves.{Begins, Leaves};
+ghost use Rattle.bridge_run.specs.Serves.{NothingYet, Leaves};
 ghost use Rattle.bridge_run.specs.Log.{Told, Logged};
 ghost use Rattle.bridge_run.specs.inner.Logging.{OpenLogs};
 ghost use Rattle.bridge_run.specs.inner.Follows.{HasFaults, IsCutEnd, IsOpen, Opens};
@@ -16,8 +16,8 @@ ghost use Rattle.bridge_run.specs.inner.Idling.{NotIdle};
 
 use crate::after_loss::AfterLoss;
 use crate::gate::Gateway;
-use crate::kept::Kept;
 use crate::link::write_link;
+use crate::rounds::Rounds;
 use crate::serve_end::ServeEnd;
 use crate::session::Session;
 use gate_core::Gate;
@@ -55,7 +55,7 @@ pub fn serve<D: Doors, K: Sink, T: Tape>(
     requires budget { 1 ≤ budget }
     requires first_id { (1 ≤ first_id) × (first_id ≤ 4294967295) }
     // Over doors that tell, and a sink and a tape that may.
-    ensures leaves { (c : Course) → Begins idle budget c → Tells (outside (D.link doors.old) (D.door doors.old)) (written (K.contents out.old) (K.contents out.old) (T.contents tape.old)) c
+    ensures leaves { (c : Course) → NothingYet idle budget c → Tells (outside (D.link doors.old) (D.door doors.old)) (written (K.contents out.old) (K.contents out.old) (T.contents tape.old)) c
         → Leaves result (gate_runs_out first_id) (record { served = gate_sends after_loss first_id; idle = idle }) (Goes Making c) (outside (D.link doors.new) (D.door doors.new)) (written (K.contents out.old) (K.contents out.new) (T.contents tape.new)) }
     // Over any doors, any sink and any tape.
     ensures log { Logged result D.call_gives (gate_runs_out first_id) (Told K.write_gives out.old out.new) (record { host = Some host.now; door = listen.now; taped = T.made tape.old; idle = idle; budget = budget }) (gate_sends after_loss first_id) doors.old doors.new }
@@ -78,7 +78,7 @@ pub fn serve<D: Doors, K: Sink, T: Tape>(
         gate: core,
         after_loss,
     };
-    let mut session = Session::new(alloc, gateway, Kept::new(true, idle, budget));
+    let mut session = Session::new(alloc, gateway, Rounds::new(true, idle, budget));
     session.run(&mut buf, doors, out, tape)
 }
 

@@ -1,7 +1,7 @@
 //! Serving, once both sides can come.
 
 ghost use Rattle.std.specs.Prelude.{◌≡◌, ℕ, ◌<◌, ◌||◌, List, [], ◌∷◌, not, true, false, Option, OnOk, OnErr, IfOk, IfErr, length};
-ghost use Rattle.bridge_run.specs.Events.{Event as PastEvent, ClientComes, event_of, is_quiet};
+ghost use Rattle.bridge_run.specs.Events.{LinkEvent as PastEvent, ClientComes, event_of, is_quiet};
 ghost use Rattle.bridge_run.specs.Course.{Course, Next};
 ghost use Rattle.bridge_run.specs.Course.{AtDoor, AtClient, Takes};
 ghost use Rattle.bridge_run.specs.Calls.{Goes, put, quiet};
@@ -16,14 +16,14 @@ ghost use Rattle.bridge_run.specs.Log.{Terms, Told, Logged};
 ghost use Rattle.bridge_run.specs.inner.Logging.{IsTaking, IsResting, IsAsking, RoundBegins, DoorAsked, stage_of, stage_behind, PutLogs, HappenLogs, Logs};
 ghost use Rattle.bridge_run.specs.inner.Sends.{IsPart};
 ghost use Rattle.bridge_run.specs.inner.Stopping.{AreUp, IsStopping, StopLogs};
-ghost use Rattle.bridge_run.specs.inner.Idling.{NotIdle, Asked, EndsWithin, RoundIdles};
+ghost use Rattle.bridge_run.specs.inner.Idling.{NotIdle, IdledOnce, EndsWithin, RoundIdles};
 ghost use Rattle.usb_base.specs.declared.side.Side.TheVariants.{Client, Host};
 ghost use Rattle.gate_outside.specs.Link.{other};
 
-use crate::event::{Event, end_of, ends_next, piece};
-use crate::kept::Kept;
+use crate::event::{LinkEvent, end_of, ends_next, piece};
 use crate::link::{close_link, write_link};
 use crate::recording::{record_event, write_waiting};
+use crate::rounds::Rounds;
 use crate::sent::Sent;
 use crate::serve_end::ServeEnd;
 use crate::served::Served;
@@ -37,7 +37,7 @@ use usb_base::{Bytes, Memory};
 pub struct Session<C> {
     alloc: Global,
     core: C,
-    kept: Kept,
+    kept: Rounds,
     /// What the event at hand sends, and the lines that tell its refusals.
     sent: Sent,
     lines: Bytes,
@@ -47,7 +47,7 @@ pub struct Session<C> {
 
 impl<C: Served + Drop> Session<C> {
     /// Nothing is sent yet, which takes no memory.
-    pub fn new(alloc: Global, core: C, kept: Kept) -> Self
+    pub fn new(alloc: Global, core: C, kept: Rounds) -> Self
         ensures core { result.core ≡ core }
         ensures kept { result.kept ≡ kept }
         ensures waiting { result.waiting ≡ [] }
@@ -63,7 +63,7 @@ impl<C: Served + Drop> Session<C> {
     }
 
     /// Has the event taken, and keeps what that sends.
-    fn prepare(&mut self, event: Event) -> Result<(), Memory>
+    fn prepare(&mut self, event: LinkEvent) -> Result<(), Memory>
         ensures stands { OnOk result ((first : C.First) (past : List PastEvent) → C.stands first self.old.core past → C.stands first self.new.core (event_of event.entry ∷ past)) }
         ensures prepared { OnOk result ((first : C.First) (past : List PastEvent) → C.stands first self.old.core past → Prepared (C.sends first) past (event_of event.entry) self.new.sent self.new.lines) }
         ensures stops { OnErr result ((first : C.First) (past : List PastEvent) → C.stands first self.old.core past → IsPart (C.runs_out first) (C.sends first) past (event_of event.entry) self.new.sent.to_client self.new.sent.to_host) }
@@ -87,7 +87,7 @@ impl<C: Served + Drop> Session<C> {
 
     /// Memory ran out as the event was taken. If it had sent bytes by then, its line is recorded, behind those that wait,
     /// and they are written to each side whose link is up. None of its refusals is told. Says how serving ends.
-    fn stop<D: Doors, T: Tape>(&mut self, event: Event, doors: &mut D, tape: &mut T) -> ServeEnd
+    fn stop<D: Doors, T: Tape>(&mut self, event: LinkEvent, doors: &mut D, tape: &mut T) -> ServeEnd
         requires { Agrees self.old.kept (outside (D.link doors.old) (D.door doors.old)) }
         ensures course { (first : C.First) (begun told : Option (List ℕ)) (c : Course) → IsPart (C.runs_out first) (C.sends first) c.events (event_of event.entry) self.old.sent.to_client self.old.sent.to_host → AreUp self.old.kept c
             → Tells (outside (D.link doors.old) (D.door doors.old)) (gathering begun told (T.contents tape.old) self.old.waiting) c
@@ -129,7 +129,7 @@ impl<C: Served + Drop> Session<C> {
     /// whether the client's link was closed. For want of memory it ends as `stop` says.
     fn put<D: Doors, K: Sink, T: Tape>(
         &mut self,
-        event: Event,
+        event: LinkEvent,
         doors: &mut D,
         out: &mut K,
         tape: &mut T,
@@ -153,7 +153,7 @@ impl<C: Served + Drop> Session<C> {
         }
         let due = self.is_due();
         record_event(self.alloc, event, &self.sent, due, &mut self.waiting, tape)?;
-        let Kept {
+        let Rounds {
             client_up,
             host_up,
             ..
@@ -178,7 +178,7 @@ impl<C: Served + Drop> Session<C> {
     /// Takes an event, and behind it the end of a client that it refuses or lets go.
     fn happen<D: Doors, K: Sink, T: Tape>(
         &mut self,
-        event: Event,
+        event: LinkEvent,
         doors: &mut D,
         out: &mut K,
         tape: &mut T,
@@ -201,7 +201,7 @@ impl<C: Served + Drop> Session<C> {
         if !ends_next(event, dropped) {
             return self.kept.settle();
         }
-        self.put(Event::ClientEnd, doors, out, tape)?;
+        self.put(LinkEvent::ClientEnd, doors, out, tape)?;
         self.kept.settle()
     }
 
@@ -223,7 +223,7 @@ impl<C: Served + Drop> Session<C> {
         ensures wears { Wears self.old.kept self.new.kept }
         ensures made { T.made tape.new ≡ T.made tape.old }
         ensures left { OnOk result (0 < self.new.kept.left) }
-        ensures idles { OnOk result (Asked (not self.old.kept.client_up) self.old.kept self.new.kept (D.link doors.old Client).idle (D.link doors.new Client).idle) }
+        ensures idles { OnOk result (IdledOnce (not self.old.kept.client_up) self.old.kept self.new.kept (D.link doors.old Client).idle (D.link doors.new Client).idle) }
         ensures other { OnOk result ((D.link doors.new Host).idle ≡ (D.link doors.old Host).idle) }
         ensures within { EndsWithin result (outside (D.link doors.new) (D.door doors.new)) }
     {
@@ -233,7 +233,7 @@ impl<C: Served + Drop> Session<C> {
         match doors.accept() {
             Ok(true) => {
                 self.kept.come();
-                self.happen(Event::ClientComes, doors, out, tape)
+                self.happen(LinkEvent::ClientComes, doors, out, tape)
             }
             Ok(false) => Ok(()),
             Err(_) => Err(ServeEnd::LinkFault(Side::Client)),
@@ -263,7 +263,7 @@ impl<C: Served + Drop> Session<C> {
         ensures within { EndsWithin result (outside (D.link doors.new) (D.door doors.new)) }
     {
         match side {
-            Side::Client => self.happen(Event::ClientQuiet, doors, out, tape),
+            Side::Client => self.happen(LinkEvent::ClientQuiet, doors, out, tape),
             Side::Host => Ok(()),
         }
     }
@@ -289,7 +289,7 @@ impl<C: Served + Drop> Session<C> {
         ensures wears { Wears self.old.kept self.new.kept }
         ensures made { T.made tape.new ≡ T.made tape.old }
         ensures left { OnOk result (0 < self.new.kept.left) }
-        ensures idles { OnOk result (Asked (up_of side self.old.kept) self.old.kept self.new.kept (D.link doors.old side).idle (D.link doors.new side).idle) }
+        ensures idles { OnOk result (IdledOnce (up_of side self.old.kept) self.old.kept self.new.kept (D.link doors.old side).idle (D.link doors.new side).idle) }
         ensures other { OnOk result ((D.link doors.new (other side)).idle ≡ (D.link doors.old (other side)).idle) }
         ensures within { EndsWithin result (outside (D.link doors.new) (D.door doors.new)) }
     {

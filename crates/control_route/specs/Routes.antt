@@ -8,7 +8,7 @@ use Rattle.control_route.specs.declared.route.Route.TheVariants.{Local, SetConfi
 
 -- `only` says which setups with this bmRequestType and bRequest the row is for, `good` which of them can be
 -- carried out
-pub record Row : Type 0 where
+pub record RouteRow : Type 0 where
   pub request_type : ℕ
   pub request : ℕ
   pub only : Setup → Bool
@@ -25,7 +25,7 @@ has_no_data s = s.length == 0
 abbrev pub is_byte : ℕ → Bool
 is_byte n = nat_lt n 256
 
-abbrev pub rows : List Row
+abbrev pub rows : List RouteRow
 rows =
     -- SET_ADDRESS
     record { request_type = 0x00; request = 5; only = any; good = has_no_data; route = λ s. Local } ∷
@@ -41,10 +41,10 @@ rows =
     record { request_type = 0x23; request = 3; only = λ s. s.value == 4; good = has_no_data; route = λ s. Reset } ∷
     []
 
-abbrev pub is_for : Setup → Row → Bool
+abbrev pub is_for : Setup → RouteRow → Bool
 is_for s row = (s.kind == row.request_type) && (s.request == row.request) && row.only s
 
-abbrev pub by_row : Setup → Option Row → Route
+abbrev pub by_row : Setup → Option RouteRow → Route
 by_row s None = Plain
 by_row s (Some row) = if row.good s then row.route s else Bad
 

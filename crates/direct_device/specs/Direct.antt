@@ -7,7 +7,7 @@ use Rattle.usb_base.specs.declared.transfer.StreamPacket.{StreamPacket}
 use Rattle.usb_base.specs.declared.status.UsbStatus.TheVariants.{Cancelled}
 use Rattle.control_route.specs.declared.route.Route.{Route}
 use Rattle.control_route.specs.Changes.{is_change}
-use Rattle.model_device.specs.Submit.{seen}
+use Rattle.model_device.specs.Submit.{routed_outcome}
 use Rattle.redir_host.specs.guest.Asking.{routed}
 pub use Rattle.redir_host.specs.state.Queues.{without_first}
 use Rattle.redir_host.specs.state.Queues.{queue_of}
@@ -89,7 +89,7 @@ abbrev pub normal_of : Load → Transfer
 normal_of l = normal_by l.request l.verdict
 
 abbrev pub seen_by : Request → Verdict → ℕ → Outcome → Outcome
-seen_by r (Routed route) configuration o = seen route (unwrap_or r.transfer.setup no_setup) configuration o
+seen_by r (Routed route) configuration o = routed_outcome route (unwrap_or r.transfer.setup no_setup) configuration o
 seen_by r _ configuration o = o
 
 abbrev pub seen_of : Load → ℕ → Outcome → Outcome

@@ -1,17 +1,20 @@
 -- A transfer of a bulk endpoint is a turn.
-use Rattle.std.proofs.Common.{◌≡◌, ℕ, true, false, List, Option, Some, None, refl}
+use Rattle.std.proofs.Common.{◌≡◌, ℕ, Bool, true, false, nat_lt, List, Option, Some, None, refl}
 use Rattle.std.specs.Prelude.{Result, Ok, Err, OnOk}
 use Rattle.usb_base.specs.Endpoint.{is_in_endpoint}
 use Rattle.usb_base.specs.declared.transfer.Transfer.{Transfer}
 use Rattle.chapter9.specs.declared.state.DevState.{DevState}
 use Rattle.model_device.specs.Device.{device_parts, is_running}
 use Rattle.model_device.specs.Meaning.{given_in, state_in}
+use Rattle.disk_gadget.specs.declared.sense.Sense.{Sense}
 use Rattle.disk_gadget.specs.declared.stage.Course.{Course}
+use Rattle.disk_gadget.specs.declared.stage.Stage.{Stage}
+use Rattle.disk_gadget.specs.declared.stage.Stage.TheVariants.{Waits, Gathers, Gives, Reports}
 use Rattle.disk_gadget.specs.Accesses.{count_of}
 use Rattle.disk_gadget.specs.Descriptors.{described}
 use Rattle.disk_gadget.specs.DiskStep.{DiskState, disk_step, on_blocks, turned}
 use Rattle.disk_gadget.specs.Inside.{turn_blocks, turn_course, turn_device, turn_outcome}
-use Rattle.disk_gadget.specs.Turns.{Turn, given_by, taken_by}
+use Rattle.disk_gadget.specs.Turns.{Turn, given_by, reported, taken_by}
 
 abbrev pub disk_of : DevState → Course → List ℕ → DiskState
 disk_of device course blocks = record { state = record { device = device; kept = course }; blocks = blocks }
@@ -40,3 +43,18 @@ state_turned d (Some turn) = refl
 pub together : {X Y : Type 0} (r : Result X Y) (device device2 : DevState) (course course2 : Course) (blocks blocks2 : List ℕ) → OnOk r (device ≡ device2) → OnOk r (course ≡ course2) → OnOk r (blocks ≡ blocks2) → OnOk r (disk_of device course blocks ≡ disk_of device2 course2 blocks2)
 together (Ok x) device device2 course course2 blocks blocks2 a b c = λ i. disk_of (a i) (b i) (c i)
 together (Err e) device device2 course course2 blocks blocks2 a b c = tt
+
+-- a turn from the device neither halts it nor writes a block
+pub gives-apart : (device : DevState) (blocks : List ℕ) (sense : Option Sense) (wanted : ℕ) (stage : Stage) → (device ≡ turn_device device (given_by sense wanted stage)) × (blocks ≡ turn_blocks blocks (given_by sense wanted stage))
+gives-apart device blocks sense wanted Waits = (refl, refl)
+gives-apart device blocks sense wanted (Gathers w bytes) = (refl, refl)
+gives-apart device blocks sense wanted (Gives answer r) = (refl, refl)
+gives-apart device blocks sense wanted (Reports r) = go (nat_lt wanted 13) refl
+  where
+    go : (short : Bool) → nat_lt wanted 13 ≡ short → (device ≡ turn_device device (Some (reported sense wanted r))) × (blocks ≡ turn_blocks blocks (Some (reported sense wanted r)))
+    go true e = rw e (refl, refl)
+    go false e = rw e (refl, refl)
+
+pub when-ok : {X Y P : Type 0} (r : Result X Y) → P → OnOk r P
+when-ok (Ok x) p = p
+when-ok (Err e) p = tt

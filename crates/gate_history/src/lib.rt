@@ -18,5 +18,5 @@ pub use laws::{
     rests_are_short, sent_can_be_read, states_are_sound, streams_hold_few, submits_end_once,
 };
 pub use note::{Counts, Note, Notes};
-pub use request::{Asked, Request, is_in_setup};
+pub use request::{AnsweredSubmit, Request, is_in_setup};
 pub use verdict::{Pipe, Verdict};

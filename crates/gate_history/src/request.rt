@@ -92,7 +92,7 @@ pub fn is_in_setup(setup: &Setup) -> bool
 
 /// What the answer of a submit has of the submit.
 #[derive(Clone, Copy)]
-pub struct Asked<'a> {
+pub struct AnsweredSubmit<'a> {
     /// The submit's number.
     pub number: u32,
     /// Whether data go from the device to the client.
@@ -109,10 +109,10 @@ pub struct Asked<'a> {
 
 impl Request {
     /// What its answer has of it.
-    pub fn asked(&self) -> Asked<'_>
+    pub fn asked(&self) -> AnsweredSubmit<'_>
         ensures { asked_view result ≡ record { number = self.now.number; is_in = self.now.is_in; flags = self.now.flags; packets = self.now.packets; descs = self.now.descs; transfer = record { ep = 0; setup = None; wanted = self.now.transfer.wanted; body = [] } } }
     {
-        Asked {
+        AnsweredSubmit {
             number: self.number,
             is_in: self.is_in,
             flags: self.flags,

@@ -40,6 +40,6 @@ pub record Reading : Type 0 where
   pub to_come : List (List Turn)
 
 -- the next script begins, while one is left
-abbrev pub Begins : Bool → Reading → Reading → Type 0
-Begins true old new = (0 < length old.to_come) × (new ≡ record { turns = first old.to_come; to_come = drop 1 old.to_come })
-Begins false old new = (old.to_come ≡ []) × (new ≡ old)
+abbrev pub NextBegins : Bool → Reading → Reading → Type 0
+NextBegins true old new = (0 < length old.to_come) × (new ≡ record { turns = first old.to_come; to_come = drop 1 old.to_come })
+NextBegins false old new = (old.to_come ≡ []) × (new ≡ old)

@@ -36,7 +36,7 @@ impl Model for ScriptReader {
 }
 
 impl ScriptReader {
-    ghost use Rattle.gate_outside.specs.Reading.{Begins};
+    ghost use Rattle.gate_outside.specs.Reading.{NextBegins};
     ghost use Rattle.gate_outside.specs.Doors.{Gives, TookWithin};
 
     /// A reader that has begun no script.
@@ -53,7 +53,7 @@ impl ScriptReader {
 
     /// Begins the next script, and says whether there was one.
     pub(crate) fn begin(&mut self) -> bool
-        ensures { Begins result self.old self.new }
+        ensures { NextBegins result self.old self.new }
     {
         if self.begun == self.scripts.len() {
             return false;

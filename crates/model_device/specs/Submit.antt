@@ -60,12 +60,12 @@ byte_seen len byte o = if is_success o.status then record { status = o.status; d
 
 -- the outcome of a transfer with this route and setup, after which the device has this configuration; the byte of an
 -- alternate setting is the first one that came, or 0
-abbrev pub seen : Route → Setup → ℕ → Outcome → Outcome
-seen (SetConfig value) r configuration o = status_alone o
-seen (SetAlt interface alt) r configuration o = status_alone o
-seen Reset r configuration o = status_alone o
-seen GetConfig r configuration o = byte_seen r.length configuration o
-seen (GetAlt interface) r configuration o = byte_seen r.length (slice_index o.body 0) o
-seen Local r configuration o = o
-seen Plain r configuration o = o
-seen Bad r configuration o = o
+abbrev pub routed_outcome : Route → Setup → ℕ → Outcome → Outcome
+routed_outcome (SetConfig value) r configuration o = status_alone o
+routed_outcome (SetAlt interface alt) r configuration o = status_alone o
+routed_outcome Reset r configuration o = status_alone o
+routed_outcome GetConfig r configuration o = byte_seen r.length configuration o
+routed_outcome (GetAlt interface) r configuration o = byte_seen r.length (slice_index o.body 0) o
+routed_outcome Local r configuration o = o
+routed_outcome Plain r configuration o = o
+routed_outcome Bad r configuration o = o

@@ -9,7 +9,7 @@ use Rattle.packet_stream.specs.declared.read.ReadError.{ReadError}
 use Rattle.packet_stream.specs.declared.read.ReadError.TheVariants.{Refused, Memory}
 
 -- what is kept of a stream
-pub record Kept (S : Type 0) : Type 0 where
+pub record StreamView (S : Type 0) : Type 0 where
   -- how the next packet is read
   pub state : S
   -- the bytes from the next packet on, and the place where they begin
@@ -22,15 +22,15 @@ pub record Kept (S : Type 0) : Type 0 where
   pub over : Bool
 
 -- the packet that was given last is held no more
-abbrev pub passed : {S : Type 0} → Kept S → Kept S
+abbrev pub passed : {S : Type 0} → StreamView S → StreamView S
 passed kept = record kept { held = kept.rest; at = kept.place }
 
 -- the stream is over
-abbrev pub ended : {S : Type 0} → Kept S → Kept S
+abbrev pub ended : {S : Type 0} → StreamView S → StreamView S
 ended kept = record kept { rest = []; held = []; over = true }
 
 -- of the splitting x these packets were given, and what is kept is split into what is left of it
-pub record Left {S P R : Type 0} (r : Reader S P R) (kept : Kept S) (x : Splitting S P R) (given : List (ℕ × P)) : Type 0 where
+pub record Left {S P R : Type 0} (r : Reader S P R) (kept : StreamView S) (x : Splitting S P R) (given : List (ℕ × P)) : Type 0 where
   pub at : Position S
   pub parts : x ≡ with_packets given (split r at kept.rest)
   pub place : kept.place ≡ capped at.place
@@ -43,17 +43,17 @@ pub record Closed {S P R : Type 0} (x : Splitting S P R) (given : List (ℕ × P
   pub at : ℕ × R
   pub wrong : x.wrong ≡ Some at
 
-abbrev pub FollowsBy : {S P R : Type 0} → Reader S P R → Kept S → Splitting S P R → List (ℕ × P) → Bool → Type 0
+abbrev pub FollowsBy : {S P R : Type 0} → Reader S P R → StreamView S → Splitting S P R → List (ℕ × P) → Bool → Type 0
 FollowsBy r kept x given false = Left r kept x given
 FollowsBy r kept x given true = Closed x given
 
 -- the stream stands where these bytes were split, and these packets of them were given
-pub record Follows {S P R : Type 0} (r : Reader S P R) (start : Position S) (kept : Kept S) (bytes : List ℕ) (given : List (ℕ × P)) : Type 0 where
+pub record Follows {S P R : Type 0} (r : Reader S P R) (start : Position S) (kept : StreamView S) (bytes : List ℕ) (given : List (ℕ × P)) : Type 0 where
   pub fits : AreBytes bytes
   pub follows : FollowsBy r kept (split r start bytes) given kept.over
 
 -- all packets were given, and the rest is kept
-pub record Drained {S P R : Type 0} (kept : Kept S) (x : Splitting S P R) (given : List (ℕ × P)) : Type 0 where
+pub record Drained {S P R : Type 0} (kept : StreamView S) (x : Splitting S P R) (given : List (ℕ × P)) : Type 0 where
   pub packets : x.packets ≡ given
   pub right : x.wrong ≡ None
   pub rest : kept.rest ≡ x.rest
@@ -68,7 +68,7 @@ pub record Wrongs {S P R : Type 0} (place : ℕ) (reason : R) (x : Splitting S P
   pub place-is : place ≡ capped at
 
 -- this packet comes next
-pub record Gives {S P R : Type 0} (r : Reader S P R) (start : Position S) (kept : Kept S) (bytes : List ℕ) (given : List (ℕ × P)) (place : ℕ) (packet : P) : Type 0 where
+pub record Gives {S P R : Type 0} (r : Reader S P R) (start : Position S) (kept : StreamView S) (bytes : List ℕ) (given : List (ℕ × P)) (place : ℕ) (packet : P) : Type 0 where
   pub at : ℕ
   pub place-is : place ≡ capped at
   pub follows : Follows r start kept bytes (given ++ (at, packet) ∷ [])
@@ -81,37 +81,37 @@ pub record Wants {S P R : Type 0} (takes : P → Bool) (x : Splitting S P R) (gi
   pub takes-some : takes next.1 ≡ true
 
 -- what is held is split into what is left of x after these packets
-pub record Holds {S P R : Type 0} (r : Reader S P R) (kept : Kept S) (x : Splitting S P R) (given : List (ℕ × P)) : Type 0 where
+pub record Holds {S P R : Type 0} (r : Reader S P R) (kept : StreamView S) (x : Splitting S P R) (given : List (ℕ × P)) : Type 0 where
   pub position : Position S
   pub parts : x ≡ with_packets given (split r position kept.held)
   pub place : kept.at ≡ capped position.place
 
 -- what an answer of `next` says of the splitting
-abbrev pub Answered : {S P : Type 0} → Reader S P Reason → (P → Bool) → Position S → Result (Option (ℕ × P)) ReadError → Kept S → List ℕ → List (ℕ × P) → Type 0
+abbrev pub Answered : {S P : Type 0} → Reader S P Reason → (P → Bool) → Position S → Result (Option (ℕ × P)) ReadError → StreamView S → List ℕ → List (ℕ × P) → Type 0
 Answered r takes start (Ok (Some i)) new bytes given = Gives r start new bytes given i.0 i.1
 Answered r takes start (Ok None) new bytes given = new.over ≡ false → Drained new (split r start bytes) given
 Answered r takes start (Err (Refused place reason)) new bytes given = Wrongs place reason (split r start bytes) given
 Answered r takes start (Err (Memory memory)) new bytes given = Wants takes (split r start bytes) given
 
 -- whatever has come and was given: the answer is what comes next of the splitting
-abbrev pub Nexts : {S P : Type 0} → Reader S P Reason → (P → Bool) → Result (Option (ℕ × P)) ReadError → Kept S → Kept S → Type 0
+abbrev pub Nexts : {S P : Type 0} → Reader S P Reason → (P → Bool) → Result (Option (ℕ × P)) ReadError → StreamView S → StreamView S → Type 0
 Nexts {S = S} {P = P} r takes result old new = (start : Position S) (bytes : List ℕ) (given : List (ℕ × P)) → Follows r start old bytes given → Answered r takes start result new bytes given
 
 -- whatever has come and was given: this piece has come too
-abbrev pub Puts : {S P : Type 0} → Reader S P Reason → List ℕ → Kept S → Kept S → Type 0
+abbrev pub Puts : {S P : Type 0} → Reader S P Reason → List ℕ → StreamView S → StreamView S → Type 0
 Puts {S = S} {P = P} r piece old new = (start : Position S) (bytes : List ℕ) (given : List (ℕ × P)) → Follows r start old bytes given → Follows r start new (bytes ++ piece) given
 
 -- what `next` makes of what is kept: a packet that is given stays held, and a wrong place ends the stream
-abbrev pub Changes : {S P : Type 0} → Result (Option (ℕ × P)) ReadError → Kept S → Kept S → Type 0
+abbrev pub Changes : {S P : Type 0} → Result (Option (ℕ × P)) ReadError → StreamView S → StreamView S → Type 0
 Changes (Ok (Some i)) old new = (length new.rest < length old.rest) × (old.over ≡ false) × (new.over ≡ false) × (new.held ≡ old.rest) × (new.at ≡ old.place) × (i.0 ≡ old.place)
 Changes (Ok None) old new = new ≡ passed old
 Changes (Err (Refused place reason)) old new = (old.over ≡ false) × (new ≡ ended (passed old))
 Changes (Err (Memory memory)) old new = (old.over ≡ false) × (new ≡ passed old)
 
-abbrev pub after_piece_by : {S : Type 0} → Kept S → List ℕ → Bool → Kept S
+abbrev pub after_piece_by : {S : Type 0} → StreamView S → List ℕ → Bool → StreamView S
 after_piece_by kept piece false = passed (record kept { rest = kept.rest ++ piece })
 after_piece_by kept piece true = kept
 
 -- a piece more has come
-abbrev pub after_piece : {S : Type 0} → Kept S → List ℕ → Kept S
+abbrev pub after_piece : {S : Type 0} → StreamView S → List ℕ → StreamView S
 after_piece kept piece = after_piece_by kept piece kept.over

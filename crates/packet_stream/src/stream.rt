@@ -3,7 +3,7 @@
 ghost use Rattle.std.specs.Prelude.{◌≡◌, ◌<◌, ◌^◌, [], length, true, false, OnOk, OnErr};
 ghost use Rattle.packet_stream.specs.Split.{reads};
 ghost use Rattle.packet_stream.specs.Awaited.{StaysShort};
-ghost use Rattle.packet_stream.specs.Streams.{Kept, passed, ended, after_piece, Follows, Puts, Nexts, Changes};
+ghost use Rattle.packet_stream.specs.Streams.{StreamView, passed, ended, after_piece, Follows, Puts, Nexts, Changes};
 
 use crate::format::PacketFormat;
 use crate::read::{Read, ReadError};
@@ -40,7 +40,7 @@ pub struct Stream<F: PacketFormat> {
 }
 
 impl<F: PacketFormat> Model for Stream<F> {
-    ghost Value = { Kept F.State };
+    ghost Value = { StreamView F.State };
 
     ghost view = { λ s. record {
       state = s.state;

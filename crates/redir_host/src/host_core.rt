@@ -8,7 +8,7 @@ ghost use Rattle.redir_host.specs.device.Performing.{told_performed};
 ghost use Rattle.redir_host.specs.step.Stands.{Does, HasFailed, Stands, StopsIn, TakesPiece, TellsOf};
 
 use crate::hello::write_hello;
-use crate::kept::Kept;
+use crate::inner::Inner;
 use crate::note::{HostNotes, Offered, Performed};
 use model_device::Gadget;
 use std::alloc::Global;
@@ -19,7 +19,7 @@ use usb_base::{Bytes, EpAddr, Memory};
 /// and changes nothing.
 #[derive(Drop)]
 pub struct HostCore<G: Gadget> {
-    kept: Kept<G>,
+    kept: Inner<G>,
 }
 
 impl<G: Gadget> Model for HostCore<G> {
@@ -43,7 +43,7 @@ impl<G: Gadget> HostCore<G> {
     {
         write_hello(alloc, out)?;
         Ok(HostCore {
-            kept: Kept::new(alloc, gadget),
+            kept: Inner::new(alloc, gadget),
         })
     }
 

@@ -8,7 +8,7 @@ mod facts;
 mod hello;
 mod host;
 mod host_core;
-mod kept;
+mod inner;
 mod laws;
 mod note;
 mod perform;

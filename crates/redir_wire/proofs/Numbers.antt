@@ -9,7 +9,7 @@ use Rattle.redir_wire.specs.declared.kind.DataKind.{DataKind}
 use Rattle.redir_wire.specs.declared.kind.DataKind.TheVariants as moving
 use Rattle.redir_wire.specs.declared.kind.Kind.{Kind}
 use Rattle.redir_wire.specs.declared.kind.Kind.TheVariants.{Plain, Carrying}
-use Rattle.redir_wire.specs.declared.kind.Row.{Row}
+use Rattle.redir_wire.specs.declared.kind.TypeRow.{TypeRow}
 use Rattle.redir_wire.specs.Table.{plain_row, data_row, row_of, plain_kinds, data_kinds, plain_numbered, data_numbered, kind_numbered, is_left_out}
 use Rattle.redir_wire.specs.Header.{row_says, is_known}
 
@@ -54,7 +54,7 @@ kind_again (Carrying k) = rw (data_only k, data_again k) refl
 
 -- ---- what the checks of a header say of it
 
-pub says : (test : Row → Bool) (k : Kind) → row_says test (row_of k).number ≡ test (row_of k)
+pub says : (test : TypeRow → Bool) (k : Kind) → row_says test (row_of k).number ≡ test (row_of k)
 says test k = rw (kind_again k) refl
 
 or_some : (t : Bool) (o : Option Kind) (k : Kind) → o ≡ Some k → (t || is_some o) ≡ true
@@ -80,5 +80,5 @@ and_true : (t u : Bool) → t ≡ false → u ≡ true → (not t && u) ≡ true
 and_true true u e f = absurd cc
 and_true false u e f = f
 
-pub agreed_by : (caps : Caps) (k : Kind) (test : Row → Bool) → test (row_of k) ≡ true → (not (is_left_out (row_of k).number) && row_says test (row_of k).number) ≡ true
+pub agreed_by : (caps : Caps) (k : Kind) (test : TypeRow → Bool) → test (row_of k) ≡ true → (not (is_left_out (row_of k).number) && row_says test (row_of k).number) ≡ true
 agreed_by caps k test e = and_true (is_left_out (row_of k).number) (row_says test (row_of k).number) (not_left_out k) (says test k ∙ e)

@@ -9,7 +9,7 @@ use Rattle.packet_stream.specs.Format.{Check, always, Format}
 use Rattle.redir_wire.specs.declared.packet.Caps.{Caps}
 use Rattle.redir_wire.specs.declared.packet.Way.{Way}
 use Rattle.redir_wire.specs.declared.packet.Header.{Header}
-use Rattle.redir_wire.specs.declared.kind.Row.{Row}
+use Rattle.redir_wire.specs.declared.kind.TypeRow.{TypeRow}
 use Rattle.redir_wire.specs.Capability.{has}
 use Rattle.redir_wire.specs.Table.{row_of, kind_numbered, is_left_out, goes, has_wanted, has_length}
 
@@ -43,7 +43,7 @@ IdFits false id = id < 2 ^ 32
 -- ---- its checks
 
 -- what the row of this number says, if there is one
-abbrev pub row_says : (Row → Bool) → ℕ → Bool
+abbrev pub row_says : (TypeRow → Bool) → ℕ → Bool
 row_says test number = option_map_or (λ k. test (row_of k)) (kind_numbered number) false
 
 abbrev pub is_in_turn : Bool → ℕ → Bool

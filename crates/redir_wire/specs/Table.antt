@@ -13,10 +13,10 @@ use Rattle.redir_wire.specs.declared.kind.Kind.TheVariants.{Plain, Carrying}
 use Rattle.redir_wire.specs.declared.kind.More.{More}
 use Rattle.redir_wire.specs.declared.kind.Tail.{Tail}
 use Rattle.redir_wire.specs.declared.kind.Tail.TheVariants.{Nothing, Words, Data}
-use Rattle.redir_wire.specs.declared.kind.Row.{Row}
+use Rattle.redir_wire.specs.declared.kind.TypeRow.{TypeRow}
 use Rattle.redir_wire.specs.Capability.{has}
 
-abbrev pub of_type : ℕ → Option Way → Option ℕ → ℕ → Option More → Tail → Row
+abbrev pub of_type : ℕ → Option Way → Option ℕ → ℕ → Option More → Tail → TypeRow
 of_type number way wanted fixed more tail = record { number = number; way = way; wanted = wanted; fixed = fixed; more = more; tail = tail }
 
 -- so many bytes more with this capability
@@ -24,7 +24,7 @@ abbrev pub with : ℕ → ℕ → Option More
 with capability bytes = Some (record { capability = capability; bytes = bytes })
 
 -- a type's name in capitals, and what the protocol says of it
-abbrev pub plain_type : PlainKind → List ℕ × Row
+abbrev pub plain_type : PlainKind → List ℕ × TypeRow
 plain_type plain.Hello = (codes "HELLO", of_type 0 None None 64 None Words)
 plain_type plain.Connect = (codes "DEVICE_CONNECT", of_type 1 (Some ToGuest) None 8 (with 1 2) Nothing)
 plain_type plain.Disconnect = (codes "DEVICE_DISCONNECT", of_type 2 (Some ToGuest) None 0 None Nothing)
@@ -46,16 +46,16 @@ plain_type plain.InterruptStatus = (codes "INTERRUPT_RECEIVING_STATUS", of_type 
 plain_type plain.Cancel = (codes "CANCEL_DATA_PACKET", of_type 21 (Some ToHost) None 0 None Nothing)
 plain_type plain.DisconnectAck = (codes "DEVICE_DISCONNECT_ACK", of_type 24 (Some ToHost) (Some 3) 0 None Nothing)
 
-abbrev pub data_type : DataKind → List ℕ × Row
+abbrev pub data_type : DataKind → List ℕ × TypeRow
 data_type moving.Control = (codes "CONTROL", of_type 100 None None 10 None Data)
 data_type moving.Bulk = (codes "BULK", of_type 101 None None 8 (with 6 2) Data)
 data_type moving.Iso = (codes "ISO", of_type 102 None None 4 None Data)
 data_type moving.Interrupt = (codes "INTERRUPT", of_type 103 None None 4 None Data)
 
-abbrev pub plain_row : PlainKind → Row
+abbrev pub plain_row : PlainKind → TypeRow
 plain_row k = (plain_type k).1
 
-abbrev pub data_row : DataKind → Row
+abbrev pub data_row : DataKind → TypeRow
 data_row k = (data_type k).1
 
 abbrev pub plain_name : PlainKind → List ℕ
@@ -64,7 +64,7 @@ plain_name k = (plain_type k).0
 abbrev pub data_name : DataKind → List ℕ
 data_name k = (data_type k).0
 
-abbrev pub row_of : Kind → Row
+abbrev pub row_of : Kind → TypeRow
 row_of (Plain k) = plain_row k
 row_of (Carrying k) = data_row k
 
@@ -106,25 +106,25 @@ is_way ToGuest ToHost = false
 is_way ToHost ToGuest = false
 is_way ToHost ToHost = true
 
-abbrev pub goes : Way → Row → Bool
+abbrev pub goes : Way → TypeRow → Bool
 goes way r = option_map_or (is_way way) r.way true
 
-abbrev pub has_wanted : Caps → Row → Bool
+abbrev pub has_wanted : Caps → TypeRow → Bool
 has_wanted caps r = option_map_or (has caps) r.wanted true
 
 -- whether the fields are there that go with a capability
-abbrev pub has_more : Caps → Row → Bool
+abbrev pub has_more : Caps → TypeRow → Bool
 has_more caps r = option_map_or (λ (m : More). has caps m.capability) r.more false
 
 -- so many bytes are more than the fixed fields have without it
-abbrev pub is_longer : Row → ℕ → Bool
+abbrev pub is_longer : TypeRow → ℕ → Bool
 is_longer r length = nat_lt r.fixed length
 
 abbrev pub more_bytes : Caps → More → ℕ
 more_bytes caps m = if has caps m.capability then m.bytes else 0
 
 -- how many bytes the fixed fields have
-abbrev pub fixed_length : Caps → Row → ℕ
+abbrev pub fixed_length : Caps → TypeRow → ℕ
 fixed_length caps r = r.fixed + option_map_or (more_bytes caps) r.more 0
 
 -- behind a hello's text are at most 32 words; any data are behind the fields of a data packet
@@ -133,11 +133,11 @@ is_tail Nothing fixed length = length == fixed
 is_tail Words fixed length = nat_le fixed length && (nat_le length (fixed + 128) && ((length - fixed) % 4 == 0))
 is_tail Data fixed length = nat_le fixed length
 
-abbrev pub has_length : Caps → Row → ℕ → Bool
+abbrev pub has_length : Caps → TypeRow → ℕ → Bool
 has_length caps r length = is_tail r.tail (fixed_length caps r) length
 
 -- the capabilities of a row are bits, and its lengths small
-pub record AreBits (r : Row) : Type 0 where
+pub record AreBits (r : TypeRow) : Type 0 where
   pub wanted : IfSome r.wanted (λ bit. bit < 32)
   pub more : IfSome r.more (λ m. (m.capability < 32) × (m.bytes < 100))
   pub fixed : r.fixed < 200

@@ -71,7 +71,7 @@ pub enum Tail {
 
 /// What the protocol says of a type.
 #[derive(Clone, Copy)]
-pub struct Row {
+pub struct TypeRow {
     pub number: u32,
     /// The one way that it goes, or none where it goes both.
     pub way: Option<Way>,
@@ -116,7 +116,7 @@ impl PlainKind {
     }
 
     /// What the protocol says of it.
-    pub fn row(self) -> Row
+    pub fn row(self) -> TypeRow
         ensures { result ≡ plain_row self }
     {
         self.entry().1
@@ -130,7 +130,7 @@ impl PlainKind {
     }
 
     /// Its row of the table: its name, and what the protocol says of it.
-    fn entry(self) -> (&'static str, Row)
+    fn entry(self) -> (&'static str, TypeRow)
         ensures name { result.0.now ≡ plain_name self }
         ensures row { result.1 ≡ plain_row self }
     {
@@ -179,7 +179,7 @@ impl DataKind {
     }
 
     /// What the protocol says of it.
-    pub fn row(self) -> Row
+    pub fn row(self) -> TypeRow
         ensures { result ≡ data_row self }
     {
         self.entry().1
@@ -193,7 +193,7 @@ impl DataKind {
     }
 
     /// Its row of the table: its name, and what the protocol says of it.
-    fn entry(self) -> (&'static str, Row)
+    fn entry(self) -> (&'static str, TypeRow)
         ensures name { result.0.now ≡ data_name self }
         ensures row { result.1 ≡ data_row self }
     {
@@ -222,7 +222,7 @@ impl Kind {
     }
 
     /// What the protocol says of it.
-    pub fn row(self) -> Row
+    pub fn row(self) -> TypeRow
         ensures row { result ≡ row_of self }
         ensures bits { AreBits result }
     {
@@ -233,10 +233,10 @@ impl Kind {
     }
 }
 
-const fn both_ways(number: u32, fixed: u32, tail: Tail) -> Row
+const fn both_ways(number: u32, fixed: u32, tail: Tail) -> TypeRow
     ensures { result ≡ of_type number None None fixed None tail }
 {
-    Row {
+    TypeRow {
         number,
         way: None,
         wanted: None,
@@ -246,39 +246,39 @@ const fn both_ways(number: u32, fixed: u32, tail: Tail) -> Row
     }
 }
 
-const fn to_guest(number: u32, fixed: u32) -> Row
+const fn to_guest(number: u32, fixed: u32) -> TypeRow
     ensures { result ≡ of_type number (Some Way.ToGuest) None fixed None Tail.Nothing }
 {
-    Row {
+    TypeRow {
         way: Some(Way::ToGuest),
         ..both_ways(number, fixed, Tail::Nothing)
     }
 }
 
-const fn to_host(number: u32, fixed: u32) -> Row
+const fn to_host(number: u32, fixed: u32) -> TypeRow
     ensures { result ≡ of_type number (Some Way.ToHost) None fixed None Tail.Nothing }
 {
-    Row {
+    TypeRow {
         way: Some(Way::ToHost),
         ..both_ways(number, fixed, Tail::Nothing)
     }
 }
 
-impl Row {
+impl TypeRow {
     /// The same with so many bytes more where this capability is there.
-    const fn with(self, capability: u32, bytes: u32) -> Row
+    const fn with(self, capability: u32, bytes: u32) -> TypeRow
         ensures { result ≡ of_type self.number self.way self.wanted self.fixed (with capability bytes) self.tail }
     {
         let more = Some(More { capability, bytes });
-        Row { more, ..self }
+        TypeRow { more, ..self }
     }
 
     /// The same, sent only with this capability.
-    const fn wanting(self, capability: u32) -> Row
+    const fn wanting(self, capability: u32) -> TypeRow
         ensures { result ≡ of_type self.number self.way (Some capability) self.fixed self.more self.tail }
     {
         let wanted = Some(capability);
-        Row { wanted, ..self }
+        TypeRow { wanted, ..self }
     }
 
     /// Whether such packets go this way.

@@ -18,7 +18,7 @@ pub use capability::{
 };
 pub use field::{FieldWriter, Wire};
 pub use header::{MAX_LENGTH, header_size, read_header};
-pub use kind::{DataKind, Kind, More, PlainKind, Row, Tail, is_left_out};
+pub use kind::{DataKind, Kind, More, PlainKind, Tail, TypeRow, is_left_out};
 pub use laws::{headers_sound, plain_sound, read_again, read_by_parts};
 pub use next::next_control;
 pub use packet::{

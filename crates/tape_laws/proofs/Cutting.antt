@@ -10,7 +10,7 @@ use Rattle.gate_outside.specs.declared.turn.Polled.{Polled}
 use Rattle.gate_outside.specs.declared.turn.Polled.TheVariants.{Took, NotYet, Ended, Failed}
 use Rattle.gate_outside.specs.Turns.{pending, answer, given}
 use Rattle.bridge_run.specs.declared.serve_end.ServeEnd.TheVariants as end
-use Rattle.bridge_run.specs.Events.{Event}
+use Rattle.bridge_run.specs.Events.{LinkEvent}
 use Rattle.bridge_run.specs.Prescribed.{Prescribed, gained}
 use Rattle.bridge_run.specs.Recorded.{lines_of}
 use Rattle.bridge_run.specs.Course.{Setting, Course, Next, Making, AtDoor, AtClient, AtHost, AtEnd, Takes}
@@ -18,7 +18,7 @@ use Rattle.bridge_run.specs.Calls.{Outcome, Goes, Stops, room, come, turned, hea
 use Rattle.bridge_run.specs.Log.{IsFront}
 use Rattle.bridge_run.specs.Ups.{client_at, host_at, client_behind, to_clients}
 use Rattle.bridge_run.proofs.lemmas.events.Settle.{take-course}
-use Rattle.usbgate_commands.specs.Serving.{Asked}
+use Rattle.usbgate_commands.specs.Serving.{ServeSettings}
 use Rattle.tape_laws.specs.Recordings.{recorded, served}
 use Rattle.tape_laws.specs.Plays.{EndsTape, AreLines}
 use Rattle.tape_laws.specs.Ups.{host_behind, to_host}
@@ -68,13 +68,13 @@ no-bytes (x ∷ xs) ys is = cc
 -- ---- where a tape ends
 
 -- behind these lines are those of some more of the events, and then less than those of the next one
-pub record CutAt (asked : Asked) (taped later : List Event) (more : List ℕ) : Type 0 where
-  pub first : List Event
+pub record CutAt (asked : ServeSettings) (taped later : List LinkEvent) (more : List ℕ) : Type 0 where
+  pub first : List LinkEvent
   pub rest : List ℕ
   pub parts : recorded (served asked) taped ++ more ≡ recorded (served asked) (first ++ taped) ++ rest
   pub ends : EndsTape asked (first ++ taped) (later ++ taped) rest
 
-one-more : (asked : Asked) (taped : List Event) (e : Event) (later : List Event) (more : List ℕ) (b : ℕ) (behind : List ℕ) → recorded (served asked) (later ++ taped) ≡ recorded (served asked) taped ++ more ++ (b ∷ behind)
+one-more : (asked : ServeSettings) (taped : List LinkEvent) (e : LinkEvent) (later : List LinkEvent) (more : List ℕ) (b : ℕ) (behind : List ℕ) → recorded (served asked) (later ++ taped) ≡ recorded (served asked) taped ++ more ++ (b ∷ behind)
     → CutAt asked taped later more → CutAt asked taped (e ∷ later) more
 one-more asked taped e later more b behind is c = record { first = c.first; rest = c.rest; parts = c.parts; ends = go c.ends }
   where
@@ -82,11 +82,11 @@ one-more asked taped e later more b behind is c = record { first = c.first; rest
     go (inl x) =
         absurd (nothing-behind (recorded (served asked) taped ++ more) b behind
         (c.parts ∙ ap (λ (l : List ℕ). recorded (served asked) (c.first ++ taped) ++ l) x.1 ∙ append-nil (recorded (served asked) (c.first ++ taped))
-        ∙ ap (λ (l : List Event). recorded (served asked) l) (sym x.0) ∙ is))
-    go (inr x) = inr (record { event = x.event; after = e ∷ x.after; taken-are = ap (λ (l : List Event). e ∷ l) x.taken-are; missing = x.missing; lost = x.lost; lines-are = x.lines-are })
+        ∙ ap (λ (l : List LinkEvent). recorded (served asked) l) (sym x.0) ∙ is))
+    go (inr x) = inr (record { event = x.event; after = e ∷ x.after; taken-are = ap (λ (l : List LinkEvent). e ∷ l) x.taken-are; missing = x.missing; lost = x.lost; lines-are = x.lines-are })
 
 -- within the lines of the latest event, or behind all of them
-at-latest : (asked : Asked) (taped : List Event) (e : Event) (later : List Event) (more lost : List ℕ) → IsWithin (recorded (served asked) (later ++ taped)) (recorded (served asked) taped ++ more) (lines_of e (gained (served asked).refusals (later ++ taped) e)) lost
+at-latest : (asked : ServeSettings) (taped : List LinkEvent) (e : LinkEvent) (later : List LinkEvent) (more lost : List ℕ) → IsWithin (recorded (served asked) (later ++ taped)) (recorded (served asked) taped ++ more) (lines_of e (gained (served asked).refusals (later ++ taped) e)) lost
     → CutAt asked taped (e ∷ later) more
 at-latest asked taped e later more [] x = record {
   first = e ∷ later;
@@ -101,13 +101,13 @@ at-latest asked taped e later more (b ∷ lost) x = record {
   ends = inr (record { event = e; after = []; taken-are = refl; missing = b; lost = lost; lines-are = x.parts });
 }
 
-behind-latest : (asked : Asked) (taped : List Event) (e : Event) (later : List Event) (more lost : List ℕ) → ((left : List ℕ) → recorded (served asked) (later ++ taped) ≡ recorded (served asked) taped ++ more ++ left → CutAt asked taped later more)
+behind-latest : (asked : ServeSettings) (taped : List LinkEvent) (e : LinkEvent) (later : List LinkEvent) (more lost : List ℕ) → ((left : List ℕ) → recorded (served asked) (later ++ taped) ≡ recorded (served asked) taped ++ more ++ left → CutAt asked taped later more)
     → Exceeds (recorded (served asked) (later ++ taped)) (recorded (served asked) taped ++ more) ⊎ IsWithin (recorded (served asked) (later ++ taped)) (recorded (served asked) taped ++ more) (lines_of e (gained (served asked).refusals (later ++ taped) e)) lost
     → CutAt asked taped (e ∷ later) more
 behind-latest asked taped e later more lost before (inl x) = one-more asked taped e later more x.next x.more x.is (before (x.next ∷ x.more) x.is)
 behind-latest asked taped e later more lost before (inr x) = at-latest asked taped e later more lost x
 
-pub cut-at : (asked : Asked) (taped later : List Event) (more lost : List ℕ) → recorded (served asked) (later ++ taped) ≡ recorded (served asked) taped ++ more ++ lost → CutAt asked taped later more
+pub cut-at : (asked : ServeSettings) (taped later : List LinkEvent) (more lost : List ℕ) → recorded (served asked) (later ++ taped) ≡ recorded (served asked) taped ++ more ++ lost → CutAt asked taped later more
 cut-at asked taped [] more lost is =
     let none : more ≡ [] =
     no-bytes more lost (sym (append_cancel_left (recorded (served asked) taped) [] (more ++ lost) (append-nil (recorded (served asked) taped) ∙ is ∙ append_assoc (recorded (served asked) taped) more lost))) in
@@ -123,27 +123,27 @@ cut-at asked taped (e ∷ later) more lost is =
 
 -- ---- what the first of some events record and send
 
-pub are-lines : (asked : Asked) (events : List Event) → AreLines asked events (recorded (served asked) events)
+pub are-lines : (asked : ServeSettings) (events : List LinkEvent) → AreLines asked events (recorded (served asked) events)
 are-lines asked [] = refl
 are-lines asked (e ∷ events) = inl refl
 
-fit-behind : (xs ys : List Event) → AllFit (xs ++ ys) → AllFit ys
+fit-behind : (xs ys : List LinkEvent) → AllFit (xs ++ ys) → AllFit ys
 fit-behind [] ys fit = fit
 fit-behind (x ∷ xs) ys fit = fit-behind xs ys fit.1
 
-pub ends-fit : (asked : Asked) (events taken : List Event) (more : List ℕ) → EndsTape asked events taken more → AllFit taken → AllFit events
+pub ends-fit : (asked : ServeSettings) (events taken : List LinkEvent) (more : List ℕ) → EndsTape asked events taken more → AllFit taken → AllFit events
 ends-fit asked events taken more (inl x) fit = subst AllFit x.0 fit
 ends-fit asked events taken more (inr x) fit = (fit-behind x.after (x.event ∷ events) (subst AllFit x.taken-are fit)).1
 
 front-more : (front all more whole : List ℕ) → IsFront front all → whole ≡ all ++ more → IsFront front whole
 front-more front all more whole f is = (f.0 ++ more, is ∙ ap (λ (l : List ℕ). l ++ more) f.1 ∙ append_assoc front f.0 more)
 
-pub client-front : (p : Prescribed) (first taped : List Event) → IsFront (to_clients p taped) (to_clients p (first ++ taped))
+pub client-front : (p : Prescribed) (first taped : List LinkEvent) → IsFront (to_clients p taped) (to_clients p (first ++ taped))
 client-front p [] taped = ([], sym (append-nil (to_clients p taped)))
 client-front p (e ∷ first) taped =
     front-more (to_clients p taped) (to_clients p (first ++ taped)) (cond (client_at e (client_behind p (first ++ taped))) (gained p.to_client (first ++ taped) e) []) (to_clients p (e ∷ (first ++ taped))) (client-front p first taped) refl
 
-pub host-front : (p : Prescribed) (first taped : List Event) → IsFront (to_host p taped) (to_host p (first ++ taped))
+pub host-front : (p : Prescribed) (first taped : List LinkEvent) → IsFront (to_host p taped) (to_host p (first ++ taped))
 host-front p [] taped = ([], sym (append-nil (to_host p taped)))
 host-front p (e ∷ first) taped =
     front-more (to_host p taped) (to_host p (first ++ taped)) (cond (host_at e (host_behind p (first ++ taped))) (gained p.to_host (first ++ taped) e) []) (to_host p (e ∷ (first ++ taped))) (host-front p first taped) refl
@@ -168,7 +168,7 @@ heard-same Host next Ended bytes c = refl
 heard-same side next Failed bytes c = refl
 
 -- the events behind a call are those before it, or one more
-pub call-takes : (s : Setting) (next : Next) (c : Course) → (new : List Event) × ((course_of (call s next c)).events ≡ new ++ c.events)
+pub call-takes : (s : Setting) (next : Next) (c : Course) → (new : List LinkEvent) × ((course_of (call s next c)).events ≡ new ++ c.events)
 call-takes s Making c = ([], refl)
 call-takes s AtDoor c = ([], if-same c.client_up (Goes AtClient c) (come c.clients c) c refl (come-same c.clients c))
 call-takes s AtClient c = ([], if-same c.client_up (poll Client c.client AtHost c) (Goes AtHost c) c (heard-same Client AtHost (answer room (pending c.client)) (given room (pending c.client)) (turned Client c)) refl)

@@ -8,7 +8,7 @@ use Rattle.session_tape.specs.Tapes.{Counts}
 use Rattle.session_tape.specs.Lines.{first_comment}
 use Rattle.bridge_run.specs.declared.serve_end.ServeEnd.{ServeEnd}
 use Rattle.bridge_run.specs.declared.serve_end.ServeEnd.TheVariants as end
-use Rattle.bridge_run.specs.Events.{Event}
+use Rattle.bridge_run.specs.Events.{LinkEvent}
 use Rattle.bridge_run.specs.Course.{Course, Next, Making, AtDoor, AtClient, AtHost, AtEnd, Takes}
 use Rattle.bridge_run.specs.Calls.{Outcome, Goes, Stops, call, course_of}
 use Rattle.bridge_run.specs.Outside.{Outside, Written, Faults, written, Tells, IsBetween, IsRecordedInPart, IsRecordedUntold, HasLines, Cut}
@@ -23,7 +23,7 @@ use Rattle.usbgate_tapes.specs.tape.TapeCommand.{tape_limit, Reading, last_text}
 use Rattle.usbgate_tapes.specs.tape.EventCommand.{over_events}
 use Rattle.usbgate_tapes.specs.Replay.{replay}
 use Rattle.usbgate_commands.specs.Recording.{IsUnmade}
-use Rattle.usbgate_commands.specs.Serving.{Asked}
+use Rattle.usbgate_commands.specs.Serving.{ServeSettings}
 use Rattle.usbgate_commands.specs.Serves.{setting_of, ended_as, IsUnrecorded, IsRecorded, Serves, ServesBy}
 use Rattle.bridge_run.specs.Recorded.{event_line, lines_of as event_lines}
 use Rattle.tape_laws.specs.Recordings.{recorded, served, all_replayed}
@@ -40,7 +40,7 @@ use Rattle.tape_laws.proofs.Recording.{recording, recording-comes, line-comes, r
 
 -- ---- a run that has ended by itself
 
-plays : (asked : Asked) (c d : Course) (e : ServeEnd) (new : Outside) (out : Written) (held : List ℕ) → Reaches (setting_of asked) (Goes Making c) (Stops e d) → Tells new out d → out.tape ≡ Some held → length held ≤ tape_limit
+plays : (asked : ServeSettings) (c d : Course) (e : ServeEnd) (new : Outside) (out : Written) (held : List ℕ) → Reaches (setting_of asked) (Goes Making c) (Stops e d) → Tells new out d → out.tape ≡ Some held → length held ≤ tape_limit
     → d.waiting ≡ [] → Stands (served asked) (first_comment asked.first_id) d → Plays asked c new held
 plays asked c d e new out held reaches tells tape-is room none s =
     let held-tape : (held ≡ d.recorded) × (out.waiting ≡ d.waiting) = subst (λ (o : Option (List ℕ)). IfSome o (λ (l : List ℕ). (l ≡ d.recorded) × (out.waiting ≡ d.waiting))) tape-is tells.tape in
@@ -66,10 +66,10 @@ plays asked c d e new out held reaches tells tape-is room none s =
 -- ---- a run that was cut short
 
 -- where memory may have run out within an event, by how the run ended
-abbrev stopping : Asked → ServeEnd → List Event → Event → List ℕ → List ℕ → Type 0
+abbrev stopping : ServeSettings → ServeEnd → List LinkEvent → LinkEvent → List ℕ → List ℕ → Type 0
 stopping asked x = MayRunOut x (gate_runs_out asked.first_id) (served asked)
 
-ran-within : (asked : Asked) (x : ServeEnd) (events : List Event) (e : Event) (client host : List ℕ) → stopping asked x events e client host → RanOutWithin (gate_runs_out asked.first_id) (served asked) events e client host
+ran-within : (asked : ServeSettings) (x : ServeEnd) (events : List LinkEvent) (e : LinkEvent) (client host : List ℕ) → stopping asked x events e client host → RanOutWithin (gate_runs_out asked.first_id) (served asked) events e client host
 ran-within asked end.Memory events e client host so = so
 ran-within asked (end.LinkFault side) events e client host so = so
 ran-within asked end.WriteFault events e client host so = absurd so
@@ -78,9 +78,9 @@ ran-within asked end.Idle events e client host so = absurd so
 ran-within asked end.Spent events e client host so = absurd so
 
 -- what the lines of a course's events and its links have
-record Facts (asked : Asked) (d : Course) : Type 0 where
-  pub taped : List Event
-  pub later : List Event
+record Facts (asked : ServeSettings) (d : Course) : Type 0 where
+  pub taped : List LinkEvent
+  pub later : List LinkEvent
   pub events-are : d.events ≡ later ++ taped
   pub fit : AllFit taped
   pub recorded-is : d.recorded ≡ recording asked taped
@@ -88,7 +88,7 @@ record Facts (asked : Asked) (d : Course) : Type 0 where
   pub lost : List ℕ
   pub host-is : to_host (served asked) taped ≡ d.to_host ++ lost
 
-stands-facts : (asked : Asked) (d : Course) (up host_up : Bool) → Holds (served asked) (first_comment asked.first_id) up host_up (course.seen d) → Facts asked d
+stands-facts : (asked : ServeSettings) (d : Course) (up host_up : Bool) → Holds (served asked) (first_comment asked.first_id) up host_up (course.seen d) → Facts asked d
 stands-facts asked d up host_up h = record {
   taped = h.gathers.taped;
   later = h.gathers.later;
@@ -100,19 +100,19 @@ stands-facts asked d up host_up h = record {
   host-is = sym h.gathers.to_host-is ∙ sym h.to_host-is ∙ sym (append-nil d.to_host);
 }
 
-making-facts : (asked : Asked) (d : Course) → IsMaking (served asked) (first_comment asked.first_id) d → Facts asked d
+making-facts : (asked : ServeSettings) (d : Course) → IsMaking (served asked) (first_comment asked.first_id) d → Facts asked d
 making-facts asked d h = record {
   taped = d.events;
   later = [];
   events-are = refl;
   fit = subst AllFit (sym h.events-are) tt;
-  recorded-is = h.recorded-is ∙ sym (append-nil (first_comment asked.first_id)) ∙ sym (ap (λ (l : List Event). recording asked l) h.events-are);
+  recorded-is = h.recorded-is ∙ sym (append-nil (first_comment asked.first_id)) ∙ sym (ap (λ (l : List LinkEvent). recording asked l) h.events-are);
   client-is = h.to_client-is ∙ sym (ap (to_clients (served asked)) h.events-are);
   lost = (served asked).to_host [];
   host-is = ap (to_host (served asked)) h.events-are ∙ sym (ap (λ (l : List ℕ). l ++ (served asked).to_host []) h.to_host-is);
 }
 
-at-facts : (asked : Asked) (next : Next) (d : Course) → At (served asked) (first_comment asked.first_id) next d → Facts asked d
+at-facts : (asked : ServeSettings) (next : Next) (d : Course) → At (served asked) (first_comment asked.first_id) next d → Facts asked d
 at-facts asked Making d h = making-facts asked d h
 at-facts asked AtDoor d h = stands-facts asked d (client_behind (served asked) d.events) (host_behind (served asked) d.events) h
 at-facts asked AtClient d h = stands-facts asked d (client_behind (served asked) d.events) (host_behind (served asked) d.events) h
@@ -120,7 +120,7 @@ at-facts asked AtHost d h = stands-facts asked d (client_behind (served asked) d
 at-facts asked AtEnd d h = stands-facts asked d (client_behind (served asked) d.events) (host_behind (served asked) d.events) h
 at-facts asked (Takes e next) d h = stands-facts asked d (client_at e (client_behind (served asked) d.events)) (host_at e (host_behind (served asked) d.events)) h.holds
 
-outcome-facts : (asked : Asked) (o : Outcome) → course.Comes (served asked) (first_comment asked.first_id) o → Facts asked (course_of o)
+outcome-facts : (asked : ServeSettings) (o : Outcome) → course.Comes (served asked) (first_comment asked.first_id) o → Facts asked (course_of o)
 outcome-facts asked (Goes next d) h = at-facts asked next d h
 outcome-facts asked (Stops e d) h = stands-facts asked d (client_behind (served asked) d.events) (host_behind (served asked) d.events) h
 
@@ -145,14 +145,14 @@ front-longer known all whole w f = record {
 }
 
 -- the lines of all events of a course and its links have what these record and send
-record Whole (asked : Asked) (d : Course) : Type 0 where
+record Whole (asked : ServeSettings) (d : Course) : Type 0 where
   pub fit : AllFit d.events
   pub lines-are : recording asked d.events ≡ d.recorded ++ d.waiting
   pub client-is : to_clients (served asked) d.events ≡ d.to_client
   pub lost : List ℕ
   pub host-is : to_host (served asked) d.events ≡ d.to_host ++ lost
 
-stands-whole : (asked : Asked) (d : Course) (up host_up : Bool) → Holds (served asked) (first_comment asked.first_id) up host_up (course.seen d) → Whole asked d
+stands-whole : (asked : ServeSettings) (d : Course) (up host_up : Bool) → Holds (served asked) (first_comment asked.first_id) up host_up (course.seen d) → Whole asked d
 stands-whole asked d up host_up h = record {
   fit = h.fit;
   lines-are = h.gathers.all-is;
@@ -161,16 +161,16 @@ stands-whole asked d up host_up h = record {
   host-is = sym h.to_host-is ∙ sym (append-nil d.to_host);
 }
 
-making-whole : (asked : Asked) (d : Course) → IsMaking (served asked) (first_comment asked.first_id) d → Whole asked d
+making-whole : (asked : ServeSettings) (d : Course) → IsMaking (served asked) (first_comment asked.first_id) d → Whole asked d
 making-whole asked d h = record {
   fit = subst AllFit (sym h.events-are) tt;
-  lines-are = ap (λ (l : List Event). recording asked l) h.events-are ∙ append-nil (first_comment asked.first_id) ∙ sym h.recorded-is ∙ sym (append-nil d.recorded) ∙ ap (λ (l : List ℕ). d.recorded ++ l) (sym h.none_waits);
+  lines-are = ap (λ (l : List LinkEvent). recording asked l) h.events-are ∙ append-nil (first_comment asked.first_id) ∙ sym h.recorded-is ∙ sym (append-nil d.recorded) ∙ ap (λ (l : List ℕ). d.recorded ++ l) (sym h.none_waits);
   client-is = ap (to_clients (served asked)) h.events-are ∙ sym h.to_client-is;
   lost = (served asked).to_host [];
   host-is = ap (to_host (served asked)) h.events-are ∙ sym (ap (λ (l : List ℕ). l ++ (served asked).to_host []) h.to_host-is);
 }
 
-at-whole : (asked : Asked) (next : Next) (d : Course) → At (served asked) (first_comment asked.first_id) next d → Whole asked d
+at-whole : (asked : ServeSettings) (next : Next) (d : Course) → At (served asked) (first_comment asked.first_id) next d → Whole asked d
 at-whole asked Making d h = making-whole asked d h
 at-whole asked AtDoor d h = stands-whole asked d (client_behind (served asked) d.events) (host_behind (served asked) d.events) h
 at-whole asked AtClient d h = stands-whole asked d (client_behind (served asked) d.events) (host_behind (served asked) d.events) h
@@ -178,12 +178,12 @@ at-whole asked AtHost d h = stands-whole asked d (client_behind (served asked) d
 at-whole asked AtEnd d h = stands-whole asked d (client_behind (served asked) d.events) (host_behind (served asked) d.events) h
 at-whole asked (Takes e next) d h = stands-whole asked d (client_at e (client_behind (served asked) d.events)) (host_at e (host_behind (served asked) d.events)) h.holds
 
-outcome-whole : (asked : Asked) (o : Outcome) → course.Comes (served asked) (first_comment asked.first_id) o → Whole asked (course_of o)
+outcome-whole : (asked : ServeSettings) (o : Outcome) → course.Comes (served asked) (first_comment asked.first_id) o → Whole asked (course_of o)
 outcome-whole asked (Goes next d) h = at-whole asked next d h
 outcome-whole asked (Stops e d) h = stands-whole asked d (client_behind (served asked) d.events) (host_behind (served asked) d.events) h
 
 -- the events behind a call that was cut have their lines up to somewhere
-part : (asked : Asked) (c before : Course) (next : Next) (new : Outside) (held : List ℕ) → Reaches (setting_of asked) (Goes Making c) (Goes next before) → (taped later : List Event) (more lost : List ℕ)
+part : (asked : ServeSettings) (c before : Course) (next : Next) (new : Outside) (held : List ℕ) → Reaches (setting_of asked) (Goes Making c) (Goes next before) → (taped later : List LinkEvent) (more lost : List ℕ)
     → (course_of (call (setting_of asked) next before)).events ≡ later ++ taped → AllFit (course_of (call (setting_of asked) next before)).events → recorded (served asked) (later ++ taped) ≡ recorded (served asked) taped ++ more ++ lost
     → held ≡ recording asked taped ++ more → length held ≤ tape_limit → WroteFront new.client.written (to_clients (served asked) taped) → WroteFront new.host.written (to_host (served asked) taped) → PlaysInPart asked c new held
 part asked c before next new held reaches taped later more lost are fits whole is room client host =
@@ -191,7 +191,7 @@ part asked c before next new held reaches taped later more lost are fits whole i
     let first = first_comment asked.first_id in
     let x = cut-at asked taped later more lost whole in
     let events = x.first ++ taped in
-    let ends : EndsTape asked events (course_of (call (setting_of asked) next before)).events x.rest = subst (λ (l : List Event). EndsTape asked events l x.rest) (sym are) x.ends in
+    let ends : EndsTape asked events (course_of (call (setting_of asked) next before)).events x.rest = subst (λ (l : List LinkEvent). EndsTape asked events l x.rest) (sym are) x.ends in
     let held-is : held ≡ recording asked events ++ x.rest =
     is ∙ append_assoc first (recorded p taped) more ∙ ap (λ (l : List ℕ). first ++ l) x.parts ∙ sym (append_assoc first (recorded p events) x.rest) in
     let in_all : length (recording asked events ++ x.rest) ≤ tape_limit = subst (λ (l : List ℕ). length l ≤ tape_limit) held-is room in
@@ -221,7 +221,7 @@ behind-first first taped all more lost is =
     append_cancel_left first all (taped ++ more ++ lost) (is ∙ append_assoc first taped (more ++ lost) ∙ ap (λ (l : List ℕ). first ++ l) (sym (append_assoc taped more lost)))
 
 -- all lines of the call's event are there
-recorded-all : (asked : Asked) (x : ServeEnd) (c before : Course) (next : Next) (new : Outside) (out : Written) (held : List ℕ) → Reaches (setting_of asked) (Goes Making c) (Goes next before)
+recorded-all : (asked : ServeSettings) (x : ServeEnd) (c before : Course) (next : Next) (new : Outside) (out : Written) (held : List ℕ) → Reaches (setting_of asked) (Goes Making c) (Goes next before)
     → Cut (stopping asked x) new out before (course_of (call (setting_of asked) next before)) → held ≡ (course_of (call (setting_of asked) next before)).recorded → length held ≤ tape_limit → Facts asked (course_of (call (setting_of asked) next before))
     → Whole asked (course_of (call (setting_of asked) next before)) → PlaysInPart asked c new held
 recorded-all asked x c before next new out held reaches cut is room f w =
@@ -229,14 +229,14 @@ recorded-all asked x c before next new out held reaches cut is room f w =
     let behind = course_of (call (setting_of asked) next before) in
     let taped = f.taped in
     let whole : first_comment asked.first_id ++ recorded p (f.later ++ taped) ≡ first_comment asked.first_id ++ recorded p taped ++ ([] ++ behind.waiting) =
-    ap (λ (l : List Event). recording asked l) (sym f.events-are) ∙ w.lines-are ∙ ap (λ (l : List ℕ). l ++ behind.waiting) f.recorded-is in
+    ap (λ (l : List LinkEvent). recording asked l) (sym f.events-are) ∙ w.lines-are ∙ ap (λ (l : List ℕ). l ++ behind.waiting) f.recorded-is in
     part asked c before next new held reaches taped f.later [] behind.waiting f.events-are w.fit (behind-first (first_comment asked.first_id) (recorded p taped) (recorded p (f.later ++ taped)) [] behind.waiting whole)
     (is ∙ f.recorded-is ∙ sym (append-nil (recording asked taped))) room
     (front-between new.client.written before.to_client behind.to_client (to_clients p taped) [] cut.to_client (sym f.client-is ∙ sym (append-nil behind.to_client)))
     (front-between new.host.written before.to_host behind.to_host (to_host p taped) f.lost cut.to_host f.host-is)
 
 -- the lines of the call's event are there in part
-recorded-some : (asked : Asked) (c before : Course) (next : Next) (new : Outside) (out : Written) (held : List ℕ) → Reaches (setting_of asked) (Goes Making c) (Goes next before)
+recorded-some : (asked : ServeSettings) (c before : Course) (next : Next) (new : Outside) (out : Written) (held : List ℕ) → Reaches (setting_of asked) (Goes Making c) (Goes next before)
     → IsRecordedInPart new out before (course_of (call (setting_of asked) next before)) held → length held ≤ tape_limit → Facts asked before → Whole asked (course_of (call (setting_of asked) next before)) → PlaysInPart asked c new held
 recorded-some asked c before next new out held reaches some room f w =
     let p = served asked in
@@ -245,9 +245,9 @@ recorded-some asked c before next new out held reaches some room f w =
     let taped = f.taped in
     let taken = call-takes (setting_of asked) next before in
     let later = taken.0 ++ f.later in
-    let are : behind.events ≡ later ++ taped = taken.1 ∙ ap (λ (l : List Event). taken.0 ++ l) f.events-are ∙ sym (append_assoc taken.0 f.later taped) in
+    let are : behind.events ≡ later ++ taped = taken.1 ∙ ap (λ (l : List LinkEvent). taken.0 ++ l) f.events-are ∙ sym (append_assoc taken.0 f.later taped) in
     let whole : first ++ recorded p (later ++ taped) ≡ first ++ recorded p taped ++ (some.more ++ (some.lost ++ behind.waiting)) =
-    ap (λ (l : List Event). recording asked l) (sym are) ∙ w.lines-are ∙ ap (λ (l : List ℕ). l ++ behind.waiting) some.all-is
+    ap (λ (l : List LinkEvent). recording asked l) (sym are) ∙ w.lines-are ∙ ap (λ (l : List ℕ). l ++ behind.waiting) some.all-is
     ∙ append_assoc (before.recorded ++ some.more) some.lost behind.waiting ∙ append_assoc before.recorded some.more (some.lost ++ behind.waiting)
     ∙ ap (λ (l : List ℕ). l ++ (some.more ++ (some.lost ++ behind.waiting))) f.recorded-is in
     part asked c before next new held reaches taped later some.more (some.lost ++ behind.waiting) are w.fit (behind-first first (recorded p taped) (recorded p (later ++ taped)) some.more (some.lost ++ behind.waiting) whole)
@@ -258,7 +258,7 @@ recorded-some asked c before next new out held reaches some room f w =
 -- ---- memory ran out in an event
 
 -- the event's own line is there
-recorded-line : (asked : Asked) (x : ServeEnd) (c before : Course) (next : Next) (new : Outside) (out : Written) (held : List ℕ) → Reaches (setting_of asked) (Goes Making c) (Goes next before)
+recorded-line : (asked : ServeSettings) (x : ServeEnd) (c before : Course) (next : Next) (new : Outside) (out : Written) (held : List ℕ) → Reaches (setting_of asked) (Goes Making c) (Goes next before)
     → Cut (stopping asked x) new out before (course_of (call (setting_of asked) next before)) → IsRecordedUntold (stopping asked x) new out before (course_of (call (setting_of asked) next before)) held → length held ≤ tape_limit → Whole asked before
     → Whole asked (course_of (call (setting_of asked) next before)) → PlaysInPart asked c new held
 recorded-line asked x c before next new out held reaches cut line room b f =
@@ -291,7 +291,7 @@ recorded-line asked x c before next new out held reaches cut line room b f =
       host = front-between new.host.written before.to_host behind.to_host (to_host p events) f.lost cut.to_host (ap (to_host p) (sym line.takes) ∙ f.host-is);
     }
 
-cut-plays : (asked : Asked) (x : ServeEnd) (c before : Course) (next : Next) (new : Outside) (out : Written) (held : List ℕ) → Reaches (setting_of asked) (Goes Making c) (Goes next before)
+cut-plays : (asked : ServeSettings) (x : ServeEnd) (c before : Course) (next : Next) (new : Outside) (out : Written) (held : List ℕ) → Reaches (setting_of asked) (Goes Making c) (Goes next before)
     → Cut (stopping asked x) new out before (course_of (call (setting_of asked) next before)) → out.tape ≡ Some held → length held ≤ tape_limit → At (served asked) (first_comment asked.first_id) next before → PlaysInPart asked c new held
 cut-plays asked x c before next new out held reaches cut tape-is room at-next = go (subst (λ (o : Option (List ℕ)). IfSome o (λ (l : List ℕ). HasLines (stopping asked x) new out before behind l)) tape-is cut.tape)
   where
@@ -311,7 +311,7 @@ cut-plays asked x c before next new out held reaches cut tape-is room at-next = 
 
 -- ---- each end
 
-fresh-making : (asked : Asked) (c : Course) → IsFresh asked c → IsMaking (served asked) (first_comment asked.first_id) c
+fresh-making : (asked : ServeSettings) (c : Course) → IsFresh asked c → IsMaking (served asked) (first_comment asked.first_id) c
 fresh-making asked c f = record {
   events-are = f.begins.events;
   client_up-is = f.begins.client_down;
@@ -324,17 +324,17 @@ fresh-making asked c f = record {
   host = f.host;
 }
 
-reached : (asked : Asked) (c : Course) (o : Outcome) → IsFresh asked c → Reaches (setting_of asked) (Goes Making c) o → course.Comes (served asked) (first_comment asked.first_id) o
+reached : (asked : ServeSettings) (c : Course) (o : Outcome) → IsFresh asked c → Reaches (setting_of asked) (Goes Making c) o → course.Comes (served asked) (first_comment asked.first_id) o
 reached asked c o f r =
     subst (course.Comes (served asked) (first_comment asked.first_id)) r.is (calls-come (setting_of asked) (first_comment asked.first_id) r.count (Goes Making c) (fresh-making asked c f))
 
-ended-plays : (asked : Asked) (c : Course) (e : ServeEnd) (new : Outside) (out : Written) (held : List ℕ) → ((d : Course) → NoneWaits e d → d.waiting ≡ []) → IsFresh asked c → out.tape ≡ Some held → length held ≤ tape_limit → EndsSo (setting_of asked) (Goes Making c) e new out → Plays asked c new held
+ended-plays : (asked : ServeSettings) (c : Course) (e : ServeEnd) (new : Outside) (out : Written) (held : List ℕ) → ((d : Course) → NoneWaits e d → d.waiting ≡ []) → IsFresh asked c → out.tape ≡ Some held → length held ≤ tape_limit → EndsSo (setting_of asked) (Goes Making c) e new out → Plays asked c new held
 ended-plays asked c e new out held none f tape-is room x = plays asked c x.course e new out held x.reaches x.tells tape-is room (none x.course (ended-waiting (setting_of asked) Making c e x.course x.reaches)) (reached asked c (Stops e x.course) f x.reaches)
 
-short-plays : (asked : Asked) (e : ServeEnd) (c : Course) (new : Outside) (out : Written) (held : List ℕ) → IsFresh asked c → out.tape ≡ Some held → length held ≤ tape_limit → CutShort e (gate_runs_out asked.first_id) (setting_of asked) (Goes Making c) new out → PlaysInPart asked c new held
+short-plays : (asked : ServeSettings) (e : ServeEnd) (c : Course) (new : Outside) (out : Written) (held : List ℕ) → IsFresh asked c → out.tape ≡ Some held → length held ≤ tape_limit → CutShort e (gate_runs_out asked.first_id) (setting_of asked) (Goes Making c) new out → PlaysInPart asked c new held
 short-plays asked e c new out held f tape-is room x = cut-plays asked e c x.course x.next new out held x.reaches x.cut tape-is room (reached asked c (Goes x.next x.course) f x.reaches)
 
-end-replays : (asked : Asked) (c : Course) (e : ServeEnd) (new : Outside) (out : Written) (held : List ℕ) → IsFresh asked c → out.tape ≡ Some held → length held ≤ tape_limit → Leaves e (gate_runs_out asked.first_id) (setting_of asked) (Goes Making c) new out
+end-replays : (asked : ServeSettings) (c : Course) (e : ServeEnd) (new : Outside) (out : Written) (held : List ℕ) → IsFresh asked c → out.tape ≡ Some held → length held ≤ tape_limit → Leaves e (gate_runs_out asked.first_id) (setting_of asked) (Goes Making c) new out
     → Replays (ended_as e) asked c new held
 end-replays asked c (end.Ended None) new out held f tape-is room x = ended-plays asked c (end.Ended None) new out held (λ d h. h) f tape-is room x
 end-replays asked c (end.Ended (Some r)) new out held f tape-is room x = ended-plays asked c (end.Ended (Some r)) new out held (λ d h. h) f tape-is room x
@@ -346,13 +346,13 @@ end-replays asked c end.Memory new out held f tape-is room x = inr (short-plays 
 
 -- ---- nothing was done
 
-untouched : (asked : Asked) (c : Course) (old : Outside) (out : Written) → IsFresh asked c → Tells old out c → IsUnserved old
+untouched : (asked : ServeSettings) (c : Course) (old : Outside) (out : Written) → IsFresh asked c → Tells old out c → IsUnserved old
 untouched asked c old out f tells = record {
   client = tells.client.written-is ∙ ap (λ (l : List ℕ). Some l) f.no_client;
   host = tells.host.written-is ∙ ap (λ (l : List ℕ). Some l) f.no_host;
 }
 
-unmade-replays : (status : Status) (asked : Asked) (c : Course) (new : Outside) (held : List ℕ) (t t' : Counts) → IsUnmade status t t' → IsUnserved new → Replays status asked c new held
+unmade-replays : (status : Status) (asked : ServeSettings) (c : Course) (new : Outside) (held : List ℕ) (t t' : Counts) → IsUnmade status t t' → IsUnserved new → Replays status asked c new held
 unmade-replays Usage asked c new held t t' is x = x
 unmade-replays WriteFault asked c new held t t' is x = inl x
 unmade-replays OutOfMemory asked c new held t t' is x = inl x
@@ -370,7 +370,7 @@ told-line : (known : Option (List ℕ)) (line recorded waiting : List ℕ) → I
 told-line None line recorded waiting h is none = tt
 told-line (Some l) line recorded waiting h is none = (h ∙ sym is, sym none)
 
-pub replays : (status : Status) (asked : Asked) (name : List ℕ) (old new : Outside) (f f' : Faults) (w w' : Written) (c : Course) (held : List ℕ) → asked.recording ≡ Some name → Serves status asked old new f f' w w' → IsFresh asked c
+pub replays : (status : Status) (asked : ServeSettings) (name : List ℕ) (old new : Outside) (f f' : Faults) (w w' : Written) (c : Course) (held : List ℕ) → asked.recording ≡ Some name → Serves status asked old new f f' w w' → IsFresh asked c
     → Tells old (written w.begun w.told None) c → w'.tape ≡ Some held → length held ≤ tape_limit → Replays status asked c new held
 replays status asked name old new f f' w w' c held asks serves fresh tells tape-is room = go (subst (λ (o : Option (List ℕ)). ServesBy o asked status old new f f' w w') asks serves)
   where

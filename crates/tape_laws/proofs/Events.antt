@@ -16,7 +16,7 @@ use Rattle.packet_show.specs.declared.tape.TapeLine.{TapeLine}
 use Rattle.packet_show.specs.declared.tape.TapeLine.TheVariants as tape
 use Rattle.packet_show.specs.declared.tape.TapeKind.TheVariants.{Replay}
 use Rattle.packet_show.specs.Tape.{tape_line, bytes_of, some_bytes}
-use Rattle.bridge_run.specs.Events.{Event, ClientComes, ClientPiece, ClientQuiet, ClientEnd, HostPiece, HostEnd}
+use Rattle.bridge_run.specs.Events.{LinkEvent, ClientComes, ClientPiece, ClientQuiet, ClientEnd, HostPiece, HostEnd}
 use Rattle.bridge_run.specs.Recorded.{lines_of}
 use Rattle.bridge_run.specs.Prescribed.{gained}
 use Rattle.bridge_run.specs.Gate.{gate_events, gate_notes}
@@ -26,7 +26,7 @@ use Rattle.usbgate_tapes.specs.tape.TapeCommand.{TapeCommand, tape_limit, Progre
 use Rattle.usbgate_tapes.specs.tape.EventCommand.{EventCommand, on_said, over_events}
 use Rattle.usbgate_tapes.specs.Replay.{replay}
 use Rattle.usbgate_tapes.specs.Run.{HasNoLF}
-use Rattle.usbgate_commands.specs.Serving.{Asked}
+use Rattle.usbgate_commands.specs.Serving.{ServeSettings}
 use Rattle.tape_laws.specs.Recordings.{recorded, served, replayed, all_replayed}
 use Rattle.usbgate_tapes.proofs.lemmas.tape.Lines.{HasNoLF-append}
 use Rattle.tape_laws.proofs.Spelled.{no-lf-tested, no-lf-hex, no-lf-refusal, refusal_words}
@@ -38,7 +38,7 @@ pub record IsPiece (bytes : List ℕ) : Type 0 where
   pub bytes-are : AreBytes bytes
 
 -- an event can be told in a tape behind these: nothing of the host comes after its end
-abbrev pub Fits : Event → List Event → Type 0
+abbrev pub Fits : LinkEvent → List LinkEvent → Type 0
 Fits ClientComes events = Unit {0}
 Fits (ClientPiece b) events = IsPiece b
 Fits ClientQuiet events = Unit {0}
@@ -46,13 +46,13 @@ Fits ClientEnd events = Unit {0}
 Fits (HostPiece b) events = IsPiece b × (host_ended (gate_events events) ≡ false)
 Fits HostEnd events = host_ended (gate_events events) ≡ false
 
-abbrev pub AllFit : List Event → Type 0
+abbrev pub AllFit : List LinkEvent → Type 0
 AllFit [] = Unit {0}
 AllFit (e ∷ events) = Fits e events × AllFit events
 
 -- ---- one line
 
-abbrev the_command : Asked → TapeCommand (List GateEvent)
+abbrev the_command : ServeSettings → TapeCommand (List GateEvent)
 the_command asked = over_events (replay asked.first_id)
 
 some-bytes : (bytes : List ℕ) → (bytes ≡ [] → ⊥) → some_bytes (Ok bytes) ≡ Some bytes
@@ -83,13 +83,13 @@ may command events e ended is = ap (λ (t : Bool). cond (not t) (told command ev
 -- ---- several lines
 
 -- these lines are read with this text, and then this is kept
-pub record Comes (asked : Asked) (from : Progress (List GateEvent)) (lines text : List ℕ) (kept : List GateEvent) : Type 0 where
+pub record Comes (asked : ServeSettings) (from : Progress (List GateEvent)) (lines text : List ℕ) (kept : List GateEvent) : Type 0 where
   pub to : Progress (List GateEvent)
   pub reads : Reads (over_events (replay asked.first_id)) from lines text to
   pub kept-is : to.kept ≡ kept
 
 -- a line, and then others
-then-comes : (asked : Asked) (from : Progress (List GateEvent)) (line later text more : List ℕ) (events kept : List GateEvent) → HasNoLF line → (the_command asked).line from.kept line ≡ Some (text, events)
+then-comes : (asked : ServeSettings) (from : Progress (List GateEvent)) (line later text more : List ℕ) (events kept : List GateEvent) → HasNoLF line → (the_command asked).line from.kept line ≡ Some (text, events)
     → from.bytes + length ((line ++ 10 ∷ []) ++ later) ≤ tape_limit
     → ((mid : Progress (List GateEvent)) → mid.kept ≡ events → mid.bytes + length later ≤ tape_limit → Comes asked mid later more kept) → Comes asked from ((line ++ 10 ∷ []) ++ later) (text ++ more) kept
 then-comes asked from line later text more events kept whole says room next =
@@ -105,14 +105,14 @@ then-comes asked from line later text more events kept whole says room next =
     }
 
 -- comments say nothing
-comments : (asked : Asked) (refusals : List Refusal) (from : Progress (List GateEvent)) → from.bytes + length (flat_map refusal_comment refusals) ≤ tape_limit → Comes asked from (flat_map refusal_comment refusals) [] from.kept
+comments : (asked : ServeSettings) (refusals : List Refusal) (from : Progress (List GateEvent)) → from.bytes + length (flat_map refusal_comment refusals) ≤ tape_limit → Comes asked from (flat_map refusal_comment refusals) [] from.kept
 comments asked [] from room = record { to = from; reads = reads-none (the_command asked) from; kept-is = refl }
 comments asked (r ∷ refusals) from room =
     then-comes asked from (35 ∷ 32 ∷ refusal_words r) (flat_map refusal_comment refusals) [] [] from.kept from.kept (HasNoLF-append (35 ∷ 32 ∷ []) (refusal_words r) (no-lf-tested (35 ∷ 32 ∷ []) refl) (no-lf-refusal r)) refl room
     (λ mid kept-is fits. let later = comments asked refusals mid fits in record { to = later.to; reads = later.reads; kept-is = later.kept-is ∙ kept-is })
 
 -- a line of an event, and then the comments of its refusals
-with-comments : (asked : Asked) (from : Progress (List GateEvent)) (line text : List ℕ) (events : List GateEvent) (refusals : List Refusal) → HasNoLF line → (the_command asked).line from.kept line ≡ Some (text, events)
+with-comments : (asked : ServeSettings) (from : Progress (List GateEvent)) (line text : List ℕ) (events : List GateEvent) (refusals : List Refusal) → HasNoLF line → (the_command asked).line from.kept line ≡ Some (text, events)
     → from.bytes + length ((line ++ 10 ∷ []) ++ flat_map refusal_comment refusals) ≤ tape_limit → Comes asked from ((line ++ 10 ∷ []) ++ flat_map refusal_comment refusals) text events
 with-comments asked from line text events refusals whole says room =
     let all = then-comes asked from line (flat_map refusal_comment refusals) text [] events events whole says room
@@ -131,13 +131,13 @@ says-nothing client host notes =
     ∙ ap (λ (l : List Note). sent_text [] [] l) (none-gained notes)
 
 -- what isn't an event of the gate's has no line of its own, and sends nothing
-unsaid : (asked : Asked) (refusals : List Refusal) (from : Progress (List GateEvent)) (text : List ℕ) (events : List GateEvent) → text ≡ [] → from.kept ≡ events → from.bytes + length (flat_map refusal_comment refusals) ≤ tape_limit
+unsaid : (asked : ServeSettings) (refusals : List Refusal) (from : Progress (List GateEvent)) (text : List ℕ) (events : List GateEvent) → text ≡ [] → from.kept ≡ events → from.bytes + length (flat_map refusal_comment refusals) ≤ tape_limit
     → Comes asked from (flat_map refusal_comment refusals) text events
 unsaid asked refusals from text events none kept-is room =
     let all = comments asked refusals from room in
     record { to = all.to; reads = subst (λ (l : List ℕ). Reads (the_command asked) from (flat_map refusal_comment refusals) l all.to) (sym none) all.reads; kept-is = all.kept-is ∙ kept-is }
 
-pub event-comes : (asked : Asked) (events : List Event) (e : Event) (refusals : List Refusal) (from : Progress (List GateEvent)) → Fits e events → from.kept ≡ gate_events events → from.bytes + length (lines_of e refusals) ≤ tape_limit
+pub event-comes : (asked : ServeSettings) (events : List LinkEvent) (e : LinkEvent) (refusals : List Refusal) (from : Progress (List GateEvent)) → Fits e events → from.kept ≡ gate_events events → from.bytes + length (lines_of e refusals) ≤ tape_limit
     → Comes asked from (lines_of e refusals) (replayed asked events e) (gate_events (e ∷ events))
 event-comes asked events ClientComes refusals from fits kept-is room = unsaid asked refusals from (replayed asked events ClientComes) (gate_events events) (says-nothing ((served asked).to_client events) ((served asked).to_host events) (gate_notes asked.first_id events)) kept-is room
 event-comes asked events ClientQuiet refusals from fits kept-is room = unsaid asked refusals from (replayed asked events ClientQuiet) (gate_events events) (says-nothing ((served asked).to_client events) ((served asked).to_host events) (gate_notes asked.first_id events)) kept-is room
@@ -160,7 +160,7 @@ event-comes asked events HostEnd refusals from fits kept-is room =
 
 -- ---- all events
 
-pub events-come : (asked : Asked) (events : List Event) (from : Progress (List GateEvent)) → AllFit events → from.kept ≡ [] → from.bytes + length (recorded (served asked) events) ≤ tape_limit
+pub events-come : (asked : ServeSettings) (events : List LinkEvent) (from : Progress (List GateEvent)) → AllFit events → from.kept ≡ [] → from.bytes + length (recorded (served asked) events) ≤ tape_limit
     → Comes asked from (recorded (served asked) events) (all_replayed asked events) (gate_events events)
 events-come asked [] from fit none room = record { to = from; reads = reads-none (the_command asked) from; kept-is = none }
 events-come asked (e ∷ events) from fit none room =

@@ -5,8 +5,8 @@ use Rattle.gate_outside.specs.declared.turn.Turn.{Turn}
 use Rattle.gate_outside.specs.declared.turn.Turn.TheVariants.{Piece, Wait, Fail}
 use Rattle.session_tape.specs.Lines.{first_comment}
 use Rattle.bridge_run.specs.Course.{Course}
-use Rattle.bridge_run.specs.Serves.{Begins}
-use Rattle.usbgate_commands.specs.Serving.{Asked}
+use Rattle.bridge_run.specs.Serves.{NothingYet}
+use Rattle.usbgate_commands.specs.Serving.{ServeSettings}
 use Rattle.usbgate_commands.specs.Serves.{budget}
 
 -- what a peer sends are bytes
@@ -21,8 +21,8 @@ AllSendBytes [] = Unit {0}
 AllSendBytes (turns ∷ peers) = SendBytes turns × AllSendBytes peers
 
 -- the tape has its first line, and the links have nothing
-pub record IsFresh (asked : Asked) (c : Course) : Type 0 where
-  pub begins : Begins asked.idle budget c
+pub record IsFresh (asked : ServeSettings) (c : Course) : Type 0 where
+  pub begins : NothingYet asked.idle budget c
   pub recorded-is : c.recorded ≡ first_comment asked.first_id
   pub no_client : c.to_client ≡ []
   pub no_host : c.to_host ≡ []

@@ -5,7 +5,7 @@ use Rattle.gate_history.specs.step.Events.{Event as GateEvent}
 use Rattle.gate_history.specs.step.History.{history}
 use Rattle.gate_history.specs.write.All.{counts_of}
 use Rattle.bridge_run.specs.declared.serve_end.ServeEnd.{ServeEnd}
-use Rattle.bridge_run.specs.Events.{Event}
+use Rattle.bridge_run.specs.Events.{LinkEvent}
 use Rattle.bridge_run.specs.Course.{Course, Next, Making}
 use Rattle.bridge_run.specs.Calls.{Goes, Stops, call, course_of}
 use Rattle.bridge_run.specs.Outside.{Outside}
@@ -22,22 +22,22 @@ use Rattle.usbgate_tapes.specs.tape.Tape.{lines_of as tape_lines}
 use Rattle.usbgate_tapes.specs.tape.TapeCommand.{Progress, Reading, read_lines, read_tape, last_text, tape_text}
 use Rattle.usbgate_tapes.specs.tape.EventCommand.{over_events}
 use Rattle.usbgate_tapes.specs.Replay.{replay}
-use Rattle.usbgate_commands.specs.Serving.{Asked}
+use Rattle.usbgate_commands.specs.Serving.{ServeSettings}
 use Rattle.usbgate_commands.specs.Serves.{setting_of}
 use Rattle.bridge_run.specs.Ups.{to_clients}
 use Rattle.tape_laws.specs.Ups.{to_host}
 use Rattle.tape_laws.specs.Recordings.{recorded, served, all_replayed}
 
 -- what `replay` reads of a tape, and what it prints for it
-abbrev pub read_of : Asked → List ℕ → Reading (List GateEvent)
+abbrev pub read_of : ServeSettings → List ℕ → Reading (List GateEvent)
 read_of asked tape = read_tape (over_events (replay asked.first_id)) tape
 
-abbrev pub text_of : Asked → List ℕ → List ℕ
+abbrev pub text_of : ServeSettings → List ℕ → List ℕ
 text_of asked tape = tape_text (over_events (replay asked.first_id)) tape
 
 -- The run has ended by itself. The tape has the lines of all events that it took, and is read as these. Its replay prints
 -- what each of them sends, and the links were written just that, where they were up.
-pub record Plays (asked : Asked) (c : Course) (new : Outside) (held : List ℕ) : Type 0 where
+pub record Plays (asked : ServeSettings) (c : Course) (new : Outside) (held : List ℕ) : Type 0 where
   pub end : ServeEnd
   pub course : Course
   pub reaches : Reaches (setting_of asked) (Goes Making c) (Stops end course)
@@ -58,43 +58,43 @@ pub record WroteFront (known : Option (List ℕ)) (all : List ℕ) : Type 0 wher
 -- ---- a run that was cut short
 
 -- memory may have run out in the latest event, and the comments of its refusals are missing
-pub record LacksComments (asked : Asked) (e : Event) (events : List Event) (lines : List ℕ) : Type 0 where
+pub record LacksComments (asked : ServeSettings) (e : LinkEvent) (events : List LinkEvent) (lines : List ℕ) : Type 0 where
   pub lines-are : lines ≡ recorded (served asked) events ++ event_line e
   pub client : List ℕ
   pub host : List ℕ
   pub ran_out : RanOutWithin (gate_runs_out asked.first_id) (served asked) events e client host
 
 -- the lines of these events
-abbrev pub AreLines : Asked → List Event → List ℕ → Type 0
+abbrev pub AreLines : ServeSettings → List LinkEvent → List ℕ → Type 0
 AreLines asked [] lines = lines ≡ []
 AreLines asked (e ∷ events) lines = (lines ≡ recorded (served asked) (e ∷ events)) ⊎ LacksComments asked e events lines
 
 -- more events were taken, and of the lines of the next one this is a front, and not the whole
-pub record IsCutIn (asked : Asked) (events taken : List Event) (more : List ℕ) : Type 0 where
-  pub event : Event
-  pub after : List Event
+pub record IsCutIn (asked : ServeSettings) (events taken : List LinkEvent) (more : List ℕ) : Type 0 where
+  pub event : LinkEvent
+  pub after : List LinkEvent
   pub taken-are : taken ≡ after ++ (event ∷ events)
   pub missing : ℕ
   pub lost : List ℕ
   pub lines-are : lines_of event (gained (served asked).refusals events event) ≡ more ++ (missing ∷ lost)
 
 -- all that were taken have their lines, or these alone, and a front of the next one's
-abbrev pub EndsTape : Asked → List Event → List Event → List ℕ → Type 0
+abbrev pub EndsTape : ServeSettings → List LinkEvent → List LinkEvent → List ℕ → Type 0
 EndsTape asked events taken more = ((taken ≡ events) × (more ≡ [])) ⊎ IsCutIn asked events taken more
 
 -- what `replay` prints for what stands behind lines that it has read
-abbrev pub rest_text : Asked → Progress (List GateEvent) → List ℕ → List ℕ
+abbrev pub rest_text : ServeSettings → Progress (List GateEvent) → List ℕ → List ℕ
 rest_text asked behind more =
     let command = over_events (replay asked.first_id) in let x = read_lines command behind (tape_lines more) in x.text ++ last_text command x
 
 -- The run was cut short, by a fault or for want of memory, within a call. The tape has the lines of the first of the
 -- events that were taken, by that call, too, and behind them less than the lines of the next one. Its replay prints what
 -- these first events send, and then what it makes of the rest; and of no other event was anything written to the links.
-pub record PlaysInPart (asked : Asked) (c : Course) (new : Outside) (held : List ℕ) : Type 0 where
+pub record PlaysInPart (asked : ServeSettings) (c : Course) (new : Outside) (held : List ℕ) : Type 0 where
   pub next : Next
   pub course : Course
   pub reaches : Reaches (setting_of asked) (Goes Making c) (Goes next course)
-  pub events : List Event
+  pub events : List LinkEvent
   pub lines : List ℕ
   pub more : List ℕ
   pub are_lines : AreLines asked events lines
@@ -112,7 +112,7 @@ pub record IsUnserved (new : Outside) : Type 0 where
   pub client : new.client.written ≡ Some []
   pub host : new.host.written ≡ Some []
 
-abbrev pub Replays : Status → Asked → Course → Outside → List ℕ → Type 0
+abbrev pub Replays : Status → ServeSettings → Course → Outside → List ℕ → Type 0
 Replays Done asked c new held = Plays asked c new held
 Replays Refused asked c new held = Plays asked c new held
 Replays Idle asked c new held = Plays asked c new held

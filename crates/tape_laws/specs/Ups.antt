@@ -1,11 +1,11 @@
 -- Which links are up behind events of a session whose host was dialled.
 use Rattle.std.specs.Prelude.{ℕ, Bool, true, List}
-use Rattle.bridge_run.specs.Events.{Event}
+use Rattle.bridge_run.specs.Events.{LinkEvent}
 use Rattle.bridge_run.specs.Prescribed.{Prescribed}
 use Rattle.bridge_run.specs.Ups.{host_since, sent_to_host}
 
-abbrev pub host_behind : Prescribed → List Event → Bool
+abbrev pub host_behind : Prescribed → List LinkEvent → Bool
 host_behind p events = host_since true p events
 
-abbrev pub to_host : Prescribed → List Event → List ℕ
+abbrev pub to_host : Prescribed → List LinkEvent → List ℕ
 to_host p events = sent_to_host true p events

@@ -4,7 +4,7 @@ ghost use Rattle.std.specs.Prelude.{◌≡◌, ◌≤◌, ℕ, List, length, Som
 ghost use Rattle.bridge_run.specs.Course.{Course};
 ghost use Rattle.bridge_run.specs.Outside.{Outside, Written, Faults, written, Tells};
 ghost use Rattle.usbgate_tapes.specs.declared.status.Status.{Status as End};
-ghost use Rattle.usbgate_commands.specs.Serving.{Asked};
+ghost use Rattle.usbgate_commands.specs.Serving.{ServeSettings};
 ghost use Rattle.usbgate_commands.specs.Serves.{Serves};
 ghost use Rattle.usbgate_tapes.specs.tape.TapeCommand.{tape_limit};
 ghost use Rattle.tape_laws.specs.Begun.{IsFresh};
@@ -14,7 +14,7 @@ ghost use Rattle.tape_laws.specs.Plays.{Replays};
 /// id, prints for each of them what was written to the links that were up. It speaks of doors and a tape that tell, as
 /// `run` does, from the first line on, whatever the sink tells, and of tapes that aren't longer than `replay` reads.
 pub fn recordings_replay()
-    ensures { (status : End) (asked : Asked) (name : List ℕ) (old new : Outside) (faults_old faults_new : Faults) (written_old written_new : Written) (c : Course) (held : List ℕ)
+    ensures { (status : End) (asked : ServeSettings) (name : List ℕ) (old new : Outside) (faults_old faults_new : Faults) (written_old written_new : Written) (c : Course) (held : List ℕ)
         → asked.recording ≡ Some name → Serves status asked old new faults_old faults_new written_old written_new
         → IsFresh asked c → Tells old (written written_old.begun written_old.told None) c → written_new.tape ≡ Some held → length held ≤ tape_limit
         → Replays status asked c new held }

@@ -8,7 +8,7 @@ use Rattle.std.proofs.lemmas.Option.{slice_get-get_or}
 use Rattle.urb_arena.specs.Seen.{Seen, seen}
 use Rattle.urb_arena.specs.Lanes.{replaced, count}
 use Rattle.unlink_race.specs.declared.live.Live.{Live}
-use Rattle.unlink_race.specs.Inner.Listed.{Kept}
+use Rattle.unlink_race.specs.Inner.Listed.{IsKeyed}
 use Rattle.unlink_race.specs.Inner.Placed.{keys_of}
 use Rattle.unlink_race.specs.Inner.Sound.{entry_of, in_order, numbers_of, HasDealt, IsSound, Rises}
 use Rattle.unlink_race.proofs.Columns.{map-set, map_unchanged}
@@ -31,13 +31,13 @@ live_of entry = entry.1
 abbrev pub Dealt : Seen (ℕ × Live) → List ℕ → ℕ → Type 0
 Dealt arena rows n = (j : ℕ) → j < n → get_or (numbers_of arena rows) j 0 ≡ j
 
-pub long_numbers : (arena : Seen (ℕ × Live)) (rows : List ℕ) → Kept key_of (entry_of arena) rows → length (numbers_of arena rows) ≡ length rows
+pub long_numbers : (arena : Seen (ℕ × Live)) (rows : List ℕ) → IsKeyed key_of (entry_of arena) rows → length (numbers_of arena rows) ≡ length rows
 long_numbers arena rows kept = length-map (in_order arena rows) number_of ∙ length-listed key_of (entry_of arena) rows kept
 
-pub none_dealt : (arena : Seen (ℕ × Live)) (rows : List ℕ) → Kept key_of (entry_of arena) rows → HasDealt arena arena rows
+pub none_dealt : (arena : Seen (ℕ × Live)) (rows : List ℕ) → IsKeyed key_of (entry_of arena) rows → HasDealt arena arena rows
 none_dealt arena rows kept = record { kept = kept; lives = refl; count = refl; capacity = refl; lanes = refl; keys_stay = refl }
 
-pub all_dealt : (arena : Seen (ℕ × Live)) (rows : List ℕ) (n : ℕ) → Kept key_of (entry_of arena) rows → length rows ≤ n → Dealt arena rows n → Rises 0 (numbers_of arena rows) (length rows)
+pub all_dealt : (arena : Seen (ℕ × Live)) (rows : List ℕ) (n : ℕ) → IsKeyed key_of (entry_of arena) rows → length rows ≤ n → Dealt arena rows n → Rises 0 (numbers_of arena rows) (length rows)
 all_dealt arena rows n kept all dealt =
     let long = long_numbers arena rows kept in
     rises_dealt 0 (numbers_of arena rows) (length rows) (omega (arith, long)) (λ j within. let at = dealt j (omega (arith, within, long, all)) in omega (arith, at))

@@ -8,7 +8,7 @@ use Rattle.urb_arena.specs.Lanes.{find_in, ByKey}
 use Rattle.unlink_race.specs.declared.live.Live.{Live}
 use Rattle.unlink_race.specs.Inner.Earliest.{passing, earliest, lesser, least}
 use Rattle.unlink_race.specs.Inner.Lane.{lane_of}
-use Rattle.unlink_race.specs.Inner.Listed.{Kept, listed}
+use Rattle.unlink_race.specs.Inner.Listed.{IsKeyed, listed}
 use Rattle.unlink_race.specs.Inner.Placed.{keys_in, AreBelow, ArePlaced}
 use Rattle.unlink_race.specs.Inner.Sound.{Rises}
 use Rattle.unlink_race.proofs.Placing.{keys}
@@ -158,7 +158,7 @@ module _ (test : Live → Bool) (g : ℕ → Option (ℕ × Live)) (lane : ℕ) 
   abbrev Later : List (ℕ × Live) → Type 0
   Later rows = (ps : Entries) → Alike rows (listed key_of g rows) → Backed g ps → keys ps ≡ keys_in lane rows → passing test (values ps) ≡ passing (and_in test lane) (listed key_of g rows)
 
-  pub lane_passing : (rows : List (ℕ × Live)) (ps : Entries) → Kept key_of g rows → Alike rows (listed key_of g rows) → Backed g ps → keys ps ≡ keys_in lane rows → passing test (values ps) ≡ passing (and_in test lane) (listed key_of g rows)
+  pub lane_passing : (rows : List (ℕ × Live)) (ps : Entries) → IsKeyed key_of g rows → Alike rows (listed key_of g rows) → Backed g ps → keys ps ≡ keys_in lane rows → passing test (values ps) ≡ passing (and_in test lane) (listed key_of g rows)
   lane_passing [] [] kept alike backed same = refl
   lane_passing [] (p ∷ ps) kept alike backed same = absurd (cc)
   lane_passing (r ∷ rows) ps kept alike backed same =
@@ -187,7 +187,7 @@ module _ (test : Live → Bool) (g : ℕ → Option (ℕ × Live)) (lane : ℕ) 
                 rw other (later ps rest backed (rw (ne_eqb (lane_of r.1.kind) lane away) at same)))
           ])
 
-  lane_earliest : (rows : List (ℕ × Live)) (ps : Entries) → Kept key_of g rows → Alike rows (listed key_of g rows) → Backed g ps → keys ps ≡ keys_in lane rows → earliest test (values ps) ≡ earliest (and_in test lane) (listed key_of g rows)
+  lane_earliest : (rows : List (ℕ × Live)) (ps : Entries) → IsKeyed key_of g rows → Alike rows (listed key_of g rows) → Backed g ps → keys ps ≡ keys_in lane rows → earliest test (values ps) ≡ earliest (and_in test lane) (listed key_of g rows)
   lane_earliest rows ps kept alike backed same =
       earliest_passing test (values ps) ∙ ap first_number (lane_passing rows ps kept alike backed same) ∙ sym (earliest_passing (and_in test lane) (listed key_of g rows))
 
@@ -207,7 +207,7 @@ widen a m true = grind (arith, nat_tests)
 widen a m false = grind (arith, nat_tests)
 
 -- so the least of the lanes' numbers is that of the earliest of all
-pub least_is : (test : Live → Bool) (g : ℕ → Option (ℕ × Live)) (rows : List (ℕ × Live)) (high : ℕ) → Kept key_of g rows → Alike rows (listed key_of g rows) → Rises 0 (numbers (listed key_of g rows)) high → (lane : ℕ) (pss : List Entries) (so_far : Option ℕ) → ((l : ℕ) → Backed g (get_or pss l [])) → ArePlaced lane (map keys pss) rows → so_far ≡ earliest (and_below test lane) (listed key_of g rows) → least test so_far pss ≡ earliest test (listed key_of g rows)
+pub least_is : (test : Live → Bool) (g : ℕ → Option (ℕ × Live)) (rows : List (ℕ × Live)) (high : ℕ) → IsKeyed key_of g rows → Alike rows (listed key_of g rows) → Rises 0 (numbers (listed key_of g rows)) high → (lane : ℕ) (pss : List Entries) (so_far : Option ℕ) → ((l : ℕ) → Backed g (get_or pss l [])) → ArePlaced lane (map keys pss) rows → so_far ≡ earliest (and_below test lane) (listed key_of g rows) → least test so_far pss ≡ earliest test (listed key_of g rows)
 least_is test g rows high kept alike rises lane [] so_far backed placed is = is ∙ all_below test g lane rows (listed key_of g rows) alike placed
 least_is test g rows high kept alike rises lane (ps ∷ pss) so_far backed placed is =
     let this = lane_earliest test g lane rows ps kept alike (backed 0) placed.0 in

@@ -4,7 +4,7 @@ use Rattle.std.specs.List.{find, zip}
 use Rattle.std.proofs.lemmas.Bool.{cases_Bool}
 use Rattle.unlink_race.specs.declared.live.Live.{Live}
 use Rattle.unlink_race.specs.Inner.Earliest.{earliest}
-use Rattle.unlink_race.specs.Inner.Listed.{Kept, listed}
+use Rattle.unlink_race.specs.Inner.Listed.{IsKeyed, listed}
 use Rattle.unlink_race.proofs.Rows.{entry_of}
 use Rattle.unlink_race.proofs.Zipped.{itself}
 
@@ -36,7 +36,7 @@ module _ (test : Live → Bool) (g : ℕ → Option (ℕ × Live)) where
             record { entry = later.entry; is = later.is; number = rw other later.number; live = rw other later.live })
       ]
 
-  pub found : (ks : List ℕ) → Kept itself g ks → (k : ℕ) → key_found test ks (lives (listed itself g ks)) ≡ Some k → IsFound test g (listed itself g ks) k
+  pub found : (ks : List ℕ) → IsKeyed itself g ks → (k : ℕ) → key_found test ks (lives (listed itself g ks)) ≡ Some k → IsFound test g (listed itself g ks) k
   found [] kept k is = let e : None ≡ Some k = is in absurd (cc)
   found (j ∷ ks) kept k is =
       let e = entry_of itself g j kept.0 in
@@ -52,7 +52,7 @@ module _ (test : Live → Bool) (g : ℕ → Option (ℕ × Live)) where
         | inr other ↦ (let later = behind (rw other at is) in rw other later)
       ]
 
-  pub found_none : (ks : List ℕ) → Kept itself g ks → key_found test ks (lives (listed itself g ks)) ≡ None → (earliest test (listed itself g ks) ≡ None) × (find test (lives (listed itself g ks)) ≡ None)
+  pub found_none : (ks : List ℕ) → IsKeyed itself g ks → key_found test ks (lives (listed itself g ks)) ≡ None → (earliest test (listed itself g ks) ≡ None) × (find test (lives (listed itself g ks)) ≡ None)
   found_none [] kept is = (refl, refl)
   found_none (j ∷ ks) kept is =
       let e = entry_of itself g j kept.0 in

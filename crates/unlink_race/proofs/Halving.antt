@@ -15,7 +15,7 @@ use Rattle.std.proofs.lemmas.List.Sums.{position_or_len_is}
 use Rattle.std.proofs.lemmas.Option.{slice_get-get_or}
 use Rattle.urb_arena.specs.Seen.{Seen}
 use Rattle.unlink_race.specs.declared.live.Live.{Live}
-use Rattle.unlink_race.specs.Inner.Listed.{Kept}
+use Rattle.unlink_race.specs.Inner.Listed.{IsKeyed}
 use Rattle.unlink_race.specs.Inner.Sound.{entry_of, in_order, numbers_of, Rises}
 use Rattle.unlink_race.proofs.Dealing.{long_numbers}
 use Rattle.unlink_race.proofs.Ids.{no_live}
@@ -41,7 +41,7 @@ rises_at low (n ∷ ns) high (suc i) (suc j) rises before within = rises_at (n +
 abbrev pub number_at : Seen (ℕ × Live) → ℕ → Option ℕ
 number_at arena r = option_map (λ (e : ℕ × Live). e.0) (entry_of arena r)
 
-module _ (arena : Seen (ℕ × Live)) (keys : List ℕ) (kept : Kept key_of (entry_of arena) keys) where
+module _ (arena : Seen (ℕ × Live)) (keys : List ℕ) (kept : IsKeyed key_of (entry_of arena) keys) where
   abbrev numbers : List ℕ
   numbers = numbers_of arena keys
 

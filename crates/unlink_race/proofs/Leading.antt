@@ -5,7 +5,7 @@ use Rattle.std.proofs.lemmas.List.{map-append}
 use Rattle.urb_arena.specs.Lanes.{find, key_after, first_key, or_else, search_in, ByKey}
 use Rattle.unlink_race.specs.declared.live.Live.{Live}
 use Rattle.unlink_race.specs.Inner.Lane.{lane_of}
-use Rattle.unlink_race.specs.Inner.Listed.{Absent, Kept}
+use Rattle.unlink_race.specs.Inner.Listed.{Absent, IsKeyed}
 use Rattle.unlink_race.specs.Inner.Placed.{keys_in, ArePlaced}
 use Rattle.unlink_race.proofs.Placing.{keys}
 
@@ -38,7 +38,7 @@ not_in k lane (r ∷ rows) absent there =
 
 module _ {X : Type 0} (g : ℕ → Option X) where
   -- a key stands in one lane
-  one_lane : (k a b : ℕ) (rows : List (ℕ × Live)) → Kept key_of g rows → In k (keys_in a rows) → In k (keys_in b rows) → a ≡ b
+  one_lane : (k a b : ℕ) (rows : List (ℕ × Live)) → IsKeyed key_of g rows → In k (keys_in a rows) → In k (keys_in b rows) → a ≡ b
   one_lane k a b [] kept first second = absurd first
   one_lane k a b (r ∷ rows) kept first second =
       elim (cases_eq (lane_of r.1.kind) a) [
@@ -67,7 +67,7 @@ module _ {X : Type 0} (g : ℕ → Option X) where
       ]
 
   -- and once in it
-  once : (k lane : ℕ) (rows : List (ℕ × Live)) (ks js : List ℕ) → Kept key_of g rows → keys_in lane rows ≡ ks ++ k ∷ js → In k ks → ⊥
+  once : (k lane : ℕ) (rows : List (ℕ × Live)) (ks js : List ℕ) → IsKeyed key_of g rows → keys_in lane rows ≡ ks ++ k ∷ js → In k ks → ⊥
   once k lane [] [] js kept is there = there
   once k lane [] (i ∷ ks) js kept is there = absurd (cc)
   once k lane (r ∷ rows) ks js kept is there =
@@ -112,7 +112,7 @@ module _ {X : Type 0} where
   after_here [] p ys away = rw (eq-eqb p.0 p.0 refl) refl
   after_here (x ∷ xs) p ys away = rw (ne_eqb x.0 p.0 (λ same. away (inl same))) (after_here xs p ys (λ later. away (inr later)))
 
-  module _ {Y : Type 0} (k : ℕ) (h : List (ℕ × X) → Option Y) (skip : (ps : List (ℕ × X)) → (In k (keys ps) → ⊥) → h ps ≡ None) {E : Type 0} (g : ℕ → Option E) (rows : List (ℕ × Live)) (kept : Kept key_of g rows) where
+  module _ {Y : Type 0} (k : ℕ) (h : List (ℕ × X) → Option Y) (skip : (ps : List (ℕ × X)) → (In k (keys ps) → ⊥) → h ps ≡ None) {E : Type 0} (g : ℕ → Option E) (rows : List (ℕ × Live)) (kept : IsKeyed key_of g rows) where
     -- it is found in no lane behind its own
     none_behind : (home lane : ℕ) (pss : List (List (ℕ × X))) → In k (keys_in home rows) → home < lane → ArePlaced lane (map keys pss) rows → search_in h pss ≡ None
     none_behind home lane [] there low placed = refl
@@ -149,7 +149,7 @@ module _ {X : Type 0} where
       let e : lane + suc l ≡ lane + 1 + l = omega arith in
       ap (λ n. keys_in n rows) e ∙ keys_at (lane + 1) pss l rows xs p ys is placed.1
 
-  pub by_key : {E : Type 0} (g : ℕ → Option E) (rows : List (ℕ × Live)) (pss : List (List (ℕ × X))) → Kept key_of g rows → ArePlaced 0 (map keys pss) rows → ByKey pss
+  pub by_key : {E : Type 0} (g : ℕ → Option E) (rows : List (ℕ × Live)) (pss : List (List (ℕ × X))) → IsKeyed key_of g rows → ArePlaced 0 (map keys pss) rows → ByKey pss
   by_key g rows pss kept placed l xs p ys is =
       let here : In p.0 (keys (get_or pss l [])) = subst (λ ps. In p.0 (keys ps)) (sym is) (subst (In p.0) (sym (map-append (λ q. q.0) xs (p ∷ ys))) (in_here p.0 (keys xs) (keys ys))) in
       let away : In p.0 (keys xs) → ⊥ = once g p.0 (0 + l) rows (keys xs) (keys ys) kept (keys_at 0 pss l rows xs p ys is placed) in (

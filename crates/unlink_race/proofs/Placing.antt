@@ -6,7 +6,7 @@ use Rattle.std.proofs.lemmas.List.{map-append}
 use Rattle.urb_arena.specs.Lanes.{without, replaced}
 use Rattle.unlink_race.specs.declared.live.Live.{Live}
 use Rattle.unlink_race.specs.Inner.Lane.{lane_of}
-use Rattle.unlink_race.specs.Inner.Listed.{Absent, Kept}
+use Rattle.unlink_race.specs.Inner.Listed.{Absent, IsKeyed}
 use Rattle.unlink_race.specs.Inner.Placed.{keys_in, AreBelow, ArePlaced}
 use Rattle.unlink_race.proofs.Rows.{absent_at}
 
@@ -82,7 +82,7 @@ but_absent k lane (s ∷ rows) absent =
     ]
 
 module _ {X : Type 0} (g : ℕ → Option X) where
-  keys_removed : (lane : ℕ) (rows : List (ℕ × Live)) (i : ℕ) (r : ℕ × Live) → i < length rows → r ≡ get_or rows i r → Kept key_of g rows → keys_in lane (remove rows i) ≡ but r.0 (keys_in lane rows)
+  keys_removed : (lane : ℕ) (rows : List (ℕ × Live)) (i : ℕ) (r : ℕ × Live) → i < length rows → r ≡ get_or rows i r → IsKeyed key_of g rows → keys_in lane (remove rows i) ≡ but r.0 (keys_in lane rows)
   keys_removed lane [] i r within read kept = absurd (omega (arith, within))
   keys_removed lane (s ∷ rows) zero r within read kept =
       let k : r.0 ≡ s.0 = ap key_of read in
@@ -105,7 +105,7 @@ module _ {X : Type 0} (g : ℕ → Option X) where
   below_removed lane (s ∷ rows) zero below = below.1
   below_removed lane (s ∷ rows) (suc i) below = (below.0, below_removed lane rows i below.1)
 
-  pub placed_removed : (lane : ℕ) (pss : List (List (ℕ × X))) (rows : List (ℕ × Live)) (i : ℕ) (r : ℕ × Live) → i < length rows → r ≡ get_or rows i r → Kept key_of g rows → ArePlaced lane (map keys pss) rows → ArePlaced lane (map keys (map (without r.0) pss)) (remove rows i)
+  pub placed_removed : (lane : ℕ) (pss : List (List (ℕ × X))) (rows : List (ℕ × Live)) (i : ℕ) (r : ℕ × Live) → i < length rows → r ≡ get_or rows i r → IsKeyed key_of g rows → ArePlaced lane (map keys pss) rows → ArePlaced lane (map keys (map (without r.0) pss)) (remove rows i)
   placed_removed lane [] rows i r within read kept placed = below_removed lane rows i placed
   placed_removed lane (ps ∷ pss) rows i r within read kept placed =
       (keys_without r.0 ps ∙ ap (but r.0) placed.0 ∙ sym (keys_removed lane rows i r within read kept), placed_removed (lane + 1) pss rows i r within read kept placed.1)

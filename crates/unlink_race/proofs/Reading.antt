@@ -16,7 +16,7 @@ use Rattle.unlink_race.specs.declared.live.Live.{Live}
 use Rattle.unlink_race.specs.declared.by_number.By.{By}
 use Rattle.unlink_race.specs.Firsts.{without_first}
 use Rattle.unlink_race.specs.Inner.Indexed.{number_by, any_by, found_by, number_at, column, is_pair, Before, Behind, Reads, Stand, IsOrdering, IsOrderOf}
-use Rattle.unlink_race.specs.Inner.Listed.{Distinct, Kept, listed}
+use Rattle.unlink_race.specs.Inner.Listed.{Distinct, IsKeyed, listed}
 use Rattle.unlink_race.proofs.Columns.{map-insert, map-remove, position_or_len-map}
 use Rattle.unlink_race.proofs.Firsts.{remove_first, position_found, is_some-position}
 use Rattle.unlink_race.proofs.Indexes.{Pairs, leads, ordering_back, pair_there, ordering_pushed, ordering_removed, column_pushed, column_removed, column_has}
@@ -285,7 +285,7 @@ pub stand_front : (lanes : List Entries) (rs : List (ℕ × Live)) (r : ℕ × L
 stand_front lanes [] r stand = tt
 stand_front lanes (s ∷ rs) r stand = (stand.0, stand_front lanes rs r stand.1)
 
-pub stand_all : (lanes : List Entries) (ks : List ℕ) → Kept itself (λ k. find_in k lanes) ks → Stand lanes (zip ks (map (λ (e : ℕ × Live). e.1) (listed itself (λ k. find_in k lanes) ks)))
+pub stand_all : (lanes : List Entries) (ks : List ℕ) → IsKeyed itself (λ k. find_in k lanes) ks → Stand lanes (zip ks (map (λ (e : ℕ × Live). e.1) (listed itself (λ k. find_in k lanes) ks)))
 stand_all lanes [] kept = tt
 stand_all lanes (k ∷ ks) kept =
     let e = entry_of itself (λ j. find_in j lanes) k kept.0 in

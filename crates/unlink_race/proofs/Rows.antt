@@ -2,7 +2,7 @@
 use Rattle.std.proofs.Common.{◌≡◌, ◌≢◌, ℕ, zero, suc, ◌<◌, List, [], ◌∷◌, ◌++◌, length, get_or, set, Option, Some, None, IsSome, refl, ap, sym, ◌∙◌, arith}
 use Rattle.std.specs.List.{remove, slice_get}
 use Rattle.std.proofs.lemmas.Bool.{false≢true}
-use Rattle.unlink_race.specs.Inner.Listed.{Absent, Kept, listed}
+use Rattle.unlink_race.specs.Inner.Listed.{Absent, IsKeyed, listed}
 
 module _ {R : Type 0} (key : R → ℕ) where
   pub absent_at : (k : ℕ) (rs : List R) (i : ℕ) (r : R) → i < length rs → r ≡ get_or rs i r → Absent key k rs → key r ≢ k
@@ -29,7 +29,7 @@ module _ {R X : Type 0} (key : R → ℕ) where
   listed_same g h k same [] absent = refl
   listed_same g h k same (r ∷ rs) absent = rw (same (key r) absent.0, listed_same g h k same rs absent.1) refl
 
-  pub kept_same : (g h : ℕ → Option X) (k : ℕ) → SameBut k g h → (rs : List R) → Absent key k rs → Kept key g rs → Kept key h rs
+  pub kept_same : (g h : ℕ → Option X) (k : ℕ) → SameBut k g h → (rs : List R) → Absent key k rs → IsKeyed key g rs → IsKeyed key h rs
   kept_same g h k same [] absent kept = kept
   kept_same g h k same (r ∷ rs) absent kept =
       (rw (same (key r) absent.0) kept.0, kept.1, kept_same g h k same rs absent.1 kept.2)
@@ -42,14 +42,14 @@ module _ {R X : Type 0} (key : R → ℕ) where
       by_case None is there = absurd (false≢true there)
       by_case (Some x) is there = (x, is)
 
-  pub length-listed : (g : ℕ → Option X) (rs : List R) → Kept key g rs → length (listed key g rs) ≡ length rs
+  pub length-listed : (g : ℕ → Option X) (rs : List R) → IsKeyed key g rs → length (listed key g rs) ≡ length rs
   length-listed g [] kept = refl
   length-listed g (r ∷ rs) kept =
       let e = entry_of g r kept.0 in
       rw e.1 (ap suc (length-listed g rs kept.2))
 
   -- a key with no entry is in no row
-  absent_fresh : (g : ℕ → Option X) (k : ℕ) → g k ≡ None → (rs : List R) → Kept key g rs → Absent key k rs
+  absent_fresh : (g : ℕ → Option X) (k : ℕ) → g k ≡ None → (rs : List R) → IsKeyed key g rs → Absent key k rs
   absent_fresh g k fresh [] kept = tt
   absent_fresh g k fresh (r ∷ rs) kept =
       let e = entry_of g r kept.0 in
@@ -59,9 +59,9 @@ module _ {R X : Type 0} (key : R → ℕ) where
   pub record Took (g h : ℕ → Option X) (rs : List R) (i : ℕ) (r : R) : Type 0 where
     pub entry : g (key r) ≡ slice_get (listed key g rs) i
     pub rest : listed key h (remove rs i) ≡ remove (listed key g rs) i
-    pub kept : Kept key h (remove rs i)
+    pub kept : IsKeyed key h (remove rs i)
 
-  pub took_at : (g h : ℕ → Option X) (rs : List R) (i : ℕ) (r : R) → i < length rs → r ≡ get_or rs i r → SameBut (key r) g h → Kept key g rs → Took g h rs i r
+  pub took_at : (g h : ℕ → Option X) (rs : List R) (i : ℕ) (r : R) → i < length rs → r ≡ get_or rs i r → SameBut (key r) g h → IsKeyed key g rs → Took g h rs i r
   took_at g h [] i r within read same kept = absurd (omega arith)
   took_at g h (s ∷ rs) zero r within read same kept =
       let e = entry_of g s kept.0 in
@@ -85,9 +85,9 @@ module _ {R X : Type 0} (key : R → ℕ) where
   -- a row with a new key and its entry are appended
   pub record Put (g h : ℕ → Option X) (rs : List R) (r : R) (x : X) : Type 0 where
     pub whole : listed key h (rs ++ r ∷ []) ≡ listed key g rs ++ x ∷ []
-    pub kept : Kept key h (rs ++ r ∷ [])
+    pub kept : IsKeyed key h (rs ++ r ∷ [])
 
-  pub put_last : (g h : ℕ → Option X) (rs : List R) (r : R) (x : X) → g (key r) ≡ None → h (key r) ≡ Some x → SameBut (key r) g h → Kept key g rs → Put g h rs r x
+  pub put_last : (g h : ℕ → Option X) (rs : List R) (r : R) (x : X) → g (key r) ≡ None → h (key r) ≡ Some x → SameBut (key r) g h → IsKeyed key g rs → Put g h rs r x
   put_last g h [] r x fresh is same kept = record { whole = rw is refl; kept = (rw is refl, tt, tt) }
   put_last g h (s ∷ rs) r x fresh is same kept =
       let e = entry_of g s kept.0 in
@@ -102,9 +102,9 @@ module _ {R X : Type 0} (key : R → ℕ) where
   -- the entry of the row at a place is written anew
   pub record Changed (g h : ℕ → Option X) (rs : List R) (i : ℕ) (y : X) : Type 0 where
     pub whole : listed key h rs ≡ set (listed key g rs) i y
-    pub kept : Kept key h rs
+    pub kept : IsKeyed key h rs
 
-  pub changed_at : (g h : ℕ → Option X) (rs : List R) (i : ℕ) (r : R) (y : X) → i < length rs → r ≡ get_or rs i r → h (key r) ≡ Some y → SameBut (key r) g h → Kept key g rs → Changed g h rs i y
+  pub changed_at : (g h : ℕ → Option X) (rs : List R) (i : ℕ) (r : R) (y : X) → i < length rs → r ≡ get_or rs i r → h (key r) ≡ Some y → SameBut (key r) g h → IsKeyed key g rs → Changed g h rs i y
   changed_at g h [] i r y within read is same kept = absurd (omega arith)
   changed_at g h (s ∷ rs) zero r y within read is same kept =
       let e = entry_of g s kept.0 in

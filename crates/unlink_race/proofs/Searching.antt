@@ -15,7 +15,7 @@ use Rattle.unlink_race.specs.declared.live.StreamEnd.TheVariants.{Told}
 use Rattle.unlink_race.specs.Searches.{waits_at, waits_for, ended_by}
 use Rattle.unlink_race.specs.Inner.Earliest.{passing, earliest, least}
 use Rattle.unlink_race.specs.Inner.Lane.{lane_of}
-use Rattle.unlink_race.specs.Inner.Listed.{Kept, listed}
+use Rattle.unlink_race.specs.Inner.Listed.{IsKeyed, listed}
 use Rattle.unlink_race.specs.Inner.Sound.{entry_of, in_order, lives_of, numbers_of, Rises, IsSound}
 use Rattle.unlink_race.proofs.Earliest.{number_placed, none_placed, first_number, earliest_passing, lives_passing, never, Alike, all_backed, keys_home, and_in, and_below, lane_passing, least_is}
 use Rattle.unlink_race.proofs.Found.{key_found, IsFound, found, found_none}
@@ -49,7 +49,7 @@ module _ {arena : Seen (ℕ × Live)} {keys : List ℕ} (s : IsSound arena keys)
   abbrev rows : List (ℕ × Live)
   rows = zip keys (lives_of arena keys)
 
-  kept : Kept key_of (entry_of arena) rows
+  kept : IsKeyed key_of (entry_of arena) rows
   kept = kept_zipped (entry_of arena) keys (lives_of arena keys) s.kept
 
   -- the requests of the keys, by the pairs of both
@@ -102,10 +102,10 @@ module _ {arena : Seen (ℕ × Live)} {keys : List ℕ} (s : IsSound arena keys)
         record { place = at.place; within = inside; is = at.is; first = rw (first, there) refl }
 
     -- what a search of these keys by the number gives
-    pub search_gives : (keys' : List ℕ) (result : Option ℕ) (number high : ℕ) → keys' ≡ keys → earliest test (in_order arena keys) ≡ Some number → Rises 0 (numbers_of arena keys) high → ((high : ℕ) → Kept itself (entry_of arena) keys' → Rises 0 (numbers_of arena keys') high → result ≡ position (λ n. n == number) (numbers_of arena keys')) → result ≡ position test xs
+    pub search_gives : (keys' : List ℕ) (result : Option ℕ) (number high : ℕ) → keys' ≡ keys → earliest test (in_order arena keys) ≡ Some number → Rises 0 (numbers_of arena keys) high → ((high : ℕ) → IsKeyed itself (entry_of arena) keys' → Rises 0 (numbers_of arena keys') high → result ≡ position (λ n. n == number) (numbers_of arena keys')) → result ≡ position test xs
     search_gives keys' result number high same is rises told =
         let at = at_place number is in
-        let P : List ℕ → Type 0 = λ ks. (high : ℕ) → Kept itself (entry_of arena) ks → Rises 0 (numbers_of arena ks) high → result ≡ position (λ n. n == number) (numbers_of arena ks) in
+        let P : List ℕ → Type 0 = λ ks. (high : ℕ) → IsKeyed itself (entry_of arena) ks → Rises 0 (numbers_of arena ks) high → result ≡ position (λ n. n == number) (numbers_of arena ks) in
         subst P same told high s.kept rises ∙ sym (number_at_place arena keys s.kept high rises number at.place at.within at.is) ∙ sym at.first
 
     pub unplaced : earliest test (in_order arena keys) ≡ None → position test xs ≡ None

@@ -4,7 +4,7 @@ use Rattle.std.specs.List.{remove, slice_get, zip}
 use Rattle.std.proofs.lemmas.Bool.{ne_eqb, eq-eqb, cases_eq}
 use Rattle.unlink_race.specs.declared.live.Live.{Live}
 use Rattle.unlink_race.specs.Inner.Lane.{lane_of}
-use Rattle.unlink_race.specs.Inner.Listed.{Absent, Distinct, Kept, listed}
+use Rattle.unlink_race.specs.Inner.Listed.{Absent, Distinct, IsKeyed, listed}
 use Rattle.unlink_race.specs.Inner.Placed.{keys_in, AreBelow, ArePlaced}
 use Rattle.unlink_race.proofs.Rows.{entry_of}
 
@@ -56,16 +56,16 @@ distinct_zipped (k ∷ ks) [] apart = tt
 distinct_zipped (k ∷ ks) (x ∷ xs) apart = (absent_zipped k ks xs apart.0, distinct_zipped ks xs apart.1)
 
 module _ {X : Type 0} (g : ℕ → Option X) where
-  pub distinct : (ks : List ℕ) → Kept itself g ks → Distinct itself ks
+  pub distinct : (ks : List ℕ) → IsKeyed itself g ks → Distinct itself ks
   distinct [] kept = tt
   distinct (k ∷ ks) kept = (kept.1, distinct ks kept.2)
 
-  pub kept_zipped : (ks : List ℕ) (xs : List Live) → Kept itself g ks → Kept key_of g (zip ks xs)
+  pub kept_zipped : (ks : List ℕ) (xs : List Live) → IsKeyed itself g ks → IsKeyed key_of g (zip ks xs)
   kept_zipped [] xs kept = tt
   kept_zipped (k ∷ ks) [] kept = tt
   kept_zipped (k ∷ ks) (x ∷ xs) kept = (kept.0, absent_zipped k ks xs kept.1, kept_zipped ks xs kept.2)
 
-  pub listed_zipped : (ks : List ℕ) (xs : List Live) → length ks ≡ length xs → Kept itself g ks → listed key_of g (zip ks xs) ≡ listed itself g ks
+  pub listed_zipped : (ks : List ℕ) (xs : List Live) → length ks ≡ length xs → IsKeyed itself g ks → listed key_of g (zip ks xs) ≡ listed itself g ks
   listed_zipped [] xs long kept = refl
   listed_zipped (k ∷ ks) [] long kept = absurd (omega (arith, long))
   listed_zipped (k ∷ ks) (x ∷ xs) long kept =

@@ -8,7 +8,7 @@ ghost use Rattle.urb_arena.specs.Seen.{seen};
 ghost use Rattle.unlink_race.specs.declared.live.Live.{Live};
 ghost use Rattle.unlink_race.specs.Firsts.{without_first};
 ghost use Rattle.unlink_race.specs.Inner.Indexed.{found_by};
-ghost use Rattle.unlink_race.specs.Inner.Listed.{Kept};
+ghost use Rattle.unlink_race.specs.Inner.Listed.{IsKeyed};
 ghost use Rattle.unlink_race.specs.Inner.Sound.{entry_of, numbers_of, Rises, HasDealt};
 ghost use Rattle.unlink_race.specs.Unlinking.{unlinked_by};
 ghost use Rattle.unlink_race.specs.Searches.{has_number, has_id, waits_for, touched_by, ended_by, changes};
@@ -56,7 +56,7 @@ impl Model for Table {
 
 // The place of the key whose request has this number: the numbers rise with the keys.
 fn place_numbered(arena: &Arena<(u64, Live)>, keys: &[Key], number: u64) -> Option<usize>
-    ensures { (high : ℕ) → Kept (λ k. k) (entry_of arena.now) keys.now → Rises 0 (numbers_of arena.now keys.now) high → result ≡ position (λ n. n == number) (numbers_of arena.now keys.now) }
+    ensures { (high : ℕ) → IsKeyed (λ k. k) (entry_of arena.now) keys.now → Rises 0 (numbers_of arena.now keys.now) high → result ≡ position (λ n. n == number) (numbers_of arena.now keys.now) }
 {
     let found = keys.binary_search_by_key(&Some(number), |key| number_of(arena, *key));
     found.ok()
@@ -64,7 +64,7 @@ fn place_numbered(arena: &Arena<(u64, Live)>, keys: &[Key], number: u64) -> Opti
 
 // Numbers the requests anew from 0, in their order.
 fn deal(arena: &mut Arena<(u64, Live)>, keys: &[Key])
-    requires { Kept (λ k. k) (entry_of arena.old) keys.now × (length keys.now ≤ MAX_LIVE) }
+    requires { IsKeyed (λ k. k) (entry_of arena.old) keys.now × (length keys.now ≤ MAX_LIVE) }
     ensures dealt { HasDealt arena.old arena.new keys.now }
     ensures numbers { Rises 0 (numbers_of arena.new keys.now) (length keys.now) }
 {
@@ -75,7 +75,7 @@ fn deal(arena: &mut Arena<(u64, Live)>, keys: &[Key])
 
 // The number for one that comes behind the others. They are numbered anew before it would be the greatest there is.
 fn next_number(arena: &mut Arena<(u64, Live)>, keys: &[Key], next: u64) -> u64
-    requires kept { Kept (λ k. k) (entry_of arena.old) keys.now × (length keys.now ≤ MAX_LIVE) }
+    requires kept { IsKeyed (λ k. k) (entry_of arena.old) keys.now × (length keys.now ≤ MAX_LIVE) }
     requires rises { Rises 0 (numbers_of arena.old keys.now) next }
     ensures bound { result + 1 < 2 ^ 64 }
     ensures dealt { HasDealt arena.old arena.new keys.now }

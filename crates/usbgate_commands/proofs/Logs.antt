@@ -3,7 +3,7 @@ use Rattle.std.proofs.Common.{ℕ, List, [], Result, refl}
 use Rattle.gate_outside.specs.declared.fault.Failed.{Failed}
 use Rattle.gate_outside.specs.Calls.{Call}
 use Rattle.bridge_run.specs.declared.serve_end.ServeEnd.TheVariants as end
-use Rattle.bridge_run.specs.Events.{Event}
+use Rattle.bridge_run.specs.Events.{LinkEvent}
 use Rattle.bridge_run.specs.Log.{Terms, Told}
 use Rattle.bridge_run.specs.Prescribed.{Prescribed as Sends}
 use Rattle.usbgate_tapes.specs.declared.status.Status.TheVariants.{OutOfMemory}
@@ -14,7 +14,7 @@ pub untold : {K : Type 0} → (gives : K → List ℕ → Result ℕ Failed → 
 untold gives now = record { moves = []; called = refl; all = refl }
 
 -- nothing was asked
-pub unlogged : {D K : Type 0} → (gives : D → Call → D → Type 0) (runs_out : List Event → Event → List ℕ → List ℕ → Type 0) (writes : K → List ℕ → Result ℕ Failed → K → Type 0) (terms : Terms) (p : Sends) (now : D) (out : K) → HasLog gives runs_out (Told writes out out) terms p OutOfMemory now now
+pub unlogged : {D K : Type 0} → (gives : D → Call → D → Type 0) (runs_out : List LinkEvent → LinkEvent → List ℕ → List ℕ → Type 0) (writes : K → List ℕ → Result ℕ Failed → K → Type 0) (terms : Terms) (p : Sends) (now : D) (out : K) → HasLog gives runs_out (Told writes out out) terms p OutOfMemory now now
 unlogged gives runs_out writes terms p now out = record {
   end = end.Memory;
   status-is = refl;

@@ -13,11 +13,11 @@ use Rattle.std.specs.Io.KnownBytes.{append_known}
 use Rattle.gate_outside.specs.Faults.{Rose}
 use Rattle.session_tape.specs.Tapes.{Counts, counts}
 use Rattle.bridge_run.specs.Outside.{Outside, Written, Faults, outside, written, faults, OneRose, NoFault, Tells, Cut, HasCause, IsBetween}
-use Rattle.bridge_run.specs.Events.{Event}
+use Rattle.bridge_run.specs.Events.{LinkEvent}
 use Rattle.bridge_run.specs.Serves.{MayRunOut, CutShort}
 use Rattle.usbgate_tapes.specs.declared.status.Status.{Status}
 use Rattle.usbgate_tapes.specs.declared.status.Status.TheVariants.{Done, Usage, Refused, ReadFault, WriteFault, LinkFault, OutOfMemory, BadTape, Idle, Spent}
-use Rattle.usbgate_commands.specs.Serving.{Asked}
+use Rattle.usbgate_commands.specs.Serving.{ServeSettings}
 use Rattle.usbgate_commands.specs.Lending.{AskedLent}
 use Rattle.usbgate_commands.specs.Recording.{IsUnmade, HasServed}
 use Rattle.usbgate_commands.specs.Serves.{Serves, ServesBy, EndsOf, HasNoTape, IsUnrecorded, IsRecorded, Lends, setting_of, setting_lent, ended_as}
@@ -44,7 +44,7 @@ untold-more : (begun known : Option (List ℕ)) (told : List ℕ) → IfSome beg
 untold-more None known told is = tt
 untold-more (Some first) known told is = as_it_is known told is
 
-unmade : {runs_out : List Event → Event → List ℕ → List ℕ → Type 0} → (s : Setting) (c : Course) (w : Outside) (begun out : Option (List ℕ)) → Tells w (written begun out None) c → CutShort end.Memory runs_out s (Goes Making c) w (written begun out None)
+unmade : {runs_out : List LinkEvent → LinkEvent → List ℕ → List ℕ → Type 0} → (s : Setting) (c : Course) (w : Outside) (begun out : Option (List ℕ)) → Tells w (written begun out None) c → CutShort end.Memory runs_out s (Goes Making c) w (written begun out None)
 unmade s c w begun out tells = record {
   next = Making;
   course = c;
@@ -60,7 +60,7 @@ unmade s c w begun out tells = record {
   };
 }
 
-unserved-so : {runs_out : List Event → Event → List ℕ → List ℕ → Type 0} → (s : Setting) (w : Outside) (f : Faults) (begun out : Option (List ℕ)) → EndsOf runs_out s Making OutOfMemory w w f f (written begun out None) (written begun out None)
+unserved-so : {runs_out : List LinkEvent → LinkEvent → List ℕ → List ℕ → Type 0} → (s : Setting) (w : Outside) (f : Faults) (begun out : Option (List ℕ)) → EndsOf runs_out s Making OutOfMemory w w f f (written begun out None) (written begun out None)
 unserved-so s w f begun out = record {
   end = end.Memory;
   status-is = refl;
@@ -69,16 +69,16 @@ unserved-so s w f begun out = record {
   leaves = λ c begins tells. unmade s c w begun out tells;
 }
 
-unserved-by : (recording : Option (List ℕ)) (asked : Asked) (w : Outside) (f : Faults) (out : Written) → ServesBy recording asked OutOfMemory w w f f out out
+unserved-by : (recording : Option (List ℕ)) (asked : ServeSettings) (w : Outside) (f : Faults) (out : Written) → ServesBy recording asked OutOfMemory w w f f out out
 unserved-by None asked w f out = record { tape-is = refl; counts-are = refl; ends = unserved-so (setting_of asked) w (faults f.sink (counts 0 0)) out.begun out.told }
 unserved-by (Some name) asked w f out = inl (record { outside-is = refl; sink = refl; told = refl; cause = refl })
 
 -- memory ran out before
-pub unserved : (asked : Asked) (w : Outside) (f : Faults) (out : Written) → Serves OutOfMemory asked w w f f out out
+pub unserved : (asked : ServeSettings) (w : Outside) (f : Faults) (out : Written) → Serves OutOfMemory asked w w f f out out
 unserved asked w f out = unserved-by asked.recording asked w f out
 
 -- nobody is asked for at the door yet
-no-guest : {ran_out : List Event → Event → List ℕ → List ℕ → Type 0} → (clients : List (List Turn)) (c : Course) (w : Outside) (begun out : Option (List ℕ)) → Tells w (written begun out None) c → Cut ran_out w (written begun out None) c (course_of (come clients c))
+no-guest : {ran_out : List LinkEvent → LinkEvent → List ℕ → List ℕ → Type 0} → (clients : List (List Turn)) (c : Course) (w : Outside) (begun out : Option (List ℕ)) → Tells w (written begun out None) c → Cut ran_out w (written begun out None) c (course_of (come clients c))
 no-guest [] c w begun out tells = record {
   client = inl tells.client.turns-is;
   host = inl tells.host.turns-is;
@@ -98,7 +98,7 @@ no-guest (turns ∷ later) c w begun out tells = record {
   tape = tt;
 }
 
-unasked : {runs_out : List Event → Event → List ℕ → List ℕ → Type 0} → (s : Setting) (c : Course) (w : Outside) (begun out : Option (List ℕ)) → c.client_up ≡ false → Tells w (written begun out None) c → CutShort end.Memory runs_out s (Goes AtDoor c) w (written begun out None)
+unasked : {runs_out : List LinkEvent → LinkEvent → List ℕ → List ℕ → Type 0} → (s : Setting) (c : Course) (w : Outside) (begun out : Option (List ℕ)) → c.client_up ≡ false → Tells w (written begun out None) c → CutShort end.Memory runs_out s (Goes AtDoor c) w (written begun out None)
 unasked {runs_out = runs_out} s c w begun out down tells = record {
   next = AtDoor;
   course = c;
@@ -250,14 +250,14 @@ never-usage (end.LinkFault side) is = cc
 
 -- ---- what serving leaves
 
-pub serves-none : (recording : Option (List ℕ)) (asked : Asked) (status : Status) (old new : Outside) (f f' : Faults) (w w' : Written) → recording ≡ None → HasNoTape asked status old new f f' w w' → ServesBy recording asked status old new f f' w w'
+pub serves-none : (recording : Option (List ℕ)) (asked : ServeSettings) (status : Status) (old new : Outside) (f f' : Faults) (w w' : Written) → recording ≡ None → HasNoTape asked status old new f f' w w' → ServesBy recording asked status old new f f' w w'
 serves-none None asked status old new f f' w w' is h = h
 serves-none (Some name) asked status old new f f' w w' is h = absurd (some-none is)
   where
     some-none : Some name ≡ None → ⊥
     some-none e = cc
 
-pub serves-some : (recording : Option (List ℕ)) (name : List ℕ) (asked : Asked) (status : Status) (old new : Outside) (f f' : Faults) (w w' : Written) → recording ≡ Some name
+pub serves-some : (recording : Option (List ℕ)) (name : List ℕ) (asked : ServeSettings) (status : Status) (old new : Outside) (f f' : Faults) (w w' : Written) → recording ≡ Some name
     → IsUnrecorded status old new f f' w w' ⊎ IsRecorded asked status old new f f' w w' → ServesBy recording asked status old new f f' w w'
 serves-some None name asked status old new f f' w w' is h = absurd (none-some is)
   where

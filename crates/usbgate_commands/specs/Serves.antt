@@ -6,14 +6,14 @@ use Rattle.bridge_run.specs.Course.{Setting, Course, Next, Making, AtDoor}
 use Rattle.bridge_run.specs.Calls.{Goes}
 use Rattle.bridge_run.specs.Gate.{gate_sends}
 use Rattle.bridge_run.specs.GateStops.{gate_runs_out}
-use Rattle.bridge_run.specs.Events.{Event}
+use Rattle.bridge_run.specs.Events.{LinkEvent}
 use Rattle.bridge_run.specs.Lent.{lent_sends}
 use Rattle.bridge_run.specs.LentStops.{LentStops}
 use Rattle.session_tape.specs.Tapes.{counts}
 use Rattle.session_tape.specs.Lines.{first_comment}
 use Rattle.bridge_run.specs.Outside.{Outside, Written, Faults, written, faults, Tells, HasCause, HasReason}
 use Rattle.bridge_run.specs.Prescribed.{Prescribed as Sends}
-use Rattle.bridge_run.specs.Serves.{Begins, Leaves}
+use Rattle.bridge_run.specs.Serves.{NothingYet, Leaves}
 use Rattle.model_device.specs.Device.{first_state, meaning_of}
 use Rattle.model_device.specs.Keyboard.{keyboard}
 use Rattle.model_device.specs.Loopback.{loopback}
@@ -23,7 +23,7 @@ use Rattle.usbgate_tapes.specs.declared.model.device.Device.{Device}
 use Rattle.usbgate_tapes.specs.declared.model.device.Device.TheVariants.{Keyboard, Loopback, Tone, Disk}
 use Rattle.usbgate_tapes.specs.declared.status.Status.{Status}
 use Rattle.usbgate_tapes.specs.declared.status.Status.TheVariants.{Done, Refused, WriteFault, LinkFault, OutOfMemory, Idle, Spent}
-use Rattle.usbgate_commands.specs.Serving.{Asked}
+use Rattle.usbgate_commands.specs.Serving.{ServeSettings}
 use Rattle.usbgate_commands.specs.Lending.{AskedLent}
 use Rattle.usbgate_commands.specs.Recording.{IsUnmade}
 
@@ -32,7 +32,7 @@ abbrev pub budget : ℕ
 budget = 4611686018427387904
 
 -- the gateway between sockets
-abbrev pub setting_of : Asked → Setting
+abbrev pub setting_of : ServeSettings → Setting
 setting_of asked = record { served = gate_sends asked.after_loss asked.first_id; idle = asked.idle }
 
 -- a modelled device, which begins as it was plugged in
@@ -43,7 +43,7 @@ device_sends Tone = lent_sends (meaning_of tone) (first_state tone)
 device_sends Disk = lent_sends disk (first_disk 64)
 
 -- where memory runs out in it
-abbrev pub device_runs_out : Device → List Event → Event → List ℕ → List ℕ → Type 0
+abbrev pub device_runs_out : Device → List LinkEvent → LinkEvent → List ℕ → List ℕ → Type 0
 device_runs_out Keyboard = LentStops (meaning_of keyboard) (first_state keyboard)
 device_runs_out Loopback = LentStops (meaning_of loopback) (first_state loopback)
 device_runs_out Tone = LentStops (meaning_of tone) (first_state tone)
@@ -63,12 +63,12 @@ ended_as end.Memory = OutOfMemory
 
 -- it ends with the status of its end, which has its cause and its reason; and over doors that tell, and a sink and a tape
 -- that may, these are left as that end leaves them, by where memory may run out within an event
-pub record EndsOf (runs_out : List Event → Event → List ℕ → List ℕ → Type 0) (setting : Setting) (first : Next) (status : Status) (old new : Outside) (faults_old faults_new : Faults) (written_old written_new : Written) : Type 0 where
+pub record EndsOf (runs_out : List LinkEvent → LinkEvent → List ℕ → List ℕ → Type 0) (setting : Setting) (first : Next) (status : Status) (old new : Outside) (faults_old faults_new : Faults) (written_old written_new : Written) : Type 0 where
   pub end : ServeEnd
   pub status-is : status ≡ ended_as end
   pub cause : HasCause end old new faults_old faults_new
   pub reason : HasReason end setting.idle old new
-  pub leaves : (c : Course) → Begins setting.idle budget c → Tells old written_old c → Leaves end runs_out setting (Goes first c) new written_new
+  pub leaves : (c : Course) → NothingYet setting.idle budget c → Tells old written_old c → Leaves end runs_out setting (Goes first c) new written_new
 
 -- ---- serving, where the host is dialled first
 
@@ -80,23 +80,23 @@ pub record IsUnrecorded (status : Status) (old new : Outside) (faults_old faults
   pub cause : IsUnmade status faults_old.tape faults_new.tape
 
 -- behind the first line, where the tape tells its bytes
-pub record IsRecorded (asked : Asked) (status : Status) (old new : Outside) (faults_old faults_new : Faults) (written_old written_new : Written) : Type 0 where
+pub record IsRecorded (asked : ServeSettings) (status : Status) (old new : Outside) (faults_old faults_new : Faults) (written_old written_new : Written) : Type 0 where
   pub known : Option (List ℕ)
   pub first_line : IfSome known (λ held. held ≡ first_comment asked.first_id)
   pub ends : EndsOf (gate_runs_out asked.first_id) (setting_of asked) Making status old new faults_old faults_new (written written_old.begun written_old.told known) written_new
 
 -- with no tape the outside's one is as it was
-pub record HasNoTape (asked : Asked) (status : Status) (old new : Outside) (faults_old faults_new : Faults) (written_old written_new : Written) : Type 0 where
+pub record HasNoTape (asked : ServeSettings) (status : Status) (old new : Outside) (faults_old faults_new : Faults) (written_old written_new : Written) : Type 0 where
   pub tape-is : written_new.tape ≡ written_old.tape
   pub counts-are : faults_new.tape ≡ faults_old.tape
   pub ends : EndsOf (gate_runs_out asked.first_id) (setting_of asked) Making status old new (faults faults_old.sink (counts 0 0)) (faults faults_new.sink (counts 0 0)) (written written_old.begun written_old.told None) (written written_new.begun written_new.told None)
 
-abbrev pub ServesBy : Option (List ℕ) → Asked → Status → (old new : Outside) → (faults_old faults_new : Faults) → (written_old written_new : Written) → Type 0
+abbrev pub ServesBy : Option (List ℕ) → ServeSettings → Status → (old new : Outside) → (faults_old faults_new : Faults) → (written_old written_new : Written) → Type 0
 ServesBy None asked status old new faults_old faults_new written_old written_new = HasNoTape asked status old new faults_old faults_new written_old written_new
 ServesBy (Some name) asked status old new faults_old faults_new written_old written_new =
     IsUnrecorded status old new faults_old faults_new written_old written_new ⊎ IsRecorded asked status old new faults_old faults_new written_old written_new
 
-abbrev pub Serves : Status → Asked → (old new : Outside) → (faults_old faults_new : Faults) → (written_old written_new : Written) → Type 0
+abbrev pub Serves : Status → ServeSettings → (old new : Outside) → (faults_old faults_new : Faults) → (written_old written_new : Written) → Type 0
 Serves status asked old new faults_old faults_new written_old written_new = ServesBy asked.recording asked status old new faults_old faults_new written_old written_new
 
 -- the guest is asked for first

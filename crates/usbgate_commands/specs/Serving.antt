@@ -2,7 +2,7 @@
 use Rattle.std.specs.Prelude.{ℕ, List, Option}
 use Rattle.bridge_run.specs.declared.after_loss.AfterLoss.{AfterLoss}
 
-pub record Asked : Type 0 where
+pub record ServeSettings : Type 0 where
   -- the addresses of the host and of the clients' door
   pub host : List ℕ
   pub listen : List ℕ

@@ -13,14 +13,14 @@ use Rattle.usbgate_commands.specs.declared.command_table.Need.{Need}
 use Rattle.usbgate_commands.specs.declared.command_table.Need.TheVariants.{Must, May, MustNot}
 use Rattle.usbgate_commands.specs.declared.command_table.Verb.{Verb}
 use Rattle.usbgate_commands.specs.declared.command_table.Verb.TheVariants as verb
-use Rattle.usbgate_commands.specs.declared.command_table.Row.{Row}
+use Rattle.usbgate_commands.specs.declared.command_table.CommandRow.{CommandRow}
 use Rattle.usbgate_commands.specs.declared.command_table.TheConstants.{ROWS}
 use Rattle.usbgate_commands.specs.CommandLine.{found}
 use Rattle.usbgate_tapes.specs.declared.model.device.Device.{Device}
 use Rattle.usbgate_tapes.specs.model.Device.{device_of}
 use Rattle.bridge_run.specs.declared.after_loss.AfterLoss.{AfterLoss}
 use Rattle.bridge_run.specs.declared.after_loss.AfterLoss.TheVariants.{Keep, Close}
-use Rattle.usbgate_commands.specs.Serving.{Asked}
+use Rattle.usbgate_commands.specs.Serving.{ServeSettings}
 use Rattle.usbgate_commands.specs.Lending.{AskedLent}
 
 -- the words as texts
@@ -38,7 +38,7 @@ admits MustNot given = not given
 abbrev pub given_by : List Found → Text → Option Text
 given_by rows name = first_of name rows
 
-abbrev pub is_met : Row → (Text → Option Text) → Bool
+abbrev pub is_met : CommandRow → (Text → Option Text) → Bool
 is_met row given =
     list_all (λ (word : Need × Option Text). admits word.0 (is_some word.1))
     ((row.number, given (codes "number"))
@@ -61,7 +61,7 @@ name_of verb.Host = codes "host"
 name_of verb.Make = codes "make"
 name_of verb.Load = codes "load"
 
-abbrev pub row_named : Text → Option Row
+abbrev pub row_named : Text → Option CommandRow
 row_named name = find (λ row. bytes_eq (name_of row.verb) name) ROWS
 
 -- ---- what the values say
@@ -79,7 +79,7 @@ after_loss_of (Some text) = if bytes_eq text (codes "keep") then Some Keep else 
 abbrev pub side_of : Text → Option Side
 side_of text = if bytes_eq text (codes "client") then Some Client else if bytes_eq text (codes "host") then Some Host else None
 
-abbrev pub serving_of : (host listen : Option Text) → (idle first_id : Option ℕ) → Option AfterLoss → (recording : Option Text) → Option Asked
+abbrev pub serving_of : (host listen : Option Text) → (idle first_id : Option ℕ) → Option AfterLoss → (recording : Option Text) → Option ServeSettings
 serving_of (Some host) (Some listen) (Some idle) (Some first_id) (Some after_loss) recording =
     Some (record { host = host; listen = listen; idle = idle; first_id = first_id; after_loss = after_loss; recording = recording })
 serving_of _ _ _ _ _ recording = None
@@ -105,7 +105,7 @@ asked_by verb.Host given = option_map HostLent (lending_of (option_and_then devi
 asked_by verb.Make given = option_map Make (count_of (given (codes "number")))
 asked_by verb.Load given = option_map Load (count_of (given (codes "number")))
 
-abbrev pub by_row : Option Row → (Text → Option Text) → Option Command
+abbrev pub by_row : Option CommandRow → (Text → Option Text) → Option Command
 by_row None given = None
 by_row (Some row) given = if is_met row given then asked_by row.verb given else None
 

@@ -28,7 +28,7 @@ pub enum Verb {
 
 /// A command, and which words stand with it.
 #[derive(Clone, Copy)]
-pub struct Row {
+pub struct CommandRow {
     pub verb: Verb,
     pub number: Need,
     pub device: Need,
@@ -42,7 +42,7 @@ pub struct Row {
 }
 
 // A command that no word stands with; each row says what stands with its own.
-const BARE: Row = Row {
+const BARE: CommandRow = CommandRow {
     verb: Verb::Replay,
     number: Need::MustNot,
     device: Need::MustNot,
@@ -56,23 +56,23 @@ const BARE: Row = Row {
 };
 
 /// The commands that are built.
-pub const ROWS: [Row; 7] = [
-    Row {
+pub const ROWS: [CommandRow; 7] = [
+    CommandRow {
         verb: Verb::Replay,
         first_id: Need::May,
         ..BARE
     },
-    Row {
+    CommandRow {
         verb: Verb::Model,
         device: Need::Must,
         ..BARE
     },
-    Row {
+    CommandRow {
         verb: Verb::Show,
         side: Need::Must,
         ..BARE
     },
-    Row {
+    CommandRow {
         verb: Verb::Serve,
         host: Need::Must,
         listen: Need::Must,
@@ -82,19 +82,19 @@ pub const ROWS: [Row; 7] = [
         recording: Need::May,
         ..BARE
     },
-    Row {
+    CommandRow {
         verb: Verb::Host,
         device: Need::Must,
         listen: Need::Must,
         idle: Need::Must,
         ..BARE
     },
-    Row {
+    CommandRow {
         verb: Verb::Make,
         number: Need::Must,
         ..BARE
     },
-    Row {
+    CommandRow {
         verb: Verb::Load,
         number: Need::Must,
         ..BARE
@@ -131,9 +131,9 @@ impl Verb {
     }
 }
 
-impl Row {
+impl CommandRow {
     /// The row of the command with this name.
-    pub fn named(name: &str) -> Option<Row>
+    pub fn named(name: &str) -> Option<CommandRow>
         ensures { result ≡ row_named name.now }
     {
         ROWS.iter().find(|row| row.verb.name() == name).copied()

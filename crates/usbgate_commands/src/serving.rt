@@ -20,10 +20,10 @@ pub struct Serving<'a> {
 }
 
 impl<'a> Model for Serving<'a> {
-    ghost use Rattle.usbgate_commands.specs.Serving.{Asked};
+    ghost use Rattle.usbgate_commands.specs.Serving.{ServeSettings};
     ghost use Rattle.usbgate_commands.specs.inner.Given.{text_of};
 
-    ghost Value = { Asked };
+    ghost Value = { ServeSettings };
 
     ghost view = { λ serving. record { host = serving.host.now; listen = serving.listen.now; idle = serving.idle; first_id = serving.first_id; after_loss = serving.after_loss; recording = text_of serving.recording } };
 }

@@ -6,7 +6,7 @@ ghost use Rattle.usbgate_commands.specs.Words.{texts, first_id_of, after_loss_of
 ghost use Rattle.usbgate_commands.specs.inner.Given.{IsGiven};
 
 use crate::command_line::found;
-use crate::command_table::{Row, Verb};
+use crate::command_table::{CommandRow, Verb};
 use crate::given::Given;
 use crate::lending::Lending;
 use crate::serving::Serving;
@@ -66,7 +66,7 @@ fn known<'a>(given: &Given<'a>) -> Option<Command<'a>>
     ensures value { (words : List ℕ → Option (List ℕ)) → IsGiven given.now words → result ≡ command_in words }
     ensures numbers { IfSome result HasNumbers }
 {
-    let row = Row::named(given.command?)?;
+    let row = CommandRow::named(given.command?)?;
     if !row.is_met(given) {
         return None;
     }

@@ -1,7 +1,7 @@
 //! What is wrong with words that are no command.
 
 use crate::command_line::command_line;
-use crate::command_table::Row;
+use crate::command_table::CommandRow;
 use crate::given::Given;
 use clap::error::ErrorKind;
 use std::alloc::{AllocError, Global};
@@ -58,7 +58,7 @@ pub fn wrong_with<'a>(alloc: Global, words: &'a [&'a str]) -> Result<Wrong<'a>, 
     };
     let given = Given::of(&matches);
     let name = given.command.unwrap_or("");
-    Ok(match Row::named(name) {
+    Ok(match CommandRow::named(name) {
         None => Wrong::Name(name),
         Some(row) if row.is_met(&given) => Wrong::Value(name),
         Some(_) => Wrong::Options(name),

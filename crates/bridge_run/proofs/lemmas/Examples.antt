@@ -2,13 +2,13 @@
 use Rattle.std.proofs.Common.{◌≡◌, ℕ, true, false, List, [], ◌∷◌, ◌++◌, None, refl}
 use Rattle.gate_outside.specs.declared.turn.Turn.{Turn}
 use Rattle.gate_outside.specs.declared.turn.Turn.TheVariants.{Piece, Wait}
-use Rattle.bridge_run.specs.Events.{Event, ClientComes, ClientPiece, ClientQuiet, ClientEnd, HostPiece, HostEnd}
+use Rattle.bridge_run.specs.Events.{LinkEvent, ClientComes, ClientPiece, ClientQuiet, ClientEnd, HostPiece, HostEnd}
 use Rattle.bridge_run.specs.declared.serve_end.ServeEnd.TheVariants.{Ended}
 use Rattle.bridge_run.specs.Course.{Setting, Course, Making}
 use Rattle.bridge_run.specs.Recorded.{lines_of}
 use Rattle.bridge_run.specs.Calls.{Goes, Stops, calls}
 
-abbrev echo : List Event → List ℕ
+abbrev echo : List LinkEvent → List ℕ
 echo [] = []
 echo (ClientComes ∷ events) = echo events
 echo (ClientPiece b ∷ events) = echo events ++ b
@@ -39,7 +39,7 @@ start idle clients host = record {
 }
 
 -- an event's lines are put behind those before it
-abbrev behind : List ℕ → Event → List ℕ
+abbrev behind : List ℕ → LinkEvent → List ℕ
 behind lines e = lines ++ lines_of e []
 
 -- A host's three pieces and its end, and a client's one, behind which it waits once. Each piece is sent to the client, and

@@ -3,7 +3,7 @@ use Rattle.std.specs.Prelude.{◌≡◌, ◌⊎◌, ◌≤◌, ◌-◌, ℕ, Boo
 use Rattle.gate_outside.specs.Faults.{one_more}
 use Rattle.bridge_run.specs.declared.serve_end.ServeEnd.{ServeEnd}
 use Rattle.bridge_run.specs.declared.serve_end.ServeEnd.TheVariants.{Ended, LinkFault, WriteFault, Idle, Spent, Memory}
-use Rattle.bridge_run.specs.declared.kept.Kept.{Kept}
+use Rattle.bridge_run.specs.declared.rounds.Rounds.{Rounds}
 use Rattle.bridge_run.specs.Outside.{Outside, IsDown}
 
 -- the counts of idle answers stand
@@ -12,9 +12,9 @@ pub record NotIdle (old new : Outside) : Type 0 where
   pub host : new.host.idle ≡ old.host.idle
 
 -- a part of a round asks a side or doesn't: if it does, and nothing comes, that side was idle once
-abbrev pub Asked : Bool → Kept → Kept → ℕ → ℕ → Type 0
-Asked true k k' old new = (k'.busy ≡ true) × (old ≤ new) ⊎ (k' ≡ k) × (new ≡ one_more old)
-Asked false k k' old new = (k' ≡ k) × (new ≡ old)
+abbrev pub IdledOnce : Bool → Rounds → Rounds → ℕ → ℕ → Type 0
+IdledOnce true k k' old new = (k'.busy ≡ true) × (old ≤ new) ⊎ (k' ≡ k) × (new ≡ one_more old)
+IdledOnce false k k' old new = (k' ≡ k) × (new ≡ old)
 
 -- an end within a round: with `Ended` no link is up, and `Idle` doesn't come
 abbrev pub EndsWithin : {T : Type 0} → Result T ServeEnd → Outside → Type 0
@@ -36,7 +36,7 @@ pub record AnyRound (old new : Outside) : Type 0 where
   pub client : old.client.idle ≤ new.client.idle
   pub host : old.host.idle ≤ new.host.idle
 
-abbrev pub RoundIdles : Result (Unit {0}) ServeEnd → Kept → Kept → Outside → Outside → Type 0
+abbrev pub RoundIdles : Result (Unit {0}) ServeEnd → Rounds → Rounds → Outside → Outside → Type 0
 RoundIdles (Ok _) k k' old new = AnyRound old new × ((k'.waits ≡ k.idle) ⊎ (k'.waits ≡ k.waits - 1) × QuietRound old new)
 RoundIdles (Err Idle) k k' old new = (k.waits ≡ 1) × QuietRound old new
 RoundIdles (Err (Ended refused)) k k' old new = IsDown new

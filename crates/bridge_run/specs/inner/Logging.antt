@@ -4,10 +4,10 @@ use Rattle.usb_base.specs.declared.side.Side.{Side}
 use Rattle.usb_base.specs.declared.side.Side.TheVariants.{Client, Host}
 use Rattle.gate_outside.specs.Calls.{Call, Close, Called, went}
 use Rattle.gate_outside.specs.Link.{other}
-use Rattle.bridge_run.specs.Events.{Event, ClientQuiet, ClientEnd}
+use Rattle.bridge_run.specs.Events.{LinkEvent, ClientQuiet, ClientEnd}
 use Rattle.bridge_run.specs.declared.serve_end.ServeEnd.{ServeEnd}
 use Rattle.bridge_run.specs.declared.serve_end.ServeEnd.TheVariants.{Ended, LinkFault, WriteFault, Idle, Spent, Memory}
-use Rattle.bridge_run.specs.declared.kept.Kept.{Kept}
+use Rattle.bridge_run.specs.declared.rounds.Rounds.{Rounds}
 use Rattle.bridge_run.specs.Prescribed.{Prescribed, first_of}
 use Rattle.bridge_run.specs.Calls.{ends_next}
 use Rattle.bridge_run.specs.Ups.{client_at, client_behind, host_at, host_since, told_of}
@@ -16,7 +16,7 @@ use Rattle.bridge_run.specs.Log.{Terms, events_of, IsWritten, IsWrittenInPart, G
 use Rattle.bridge_run.specs.inner.Keeping.{one_if, is_over as none_up}
 
 -- what is served stands for the events that came, and all is written that they send
-pub record IsAt {D : Type 0} (gives : D → Call → D → Type 0) (stands : List Event → Type 0) (tells : List ℕ → Type 0) (terms : Terms) (p : Prescribed) (asks : List Ask) (k : Kept) (begun now : D) : Type 0 where
+pub record IsAt {D : Type 0} (gives : D → Call → D → Type 0) (stands : List LinkEvent → Type 0) (tells : List ℕ → Type 0) (terms : Terms) (p : Prescribed) (asks : List Ask) (k : Rounds) (begun now : D) : Type 0 where
   pub calls : List Call
   pub called : Called gives calls begun now
   pub settled : Settled terms p calls
@@ -30,12 +30,12 @@ pub record IsAt {D : Type 0} (gives : D → Call → D → Type 0) (stands : Lis
   pub refused : k.refused ≡ first_of (p.refusals (events_of calls))
 
 -- the latest event is still to be taken
-pub record IsTaking {D : Type 0} (gives : D → Call → D → Type 0) (stands : List Event → Type 0) (tells : List ℕ → Type 0) (terms : Terms) (p : Prescribed) (asks : List Ask) (e : Event) (k : Kept) (begun now : D) : Type 0 where
+pub record IsTaking {D : Type 0} (gives : D → Call → D → Type 0) (stands : List LinkEvent → Type 0) (tells : List ℕ → Type 0) (terms : Terms) (p : Prescribed) (asks : List Ask) (e : LinkEvent) (k : Rounds) (begun now : D) : Type 0 where
   pub calls : List Call
   pub called : Called gives calls begun now
   pub settled : Settled terms p calls
   pub asks-are : asks_of calls ≡ asks
-  pub events : List Event
+  pub events : List LinkEvent
   pub events-are : events_of calls ≡ e ∷ events
   pub just_came : JustCame calls
   pub stands_for : stands events
@@ -47,31 +47,31 @@ pub record IsTaking {D : Type 0} (gives : D → Call → D → Type 0) (stands :
   pub refused : k.refused ≡ first_of (p.refusals events)
 
 -- the latest event was taken
-pub record HasTaken {D : Type 0} (gives : D → Call → D → Type 0) (stands : List Event → Type 0) (tells : List ℕ → Type 0) (terms : Terms) (p : Prescribed) (asks : List Ask) (k : Kept) (begun now : D) : Type 0 where
+pub record HasTaken {D : Type 0} (gives : D → Call → D → Type 0) (stands : List LinkEvent → Type 0) (tells : List ℕ → Type 0) (terms : Terms) (p : Prescribed) (asks : List Ask) (k : Rounds) (begun now : D) : Type 0 where
   pub at : IsAt gives stands tells terms p asks k begun now
   pub just_came : JustCame at.calls
   pub over : is_over terms p (events_of at.calls) ≡ none_up k
 
 -- the end of a client is still to be taken, or nothing is
-abbrev pub IsBehind : {D : Type 0} → Bool → (D → Call → D → Type 0) → (List Event → Type 0) → (List ℕ → Type 0) → Terms → Prescribed → List Ask → Kept → D → D → Type 0
+abbrev pub IsBehind : {D : Type 0} → Bool → (D → Call → D → Type 0) → (List LinkEvent → Type 0) → (List ℕ → Type 0) → Terms → Prescribed → List Ask → Rounds → D → D → Type 0
 IsBehind true gives stands tells terms p asks k begun now = IsTaking gives stands tells terms p asks ClientEnd k begun now
 IsBehind false gives stands tells terms p asks k begun now = HasTaken gives stands tells terms p asks k begun now
 
-abbrev pub PutLogs : {D : Type 0} → Result Bool ServeEnd → (D → Call → D → Type 0) → (List Event → Type 0) → (List Event → Event → List ℕ → List ℕ → Type 0) → (List ℕ → Type 0) → Terms → Prescribed → List Ask → Event → Kept → D → D → Type 0
+abbrev pub PutLogs : {D : Type 0} → Result Bool ServeEnd → (D → Call → D → Type 0) → (List LinkEvent → Type 0) → (List LinkEvent → LinkEvent → List ℕ → List ℕ → Type 0) → (List ℕ → Type 0) → Terms → Prescribed → List Ask → LinkEvent → Rounds → D → D → Type 0
 PutLogs (Ok dropped) gives stands runs_out tells terms p asks e k begun now = IsBehind (ends_next e dropped) gives stands tells terms p asks k begun now
 PutLogs (Err x) gives stands runs_out tells terms p asks e k begun now = Logged x gives runs_out tells terms p begun now
 
 -- nothing is still to be taken, and more may come
-pub record IsOn {D : Type 0} (gives : D → Call → D → Type 0) (stands : List Event → Type 0) (tells : List ℕ → Type 0) (terms : Terms) (p : Prescribed) (asks : List Ask) (k : Kept) (begun now : D) : Type 0 where
+pub record IsOn {D : Type 0} (gives : D → Call → D → Type 0) (stands : List LinkEvent → Type 0) (tells : List ℕ → Type 0) (terms : Terms) (p : Prescribed) (asks : List Ask) (k : Rounds) (begun now : D) : Type 0 where
   pub at : IsAt gives stands tells terms p asks k begun now
   pub goes_on : GoesOn terms p at.calls
 
-abbrev pub HappenLogs : {T D : Type 0} → Result T ServeEnd → (D → Call → D → Type 0) → (List Event → Type 0) → (List Event → Event → List ℕ → List ℕ → Type 0) → (List ℕ → Type 0) → Terms → Prescribed → List Ask → Kept → D → D → Type 0
+abbrev pub HappenLogs : {T D : Type 0} → Result T ServeEnd → (D → Call → D → Type 0) → (List LinkEvent → Type 0) → (List LinkEvent → LinkEvent → List ℕ → List ℕ → Type 0) → (List ℕ → Type 0) → Terms → Prescribed → List Ask → Rounds → D → D → Type 0
 HappenLogs (Ok _) gives stands runs_out tells terms p asks k begun now = IsOn gives stands tells terms p asks k begun now
 HappenLogs (Err e) gives stands runs_out tells terms p asks k begun now = Logged e gives runs_out tells terms p begun now
 
 -- a side had nothing
-abbrev pub IsResting : {D : Type 0} → Side → (D → Call → D → Type 0) → (List Event → Type 0) → (List ℕ → Type 0) → Terms → Prescribed → List Ask → Kept → D → D → Type 0
+abbrev pub IsResting : {D : Type 0} → Side → (D → Call → D → Type 0) → (List LinkEvent → Type 0) → (List ℕ → Type 0) → Terms → Prescribed → List Ask → Rounds → D → D → Type 0
 IsResting Client gives stands tells terms p asks k begun now = IsTaking gives stands tells terms p asks ClientQuiet k begun now
 IsResting Host gives stands tells terms p asks k begun now = IsOn gives stands tells terms p asks k begun now
 
@@ -85,30 +85,30 @@ pub data Stage : Type 0 where
   HostAsked : Stage
 
 -- rounds may bring nothing
-pub record IsPatient (terms : Terms) (k : Kept) : Type 0 where
+pub record IsPatient (terms : Terms) (k : Rounds) : Type 0 where
   pub idle : k.idle ≡ terms.idle
   pub some : 0 < terms.idle
   pub waits : 0 < k.waits
   pub within : k.waits ≤ terms.idle
 
 -- whether the client's side was asked in this round, and whether the client that is there has just come
-pub record HasWaited (asked just_come : Bool) (terms : Terms) (k : Kept) (asks : List Ask) : Type 0 where
+pub record HasWaited (asked just_come : Bool) (terms : Terms) (k : Rounds) (asks : List Ask) : Type 0 where
   pub came : k.client_up ≡ true → has_just_come asks ≡ just_come
   pub busy : k.busy ≡ true → quiet_rounds asks ≡ 0
   pub quiet : k.busy ≡ false → k.waits + quiet_rounds asks ≡ terms.idle + one_if asked
 
-abbrev pub Waits : Stage → Terms → Kept → List Ask → Type 0
+abbrev pub Waits : Stage → Terms → Rounds → List Ask → Type 0
 Waits RoundBegins terms k asks = (k.busy ≡ false) × HasWaited false false terms k asks
 Waits DoorAsked terms k asks = HasWaited (not k.client_up) k.busy terms k asks
 Waits ClientAsked terms k asks = HasWaited true false terms k asks
 Waits HostAsked terms k asks = HasWaited true false terms k asks
 
 -- whom it asked last, by whether a client is there
-abbrev pub DoorTurn : Bool → Kept → List Ask → Type 0
+abbrev pub DoorTurn : Bool → Rounds → List Ask → Type 0
 DoorTurn true k asks = (has_just_come asks ≡ true) ⊎ (k.host_up ≡ true → is_behind_host asks ≡ true)
 DoorTurn false k asks = is_behind_client asks ≡ true
 
-abbrev pub HasTurn : Stage → Kept → List Ask → Type 0
+abbrev pub HasTurn : Stage → Rounds → List Ask → Type 0
 HasTurn RoundBegins k asks = k.host_up ≡ true → is_behind_host asks ≡ true
 HasTurn DoorAsked k asks = DoorTurn k.client_up k asks
 HasTurn ClientAsked k asks = is_behind_client asks ≡ true
@@ -124,14 +124,14 @@ abbrev pub stage_behind : Side → Stage
 stage_behind Client = ClientAsked
 stage_behind Host = HostAsked
 
-pub record IsAsking {D : Type 0} (stage : Stage) (gives : D → Call → D → Type 0) (stands : List Event → Type 0) (tells : List ℕ → Type 0) (terms : Terms) (p : Prescribed) (k : Kept) (begun now : D) : Type 0 where
+pub record IsAsking {D : Type 0} (stage : Stage) (gives : D → Call → D → Type 0) (stands : List LinkEvent → Type 0) (tells : List ℕ → Type 0) (terms : Terms) (p : Prescribed) (k : Rounds) (begun now : D) : Type 0 where
   pub asks : List Ask
   pub on : IsOn gives stands tells terms p asks k begun now
   pub patient : IsPatient terms k
   pub waited : Waits stage terms k asks
   pub turn : HasTurn stage k asks
 
-abbrev pub Logs : {T D : Type 0} → Result T ServeEnd → Stage → (D → Call → D → Type 0) → (List Event → Type 0) → (List Event → Event → List ℕ → List ℕ → Type 0) → (List ℕ → Type 0) → Terms → Prescribed → Kept → D → D → Type 0
+abbrev pub Logs : {T D : Type 0} → Result T ServeEnd → Stage → (D → Call → D → Type 0) → (List LinkEvent → Type 0) → (List LinkEvent → LinkEvent → List ℕ → List ℕ → Type 0) → (List ℕ → Type 0) → Terms → Prescribed → Rounds → D → D → Type 0
 Logs (Ok _) stage gives stands runs_out tells terms p k begun now = IsAsking stage gives stands tells terms p k begun now
 Logs (Err e) stage gives stands runs_out tells terms p k begun now = Logged e gives runs_out tells terms p begun now
 

@@ -1,12 +1,12 @@
 -- What an event has sent.
 use Rattle.std.specs.Prelude.{◌≡◌, ℕ, ◌++◌, ◌∷◌, ◌||◌, List}
-use Rattle.bridge_run.specs.Events.{Event}
+use Rattle.bridge_run.specs.Events.{LinkEvent}
 use Rattle.bridge_run.specs.declared.sent.Sent.{Sent}
 use Rattle.bridge_run.specs.Prescribed.{Prescribed, gained}
 use Rattle.bridge_run.specs.RanOut.{RanOutWithin}
 use Rattle.bridge_run.specs.Log.{IsFront}
 
-pub record Sends (p : Prescribed) (events : List Event) (e : Event) (old new : Sent) : Type 0 where
+pub record Sends (p : Prescribed) (events : List LinkEvent) (e : LinkEvent) (old new : Sent) : Type 0 where
   pub client : new.to_client ≡ old.to_client ++ gained p.to_client events e
   pub host : new.to_host ≡ old.to_host ++ gained p.to_host events e
   pub refusals : new.refusals ≡ old.refusals ++ gained p.refusals events e
@@ -17,12 +17,12 @@ pub record Sends (p : Prescribed) (events : List Event) (e : Event) (old new : S
 -- ---- memory ran out within it
 
 -- of what the event sends to each side this is a front, and here memory ran out
-pub record IsPart (runs_out : List Event → Event → List ℕ → List ℕ → Type 0) (p : Prescribed) (events : List Event) (e : Event) (client host : List ℕ) : Type 0 where
+pub record IsPart (runs_out : List LinkEvent → LinkEvent → List ℕ → List ℕ → Type 0) (p : Prescribed) (events : List LinkEvent) (e : LinkEvent) (client host : List ℕ) : Type 0 where
   pub to_client : IsFront client (gained p.to_client events e)
   pub to_host : IsFront host (gained p.to_host events e)
   pub ran_out : RanOutWithin runs_out p events e client host
 
-pub record SendsPart (runs_out : List Event → Event → List ℕ → List ℕ → Type 0) (p : Prescribed) (events : List Event) (e : Event) (old new : Sent) : Type 0 where
+pub record SendsPart (runs_out : List LinkEvent → LinkEvent → List ℕ → List ℕ → Type 0) (p : Prescribed) (events : List LinkEvent) (e : LinkEvent) (old new : Sent) : Type 0 where
   pub client : List ℕ
   pub host : List ℕ
   pub to_client : new.to_client ≡ old.to_client ++ client

@@ -3,10 +3,10 @@ use Rattle.std.specs.Prelude.{◌≡◌, ◌++◌, ◌∷◌, [], ℕ, if◌then
 use Rattle.usb_base.specs.declared.side.Side.{Side}
 use Rattle.usb_base.specs.declared.side.Side.TheVariants.{Client, Host}
 use Rattle.gate_outside.specs.Calls.{Call, Called, went}
-use Rattle.bridge_run.specs.Events.{Event}
+use Rattle.bridge_run.specs.Events.{LinkEvent}
 use Rattle.bridge_run.specs.declared.serve_end.ServeEnd.{ServeEnd}
 use Rattle.bridge_run.specs.declared.serve_end.ServeEnd.TheVariants.{Ended, LinkFault, WriteFault, Idle, Spent, Memory}
-use Rattle.bridge_run.specs.declared.kept.Kept.{Kept}
+use Rattle.bridge_run.specs.declared.rounds.Rounds.{Rounds}
 use Rattle.bridge_run.specs.Prescribed.{Prescribed}
 use Rattle.bridge_run.specs.Course.{Course}
 use Rattle.bridge_run.specs.Ups.{client_at, client_behind, host_at, host_since, to_clients, sent_to_host}
@@ -15,12 +15,12 @@ use Rattle.bridge_run.specs.RanOut.{RanOut}
 use Rattle.bridge_run.specs.Log.{Terms, events_of, IsWritten, IsWrittenInPart, Settled, JustCame}
 
 -- what is kept of the links is the course's
-pub record AreUp (k : Kept) (c : Course) : Type 0 where
+pub record AreUp (k : Rounds) (c : Course) : Type 0 where
   pub client : k.client_up ≡ c.client_up
   pub host : k.host_up ≡ c.host_up
 
 -- the latest event is still to be sent for
-pub record IsStopping {D : Type 0} (gives : D → Call → D → Type 0) (terms : Terms) (p : Prescribed) (e : Event) (events : List Event) (k : Kept) (begun now : D) : Type 0 where
+pub record IsStopping {D : Type 0} (gives : D → Call → D → Type 0) (terms : Terms) (p : Prescribed) (e : LinkEvent) (events : List LinkEvent) (k : Rounds) (begun now : D) : Type 0 where
   pub calls : List Call
   pub called : Called gives calls begun now
   pub settled : Settled terms p calls
@@ -31,7 +31,7 @@ pub record IsStopping {D : Type 0} (gives : D → Call → D → Type 0) (terms 
   pub host_up : k.host_up ≡ host_at e (host_since (is_some terms.host) p events)
 
 -- what it had sent is written
-pub record HasStopped {D : Type 0} (gives : D → Call → D → Type 0) (runs_out : List Event → Event → List ℕ → List ℕ → Type 0) (terms : Terms) (p : Prescribed) (e : Event) (events : List Event) (begun now : D) : Type 0 where
+pub record HasStopped {D : Type 0} (gives : D → Call → D → Type 0) (runs_out : List LinkEvent → LinkEvent → List ℕ → List ℕ → Type 0) (terms : Terms) (p : Prescribed) (e : LinkEvent) (events : List LinkEvent) (begun now : D) : Type 0 where
   pub calls : List Call
   pub called : Called gives calls begun now
   pub settled : Settled terms p calls
@@ -44,7 +44,7 @@ pub record HasStopped {D : Type 0} (gives : D → Call → D → Type 0) (runs_o
   pub host : went Host calls ≡ sent_to_host (is_some terms.host) p events ++ (if host_at e (host_since (is_some terms.host) p events) then to_host else [])
 
 -- a fault came first
-pub record StopFailed {D : Type 0} (gives : D → Call → D → Type 0) (terms : Terms) (p : Prescribed) (e : Event) (events : List Event) (begun now : D) : Type 0 where
+pub record StopFailed {D : Type 0} (gives : D → Call → D → Type 0) (terms : Terms) (p : Prescribed) (e : LinkEvent) (events : List LinkEvent) (begun now : D) : Type 0 where
   pub calls : List Call
   pub called : Called gives calls begun now
   pub settled : Settled terms p calls
@@ -53,11 +53,11 @@ pub record StopFailed {D : Type 0} (gives : D → Call → D → Type 0) (terms 
   pub written : IsWrittenInPart terms p (e ∷ events) calls
 
 -- which was that of a link
-pub record StopCut {D : Type 0} (side : Side) (gives : D → Call → D → Type 0) (terms : Terms) (p : Prescribed) (e : Event) (events : List Event) (begun now : D) : Type 0 where
+pub record StopCut {D : Type 0} (side : Side) (gives : D → Call → D → Type 0) (terms : Terms) (p : Prescribed) (e : LinkEvent) (events : List LinkEvent) (begun now : D) : Type 0 where
   pub part : StopFailed gives terms p e events begun now
   pub failed : last_fault part.calls ≡ Some side
 
-abbrev pub StopLogs : {D : Type 0} → ServeEnd → (D → Call → D → Type 0) → (List Event → Event → List ℕ → List ℕ → Type 0) → Terms → Prescribed → Event → List Event → D → D → Type 0
+abbrev pub StopLogs : {D : Type 0} → ServeEnd → (D → Call → D → Type 0) → (List LinkEvent → LinkEvent → List ℕ → List ℕ → Type 0) → Terms → Prescribed → LinkEvent → List LinkEvent → D → D → Type 0
 StopLogs Memory gives runs_out terms p e events begun now = HasStopped gives runs_out terms p e events begun now
 StopLogs WriteFault gives runs_out terms p e events begun now = StopFailed gives terms p e events begun now
 StopLogs (LinkFault side) gives runs_out terms p e events begun now = StopCut side gives terms p e events begun now

@@ -15,7 +15,7 @@ use Rattle.direct_run.specs.Noted.{named}
 use Rattle.direct_proof.specs.Moves.{import_deeds, submit_deeds, unlink_deeds, arrive_deeds}
 
 -- with this the client is gone, and nothing else is done
-pub record Leaves (st : State) (e : Effect) : Type 0 where
+pub record ClientGoes (st : State) (e : Effect) : Type 0 where
   pub gone : leaves e ≡ true
   pub keeps : is_loss e ≡ false
   pub open_host : closes_host e ≡ false
@@ -28,8 +28,8 @@ pub record Leaves (st : State) (e : Effect) : Type 0 where
   pub no_note : flat_map named (import_notes e ++ submit_notes e ++ unlink_notes e ++ arrival_notes e) ≡ []
   pub unnamed : flat_map named (refusal_notes (refused_at e)) ≡ []
 
-pub end-leaves : (st : State) → Leaves st (Ends Client)
+pub end-leaves : (st : State) → ClientGoes st (Ends Client)
 end-leaves st = record { gone = refl; keeps = refl; open_host = refl; no_caps = refl; no_import = refl; silent = refl; asked = refl; no_word = refl; no_deed = refl; no_note = refl; unnamed = refl }
 
-pub refusal-leaves : (st : State) (place : ℕ) (why : Reason) → Leaves st (refused Client place why)
+pub refusal-leaves : (st : State) (place : ℕ) (why : Reason) → ClientGoes st (refused Client place why)
 refusal-leaves st place why = record { gone = refl; keeps = refl; open_host = refl; no_caps = refl; no_import = refl; silent = refl; asked = refl; no_word = refl; no_deed = refl; no_note = refl; unnamed = refl }

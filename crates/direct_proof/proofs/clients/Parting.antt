@@ -24,7 +24,7 @@ use Rattle.direct_proof.specs.Moves.{Made, gate_made, move, quiet, when}
 use Rattle.direct_proof.specs.Related.{Related}
 use Rattle.direct_proof.specs.Shared.{Shared, view}
 use Rattle.direct_proof.specs.Runs.{IsRun}
-use Rattle.direct_proof.proofs.clients.Leaves.{Leaves, end-leaves, refusal-leaves}
+use Rattle.direct_proof.proofs.clients.Leaves.{ClientGoes, end-leaves, refusal-leaves}
 use Rattle.direct_proof.proofs.leaving.Left.{leaving-made, left_world}
 use Rattle.direct_proof.proofs.leaving.Leaving.{keep-gone}
 use Rattle.direct_proof.proofs.races.Gates.{run-sound}
@@ -40,7 +40,7 @@ module _ {S : Type 0} (m : Meaning S) (w : World S) (j : Shared) (rel : Related 
   sound = run-sound w.gate run
 
   -- one that hasn't imported leaves nothing
-  keep-outside : (e : Effect) → Leaves st e → st.imported ≡ false → Keeps m w j (gate_made w (mark_as st e None))
+  keep-outside : (e : Effect) → ClientGoes st e → st.imported ≡ false → Keeps m w j (gate_made w (mark_as st e None))
   keep-outside e l out = go st.client_over refl
     where
       downs : st.streams ≡ no_streams
@@ -93,7 +93,7 @@ module _ {S : Type 0} (m : Meaning S) (w : World S) (j : Shared) (rel : Related 
       go true h = absurd (clash st.imported inside (rel.sides.refused h))
       go false h = refl
 
-  keep-parting : (e : Effect) → Leaves st e → Keeps m w j (gate_made w (mark_as st e None))
+  keep-parting : (e : Effect) → ClientGoes st e → Keeps m w j (gate_made w (mark_as st e None))
   keep-parting e l = go st.imported refl
     where
       go : (b : Bool) → st.imported ≡ b → Keeps m w j (gate_made w (mark_as st e None))

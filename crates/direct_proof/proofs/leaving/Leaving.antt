@@ -10,11 +10,11 @@ use Rattle.direct_proof.specs.Moves.{gate_made}
 use Rattle.direct_proof.specs.Related.{Related}
 use Rattle.direct_proof.specs.Runs.{IsRun}
 use Rattle.direct_proof.specs.Shared.{Shared}
-use Rattle.direct_proof.proofs.clients.Leaves.{Leaves}
+use Rattle.direct_proof.proofs.clients.Leaves.{ClientGoes}
 use Rattle.direct_proof.proofs.leaving.Left.{leaving-made}
 use Rattle.direct_proof.proofs.leaving.LeftKept.{keep-left}
 use Rattle.direct_proof.proofs.leaving.Stopping.{run-stopping}
 use Rattle.direct_proof.proofs.shared.Keeps.{Keeps}
 
-pub keep-gone : {S : Type 0} (m : Meaning S) (w : World S) (j : Shared) → Related m w j → IsRun w.gate → (e : Effect) → Leaves w.gate e → w.gate.imported ≡ true → w.gate.client_over ≡ false → Keeps m w j (gate_made w (mark_as w.gate e None))
+pub keep-gone : {S : Type 0} (m : Meaning S) (w : World S) (j : Shared) → Related m w j → IsRun w.gate → (e : Effect) → ClientGoes w.gate e → w.gate.imported ≡ true → w.gate.client_over ≡ false → Keeps m w j (gate_made w (mark_as w.gate e None))
 keep-gone m w j rel run e l inside there = subst (Keeps m w j) (sym (leaving-made w e l)) (keep-left m w j rel (run-stopping w.gate run rel.ups.count_is) inside (cancels e) (turned refuses_client ends_client e w.gate.client_over) there)

@@ -27,7 +27,7 @@ use Rattle.direct_run.specs.Noted.{named}
 use Rattle.direct_run.specs.declared.submitted.Submitted.{Submitted}
 use Rattle.direct_device.specs.Acting.{Answer, ClientGone, Gone}
 use Rattle.direct_proof.specs.Moves.{Made, gate_made, when}
-use Rattle.direct_proof.proofs.clients.Leaves.{Leaves}
+use Rattle.direct_proof.proofs.clients.Leaves.{ClientGoes}
 
 -- the stops of all streams, with their ids
 abbrev pub leave_ids : State → List ℕ
@@ -67,7 +67,7 @@ no-left : (b : Bool) → flat_map named (notes.when b note.ClientGone) ≡ []
 no-left true = refl
 no-left false = refl
 
-module _ {S : Type 0} (w : World S) (e : Effect) (l : Leaves w.gate e) where
+module _ {S : Type 0} (w : World S) (e : Effect) (l : ClientGoes w.gate e) where
   abbrev st : State
   st = w.gate
 

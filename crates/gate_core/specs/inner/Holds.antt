@@ -95,7 +95,7 @@ pub record DoesNothing (old new : Kept) (out_old out_new : Outputs) : Type 0 whe
   pub outputs : out_new ≡ out_old
 
 -- for want of memory what is kept stands, and the outputs may have the first of what was to be sent and told
-pub record Leaves (old new : Kept) (out_old out_new : Outputs) : Type 0 where
+pub record StopsShort (old new : Kept) (out_old out_new : Outputs) : Type 0 where
   pub same : new ≡ old
   pub client : Extends out_old.to_client out_new.to_client
   pub host : Extends out_old.to_host out_new.to_host

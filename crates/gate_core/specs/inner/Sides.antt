@@ -4,7 +4,7 @@ use Rattle.usb_base.specs.declared.memory.Memory.{Memory}
 use Rattle.usb_base.specs.declared.reason.Reason.{Reason}
 use Rattle.packet_stream.specs.declared.read.ReadError.{ReadError}
 use Rattle.packet_stream.specs.Split.{Reader}
-use Rattle.packet_stream.specs.Streams.{Kept, passed, Follows, Nexts, Changes, capped}
+use Rattle.packet_stream.specs.Streams.{StreamView, passed, Follows, Nexts, Changes, capped}
 use Rattle.packet_stream.specs.Items.{SideStream, added}
 use Rattle.usbip_urb.specs.declared.client.ClientPacket.{ClientPacket}
 use Rattle.redir_wire.specs.declared.packet.Header.{Header}
@@ -78,12 +78,12 @@ pub record IsSide {S P : Type 0} (first : ℕ) (h : Half S P) (r : Reader S P Re
 -- ---- where its stream stands
 
 -- behind these items, which its bytes have brought
-pub record IsAt {S P : Type 0} (first : ℕ) (h : Half S P) (kept : Kept S) (t : Translator) (bytes : List ℕ) (before : List Item) : Type 0 where
+pub record IsAt {S P : Type 0} (first : ℕ) (h : Half S P) (kept : StreamView S) (t : Translator) (bytes : List ℕ) (before : List Item) : Type 0 where
   pub all : HasAll h.stream.reader h.stream.start kept bytes (h.came before) (h.stream.over before)
   pub translates : Translates first (items_of t) before
 
 -- behind some items, and it goes on
-pub record GoesOn {S P : Type 0} (first : ℕ) (h : Half S P) (kept : Kept S) (t : Translator) : Type 0 where
+pub record GoesOn {S P : Type 0} (first : ℕ) (h : Half S P) (kept : StreamView S) (t : Translator) : Type 0 where
   pub items : List Item
   pub bytes : List ℕ
   pub follows : Follows h.stream.reader h.stream.start kept bytes (h.came items)
@@ -93,13 +93,13 @@ pub record GoesOn {S P : Type 0} (first : ℕ) (h : Half S P) (kept : Kept S) (t
 -- what it answers next, wherever it stands, is an item that the translator can take
 abbrev pub FitsNext : {S P : Type 0} → (ℕ → Half S P) → Reader S P Reason → (P → Bool) → (ℕ → P → RawItem) → (ℕ → Reason → RawItem) → Type 0
 FitsNext {S = S} {P = P} half r takes raw_packet raw_wrong =
-    (kept new : Kept S) (t : Translator) (answer : Result (Option (ℕ × P)) ReadError) (item : RawItem) → (kept.over ≡ false → ∥ ((first : ℕ) × GoesOn first (half first) kept t) ∥₁) →
+    (kept new : StreamView S) (t : Translator) (answer : Result (Option (ℕ × P)) ReadError) (item : RawItem) → (kept.over ≡ false → ∥ ((first : ℕ) × GoesOn first (half first) kept t) ∥₁) →
     item_next raw_packet raw_wrong answer ≡ Ok (Some item) → Changes answer kept new → Nexts r takes answer kept new → ItemFits t.caps item
 
 -- ---- a piece of it
 
 -- all that the piece brought was taken or is left out
-pub record Finished {S P : Type 0} (first : ℕ) (h : Half S P) (kept : Kept S) (t : Translator) (bytes piece : List ℕ) (before : List Item) (out_old out_new : Outputs) : Type 0 where
+pub record Finished {S P : Type 0} (first : ℕ) (h : Half S P) (kept : StreamView S) (t : Translator) (bytes piece : List ℕ) (before : List Item) (out_old out_new : Outputs) : Type 0 where
   pub all : HasAll h.stream.reader h.stream.start kept (bytes ++ piece) (h.came (onto (added h.stream bytes piece) before)) (h.stream.over (onto (added h.stream bytes piece) before))
   pub translates : Translates first (items_of t) (onto (added h.stream bytes piece) before)
   pub sends : Sends first out_old out_new before (onto (added h.stream bytes piece) before)
@@ -107,7 +107,7 @@ pub record Finished {S P : Type 0} (first : ℕ) (h : Half S P) (kept : Kept S) 
   pub other_over : h.other_over (onto (added h.stream bytes piece) before) ≡ h.other_over before
 
 -- memory ran out for one of the items that the piece brought: those before it were taken
-pub record Halted {S P : Type 0} (first : ℕ) (h : Half S P) (kept : Kept S) (t : Translator) (bytes piece : List ℕ) (before : List Item) (out_old out_new : Outputs) : Type 0 where
+pub record Halted {S P : Type 0} (first : ℕ) (h : Half S P) (kept : StreamView S) (t : Translator) (bytes piece : List ℕ) (before : List Item) (out_old out_new : Outputs) : Type 0 where
   pub taken : List Item
   pub next : Item
   pub behind : List Item
@@ -120,13 +120,13 @@ pub record Halted {S P : Type 0} (first : ℕ) (h : Half S P) (kept : Kept S) (t
   pub other_over : h.other_over (onto taken before) ≡ h.other_over before
 
 -- memory ran out for the piece itself, which hasn't come
-pub record IsUnput {S : Type 0} (old new : Kept S) (t u : Translator) (piece : List ℕ) (out_old out_new : Outputs) : Type 0 where
+pub record IsUnput {S : Type 0} (old new : StreamView S) (t u : Translator) (piece : List ℕ) (out_old out_new : Outputs) : Type 0 where
   pub kept : new ≡ passed old
   pub some : (0 < length piece) × (old.over ≡ false)
   pub nothing : DoesNothing t u out_old out_new
 
 -- wherever the stream stood: the piece was taken, or memory ran out
-abbrev pub TakesPiece : {S P : Type 0} → Result (Unit {0}) Memory → (ℕ → Half S P) → Kept S → Kept S → Translator → Translator → List ℕ → Outputs → Outputs → Type 0
+abbrev pub TakesPiece : {S P : Type 0} → Result (Unit {0}) Memory → (ℕ → Half S P) → StreamView S → StreamView S → Translator → Translator → List ℕ → Outputs → Outputs → Type 0
 TakesPiece (Ok v) half old new t u piece out_old out_new =
     (first : ℕ) (bytes : List ℕ) (before : List Item) → IsAt first (half first) old t bytes before →
     Finished first (half first) new u bytes piece before out_old out_new

@@ -5,7 +5,7 @@ use Rattle.usb_base.specs.declared.reason.Reason.{Reason}
 use Rattle.packet_stream.specs.declared.read.ReadError.{ReadError}
 use Rattle.packet_stream.specs.declared.read.ReadError.TheVariants.{Refused, Memory as OutOfMemory}
 use Rattle.packet_stream.specs.Split.{Reader}
-use Rattle.packet_stream.specs.Streams.{Kept, ended, Nexts, Changes}
+use Rattle.packet_stream.specs.Streams.{StreamView, ended, Nexts, Changes}
 use Rattle.redir_wire.specs.declared.packet.Header.{Header}
 use Rattle.redir_data.specs.declared.packet.RedirPacket.{RedirPacket}
 use Rattle.gate_history.specs.declared.item.Item.{Item as RawItem}
@@ -39,7 +39,7 @@ item_next packet wrong (Err (Refused place reason)) = Ok (Some (wrong place reas
 item_next packet wrong (Err (OutOfMemory memory)) = Err memory
 
 -- what the stream answers is handed on as an item
-pub record NextItem {S P : Type 0} (r : Reader S P Reason) (takes : P → Bool) (packet : ℕ → P → RawItem) (wrong : ℕ → Reason → RawItem) (result : Result (Option RawItem) Memory) (old new : Kept S) : Type 0 where
+pub record NextItem {S P : Type 0} (r : Reader S P Reason) (takes : P → Bool) (packet : ℕ → P → RawItem) (wrong : ℕ → Reason → RawItem) (result : Result (Option RawItem) Memory) (old new : StreamView S) : Type 0 where
   pub answer : Result (Option (ℕ × P)) ReadError
   pub result-is : result ≡ item_next packet wrong answer
   pub changes : Changes answer old new
@@ -50,11 +50,11 @@ abbrev pub raw_told : ℕ → Header × RedirPacket → RawItem
 raw_told place p = raw.Told place p.0 p.1
 
 -- how much is left to be read
-abbrev pub left_of : {S : Type 0} → Kept S → ℕ
+abbrev pub left_of : {S : Type 0} → StreamView S → ℕ
 left_of kept = if kept.over then 0 else length kept.rest + 1
 
 -- a stream is ended where its side is over
-abbrev pub ended_if : {S : Type 0} → Bool → Kept S → Kept S
+abbrev pub ended_if : {S : Type 0} → Bool → StreamView S → StreamView S
 ended_if over kept = if over then ended kept else kept
 
 -- ---- an event

@@ -9,8 +9,8 @@ use Rattle.unlink_race.specs.declared.live.LiveKind.TheVariants as live_kind
 use Rattle.unlink_race.specs.Searches.{is_stream, goes_by_id, has_number}
 use Rattle.unlink_race.specs.Firsts.{without_first, change_first}
 use Rattle.unlink_race.specs.Unlinking.{unlinked_by}
-use Rattle.gate_core.specs.declared.client.unlink.Asked.{Asked}
-use Rattle.gate_core.specs.declared.client.unlink.Asked.TheVariants.{Late, Cancel, Waits, Taken}
+use Rattle.gate_core.specs.declared.client.unlink.UnlinkAnswer.{UnlinkAnswer}
+use Rattle.gate_core.specs.declared.client.unlink.UnlinkAnswer.TheVariants.{Late, Cancel, Waits, Taken}
 use Rattle.redir_wire.specs.Header.{IdFits}
 use Rattle.gate_core.specs.declared.state.kept.Kept.{Kept}
 use Rattle.usbip_urb.specs.Spelling.{spelling}
@@ -25,16 +25,16 @@ use Rattle.gate_parts.specs.state.Rows.{is_wire_row}
 -- ---- of the row that has the number
 
 -- the first unlink is kept
-abbrev pub unless_asked : Option ℕ → Asked → Asked
+abbrev pub unless_asked : Option ℕ → UnlinkAnswer → UnlinkAnswer
 unless_asked None told = told
 unless_asked (Some by) told = Late
 
-abbrev pub asked_kind : LiveKind → ℕ → Option ℕ → Asked
+abbrev pub asked_kind : LiveKind → ℕ → Option ℕ → UnlinkAnswer
 asked_kind (live_kind.Wire ep kind) id by = unless_asked by (Cancel id)
 asked_kind (live_kind.Routed route) id by = unless_asked by Waits
 asked_kind (live_kind.Stream ep interface) id by = Taken
 
-abbrev pub asked_of : Option Live → Asked
+abbrev pub asked_of : Option Live → UnlinkAnswer
 asked_of None = Late
 asked_of (Some l) = asked_kind l.kind l.id l.unlinker
 
@@ -58,40 +58,40 @@ asked_rows target by ls = map (asked_row target by) (filter (λ l. not (is_taken
 
 -- ---- by what is told
 
-abbrev pub left_told : Asked → ℕ → ℕ → List Live → List Live
+abbrev pub left_told : UnlinkAnswer → ℕ → ℕ → List Live → List Live
 left_told Late target by ls = ls
 left_told (Cancel id) target by ls = change_first (has_number target) (unlinked_by by) ls
 left_told Waits target by ls = change_first (has_number target) (unlinked_by by) ls
 left_told Taken target by ls = without_first (has_number target) ls
 
-abbrev pub is_late : Asked → Bool
+abbrev pub is_late : UnlinkAnswer → Bool
 is_late Late = true
 is_late (Cancel id) = false
 is_late Waits = false
 is_late Taken = false
 
 -- so many are taken back
-abbrev pub taken_count : Asked → ℕ
+abbrev pub taken_count : UnlinkAnswer → ℕ
 taken_count Late = 0
 taken_count (Cancel id) = 0
 taken_count Waits = 0
 taken_count Taken = 1
 
 -- and answered so, where the unlink is the one with this number
-abbrev pub taken_bytes : ℕ → Asked → List ℕ
+abbrev pub taken_bytes : ℕ → UnlinkAnswer → List ℕ
 taken_bytes by Late = []
 taken_bytes by (Cancel id) = []
 taken_bytes by Waits = []
 taken_bytes by Taken = spelling (ret_unlink by econnreset)
 
-abbrev pub told_bytes : Caps → Asked → List ℕ
+abbrev pub told_bytes : Caps → UnlinkAnswer → List ℕ
 told_bytes caps Late = []
 told_bytes caps (Cancel id) = host_packet_bytes caps (id, Plain plain.Cancel)
 told_bytes caps Waits = []
 told_bytes caps Taken = []
 
 -- the id that is cancelled fits its width
-abbrev pub CancelFits : Caps → Asked → Type 0
+abbrev pub CancelFits : Caps → UnlinkAnswer → Type 0
 CancelFits caps Late = Unit {0}
 CancelFits caps (Cancel id) = IdFits (wide_ids caps) id
 CancelFits caps Waits = Unit {0}

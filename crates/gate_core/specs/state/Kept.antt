@@ -1,6 +1,6 @@
 -- What a gate keeps, as plain data.
 use Rattle.std.specs.Prelude.{ℕ, Bool, List, Option}
-use Rattle.packet_stream.specs.Streams.{Kept}
+use Rattle.packet_stream.specs.Streams.{StreamView}
 use Rattle.redir_wire.specs.declared.packet.Caps.{Caps}
 use Rattle.redir_data.specs.declared.state.RedirState.{RedirState}
 use Rattle.unlink_race.specs.declared.live.Live.{Live}
@@ -36,7 +36,7 @@ pub record ItemsKept : Type 0 where
 pub record GateKept : Type 0 where
   pub items : ItemsKept
   -- the bytes of each side that are no whole packet yet
-  pub client : Kept (Unit {0})
-  pub host : Kept RedirState
+  pub client : StreamView (Unit {0})
+  pub host : StreamView RedirState
   -- memory ran out in an earlier event
   pub failed : Bool

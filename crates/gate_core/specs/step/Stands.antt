@@ -3,7 +3,7 @@ use Rattle.std.specs.Prelude.{◌≡◌, ◌⊎◌, ◌++◌, ◌∷◌, [], ℕ
 use Rattle.usb_base.specs.Number.{AreBytes}
 use Rattle.usb_base.specs.declared.reason.Reason.{Reason}
 use Rattle.packet_stream.specs.Split.{Reader, Position, Splitting, split}
-use Rattle.packet_stream.specs.Streams.{Kept, Drained, Closed, Holds as IsLeft}
+use Rattle.packet_stream.specs.Streams.{StreamView, Drained, Closed, Holds as IsLeft}
 use Rattle.gate_history.specs.declared.note.Note.{Note}
 use Rattle.gate_history.specs.step.Events.{Event, client_bytes, host_bytes}
 use Rattle.gate_history.specs.step.Streams.{client_reader, client_start, host_reader, host_start}
@@ -52,12 +52,12 @@ pub record Translates (first : ℕ) (t : ItemsKept) (xs : List Item) : Type 0 wh
 
 -- what these packets leave of the splitting is held; nothing is where the stream has met its wrong place, and memory ran
 -- out for that
-abbrev pub IsLeftBy : {S P : Type 0} → Reader S P Reason → Kept S → Splitting S P Reason → List (ℕ × P) → Bool → Type 0
+abbrev pub IsLeftBy : {S P : Type 0} → Reader S P Reason → StreamView S → Splitting S P Reason → List (ℕ × P) → Bool → Type 0
 IsLeftBy r kept x given false = IsLeft r kept x given
 IsLeftBy r kept x given true = Closed x given
 
 -- a side's stream stands for these packets of its bytes; of a side that is over nothing is held
-pub record StreamStands {S P : Type 0} (r : Reader S P Reason) (start : Position S) (kept : Kept S) (bytes : List ℕ) (given : List (ℕ × P)) (over : Bool) : Type 0 where
+pub record StreamStands {S P : Type 0} (r : Reader S P Reason) (start : Position S) (kept : StreamView S) (bytes : List ℕ) (given : List (ℕ × P)) (over : Bool) : Type 0 where
   pub going : over ≡ false → IsLeftBy r kept (split r start bytes) given kept.over
   pub ended : over ≡ true → kept.over ≡ true
   pub none : kept.over ≡ true → kept.held ≡ []
@@ -71,7 +71,7 @@ pub record StandsFor (first : ℕ) (g : GateKept) (events : List Event) (xs : Li
 -- ---- events
 
 -- of a side that isn't over every packet was taken, and the rest is held
-pub record HasAll {S P : Type 0} (r : Reader S P Reason) (start : Position S) (kept : Kept S) (bytes : List ℕ) (given : List (ℕ × P)) (over : Bool) : Type 0 where
+pub record HasAll {S P : Type 0} (r : Reader S P Reason) (start : Position S) (kept : StreamView S) (bytes : List ℕ) (given : List (ℕ × P)) (over : Bool) : Type 0 where
   pub over_is : kept.over ≡ over
   pub none : over ≡ true → kept.held ≡ []
   pub empty : over ≡ true → kept.rest ≡ []

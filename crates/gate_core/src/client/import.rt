@@ -8,7 +8,7 @@ ghost use Rattle.gate_history.specs.step.Marks.{Replies, Imports};
 ghost use Rattle.gate_history.specs.state.State.{State};
 ghost use Rattle.gate_history.specs.client.Replies.{list_reply as list_of, import_reply as import_of};
 ghost use Rattle.gate_history.specs.step.Meaning.{mark_as, op_meaning, importable as importable_in, import_meaning};
-ghost use Rattle.gate_core.specs.inner.Holds.{IsKept, Holds, Does, Leaves};
+ghost use Rattle.gate_core.specs.inner.Holds.{IsKept, Holds, Does, StopsShort};
 
 use crate::state::kept::Kept;
 use crate::write::outputs::Outputs;
@@ -30,7 +30,7 @@ impl Kept {
         ensures kept { IsKept self.new }
         ensures ok { (st : State) (at : ℕ) → place ≡ capped at → Holds self.old st → st.client_over ≡ false
             → OnOk result (Does st (mark_as st (op_meaning st at packet.now) None) self.old self.new out.old out.new) }
-        ensures err { OnErr result (Leaves self.old self.new out.old out.new) }
+        ensures err { OnErr result (StopsShort self.old self.new out.old out.new) }
     {
         match packet {
             OpPacket::ReqDevlist { .. } => self.answer_list(place, out),
@@ -47,7 +47,7 @@ impl Kept {
         ensures kept { IsKept self.new }
         ensures ok { (st : State) (at : ℕ) (status : ℕ) → place ≡ capped at → Holds self.old st → st.client_over ≡ false
             → OnOk result (Does st (mark_as st (op_meaning st at (ReqDevlist status)) None) self.old self.new out.old out.new) }
-        ensures err { OnErr result (Leaves self.old self.new out.old out.new) }
+        ensures err { OnErr result (StopsShort self.old self.new out.old out.new) }
     {
         if self.imported {
             return self.refuse_client(client_refusal(place, Reason::AlreadyImported), out);
@@ -67,7 +67,7 @@ impl Kept {
         ensures kept { IsKept self.new }
         ensures ok { (st : State) (at : ℕ) (status : ℕ) → place ≡ capped at → Holds self.old st → st.client_over ≡ false
             → OnOk result (Does st (mark_as st (op_meaning st at (ReqImport status busid.now)) None) self.old self.new out.old out.new) }
-        ensures err { OnErr result (Leaves self.old self.new out.old out.new) }
+        ensures err { OnErr result (StopsShort self.old self.new out.old out.new) }
     {
         if self.imported {
             return self.refuse_client(client_refusal(place, Reason::AlreadyImported), out);
@@ -98,7 +98,7 @@ impl Kept {
         ensures kept { IsKept self.new }
         ensures ok { (st : State) → Holds self.old st
             → OnOk result (Does st (mark_as st (Imports (import_of st.facts connect.now)) None) self.old self.new out.old out.new) }
-        ensures err { OnErr result (Leaves self.old self.new out.old out.new) }
+        ensures err { OnErr result (StopsShort self.old self.new out.old out.new) }
     {
         out.notes.push(Note::Imported)?;
         write_op(&import_reply(&self.facts, connect), &mut out.to_client)?;
@@ -113,7 +113,7 @@ impl Kept {
         requires writable { IsWritable reply.now }
         ensures ok { (st : State) → Holds self.now st
             → OnOk result (Does st (mark_as st (Replies reply.now) None) self.now self.now out.old out.new) }
-        ensures err { OnErr result (Leaves self.now self.now out.old out.new) }
+        ensures err { OnErr result (StopsShort self.now self.now out.old out.new) }
     {
         write_op(reply, &mut out.to_client)?;
         Ok(())

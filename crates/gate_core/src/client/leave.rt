@@ -12,7 +12,7 @@ ghost use Rattle.gate_history.specs.state.State.{State};
 ghost use Rattle.gate_history.specs.step.Meaning.{mark_as};
 ghost use Rattle.gate_history.specs.write.Notes.{when};
 ghost use Rattle.gate_history.specs.step.Wants.{GivesSome};
-ghost use Rattle.gate_core.specs.inner.Holds.{IsKept, Holds, Does, Leaves, HasLeft};
+ghost use Rattle.gate_core.specs.inner.Holds.{IsKept, Holds, Does, StopsShort, HasLeft};
 ghost use Rattle.gate_parts.specs.write.Extends.{Extends};
 ghost use Rattle.gate_parts.specs.state.Rows.{cancel_bytes, is_cancelled_row};
 
@@ -42,7 +42,7 @@ impl Kept {
         requires kept { IsKept self.old }
         ensures kept { IsKept self.new }
         ensures ok { (st : State) → Holds self.old st → OnOk result (Does st (mark_as st (Ends Client) None) self.old self.new out.old out.new) }
-        ensures err { OnErr result (Leaves self.old self.new out.old out.new) }
+        ensures err { OnErr result (StopsShort self.old self.new out.old out.new) }
         ensures wants { (st : State) → Holds self.old st → OnErr result (GivesSome st (mark_as st (Ends Client) None)) }
     {
         self.write_cancels(&mut out.to_host)?;
@@ -59,7 +59,7 @@ impl Kept {
         requires side { refusal.side ≡ Client }
         ensures kept { IsKept self.new }
         ensures ok { (st : State) → Holds self.old st → st.client_over ≡ false → OnOk result (Does st (mark_as st (Refuses refusal) None) self.old self.new out.old out.new) }
-        ensures err { OnErr result (Leaves self.old self.new out.old out.new) }
+        ensures err { OnErr result (StopsShort self.old self.new out.old out.new) }
     {
         self.write_cancels(&mut out.to_host)?;
         let called = self.write_stops(None, &mut out.to_host)?;

@@ -23,7 +23,7 @@ ghost use Rattle.gate_core.specs.inner.Calls.{flying_in, ids_after, bytes_of};
 ghost use Rattle.gate_history.specs.client.Views.{request_view, pipe_view, verdict_view};
 ghost use Rattle.gate_history.specs.client.Carried.{IsRequest, IsSent, IsCarried};
 ghost use Rattle.gate_parts.specs.state.Rows.{kind_of, IsFine};
-ghost use Rattle.gate_core.specs.inner.Holds.{IsKept, Holds, Does, Leaves, IsFree, CanAnswer, CanGo, HasOpened};
+ghost use Rattle.gate_core.specs.inner.Holds.{IsKept, Holds, Does, StopsShort, IsFree, CanAnswer, CanGo, HasOpened};
 
 use crate::state::kept::Kept;
 use crate::write::outputs::Outputs;
@@ -48,7 +48,7 @@ impl Kept {
         ensures kept { IsKept self.new }
         ensures ok { (st : State) (at : ℕ) → place ≡ capped at → Holds self.old st → IsSound st → st.client_over ≡ false
             → OnOk result (Does st (mark_as st (urb_meaning st at (SubmitPacket submit)) None) self.old self.new out.old out.new) }
-        ensures err { OnErr result (Leaves self.old self.new out.old out.new) }
+        ensures err { OnErr result (StopsShort self.old self.new out.old out.new) }
     {
         if !self.imported {
             return self.refuse_client(client_refusal(place, Reason::NotImported), out);
@@ -98,7 +98,7 @@ impl Kept {
         ensures kept { IsKept self.new }
         ensures ok { (st : State) → Holds self.old st → IsSound st
             → OnOk result (Does st (mark_as st (Opens (submission st (request_view request.now) (Now status) [])) None) self.old self.new out.old out.new) }
-        ensures err { OnErr result (Leaves self.old self.new out.old out.new) }
+        ensures err { OnErr result (StopsShort self.old self.new out.old out.new) }
     {
         out.notes.push(Note::Submitted {
             seqnum: request.number,
@@ -118,7 +118,7 @@ impl Kept {
         ensures kept { IsKept self.new }
         ensures ok { (st : State) → Holds self.old st → IsSound st
             → OnOk result (Does st (mark_as st (Opens (submission st (request_view request) (Wire (pipe_view pipe)) (next_ids st 1))) None) self.old self.new out.old out.new) }
-        ensures err { OnErr result (Leaves self.old self.new out.old out.new) }
+        ensures err { OnErr result (StopsShort self.old self.new out.old out.new) }
     {
         let id = self.draw(self.last);
         out.notes.push(Note::Submitted {
@@ -170,7 +170,7 @@ impl Kept {
         ensures kept { IsKept self.new }
         ensures ok { (st : State) → Holds self.old st → IsSound st
             → OnOk result (Does st (mark_as st (Opens (submission st (request_view request) (verdict.Routed route) (drawn_for st (request_view request) (verdict.Routed route)))) None) self.old self.new out.old out.new) }
-        ensures err { OnErr result (Leaves self.old self.new out.old out.new) }
+        ensures err { OnErr result (StopsShort self.old self.new out.old out.new) }
     {
         let end = StreamEnd::Change(route);
         self.write_ends(&end, ESHUTDOWN, &mut out.to_client)?;

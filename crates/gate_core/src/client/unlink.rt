@@ -13,7 +13,7 @@ ghost use Rattle.gate_history.specs.state.State.{State};
 ghost use Rattle.gate_history.specs.step.Meaning.{mark_as, urb_meaning};
 ghost use Rattle.gate_history.specs.state.Sound.{IsSound};
 ghost use Rattle.gate_core.specs.inner.Unlink.{asked_of, CancelFits, HasMarked, HasTakenBack};
-ghost use Rattle.gate_core.specs.inner.Holds.{IsKept, Holds, Does, Leaves};
+ghost use Rattle.gate_core.specs.inner.Holds.{IsKept, Holds, Does, StopsShort};
 
 use crate::state::kept::Kept;
 use crate::write::outputs::Outputs;
@@ -25,7 +25,7 @@ use usbip_urb::Unlink;
 
 /// What an unlink is told.
 #[derive(Clone, Copy)]
-pub enum Asked {
+pub enum UnlinkAnswer {
     /// It comes too late, or another one was first.
     Late,
     /// The host has its target under this id, and is to be asked to cancel it: its answer decides.
@@ -43,7 +43,7 @@ impl Kept {
         ensures kept { IsKept self.new }
         ensures ok { (st : State) (at : ℕ) → place ≡ capped at → Holds self.old st → IsSound st → st.client_over ≡ false
             → OnOk result (Does st (mark_as st (urb_meaning st at (UnlinkPacket unlink.now)) None) self.old self.new out.old out.new) }
-        ensures err { OnErr result (Leaves self.old self.new out.old out.new) }
+        ensures err { OnErr result (StopsShort self.old self.new out.old out.new) }
     {
         if !self.imported {
             return self.refuse_client(client_refusal(place, Reason::NotImported), out);
@@ -57,24 +57,24 @@ impl Kept {
         ensures kept { IsKept self.new }
         ensures ok { (st : State) → Holds self.old st → IsSound st
             → OnOk result (Does st (mark_as st (Unlinks by target) None) self.old self.new out.old out.new) }
-        ensures err { OnErr result (Leaves self.old self.new out.old out.new) }
+        ensures err { OnErr result (StopsShort self.old self.new out.old out.new) }
     {
         out.notes.push(Note::UnlinkAsked { by, target })?;
         let Some(at) = self.lives.place_of_number(target) else {
             return write_ret_unlink(by, 0, &mut out.to_client);
         };
         match self.asked(at) {
-            Asked::Late => write_ret_unlink(by, 0, &mut out.to_client),
-            Asked::Cancel(id) => {
+            UnlinkAnswer::Late => write_ret_unlink(by, 0, &mut out.to_client),
+            UnlinkAnswer::Cancel(id) => {
                 write_cancel(id, self.caps, &mut out.to_host)?;
                 self.mark(at, by);
                 Ok(())
             }
-            Asked::Waits => {
+            UnlinkAnswer::Waits => {
                 self.mark(at, by);
                 Ok(())
             }
-            Asked::Taken => {
+            UnlinkAnswer::Taken => {
                 write_ret_unlink(by, ECONNRESET, &mut out.to_client)?;
                 self.take_back(at);
                 Ok(())
@@ -104,7 +104,7 @@ impl Kept {
     }
 
     /// What an unlink of the submit at a place is told.
-    fn asked(&self, at: usize) -> Asked
+    fn asked(&self, at: usize) -> UnlinkAnswer
         requires kept { IsKept self.now }
         requires there { at < length self.now.lives.live }
         ensures value { result ≡ asked_of (slice_get self.now.lives.live at) }
@@ -112,10 +112,10 @@ impl Kept {
     {
         let live = self.lives.at(at).unwrap();
         match (live.kind, live.unlinker) {
-            (LiveKind::Stream { .. }, _) => Asked::Taken,
-            (LiveKind::Wire { .. }, None) => Asked::Cancel(live.id),
-            (LiveKind::Routed(_), None) => Asked::Waits,
-            _ => Asked::Late,
+            (LiveKind::Stream { .. }, _) => UnlinkAnswer::Taken,
+            (LiveKind::Wire { .. }, None) => UnlinkAnswer::Cancel(live.id),
+            (LiveKind::Routed(_), None) => UnlinkAnswer::Waits,
+            _ => UnlinkAnswer::Late,
         }
     }
 }

@@ -10,7 +10,7 @@ ghost use Rattle.gate_history.specs.state.Sound.{IsSound};
 ghost use Rattle.gate_history.specs.client.Views.{request_view};
 ghost use Rattle.gate_parts.specs.host.Fill.{up_fill, up_bytes, filled_notes};
 ghost use Rattle.gate_core.specs.inner.Fill.{HasJoined, joined_rows};
-ghost use Rattle.gate_core.specs.inner.Holds.{IsKept, Holds, Does, Leaves, IsFree, CanWait};
+ghost use Rattle.gate_core.specs.inner.Holds.{IsKept, Holds, Does, StopsShort, IsFree, CanWait};
 ghost use Rattle.gate_parts.specs.write.Extends.{Extends};
 
 use crate::state::kept::Kept;
@@ -30,7 +30,7 @@ impl Kept {
         ensures kept { IsKept self.new }
         ensures ok { (st : State) → Holds self.old st → IsSound st
             → OnOk result (Does st (mark_as st (accepts st (request_view request) (Stream row)) None) self.old self.new out.old out.new) }
-        ensures err { OnErr result (Leaves self.old self.new out.old out.new) }
+        ensures err { OnErr result (StopsShort self.old self.new out.old out.new) }
     {
         let ep = request.ep();
         let Some(mut up) = self.streams.take(ep) else {
@@ -90,7 +90,7 @@ impl Kept {
         ensures kept { IsKept self.new }
         ensures ok { (st : State) → Holds self.old st → IsSound st
             → OnOk result (Does st (mark_as st (accepts st (request_view request) (Stream row)) None) self.old self.new out.old out.new) }
-        ensures err { OnErr result (Leaves self.old self.new out.old out.new) }
+        ensures err { OnErr result (StopsShort self.old self.new out.old out.new) }
     {
         out.notes.push(Note::Submitted {
             seqnum: request.number,

@@ -9,7 +9,7 @@ ghost use Rattle.gate_history.specs.state.Sound.{IsSound};
 ghost use Rattle.gate_history.specs.step.Wants.{GivesSome};
 ghost use Rattle.gate_parts.specs.host.Fill.{up_fill, up_bytes, filled_notes};
 ghost use Rattle.gate_core.specs.inner.Fill.{HasEnded, HasReceived, received_bytes, received_notes};
-ghost use Rattle.gate_core.specs.inner.Holds.{IsKept, Holds, Does, Leaves};
+ghost use Rattle.gate_core.specs.inner.Holds.{IsKept, Holds, Does, StopsShort};
 ghost use Rattle.gate_parts.specs.write.Extends.{Extends};
 
 use crate::state::kept::Kept;
@@ -30,7 +30,7 @@ impl Kept {
         ensures kept { IsKept self.new }
         ensures ok { (st : State) → Holds self.old st → IsSound st
             → OnOk result (Does st (mark_as st (arrives st stream.endpoint stream.is_iso packet (stream_of st.streams stream.endpoint)) None) self.old self.new out.old out.new) }
-        ensures err { OnErr result (Leaves self.old self.new out.old out.new) }
+        ensures err { OnErr result (StopsShort self.old self.new out.old out.new) }
         ensures wants { (st : State) → Holds self.old st → OnErr result (GivesSome st (mark_as st (arrives st stream.endpoint stream.is_iso packet (stream_of st.streams stream.endpoint)) None)) }
     {
         let Some(ep) = EpAddr::new(stream.endpoint) else {

@@ -12,7 +12,7 @@ ghost use Rattle.gate_history.specs.state.State.{State};
 ghost use Rattle.gate_history.specs.step.Meaning.{mark_as};
 ghost use Rattle.gate_history.specs.write.Notes.{when};
 ghost use Rattle.gate_history.specs.step.Wants.{GivesSome};
-ghost use Rattle.gate_core.specs.inner.Holds.{IsKept, Holds, Does, Leaves, HasLost};
+ghost use Rattle.gate_core.specs.inner.Holds.{IsKept, Holds, Does, StopsShort, HasLost};
 ghost use Rattle.gate_parts.specs.write.Extends.{Extends};
 ghost use Rattle.gate_parts.specs.state.Rows.{lost_bytes, is_asked_back};
 
@@ -66,7 +66,7 @@ impl Kept {
         requires kept { IsKept self.old }
         ensures kept { IsKept self.new }
         ensures ok { (st : State) → Holds self.old st → OnOk result (Does st (mark_as st (Ends Host) None) self.old self.new out.old out.new) }
-        ensures err { OnErr result (Leaves self.old self.new out.old out.new) }
+        ensures err { OnErr result (StopsShort self.old self.new out.old out.new) }
         ensures wants { (st : State) → Holds self.old st → OnErr result (GivesSome st (mark_as st (Ends Host) None)) }
     {
         let unlinked = self.write_losses(&mut out.to_client)?;
@@ -82,7 +82,7 @@ impl Kept {
         requires side { refusal.side ≡ Host }
         ensures kept { IsKept self.new }
         ensures ok { (st : State) → Holds self.old st → OnOk result (Does st (mark_as st (Refuses refusal) None) self.old self.new out.old out.new) }
-        ensures err { OnErr result (Leaves self.old self.new out.old out.new) }
+        ensures err { OnErr result (StopsShort self.old self.new out.old out.new) }
     {
         let unlinked = self.write_losses(&mut out.to_client)?;
         self.tell_loss(&mut out.notes)?;
@@ -98,7 +98,7 @@ impl Kept {
         requires id_fits { IdFits (wide_ids self.old.caps) id }
         ensures kept { IsKept self.new }
         ensures ok { (st : State) → Holds self.old st → OnOk result (Does st (mark_as st (Disconnects id) None) self.old self.new out.old out.new) }
-        ensures err { OnErr result (Leaves self.old self.new out.old out.new) }
+        ensures err { OnErr result (StopsShort self.old self.new out.old out.new) }
         ensures wants { (st : State) → Holds self.old st → OnErr result (GivesSome st (mark_as st (Disconnects id) None)) }
     {
         let unlinked = self.write_losses(&mut out.to_client)?;

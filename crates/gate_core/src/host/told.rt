@@ -22,7 +22,7 @@ ghost use Rattle.gate_history.specs.step.Meaning.{mark_as, fact_of, by_response,
 ghost use Rattle.gate_history.specs.state.Sound.{IsSound};
 ghost use Rattle.gate_history.specs.step.Wants.{GivesSome};
 ghost use Rattle.gate_parts.specs.host.Responses.{response_view, stream_in, row_mismatch, IsAnswer, completes};
-ghost use Rattle.gate_core.specs.inner.Holds.{IsKept, Holds, Does, Leaves};
+ghost use Rattle.gate_core.specs.inner.Holds.{IsKept, Holds, Does, StopsShort};
 ghost use Rattle.gate_history.specs.step.Fits.{ResponseFits, ToldFits};
 
 use crate::state::kept::Kept;
@@ -50,7 +50,7 @@ impl Kept {
         ensures kept { IsKept self.new }
         ensures ok { (st : State) (at : ℕ) → place ≡ capped at → Holds self.old st → IsSound st → st.host_over ≡ false
             → OnOk result (Does st (mark_as st (told_meaning st at header packet) (fact_of packet)) self.old self.new out.old out.new) }
-        ensures err { OnErr result (Leaves self.old self.new out.old out.new) }
+        ensures err { OnErr result (StopsShort self.old self.new out.old out.new) }
         ensures wants { (st : State) (at : ℕ) → place ≡ capped at → Holds self.old st → IsSound st → OnErr result (GivesSome st (mark_as st (told_meaning st at header packet) (fact_of packet))) }
     {
         match packet {
@@ -72,7 +72,7 @@ impl Kept {
         ensures kept { IsKept self.new }
         ensures ok { (st : State) (at : ℕ) → place ≡ capped at → Holds self.old st → IsSound st
             → OnOk result (Does st (mark_as st (data_meaning st at header.now packet) None) self.old self.new out.old out.new) }
-        ensures err { OnErr result (Leaves self.old self.new out.old out.new) }
+        ensures err { OnErr result (StopsShort self.old self.new out.old out.new) }
         ensures wants { (st : State) (at : ℕ) → place ≡ capped at → Holds self.old st → IsSound st → OnErr result (GivesSome st (mark_as st (data_meaning st at header.now packet) None)) }
     {
         let Some(stream) = stream_in(&packet) else {
@@ -94,7 +94,7 @@ impl Kept {
         ensures kept { IsKept self.new }
         ensures ok { (st : State) (at : ℕ) → place ≡ capped at → Holds self.old st → IsSound st → st.host_over ≡ false
             → OnOk result (Does st (mark_as st (told_meaning st at header.now (Plain packet.now)) (fact_of (Plain packet.now))) self.old self.new out.old out.new) }
-        ensures err { OnErr result (Leaves self.old self.new out.old out.new) }
+        ensures err { OnErr result (StopsShort self.old self.new out.old out.new) }
         ensures wants { (st : State) (at : ℕ) → place ≡ capped at → Holds self.old st → IsSound st → OnErr result (GivesSome st (mark_as st (told_meaning st at header.now (Plain packet.now)) (fact_of (Plain packet.now)))) }
     {
         match packet {
@@ -135,7 +135,7 @@ impl Kept {
         ensures kept { IsKept self.new }
         ensures ok { (st : State) → Holds self.old st → IsSound st
             → OnOk result (Does st (mark_as st (StreamTold id endpoint (status_of status)) None) self.old self.new out.old out.new) }
-        ensures err { OnErr result (Leaves self.old self.new out.old out.new) }
+        ensures err { OnErr result (StopsShort self.old self.new out.old out.new) }
         ensures wants { (st : State) → Holds self.old st → IsSound st → OnErr result (GivesSome st (mark_as st (StreamTold id endpoint (status_of status)) None)) }
     {
         self.end_stream(endpoint, UsbStatus::from_byte(status), &mut out.to_client)?;
@@ -156,7 +156,7 @@ impl Kept {
         ensures kept { IsKept self.new }
         ensures ok { (st : State) (at : ℕ) → place ≡ capped at → Holds self.old st → IsSound st → st.host_over ≡ false
             → OnOk result (Does st (mark_as st (by_response st at header.now (response_of (Plain packet.now))) (fact_of (Plain packet.now))) self.old self.new out.old out.new) }
-        ensures err { OnErr result (Leaves self.old self.new out.old out.new) }
+        ensures err { OnErr result (StopsShort self.old self.new out.old out.new) }
         ensures wants { (st : State) (at : ℕ) → place ≡ capped at → Holds self.old st → IsSound st → OnErr result (GivesSome st (mark_as st (by_response st at header.now (response_of (Plain packet.now))) (fact_of (Plain packet.now)))) }
     {
         self.respond(place, header, status_of(packet), out)?;
@@ -188,7 +188,7 @@ impl Kept {
         ensures kept { IsKept self.new }
         ensures ok { (st : State) (at : ℕ) → place ≡ capped at → Holds self.old st → IsSound st
             → OnOk result (Does st (mark_as st (by_response st at header.now (option_map response_view response)) None) self.old self.new out.old out.new) }
-        ensures err { OnErr result (Leaves self.old self.new out.old out.new) }
+        ensures err { OnErr result (StopsShort self.old self.new out.old out.new) }
         ensures wants { (st : State) (at : ℕ) → place ≡ capped at → Holds self.old st → IsSound st → OnErr result (GivesSome st (mark_as st (by_response st at header.now (option_map response_view response)) None)) }
     {
         match response {
@@ -211,7 +211,7 @@ impl Kept {
         ensures kept { IsKept self.new }
         ensures ok { (st : State) (at : ℕ) → place ≡ capped at → Holds self.old st → IsSound st
             → OnOk result (Does st (mark_as st (by_response st at header.now (Some (response_view response))) None) self.old self.new out.old out.new) }
-        ensures err { OnErr result (Leaves self.old self.new out.old out.new) }
+        ensures err { OnErr result (StopsShort self.old self.new out.old out.new) }
         ensures wants { (st : State) (at : ℕ) → place ≡ capped at → Holds self.old st → IsSound st → OnErr result (GivesSome st (mark_as st (by_response st at header.now (Some (response_view response))) None)) }
     {
         let Some(at) = self.lives.place_of_id(header.id) else {
@@ -247,7 +247,7 @@ impl Kept {
         ensures kept { IsKept self.new }
         ensures ok { (st : State) (id : ℕ) → position (has_id id) (in_flight self.old.lives) ≡ Some at → Holds self.old st → IsSound st
             → OnOk result (Does st (mark_as st (completes id (response_view response) (find (submit_has_id id) (submits st ++ st.abandoned))) None) self.old self.new out.old out.new) }
-        ensures err { OnErr result (Leaves self.old self.new out.old out.new) }
+        ensures err { OnErr result (StopsShort self.old self.new out.old out.new) }
         ensures wants { (st : State) (id : ℕ) → position (has_id id) (in_flight self.old.lives) ≡ Some at → Holds self.old st → IsSound st → OnErr result (GivesSome st (mark_as st (completes id (response_view response) (find (submit_has_id id) (submits st ++ st.abandoned))) None)) }
     {
         let Some(live) = self.lives.at(at) else {

@@ -16,7 +16,7 @@ use gate_history::{Event, Item};
 use packet_stream::{ReadError, Stream};
 use redir_data::{FromHost, RedirState};
 use std::alloc::Global;
-use usb_base::Memory;
+use usb_base::{Bytes, Memory};
 use usbip_urb::ClientFormat;
 
 /// Both streams, and what is kept of their items.

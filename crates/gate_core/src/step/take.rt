@@ -7,7 +7,7 @@ ghost use Rattle.gate_history.specs.step.Meaning.{mark_of};
 ghost use Rattle.gate_history.specs.step.Past.{is_left_out};
 ghost use Rattle.gate_history.specs.state.Sound.{IsSound};
 ghost use Rattle.gate_history.specs.step.Wants.{GivesSome};
-ghost use Rattle.gate_core.specs.inner.Holds.{IsKept, Holds, Does, Leaves};
+ghost use Rattle.gate_core.specs.inner.Holds.{IsKept, Holds, Does, StopsShort};
 ghost use Rattle.gate_history.specs.step.Fits.{IsItem, ItemFits};
 
 use crate::state::kept::Kept;
@@ -25,7 +25,7 @@ impl Kept {
         ensures kept { IsKept self.new }
         ensures ok { (st : State) (x : PastItem) → IsItem item x → Holds self.old st → IsSound st → is_left_out st x ≡ false
             → OnOk result (Does st (mark_of st x) self.old self.new out.old out.new) }
-        ensures err { OnErr result (Leaves self.old self.new out.old out.new) }
+        ensures err { OnErr result (StopsShort self.old self.new out.old out.new) }
         ensures wants { (st : State) (x : PastItem) → IsItem item x → Holds self.old st → IsSound st → OnErr result (GivesSome st (mark_of st x)) }
     {
         match item {

@@ -5,11 +5,11 @@ use Rattle.usbip_urb.specs.declared.code.TheConstants.{MAX_LENGTH}
 use Rattle.usbip_urb.specs.declared.packet.IsoDesc.{IsoDesc}
 use Rattle.usbip_urb.specs.Sizes.{body_size, count_of}
 use Rattle.usbip_urb.specs.Ranges.{is_packet_count}
-use Rattle.gate_history.specs.declared.request.Asked.{Asked}
+use Rattle.gate_history.specs.declared.request.AnsweredSubmit.{AnsweredSubmit}
 use Rattle.gate_history.specs.client.Requests.{Request}
 
 -- an answer has nothing of a submit's endpoint, setup and body
-abbrev pub asked_view : Asked → Request
+abbrev pub asked_view : AnsweredSubmit → Request
 asked_view a = record {
   number = a.number;
   is_in = a.is_in;

@@ -10,7 +10,7 @@ ghost use Rattle.gate_history.specs.write.Answers.{answer_head, told_status, ret
 ghost use Rattle.gate_history.specs.write.Asked.{asked_view, HasItsPackets, IsMoved};
 
 use crate::write::errno::EREMOTEIO;
-use gate_history::Asked;
+use gate_history::AnsweredSubmit;
 use std::alloc::Global;
 use usb_base::{Bytes, Memory, Outcome};
 use usbip_urb::{
@@ -23,7 +23,7 @@ const URB_SHORT_NOT_OK: u32 = 0x0001;
 /// Appends the answer of a submit that ends without its packets. For want of memory `out` stands.
 pub fn write_without_packets(
     alloc: Global,
-    asked: &Asked,
+    asked: &AnsweredSubmit,
     status: i32,
     out: &mut Bytes,
 ) -> Result<(), Memory>
@@ -37,7 +37,7 @@ pub fn write_without_packets(
 }
 
 /// Appends the answer of an isochronous submit whose packets were all sent to the host. For want of memory `out` stands.
-pub fn write_all_sent(alloc: Global, asked: &Asked, out: &mut Bytes) -> Result<(), Memory>
+pub fn write_all_sent(alloc: Global, asked: &AnsweredSubmit, out: &mut Bytes) -> Result<(), Memory>
     requires packets { HasItsPackets asked.now.packets asked.now.descs.now }
     requires to_device { asked.now.is_in ≡ false }
     requires lies { IsTrue (laid asked.now.descs.now asked.now.wanted) }
@@ -54,7 +54,7 @@ pub fn write_all_sent(alloc: Global, asked: &Asked, out: &mut Bytes) -> Result<(
 /// Appends the answer of a submit by what came of its transfer, whose body is moved. For want of memory `out` stands.
 pub fn write_outcome(
     alloc: Global,
-    asked: &Asked,
+    asked: &AnsweredSubmit,
     outcome: Outcome,
     out: &mut Bytes,
 ) -> Result<(), Memory>
@@ -96,7 +96,13 @@ fn answer_head(number: u32) -> Head
 }
 
 /// The answer of a submit that ends with this status, so many bytes moved, and these isochronous packets.
-pub fn ret_submit(asked: &Asked, status: i32, actual: u32, body: Bytes, descs: Descs) -> RetSubmit
+pub fn ret_submit(
+    asked: &AnsweredSubmit,
+    status: i32,
+    actual: u32,
+    body: Bytes,
+    descs: Descs,
+) -> RetSubmit
     requires { length descs ≤ MAX_PACKETS }
     ensures { RetSubmitPacket result ≡ ret_submit (asked_view asked.now) status actual body descs }
 {
@@ -114,7 +120,7 @@ pub fn ret_submit(asked: &Asked, status: i32, actual: u32, body: Bytes, descs: D
 }
 
 // A short read has failed where the client says so.
-fn told_status(asked: &Asked, status: i32, actual: u32) -> i32
+fn told_status(asked: &AnsweredSubmit, status: i32, actual: u32) -> i32
     ensures { result ≡ told_status (asked_view asked.now) status actual }
 {
     let is_short = asked.is_in && asked.descs.is_empty() && status == 0 && actual < asked.wanted;

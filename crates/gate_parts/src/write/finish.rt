@@ -18,16 +18,16 @@ ghost use Rattle.gate_history.specs.client.Views.{request_view};
 use crate::host::response::{Response, gets, seen};
 use crate::write::answer::{write_outcome, write_ret_unlink, write_without_packets};
 use crate::write::errno::{ECONNRESET, ESHUTDOWN};
-use gate_history::{Asked, Note, Notes, Request};
+use gate_history::{AnsweredSubmit, Note, Notes, Request};
 use std::alloc::Global;
 use unlink_race::{Ending, Live, LiveKind, StreamEnd, ending_of};
 use usb_base::{Bytes, Memory, Outcome};
 
 /// What the answer of a request in flight has of its submit.
-pub fn asked_by(live: &Live) -> Asked<'_>
+pub fn asked_by(live: &Live) -> AnsweredSubmit<'_>
     ensures { asked_view result ≡ record { number = live.now.seqnum; is_in = live.now.is_in; flags = live.now.flags; packets = live.now.packets; descs = live.now.descs; transfer = record { ep = 0; setup = None; wanted = live.now.wanted; body = [] } } }
 {
-    Asked {
+    AnsweredSubmit {
         number: live.seqnum,
         is_in: live.is_in,
         flags: live.flags,
@@ -83,7 +83,7 @@ pub fn write_answers(
 // The unlink `by` came too late.
 fn write_late(
     alloc: Global,
-    asked: &Asked,
+    asked: &AnsweredSubmit,
     outcome: Outcome,
     by: u32,
     out: &mut Bytes,

@@ -1,6 +1,6 @@
 -- What the packets of a piece make of a host, one after another.
 use Rattle.std.specs.Prelude.{◌≡◌, ℕ, List, ◌∷◌, ◌++◌, map, Result, Ok, Err}
-use Rattle.packet_stream.specs.Streams.{Kept as Stream, Follows}
+use Rattle.packet_stream.specs.Streams.{StreamView as Stream, Follows}
 use Rattle.packet_stream.specs.declared.read.ReadError.{ReadError}
 use Rattle.packet_stream.specs.declared.read.ReadError.TheVariants.{Refused, Memory}
 use Rattle.redir_wire.specs.declared.packet.Header.{Header}

@@ -1,6 +1,6 @@
 -- What a host core keeps, as plain data.
 use Rattle.std.specs.Prelude.{Bool}
-use Rattle.packet_stream.specs.Streams.{Kept as Stream}
+use Rattle.packet_stream.specs.Streams.{StreamView as Stream}
 use Rattle.redir_data.specs.declared.state.RedirState.{RedirState}
 use Rattle.redir_host.specs.declared.host.Host.{Host}
 

@@ -12,9 +12,9 @@ Distinct key [] = ⊤
 Distinct key (r ∷ rs) = Absent key (key r) rs × Distinct key rs
 
 -- each row's key has an entry, and no two rows have one key
-abbrev pub Kept : {R X : Type 0} → (R → ℕ) → (ℕ → Option X) → List R → Type 0
-Kept key table [] = ⊤
-Kept key table (r ∷ rs) = IsSome (table (key r)) × Absent key (key r) rs × Kept key table rs
+abbrev pub IsKeyed : {R X : Type 0} → (R → ℕ) → (ℕ → Option X) → List R → Type 0
+IsKeyed key table [] = ⊤
+IsKeyed key table (r ∷ rs) = IsSome (table (key r)) × Absent key (key r) rs × IsKeyed key table rs
 
 -- the entries in the rows' order
 abbrev pub listed : {R X : Type 0} → (R → ℕ) → (ℕ → Option X) → List R → List X

@@ -6,7 +6,7 @@ use Rattle.urb_arena.specs.Seen.{Seen}
 use Rattle.urb_arena.specs.Lanes.{find_in, count}
 use Rattle.unlink_race.specs.declared.live.Live.{Live}
 use Rattle.unlink_race.specs.Requests.{Requests}
-use Rattle.unlink_race.specs.Inner.Listed.{Kept, listed}
+use Rattle.unlink_race.specs.Inner.Listed.{IsKeyed, listed}
 use Rattle.unlink_race.specs.Inner.Placed.{keys_of, ArePlaced}
 
 -- the request of a key, with its number, in whichever lane it stands
@@ -30,7 +30,7 @@ Rises low (n ∷ ns) high = (low ≤ n) × Rises (n + 1) ns high
 
 -- the requests are the same in another arena, and may have other numbers there
 pub record HasDealt (old new : Seen (ℕ × Live)) (keys : List ℕ) : Type 0 where
-  pub kept : Kept (λ k. k) (entry_of new) keys
+  pub kept : IsKeyed (λ k. k) (entry_of new) keys
   pub lives : lives_of new keys ≡ lives_of old keys
   pub count : count new.lanes ≡ count old.lanes
   pub capacity : new.capacity ≡ old.capacity
@@ -39,7 +39,7 @@ pub record HasDealt (old new : Seen (ℕ × Live)) (keys : List ℕ) : Type 0 wh
 
 -- each key has its request, and no request is without a key
 pub record IsSound (arena : Seen (ℕ × Live)) (keys : List ℕ) : Type 0 where
-  pub kept : Kept (λ k. k) (entry_of arena) keys
+  pub kept : IsKeyed (λ k. k) (entry_of arena) keys
   pub all : count arena.lanes ≡ length keys
   pub bound : length keys ≤ MAX_LIVE
   pub capacity : arena.capacity ≡ MAX_LIVE

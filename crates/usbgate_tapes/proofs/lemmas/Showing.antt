@@ -9,7 +9,7 @@ use Rattle.usb_base.specs.Refusal.{refusal_line}
 use Rattle.packet_stream.specs.declared.read.ReadError.{ReadError}
 use Rattle.packet_stream.specs.declared.read.ReadError.TheVariants.{Refused, Memory}
 use Rattle.packet_stream.specs.Split.{Reader, Splitting, split}
-use Rattle.packet_stream.specs.Streams.{Kept, capped, passed, FollowsBy, Follows, Drained, Wrongs, Answered, Nexts, Changes, after_piece, after_piece_by, Puts}
+use Rattle.packet_stream.specs.Streams.{StreamView, capped, passed, FollowsBy, Follows, Drained, Wrongs, Answered, Nexts, Changes, after_piece, after_piece_by, Puts}
 use Rattle.packet_stream.proofs.Loops.{changed_to}
 use Rattle.gate_history.specs.step.Events.{Event}
 use Rattle.usbgate_tapes.specs.Show.{Shown, packet_lines, wrong_line, split_text, stream_split, was_wrong, is_wrong, gained_lines, show_side}
@@ -37,13 +37,13 @@ drop-none (suc n) = refl
 -- ---- the packets of a stream
 
 module _ {S P : Type 0} (shown : Shown S P) where
-  next_at : (takes : P → Bool) (kept new : Kept S) (bytes : List ℕ) (given : List (ℕ × P)) (result answer : Result (Option (ℕ × P)) ReadError) → Nexts shown.reader takes result kept new → result ≡ answer
+  next_at : (takes : P → Bool) (kept new : StreamView S) (bytes : List ℕ) (given : List (ℕ × P)) (result answer : Result (Option (ℕ × P)) ReadError) → Nexts shown.reader takes result kept new → result ≡ answer
       → Follows shown.reader shown.start kept bytes given → Answered shown.reader takes shown.start answer new bytes given
   next_at takes kept new bytes given result answer next is f =
       subst (λ (x : Result (Option (ℕ × P)) ReadError). Answered shown.reader takes shown.start x new bytes given) is (next shown.start bytes given f)
 
   -- one more is shown
-  pub goes-more : (takes : P → Bool) (old kept new : Kept S) (text_old text text_new : List ℕ) (result : Result (Option (ℕ × P)) ReadError) (i : ℕ × P) → GoesOn shown old kept text_old text → Nexts shown.reader takes result kept new
+  pub goes-more : (takes : P → Bool) (old kept new : StreamView S) (text_old text text_new : List ℕ) (result : Result (Option (ℕ × P)) ReadError) (i : ℕ × P) → GoesOn shown old kept text_old text → Nexts shown.reader takes result kept new
       → result ≡ Ok (Some i) → text_new ≡ text ++ shown.line i.0 i.1 → GoesOn shown old new text_old text_new
   goes-more takes old kept new text_old text text_new result i goes next is text-is = λ bytes given f.
       let w = goes bytes given f in
@@ -57,25 +57,25 @@ module _ {S P : Type 0} (shown : Shown S P) where
             ∙ ap (λ (l : List ℕ). packet_lines shown w.more ++ l) (sym (append-nil (shown.line (capped n.at) i.1))) ∙ sym (lines-append shown w.more one));
       }
 
-  passed_by : (r : Reader S P Reason) (kept : Kept S) (x : Splitting S P Reason) (given : List (ℕ × P)) (over : Bool) → FollowsBy r kept x given over → FollowsBy r (passed kept) x given over
+  passed_by : (r : Reader S P Reason) (kept : StreamView S) (x : Splitting S P Reason) (given : List (ℕ × P)) (over : Bool) → FollowsBy r kept x given over → FollowsBy r (passed kept) x given over
   passed_by r kept x given false f = record { at = f.at; parts = f.parts; place = f.place; state = f.state; fits = f.fits }
   passed_by r kept x given true f = f
 
-  follows-passed : (kept new : Kept S) (bytes : List ℕ) (given : List (ℕ × P)) → new ≡ passed kept → Follows shown.reader shown.start kept bytes given → Follows shown.reader shown.start new bytes given
+  follows-passed : (kept new : StreamView S) (bytes : List ℕ) (given : List (ℕ × P)) → new ≡ passed kept → Follows shown.reader shown.start kept bytes given → Follows shown.reader shown.start new bytes given
   follows-passed kept new bytes given is f =
-      subst (λ (k : Kept S). Follows shown.reader shown.start k bytes given) (sym is)
+      subst (λ (k : StreamView S). Follows shown.reader shown.start k bytes given) (sym is)
       (record { fits = f.fits; follows = passed_by shown.reader kept (split shown.reader shown.start bytes) given kept.over f.follows })
 
   refused-none : {A : Type 0} (v : Unit {0}) (place : ℕ) (reason : Reason) → Ok v ≡ Err (Refused place reason) → A
   refused-none v place reason is = cc
 
   -- all are shown
-  pub shows-all : (takes : P → Bool) (v : Unit {0}) (old kept new : Kept S) (text_old text : List ℕ) (result : Result (Option (ℕ × P)) ReadError) → kept.over ≡ old.over → GoesOn shown old kept text_old text → Changes result kept new → Nexts shown.reader takes result kept new
+  pub shows-all : (takes : P → Bool) (v : Unit {0}) (old kept new : StreamView S) (text_old text : List ℕ) (result : Result (Option (ℕ × P)) ReadError) → kept.over ≡ old.over → GoesOn shown old kept text_old text → Changes result kept new → Nexts shown.reader takes result kept new
       → result ≡ Ok None → ShowsPackets shown (Ok v) old new text_old text
   shows-all takes v old kept new text_old text result over goes changes next is =
       let same = changed_to kept new result (Ok None) changes is in
       record {
-        over = λ v e. ap (λ (k : Kept S). k.over) same ∙ over;
+        over = λ v e. ap (λ (k : StreamView S). k.over) same ∙ over;
         ends = λ place reason is. refused-none v place reason is;
         shows = λ bytes given f.
             let w = goes bytes given f in
@@ -90,26 +90,26 @@ module _ {S P : Type 0} (shown : Shown S P) where
   err-ok : {A : Type 0} (e : ReadError) (v : Unit {0}) → Err e ≡ Ok v → A
   err-ok e v is = cc
 
-  stopped : (takes : P → Bool) (old kept new : Kept S) (text_old text : List ℕ) (result : Result (Option (ℕ × P)) ReadError) (e : ReadError) (bytes : List ℕ) (given : List (ℕ × P)) → Shows shown kept bytes given text_old text
+  stopped : (takes : P → Bool) (old kept new : StreamView S) (text_old text : List ℕ) (result : Result (Option (ℕ × P)) ReadError) (e : ReadError) (bytes : List ℕ) (given : List (ℕ × P)) → Shows shown kept bytes given text_old text
       → Nexts shown.reader takes result kept new → result ≡ Err e → Showed shown (Err e) new bytes given text_old text
   stopped takes old kept new text_old text result (Refused place reason) bytes given w next is =
       record { more = w.more; wrongs = next_at takes kept new bytes (given ++ w.more) result (Err (Refused place reason)) next is w.follows; text-is = w.text-is }
   stopped takes old kept new text_old text result (Memory memory) bytes given w next is = tt
 
   -- a wrong place ends the stream
-  wrong-ends : (old kept new : Kept S) (result : Result (Option (ℕ × P)) ReadError) (e : ReadError) (place : ℕ) (reason : Reason) → kept.over ≡ old.over → Changes result kept new → result ≡ Err e → e ≡ Refused place reason
+  wrong-ends : (old kept new : StreamView S) (result : Result (Option (ℕ × P)) ReadError) (e : ReadError) (place : ℕ) (reason : Reason) → kept.over ≡ old.over → Changes result kept new → result ≡ Err e → e ≡ Refused place reason
       → (old.over ≡ false) × (new.over ≡ true)
   wrong-ends old kept new result e place reason over changes is why =
       let changed = changed_to kept new result (Err (Refused place reason)) changes (is ∙ ap (λ (x : ReadError). Err x) why) in (
         sym over ∙ changed.0,
-        ap (λ (k : Kept S). k.over) changed.1,
+        ap (λ (k : StreamView S). k.over) changed.1,
       )
 
   err-is : (x y : ReadError) (r : Result (Unit {0}) ReadError) → r ≡ Err x → r ≡ Err y → x ≡ y
   err-is x y r one other = cc
 
   -- the next one is wrong, or memory runs out for it
-  pub shows-err : (takes : P → Bool) (old kept new : Kept S) (text_old text : List ℕ) (result : Result (Option (ℕ × P)) ReadError) (e : ReadError) → kept.over ≡ old.over → GoesOn shown old kept text_old text → Changes result kept new
+  pub shows-err : (takes : P → Bool) (old kept new : StreamView S) (text_old text : List ℕ) (result : Result (Option (ℕ × P)) ReadError) (e : ReadError) → kept.over ≡ old.over → GoesOn shown old kept text_old text → Changes result kept new
       → Nexts shown.reader takes result kept new → result ≡ Err e → ShowsPackets shown (Err e) old new text_old text
   shows-err takes old kept new text_old text result e over goes changes next is = record {
     over = λ v is. err-ok e v is;
@@ -118,7 +118,7 @@ module _ {S P : Type 0} (shown : Shown S P) where
   }
 
   -- an error that is handed on
-  pub shows-handed : (takes : P → Bool) (old kept new : Kept S) (text_old text : List ℕ) (result : Result (Option (ℕ × P)) ReadError) (e : ReadError) (last : Result (Unit {0}) ReadError) → kept.over ≡ old.over → GoesOn shown old kept text_old text
+  pub shows-handed : (takes : P → Bool) (old kept new : StreamView S) (text_old text : List ℕ) (result : Result (Option (ℕ × P)) ReadError) (e : ReadError) (last : Result (Unit {0}) ReadError) → kept.over ≡ old.over → GoesOn shown old kept text_old text
       → Changes result kept new → Nexts shown.reader takes result kept new → result ≡ Err e → IsErrAnd last (λ y. y ≡ e) → ShowsPackets shown last old new text_old text
   shows-handed takes old kept new text_old text result e (Ok v) over goes changes next is on = absurd on
   shows-handed takes old kept new text_old text result e (Err y) over goes changes next is on =
@@ -126,7 +126,7 @@ module _ {S P : Type 0} (shown : Shown S P) where
 
   -- ---- a stream that has had no bytes
 
-  pub shown-new : (refused : Bool) (kept : Kept S) (events : List Event) → HasNone shown.reader shown.start → shown.bytes events ≡ [] → refused ≡ was_wrong shown events → kept.over ≡ false → Follows shown.reader shown.start kept [] []
+  pub shown-new : (refused : Bool) (kept : StreamView S) (events : List Event) → HasNone shown.reader shown.start → shown.bytes events ≡ [] → refused ≡ was_wrong shown events → kept.over ≡ false → Follows shown.reader shown.start kept [] []
       → HasShown shown refused kept events
   shown-new refused kept events none is refused-is going f = record {
     refused-is = refused-is;
@@ -136,7 +136,7 @@ module _ {S P : Type 0} (shown : Shown S P) where
         (subst (λ (g : List (ℕ × P)). Follows shown.reader shown.start kept [] g) (sym none.packets) f);
   }
 
-  pub shown-none : (kept : Kept S) → HasNone shown.reader shown.start → shown.bytes [] ≡ [] → kept.over ≡ false → Follows shown.reader shown.start kept [] [] → HasShown shown false kept []
+  pub shown-none : (kept : StreamView S) → HasNone shown.reader shown.start → shown.bytes [] ≡ [] → kept.over ≡ false → Follows shown.reader shown.start kept [] [] → HasShown shown false kept []
   shown-none kept none is going f = shown-new false kept [] none is refl going f
 
   -- ---- an event
@@ -183,12 +183,12 @@ module _ {S P : Type 0} (shown : Shown S P) where
       ∙ ap (λ (l : List ℕ). l ++ wrong_line shown.side w) (lines-append shown x.packets more) ∙ append_assoc before (packet_lines shown more) (wrong_line shown.side w) in
       ap (λ (l : List ℕ). drop (length l) (split_text shown y)) (right-text x right) ∙ ap (drop (length (before ++ []))) after ∙ gained before added
 
-  over_after : (kept : Kept S) (piece : List ℕ) (over : Bool) → kept.over ≡ over → (after_piece kept piece).over ≡ over
+  over_after : (kept : StreamView S) (piece : List ℕ) (over : Bool) → kept.over ≡ over → (after_piece kept piece).over ≡ over
   over_after kept piece true is = ap (λ (b : Bool). (after_piece_by kept piece b).over) is ∙ is
   over_after kept piece false is = ap (λ (b : Bool). (after_piece_by kept piece b).over) is ∙ is
 
   -- of a stream that is over all packets were given, and something in it is wrong
-  closed : (kept : Kept S) (bytes : List ℕ) (given : List (ℕ × P)) → kept.over ≡ true → Follows shown.reader shown.start kept bytes given
+  closed : (kept : StreamView S) (bytes : List ℕ) (given : List (ℕ × P)) → kept.over ≡ true → Follows shown.reader shown.start kept bytes given
       → ((split shown.reader shown.start bytes).packets ≡ given) × (is_some (split shown.reader shown.start bytes).wrong ≡ true)
   closed kept bytes given over f =
       let c = subst (λ (b : Bool). FollowsBy shown.reader kept (split shown.reader shown.start bytes) given b) over f.follows in
@@ -199,13 +199,13 @@ module _ {S P : Type 0} (shown : Shown S P) where
   no-more (x ∷ xs) more is = no-more xs more cc
 
   -- a piece has come to a stream that is over
-  sees-over : (events : List Event) (e : Event) (piece : List ℕ) (refused : Bool) (old put new : Kept S) (text_old text_new : List ℕ) (v : Unit {0}) → old.over ≡ true → shown.bytes (e ∷ events) ≡ shown.bytes events ++ piece
+  sees-over : (events : List Event) (e : Event) (piece : List ℕ) (refused : Bool) (old put new : StreamView S) (text_old text_new : List ℕ) (v : Unit {0}) → old.over ≡ true → shown.bytes (e ∷ events) ≡ shown.bytes events ++ piece
       → put ≡ after_piece old piece → Puts shown.reader piece old put → ShowsPackets shown (Ok v) put new text_old text_new → HasShown shown refused old events
       → (text_new ≡ text_old ++ (show_side shown).text events e) × HasShown shown refused new (e ∷ events)
   sees-over events e piece refused old put new text_old text_new v over bytes-is put-is puts shows h =
       let x = (stream_split shown events).packets in
       let all = shows.shows (shown.bytes events ++ piece) x (puts shown.start (shown.bytes events) x h.follows) in
-      let put_over : put.over ≡ true = ap (λ (k : Kept S). k.over) put-is ∙ over_after old piece true over in
+      let put_over : put.over ≡ true = ap (λ (k : StreamView S). k.over) put-is ∙ over_after old piece true over in
       let new_over : new.over ≡ true = shows.over v refl ∙ put_over in
       let before = closed put (shown.bytes events ++ piece) x put_over (puts shown.start (shown.bytes events) x h.follows) in
       let after = closed new (shown.bytes events ++ piece) (x ++ all.more) new_over all.follows in
@@ -223,14 +223,14 @@ module _ {S P : Type 0} (shown : Shown S P) where
       )
 
   -- a piece has come to one that isn't
-  sees-going : (events : List Event) (e : Event) (piece : List ℕ) (refused : Bool) (old put new : Kept S) (text_old text_new : List ℕ) (v : Unit {0}) → old.over ≡ false → shown.bytes (e ∷ events) ≡ shown.bytes events ++ piece
+  sees-going : (events : List Event) (e : Event) (piece : List ℕ) (refused : Bool) (old put new : StreamView S) (text_old text_new : List ℕ) (v : Unit {0}) → old.over ≡ false → shown.bytes (e ∷ events) ≡ shown.bytes events ++ piece
       → put ≡ after_piece old piece → Puts shown.reader piece old put → ShowsPackets shown (Ok v) put new text_old text_new → HasShown shown refused old events
       → (text_new ≡ text_old ++ (show_side shown).text events e) × HasShown shown refused new (e ∷ events)
   sees-going events e piece refused old put new text_old text_new v over bytes-is put-is puts shows h =
       let right = sym h.over-is ∙ over in
       let x = (stream_split shown events).packets in
       let all = shows.shows (shown.bytes events ++ piece) x (puts shown.start (shown.bytes events) x h.follows) in
-      let going : new.over ≡ false = shows.over v refl ∙ ap (λ (k : Kept S). k.over) put-is ∙ over_after old piece false over in
+      let going : new.over ≡ false = shows.over v refl ∙ ap (λ (k : StreamView S). k.over) put-is ∙ over_after old piece false over in
       let drained = subst (λ (b : List ℕ). Drained new (split shown.reader shown.start b) (x ++ all.more)) (sym bytes-is) (all.drained going) in
       let follows = subst (λ (b : List ℕ). Follows shown.reader shown.start new b (x ++ all.more)) (sym bytes-is) all.follows in
       let now : is_wrong shown (e ∷ events) ≡ false = ap (λ (w : Option (ℕ × Reason)). is_some w) drained.right in (
@@ -244,20 +244,20 @@ module _ {S P : Type 0} (shown : Shown S P) where
         },
       )
 
-  sees-by : (over : Bool) (events : List Event) (e : Event) (piece : List ℕ) (refused : Bool) (old put new : Kept S) (text_old text_new : List ℕ) (v : Unit {0}) → old.over ≡ over → shown.bytes (e ∷ events) ≡ shown.bytes events ++ piece
+  sees-by : (over : Bool) (events : List Event) (e : Event) (piece : List ℕ) (refused : Bool) (old put new : StreamView S) (text_old text_new : List ℕ) (v : Unit {0}) → old.over ≡ over → shown.bytes (e ∷ events) ≡ shown.bytes events ++ piece
       → put ≡ after_piece old piece → Puts shown.reader piece old put → ShowsPackets shown (Ok v) put new text_old text_new → HasShown shown refused old events
       → (text_new ≡ text_old ++ (show_side shown).text events e) × HasShown shown refused new (e ∷ events)
   sees-by true = sees-over
   sees-by false = sees-going
 
   -- a piece has come, and its packets are all shown
-  pub sees-all : (events : List Event) (e : Event) (piece : List ℕ) (refused : Bool) (old put new : Kept S) (text_old text_new : List ℕ) (v : Unit {0}) → shown.bytes (e ∷ events) ≡ shown.bytes events ++ piece
+  pub sees-all : (events : List Event) (e : Event) (piece : List ℕ) (refused : Bool) (old put new : StreamView S) (text_old text_new : List ℕ) (v : Unit {0}) → shown.bytes (e ∷ events) ≡ shown.bytes events ++ piece
       → put ≡ after_piece old piece → Puts shown.reader piece old put → ShowsPackets shown (Ok v) put new text_old text_new → Sees shown events e refused refused old new text_old text_new
   sees-all events e piece refused old put new text_old text_new v bytes-is put-is puts shows =
       record { sees = λ h. sees-by old.over events e piece refused old put new text_old text_new v refl bytes-is put-is puts shows h }
 
   -- a piece has come, and something in it is wrong
-  pub sees-wrong : (events : List Event) (e : Event) (piece : List ℕ) (refused : Bool) (old put new : Kept S) (text_old text text_new : List ℕ) (place : ℕ) (reason : Reason) → shown.bytes (e ∷ events) ≡ shown.bytes events ++ piece
+  pub sees-wrong : (events : List Event) (e : Event) (piece : List ℕ) (refused : Bool) (old put new : StreamView S) (text_old text text_new : List ℕ) (place : ℕ) (reason : Reason) → shown.bytes (e ∷ events) ≡ shown.bytes events ++ piece
       → put ≡ after_piece old piece → Puts shown.reader piece old put → ShowsPackets shown (Err (Refused place reason)) put new text_old text
       → text_new ≡ text ++ refusal_line (record { side = shown.side; place = place; reason = reason; kept = None }) → Sees shown events e refused true old new text_old text_new
   sees-wrong events e piece refused old put new text_old text text_new place reason bytes-is put-is puts shows line = record {
@@ -291,10 +291,10 @@ module _ {S P : Type 0} (shown : Shown S P) where
     where
       was-going : (b : Bool) → old.over ≡ b → put.over ≡ false → old.over ≡ false
       was-going false is going = is
-      was-going true is going = absurd (false≢true (sym going ∙ ap (λ (k : Kept S). k.over) put-is ∙ over_after old piece true is))
+      was-going true is going = absurd (false≢true (sym going ∙ ap (λ (k : StreamView S). k.over) put-is ∙ over_after old piece true is))
 
   -- an event that isn't the side's
-  pub sees-other : (events : List Event) (e : Event) (refused : Bool) (kept : Kept S) (text : List ℕ) → shown.bytes (e ∷ events) ≡ shown.bytes events → Sees shown events e refused refused kept kept text text
+  pub sees-other : (events : List Event) (e : Event) (refused : Bool) (kept : StreamView S) (text : List ℕ) → shown.bytes (e ∷ events) ≡ shown.bytes events → Sees shown events e refused refused kept kept text text
   sees-other events e refused kept text same = record {
     sees = λ h.
         let now : is_wrong shown (e ∷ events) ≡ kept.over = ap (λ (b : List ℕ). is_some (split shown.reader shown.start b).wrong) same ∙ sym h.over-is in (
@@ -316,7 +316,7 @@ module _ {S P : Type 0} (shown : Shown S P) where
       none-gained false is = sym (append-nil text) ∙ adds events e text [] is nothing
 
   -- the end of a stream: the next one begins
-  pub sees-end : (events : List Event) (e : Event) (refused : Bool) (old new : Kept S) (text : List ℕ) → HasNone shown.reader shown.start → shown.bytes (e ∷ events) ≡ [] → new.over ≡ false → Follows shown.reader shown.start new [] []
+  pub sees-end : (events : List Event) (e : Event) (refused : Bool) (old new : StreamView S) (text : List ℕ) → HasNone shown.reader shown.start → shown.bytes (e ∷ events) ≡ [] → new.over ≡ false → Follows shown.reader shown.start new [] []
       → Sees shown events e refused refused old new text text
   sees-end events e refused old new text none is going f = record {
     sees = λ h.

@@ -5,7 +5,7 @@ use Rattle.gate_outside.specs.declared.fault.Failed.{Failed}
 use Rattle.gate_outside.specs.Moved.{Moves, MovesFront}
 use Rattle.usbgate_tapes.specs.declared.status.Status.{Status}
 use Rattle.usbgate_tapes.specs.declared.status.Status.TheVariants.{Done, Usage, WriteFault, OutOfMemory}
-use Rattle.usbgate_tapes.specs.Run.{Leaves}
+use Rattle.usbgate_tapes.specs.Run.{RunLeaves}
 use Rattle.usbgate_tapes.specs.Text.{usage_line}
 use Rattle.usbgate_tapes.specs.Prescribed.{Prescribed, untaped, printed, usage}
 use Rattle.usbgate_tapes.specs.Logs.{LeavesByLog, WritesByLog}
@@ -21,7 +21,7 @@ pub write-memory : {A : Type 0} → WriteFault ≡ OutOfMemory → A
 write-memory e = cc
 
 -- nothing was read or written
-pub leaves-none : (p : Prescribed) (remaining contents : Option (List ℕ)) → Leaves OutOfMemory p remaining remaining contents contents
+pub leaves-none : (p : Prescribed) (remaining contents : Option (List ℕ)) → RunLeaves OutOfMemory p remaining remaining contents contents
 leaves-none p remaining contents = λ tape text remaining-is contents-is. record { front = []; back = p.text tape; parts = refl; contents-is = contents-is ∙ ap (λ (l : List ℕ). Some l) (sym (append-nil text)) }
 
 pub logs-none : {S K : Type 0} (read_gives : S → List ℕ → Result ℕ Failed → S → Type 0) (write_gives : K → List ℕ → Result ℕ Failed → K → Type 0) (p : Prescribed) (tape : S) (out : K) → LeavesByLog read_gives write_gives OutOfMemory p tape tape out out

@@ -5,7 +5,7 @@ ghost use Rattle.direct_run.specs.Stands.{Stands};
 ghost use Rattle.made_tape.specs.Rounds.{made_lines};
 ghost use Rattle.usbgate_tapes.specs.model.Made.{loaded};
 ghost use Rattle.usbgate_tapes.specs.Prescribed.{printed};
-ghost use Rattle.usbgate_tapes.specs.Run.{Leaves, IsOfNoTape};
+ghost use Rattle.usbgate_tapes.specs.Run.{RunLeaves, IsOfNoTape};
 ghost use Rattle.usbgate_tapes.specs.Logs.{WritesByLog};
 ghost use Rattle.usbgate_tapes.specs.model.Simulated.{MadeSimulates};
 ghost use Rattle.usbgate_tapes.specs.Causes.{HasCauses};
@@ -26,7 +26,7 @@ use usb_base::{Bytes, Memory};
 /// Prints the counts.
 pub fn load<K: Sink>(alloc: Global, count: u16, out: &mut K) -> Status
     requires { count ≤ 1000 }
-    ensures leaves { (remaining : Option (List ℕ)) → Leaves result (printed (loaded count)) remaining remaining (K.contents out.old) (K.contents out.new) }
+    ensures leaves { (remaining : Option (List ℕ)) → RunLeaves result (printed (loaded count)) remaining remaining (K.contents out.old) (K.contents out.new) }
     ensures writes_log { WritesByLog K.write_gives result (printed (loaded count)) out.old out.new }
     ensures causes { (faults : ℕ) → HasCauses result faults faults (K.faults out.old) (K.faults out.new) }
     ensures ends { IsOfNoTape result }

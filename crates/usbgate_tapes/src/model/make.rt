@@ -3,7 +3,7 @@
 ghost use Rattle.std.specs.Prelude.{ℕ, List, Option};
 ghost use Rattle.usbgate_tapes.specs.model.Made.{made};
 ghost use Rattle.usbgate_tapes.specs.Prescribed.{printed};
-ghost use Rattle.usbgate_tapes.specs.Run.{Leaves, IsOfNoTape};
+ghost use Rattle.usbgate_tapes.specs.Run.{RunLeaves, IsOfNoTape};
 ghost use Rattle.usbgate_tapes.specs.Logs.{WritesByLog};
 ghost use Rattle.usbgate_tapes.specs.Causes.{HasCauses};
 
@@ -15,7 +15,7 @@ use std::alloc::Global;
 
 /// Prints the tape.
 pub fn make<K: Sink>(alloc: Global, count: u16, out: &mut K) -> Status
-    ensures leaves { (remaining : Option (List ℕ)) → Leaves result (printed (made count)) remaining remaining (K.contents out.old) (K.contents out.new) }
+    ensures leaves { (remaining : Option (List ℕ)) → RunLeaves result (printed (made count)) remaining remaining (K.contents out.old) (K.contents out.new) }
     ensures writes_log { WritesByLog K.write_gives result (printed (made count)) out.old out.new }
     ensures causes { (faults : ℕ) → HasCauses result faults faults (K.faults out.old) (K.faults out.new) }
     ensures ends { IsOfNoTape result }

@@ -9,8 +9,8 @@ use Rattle.gate_outside.specs.declared.turn.Polled.TheVariants.{Took, NotYet, En
 use Rattle.gate_outside.specs.Link.{Link, Door, other}
 use Rattle.gate_outside.specs.Turns.{pending, answer, given, after, taken}
 use Rattle.gate_outside.specs.Doors.{faulted, first, Accepts, Gives, PollFails, FailTaken}
-use Rattle.bridge_run.specs.Events.{Event, ClientComes}
-use Rattle.bridge_run.specs.declared.kept.Kept.{Kept}
+use Rattle.bridge_run.specs.Events.{LinkEvent, ClientComes}
+use Rattle.bridge_run.specs.declared.rounds.Rounds.{Rounds}
 use Rattle.bridge_run.specs.Prescribed.{Prescribed}
 use Rattle.bridge_run.specs.Course.{Setting, Course, Next, AtDoor, AtClient, AtHost, AtEnd, Takes}
 use Rattle.bridge_run.specs.Calls.{Goes, room, come, down, heard, poll, call, course_of}
@@ -43,12 +43,12 @@ come-is : (clients : List (List Turn)) (turns : List Turn) (later : List (List T
 come-is clients turns later c e = ap (λ (cs : List (List Turn)). come cs c) e
 
 -- a client has come, whose coming is the next event
-pub record HasCome (stands : List Event → Type 0) (p : Prescribed) (k : Kept) (w : Outside) (out : Written) (c : Course) : Type 0 where
+pub record HasCome (stands : List LinkEvent → Type 0) (p : Prescribed) (k : Rounds) (w : Outside) (out : Written) (c : Course) : Type 0 where
   pub course : Course
   pub is : come c.clients c ≡ Goes (Takes ClientComes AtClient) course
   pub follows : Follows stands p k w out course
 
-pub accepted : (stands : List Event → Type 0) (p : Prescribed) (k k' : Kept) (w w' : Outside) (out : Written) (c : Course) → Follows stands p k w out c
+pub accepted : (stands : List LinkEvent → Type 0) (p : Prescribed) (k k' : Rounds) (w w' : Outside) (out : Written) (c : Course) → Follows stands p k w out c
     → Accepts {E = Fault} (Ok true) w.door w'.door w.client w'.client → w'.host ≡ w.host → k' ≡ record k { client_up = true; busy = true; left = k.left - 1 }
     → HasCome stands p k' w' out c
 accepted stands p k k' w w' out c f a host kept =
@@ -69,12 +69,12 @@ accepted stands p k k' w w' out c f a host kept =
           told = f.tells.told;
           tape = f.tells.tape;
         };
-        client_up = ap (λ (k : Kept). k.client_up) kept;
-        host_up = ap (λ (k : Kept). k.host_up) kept ∙ f.host_up;
-        busy = ap (λ (k : Kept). k.busy) kept;
-        waits = ap (λ (k : Kept). k.waits) kept ∙ f.waits;
-        left = ap (λ (k : Kept). k.left) kept ∙ ap (λ (n : ℕ). n - 1) f.left;
-        refused = ap (λ (k : Kept). k.refused) kept ∙ f.refused;
+        client_up = ap (λ (k : Rounds). k.client_up) kept;
+        host_up = ap (λ (k : Rounds). k.host_up) kept ∙ f.host_up;
+        busy = ap (λ (k : Rounds). k.busy) kept;
+        waits = ap (λ (k : Rounds). k.waits) kept ∙ f.waits;
+        left = ap (λ (k : Rounds). k.left) kept ∙ ap (λ (n : ℕ). n - 1) f.left;
+        refused = ap (λ (k : Rounds). k.refused) kept ∙ f.refused;
       };
     }
 
@@ -89,7 +89,7 @@ none-come (Some cs) clients e none = sym (some-is cs clients e) ∙ none
 same-shows : (old new : Link) (up : Bool) (turns : List Turn) (written : List ℕ) → new.up ≡ old.up → new.turns ≡ old.turns → new.written ≡ old.written → Shows old up turns written → Shows new up turns written
 same-shows old new up turns written a b d s = record { up-is = a ∙ s.up-is; turns-is = b ∙ s.turns-is; written-is = d ∙ s.written-is }
 
-pub waited : (stands : List Event → Type 0) (p : Prescribed) (k : Kept) (w w' : Outside) (out : Written) (c : Course) → Follows stands p k w out c
+pub waited : (stands : List LinkEvent → Type 0) (p : Prescribed) (k : Rounds) (w w' : Outside) (out : Written) (c : Course) → Follows stands p k w out c
     → Accepts {E = Fault} (Ok false) w.door w'.door w.client w'.client → w'.host ≡ w.host → (come c.clients c ≡ Goes AtClient c) × Follows stands p k w' out c
 waited stands p k w w' out c f a host = (
   ap (λ (cs : List (List Turn)). come cs c) (none-come w.door.to_come c.clients f.tells.clients a.0),
@@ -122,7 +122,7 @@ pub between-same : (x : List ℕ) (known : Option (List ℕ)) (y : List ℕ) →
 between-same x known y e f = between-none x known y [] e (f ∙ sym (append-nil x))
 
 -- nothing was recorded either
-pub same-recorded : (ran_out : List Event → Event → List ℕ → List ℕ → Type 0) (P : Type 0) (w : Outside) (out : Written) (c d : Course) (known : Option (List ℕ)) → IfSome known (λ held. (held ≡ c.recorded) × P) → d.recorded ≡ c.recorded → IfSome known (λ held. HasLines ran_out w out c d held)
+pub same-recorded : (ran_out : List LinkEvent → LinkEvent → List ℕ → List ℕ → Type 0) (P : Type 0) (w : Outside) (out : Written) (c d : Course) (known : Option (List ℕ)) → IfSome known (λ held. (held ≡ c.recorded) × P) → d.recorded ≡ c.recorded → IfSome known (λ held. HasLines ran_out w out c d held)
 same-recorded ran_out P w out c d known is same = all-recorded ran_out P w out c d known (subst (λ (r : List ℕ). IfSome known (λ held. (held ≡ r) × P)) (sym same) is)
 
 come-writes : (clients : List (List Turn)) (c : Course) → WroteNothing c (course_of (come clients c))
@@ -130,7 +130,7 @@ come-writes [] c = record { to_client = refl; to_host = refl; told = refl; recor
 come-writes (turns ∷ later) c = record { to_client = refl; to_host = refl; told = refl; recorded = refl }
 
 -- nobody has come, and the turns and all that was written are as they were
-pub door-cut : {ran_out : List Event → Event → List ℕ → List ℕ → Type 0} → (w : Outside) (out : Written) (c : Course) → w.client.turns ≡ Some c.client → w.host.turns ≡ Some c.host → w.door.to_come ≡ Some c.clients
+pub door-cut : {ran_out : List LinkEvent → LinkEvent → List ℕ → List ℕ → Type 0} → (w : Outside) (out : Written) (c : Course) → w.client.turns ≡ Some c.client → w.host.turns ≡ Some c.host → w.door.to_come ≡ Some c.clients
     → w.client.written ≡ Some c.to_client → w.host.written ≡ Some c.to_host → IsTold out c.told → IsTaped out c → Cut ran_out w out c (course_of (come c.clients c))
 door-cut {ran_out = ran_out} w out c client host clients to_client to_host told tape =
     let d = course_of (come c.clients c) in
@@ -145,7 +145,7 @@ door-cut {ran_out = ran_out} w out c client host clients to_client to_host told 
       tape = same-recorded ran_out _ w out c d out.tape tape same.recorded;
     }
 
-pub not_accepted : {ran_out : List Event → Event → List ℕ → List ℕ → Type 0} → (w w' : Outside) (out : Written) (c : Course) → Tells w out c → w'.client ≡ faulted w.client → w'.host ≡ w.host → w'.door ≡ w.door → Cut ran_out w' out c (course_of (come c.clients c))
+pub not_accepted : {ran_out : List LinkEvent → LinkEvent → List ℕ → List ℕ → Type 0} → (w w' : Outside) (out : Written) (c : Course) → Tells w out c → w'.client ≡ faulted w.client → w'.host ≡ w.host → w'.door ≡ w.door → Cut ran_out w' out c (course_of (come c.clients c))
 not_accepted w w' out c t client host door =
     door-cut w' out c (ap (λ (l : Link). l.turns) client ∙ t.client.turns-is) (ap (λ (l : Link). l.turns) host ∙ t.host.turns-is) (ap (λ (d : Door). d.to_come) door ∙ t.clients)
     (ap (λ (l : Link). l.written) client ∙ t.client.written-is) (ap (λ (l : Link). l.written) host ∙ t.host.written-is) t.told t.tape
@@ -237,7 +237,7 @@ passed-tells Host up links links' door door' out c len t is moved u turns writte
 }
 
 -- the poll gave nothing that is an event
-pub passed-follows : (side : Side) (stands : List Event → Type 0) (p : Prescribed) (k : Kept) (links links' : Side → Link) (door door' : Door) (out : Written) (c : Course) (len : ℕ) → Follows stands p k (outside links door) out c → len ≡ room
+pub passed-follows : (side : Side) (stands : List LinkEvent → Type 0) (p : Prescribed) (k : Rounds) (links links' : Side → Link) (door door' : Door) (out : Written) (c : Course) (len : ℕ) → Follows stands p k (outside links door) out c → len ≡ room
     → OneMoved side links links' door door' → (links' side).up ≡ (links side).up → (links' side).turns ≡ option_map (λ ts. after len (pending ts)) (links side).turns → (links' side).written ≡ (links side).written
     → Follows stands p k (outside links' door') out (passed side c)
 passed-follows Client stands p k links links' door door' out c len f is moved u turns written =
@@ -248,21 +248,21 @@ passed-follows Host stands p k links links' door door' out c len f is moved u tu
     record { stands_for = f.stands_for; tells = record { client = t.client; host = t.host; clients = t.clients; told = t.told; tape = t.tape }; client_up = f.client_up; host_up = f.host_up; busy = f.busy; waits = f.waits; left = f.left; refused = f.refused }
 
 -- bytes have come
-pub took-follows : (stands : List Event → Type 0) (p : Prescribed) (k k' : Kept) (w : Outside) (out : Written) (c : Course) (n : ℕ) → Follows stands p k w out c → k' ≡ record k { busy = true; left = k.left - n }
+pub took-follows : (stands : List LinkEvent → Type 0) (p : Prescribed) (k k' : Rounds) (w : Outside) (out : Written) (c : Course) (n : ℕ) → Follows stands p k w out c → k' ≡ record k { busy = true; left = k.left - n }
     → Follows stands p k' w out (record c { busy = true; left = c.left - n })
 took-follows stands p k k' w out c n f kept = record {
   stands_for = f.stands_for;
   tells = record { client = f.tells.client; host = f.tells.host; clients = f.tells.clients; told = f.tells.told; tape = f.tells.tape };
-  client_up = ap (λ (k : Kept). k.client_up) kept ∙ f.client_up;
-  host_up = ap (λ (k : Kept). k.host_up) kept ∙ f.host_up;
-  busy = ap (λ (k : Kept). k.busy) kept;
-  waits = ap (λ (k : Kept). k.waits) kept ∙ f.waits;
-  left = ap (λ (k : Kept). k.left) kept ∙ ap (λ (m : ℕ). m - n) f.left;
-  refused = ap (λ (k : Kept). k.refused) kept ∙ f.refused;
+  client_up = ap (λ (k : Rounds). k.client_up) kept ∙ f.client_up;
+  host_up = ap (λ (k : Rounds). k.host_up) kept ∙ f.host_up;
+  busy = ap (λ (k : Rounds). k.busy) kept;
+  waits = ap (λ (k : Rounds). k.waits) kept ∙ f.waits;
+  left = ap (λ (k : Rounds). k.left) kept ∙ ap (λ (m : ℕ). m - n) f.left;
+  refused = ap (λ (k : Rounds). k.refused) kept ∙ f.refused;
 }
 
 -- the link has ended
-pub ended-follows : (side : Side) (stands : List Event → Type 0) (p : Prescribed) (k k' : Kept) (links links' : Side → Link) (door door' : Door) (out : Written) (c : Course) (len : ℕ) → Follows stands p k (outside links door) out c → len ≡ room
+pub ended-follows : (side : Side) (stands : List LinkEvent → Type 0) (p : Prescribed) (k k' : Rounds) (links links' : Side → Link) (door door' : Door) (out : Written) (c : Course) (len : ℕ) → Follows stands p k (outside links door) out c → len ≡ room
     → OneMoved side links links' door door' → (links' side).up ≡ false → (links' side).turns ≡ option_map (λ ts. after len (pending ts)) (links side).turns → (links' side).written ≡ (links side).written
     → k' ≡ record (with_up side k) { busy = true } → Follows stands p k' (outside links' door') out (record (down side (passed side c)) { busy = true })
 ended-follows Client stands p k k' links links' door door' out c len f is moved u turns written kept =
@@ -270,24 +270,24 @@ ended-follows Client stands p k k' links links' door door' out c len f is moved 
     record {
       stands_for = f.stands_for;
       tells = record { client = t.client; host = t.host; clients = t.clients; told = t.told; tape = t.tape };
-      client_up = ap (λ (k : Kept). k.client_up) kept;
-      host_up = ap (λ (k : Kept). k.host_up) kept ∙ f.host_up;
-      busy = ap (λ (k : Kept). k.busy) kept;
-      waits = ap (λ (k : Kept). k.waits) kept ∙ f.waits;
-      left = ap (λ (k : Kept). k.left) kept ∙ f.left;
-      refused = ap (λ (k : Kept). k.refused) kept ∙ f.refused;
+      client_up = ap (λ (k : Rounds). k.client_up) kept;
+      host_up = ap (λ (k : Rounds). k.host_up) kept ∙ f.host_up;
+      busy = ap (λ (k : Rounds). k.busy) kept;
+      waits = ap (λ (k : Rounds). k.waits) kept ∙ f.waits;
+      left = ap (λ (k : Rounds). k.left) kept ∙ f.left;
+      refused = ap (λ (k : Rounds). k.refused) kept ∙ f.refused;
     }
 ended-follows Host stands p k k' links links' door door' out c len f is moved u turns written kept =
     let t = passed-tells Host false links links' door door' out c len f.tells is moved u turns written in
     record {
       stands_for = f.stands_for;
       tells = record { client = t.client; host = t.host; clients = t.clients; told = t.told; tape = t.tape };
-      client_up = ap (λ (k : Kept). k.client_up) kept ∙ f.client_up;
-      host_up = ap (λ (k : Kept). k.host_up) kept;
-      busy = ap (λ (k : Kept). k.busy) kept;
-      waits = ap (λ (k : Kept). k.waits) kept ∙ f.waits;
-      left = ap (λ (k : Kept). k.left) kept ∙ f.left;
-      refused = ap (λ (k : Kept). k.refused) kept ∙ f.refused;
+      client_up = ap (λ (k : Rounds). k.client_up) kept ∙ f.client_up;
+      host_up = ap (λ (k : Rounds). k.host_up) kept;
+      busy = ap (λ (k : Rounds). k.busy) kept;
+      waits = ap (λ (k : Rounds). k.waits) kept ∙ f.waits;
+      left = ap (λ (k : Rounds). k.left) kept ∙ f.left;
+      refused = ap (λ (k : Rounds). k.refused) kept ∙ f.refused;
     }
 
 -- ---- a poll that failed
@@ -313,7 +313,7 @@ failed-turns old new up turns written behind s fails is = go fails.turns
     go (inl same) = inl (same ∙ s.turns-is)
     go (inr t) = inr (t.4 ∙ ap Some (sym (is ∙ ap (λ (ts : List Turn). after room (pending ts)) (some-is turns t.0 (sym s.turns-is ∙ t.2)) ∙ ap (λ (ts : List Turn). after room ts) t.3)))
 
-pub failed-cut : {ran_out : List Event → Event → List ℕ → List ℕ → Type 0} → (side : Side) (s : Setting) (links links' : Side → Link) (door door' : Door) (out : Written) (c : Course) → Tells (outside links door) out c → is_up side c ≡ true → OneMoved side links links' door door'
+pub failed-cut : {ran_out : List LinkEvent → LinkEvent → List ℕ → List ℕ → Type 0} → (side : Side) (s : Setting) (links links' : Side → Link) (door door' : Door) (out : Written) (c : Course) → Tells (outside links door) out c → is_up side c ≡ true → OneMoved side links links' door door'
     → PollFails (links side) (links' side) → Cut ran_out (outside links' door') out c (course_of (call s (polls side) c))
 failed-cut {ran_out = ran_out} Client s links links' door door' out c t up moved fails =
     let m = heard-moves Client AtHost (answer room (pending c.client)) (given room (pending c.client)) (passed Client c) in
@@ -338,13 +338,13 @@ failed-cut {ran_out = ran_out} Host s links links' door door' out c t up moved f
       tape = same-recorded ran_out _ _ out c _ out.tape t.tape m.writes.recorded;
     })
 
-pub up-is : (side : Side) (stands : List Event → Type 0) (p : Prescribed) (k : Kept) (w : Outside) (out : Written) (c : Course) (b : Bool) → Follows stands p k w out c → up_of side k ≡ b → is_up side c ≡ b
+pub up-is : (side : Side) (stands : List LinkEvent → Type 0) (p : Prescribed) (k : Rounds) (w : Outside) (out : Written) (c : Course) (b : Bool) → Follows stands p k w out c → up_of side k ≡ b → is_up side c ≡ b
 up-is Client stands p k w out c b f e = sym f.client_up ∙ e
 up-is Host stands p k w out c b f e = sym f.host_up ∙ e
 
 pub call-door : (s : Setting) (c : Course) → c.client_up ≡ false → call s AtDoor c ≡ come c.clients c
 call-door s c up = ap (λ (b : Bool). cond b (Goes AtClient c) (come c.clients c)) up
 
-pub setting-down : (p : Prescribed) (side : Side) (k : Kept) → setting p (record (with_up side k) { busy = true }) ≡ setting p k
+pub setting-down : (p : Prescribed) (side : Side) (k : Rounds) → setting p (record (with_up side k) { busy = true }) ≡ setting p k
 setting-down p Client k = refl
 setting-down p Host k = refl

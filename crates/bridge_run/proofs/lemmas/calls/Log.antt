@@ -6,8 +6,8 @@ use Rattle.usb_base.specs.declared.side.Side.TheVariants.{Client, Host}
 use Rattle.usb_base.specs.declared.refusal.Refusal.{Refusal}
 use Rattle.gate_outside.specs.Calls.{Call, Called, went}
 use Rattle.gate_history.specs.state.Sides.{or_else}
-use Rattle.bridge_run.specs.Events.{Event, ClientComes, ClientPiece, ClientQuiet, ClientEnd, HostPiece, HostEnd}
-use Rattle.bridge_run.specs.declared.kept.Kept.{Kept}
+use Rattle.bridge_run.specs.Events.{LinkEvent, ClientComes, ClientPiece, ClientQuiet, ClientEnd, HostPiece, HostEnd}
+use Rattle.bridge_run.specs.declared.rounds.Rounds.{Rounds}
 use Rattle.bridge_run.specs.declared.sent.Sent.{Sent}
 use Rattle.bridge_run.specs.declared.serve_end.ServeEnd.{ServeEnd}
 use Rattle.bridge_run.specs.declared.serve_end.ServeEnd.TheVariants as end
@@ -26,17 +26,17 @@ use Rattle.bridge_run.proofs.lemmas.calls.Writing.{went-closing, settled-closing
 -- ---- an event is taken
 
 -- all is written that these events send, by these calls, behind which nothing was asked
-pub record HasSent (terms : Terms) (p : Prescribed) (asks : List Ask) (calls : List Call) (e : Event) (events : List Event) : Type 0 where
+pub record HasSent (terms : Terms) (p : Prescribed) (asks : List Ask) (calls : List Call) (e : LinkEvent) (events : List LinkEvent) : Type 0 where
   pub asks-are : asks_of calls ≡ asks
   pub settled : Settled terms p calls
   pub events-are : events_of calls ≡ e ∷ events
   pub just_came : JustCame calls
   pub written : IsWritten terms p (e ∷ events) calls
 
-sent-closing : (r : Bool) (of : Side) (terms : Terms) (p : Prescribed) (calls : List Call) (events : List Event) → IsWritten terms p events calls → IsWritten terms p events (closing r of calls)
+sent-closing : (r : Bool) (of : Side) (terms : Terms) (p : Prescribed) (calls : List Call) (events : List LinkEvent) → IsWritten terms p events calls → IsWritten terms p events (closing r of calls)
 sent-closing r of terms p calls events w = record { client = went-closing r of Client calls ∙ w.client; host = went-closing r of Host calls ∙ w.host }
 
-pub has-sent : {D : Type 0} → (gives : D → Call → D → Type 0) (stands : List Event → Type 0) (tells : List ℕ → Type 0) (terms : Terms) (p : Prescribed) (asks : List Ask) (e : Event) (k k1 : Kept) (sent : Sent) (lines : List ℕ) (begun d0 d1 d2 : D)
+pub has-sent : {D : Type 0} → (gives : D → Call → D → Type 0) (stands : List LinkEvent → Type 0) (tells : List ℕ → Type 0) (terms : Terms) (p : Prescribed) (asks : List Ask) (e : LinkEvent) (k k1 : Rounds) (sent : Sent) (lines : List ℕ) (begun d0 d1 d2 : D)
     → (t : IsTaking gives stands tells terms p asks e k begun d0) → Prepared p t.events e sent lines → k1 ≡ k
     → (w1 : WroteMore gives Client (all_if k1.client_up sent.to_client) t.calls begun d1) → (w2 : WroteMore gives Host (all_if k1.host_up sent.to_host) w1.behind begun d2)
     → HasSent terms p asks w2.behind e t.events
@@ -47,15 +47,15 @@ has-sent gives stands tells terms p asks e k k1 sent lines begun d0 d1 d2 t prep
   just_came = w2.just_came (w1.just_came t.just_came);
   written = record {
     client = w2.other-is ∙ w1.side-is ∙ ap (λ (l : List ℕ). l ++ all_if k1.client_up sent.to_client) t.written.client
-        ∙ ap (λ (u : Bool). to_clients p t.events ++ all_if u sent.to_client) (ap (λ (q : Kept). q.client_up) same ∙ t.client_up)
+        ∙ ap (λ (u : Bool). to_clients p t.events ++ all_if u sent.to_client) (ap (λ (q : Rounds). q.client_up) same ∙ t.client_up)
         ∙ ap (λ (b : List ℕ). to_clients p t.events ++ all_if (client_at e (client_behind p t.events)) b) prepared.client;
     host = w2.side-is ∙ ap (λ (l : List ℕ). l ++ all_if k1.host_up sent.to_host) (w1.other-is ∙ t.written.host)
-        ∙ ap (λ (u : Bool). sent_to_host (is_some terms.host) p t.events ++ all_if u sent.to_host) (ap (λ (q : Kept). q.host_up) same ∙ t.host_up)
+        ∙ ap (λ (u : Bool). sent_to_host (is_some terms.host) p t.events ++ all_if u sent.to_host) (ap (λ (q : Rounds). q.host_up) same ∙ t.host_up)
         ∙ ap (λ (b : List ℕ). sent_to_host (is_some terms.host) p t.events ++ all_if (host_at e (host_since (is_some terms.host) p t.events)) b) prepared.host;
   };
 }
 
-ends-none : (e : Event) → ends_next e false ≡ false
+ends-none : (e : LinkEvent) → ends_next e false ≡ false
 ends-none ClientComes = refl
 ends-none (ClientPiece b) = refl
 ends-none ClientQuiet = refl
@@ -63,12 +63,12 @@ ends-none ClientEnd = refl
 ends-none (HostPiece b) = refl
 ends-none HostEnd = refl
 
-over-of : (terms : Terms) (p : Prescribed) (e : Event) (events es : List Event) (k : Kept) → es ≡ e ∷ events → k.client_up ≡ client_behind p (e ∷ events) → k.host_up ≡ host_since (is_some terms.host) p (e ∷ events)
+over-of : (terms : Terms) (p : Prescribed) (e : LinkEvent) (events es : List LinkEvent) (k : Rounds) → es ≡ e ∷ events → k.client_up ≡ client_behind p (e ∷ events) → k.host_up ≡ host_since (is_some terms.host) p (e ∷ events)
     → is_over terms p es ≡ none_up k
 over-of terms p e events es k is client host = ap (is_over terms p) is ∙ ap (λ (u : Bool). not u && not (host_since (is_some terms.host) p (e ∷ events))) (sym client) ∙ ap (λ (u : Bool). not k.client_up && not u) (sym host)
 
 -- what is the same behind the calls for an event
-pub record TakenBy (stands : List Event → Type 0) (tells : List ℕ → Type 0) (terms : Terms) (p : Prescribed) (asks : List Ask) (k : Kept) (events : List Event) : Type 0 where
+pub record TakenBy (stands : List LinkEvent → Type 0) (tells : List ℕ → Type 0) (terms : Terms) (p : Prescribed) (asks : List Ask) (k : Rounds) (events : List LinkEvent) : Type 0 where
   pub stands_for : stands events
   pub told : tells (told_of p events)
   pub left : k.left ≡ terms.budget - taken asks
@@ -77,7 +77,7 @@ pub record TakenBy (stands : List Event → Type 0) (tells : List ℕ → Type 0
   pub refused : k.refused ≡ first_of (p.refusals events)
 
 -- an event was taken, by these calls
-has-taken : {D : Type 0} → (gives : D → Call → D → Type 0) (stands : List Event → Type 0) (tells : List ℕ → Type 0) (terms : Terms) (p : Prescribed) (asks : List Ask) (k : Kept) (begun now : D) (calls : List Call) (e : Event) (events : List Event) → events_of calls ≡ e ∷ events
+has-taken : {D : Type 0} → (gives : D → Call → D → Type 0) (stands : List LinkEvent → Type 0) (tells : List ℕ → Type 0) (terms : Terms) (p : Prescribed) (asks : List Ask) (k : Rounds) (begun now : D) (calls : List Call) (e : LinkEvent) (events : List LinkEvent) → events_of calls ≡ e ∷ events
     → JustCame calls → Called gives calls begun now → Settled terms p calls → asks_of calls ≡ asks → IsWritten terms p (e ∷ events) calls → TakenBy stands tells terms p asks k (e ∷ events) → HasTaken gives stands tells terms p asks k begun now
 has-taken gives stands tells terms p asks k begun now calls e events is just called settled asked w t = record {
   at = record {
@@ -86,18 +86,18 @@ has-taken gives stands tells terms p asks k begun now calls e events is just cal
     settled = settled;
     asks-are = asked;
     stands_for = subst stands (sym is) t.stands_for;
-    written = subst (λ (es : List Event). IsWritten terms p es calls) (sym is) w;
-    told = subst (λ (es : List Event). tells (told_of p es)) (sym is) t.told;
+    written = subst (λ (es : List LinkEvent). IsWritten terms p es calls) (sym is) w;
+    told = subst (λ (es : List LinkEvent). tells (told_of p es)) (sym is) t.told;
     left = t.left;
     client_up = t.client_up ∙ ap (client_behind p) (sym is);
     host_up = t.host_up ∙ ap (host_since (is_some terms.host) p) (sym is);
-    refused = t.refused ∙ ap (λ (es : List Event). first_of (p.refusals es)) (sym is);
+    refused = t.refused ∙ ap (λ (es : List LinkEvent). first_of (p.refusals es)) (sym is);
   };
   just_came = just;
   over = over-of terms p e events (events_of calls) k is t.client_up t.host_up;
 }
 
-pub put-behind : {D : Type 0} → (gives : D → Call → D → Type 0) (stands : List Event → Type 0) (tells : List ℕ → Type 0) (terms : Terms) (p : Prescribed) (asks : List Ask) (e : Event) (events : List Event) (k : Kept) (begun now : D) (calls : List Call) (refused dropped : Bool)
+pub put-behind : {D : Type 0} → (gives : D → Call → D → Type 0) (stands : List LinkEvent → Type 0) (tells : List ℕ → Type 0) (terms : Terms) (p : Prescribed) (asks : List Ask) (e : LinkEvent) (events : List LinkEvent) (k : Rounds) (begun now : D) (calls : List Call) (refused dropped : Bool)
     → HasSent terms p asks calls e events → Called gives (closing refused Host (closing dropped Client calls)) begun now → TakenBy stands tells terms p asks k (e ∷ events)
     → (dropped ≡ true → k.client_up ≡ false) → IsBehind (ends_next e dropped) gives stands tells terms p asks k begun now
 put-behind gives stands tells terms p asks e events k begun now calls refused false h called t down =
@@ -145,28 +145,28 @@ put-behind {D = D} gives stands tells terms p asks e events k begun now calls re
         (has-taken gives stands tells terms p asks k begun now all e events (behind ∙ ap (λ (b : Bool). cond b (ClientEnd ∷ e ∷ events) (e ∷ events)) is) just called settled asked written t)
 
 -- the links that are up behind it
-pub client-kept : (p : Prescribed) (e : Event) (events : List Event) (k k' : Kept) (sent : Sent) (lines : List ℕ) → Prepared p events e sent lines → k' ≡ refusing sent.refusals sent.lets_go k
+pub client-kept : (p : Prescribed) (e : LinkEvent) (events : List LinkEvent) (k k' : Rounds) (sent : Sent) (lines : List ℕ) → Prepared p events e sent lines → k' ≡ refusing sent.refusals sent.lets_go k
     → k.client_up ≡ client_at e (client_behind p events) → k'.client_up ≡ client_behind p (e ∷ events)
 client-kept p e events k k' sent lines prepared kept up =
-    ap (λ (q : Kept). q.client_up) kept ∙ ap (λ (u : Bool). u && not (refuses Client sent.refusals || sent.lets_go)) up ∙ ap (λ (d : Bool). client_at e (client_behind p events) && not d) (dropped-is p events e sent lines prepared)
+    ap (λ (q : Rounds). q.client_up) kept ∙ ap (λ (u : Bool). u && not (refuses Client sent.refusals || sent.lets_go)) up ∙ ap (λ (d : Bool). client_at e (client_behind p events) && not d) (dropped-is p events e sent lines prepared)
 
-pub host-kept : (terms : Terms) (p : Prescribed) (e : Event) (events : List Event) (k k' : Kept) (sent : Sent) (lines : List ℕ) → Prepared p events e sent lines → k' ≡ refusing sent.refusals sent.lets_go k
+pub host-kept : (terms : Terms) (p : Prescribed) (e : LinkEvent) (events : List LinkEvent) (k k' : Rounds) (sent : Sent) (lines : List ℕ) → Prepared p events e sent lines → k' ≡ refusing sent.refusals sent.lets_go k
     → k.host_up ≡ host_at e (host_since (is_some terms.host) p events) → k'.host_up ≡ host_since (is_some terms.host) p (e ∷ events)
 host-kept terms p e events k k' sent lines prepared kept up =
-    ap (λ (q : Kept). q.host_up) kept ∙ ap (λ (u : Bool). u && not (refuses Host sent.refusals)) up ∙ ap (λ (rs : List Refusal). host_at e (host_since (is_some terms.host) p events) && not (refuses Host rs)) prepared.refusals
+    ap (λ (q : Rounds). q.host_up) kept ∙ ap (λ (u : Bool). u && not (refuses Host sent.refusals)) up ∙ ap (λ (rs : List Refusal). host_at e (host_since (is_some terms.host) p events) && not (refuses Host rs)) prepared.refusals
 
 and-none : (u : Bool) → (u && not true) ≡ false
 and-none true = refl
 and-none false = refl
 
-pub dropped-down : (k k' : Kept) (sent : Sent) (dropped : Bool) → k' ≡ refusing sent.refusals sent.lets_go k → dropped ≡ (refuses Client sent.refusals || sent.lets_go) → dropped ≡ true → k'.client_up ≡ false
-dropped-down k k' sent dropped kept is down = ap (λ (q : Kept). q.client_up) kept ∙ ap (λ (d : Bool). k.client_up && not d) (sym is ∙ down) ∙ and-none k.client_up
+pub dropped-down : (k k' : Rounds) (sent : Sent) (dropped : Bool) → k' ≡ refusing sent.refusals sent.lets_go k → dropped ≡ (refuses Client sent.refusals || sent.lets_go) → dropped ≡ true → k'.client_up ≡ false
+dropped-down k k' sent dropped kept is down = ap (λ (q : Rounds). q.client_up) kept ∙ ap (λ (d : Bool). k.client_up && not d) (sym is ∙ down) ∙ and-none k.client_up
 
 -- the first refusal of all
-pub refused-kept : (p : Prescribed) (e : Event) (events : List Event) (k k' : Kept) (sent : Sent) (lines : List ℕ) → Prepared p events e sent lines → k' ≡ refusing sent.refusals sent.lets_go k
+pub refused-kept : (p : Prescribed) (e : LinkEvent) (events : List LinkEvent) (k k' : Rounds) (sent : Sent) (lines : List ℕ) → Prepared p events e sent lines → k' ≡ refusing sent.refusals sent.lets_go k
     → k.refused ≡ first_of (p.refusals events) → k'.refused ≡ first_of (p.refusals (e ∷ events))
 refused-kept p e events k k' sent lines prepared kept is =
-    ap (λ (q : Kept). q.refused) kept ∙ ap (λ (r : Option Refusal). or_else r (first_of sent.refusals)) is ∙ ap (λ (rs : List Refusal). or_else (first_of (p.refusals events)) (first_of rs)) prepared.refusals
+    ap (λ (q : Rounds). q.refused) kept ∙ ap (λ (r : Option Refusal). or_else r (first_of sent.refusals)) is ∙ ap (λ (rs : List Refusal). or_else (first_of (p.refusals events)) (first_of rs)) prepared.refusals
     ∙ sym (first_of-append (p.refusals events) (gained p.refusals events e)) ∙ ap first_of (sym prepared.grows)
 
 -- ---- in part
@@ -177,23 +177,23 @@ front-whole all written is = ([], sym is ∙ sym (append-nil written))
 pub front-of-more : (all more written : List ℕ) → written ≡ all → IsFront written (all ++ more)
 front-of-more all more written is = (more, ap (λ (l : List ℕ). l ++ more) (sym is))
 
-whole-part : (terms : Terms) (p : Prescribed) (events : List Event) (calls : List Call) → IsWritten terms p events calls → IsWrittenInPart terms p events calls
+whole-part : (terms : Terms) (p : Prescribed) (events : List LinkEvent) (calls : List Call) → IsWritten terms p events calls → IsWrittenInPart terms p events calls
 whole-part terms p events calls w = record { client = front-whole _ _ w.client; host = front-whole _ _ w.host }
 
 -- all is written, and the last call failed
-pub failed-logs : {D : Type 0} → (gives : D → Call → D → Type 0) (stands : List Event → Type 0) (runs_out : List Event → Event → List ℕ → List ℕ → Type 0) (tells : List ℕ → Type 0) (terms : Terms) (p : Prescribed) (asks : List Ask) (side : Side) (call : Call) (k : Kept) (begun d0 d1 : D)
+pub failed-logs : {D : Type 0} → (gives : D → Call → D → Type 0) (stands : List LinkEvent → Type 0) (runs_out : List LinkEvent → LinkEvent → List ℕ → List ℕ → Type 0) (tells : List ℕ → Type 0) (terms : Terms) (p : Prescribed) (asks : List Ask) (side : Side) (call : Call) (k : Rounds) (begun d0 d1 : D)
     → (a : IsAt gives stands tells terms p asks k begun d0) → Called gives (call ∷ a.calls) begun d1 → Settled terms p (call ∷ a.calls) → events_of (call ∷ a.calls) ≡ events_of a.calls → IsWritten terms p (events_of a.calls) (call ∷ a.calls) → last_fault (call ∷ a.calls) ≡ Some side
     → Logged (end.LinkFault side) gives runs_out tells terms p begun d1
 failed-logs gives stands runs_out tells terms p asks side call k begun d0 d1 a called settled same w failed = record {
   calls = call ∷ a.calls;
   called = called;
   settled = settled;
-  written = subst (λ (es : List Event). WroteInPart tells terms p es (call ∷ a.calls)) (sym same) (record { links = whole-part terms p (events_of a.calls) (call ∷ a.calls) w; told = told-all tells (told_of p (events_of a.calls)) a.told });
+  written = subst (λ (es : List LinkEvent). WroteInPart tells terms p es (call ∷ a.calls)) (sym same) (record { links = whole-part terms p (events_of a.calls) (call ∷ a.calls) w; told = told-all tells (told_of p (events_of a.calls)) a.told });
   ended = failed;
 }
 
 -- all is written, but for lines to the sink or to the tape
-at-fault : {D : Type 0} → (gives : D → Call → D → Type 0) (stands : List Event → Type 0) (runs_out : List Event → Event → List ℕ → List ℕ → Type 0) (tells some : List ℕ → Type 0) (terms : Terms) (p : Prescribed) (asks : List Ask) (k : Kept) (begun now : D) → ((bytes : List ℕ) → some bytes → InPart tells bytes) → (a : IsAt gives stands some terms p asks k begun now) → HasEnded end.WriteFault terms p a.calls
+at-fault : {D : Type 0} → (gives : D → Call → D → Type 0) (stands : List LinkEvent → Type 0) (runs_out : List LinkEvent → LinkEvent → List ℕ → List ℕ → Type 0) (tells some : List ℕ → Type 0) (terms : Terms) (p : Prescribed) (asks : List Ask) (k : Rounds) (begun now : D) → ((bytes : List ℕ) → some bytes → InPart tells bytes) → (a : IsAt gives stands some terms p asks k begun now) → HasEnded end.WriteFault terms p a.calls
     → Logged end.WriteFault gives runs_out tells terms p begun now
 at-fault gives stands runs_out tells some terms p asks k begun now part a ended = record {
   calls = a.calls;
@@ -203,18 +203,18 @@ at-fault gives stands runs_out tells some terms p asks k begun now part a ended 
   ended = ended;
 }
 
-pub lines-fault : {D : Type 0} → (gives : D → Call → D → Type 0) (stands : List Event → Type 0) (runs_out : List Event → Event → List ℕ → List ℕ → Type 0) (tells : List ℕ → Type 0) (terms : Terms) (p : Prescribed) (asks : List Ask) (k : Kept) (begun now : D) → (a : IsAt gives stands tells terms p asks k begun now) → HasEnded end.WriteFault terms p a.calls
+pub lines-fault : {D : Type 0} → (gives : D → Call → D → Type 0) (stands : List LinkEvent → Type 0) (runs_out : List LinkEvent → LinkEvent → List ℕ → List ℕ → Type 0) (tells : List ℕ → Type 0) (terms : Terms) (p : Prescribed) (asks : List Ask) (k : Rounds) (begun now : D) → (a : IsAt gives stands tells terms p asks k begun now) → HasEnded end.WriteFault terms p a.calls
     → Logged end.WriteFault gives runs_out tells terms p begun now
 lines-fault gives stands runs_out tells terms p asks k begun now a ended = at-fault gives stands runs_out tells tells terms p asks k begun now (told-all tells) a ended
 
 -- of the last event nothing is sent yet
-pub taking-fault : {D : Type 0} → (gives : D → Call → D → Type 0) (stands : List Event → Type 0) (runs_out : List Event → Event → List ℕ → List ℕ → Type 0) (tells some : List ℕ → Type 0) (terms : Terms) (p : Prescribed) (asks : List Ask) (e : Event) (k : Kept) (begun now : D) → ((bytes : List ℕ) → some bytes → InPart tells bytes)
+pub taking-fault : {D : Type 0} → (gives : D → Call → D → Type 0) (stands : List LinkEvent → Type 0) (runs_out : List LinkEvent → LinkEvent → List ℕ → List ℕ → Type 0) (tells some : List ℕ → Type 0) (terms : Terms) (p : Prescribed) (asks : List Ask) (e : LinkEvent) (k : Rounds) (begun now : D) → ((bytes : List ℕ) → some bytes → InPart tells bytes)
     → IsTaking gives stands some terms p asks e k begun now → Logged end.WriteFault gives runs_out tells terms p begun now
 taking-fault gives stands runs_out tells some terms p asks e k begun now part t = record {
   calls = t.calls;
   called = t.called;
   settled = t.settled;
-  written = subst (λ (es : List Event). WroteInPart tells terms p es t.calls) (sym t.events-are) (record {
+  written = subst (λ (es : List LinkEvent). WroteInPart tells terms p es t.calls) (sym t.events-are) (record {
     links = record {
       client = front-of-more (to_clients p t.events) _ (went Client t.calls) t.written.client;
       host = front-of-more (sent_to_host (is_some terms.host) p t.events) _ (went Host t.calls) t.written.host;
@@ -225,7 +225,7 @@ taking-fault gives stands runs_out tells some terms p asks e k begun now part t 
 }
 
 -- the links were closed, and a front of the lines was told
-pub behind-part : {D : Type 0} → (gives : D → Call → D → Type 0) (stands : List Event → Type 0) (runs_out : List Event → Event → List ℕ → List ℕ → Type 0) (tells : List ℕ → Type 0) (terms : Terms) (p : Prescribed) (asks : List Ask) (k : Kept) (b : Bool) (begun now : D) → IsBehind b gives stands (InPart tells) terms p asks k begun now
+pub behind-part : {D : Type 0} → (gives : D → Call → D → Type 0) (stands : List LinkEvent → Type 0) (runs_out : List LinkEvent → LinkEvent → List ℕ → List ℕ → Type 0) (tells : List ℕ → Type 0) (terms : Terms) (p : Prescribed) (asks : List Ask) (k : Rounds) (b : Bool) (begun now : D) → IsBehind b gives stands (InPart tells) terms p asks k begun now
     → Logged end.WriteFault gives runs_out tells terms p begun now
 behind-part gives stands runs_out tells terms p asks k true begun now t = taking-fault gives stands runs_out tells (InPart tells) terms p asks ClientEnd k begun now (λ bytes x. x) t
 behind-part gives stands runs_out tells terms p asks k false begun now h = at-fault gives stands runs_out tells (InPart tells) terms p asks k begun now (λ bytes x. x) h.at (inl h.just_came)
@@ -234,17 +234,17 @@ behind-part gives stands runs_out tells terms p asks k false begun now h = at-fa
 pub front-in : (all front back more written : List ℕ) → written ≡ all ++ front → more ≡ front ++ back → IsFront written (all ++ more)
 front-in all front back more written is parts = (back, ap (λ (l : List ℕ). all ++ l) parts ∙ sym (append_assoc all front back) ∙ ap (λ (l : List ℕ). l ++ back) (sym is))
 
-pub client-part : {D : Type 0} → (gives : D → Call → D → Type 0) (stands : List Event → Type 0) (runs_out : List Event → Event → List ℕ → List ℕ → Type 0) (tells : List ℕ → Type 0) (terms : Terms) (p : Prescribed) (asks : List Ask) (e : Event) (k k1 : Kept) (sent : Sent) (lines bytes : List ℕ) (begun d0 d1 : D)
+pub client-part : {D : Type 0} → (gives : D → Call → D → Type 0) (stands : List LinkEvent → Type 0) (runs_out : List LinkEvent → LinkEvent → List ℕ → List ℕ → Type 0) (tells : List ℕ → Type 0) (terms : Terms) (p : Prescribed) (asks : List Ask) (e : LinkEvent) (k k1 : Rounds) (sent : Sent) (lines bytes : List ℕ) (begun d0 d1 : D)
     → (t : IsTaking gives stands tells terms p asks e k begun d0) → Prepared p t.events e sent lines → k1 ≡ k → bytes ≡ sent.to_client
     → FailedBehind gives Client k1.client_up bytes t.calls begun d1 → Logged (end.LinkFault Client) gives runs_out tells terms p begun d1
 client-part gives stands runs_out tells terms p asks e k k1 sent lines bytes begun d0 d1 t prepared same is f = record {
   calls = f.wrote.behind;
   called = f.wrote.called;
   settled = f.wrote.settled terms p t.settled;
-  written = subst (λ (es : List Event). WroteInPart tells terms p es f.wrote.behind) (sym (f.wrote.events-are ∙ t.events-are)) (record {
+  written = subst (λ (es : List LinkEvent). WroteInPart tells terms p es f.wrote.behind) (sym (f.wrote.events-are ∙ t.events-are)) (record {
     links = record {
       client = front-in (to_clients p t.events) f.front f.back _ (went Client f.wrote.behind) (f.wrote.side-is ∙ ap (λ (l : List ℕ). l ++ f.front) t.written.client)
-          (ap (λ (u : Bool). cond u (gained p.to_client t.events e) []) (sym (ap (λ (q : Kept). q.client_up) same ∙ t.client_up) ∙ f.is_up) ∙ sym prepared.client ∙ sym is ∙ f.parts);
+          (ap (λ (u : Bool). cond u (gained p.to_client t.events e) []) (sym (ap (λ (q : Rounds). q.client_up) same ∙ t.client_up) ∙ f.is_up) ∙ sym prepared.client ∙ sym is ∙ f.parts);
       host = front-of-more (sent_to_host (is_some terms.host) p t.events) _ (went Host f.wrote.behind) (f.wrote.other-is ∙ t.written.host);
     };
     told = part-more tells (told_of p t.events) _ (told-all tells (told_of p t.events) t.told);
@@ -252,22 +252,22 @@ client-part gives stands runs_out tells terms p asks e k k1 sent lines bytes beg
   ended = f.failed;
 }
 
-pub host-part : {D : Type 0} → (gives : D → Call → D → Type 0) (stands : List Event → Type 0) (runs_out : List Event → Event → List ℕ → List ℕ → Type 0) (tells : List ℕ → Type 0) (terms : Terms) (p : Prescribed) (asks : List Ask) (e : Event) (k k1 : Kept) (sent : Sent) (lines bytes : List ℕ) (begun d0 d1 d2 : D)
+pub host-part : {D : Type 0} → (gives : D → Call → D → Type 0) (stands : List LinkEvent → Type 0) (runs_out : List LinkEvent → LinkEvent → List ℕ → List ℕ → Type 0) (tells : List ℕ → Type 0) (terms : Terms) (p : Prescribed) (asks : List Ask) (e : LinkEvent) (k k1 : Rounds) (sent : Sent) (lines bytes : List ℕ) (begun d0 d1 d2 : D)
     → (t : IsTaking gives stands tells terms p asks e k begun d0) → Prepared p t.events e sent lines → k1 ≡ k → bytes ≡ sent.to_host
     → (w1 : WroteMore gives Client (all_if k1.client_up sent.to_client) t.calls begun d1) → FailedBehind gives Host k1.host_up bytes w1.behind begun d2 → Logged (end.LinkFault Host) gives runs_out tells terms p begun d2
 host-part gives stands runs_out tells terms p asks e k k1 sent lines bytes begun d0 d1 d2 t prepared same is w1 f = record {
   calls = f.wrote.behind;
   called = f.wrote.called;
   settled = f.wrote.settled terms p (w1.settled terms p t.settled);
-  written = subst (λ (es : List Event). WroteInPart tells terms p es f.wrote.behind) (sym (f.wrote.events-are ∙ w1.events-are ∙ t.events-are)) (record {
+  written = subst (λ (es : List LinkEvent). WroteInPart tells terms p es f.wrote.behind) (sym (f.wrote.events-are ∙ w1.events-are ∙ t.events-are)) (record {
     links = record {
       client = front-whole (to_clients p (e ∷ t.events)) (went Client f.wrote.behind) (
           f.wrote.other-is ∙ w1.side-is ∙ ap (λ (l : List ℕ). l ++ all_if k1.client_up sent.to_client) t.written.client
-          ∙ ap (λ (u : Bool). to_clients p t.events ++ all_if u sent.to_client) (ap (λ (q : Kept). q.client_up) same ∙ t.client_up)
+          ∙ ap (λ (u : Bool). to_clients p t.events ++ all_if u sent.to_client) (ap (λ (q : Rounds). q.client_up) same ∙ t.client_up)
           ∙ ap (λ (b : List ℕ). to_clients p t.events ++ all_if (client_at e (client_behind p t.events)) b) prepared.client
           );
       host = front-in (sent_to_host (is_some terms.host) p t.events) f.front f.back _ (went Host f.wrote.behind) (f.wrote.side-is ∙ ap (λ (l : List ℕ). l ++ f.front) (w1.other-is ∙ t.written.host))
-          (ap (λ (u : Bool). cond u (gained p.to_host t.events e) []) (sym (ap (λ (q : Kept). q.host_up) same ∙ t.host_up) ∙ f.is_up) ∙ sym prepared.host ∙ sym is ∙ f.parts);
+          (ap (λ (u : Bool). cond u (gained p.to_host t.events e) []) (sym (ap (λ (q : Rounds). q.host_up) same ∙ t.host_up) ∙ f.is_up) ∙ sym prepared.host ∙ sym is ∙ f.parts);
     };
     told = part-more tells (told_of p t.events) _ (told-all tells (told_of p t.events) t.told);
   });
@@ -283,12 +283,12 @@ none-left : (b t l : ℕ) → l ≡ b - t → l ≡ 0 → b ≤ t
 none-left b t l is none = omega arith
 
 -- an error that a `?` hands on
-pub put-err : {D : Type 0} → (Q : ServeEnd → Type 0) (result : Result Bool ServeEnd) (gives : D → Call → D → Type 0) (stands : List Event → Type 0) (runs_out : List Event → Event → List ℕ → List ℕ → Type 0) (tells : List ℕ → Type 0) (terms : Terms) (p : Prescribed) (asks : List Ask) (e : Event) (k : Kept) (begun now : D) → IsErrAnd result Q
+pub put-err : {D : Type 0} → (Q : ServeEnd → Type 0) (result : Result Bool ServeEnd) (gives : D → Call → D → Type 0) (stands : List LinkEvent → Type 0) (runs_out : List LinkEvent → LinkEvent → List ℕ → List ℕ → Type 0) (tells : List ℕ → Type 0) (terms : Terms) (p : Prescribed) (asks : List Ask) (e : LinkEvent) (k : Rounds) (begun now : D) → IsErrAnd result Q
     → ((x : ServeEnd) → Q x → Logged x gives runs_out tells terms p begun now) → PutLogs result gives stands runs_out tells terms p asks e k begun now
 put-err Q (Ok x) gives stands runs_out tells terms p asks e k begun now is logs = absurd is
 put-err Q (Err x) gives stands runs_out tells terms p asks e k begun now is logs = logs x is
 
-pub settled-logs : {D : Type 0} → (result : Result (Unit {0}) ServeEnd) (gives : D → Call → D → Type 0) (stands : List Event → Type 0) (runs_out : List Event → Event → List ℕ → List ℕ → Type 0) (tells : List ℕ → Type 0) (terms : Terms) (p : Prescribed) (asks : List Ask) (k : Kept) (begun now : D) → Settles result k
+pub settled-logs : {D : Type 0} → (result : Result (Unit {0}) ServeEnd) (gives : D → Call → D → Type 0) (stands : List LinkEvent → Type 0) (runs_out : List LinkEvent → LinkEvent → List ℕ → List ℕ → Type 0) (tells : List ℕ → Type 0) (terms : Terms) (p : Prescribed) (asks : List Ask) (k : Rounds) (begun now : D) → Settles result k
     → HasTaken gives stands tells terms p asks k begun now → HappenLogs result gives stands runs_out tells terms p asks k begun now
 settled-logs (Ok x) gives stands runs_out tells terms p asks k begun now s h = record {
   at = h.at;

@@ -8,8 +8,8 @@ use Rattle.gate_outside.specs.declared.fault.Failed.{Failed as Fault}
 use Rattle.gate_outside.specs.declared.turn.Polled.{Polled}
 use Rattle.gate_outside.specs.declared.turn.Polled.TheVariants.{Took, NotYet, Ended, Failed}
 use Rattle.gate_outside.specs.Calls.{Call, Accept, Poll, written_by, went}
-use Rattle.bridge_run.specs.Events.{Event, ClientComes}
-use Rattle.bridge_run.specs.declared.kept.Kept.{Kept}
+use Rattle.bridge_run.specs.Events.{LinkEvent, ClientComes}
+use Rattle.bridge_run.specs.declared.rounds.Rounds.{Rounds}
 use Rattle.bridge_run.specs.declared.serve_end.ServeEnd.{ServeEnd}
 use Rattle.bridge_run.specs.declared.serve_end.ServeEnd.TheVariants as end
 use Rattle.bridge_run.specs.Prescribed.{Prescribed}
@@ -25,14 +25,14 @@ use Rattle.bridge_run.proofs.lemmas.calls.Resting.{begins-of}
 -- ---- whom a round asks
 
 -- where it is asked for a client fewer rounds than may have brought nothing
-door-begins : (terms : Terms) (k : Kept) (asks : List Ask) → IsPatient terms k → Waits RoundBegins terms k asks → quiet_rounds asks < terms.idle
+door-begins : (terms : Terms) (k : Rounds) (asks : List Ask) → IsPatient terms k → Waits RoundBegins terms k asks → quiet_rounds asks < terms.idle
 door-begins terms k asks patient w = fewer (quiet_rounds asks) terms.idle k.waits (w.1.quiet w.0) patient.waits
   where
     fewer : (q i w : ℕ) → w + q ≡ i + 0 → 0 < w → q < i
     fewer q i w is some = omega arith
 
 -- and so where the client is polled
-client-begins : (terms : Terms) (k : Kept) (asks : List Ask) → IsPatient terms k → Waits DoorAsked terms k asks → k.client_up ≡ true → quiet_rounds asks < terms.idle
+client-begins : (terms : Terms) (k : Rounds) (asks : List Ask) → IsPatient terms k → Waits DoorAsked terms k asks → k.client_up ≡ true → quiet_rounds asks < terms.idle
 client-begins terms k asks patient w up = go k.busy refl
   where
     fewer : (q i w : ℕ) → w + q ≡ i + 0 → 0 < w → q < i
@@ -45,12 +45,12 @@ client-begins terms k asks patient w up = go k.busy refl
     go true is = none (quiet_rounds asks) terms.idle (w.busy is) patient.some
     go false is = fewer (quiet_rounds asks) terms.idle k.waits (w.quiet is ∙ ap (λ (u : Bool). terms.idle + one_if (not u)) up) patient.waits
 
-may-begin : (side : Side) (terms : Terms) (k : Kept) (asks : List Ask) (calls : List Call) → asks_of calls ≡ asks → IsPatient terms k → Waits (stage_of side) terms k asks → up_of side k ≡ true → MayBegin side terms calls
+may-begin : (side : Side) (terms : Terms) (k : Rounds) (asks : List Ask) (calls : List Call) → asks_of calls ≡ asks → IsPatient terms k → Waits (stage_of side) terms k asks → up_of side k ≡ true → MayBegin side terms calls
 may-begin Client terms k asks calls is patient w up = subst (λ (l : List Ask). quiet_rounds l < terms.idle) (sym is) (client-begins terms k asks patient w up)
 may-begin Host terms k asks calls is patient w up = tt
 
 -- it is the side's turn
-turn-of : (side : Side) (terms : Terms) (p : Prescribed) (k : Kept) (asks : List Ask) (calls : List Call) → k.host_up ≡ host_since (is_some terms.host) p (events_of calls) → asks_of calls ≡ asks → HasTurn (stage_of side) k asks → up_of side k ≡ true → IsTurnOf side terms p calls
+turn-of : (side : Side) (terms : Terms) (p : Prescribed) (k : Rounds) (asks : List Ask) (calls : List Call) → k.host_up ≡ host_since (is_some terms.host) p (events_of calls) → asks_of calls ≡ asks → HasTurn (stage_of side) k asks → up_of side k ≡ true → IsTurnOf side terms p calls
 turn-of Client terms p k asks calls host is turn up = go (subst (λ (b : Bool). DoorTurn b k asks) up turn)
   where
     go : (has_just_come asks ≡ true) ⊎ (k.host_up ≡ true → is_behind_host asks ≡ true) → IsTurnOf Client terms p calls
@@ -59,18 +59,18 @@ turn-of Client terms p k asks calls host is turn up = go (subst (λ (b : Bool). 
 turn-of Host terms p k asks calls host is turn up = ap is_behind_client is ∙ turn
 
 -- a side is polled
-pub may-poll : {D : Type 0} → (side : Side) (gives : D → Call → D → Type 0) (stands : List Event → Type 0) (tells : List ℕ → Type 0) (terms : Terms) (p : Prescribed) (k : Kept) (begun now : D) → up_of side k ≡ true
+pub may-poll : {D : Type 0} → (side : Side) (gives : D → Call → D → Type 0) (stands : List LinkEvent → Type 0) (tells : List ℕ → Type 0) (terms : Terms) (p : Prescribed) (k : Rounds) (begun now : D) → up_of side k ≡ true
     → (a : IsAsking (stage_of side) gives stands tells terms p k begun now) → MayAsk side terms p a.on.at.calls × IsTurnOf side terms p a.on.at.calls
 may-poll side gives stands tells terms p k begun now up a = (record { written = a.on.at.written; goes_on = a.on.goes_on; round = may-begin side terms k a.asks a.on.at.calls a.on.at.asks-are a.patient a.waited up }, turn-of side terms p k a.asks a.on.at.calls a.on.at.host_up a.on.at.asks-are a.turn up)
 
-pub may-accept : {D : Type 0} → (gives : D → Call → D → Type 0) (stands : List Event → Type 0) (tells : List ℕ → Type 0) (terms : Terms) (p : Prescribed) (k : Kept) (begun now : D) → (a : IsAsking RoundBegins gives stands tells terms p k begun now) → MayAsk Client terms p a.on.at.calls × BeginsRound terms p a.on.at.calls
+pub may-accept : {D : Type 0} → (gives : D → Call → D → Type 0) (stands : List LinkEvent → Type 0) (tells : List ℕ → Type 0) (terms : Terms) (p : Prescribed) (k : Rounds) (begun now : D) → (a : IsAsking RoundBegins gives stands tells terms p k begun now) → MayAsk Client terms p a.on.at.calls × BeginsRound terms p a.on.at.calls
 may-accept gives stands tells terms p k begun now a =
     (record { written = a.on.at.written; goes_on = a.on.goes_on; round = subst (λ (l : List Ask). quiet_rounds l < terms.idle) (sym a.on.at.asks-are) (door-begins terms k a.asks a.patient a.waited) }, begins-of terms p k a.asks a.on.at.calls a.on.at.host_up a.on.at.asks-are a.turn)
 
 -- ---- what the doors answered
 
 -- a call that wrote nothing behind these
-quiet-written : (terms : Terms) (p : Prescribed) (events : List Event) (calls : List Call) (call : Call) → written_by Client call ≡ [] → written_by Host call ≡ [] → IsWritten terms p events calls → IsWritten terms p events (call ∷ calls)
+quiet-written : (terms : Terms) (p : Prescribed) (events : List LinkEvent) (calls : List Call) (call : Call) → written_by Client call ≡ [] → written_by Host call ≡ [] → IsWritten terms p events calls → IsWritten terms p events (call ∷ calls)
 quiet-written terms p events calls call client host w = record {
   client = ap (λ (l : List ℕ). went Client calls ++ l) client ∙ append-nil (went Client calls) ∙ w.client;
   host = ap (λ (l : List ℕ). went Host calls ++ l) host ∙ append-nil (went Host calls) ∙ w.host;
@@ -90,7 +90,7 @@ less-left b t n l is = omega arith
 same-left : (b t l : ℕ) → l ≡ b - t → l ≡ b - (t + 0)
 same-left b t l is = omega arith
 
-pub took-taking : {D : Type 0} → (gives : D → Call → D → Type 0) (stands : List Event → Type 0) (tells : List ℕ → Type 0) (terms : Terms) (p : Prescribed) (side : Side) (n : ℕ) (buf : List ℕ) (k k' : Kept) (begun d0 d1 : D) → (a : IsAsking (stage_of side) gives stands tells terms p k begun d0)
+pub took-taking : {D : Type 0} → (gives : D → Call → D → Type 0) (stands : List LinkEvent → Type 0) (tells : List ℕ → Type 0) (terms : Terms) (p : Prescribed) (side : Side) (n : ℕ) (buf : List ℕ) (k k' : Rounds) (begun d0 d1 : D) → (a : IsAsking (stage_of side) gives stands tells terms p k begun d0)
     → up_of side k ≡ true → gives d0 (Poll side (Took n) buf) d1 → k' ≡ record k { busy = true; left = k.left - n } → IsTaking gives stands tells terms p (OfSide side (Took n) ∷ a.asks) (piece side (take n buf)) k' begun d1
 took-taking gives stands tells terms p side n buf k k' begun d0 d1 a up g kept = record {
   calls = Poll side (Took n) buf ∷ a.on.at.calls;
@@ -103,16 +103,16 @@ took-taking gives stands tells terms p side n buf k k' begun d0 d1 a up g kept =
   stands_for = a.on.at.stands_for;
   written = quiet-written terms p (events_of a.on.at.calls) a.on.at.calls (Poll side (Took n) buf) refl refl a.on.at.written;
   told = a.on.at.told;
-  left = ap (λ (q : Kept). q.left) kept ∙ less-left terms.budget (taken a.asks) n k.left a.on.at.left;
-  client_up = ap (λ (q : Kept). q.client_up) kept ∙ a.on.at.client_up ∙ sym (client-in side (take n buf) (client_behind p (events_of a.on.at.calls)));
-  host_up = ap (λ (q : Kept). q.host_up) kept ∙ a.on.at.host_up ∙ sym (host-in side (take n buf) (host_since (is_some terms.host) p (events_of a.on.at.calls)));
-  refused = ap (λ (q : Kept). q.refused) kept ∙ a.on.at.refused;
+  left = ap (λ (q : Rounds). q.left) kept ∙ less-left terms.budget (taken a.asks) n k.left a.on.at.left;
+  client_up = ap (λ (q : Rounds). q.client_up) kept ∙ a.on.at.client_up ∙ sym (client-in side (take n buf) (client_behind p (events_of a.on.at.calls)));
+  host_up = ap (λ (q : Rounds). q.host_up) kept ∙ a.on.at.host_up ∙ sym (host-in side (take n buf) (host_since (is_some terms.host) p (events_of a.on.at.calls)));
+  refused = ap (λ (q : Rounds). q.refused) kept ∙ a.on.at.refused;
 }
 
 more-goes : (b t : ℕ) → t < b → t + 0 < b
 more-goes b t is = omega arith
 
-pub rest-resting : {D : Type 0} → (gives : D → Call → D → Type 0) (stands : List Event → Type 0) (tells : List ℕ → Type 0) (terms : Terms) (p : Prescribed) (side : Side) (buf : List ℕ) (k : Kept) (begun d0 d1 : D) → (a : IsAsking (stage_of side) gives stands tells terms p k begun d0)
+pub rest-resting : {D : Type 0} → (gives : D → Call → D → Type 0) (stands : List LinkEvent → Type 0) (tells : List ℕ → Type 0) (terms : Terms) (p : Prescribed) (side : Side) (buf : List ℕ) (k : Rounds) (begun d0 d1 : D) → (a : IsAsking (stage_of side) gives stands tells terms p k begun d0)
     → up_of side k ≡ true → gives d0 (Poll side NotYet buf) d1 → IsResting side gives stands tells terms p (OfSide side NotYet ∷ a.asks) k begun d1
 rest-resting gives stands tells terms p Client buf k begun d0 d1 a up g = record {
   calls = Poll Client NotYet buf ∷ a.on.at.calls;
@@ -147,7 +147,7 @@ rest-resting gives stands tells terms p Host buf k begun d0 d1 a up g = record {
   goes_on = record { links = a.on.goes_on.links; left = more-goes terms.budget (taken (asks_of a.on.at.calls)) a.on.goes_on.left };
 }
 
-pub end-taking : {D : Type 0} → (gives : D → Call → D → Type 0) (stands : List Event → Type 0) (tells : List ℕ → Type 0) (terms : Terms) (p : Prescribed) (side : Side) (buf : List ℕ) (k k' : Kept) (begun d0 d1 : D) → (a : IsAsking (stage_of side) gives stands tells terms p k begun d0)
+pub end-taking : {D : Type 0} → (gives : D → Call → D → Type 0) (stands : List LinkEvent → Type 0) (tells : List ℕ → Type 0) (terms : Terms) (p : Prescribed) (side : Side) (buf : List ℕ) (k k' : Rounds) (begun d0 d1 : D) → (a : IsAsking (stage_of side) gives stands tells terms p k begun d0)
     → up_of side k ≡ true → gives d0 (Poll side Ended buf) d1 → k' ≡ record (with_up side k) { busy = true } → IsTaking gives stands tells terms p (OfSide side Ended ∷ a.asks) (end_of side) k' begun d1
 end-taking gives stands tells terms p Client buf k k' begun d0 d1 a up g kept = record {
   calls = Poll Client Ended buf ∷ a.on.at.calls;
@@ -160,10 +160,10 @@ end-taking gives stands tells terms p Client buf k k' begun d0 d1 a up g kept = 
   stands_for = a.on.at.stands_for;
   written = quiet-written terms p (events_of a.on.at.calls) a.on.at.calls (Poll Client Ended buf) refl refl a.on.at.written;
   told = a.on.at.told;
-  left = ap (λ (q : Kept). q.left) kept ∙ same-left terms.budget (taken a.asks) k.left a.on.at.left;
-  client_up = ap (λ (q : Kept). q.client_up) kept;
-  host_up = ap (λ (q : Kept). q.host_up) kept ∙ a.on.at.host_up;
-  refused = ap (λ (q : Kept). q.refused) kept ∙ a.on.at.refused;
+  left = ap (λ (q : Rounds). q.left) kept ∙ same-left terms.budget (taken a.asks) k.left a.on.at.left;
+  client_up = ap (λ (q : Rounds). q.client_up) kept;
+  host_up = ap (λ (q : Rounds). q.host_up) kept ∙ a.on.at.host_up;
+  refused = ap (λ (q : Rounds). q.refused) kept ∙ a.on.at.refused;
 }
 end-taking gives stands tells terms p Host buf k k' begun d0 d1 a up g kept = record {
   calls = Poll Host Ended buf ∷ a.on.at.calls;
@@ -176,19 +176,19 @@ end-taking gives stands tells terms p Host buf k k' begun d0 d1 a up g kept = re
   stands_for = a.on.at.stands_for;
   written = quiet-written terms p (events_of a.on.at.calls) a.on.at.calls (Poll Host Ended buf) refl refl a.on.at.written;
   told = a.on.at.told;
-  left = ap (λ (q : Kept). q.left) kept ∙ same-left terms.budget (taken a.asks) k.left a.on.at.left;
-  client_up = ap (λ (q : Kept). q.client_up) kept ∙ a.on.at.client_up;
-  host_up = ap (λ (q : Kept). q.host_up) kept;
-  refused = ap (λ (q : Kept). q.refused) kept ∙ a.on.at.refused;
+  left = ap (λ (q : Rounds). q.left) kept ∙ same-left terms.budget (taken a.asks) k.left a.on.at.left;
+  client_up = ap (λ (q : Rounds). q.client_up) kept ∙ a.on.at.client_up;
+  host_up = ap (λ (q : Rounds). q.host_up) kept;
+  refused = ap (λ (q : Rounds). q.refused) kept ∙ a.on.at.refused;
 }
 
-pub poll-failed : {D : Type 0} → (gives : D → Call → D → Type 0) (stands : List Event → Type 0) (runs_out : List Event → Event → List ℕ → List ℕ → Type 0) (tells : List ℕ → Type 0) (terms : Terms) (p : Prescribed) (side : Side) (buf : List ℕ) (k : Kept) (begun d0 d1 : D) → IsAsking (stage_of side) gives stands tells terms p k begun d0
+pub poll-failed : {D : Type 0} → (gives : D → Call → D → Type 0) (stands : List LinkEvent → Type 0) (runs_out : List LinkEvent → LinkEvent → List ℕ → List ℕ → Type 0) (tells : List ℕ → Type 0) (terms : Terms) (p : Prescribed) (side : Side) (buf : List ℕ) (k : Rounds) (begun d0 d1 : D) → IsAsking (stage_of side) gives stands tells terms p k begun d0
     → up_of side k ≡ true → gives d0 (Poll side Failed buf) d1 → Logged (end.LinkFault side) gives runs_out tells terms p begun d1
 poll-failed gives stands runs_out tells terms p side buf k begun d0 d1 a up g =
     failed-logs gives stands runs_out tells terms p a.asks side (Poll side Failed buf) k begun d0 d1 a.on.at (d0, (a.on.at.called, g)) (a.on.at.settled, may-poll side gives stands tells terms p k begun d0 up a) refl
     (quiet-written terms p (events_of a.on.at.calls) a.on.at.calls (Poll side Failed buf) refl refl a.on.at.written) refl
 
-pub came-taking : {D : Type 0} → (gives : D → Call → D → Type 0) (stands : List Event → Type 0) (tells : List ℕ → Type 0) (terms : Terms) (p : Prescribed) (k k' : Kept) (begun d0 d1 : D) → (a : IsAsking RoundBegins gives stands tells terms p k begun d0) → gives d0 (Accept (Ok true)) d1
+pub came-taking : {D : Type 0} → (gives : D → Call → D → Type 0) (stands : List LinkEvent → Type 0) (tells : List ℕ → Type 0) (terms : Terms) (p : Prescribed) (k k' : Rounds) (begun d0 d1 : D) → (a : IsAsking RoundBegins gives stands tells terms p k begun d0) → gives d0 (Accept (Ok true)) d1
     → k' ≡ record k { client_up = true; busy = true; left = k.left - 1 } → IsTaking gives stands tells terms p (ForClient (Ok true) ∷ a.asks) ClientComes k' begun d1
 came-taking gives stands tells terms p k k' begun d0 d1 a g kept = record {
   calls = Accept (Ok true) ∷ a.on.at.calls;
@@ -201,16 +201,16 @@ came-taking gives stands tells terms p k k' begun d0 d1 a g kept = record {
   stands_for = a.on.at.stands_for;
   written = quiet-written terms p (events_of a.on.at.calls) a.on.at.calls (Accept (Ok true)) refl refl a.on.at.written;
   told = a.on.at.told;
-  left = ap (λ (q : Kept). q.left) kept ∙ less-left terms.budget (taken a.asks) 1 k.left a.on.at.left;
-  client_up = ap (λ (q : Kept). q.client_up) kept;
-  host_up = ap (λ (q : Kept). q.host_up) kept ∙ a.on.at.host_up;
-  refused = ap (λ (q : Kept). q.refused) kept ∙ a.on.at.refused;
+  left = ap (λ (q : Rounds). q.left) kept ∙ less-left terms.budget (taken a.asks) 1 k.left a.on.at.left;
+  client_up = ap (λ (q : Rounds). q.client_up) kept;
+  host_up = ap (λ (q : Rounds). q.host_up) kept ∙ a.on.at.host_up;
+  refused = ap (λ (q : Rounds). q.refused) kept ∙ a.on.at.refused;
 }
 
 asked-more : (w q i o : ℕ) → w + q ≡ i + 0 → o ≡ 1 → w + (q + 1) ≡ i + o
 asked-more w q i o is one = omega arith
 
-pub nobody-at : {D : Type 0} → (gives : D → Call → D → Type 0) (stands : List Event → Type 0) (tells : List ℕ → Type 0) (terms : Terms) (p : Prescribed) (k : Kept) (begun d0 d1 : D) → IsAsking RoundBegins gives stands tells terms p k begun d0 → k.client_up ≡ false → gives d0 (Accept (Ok false)) d1
+pub nobody-at : {D : Type 0} → (gives : D → Call → D → Type 0) (stands : List LinkEvent → Type 0) (tells : List ℕ → Type 0) (terms : Terms) (p : Prescribed) (k : Rounds) (begun d0 d1 : D) → IsAsking RoundBegins gives stands tells terms p k begun d0 → k.client_up ≡ false → gives d0 (Accept (Ok false)) d1
     → IsAsking DoorAsked gives stands tells terms p k begun d1
 nobody-at gives stands tells terms p k begun d0 d1 a down g = record {
   asks = ForClient (Ok false) ∷ a.asks;
@@ -239,7 +239,7 @@ nobody-at gives stands tells terms p k begun d0 d1 a down g = record {
   turn = subst (λ (b : Bool). DoorTurn b k (ForClient (Ok false) ∷ a.asks)) (sym down) refl;
 }
 
-pub accept-failed : {D : Type 0} → (gives : D → Call → D → Type 0) (stands : List Event → Type 0) (runs_out : List Event → Event → List ℕ → List ℕ → Type 0) (tells : List ℕ → Type 0) (terms : Terms) (p : Prescribed) (failed : Fault) (k : Kept) (begun d0 d1 : D) → IsAsking RoundBegins gives stands tells terms p k begun d0
+pub accept-failed : {D : Type 0} → (gives : D → Call → D → Type 0) (stands : List LinkEvent → Type 0) (runs_out : List LinkEvent → LinkEvent → List ℕ → List ℕ → Type 0) (tells : List ℕ → Type 0) (terms : Terms) (p : Prescribed) (failed : Fault) (k : Rounds) (begun d0 d1 : D) → IsAsking RoundBegins gives stands tells terms p k begun d0
     → gives d0 (Accept (Err failed)) d1 → Logged (end.LinkFault Client) gives runs_out tells terms p begun d1
 accept-failed gives stands runs_out tells terms p failed k begun d0 d1 a g =
     failed-logs gives stands runs_out tells terms p a.asks Client (Accept (Err failed)) k begun d0 d1 a.on.at (d0, (a.on.at.called, g)) (a.on.at.settled, may-accept gives stands tells terms p k begun d0 a) refl
@@ -248,7 +248,7 @@ accept-failed gives stands runs_out tells terms p failed k begun d0 d1 a g =
 -- ---- behind an answer
 
 -- the client is there, and is polled next
-pub there-asking : {D : Type 0} → (gives : D → Call → D → Type 0) (stands : List Event → Type 0) (tells : List ℕ → Type 0) (terms : Terms) (p : Prescribed) (k : Kept) (begun now : D) → k.client_up ≡ true → IsAsking RoundBegins gives stands tells terms p k begun now
+pub there-asking : {D : Type 0} → (gives : D → Call → D → Type 0) (stands : List LinkEvent → Type 0) (tells : List ℕ → Type 0) (terms : Terms) (p : Prescribed) (k : Rounds) (begun now : D) → k.client_up ≡ true → IsAsking RoundBegins gives stands tells terms p k begun now
     → IsAsking DoorAsked gives stands tells terms p k begun now
 there-asking gives stands tells terms p k begun now there a = record {
   asks = a.asks;
@@ -263,7 +263,7 @@ there-asking gives stands tells terms p k begun now there a = record {
 }
 
 -- the side isn't there, and isn't polled
-pub gone-asking : {D : Type 0} → (side : Side) (gives : D → Call → D → Type 0) (stands : List Event → Type 0) (tells : List ℕ → Type 0) (terms : Terms) (p : Prescribed) (k : Kept) (begun now : D) → up_of side k ≡ false → IsAsking (stage_of side) gives stands tells terms p k begun now
+pub gone-asking : {D : Type 0} → (side : Side) (gives : D → Call → D → Type 0) (stands : List LinkEvent → Type 0) (tells : List ℕ → Type 0) (terms : Terms) (p : Prescribed) (k : Rounds) (begun now : D) → up_of side k ≡ false → IsAsking (stage_of side) gives stands tells terms p k begun now
     → IsAsking (stage_behind side) gives stands tells terms p k begun now
 gone-asking Client gives stands tells terms p k begun now down a = record {
   asks = a.asks;
@@ -279,38 +279,38 @@ gone-asking Client gives stands tells terms p k begun now down a = record {
 gone-asking Host gives stands tells terms p k begun now down a = record { asks = a.asks; on = a.on; patient = a.patient; waited = a.waited; turn = λ up. absurd (false≢true (sym down ∙ up)) }
 
 -- a side's end leaves how long it waits
-pub down-idle : (side : Side) (k k' : Kept) → k' ≡ record (with_up side k) { busy = true } → k'.idle ≡ k.idle
-down-idle Client k k' is = ap (λ (q : Kept). q.idle) is
-down-idle Host k k' is = ap (λ (q : Kept). q.idle) is
+pub down-idle : (side : Side) (k k' : Rounds) → k' ≡ record (with_up side k) { busy = true } → k'.idle ≡ k.idle
+down-idle Client k k' is = ap (λ (q : Rounds). q.idle) is
+down-idle Host k k' is = ap (λ (q : Rounds). q.idle) is
 
-pub down-waits : (side : Side) (k k' : Kept) → k' ≡ record (with_up side k) { busy = true } → k'.waits ≡ k.waits
-down-waits Client k k' is = ap (λ (q : Kept). q.waits) is
-down-waits Host k k' is = ap (λ (q : Kept). q.waits) is
+pub down-waits : (side : Side) (k k' : Rounds) → k' ≡ record (with_up side k) { busy = true } → k'.waits ≡ k.waits
+down-waits Client k k' is = ap (λ (q : Rounds). q.waits) is
+down-waits Host k k' is = ap (λ (q : Rounds). q.waits) is
 
-still-busy : (k k' : Kept) → k.busy ≡ true → Wears k k' → k'.busy ≡ true
+still-busy : (k k' : Rounds) → k.busy ≡ true → Wears k k' → k'.busy ≡ true
 still-busy k k' is w = go w.fewer
   where
     go : (k'.busy ≡ true) × (chances_of k' < chances_of k) ⊎ (k'.busy ≡ k.busy) × (chances_of k' ≤ chances_of k) → k'.busy ≡ true
     go (inl x) = x.0
     go (inr x) = x.0 ∙ is
 
-worn-patient : (terms : Terms) (k k1 k2 : Kept) → IsPatient terms k → k1.idle ≡ k.idle → k1.waits ≡ k.waits → Wears k1 k2 → IsPatient terms k2
+worn-patient : (terms : Terms) (k k1 k2 : Rounds) → IsPatient terms k → k1.idle ≡ k.idle → k1.waits ≡ k.waits → Wears k1 k2 → IsPatient terms k2
 worn-patient terms k k1 k2 patient idle waits w = record { idle = w.idle ∙ idle ∙ patient.idle; some = patient.some; waits = subst (λ (n : ℕ). 0 < n) (sym (w.waits ∙ waits)) patient.waits; within = subst (λ (n : ℕ). n ≤ terms.idle) (sym (w.waits ∙ waits)) patient.within }
 
-waits-behind : (side : Side) (terms : Terms) (k : Kept) (asks : List Ask) → HasWaited true false terms k asks → Waits (stage_behind side) terms k asks
+waits-behind : (side : Side) (terms : Terms) (k : Rounds) (asks : List Ask) → HasWaited true false terms k asks → Waits (stage_behind side) terms k asks
 waits-behind Client terms k asks w = w
 waits-behind Host terms k asks w = w
 
-asked-turn : (side : Side) (polled : Polled) (k : Kept) (asks : List Ask) → HasTurn (stage_behind side) k (OfSide side polled ∷ asks)
+asked-turn : (side : Side) (polled : Polled) (k : Rounds) (asks : List Ask) → HasTurn (stage_behind side) k (OfSide side polled ∷ asks)
 asked-turn Client polled k asks = refl
 asked-turn Host polled k asks = λ up. refl
 
-came-turn : (b : Bool) (k : Kept) (asks : List Ask) → DoorTurn b k (ForClient (Ok true) ∷ asks)
+came-turn : (b : Bool) (k : Rounds) (asks : List Ask) → DoorTurn b k (ForClient (Ok true) ∷ asks)
 came-turn true k asks = inl refl
 came-turn false k asks = refl
 
 -- something has come of a side
-pub came-logs : {D : Type 0} → (result : Result (Unit {0}) ServeEnd) (gives : D → Call → D → Type 0) (stands : List Event → Type 0) (runs_out : List Event → Event → List ℕ → List ℕ → Type 0) (tells : List ℕ → Type 0) (terms : Terms) (p : Prescribed) (side : Side) (polled : Polled) (asks : List Ask) (k k1 k2 : Kept) (begun now : D)
+pub came-logs : {D : Type 0} → (result : Result (Unit {0}) ServeEnd) (gives : D → Call → D → Type 0) (stands : List LinkEvent → Type 0) (runs_out : List LinkEvent → LinkEvent → List ℕ → List ℕ → Type 0) (tells : List ℕ → Type 0) (terms : Terms) (p : Prescribed) (side : Side) (polled : Polled) (asks : List Ask) (k k1 k2 : Rounds) (begun now : D)
     → HappenLogs result gives stands runs_out tells terms p (OfSide side polled ∷ asks) k2 begun now → quiet_rounds (OfSide side polled ∷ asks) ≡ 0 → IsPatient terms k → k1.busy ≡ true → k1.idle ≡ k.idle → k1.waits ≡ k.waits → Wears k1 k2
     → Logs result (stage_behind side) gives stands runs_out tells terms p k2 begun now
 came-logs (Ok x) gives stands runs_out tells terms p side polled asks k k1 k2 begun now h none patient busy idle waits w = record {
@@ -323,7 +323,7 @@ came-logs (Ok x) gives stands runs_out tells terms p side polled asks k k1 k2 be
 came-logs (Err e) gives stands runs_out tells terms p side polled asks k k1 k2 begun now h none patient busy idle waits w = h
 
 -- a client has come
-pub client-logs : {D : Type 0} → (result : Result (Unit {0}) ServeEnd) (gives : D → Call → D → Type 0) (stands : List Event → Type 0) (runs_out : List Event → Event → List ℕ → List ℕ → Type 0) (tells : List ℕ → Type 0) (terms : Terms) (p : Prescribed) (asks : List Ask) (k k1 k2 : Kept) (begun now : D)
+pub client-logs : {D : Type 0} → (result : Result (Unit {0}) ServeEnd) (gives : D → Call → D → Type 0) (stands : List LinkEvent → Type 0) (runs_out : List LinkEvent → LinkEvent → List ℕ → List ℕ → Type 0) (tells : List ℕ → Type 0) (terms : Terms) (p : Prescribed) (asks : List Ask) (k k1 k2 : Rounds) (begun now : D)
     → HappenLogs result gives stands runs_out tells terms p (ForClient (Ok true) ∷ asks) k2 begun now → IsPatient terms k → k1.busy ≡ true → k1.idle ≡ k.idle → k1.waits ≡ k.waits → Wears k1 k2
     → Logs result DoorAsked gives stands runs_out tells terms p k2 begun now
 client-logs (Ok x) gives stands runs_out tells terms p asks k k1 k2 begun now h patient busy idle waits w = record {
@@ -336,7 +336,7 @@ client-logs (Ok x) gives stands runs_out tells terms p asks k k1 k2 begun now h 
 client-logs (Err e) gives stands runs_out tells terms p asks k k1 k2 begun now h patient busy idle waits w = h
 
 -- a side had nothing
-quiet-waited : (side : Side) (terms : Terms) (k : Kept) (asks : List Ask) → Waits (stage_of side) terms k asks → up_of side k ≡ true → HasWaited true false terms k (OfSide side NotYet ∷ asks)
+quiet-waited : (side : Side) (terms : Terms) (k : Rounds) (asks : List Ask) → Waits (stage_of side) terms k asks → up_of side k ≡ true → HasWaited true false terms k (OfSide side NotYet ∷ asks)
 quiet-waited Client terms k asks w up = record {
   came = λ there. refl;
   busy = λ b. ap (λ (j : Bool). cond j (quiet_rounds asks) (quiet_rounds asks + 1)) (w.came up ∙ b) ∙ w.busy b;
@@ -345,14 +345,14 @@ quiet-waited Client terms k asks w up = record {
 }
 quiet-waited Host terms k asks w up = record { came = λ there. refl; busy = w.busy; quiet = w.quiet }
 
-pub quiet-logs : {D : Type 0} → (result : Result (Unit {0}) ServeEnd) (gives : D → Call → D → Type 0) (stands : List Event → Type 0) (runs_out : List Event → Event → List ℕ → List ℕ → Type 0) (tells : List ℕ → Type 0) (terms : Terms) (p : Prescribed) (side : Side) (asks : List Ask) (k k1 : Kept) (begun now : D)
+pub quiet-logs : {D : Type 0} → (result : Result (Unit {0}) ServeEnd) (gives : D → Call → D → Type 0) (stands : List LinkEvent → Type 0) (runs_out : List LinkEvent → LinkEvent → List ℕ → List ℕ → Type 0) (tells : List ℕ → Type 0) (terms : Terms) (p : Prescribed) (side : Side) (asks : List Ask) (k k1 : Rounds) (begun now : D)
     → HappenLogs result gives stands runs_out tells terms p (OfSide side NotYet ∷ asks) k1 begun now → IsPatient terms k → Waits (stage_of side) terms k asks → up_of side k ≡ true → OnOk result (k1 ≡ k)
     → Logs result (stage_behind side) gives stands runs_out tells terms p k1 begun now
 quiet-logs (Ok x) gives stands runs_out tells terms p side asks k k1 begun now h patient w up same = record {
   asks = OfSide side NotYet ∷ asks;
   on = h;
-  patient = subst (λ (q : Kept). IsPatient terms q) (sym same) patient;
-  waited = waits-behind side terms k1 (OfSide side NotYet ∷ asks) (subst (λ (q : Kept). HasWaited true false terms q (OfSide side NotYet ∷ asks)) (sym same) (quiet-waited side terms k asks w up));
+  patient = subst (λ (q : Rounds). IsPatient terms q) (sym same) patient;
+  waited = waits-behind side terms k1 (OfSide side NotYet ∷ asks) (subst (λ (q : Rounds). HasWaited true false terms q (OfSide side NotYet ∷ asks)) (sym same) (quiet-waited side terms k asks w up));
   turn = asked-turn side NotYet k1 asks;
 }
 quiet-logs (Err e) gives stands runs_out tells terms p side asks k k1 begun now h patient w up same = h

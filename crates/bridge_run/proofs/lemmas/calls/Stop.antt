@@ -5,8 +5,8 @@ use Rattle.usb_base.specs.declared.side.Side.TheVariants.{Client, Host}
 use Rattle.usb_base.specs.declared.refusal.Refusal.{Refusal}
 use Rattle.gate_outside.specs.Calls.{Call, went}
 use Rattle.session_tape.specs.Tapes.{Counts}
-use Rattle.bridge_run.specs.Events.{Event}
-use Rattle.bridge_run.specs.declared.kept.Kept.{Kept}
+use Rattle.bridge_run.specs.Events.{LinkEvent}
+use Rattle.bridge_run.specs.declared.rounds.Rounds.{Rounds}
 use Rattle.bridge_run.specs.declared.sent.Sent.{Sent}
 use Rattle.bridge_run.specs.declared.serve_end.ServeEnd.{ServeEnd}
 use Rattle.bridge_run.specs.declared.serve_end.ServeEnd.TheVariants as end
@@ -44,13 +44,13 @@ unsent true all written bytes is none = is ∙ sym (append-nil all) ∙ ap (λ (
 unsent false all written bytes is none = is ∙ sym (append-nil all)
 
 -- what was sent of it says where memory ran out
-why : (runs_out : List Event → Event → List ℕ → List ℕ → Type 0) (taped : Bool) (p : Prescribed) (events : List Event) (e : Event) (client host : List ℕ) → runs_out events e client host ⊎ Untold p events e client host → RanOut runs_out taped p events e client host
+why : (runs_out : List LinkEvent → LinkEvent → List ℕ → List ℕ → Type 0) (taped : Bool) (p : Prescribed) (events : List LinkEvent) (e : LinkEvent) (client host : List ℕ) → runs_out events e client host ⊎ Untold p events e client host → RanOut runs_out taped p events e client host
 why runs_out taped p events e client host (inl is) = inl is
 why runs_out taped p events e client host (inr is) = inr (inl is)
 
 -- ---- before an event is taken
 
-pub stopping : {D : Type 0} → (gives : D → Call → D → Type 0) (stands : List Event → Type 0) (tells : List ℕ → Type 0) (terms : Terms) (p : Prescribed) (asks : List Ask) (e : Event) (k k1 : Kept) (begun now : D) → k1 ≡ k → (t : IsTaking gives stands tells terms p asks e k begun now)
+pub stopping : {D : Type 0} → (gives : D → Call → D → Type 0) (stands : List LinkEvent → Type 0) (tells : List ℕ → Type 0) (terms : Terms) (p : Prescribed) (asks : List Ask) (e : LinkEvent) (k k1 : Rounds) (begun now : D) → k1 ≡ k → (t : IsTaking gives stands tells terms p asks e k begun now)
     → IsStopping gives terms p e t.events k1 begun now
 stopping gives stands tells terms p asks e k k1 begun now same t = record {
   calls = t.calls;
@@ -59,12 +59,12 @@ stopping gives stands tells terms p asks e k k1 begun now same t = record {
   events-are = t.events-are;
   just_came = t.just_came;
   written = t.written;
-  client_up = ap (λ (q : Kept). q.client_up) same ∙ t.client_up;
-  host_up = ap (λ (q : Kept). q.host_up) same ∙ t.host_up;
+  client_up = ap (λ (q : Rounds). q.client_up) same ∙ t.client_up;
+  host_up = ap (λ (q : Rounds). q.host_up) same ∙ t.host_up;
 }
 
 -- nothing is written of it
-none-written : {D : Type 0} → (gives : D → Call → D → Type 0) (runs_out : List Event → Event → List ℕ → List ℕ → Type 0) (terms : Terms) (p : Prescribed) (e : Event) (events : List Event) (k : Kept) (client host : List ℕ) (begun now : D) → client ≡ [] → host ≡ []
+none-written : {D : Type 0} → (gives : D → Call → D → Type 0) (runs_out : List LinkEvent → LinkEvent → List ℕ → List ℕ → Type 0) (terms : Terms) (p : Prescribed) (e : LinkEvent) (events : List LinkEvent) (k : Rounds) (client host : List ℕ) (begun now : D) → client ≡ [] → host ≡ []
     → RanOut runs_out terms.taped p events e client host → IsStopping gives terms p e events k begun now → HasStopped gives runs_out terms p e events begun now
 none-written gives runs_out terms p e events k client host begun now none-client none-host why s = record {
   calls = s.calls;
@@ -79,14 +79,14 @@ none-written gives runs_out terms p e events k client host begun now none-client
   host = unsent (host_at e (host_since (is_some terms.host) p events)) (sent_to_host (is_some terms.host) p events) (went Host s.calls) host s.written.host none-host;
 }
 
-pub stop-none : {D : Type 0} → (gives : D → Call → D → Type 0) (runs_out : List Event → Event → List ℕ → List ℕ → Type 0) (terms : Terms) (p : Prescribed) (e : Event) (events : List Event) (k : Kept) (client host : List ℕ) (begun now : D) → (has_any client || has_any host) ≡ false
+pub stop-none : {D : Type 0} → (gives : D → Call → D → Type 0) (runs_out : List LinkEvent → LinkEvent → List ℕ → List ℕ → Type 0) (terms : Terms) (p : Prescribed) (e : LinkEvent) (events : List LinkEvent) (k : Rounds) (client host : List ℕ) (begun now : D) → (has_any client || has_any host) ≡ false
     → IsPart runs_out p events e client host → IsStopping gives terms p e events k begun now → HasStopped gives runs_out terms p e events begun now
 stop-none gives runs_out terms p e events k client host begun now none part s =
     none-written gives runs_out terms p e events k client host begun now (has-none client (or-first (has_any client) (has_any host) none)) (has-none host (or-second (has_any client) (has_any host) none))
     (why runs_out terms.taped p events e client host part.ran_out) s
 
 -- its line couldn't be recorded
-stop-failed : {D : Type 0} → (gives : D → Call → D → Type 0) (terms : Terms) (p : Prescribed) (e : Event) (events : List Event) (k : Kept) (begun now : D) → IsStopping gives terms p e events k begun now → StopFailed gives terms p e events begun now
+stop-failed : {D : Type 0} → (gives : D → Call → D → Type 0) (terms : Terms) (p : Prescribed) (e : LinkEvent) (events : List LinkEvent) (k : Rounds) (begun now : D) → IsStopping gives terms p e events k begun now → StopFailed gives terms p e events begun now
 stop-failed gives terms p e events k begun now s = record {
   calls = s.calls;
   called = s.called;
@@ -99,7 +99,7 @@ stop-failed gives terms p e events k begun now s = record {
   };
 }
 
-pub stop-tape : {D : Type 0} → (x : ServeEnd) (old new : Counts) (gives : D → Call → D → Type 0) (runs_out : List Event → Event → List ℕ → List ℕ → Type 0) (terms : Terms) (p : Prescribed) (e : Event) (events : List Event) (k : Kept) (made : Bool) (refusals : List Refusal) (begun now : D)
+pub stop-tape : {D : Type 0} → (x : ServeEnd) (old new : Counts) (gives : D → Call → D → Type 0) (runs_out : List LinkEvent → LinkEvent → List ℕ → List ℕ → Type 0) (terms : Terms) (p : Prescribed) (e : LinkEvent) (events : List LinkEvent) (k : Rounds) (made : Bool) (refusals : List Refusal) (begun now : D)
     → TapeFaults {T = Unit {0}} (Err x) old new → (x ≡ end.Memory → (made ≡ true) × ((is_recorded e || has_any refusals) ≡ true)) → refusals ≡ [] → terms.taped ≡ made → IsStopping gives terms p e events k begun now
     → StopLogs x gives runs_out terms p e events begun now
 stop-tape (end.Ended refused) old new gives runs_out terms p e events k made refusals begun now is wants none taped s = absurd is
@@ -123,7 +123,7 @@ stop-tape end.Memory old new gives runs_out terms p e events k made refusals beg
 -- ---- what it sent is written
 
 -- a front of what went to the client
-pub stop-client : {D : Type 0} → (gives : D → Call → D → Type 0) (runs_out : List Event → Event → List ℕ → List ℕ → Type 0) (terms : Terms) (p : Prescribed) (e : Event) (events : List Event) (k : Kept) (client host bytes : List ℕ) (begun d0 d1 : D)
+pub stop-client : {D : Type 0} → (gives : D → Call → D → Type 0) (runs_out : List LinkEvent → LinkEvent → List ℕ → List ℕ → Type 0) (terms : Terms) (p : Prescribed) (e : LinkEvent) (events : List LinkEvent) (k : Rounds) (client host bytes : List ℕ) (begun d0 d1 : D)
     → IsPart runs_out p events e client host → (s : IsStopping gives terms p e events k begun d0) → bytes ≡ client → FailedBehind gives Client k.client_up bytes s.calls begun d1 → StopLogs (end.LinkFault Client) gives runs_out terms p e events begun d1
 stop-client gives runs_out terms p e events k client host bytes begun d0 d1 part s is f = record {
   part = record {
@@ -149,7 +149,7 @@ longer-front true all written client more rest is alike = (rest, ap (λ (l : Lis
 longer-front false all written client more rest is alike = front-whole (all ++ []) written is
 
 -- all of that, and a front of what went to the host
-pub stop-host : {D : Type 0} → (gives : D → Call → D → Type 0) (runs_out : List Event → Event → List ℕ → List ℕ → Type 0) (terms : Terms) (p : Prescribed) (e : Event) (events : List Event) (k : Kept) (client host bytes1 bytes2 : List ℕ) (begun d0 d1 d2 : D)
+pub stop-host : {D : Type 0} → (gives : D → Call → D → Type 0) (runs_out : List LinkEvent → LinkEvent → List ℕ → List ℕ → Type 0) (terms : Terms) (p : Prescribed) (e : LinkEvent) (events : List LinkEvent) (k : Rounds) (client host bytes1 bytes2 : List ℕ) (begun d0 d1 d2 : D)
     → IsPart runs_out p events e client host → (s : IsStopping gives terms p e events k begun d0) → bytes1 ≡ client → bytes2 ≡ host → (w1 : WroteMore gives Client (all_if k.client_up bytes1) s.calls begun d1) → FailedBehind gives Host k.host_up bytes2 w1.behind begun d2
     → StopLogs (end.LinkFault Host) gives runs_out terms p e events begun d2
 stop-host gives runs_out terms p e events k client host bytes1 bytes2 begun d0 d1 d2 part s is1 is2 w1 f = record {
@@ -170,7 +170,7 @@ stop-host gives runs_out terms p e events k client host bytes1 bytes2 begun d0 d
 }
 
 -- all of both
-pub stop-all : {D : Type 0} → (gives : D → Call → D → Type 0) (runs_out : List Event → Event → List ℕ → List ℕ → Type 0) (terms : Terms) (p : Prescribed) (e : Event) (events : List Event) (k : Kept) (client host bytes1 bytes2 : List ℕ) (begun d0 d1 d2 : D)
+pub stop-all : {D : Type 0} → (gives : D → Call → D → Type 0) (runs_out : List LinkEvent → LinkEvent → List ℕ → List ℕ → Type 0) (terms : Terms) (p : Prescribed) (e : LinkEvent) (events : List LinkEvent) (k : Rounds) (client host bytes1 bytes2 : List ℕ) (begun d0 d1 d2 : D)
     → IsPart runs_out p events e client host → (s : IsStopping gives terms p e events k begun d0) → bytes1 ≡ client → bytes2 ≡ host → (w1 : WroteMore gives Client (all_if k.client_up bytes1) s.calls begun d1) → (w2 : WroteMore gives Host (all_if k.host_up bytes2) w1.behind begun d2)
     → HasStopped gives runs_out terms p e events begun d2
 stop-all gives runs_out terms p e events k client host bytes1 bytes2 begun d0 d1 d2 part s is1 is2 w1 w2 = record {
@@ -193,7 +193,7 @@ came-or-none : (calls : List Call) → JustCame calls → CameOrNone calls
 came-or-none [] j = tt
 came-or-none (call ∷ calls) j = j
 
-pub stop-logs : {D : Type 0} → (x : ServeEnd) (gives : D → Call → D → Type 0) (runs_out : List Event → Event → List ℕ → List ℕ → Type 0) (tells : List ℕ → Type 0) (terms : Terms) (p : Prescribed) (e : Event) (events : List Event) (begun now : D) → tells (told_of p events)
+pub stop-logs : {D : Type 0} → (x : ServeEnd) (gives : D → Call → D → Type 0) (runs_out : List LinkEvent → LinkEvent → List ℕ → List ℕ → Type 0) (tells : List ℕ → Type 0) (terms : Terms) (p : Prescribed) (e : LinkEvent) (events : List LinkEvent) (begun now : D) → tells (told_of p events)
     → StopLogs x gives runs_out terms p e events begun now → Logged x gives runs_out tells terms p begun now
 stop-logs (end.Ended refused) gives runs_out tells terms p e events begun now told s = absurd s
 stop-logs end.Idle gives runs_out tells terms p e events begun now told s = absurd s
@@ -202,26 +202,26 @@ stop-logs end.Memory gives runs_out tells terms p e events begun now told s = re
   calls = s.calls;
   called = s.called;
   settled = s.settled;
-  written = subst (λ (es : List Event). WroteBefore runs_out tells terms p es s.calls) (sym s.events-are) (record { to_client = s.to_client; to_host = s.to_host; ran_out = s.ran_out; client = s.client; host = s.host; told = told });
+  written = subst (λ (es : List LinkEvent). WroteBefore runs_out tells terms p es s.calls) (sym s.events-are) (record { to_client = s.to_client; to_host = s.to_host; ran_out = s.ran_out; client = s.client; host = s.host; told = told });
   ended = came-or-none s.calls s.just_came;
 }
 stop-logs end.WriteFault gives runs_out tells terms p e events begun now told s = record {
   calls = s.calls;
   called = s.called;
   settled = s.settled;
-  written = subst (λ (es : List Event). WroteInPart tells terms p es s.calls) (sym s.events-are) (record { links = s.written; told = part-more tells (told_of p events) _ (told-all tells (told_of p events) told) });
+  written = subst (λ (es : List LinkEvent). WroteInPart tells terms p es s.calls) (sym s.events-are) (record { links = s.written; told = part-more tells (told_of p events) _ (told-all tells (told_of p events) told) });
   ended = inl s.just_came;
 }
 stop-logs (end.LinkFault side) gives runs_out tells terms p e events begun now told s = record {
   calls = s.part.calls;
   called = s.part.called;
   settled = s.part.settled;
-  written = subst (λ (es : List Event). WroteInPart tells terms p es s.part.calls) (sym s.part.events-are) (record { links = s.part.written; told = part-more tells (told_of p events) _ (told-all tells (told_of p events) told) });
+  written = subst (λ (es : List LinkEvent). WroteInPart tells terms p es s.part.calls) (sym s.part.events-are) (record { links = s.part.written; told = part-more tells (told_of p events) _ (told-all tells (told_of p events) told) });
   ended = s.failed;
 }
 
 -- all was sent, and its lines couldn't be recorded, before anything is written
-pub tape-logs : {D : Type 0} → (x : ServeEnd) (old new : Counts) (gives : D → Call → D → Type 0) (stands : List Event → Type 0) (runs_out : List Event → Event → List ℕ → List ℕ → Type 0) (tells : List ℕ → Type 0) (terms : Terms) (p : Prescribed) (asks : List Ask) (e : Event) (k : Kept) (sent : Sent) (lines : List ℕ) (made : Bool) (begun now : D)
+pub tape-logs : {D : Type 0} → (x : ServeEnd) (old new : Counts) (gives : D → Call → D → Type 0) (stands : List LinkEvent → Type 0) (runs_out : List LinkEvent → LinkEvent → List ℕ → List ℕ → Type 0) (tells : List ℕ → Type 0) (terms : Terms) (p : Prescribed) (asks : List Ask) (e : LinkEvent) (k : Rounds) (sent : Sent) (lines : List ℕ) (made : Bool) (begun now : D)
     → TapeFaults {T = Unit {0}} (Err x) old new → (x ≡ end.Memory → (made ≡ true) × ((is_recorded e || has_any sent.refusals) ≡ true)) → terms.taped ≡ made → (t : IsTaking gives stands tells terms p asks e k begun now) → Prepared p t.events e sent lines
     → Logged x gives runs_out tells terms p begun now
 tape-logs (end.Ended refused) old new gives stands runs_out tells terms p asks e k sent lines made begun now is wants taped t prepared = absurd is

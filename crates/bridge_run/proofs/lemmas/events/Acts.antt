@@ -13,7 +13,7 @@ use Rattle.redir_host.specs.step.Stands.{Stands, DoesAct, TakesAct}
 use Rattle.redir_host.proofs.lemmas.step.Acts.{act-out}
 use Rattle.bridge_run.specs.declared.lent.Lent.{Lent}
 use Rattle.bridge_run.specs.declared.sent.Sent.{Sent}
-use Rattle.bridge_run.specs.Events.{Event}
+use Rattle.bridge_run.specs.Events.{LinkEvent}
 use Rattle.bridge_run.specs.Lent.{each, used, is_refusal, behind_piece, acts_behind, acts_of, is_coming, has_come, refused_by, lent_refusals, lent_sends}
 use Rattle.bridge_run.specs.inner.Sends.{Sends}
 use Rattle.bridge_run.specs.inner.Lending.{Acts, IsLent}
@@ -98,7 +98,7 @@ waits-is false true before given behind waiting later is w l = refl
 waits-is false false before given behind waiting later is w l = l ∙ ap (λ (b : List ℕ). b ++ given) w ∙ sym is
 
 -- what is kept behind an event
-pub lent-stands : {S : Type 0} (m : Meaning S) (s : S) (old mid new : Lent S) (past : List Event) (e : Event) → IsLent m s old past
+pub lent-stands : {S : Type 0} (m : Meaning S) (s : S) (old mid new : Lent S) (past : List LinkEvent) (e : LinkEvent) → IsLent m s old past
     → Acts m s mid.core (acts_of m s past) (acts_behind m s (acts_of m s past) e) old.waiting mid.waiting → mid.has_come ≡ (is_coming e || old.has_come)
     → new ≡ record mid { waiting = cond mid.has_come [] mid.waiting } → IsLent m s new (e ∷ past)
 lent-stands m s old mid new past e lent acts came is =
@@ -114,7 +114,7 @@ or-false : (b : Bool) → (b || false) ≡ b
 or-false true = refl
 or-false false = refl
 
-pub lent-sends : {S : Type 0} (m : Meaning S) (s : S) (old mid : Lent S) (past : List Event) (e : Event) (sent sent' : Sent) → IsLent m s old past
+pub lent-sends : {S : Type 0} (m : Meaning S) (s : S) (old mid : Lent S) (past : List LinkEvent) (e : LinkEvent) (sent sent' : Sent) → IsLent m s old past
     → Acts m s mid.core (acts_of m s past) (acts_behind m s (acts_of m s past) e) old.waiting mid.waiting → mid.has_come ≡ (is_coming e || old.has_come)
     → sent'.to_client ≡ sent.to_client ++ cond mid.has_come mid.waiting [] → sent'.to_host ≡ sent.to_host → sent'.refusals ≡ sent.refusals ++ refused_by m s (acts_of m s past) e → sent'.lets_go ≡ sent.lets_go
     → Sends (lent_sends m s) past e sent sent'

@@ -10,17 +10,17 @@ use Rattle.gate_core.specs.state.Kept.{GateKept}
 use Rattle.gate_core.specs.step.Stands.{Takes}
 use Rattle.bridge_run.specs.declared.after_loss.AfterLoss.{AfterLoss}
 use Rattle.bridge_run.specs.declared.sent.Sent.{Sent}
-use Rattle.bridge_run.specs.Events.{Event}
+use Rattle.bridge_run.specs.Events.{LinkEvent}
 use Rattle.bridge_run.specs.Gate.{gate_event, gate_events, gate_notes, gate_sends, lets_go, put_on, refusal_in}
 use Rattle.bridge_run.specs.Prescribed.{gained}
 use Rattle.bridge_run.specs.inner.Sends.{Sends}
 use Rattle.bridge_run.proofs.lemmas.events.Acts.{gained-is}
 
 -- of an output that has gained as much
-pub gained-of : (all : List Event → List ℕ) (past : List Event) (e : Event) (old new after : List ℕ) → all (e ∷ past) ≡ after → Gains old new (all past) after → new ≡ old ++ gained all past e
+pub gained-of : (all : List LinkEvent → List ℕ) (past : List LinkEvent) (e : LinkEvent) (old new after : List ℕ) → all (e ∷ past) ≡ after → Gains old new (all past) after → new ≡ old ++ gained all past e
 gained-of all past e old new after is g = g.new-is ∙ ap (λ (l : List ℕ). old ++ l) (sym (gained-is (all past) g.more (all (e ∷ past)) (is ∙ g.after-is)))
 
-pub gate-sends : (setting was : AfterLoss) (first : ℕ) (past : List Event) (e : Event) (ge : GateEvent) (kept : GateKept) (old : Sent) (client host : List ℕ) (refusals : List Refusal) (gone : Bool) (notes : List Note)
+pub gate-sends : (setting was : AfterLoss) (first : ℕ) (past : List LinkEvent) (e : LinkEvent) (ge : GateEvent) (kept : GateKept) (old : Sent) (client host : List ℕ) (refusals : List Refusal) (gone : Bool) (notes : List Note)
     → gate_event e ≡ Some ge → Takes first kept (gate_events past) ge old.to_client client old.to_host host notes → refusals ≡ old.refusals ++ flat_map refusal_in notes → gone ≡ lets_go was notes → was ≡ setting
     → Sends (gate_sends setting first) past e old (record { to_client = client; to_host = host; refusals = refusals; lets_go = old.lets_go || gone })
 gate-sends setting was first past e ge kept old client host refusals gone notes is t pushed goes same =

@@ -20,7 +20,7 @@ use Rattle.gate_core.specs.state.Kept.{GateKept}
 use Rattle.gate_core.specs.step.Stands.{Stops, Takes}
 use Rattle.bridge_run.specs.declared.after_loss.AfterLoss.{AfterLoss}
 use Rattle.bridge_run.specs.declared.sent.Sent.{Sent}
-use Rattle.bridge_run.specs.Events.{Event}
+use Rattle.bridge_run.specs.Events.{LinkEvent}
 use Rattle.bridge_run.specs.Gate.{gate_event, gate_events, gate_notes, gate_sends, put_on, refusal_in}
 use Rattle.bridge_run.specs.GateStops.{GateStops, StopsAt, gate_runs_out}
 use Rattle.bridge_run.specs.Prescribed.{gained}
@@ -62,7 +62,7 @@ host-more first taken later before =
 -- ---- an event
 
 -- a front of what the event sends
-front-of : (all : List Event → List ℕ) (events : List Event) (e : Event) (mid behind sent more : List ℕ) → mid ≡ all events ++ sent → behind ≡ mid ++ more → all (e ∷ events) ≡ behind → IsFront sent (gained all events e)
+front-of : (all : List LinkEvent → List ℕ) (events : List LinkEvent) (e : LinkEvent) (mid behind sent more : List ℕ) → mid ≡ all events ++ sent → behind ≡ mid ++ more → all (e ∷ events) ≡ behind → IsFront sent (gained all events e)
 front-of all events e mid behind sent more is longer same =
     (more, gained-is (all events) (sent ++ more) (all (e ∷ events)) (same ∙ longer ∙ ap (λ (l : List ℕ). l ++ more) is ∙ append_assoc (all events) sent more))
 
@@ -79,10 +79,10 @@ wanted-at first events e seen taken later (inl all) (inl held) = absurd (no-long
 wanted-at first events e seen taken later (inr none) (inl held) = inl (none.1, held.1)
 wanted-at first events e seen taken later s (inr wants) = inr wants
 
-stops-at : (first : ℕ) (events : List Event) (e : Event) (ge : GateEvent) (client host : List ℕ) → gate_event e ≡ Some ge → GateStops first (gate_events events) ge client host → gate_runs_out first events e client host
+stops-at : (first : ℕ) (events : List LinkEvent) (e : LinkEvent) (ge : GateEvent) (client host : List ℕ) → gate_event e ≡ Some ge → GateStops first (gate_events events) ge client host → gate_runs_out first events e client host
 stops-at first events e ge client host is x = subst (λ (o : Option GateEvent). StopsAt first (gate_events events) o client host) (sym is) x
 
-pub gate-stops : (setting : AfterLoss) (first : ℕ) (events : List Event) (e : Event) (ge : GateEvent) (kept : GateKept) (old new : Sent) → gate_event e ≡ Some ge
+pub gate-stops : (setting : AfterLoss) (first : ℕ) (events : List LinkEvent) (e : LinkEvent) (ge : GateEvent) (kept : GateKept) (old new : Sent) → gate_event e ≡ Some ge
     → Stops first kept (gate_events events) ge old.to_client new.to_client old.to_host new.to_host → SendsPart (gate_runs_out first) (gate_sends setting first) events e old new
 gate-stops setting first events e ge kept old new is x =
     let before = arrivals (gate_events events) in
@@ -110,7 +110,7 @@ gate-stops setting first events e ge kept old new is x =
     }
 
 -- all was sent, and its refusals couldn't be told
-pub gate-untold : (setting : AfterLoss) (first : ℕ) (past : List Event) (e : Event) (ge : GateEvent) (kept : GateKept) (old new : Sent) (notes : List Note) → gate_event e ≡ Some ge
+pub gate-untold : (setting : AfterLoss) (first : ℕ) (past : List LinkEvent) (e : LinkEvent) (ge : GateEvent) (kept : GateKept) (old new : Sent) (notes : List Note) → gate_event e ≡ Some ge
     → Takes first kept (gate_events past) ge old.to_client new.to_client old.to_host new.to_host notes → has_any (flat_map refusal_in notes) ≡ true → SendsPart (gate_runs_out first) (gate_sends setting first) past e old new
 gate-untold setting first past e ge kept old new notes is t some =
     let p = gate_sends setting first in

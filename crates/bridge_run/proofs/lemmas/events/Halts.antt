@@ -16,7 +16,7 @@ use Rattle.bridge_run.specs.declared.lent.Lent.{Lent}
 use Rattle.bridge_run.specs.declared.lent.Use.{Use}
 use Rattle.bridge_run.specs.declared.lent.Use.TheVariants.{Perform, Offer}
 use Rattle.bridge_run.specs.declared.sent.Sent.{Sent}
-use Rattle.bridge_run.specs.Events.{Event}
+use Rattle.bridge_run.specs.Events.{LinkEvent}
 use Rattle.bridge_run.specs.Prescribed.{gained}
 use Rattle.bridge_run.specs.Recorded.{has_any}
 use Rattle.bridge_run.specs.Lent.{each, used, out_addresses, in_addresses, refusal_in, is_refusal, behind_piece, acts_behind, acts_of, is_coming, has_come, lent_bytes, refused_by, lent_refusals, lent_sends}
@@ -197,7 +197,7 @@ front-if true waiting given more client all is alike = (more, sym alike ∙ sym 
 front-if false waiting given more client all is alike = ([], sym alike ∙ ap (λ (l : List ℕ). l ++ []) (sym is))
 
 -- memory ran out in an event
-pub lent-part : {S : Type 0} (m : Meaning S) (s : S) (old mid : Lent S) (past : List Event) (e : Event) (sent sent' : Sent) → IsLent m s old past
+pub lent-part : {S : Type 0} (m : Meaning S) (s : S) (old mid : Lent S) (past : List LinkEvent) (e : LinkEvent) (sent sent' : Sent) → IsLent m s old past
     → Halts m s (acts_of m s past) (acts_behind m s (acts_of m s past) e) (refused_by m s (acts_of m s past) e) old.waiting mid.waiting → mid.has_come ≡ (is_coming e || old.has_come)
     → sent.to_client ≡ [] → sent'.to_client ≡ cond mid.has_come mid.waiting [] → sent'.to_host ≡ sent.to_host → SendsPart (LentStops m s) (lent_sends m s) past e sent sent'
 lent-part m s old mid past e sent sent' lent halts came empty client host = go halts

@@ -11,9 +11,9 @@ use Rattle.gate_outside.specs.declared.turn.Turn.{Turn}
 use Rattle.gate_outside.specs.Link.{Link, Door}
 use Rattle.gate_outside.specs.Doors.{closes}
 use Rattle.gate_outside.specs.Front.{AppendsFront}
-use Rattle.bridge_run.specs.Events.{Event}
+use Rattle.bridge_run.specs.Events.{LinkEvent}
 use Rattle.gate_history.specs.state.Sides.{or_else}
-use Rattle.bridge_run.specs.declared.kept.Kept.{Kept}
+use Rattle.bridge_run.specs.declared.rounds.Rounds.{Rounds}
 use Rattle.bridge_run.specs.declared.sent.Sent.{Sent}
 use Rattle.bridge_run.specs.declared.serve_end.ServeEnd.{ServeEnd}
 use Rattle.bridge_run.specs.declared.serve_end.ServeEnd.TheVariants.{Ended, LinkFault, WriteFault, Idle, Spent, Memory}
@@ -71,11 +71,11 @@ between-front false x b old new t s w = absurd (false≢true w.is_up)
 -- ---- the course behind it
 
 -- whether the client's link is closed
-pub dropped-is : (p : Prescribed) (events : List Event) (e : Event) (sent : Sent) (lines : List ℕ) → Prepared p events e sent lines → (refuses Client sent.refusals || sent.lets_go) ≡ drops p events e
+pub dropped-is : (p : Prescribed) (events : List LinkEvent) (e : LinkEvent) (sent : Sent) (lines : List ℕ) → Prepared p events e sent lines → (refuses Client sent.refusals || sent.lets_go) ≡ drops p events e
 dropped-is p events e sent lines prepared =
     ap (λ (rs : List Refusal). refuses Client rs || sent.lets_go) prepared.refusals ∙ ap (λ (b : Bool). refuses Client (gained p.refusals events e) || b) prepared.lets_go
 
-pub put-client : (p : Prescribed) (c : Course) (e : Event) (sent : Sent) (lines : List ℕ) (old new : Link) (up : Bool) → Prepared p c.events e sent lines
+pub put-client : (p : Prescribed) (c : Course) (e : LinkEvent) (sent : Sent) (lines : List ℕ) (old new : Link) (up : Bool) → Prepared p c.events e sent lines
     → Shows old c.client_up c.client c.to_client → up ≡ c.client_up → new ≡ closed_if (refuses Client sent.refusals || sent.lets_go) Client (wrote_if up sent.to_client old)
     → Shows new (put p e c).client_up (put p e c).client (put p e c).to_client
 put-client p c e sent lines old new up prepared s u is =
@@ -87,7 +87,7 @@ put-client p c e sent lines old new up prepared s u is =
     let first = subst (λ (d : Bool). Shows new (c.client_up && not d) (cond d [] c.client) (cond c.client_up (c.to_client ++ sent.to_client) c.to_client)) (dropped-is p c.events e sent lines prepared) there in
     subst (λ (b : List ℕ). Shows new (c.client_up && not (drops p c.events e)) (cond (drops p c.events e) [] c.client) (cond c.client_up (c.to_client ++ b) c.to_client)) prepared.client first
 
-pub put-host : (p : Prescribed) (c : Course) (e : Event) (sent : Sent) (lines : List ℕ) (old new : Link) (up : Bool) → Prepared p c.events e sent lines
+pub put-host : (p : Prescribed) (c : Course) (e : LinkEvent) (sent : Sent) (lines : List ℕ) (old new : Link) (up : Bool) → Prepared p c.events e sent lines
     → Shows old c.host_up c.host c.to_host → up ≡ c.host_up → new ≡ closed_if (refuses Host sent.refusals) Host (wrote_if up sent.to_host old)
     → Shows new (put p e c).host_up (put p e c).host (put p e c).to_host
 put-host p c e sent lines old new up prepared s u is =
@@ -138,13 +138,13 @@ moved writes leaves (Some held) known' waiting waiting' x ws has is rest =
     (ap (λ (l : List ℕ). l ++ writes waiting) has.0 ∙ ap (λ (l : List ℕ). x ++ writes l) has.1, left ∙ ap leaves has.1)
 
 -- the event's lines are put behind those that wait, and all are written where they are due
-pub record IsRecorded (p : Prescribed) (c : Course) (e : Event) (sent : Sent) (due : Bool) (out out' : Written) : Type 0 where
+pub record IsRecorded (p : Prescribed) (c : Course) (e : LinkEvent) (sent : Sent) (due : Bool) (out out' : Written) : Type 0 where
   pub due-is : due ≡ sends_now p e c
   pub tape-is : out'.tape ≡ append_known out.tape (written_if (due || is_full (out.waiting ++ lines_of e sent.refusals)) (out.waiting ++ lines_of e sent.refusals))
   pub waits : IfSome out'.tape (λ held. out'.waiting ≡ waiting_if (due || is_full (out.waiting ++ lines_of e sent.refusals)) (out.waiting ++ lines_of e sent.refusals))
 
 -- whether they are due is known of what is kept
-pub due-of : (p : Prescribed) (c : Course) (e : Event) (sent : Sent) (lines : List ℕ) (k : Kept) (due : Bool) → Prepared p c.events e sent lines → k.client_up ≡ c.client_up → k.host_up ≡ c.host_up → k.left ≡ c.left
+pub due-of : (p : Prescribed) (c : Course) (e : LinkEvent) (sent : Sent) (lines : List ℕ) (k : Rounds) (due : Bool) → Prepared p c.events e sent lines → k.client_up ≡ c.client_up → k.host_up ≡ c.host_up → k.left ≡ c.left
     → due ≡ (sends_any sent.to_client sent.to_host sent.refusals sent.lets_go || is_last k.client_up k.host_up k.left) → due ≡ sends_now p e c
 due-of p c e sent lines k due prepared client host left is =
     is
@@ -156,7 +156,7 @@ due-of p c e sent lines k due prepared client host left is =
     ∙ ap (λ (b : Bool). sends_any (gained p.to_client c.events e) (gained p.to_host c.events e) (gained p.refusals c.events e) (p.lets_go (e ∷ c.events)) || is_last c.client_up b k.left) host
     ∙ ap (λ (n : ℕ). sends_any (gained p.to_client c.events e) (gained p.to_host c.events e) (gained p.refusals c.events e) (p.lets_go (e ∷ c.events)) || is_last c.client_up c.host_up n) left
 
-pub recorded-by : (p : Prescribed) (c : Course) (e : Event) (sent : Sent) (due : Bool) (out out' : Written) (waiting : List ℕ) → waiting ≡ out.waiting → due ≡ sends_now p e c
+pub recorded-by : (p : Prescribed) (c : Course) (e : LinkEvent) (sent : Sent) (due : Bool) (out out' : Written) (waiting : List ℕ) → waiting ≡ out.waiting → due ≡ sends_now p e c
     → out'.tape ≡ append_known out.tape (written_if (due || is_full (waiting ++ lines_of e sent.refusals)) (waiting ++ lines_of e sent.refusals))
     → IfSome out'.tape (λ held. out'.waiting ≡ waiting_if (due || is_full (waiting ++ lines_of e sent.refusals)) (waiting ++ lines_of e sent.refusals)) → IsRecorded p c e sent due out out'
 recorded-by p c e sent due out out' waiting same due-is tape waits = record {
@@ -170,19 +170,19 @@ abbrev Gathers : Written → Course → Bool → List ℕ → Type 0
 Gathers out c due lines = IfSome out.tape (λ held. (held ≡ c.recorded ++ written_if (due || is_full (c.waiting ++ lines)) (c.waiting ++ lines)) × (out.waiting ≡ waiting_if (due || is_full (c.waiting ++ lines)) (c.waiting ++ lines)))
 
 -- the lines of the event are recorded, or wait
-taped : (p : Prescribed) (c : Course) (e : Event) (sent : Sent) (lines : List ℕ) (due : Bool) (out out' : Written) → Prepared p c.events e sent lines → IsTaped out c → IsRecorded p c e sent due out out' → IsTaped out' (put p e c)
+taped : (p : Prescribed) (c : Course) (e : LinkEvent) (sent : Sent) (lines : List ℕ) (due : Bool) (out out' : Written) → Prepared p c.events e sent lines → IsTaped out c → IsRecorded p c e sent due out out' → IsTaped out' (put p e c)
 taped p c e sent lines due out out' prepared is recorded =
     subst (λ (d : Bool). Gathers out' c d (lines_of e (gained p.refusals c.events e))) recorded.due-is
     (subst (λ (rs : List Refusal). Gathers out' c due (lines_of e rs)) prepared.refusals
     (moved (λ (l : List ℕ). written_if (due || is_full (l ++ lines_of e sent.refusals)) (l ++ lines_of e sent.refusals)) (λ (l : List ℕ). waiting_if (due || is_full (l ++ lines_of e sent.refusals)) (l ++ lines_of e sent.refusals))
     out.tape out'.tape out.waiting out'.waiting c.recorded c.waiting is recorded.tape-is recorded.waits))
 
-pub all-recorded : (ran_out : List Event → Event → List ℕ → List ℕ → Type 0) (P : Type 0) (w : Outside) (out : Written) (c d : Course) (known : Option (List ℕ)) → IfSome known (λ held. (held ≡ d.recorded) × P) → IfSome known (λ held. HasLines ran_out w out c d held)
+pub all-recorded : (ran_out : List LinkEvent → LinkEvent → List ℕ → List ℕ → Type 0) (P : Type 0) (w : Outside) (out : Written) (c d : Course) (known : Option (List ℕ)) → IfSome known (λ held. (held ≡ d.recorded) × P) → IfSome known (λ held. HasLines ran_out w out c d held)
 all-recorded ran_out P w out c d None is = tt
 all-recorded ran_out P w out c d (Some held) is = inl is.0
 
 -- a front of them is recorded, and nothing is sent
-recorded-front : (ran_out : List Event → Event → List ℕ → List ℕ → Type 0) (P : Type 0) (w : Outside) (out : Written) (c d : Course) (front back : List ℕ) → d.recorded ≡ c.recorded ++ (front ++ back) → w.client.written ≡ Some c.to_client → w.host.written ≡ Some c.to_host → IsTold out c.told
+recorded-front : (ran_out : List LinkEvent → LinkEvent → List ℕ → List ℕ → Type 0) (P : Type 0) (w : Outside) (out : Written) (c d : Course) (front back : List ℕ) → d.recorded ≡ c.recorded ++ (front ++ back) → w.client.written ≡ Some c.to_client → w.host.written ≡ Some c.to_host → IsTold out c.told
     → (known : Option (List ℕ)) → IfSome known (λ held. (held ≡ c.recorded) × P) → IfSome (append_known known front) (λ held. HasLines ran_out w out c d held)
 recorded-front ran_out P w out c d front back all client host told None is = tt
 recorded-front ran_out P w out c d front back all client host told (Some held) is = inr (inl (record {
@@ -196,7 +196,7 @@ recorded-front ran_out P w out c d front back all client host told (Some held) i
 }))
 
 -- of what a call writes of those that wait a front is written
-pub written-front : (ran_out : List Event → Event → List ℕ → List ℕ → Type 0) (writes : List ℕ → List ℕ) (w : Outside) (out : Written) (c d : Course) (known known' : Option (List ℕ)) (waiting : List ℕ) → GrowsInPart known known' (writes waiting) → IfSome known (λ held. (held ≡ c.recorded) × (waiting ≡ c.waiting))
+pub written-front : (ran_out : List LinkEvent → LinkEvent → List ℕ → List ℕ → Type 0) (writes : List ℕ → List ℕ) (w : Outside) (out : Written) (c d : Course) (known known' : Option (List ℕ)) (waiting : List ℕ) → GrowsInPart known known' (writes waiting) → IfSome known (λ held. (held ≡ c.recorded) × (waiting ≡ c.waiting))
     → d.recorded ≡ c.recorded ++ writes c.waiting → w.client.written ≡ Some c.to_client → w.host.written ≡ Some c.to_host → IsTold out c.told → IfSome known' (λ held. HasLines ran_out w out c d held)
 written-front ran_out writes w out c d None known' waiting grows has all client host told = subst (λ (k : Option (List ℕ)). IfSome k (λ held. HasLines ran_out w out c d held)) (sym grows.grows) tt
 written-front ran_out writes w out c d (Some held) known' waiting grows has all client host told =
@@ -207,8 +207,8 @@ none-recorded : (known : Option (List ℕ)) → append_known known [] ≡ known
 none-recorded None = refl
 none-recorded (Some held) = ap Some (append-nil held)
 
-pub put-follows : (stands : List Event → Type 0) (p : Prescribed) (k k' : Kept) (w w' : Outside) (out out' : Written) (c : Course) (e : Event) (sent : Sent) (lines : List ℕ) (due : Bool)
-    (old-stands : List Event → Type 0) → Follows old-stands p k w out c → Prepared p c.events e sent lines → stands (e ∷ c.events) → k' ≡ refusing sent.refusals sent.lets_go k
+pub put-follows : (stands : List LinkEvent → Type 0) (p : Prescribed) (k k' : Rounds) (w w' : Outside) (out out' : Written) (c : Course) (e : LinkEvent) (sent : Sent) (lines : List ℕ) (due : Bool)
+    (old-stands : List LinkEvent → Type 0) → Follows old-stands p k w out c → Prepared p c.events e sent lines → stands (e ∷ c.events) → k' ≡ refusing sent.refusals sent.lets_go k
     → Shows w'.client (put p e c).client_up (put p e c).client (put p e c).to_client → Shows w'.host (put p e c).host_up (put p e c).host (put p e c).to_host
     → w'.door ≡ w.door → IsTold out' (c.told ++ lines) → IsRecorded p c e sent due out out' → Follows stands p k' w' out' (put p e c)
 put-follows stands p k k' w w' out out' c e sent lines due old-stands f prepared now kept client host door written recorded =
@@ -222,12 +222,12 @@ put-follows stands p k k' w w' out out' c e sent lines due old-stands f prepared
         tape = taped p c e sent lines due out out' prepared f.tells.tape recorded;
         told = subst (λ (l : List ℕ). IsTold out' (c.told ++ l)) (prepared.lines-is ∙ ap (flat_map refusal_line) refusals) written;
       };
-      client_up = ap (λ (k : Kept). k.client_up) kept ∙ ap (λ (u : Bool). u && not (refuses Client sent.refusals || sent.lets_go)) f.client_up ∙ ap (λ (d : Bool). c.client_up && not d) (dropped-is p c.events e sent lines prepared);
-      host_up = ap (λ (k : Kept). k.host_up) kept ∙ ap (λ (u : Bool). u && not (refuses Host sent.refusals)) f.host_up ∙ ap (λ (rs : List Refusal). c.host_up && not (refuses Host rs)) refusals;
-      busy = ap (λ (k : Kept). k.busy) kept ∙ f.busy;
-      waits = ap (λ (k : Kept). k.waits) kept ∙ f.waits;
-      left = ap (λ (k : Kept). k.left) kept ∙ f.left;
-      refused = ap (λ (k : Kept). k.refused) kept
+      client_up = ap (λ (k : Rounds). k.client_up) kept ∙ ap (λ (u : Bool). u && not (refuses Client sent.refusals || sent.lets_go)) f.client_up ∙ ap (λ (d : Bool). c.client_up && not d) (dropped-is p c.events e sent lines prepared);
+      host_up = ap (λ (k : Rounds). k.host_up) kept ∙ ap (λ (u : Bool). u && not (refuses Host sent.refusals)) f.host_up ∙ ap (λ (rs : List Refusal). c.host_up && not (refuses Host rs)) refusals;
+      busy = ap (λ (k : Rounds). k.busy) kept ∙ f.busy;
+      waits = ap (λ (k : Rounds). k.waits) kept ∙ f.waits;
+      left = ap (λ (k : Rounds). k.left) kept ∙ f.left;
+      refused = ap (λ (k : Rounds). k.refused) kept
           ∙ ap (λ (r : Option Refusal). or_else r (first_of sent.refusals)) f.refused
           ∙ ap (λ (rs : List Refusal). or_else (first_of (p.refusals c.events)) (first_of rs)) refusals
           ∙ sym (first_of-append (p.refusals c.events) (gained p.refusals c.events e))
@@ -236,17 +236,17 @@ put-follows stands p k k' w w' out out' c e sent lines due old-stands f prepared
 
 -- ---- cuts
 
-client-before : (p : Prescribed) (c : Course) (e : Event) (l : Link) → Shows l c.client_up c.client c.to_client → IsOneOf c.client l.turns (put p e c).client × IsBetween c.to_client l.written (put p e c).to_client
+client-before : (p : Prescribed) (c : Course) (e : LinkEvent) (l : Link) → Shows l c.client_up c.client c.to_client → IsOneOf c.client l.turns (put p e c).client × IsBetween c.to_client l.written (put p e c).to_client
 client-before p c e l s = (inl s.turns-is, between-none c.to_client l.written (put p e c).to_client _ s.written-is (more_if c.client_up c.to_client (gained p.to_client c.events e)))
 
-host-before : (p : Prescribed) (c : Course) (e : Event) (l : Link) → Shows l c.host_up c.host c.to_host → IsOneOf c.host l.turns (put p e c).host × IsBetween c.to_host l.written (put p e c).to_host
+host-before : (p : Prescribed) (c : Course) (e : LinkEvent) (l : Link) → Shows l c.host_up c.host c.to_host → IsOneOf c.host l.turns (put p e c).host × IsBetween c.to_host l.written (put p e c).to_host
 host-before p c e l s = (inl s.turns-is, between-none c.to_host l.written (put p e c).to_host _ s.written-is (more_if c.host_up c.to_host (gained p.to_host c.events e)))
 
-pub told-before : (p : Prescribed) (c : Course) (e : Event) (out : Written) → IsTold out c.told → IsToldBetween c.told out (put p e c).told
+pub told-before : (p : Prescribed) (c : Course) (e : LinkEvent) (out : Written) → IsTold out c.told → IsToldBetween c.told out (put p e c).told
 told-before p c e out s = if-told out.begun (λ (is : out.told ≡ Some c.told). between-none c.told out.told (put p e c).told _ is refl) s
 
 -- while its lines are recorded
-pub put-in_entry : {ran_out : List Event → Event → List ℕ → List ℕ → Type 0} → (p : Prescribed) (c : Course) (e : Event) (sent : Sent) (lines : List ℕ) (due : Bool) (w : Outside) (out out' : Written) (waiting : List ℕ) → Prepared p c.events e sent lines → Tells w out c → IsTold out' c.told → due ≡ sends_now p e c
+pub put-in_entry : {ran_out : List LinkEvent → LinkEvent → List ℕ → List ℕ → Type 0} → (p : Prescribed) (c : Course) (e : LinkEvent) (sent : Sent) (lines : List ℕ) (due : Bool) (w : Outside) (out out' : Written) (waiting : List ℕ) → Prepared p c.events e sent lines → Tells w out c → IsTold out' c.told → due ≡ sends_now p e c
     → waiting ≡ out.waiting → GrowsInPart out.tape out'.tape (written_if (due || is_full (waiting ++ lines_of e sent.refusals)) (waiting ++ lines_of e sent.refusals)) → Cut ran_out w out' c (put p e c)
 put-in_entry {ran_out = ran_out} p c e sent lines due w out out' waiting prepared t told due-is same grows =
     let client = client-before p c e w.client t.client in
@@ -266,7 +266,7 @@ put-in_entry {ran_out = ran_out} p c e sent lines due w out out' waiting prepare
     }
 
 -- before anything is written
-pub put-before : {ran_out : List Event → Event → List ℕ → List ℕ → Type 0} → (p : Prescribed) (c : Course) (e : Event) (w : Outside) (out : Written) → Tells w out c → Cut ran_out w out c (put p e c)
+pub put-before : {ran_out : List LinkEvent → LinkEvent → List ℕ → List ℕ → Type 0} → (p : Prescribed) (c : Course) (e : LinkEvent) (w : Outside) (out : Written) → Tells w out c → Cut ran_out w out c (put p e c)
 put-before {ran_out = ran_out} p c e w out t =
     let client = client-before p c e w.client t.client in
     let host = host-before p c e w.host t.host in
@@ -282,7 +282,7 @@ put-before {ran_out = ran_out} p c e w out t =
     }
 
 -- within what goes to the client
-pub put-in_client : {ran_out : List Event → Event → List ℕ → List ℕ → Type 0} → (p : Prescribed) (c : Course) (e : Event) (sent : Sent) (lines : List ℕ) (due : Bool) (w w' : Outside) (out out' : Written) (up : Bool) → Prepared p c.events e sent lines → Tells w out c → IsTold out' c.told → IsRecorded p c e sent due out out'
+pub put-in_client : {ran_out : List LinkEvent → LinkEvent → List ℕ → List ℕ → Type 0} → (p : Prescribed) (c : Course) (e : LinkEvent) (sent : Sent) (lines : List ℕ) (due : Bool) (w w' : Outside) (out out' : Written) (up : Bool) → Prepared p c.events e sent lines → Tells w out c → IsTold out' c.told → IsRecorded p c e sent due out out'
     → up ≡ c.client_up → WritesFront up sent.to_client w.client w'.client → w'.host ≡ w.host → w'.door ≡ w.door → Cut ran_out w' out' c (put p e c)
 put-in_client {ran_out = ran_out} p c e sent lines due w w' out out' up prepared t told recorded u front host door =
     let h = host-before p c e w'.host (subst (λ (l : Link). Shows l c.host_up c.host c.to_host) (sym host) t.host) in
@@ -298,7 +298,7 @@ put-in_client {ran_out = ran_out} p c e sent lines due w w' out out' up prepared
     }
 
 -- within what goes to the host, behind all that goes to the client
-pub put-in_host : {ran_out : List Event → Event → List ℕ → List ℕ → Type 0} → (p : Prescribed) (c : Course) (e : Event) (sent : Sent) (lines : List ℕ) (due : Bool) (w w' : Outside) (out out' : Written) (uc uh : Bool) → Prepared p c.events e sent lines → Tells w out c → IsTold out' c.told → IsRecorded p c e sent due out out'
+pub put-in_host : {ran_out : List LinkEvent → LinkEvent → List ℕ → List ℕ → Type 0} → (p : Prescribed) (c : Course) (e : LinkEvent) (sent : Sent) (lines : List ℕ) (due : Bool) (w w' : Outside) (out out' : Written) (uc uh : Bool) → Prepared p c.events e sent lines → Tells w out c → IsTold out' c.told → IsRecorded p c e sent due out out'
     → uc ≡ c.client_up → uh ≡ c.host_up
     → w'.client ≡ wrote_if uc sent.to_client w.client → WritesFront uh sent.to_host w.host w'.host → w'.door ≡ w.door → Cut ran_out w' out' c (put p e c)
 put-in_host {ran_out = ran_out} p c e sent lines due w w' out out' uc uh prepared t told recorded vc vh client front door =
@@ -328,7 +328,7 @@ pub tells-front : (begun known new : Option (List ℕ)) (x b : List ℕ) → IfS
 tells-front begun known new x b is a = if-told begun (λ (e : known ≡ Some x). appended-front known new x b e a) is
 
 -- within the lines of refusals, behind all that goes to both sides
-pub put-in_lines : {ran_out : List Event → Event → List ℕ → List ℕ → Type 0} → (p : Prescribed) (c : Course) (e : Event) (sent : Sent) (lines : List ℕ) (due : Bool) (w w' : Outside) (out out' : Written) → Prepared p c.events e sent lines → Tells w out c
+pub put-in_lines : {ran_out : List LinkEvent → LinkEvent → List ℕ → List ℕ → Type 0} → (p : Prescribed) (c : Course) (e : LinkEvent) (sent : Sent) (lines : List ℕ) (due : Bool) (w w' : Outside) (out out' : Written) → Prepared p c.events e sent lines → Tells w out c
     → Shows w'.client (put p e c).client_up (put p e c).client (put p e c).to_client → Shows w'.host (put p e c).host_up (put p e c).host (put p e c).to_host
     → w'.door ≡ w.door → IsToldBetween c.told out' (c.told ++ lines) → IsRecorded p c e sent due out out' → Cut ran_out w' out' c (put p e c)
 put-in_lines {ran_out = ran_out} p c e sent lines due w w' out out' prepared t client host door front recorded = record {
@@ -351,7 +351,7 @@ or_else-none : (o : Option Refusal) → or_else o None ≡ o
 or_else-none None = refl
 or_else-none (Some r) = refl
 
-pub refusing-none : (refusals : List Refusal) (go : Bool) (k k' : Kept) → refusals ≡ [] → go ≡ false → k' ≡ refusing refusals go k → k' ≡ k
+pub refusing-none : (refusals : List Refusal) (go : Bool) (k k' : Rounds) → refusals ≡ [] → go ≡ false → k' ≡ refusing refusals go k → k' ≡ k
 refusing-none refusals go k k' none stays is =
     is ∙ ap (λ (rs : List Refusal). refusing rs go k) none ∙ ap (λ (b : Bool). refusing [] b k) stays
     ∙ ap (λ (u : Bool). record k { client_up = u; host_up = k.host_up && not false; refused = or_else k.refused None }) (and-not_false k.client_up)
@@ -359,7 +359,7 @@ refusing-none refusals go k k' none stays is =
     ∙ ap (λ (r : Option Refusal). record k { refused = r }) (or_else-none k.refused)
 
 -- an error that a `?` hands on
-pub cut-puts : (Q : ServeEnd → Type 0) (result : Result Bool ServeEnd) (stands : List Event → Type 0) (runs_out : List Event → Event → List ℕ → List ℕ → Type 0) (p : Prescribed) (e : Event) (k : Kept) (w : Outside) (out : Written) (c : Course) → IsErrAnd result Q → ((end : ServeEnd) → Cut (MayRunOut end runs_out p) w out c (put p e c))
+pub cut-puts : (Q : ServeEnd → Type 0) (result : Result Bool ServeEnd) (stands : List LinkEvent → Type 0) (runs_out : List LinkEvent → LinkEvent → List ℕ → List ℕ → Type 0) (p : Prescribed) (e : LinkEvent) (k : Rounds) (w : Outside) (out : Written) (c : Course) → IsErrAnd result Q → ((end : ServeEnd) → Cut (MayRunOut end runs_out p) w out c (put p e c))
     → Puts result stands runs_out p e k w out c
 cut-puts Q (Ok x) stands runs_out p e k w out c is cut = absurd is
 cut-puts Q (Err x) stands runs_out p e k w out c is cut = cut x

@@ -7,10 +7,10 @@ use Rattle.std.specs.Io.KnownBytes.{append_known}
 use Rattle.usb_base.specs.declared.side.Side.{Side}
 use Rattle.usb_base.specs.declared.side.Side.TheVariants.{Client, Host}
 use Rattle.gate_outside.specs.Faults.{Rose}
-use Rattle.bridge_run.specs.Events.{Event}
+use Rattle.bridge_run.specs.Events.{LinkEvent}
 use Rattle.bridge_run.specs.declared.serve_end.ServeEnd.{ServeEnd}
 use Rattle.bridge_run.specs.declared.serve_end.ServeEnd.TheVariants.{Ended, LinkFault, WriteFault, Idle, Spent, Memory}
-use Rattle.bridge_run.specs.declared.kept.Kept.{Kept}
+use Rattle.bridge_run.specs.declared.rounds.Rounds.{Rounds}
 use Rattle.bridge_run.specs.Prescribed.{Prescribed}
 use Rattle.bridge_run.specs.Course.{Setting, Course, Next, AtDoor, AtEnd}
 use Rattle.session_tape.specs.Tapes.{GrowsInPart}
@@ -44,7 +44,7 @@ pub no-fault : (w : Outside) (f : Faults) → NoFault w w f f
 no-fault w f = record { client = refl; host = refl; sink = refl }
 
 -- an end of the round's last step is no fault
-pub rests-faults : (result : Result (Unit {0}) ServeEnd) (k k' : Kept) (a b : Outside) (f g : Faults) → Rests result k k' → NoFault a b f g → HasFaults result a b f g
+pub rests-faults : (result : Result (Unit {0}) ServeEnd) (k k' : Rounds) (a b : Outside) (f g : Faults) → Rests result k k' → NoFault a b f g → HasFaults result a b f g
 rests-faults (Ok x) k k' a b f g r n = n
 rests-faults (Err Idle) k k' a b f g r n = n
 rests-faults (Err (Ended refused)) k k' a b f g r n = absurd r
@@ -56,17 +56,17 @@ rests-faults (Err Memory) k k' a b f g r n = absurd r
 -- ---- the course
 
 -- what is kept has become another, and so has the course
-rested : (stands : List Event → Type 0) (p : Prescribed) (k k' : Kept) (w : Outside) (out : Written) (c : Course) (busy : Bool) (waits : ℕ) → Follows stands p k w out c → k' ≡ record k { busy = busy; waits = waits }
+rested : (stands : List LinkEvent → Type 0) (p : Prescribed) (k k' : Rounds) (w : Outside) (out : Written) (c : Course) (busy : Bool) (waits : ℕ) → Follows stands p k w out c → k' ≡ record k { busy = busy; waits = waits }
     → (n : ℕ) → waits ≡ n → Follows stands p k' w out (record c { busy = busy; waits = n })
 rested stands p k k' w out c busy waits f kept n is = record {
   stands_for = f.stands_for;
   tells = record { client = f.tells.client; host = f.tells.host; clients = f.tells.clients; told = f.tells.told; tape = f.tells.tape };
-  client_up = ap (λ (k : Kept). k.client_up) kept ∙ f.client_up;
-  host_up = ap (λ (k : Kept). k.host_up) kept ∙ f.host_up;
-  busy = ap (λ (k : Kept). k.busy) kept;
-  waits = ap (λ (k : Kept). k.waits) kept ∙ is;
-  left = ap (λ (k : Kept). k.left) kept ∙ f.left;
-  refused = ap (λ (k : Kept). k.refused) kept ∙ f.refused;
+  client_up = ap (λ (k : Rounds). k.client_up) kept ∙ f.client_up;
+  host_up = ap (λ (k : Rounds). k.host_up) kept ∙ f.host_up;
+  busy = ap (λ (k : Rounds). k.busy) kept;
+  waits = ap (λ (k : Rounds). k.waits) kept ∙ is;
+  left = ap (λ (k : Rounds). k.left) kept ∙ f.left;
+  refused = ap (λ (k : Rounds). k.refused) kept ∙ f.refused;
 }
 
 rest-is : (s : Setting) (c : Course) (b last : Bool) → c.busy ≡ b → (c.waits - 1 == 0) ≡ last
@@ -79,7 +79,7 @@ pub record Flushes (busy : Bool) (out out' : Written) : Type 0 where
   pub tape : out'.tape ≡ append_known out.tape (written_if (not busy) out.waiting)
   pub waits : IfSome out'.tape (λ held. out'.waiting ≡ waiting_if (not busy) out.waiting)
 
-flushed : (busy : Bool) (stands : List Event → Type 0) (p : Prescribed) (k : Kept) (w : Outside) (out out' : Written) (c : Course) → Follows stands p k w out c → Flushes busy out out' → Follows stands p k w out' (cond busy c (gathered c))
+flushed : (busy : Bool) (stands : List LinkEvent → Type 0) (p : Prescribed) (k : Rounds) (w : Outside) (out out' : Written) (c : Course) → Follows stands p k w out c → Flushes busy out out' → Follows stands p k w out' (cond busy c (gathered c))
 flushed true stands p k w out out' c f is = record {
   stands_for = f.stands_for;
   tells = record {
@@ -114,7 +114,7 @@ flushed false stands p k w out out' c f is = record {
   refused = f.refused;
 }
 
-rest-ok : (b : Bool) (stands : List Event → Type 0) (runs_out : List Event → Event → List ℕ → List ℕ → Type 0) (p : Prescribed) (idle : ℕ) (k k' : Kept) (w : Outside) (out : Written) (from : Outcome) (c : Course) → k.busy ≡ b → RestsBusy b k k' → k.idle ≡ idle
+rest-ok : (b : Bool) (stands : List LinkEvent → Type 0) (runs_out : List LinkEvent → LinkEvent → List ℕ → List ℕ → Type 0) (p : Prescribed) (idle : ℕ) (k k' : Rounds) (w : Outside) (out : Written) (from : Outcome) (c : Course) → k.busy ≡ b → RestsBusy b k k' → k.idle ≡ idle
     → Follows stands p k w out (cond b c (gathered c)) → Reaches (record { served = p; idle = idle }) from (Goes AtEnd c) → Runs {T = Unit {0}} (Ok tt) stands runs_out (record { served = p; idle = idle }) k' w out from AtDoor
 rest-ok true stands runs_out p idle k k' w out from c is r same f reach =
     let s : Setting = record { served = p; idle = idle } in
@@ -127,7 +127,7 @@ rest-ok true stands runs_out p idle k k' w out from c is r same f reach =
 rest-ok false stands runs_out p idle k k' w out from c is r same f reach =
     let s : Setting = record { served = p; idle = idle } in
     let fewer = ap (λ (n : ℕ). n - 1) f.waits in
-    let positive : 0 < c.waits - 1 = omega (arith, r.1, ap (λ (k : Kept). k.waits) r.0, f.waits) in
+    let positive : 0 < c.waits - 1 = omega (arith, r.1, ap (λ (k : Rounds). k.waits) r.0, f.waits) in
     let quiet : false ≡ c.busy = sym is ∙ f.busy in
     record {
       course = record (gathered c) { busy = false; waits = c.waits - 1 };
@@ -136,18 +136,18 @@ rest-ok false stands runs_out p idle k k' w out from c is r same f reach =
       follows = rested stands p k k' w out (gathered c) false (k.waits - 1) f (r.0 ∙ ap (λ (b : Bool). record k { busy = b; waits = k.waits - 1 }) is) (c.waits - 1) fewer;
     }
 
-rest-idle : (stands : List Event → Type 0) (runs_out : List Event → Event → List ℕ → List ℕ → Type 0) (p : Prescribed) (idle : ℕ) (k k' : Kept) (w : Outside) (out : Written) (from : Outcome) (c : Course) → Rests (Err Idle) k k'
+rest-idle : (stands : List LinkEvent → Type 0) (runs_out : List LinkEvent → LinkEvent → List ℕ → List ℕ → Type 0) (p : Prescribed) (idle : ℕ) (k k' : Rounds) (w : Outside) (out : Written) (from : Outcome) (c : Course) → Rests (Err Idle) k k'
     → Follows stands p k w out (gathered c) → Reaches (record { served = p; idle = idle }) from (Goes AtEnd c) → Runs {T = Unit {0}} (Err Idle) stands runs_out (record { served = p; idle = idle }) k' w out from AtDoor
 rest-idle stands runs_out p idle k k' w out from c r f reach =
     let s : Setting = record { served = p; idle = idle } in
     record {
       course = record (gathered c) { waits = c.waits - 1 };
       reaches = reaches-call s from AtEnd c (Stops Idle (record (gathered c) { waits = c.waits - 1 })) reach
-          (rest-is s c false true (sym f.busy ∙ r.0) (ap (λ (n : ℕ). n == 0) (ap (λ (n : ℕ). n - 1) (sym f.waits) ∙ sym (ap (λ (k : Kept). k.waits) r.1) ∙ r.2)));
+          (rest-is s c false true (sym f.busy ∙ r.0) (ap (λ (n : ℕ). n == 0) (ap (λ (n : ℕ). n - 1) (sym f.waits) ∙ sym (ap (λ (k : Rounds). k.waits) r.1) ∙ r.2)));
       tells = record { client = f.tells.client; host = f.tells.host; clients = f.tells.clients; told = f.tells.told; tape = f.tells.tape };
     }
 
-pub rests : (result : Result (Unit {0}) ServeEnd) (stands : List Event → Type 0) (runs_out : List Event → Event → List ℕ → List ℕ → Type 0) (p : Prescribed) (idle : ℕ) (k k' : Kept) (w : Outside) (out out' : Written) (from : Outcome) (c : Course) → Rests result k k' → k.idle ≡ idle
+pub rests : (result : Result (Unit {0}) ServeEnd) (stands : List LinkEvent → Type 0) (runs_out : List LinkEvent → LinkEvent → List ℕ → List ℕ → Type 0) (p : Prescribed) (idle : ℕ) (k k' : Rounds) (w : Outside) (out out' : Written) (from : Outcome) (c : Course) → Rests result k k' → k.idle ≡ idle
     → Follows stands p k w out c → Flushes k.busy out out' → Reaches (record { served = p; idle = idle }) from (Goes AtEnd c) → Runs result stands runs_out (record { served = p; idle = idle }) k' w out' from AtDoor
 rests (Ok x) stands runs_out p idle k k' w out out' from c r same f is reach = rest-ok k.busy stands runs_out p idle k k' w out' from c refl r same (flushed k.busy stands p k w out out' c f is) reach
 rests (Err Idle) stands runs_out p idle k k' w out out' from c r same f is reach =
@@ -176,7 +176,7 @@ rest-moves true last s c = record { client = refl; host = refl; clients = refl; 
 rest-moves false true s c = record { client = refl; host = refl; clients = refl; to_client = refl; to_host = refl; told = refl; recorded = refl }
 rest-moves false false s c = record { client = refl; host = refl; clients = refl; to_client = refl; to_host = refl; told = refl; recorded = refl }
 
-pub rest-cut : {ran_out : List Event → Event → List ℕ → List ℕ → Type 0} → (s : Setting) (busy : Bool) (w : Outside) (out out' : Written) (c : Course) → busy ≡ c.busy → Tells w out c → IsTold out' c.told → GrowsInPart out.tape out'.tape (written_if (not busy) out.waiting) → Cut ran_out w out' c (course_of (rest s c))
+pub rest-cut : {ran_out : List LinkEvent → LinkEvent → List ℕ → List ℕ → Type 0} → (s : Setting) (busy : Bool) (w : Outside) (out out' : Written) (c : Course) → busy ≡ c.busy → Tells w out c → IsTold out' c.told → GrowsInPart out.tape out'.tape (written_if (not busy) out.waiting) → Cut ran_out w out' c (course_of (rest s c))
 rest-cut {ran_out = ran_out} s busy w out out' c is t told grows =
     let d = course_of (rest s c) in
     let m : RestMoves c.busy c d = rest-moves c.busy (c.waits - 1 == 0) s c in
@@ -193,7 +193,7 @@ rest-cut {ran_out = ran_out} s busy w out out' c is t told grows =
 
 -- ---- fewer rounds are left
 
-pub wears-then : (a b c : Kept) → Wears a b → Wears b c → Wears a c
+pub wears-then : (a b c : Rounds) → Wears a b → Wears b c → Wears a c
 wears-then a b c p q = record { idle = q.idle ∙ p.idle; waits = q.waits ∙ p.waits; fewer = go p.fewer q.fewer }
   where
     go : (b.busy ≡ true) × (chances_of b < chances_of a) ⊎ (b.busy ≡ a.busy) × (chances_of b ≤ chances_of a) → (c.busy ≡ true) × (chances_of c < chances_of b) ⊎ (c.busy ≡ b.busy) × (chances_of c ≤ chances_of b)
@@ -204,9 +204,9 @@ wears-then a b c p q = record { idle = q.idle ∙ p.idle; waits = q.waits ∙ p.
     go (inr x) (inr y) = inr (y.0 ∙ x.0, omega (arith, x.1, y.1))
 
 -- a link that has ended is a chance gone
-pub end-wears : (side : Side) (k k' : Kept) → up_of side k ≡ true → k' ≡ record (with_up side k) { busy = true } → Wears k k'
-end-wears Client k k' up is = subst (λ (x : Kept). Wears k x) (sym is) (record { idle = refl; waits = refl; fewer = inl (refl, omega (arith, ap one_if up)) })
-end-wears Host k k' up is = subst (λ (x : Kept). Wears k x) (sym is) (record { idle = refl; waits = refl; fewer = inl (refl, omega (arith, ap one_if up)) })
+pub end-wears : (side : Side) (k k' : Rounds) → up_of side k ≡ true → k' ≡ record (with_up side k) { busy = true } → Wears k k'
+end-wears Client k k' up is = subst (λ (x : Rounds). Wears k x) (sym is) (record { idle = refl; waits = refl; fewer = inl (refl, omega (arith, ap one_if up)) })
+end-wears Host k k' up is = subst (λ (x : Rounds). Wears k x) (sym is) (record { idle = refl; waits = refl; fewer = inl (refl, omega (arith, ap one_if up)) })
 
 -- with fewer chances there are fewer rounds, whatever waits
 falls : (x y idle waits : ℕ) → x < y → 0 < waits → x * idle + idle < y * idle + waits
@@ -215,34 +215,34 @@ falls x y idle waits less some = let more : x + 1 ≤ y = omega arith in omega (
 stays : (x y idle waits : ℕ) → x ≤ y → 0 < waits → x * idle + (waits - 1) < y * idle + waits
 stays x y idle waits less some = omega (arith, mul-le-mul_left idle less)
 
-rests-fewer_if : (b : Bool) (k m n : Kept) → m.busy ≡ b → Wears k m → IsLive k → RestsBusy b m n → rounds_of n < rounds_of k
+rests-fewer_if : (b : Bool) (k m n : Rounds) → m.busy ≡ b → Wears k m → IsLive k → RestsBusy b m n → rounds_of n < rounds_of k
 rests-fewer_if true k m n is w live r = go w.fewer
   where
     go : (m.busy ≡ true) × (chances_of m < chances_of k) ⊎ (m.busy ≡ k.busy) × (chances_of m ≤ chances_of k) → rounds_of n < rounds_of k
-    go (inl x) = subst (λ (v : Kept). rounds_of v < rounds_of k) (sym r) (subst (λ (i : ℕ). chances_of m * i + i < rounds_of k) (sym w.idle) (falls (chances_of m) (chances_of k) k.idle k.waits x.1 live.waits))
+    go (inl x) = subst (λ (v : Rounds). rounds_of v < rounds_of k) (sym r) (subst (λ (i : ℕ). chances_of m * i + i < rounds_of k) (sym w.idle) (falls (chances_of m) (chances_of k) k.idle k.waits x.1 live.waits))
     go (inr x) = absurd (false≢true (sym live.rests ∙ sym x.0 ∙ is))
 rests-fewer_if false k m n is w live r = go w.fewer
   where
     go : (m.busy ≡ true) × (chances_of m < chances_of k) ⊎ (m.busy ≡ k.busy) × (chances_of m ≤ chances_of k) → rounds_of n < rounds_of k
     go (inl x) = absurd (false≢true (sym is ∙ x.0))
-    go (inr x) = subst (λ (v : Kept). rounds_of v < rounds_of k) (sym r.0) (subst (λ (i : ℕ). chances_of m * i + (m.waits - 1) < rounds_of k) (sym w.idle)
+    go (inr x) = subst (λ (v : Rounds). rounds_of v < rounds_of k) (sym r.0) (subst (λ (i : ℕ). chances_of m * i + (m.waits - 1) < rounds_of k) (sym w.idle)
         (subst (λ (n : ℕ). chances_of m * k.idle + (n - 1) < rounds_of k) (sym w.waits) (stays (chances_of m) (chances_of k) k.idle k.waits x.1 live.waits)))
 
-pub fewer-if_ok : (result : Result (Unit {0}) ServeEnd) (k m n : Kept) → Wears k m → IsLive k → Rests result m n → OnOk result (rounds_of n < rounds_of k)
+pub fewer-if_ok : (result : Result (Unit {0}) ServeEnd) (k m n : Rounds) → Wears k m → IsLive k → Rests result m n → OnOk result (rounds_of n < rounds_of k)
 fewer-if_ok (Ok x) k m n w live r = rests-fewer_if m.busy k m n refl w live r
 fewer-if_ok (Err e) k m n w live r = tt
 
-rests-live_if : (b : Bool) (k m n : Kept) → m.busy ≡ b → Wears k m → IsLive k → 0 < m.left → RestsBusy b m n → IsLive n
+rests-live_if : (b : Bool) (k m n : Rounds) → m.busy ≡ b → Wears k m → IsLive k → 0 < m.left → RestsBusy b m n → IsLive n
 rests-live_if true k m n is w live left r = subst IsLive (sym r) (record { rests = refl; left = left; waits = omega (arith, w.idle, live.waits, live.within); within = omega arith })
-rests-live_if false k m n is w live left r = subst IsLive (sym r.0) (record { rests = is; left = left; waits = omega (arith, r.1, ap (λ (v : Kept). v.waits) r.0); within = omega (arith, w.idle, w.waits, live.within) })
+rests-live_if false k m n is w live left r = subst IsLive (sym r.0) (record { rests = is; left = left; waits = omega (arith, r.1, ap (λ (v : Rounds). v.waits) r.0); within = omega (arith, w.idle, w.waits, live.within) })
 
-pub live-if_ok : (result : Result (Unit {0}) ServeEnd) (k m n : Kept) → Wears k m → IsLive k → 0 < m.left → Rests result m n → OnOk result (IsLive n)
+pub live-if_ok : (result : Result (Unit {0}) ServeEnd) (k m n : Rounds) → Wears k m → IsLive k → 0 < m.left → Rests result m n → OnOk result (IsLive n)
 live-if_ok (Ok x) k m n w live left r = rests-live_if m.busy k m n refl w live left r
 live-if_ok (Err e) k m n w live left r = tt
 
 -- ---- one part of a round behind another
 
-pub goes-on : {T : Type 0} → (result : Result T ServeEnd) (stands stands2 : List Event → Type 0) (runs_out : List Event → Event → List ℕ → List ℕ → Type 0) (p : Prescribed) (k0 k1 k2 : Kept) (w w2 : Outside) (out out2 : Written) (from : Outcome) (next1 next2 : Next)
+pub goes-on : {T : Type 0} → (result : Result T ServeEnd) (stands stands2 : List LinkEvent → Type 0) (runs_out : List LinkEvent → LinkEvent → List ℕ → List ℕ → Type 0) (p : Prescribed) (k0 k1 k2 : Rounds) (w w2 : Outside) (out out2 : Written) (from : Outcome) (next1 next2 : Next)
     → (a : Comes stands (setting p k0) k1 w out from next1) → k1.idle ≡ k0.idle → Runs result stands2 runs_out (setting p k1) k2 w2 out2 (Goes next1 a.course) next2 → Runs result stands2 runs_out (setting p k0) k2 w2 out2 from next2
 goes-on result stands stands2 runs_out p k0 k1 k2 w w2 out out2 from next1 next2 a idle b =
     runs-then result stands2 runs_out (setting p k0) k2 w2 out2 from next1 a.course next2 a.reaches

@@ -3,10 +3,10 @@ use Rattle.std.proofs.Common.{◌≡◌, ℕ, ◌<◌, ◌==◌, ◌&&◌, not, 
 use Rattle.std.specs.Result.{OnOk}
 use Rattle.std.proofs.lemmas.Bool.Decides.{nat_tests}
 use Rattle.usb_base.specs.declared.refusal.Refusal.{Refusal}
-use Rattle.bridge_run.specs.Events.{Event, ClientComes, ClientPiece, ClientQuiet, ClientEnd, HostPiece, HostEnd}
+use Rattle.bridge_run.specs.Events.{LinkEvent, ClientComes, ClientPiece, ClientQuiet, ClientEnd, HostPiece, HostEnd}
 use Rattle.bridge_run.specs.declared.serve_end.ServeEnd.{ServeEnd}
 use Rattle.bridge_run.specs.declared.serve_end.ServeEnd.TheVariants.{Ended, LinkFault, WriteFault, Idle, Spent, Memory}
-use Rattle.bridge_run.specs.declared.kept.Kept.{Kept}
+use Rattle.bridge_run.specs.declared.rounds.Rounds.{Rounds}
 use Rattle.bridge_run.specs.Prescribed.{Prescribed, drops, first_of}
 use Rattle.bridge_run.specs.Course.{Setting, Course, Next, Takes}
 use Rattle.bridge_run.specs.Calls.{Outcome, Goes, Stops, put, settle, ends_next, call, course_of}
@@ -25,7 +25,7 @@ settle-course s next c =
     course-choice (not c.client_up && not c.host_up) (Stops (Ended (first_of (s.served.refusals c.events))) c) (cond (c.left == 0) (Stops Spent c) (Goes next c)) c refl
     (course-choice (c.left == 0) (Stops Spent c) (Goes next c) c refl refl)
 
-pub take-course : (s : Setting) (e : Event) (next : Next) (c : Course) → course_of (call s (Takes e next) c) ≡ put s.served e c
+pub take-course : (s : Setting) (e : LinkEvent) (next : Next) (c : Course) → course_of (call s (Takes e next) c) ≡ put s.served e c
 take-course s e next c =
     course-choice (ends_next e (drops s.served c.events e)) (Goes (Takes ClientEnd next) (put s.served e c)) (settle s next (put s.served e c)) (put s.served e c) refl
     (settle-course s next (put s.served e c))
@@ -38,10 +38,10 @@ positive-not_zero n h = grind (arith, nat_tests)
 pub choice : (a b : Bool) (u v : Bool) (x y z : Outcome) → a ≡ u → b ≡ v → cond a x (cond b y z) ≡ cond u x (cond v y z)
 choice a b u v x y z p q = ap (λ (k : Bool). cond k x (cond b y z)) p ∙ ap (λ (k : Bool). cond u x (cond k y z)) q
 
-over-is : (k : Kept) (c : Course) (b : Bool) → k.client_up ≡ c.client_up → k.host_up ≡ c.host_up → is_over k ≡ b → (not c.client_up && not c.host_up) ≡ b
+over-is : (k : Rounds) (c : Course) (b : Bool) → k.client_up ≡ c.client_up → k.host_up ≡ c.host_up → is_over k ≡ b → (not c.client_up && not c.host_up) ≡ b
 over-is k c b p q is = ap (λ (u : Bool). not u && not c.host_up) (sym p) ∙ ap (λ (u : Bool). not k.client_up && not u) (sym q) ∙ is
 
-pub settled : (result : Result (Unit {0}) ServeEnd) (stands : List Event → Type 0) (runs_out : List Event → Event → List ℕ → List ℕ → Type 0) (p : Prescribed) (idle : ℕ) (k : Kept) (w : Outside) (out : Written) (from : Outcome) (now : Next) (b : Course) (next : Next) (c : Course)
+pub settled : (result : Result (Unit {0}) ServeEnd) (stands : List LinkEvent → Type 0) (runs_out : List LinkEvent → LinkEvent → List ℕ → List ℕ → Type 0) (p : Prescribed) (idle : ℕ) (k : Rounds) (w : Outside) (out : Written) (from : Outcome) (now : Next) (b : Course) (next : Next) (c : Course)
     → Settles result k → Follows stands p k w out c → Reaches (record { served = p; idle = idle }) from (Goes now b) → call (record { served = p; idle = idle }) now b ≡ settle (record { served = p; idle = idle }) next c
     → Runs result stands runs_out (record { served = p; idle = idle }) k w out from next
 settled (Ok x) stands runs_out p idle k w out from now b next c is f r e =
@@ -74,17 +74,17 @@ settled (Err WriteFault) stands runs_out p idle k w out from now b next c is f r
 settled (Err (LinkFault side)) stands runs_out p idle k w out from now b next c is f r e = absurd is
 
 -- what a taken event comes to where no end of the client is next, and where one is
-pub take-settles : (s : Setting) (e : Event) (next : Next) (c : Course) (refused : Bool) → refused ≡ drops s.served c.events e → ends_next e refused ≡ false
+pub take-settles : (s : Setting) (e : LinkEvent) (next : Next) (c : Course) (refused : Bool) → refused ≡ drops s.served c.events e → ends_next e refused ≡ false
     → call s (Takes e next) c ≡ settle s next (put s.served e c)
 take-settles s e next c refused is none = ap (λ (b : Bool). cond b (Goes (Takes ClientEnd next) (put s.served e c)) (settle s next (put s.served e c))) (ap (λ (b : Bool). ends_next e b) (sym is) ∙ none)
 
-pub take-ends : (s : Setting) (e : Event) (next : Next) (c : Course) (refused : Bool) → refused ≡ drops s.served c.events e → ends_next e refused ≡ true
+pub take-ends : (s : Setting) (e : LinkEvent) (next : Next) (c : Course) (refused : Bool) → refused ≡ drops s.served c.events e → ends_next e refused ≡ true
     → call s (Takes e next) c ≡ Goes (Takes ClientEnd next) (put s.served e c)
 take-ends s e next c refused is some = ap (λ (b : Bool). cond b (Goes (Takes ClientEnd next) (put s.served e c)) (settle s next (put s.served e c))) (ap (λ (b : Bool). ends_next e b) (sym is) ∙ some)
 
 -- ---- a quiet client
 
-pub quiet-on : (e : Event) (refused : Bool) → refused ≡ false → ends_next e refused ≡ false
+pub quiet-on : (e : LinkEvent) (refused : Bool) → refused ≡ false → ends_next e refused ≡ false
 quiet-on ClientComes refused r = r
 quiet-on (ClientPiece b) refused r = r
 quiet-on ClientQuiet refused r = r

@@ -8,7 +8,7 @@ use Rattle.session_tape.specs.Lines.{refusal_comment}
 use Rattle.session_tape.specs.Tapes.{GrowsInPart}
 use Rattle.gate_outside.specs.declared.turn.Turn.{Turn}
 use Rattle.gate_outside.specs.Link.{Link, Door}
-use Rattle.bridge_run.specs.Events.{Event}
+use Rattle.bridge_run.specs.Events.{LinkEvent}
 use Rattle.bridge_run.specs.Prescribed.{Prescribed, gained}
 use Rattle.bridge_run.specs.Recorded.{has_any, event_line, lines_of, is_last, is_full, written_if}
 use Rattle.bridge_run.specs.Course.{Course}
@@ -33,7 +33,7 @@ any-of true b x y rest some first second = ap (λ (z : Bool). z || (y || rest)) 
 any-of false b x y rest some first second = ap (λ (z : Bool). x || (z || rest)) (second some) ∙ or-true x
 
 -- bytes were sent of it
-due-bytes : (p : Prescribed) (c : Course) (e : Event) (client host : List ℕ) → IsFront client (gained p.to_client c.events e) → IsFront host (gained p.to_host c.events e) → (has_any client || has_any host) ≡ true → is_due p e c ≡ true
+due-bytes : (p : Prescribed) (c : Course) (e : LinkEvent) (client host : List ℕ) → IsFront client (gained p.to_client c.events e) → IsFront host (gained p.to_host c.events e) → (has_any client || has_any host) ≡ true → is_due p e c ≡ true
 due-bytes p c e client host f g some =
     let x = gained p.to_client c.events e in
     let y = gained p.to_host c.events e in
@@ -42,7 +42,7 @@ due-bytes p c e client host f g some =
     (any-of (has_any client) (has_any host) (has_any x) (has_any y) (has_any rs || p.lets_go (e ∷ c.events)) some (has-more client f.0 x f.1) (has-more host g.0 y g.1))
 
 -- so that they are all that the call records
-all-lines : (p : Prescribed) (c : Course) (e : Event) → is_due p e c ≡ true → (put p e c).recorded ≡ (c.recorded ++ (c.waiting ++ event_line e)) ++ flat_map refusal_comment (gained p.refusals c.events e)
+all-lines : (p : Prescribed) (c : Course) (e : LinkEvent) → is_due p e c ≡ true → (put p e c).recorded ≡ (c.recorded ++ (c.waiting ++ event_line e)) ++ flat_map refusal_comment (gained p.refusals c.events e)
 all-lines p c e due =
     let comments = flat_map refusal_comment (gained p.refusals c.events e) in
     ap (λ (b : Bool). c.recorded ++ written_if b (lines_with p e c)) due
@@ -52,7 +52,7 @@ all-lines p c e due =
 -- ---- the tape
 
 -- what the event had sent before memory ran out, and what of that is written
-pub record Sent (ran_out : List Event → Event → List ℕ → List ℕ → Type 0) (c : Course) (e : Event) (client host : List ℕ) (w : Outside) (out : Written) : Type 0 where
+pub record Sent (ran_out : List LinkEvent → LinkEvent → List ℕ → List ℕ → Type 0) (c : Course) (e : LinkEvent) (client host : List ℕ) (w : Outside) (out : Written) : Type 0 where
   pub stopped : ran_out c.events e client host
   pub some : (has_any client || has_any host) ≡ true
   pub to_client : IsBetween c.to_client w.client.written (cond c.client_up (c.to_client ++ client) c.to_client)
@@ -60,7 +60,7 @@ pub record Sent (ran_out : List Event → Event → List ℕ → List ℕ → Ty
   pub told : IsTold out c.told
 
 -- its line is there, behind those that waited
-recorded-line : {ran_out : List Event → Event → List ℕ → List ℕ → Type 0} → (p : Prescribed) (c : Course) (e : Event) (w : Outside) (out : Written) (client host : List ℕ) → Sent ran_out c e client host w out → (known known' : Option (List ℕ)) (waiting : List ℕ) → is_due p e c ≡ true → IfSome known (λ held. (held ≡ c.recorded) × (waiting ≡ c.waiting))
+recorded-line : {ran_out : List LinkEvent → LinkEvent → List ℕ → List ℕ → Type 0} → (p : Prescribed) (c : Course) (e : LinkEvent) (w : Outside) (out : Written) (client host : List ℕ) → Sent ran_out c e client host w out → (known known' : Option (List ℕ)) (waiting : List ℕ) → is_due p e c ≡ true → IfSome known (λ held. (held ≡ c.recorded) × (waiting ≡ c.waiting))
     → known' ≡ append_known known (waiting ++ (event_line e ++ [])) → IfSome known' (λ held. HasLines ran_out w out c (put p e c) held)
 recorded-line {ran_out = ran_out} p c e w out client host sent None known' waiting due has is = subst (λ (k : Option (List ℕ)). IfSome k (λ held. HasLines ran_out w out c (put p e c) held)) (sym is) tt
 recorded-line {ran_out = ran_out} p c e w out client host sent (Some held) known' waiting due has is =
@@ -83,14 +83,14 @@ recorded-line {ran_out = ran_out} p c e w out client host sent (Some held) known
       told = sent.told;
     })))
 
-pub stop-recorded : (ran_out : List Event → Event → List ℕ → List ℕ → Type 0) (p : Prescribed) (c : Course) (e : Event) (client host : List ℕ) (refusals : List Refusal) (w : Outside) (out out' : Written) (waiting : List ℕ) → Sent ran_out c e client host w out' → IsFront client (gained p.to_client c.events e) → IsFront host (gained p.to_host c.events e)
+pub stop-recorded : (ran_out : List LinkEvent → LinkEvent → List ℕ → List ℕ → Type 0) (p : Prescribed) (c : Course) (e : LinkEvent) (client host : List ℕ) (refusals : List Refusal) (w : Outside) (out out' : Written) (waiting : List ℕ) → Sent ran_out c e client host w out' → IsFront client (gained p.to_client c.events e) → IsFront host (gained p.to_host c.events e)
     → (has_any client || has_any host) ≡ true → refusals ≡ [] → waiting ≡ out.waiting → IsTaped out c → out'.tape ≡ append_known out.tape (waiting ++ lines_of e refusals) → IfSome out'.tape (λ held. HasLines ran_out w out' c (put p e c) held)
 stop-recorded ran_out p c e client host refusals w out out' waiting sent f g some none same taped is =
     recorded-line {ran_out = ran_out} p c e w out' client host sent out.tape out'.tape out.waiting (due-bytes p c e client host f g some) taped
     (is ∙ ap (λ (l : List ℕ). append_known out.tape (l ++ lines_of e refusals)) same ∙ ap (λ (rs : List Refusal). append_known out.tape (out.waiting ++ (event_line e ++ flat_map refusal_comment rs))) none)
 
 -- a front of that is there, and nothing is written
-recorded-part : (ran_out : List Event → Event → List ℕ → List ℕ → Type 0) (p : Prescribed) (c : Course) (e : Event) (w : Outside) (out : Written) (known known' : Option (List ℕ)) (waiting : List ℕ) → is_due p e c ≡ true → IfSome known (λ held. (held ≡ c.recorded) × (waiting ≡ c.waiting))
+recorded-part : (ran_out : List LinkEvent → LinkEvent → List ℕ → List ℕ → Type 0) (p : Prescribed) (c : Course) (e : LinkEvent) (w : Outside) (out : Written) (known known' : Option (List ℕ)) (waiting : List ℕ) → is_due p e c ≡ true → IfSome known (λ held. (held ≡ c.recorded) × (waiting ≡ c.waiting))
     → GrowsInPart known known' (waiting ++ (event_line e ++ [])) → w.client.written ≡ Some c.to_client → w.host.written ≡ Some c.to_host → IsTold out c.told → IfSome known' (λ held. HasLines ran_out w out c (put p e c) held)
 recorded-part ran_out p c e w out None known' waiting due has grows client host told = subst (λ (k : Option (List ℕ)). IfSome k (λ held. HasLines ran_out w out c (put p e c) held)) (sym grows.grows) tt
 recorded-part ran_out p c e w out (Some held) known' waiting due has grows client host told =
@@ -108,7 +108,7 @@ recorded-part ran_out p c e w out (Some held) known' waiting due has grows clien
       told = told;
     })))
 
-pub stop-unrecorded : (ran_out : List Event → Event → List ℕ → List ℕ → Type 0) (p : Prescribed) (c : Course) (e : Event) (client host : List ℕ) (refusals : List Refusal) (w : Outside) (out out' : Written) (waiting : List ℕ) → IsFront client (gained p.to_client c.events e) → IsFront host (gained p.to_host c.events e)
+pub stop-unrecorded : (ran_out : List LinkEvent → LinkEvent → List ℕ → List ℕ → Type 0) (p : Prescribed) (c : Course) (e : LinkEvent) (client host : List ℕ) (refusals : List Refusal) (w : Outside) (out out' : Written) (waiting : List ℕ) → IsFront client (gained p.to_client c.events e) → IsFront host (gained p.to_host c.events e)
     → (has_any client || has_any host) ≡ true → refusals ≡ [] → waiting ≡ out.waiting → Tells w out c → IsTold out' c.told → GrowsInPart out.tape out'.tape (waiting ++ lines_of e refusals) → IfSome out'.tape (λ held. HasLines ran_out w out' c (put p e c) held)
 stop-unrecorded ran_out p c e client host refusals w out out' waiting f g some none same t told grows =
     recorded-part ran_out p c e w out' out.tape out'.tape out.waiting (due-bytes p c e client host f g some) t.tape
@@ -149,7 +149,7 @@ pub still-shows : (u : Bool) (t : List Turn) (x : List ℕ) (old new : Link) →
 still-shows u t x old new is s = subst (λ (l : Link). Shows l u t x) (sym is) s
 
 -- the call is cut
-pub stop-cut : {ran_out : List Event → Event → List ℕ → List ℕ → Type 0} → (p : Prescribed) (c : Course) (e : Event) (client host : List ℕ) (w w' : Outside) (out out' : Written) → IsFront client (gained p.to_client c.events e) → IsFront host (gained p.to_host c.events e) → Tells w out c → IsTold out' c.told
+pub stop-cut : {ran_out : List LinkEvent → LinkEvent → List ℕ → List ℕ → Type 0} → (p : Prescribed) (c : Course) (e : LinkEvent) (client host : List ℕ) (w w' : Outside) (out out' : Written) → IsFront client (gained p.to_client c.events e) → IsFront host (gained p.to_host c.events e) → Tells w out c → IsTold out' c.told
     → w'.client.turns ≡ Some c.client → w'.host.turns ≡ Some c.host → w'.door ≡ w.door
     → IsBetween c.to_client w'.client.written (cond c.client_up (c.to_client ++ client) c.to_client) → IsBetween c.to_host w'.host.written (cond c.host_up (c.to_host ++ host) c.to_host)
     → IfSome out'.tape (λ held. HasLines ran_out w' out' c (put p e c) held) → Cut ran_out w' out' c (put p e c)

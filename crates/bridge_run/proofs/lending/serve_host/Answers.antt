@@ -1,14 +1,14 @@
 use Rattle.std.proofs.Common.{ℕ, false, List, [], None, Err, refl, sym, ◌∙◌, ap, subst}
 use Rattle.gate_outside.specs.Link.{Link}
 use Rattle.session_tape.specs.Tapes.{counts}
-use Rattle.bridge_run.specs.Events.{Event}
+use Rattle.bridge_run.specs.Events.{LinkEvent}
 use Rattle.bridge_run.specs.LentStops.{LentStops}
 use Rattle.bridge_run.specs.Lent.{lent_sends}
 use Rattle.bridge_run.specs.Outside.{outside, HasReason, gathering, written, faults}
 use Rattle.bridge_run.specs.Course.{AtDoor}
 use Rattle.bridge_run.specs.Calls.{Goes}
 use Rattle.bridge_run.specs.Serves.{Leaves}
-use Rattle.bridge_run.specs.declared.kept.Kept.{Kept}
+use Rattle.bridge_run.specs.declared.rounds.Rounds.{Rounds}
 use Rattle.bridge_run.specs.inner.Lending.{IsLent}
 use Rattle.bridge_run.specs.inner.Keeping.{begun}
 use Rattle.bridge_run.specs.inner.Follows.{Follows, setting}
@@ -42,8 +42,8 @@ returns-clause-leaves g c = λ k b t.
     let ends = outside (g.D.Doors.link c.run.new.doors) (g.D.Doors.door c.run.new.doors) in
     let out = written (g.K.Sink.contents c.args.out.now) (g.K.Sink.contents c.args.out.now) None in
     let core = c.new-session.result.core in
-    let stands : List Event → Type 0 = λ events. IsLent m first core events in
-    subst (λ (q : Kept). Follows stands p q w (gathering (g.K.Sink.contents c.args.out.now) (g.K.Sink.contents c.args.out.now) None c.new-session.result.waiting) k → Leaves c.run.result (LentStops m first) (setting p q) (Goes AtDoor k) ends (written (g.K.Sink.contents c.args.out.now) (g.K.Sink.contents c.run.new.out) None)) (c.new-session.ensures.kept ∙ c.new.ensures) (c.run.ensures.course first (g.K.Sink.contents c.args.out.now) k)
+    let stands : List LinkEvent → Type 0 = λ events. IsLent m first core events in
+    subst (λ (q : Rounds). Follows stands p q w (gathering (g.K.Sink.contents c.args.out.now) (g.K.Sink.contents c.args.out.now) None c.new-session.result.waiting) k → Leaves c.run.result (LentStops m first) (setting p q) (Goes AtDoor k) ends (written (g.K.Sink.contents c.args.out.now) (g.K.Sink.contents c.run.new.out) None)) (c.new-session.ensures.kept ∙ c.new.ensures) (c.run.ensures.course first (g.K.Sink.contents c.args.out.now) k)
     (subst (λ (l : List ℕ). Follows stands p (begun false c.args.idle c.args.budget) w (gathering (g.K.Sink.contents c.args.out.now) (g.K.Sink.contents c.args.out.now) None l) k) (sym c.new-session.ensures.waiting)
     (door-follows stands p c.args.idle c.args.budget
     (outside (g.D.Doors.link c.args.doors.now) (g.D.Doors.door c.args.doors.now)) w out k b (subst (λ x. IsLent m first x []) (sym c.new-session.ensures.core) c.in-Ok.ensures) refl t
@@ -62,7 +62,7 @@ returns-clause-reason g c =
     let ends = outside (g.D.Doors.link c.run.new.doors) (g.D.Doors.door c.run.new.doors) in
     reason-from c.run.result c.args.idle before w ends
     (record { client = ap (λ (l : Link). l.idle) c.in_default.ensures.listens.1; host = ap (λ (l : Link). l.idle) c.in_default.ensures.other })
-    (subst (λ (q : Kept). HasReason c.run.result q.idle w ends) (c.new-session.ensures.kept ∙ c.new.ensures) c.run.ensures.reason)
+    (subst (λ (q : Rounds). HasReason c.run.result q.idle w ends) (c.new-session.ensures.kept ∙ c.new.ensures) c.run.ensures.reason)
 
 pub returns-in-Err-clause-log : goal.returns-in-Err-clause-log
 returns-in-Err-clause-log g c = nothing-before g.D.Doors.call_gives (LentStops g.G.Gadget.meaning c.args.gadget) (Told g.K.Sink.write_gives c.args.out.now c.args.out.now) (no_host c.args.listen.now c.args.idle c.args.budget) (lent_sends g.G.Gadget.meaning c.args.gadget) c.args.doors.now (told-none g.K.Sink.write_gives c.args.out.now)

@@ -16,7 +16,7 @@ use Rattle.gate_history.specs.declared.note.Note.{Note}
 use Rattle.gate_history.specs.declared.note.Note.TheVariants as note
 use Rattle.gate_core.specs.declared.write.outputs.Outputs.{Outputs}
 use Rattle.gate_core.specs.declared.state.kept.Kept.{Kept}
-use Rattle.gate_core.specs.declared.client.unlink.Asked.{Asked}
+use Rattle.gate_core.specs.declared.client.unlink.UnlinkAnswer.{UnlinkAnswer}
 use Rattle.gate_history.specs.state.Sides.{or_else}
 use Rattle.gate_history.specs.step.Items.{capped}
 use Rattle.gate_history.specs.write.Errno.{econnreset}
@@ -113,7 +113,7 @@ one-numbered t st target h sound =
 
 -- ---- what is done
 
-pub does-unlink : (st : State) (by target : ℕ) (told : Asked) (old new : Kept) (out_old out_new : Outputs) → Holds old st → IsSound st →
+pub does-unlink : (st : State) (by target : ℕ) (told : UnlinkAnswer) (old new : Kept) (out_old out_new : Outputs) → Holds old st → IsSound st →
     old.answered ≤ 2 ^ 64 - 1 → old.dropped ≤ 2 ^ 64 - 1 → Told old.caps target by old.lives.live told →
     new ≡ record old { lives = record { live = left_told told target by old.lives.live; abandoned = old.lives.abandoned }; unlinked = capped (old.unlinked + taken_count told) } →
     out_new.to_client ≡ out_old.to_client ++ (cond (is_late told) (spelling (ret_unlink by (pos 0))) [] ++ taken_bytes by told) →

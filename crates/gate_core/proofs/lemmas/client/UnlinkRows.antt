@@ -13,8 +13,8 @@ use Rattle.unlink_race.specs.declared.live.LiveKind.TheVariants as live_kind
 use Rattle.unlink_race.specs.Searches.{is_stream, goes_by_id, has_number}
 use Rattle.unlink_race.specs.Firsts.{without_first, change_first}
 use Rattle.unlink_race.specs.Unlinking.{unlinked_by}
-use Rattle.gate_core.specs.declared.client.unlink.Asked.{Asked}
-use Rattle.gate_core.specs.declared.client.unlink.Asked.TheVariants.{Late, Cancel, Waits, Taken}
+use Rattle.gate_core.specs.declared.client.unlink.UnlinkAnswer.{UnlinkAnswer}
+use Rattle.gate_core.specs.declared.client.unlink.UnlinkAnswer.TheVariants.{Late, Cancel, Waits, Taken}
 use Rattle.gate_history.specs.state.Sides.{or_else}
 use Rattle.gate_history.specs.write.Bytes.{host_packet_bytes}
 use Rattle.gate_parts.specs.state.Rows.{is_wire_row}
@@ -33,7 +33,7 @@ module _ (caps : Caps) (target by : ℕ) where
   abbrev pub taken_row_bytes : Live → List ℕ
   taken_row_bytes l = cond (is_taken_row target l) (spelling (ret_unlink by econnreset)) []
 
-  pub record Told (ls : List Live) (told : Asked) : Type 0 where
+  pub record Told (ls : List Live) (told : UnlinkAnswer) : Type 0 where
     pub rows : left_told told target by ls ≡ asked_rows target by ls
     pub late : list_any is_found_row ls ≡ not (is_late told)
     pub count : taken_count told ≡ length (filter (is_taken_row target) ls)
@@ -63,7 +63,7 @@ module _ (caps : Caps) (target by : ℕ) where
       }
 
   -- ahead of the others
-  ahead : (l : Live) (ls : List Live) (told : Asked) → (l.seqnum == target) ≡ false → Told ls told → Told (l ∷ ls) told
+  ahead : (l : Live) (ls : List Live) (told : UnlinkAnswer) → (l.seqnum == target) ≡ false → Told ls told → Told (l ∷ ls) told
   ahead l ls told e rest =
       let o = other l e in
       record {
@@ -74,7 +74,7 @@ module _ (caps : Caps) (target by : ℕ) where
         bytes = rest.bytes ∙ (λ i. sym o.silent i ++ flat_map (cancel_row caps target) ls);
       }
     where
-      row : (t : Asked) → left_told t target by ls ≡ asked_rows target by ls → left_told t target by (l ∷ ls) ≡ asked_row target by l ∷ asked_rows target by ls
+      row : (t : UnlinkAnswer) → left_told t target by ls ≡ asked_rows target by ls → left_told t target by (l ∷ ls) ≡ asked_row target by l ∷ asked_rows target by ls
       row Late h = λ i. sym (other l e).same i ∷ h i
       row (Cancel id) h = ap (λ (b : Bool). cond b (unlinked_by by l ∷ ls) (l ∷ change_first (has_number target) (unlinked_by by) ls)) e ∙ (λ i. sym (other l e).same i ∷ h i)
       row Waits h = ap (λ (b : Bool). cond b (unlinked_by by l ∷ ls) (l ∷ change_first (has_number target) (unlinked_by by) ls)) e ∙ (λ i. sym (other l e).same i ∷ h i)

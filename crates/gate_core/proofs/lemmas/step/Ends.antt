@@ -4,7 +4,7 @@ use Rattle.std.proofs.lemmas.Bool.{true≢false}
 use Rattle.usb_base.specs.declared.reason.Reason.{Reason}
 use Rattle.packet_stream.specs.Format.{Format, IsSound, wrong_at}
 use Rattle.packet_stream.specs.Split.{Position, Splitting, reads}
-use Rattle.packet_stream.specs.Streams.{Kept, ended, capped}
+use Rattle.packet_stream.specs.Streams.{StreamView, ended, capped}
 use Rattle.redir_wire.specs.declared.packet.Way.TheVariants.{ToGuest}
 use Rattle.redir_data.specs.declared.state.RedirState.{RedirState}
 use Rattle.redir_data.specs.Streams.{start, after}
@@ -37,10 +37,10 @@ use Rattle.gate_history.proofs.lemmas.step.Empty.{split-empty}
 
 -- ---- a stream of which nothing has come
 
-abbrev first-kept : {S : Type 0} → S → Kept S
+abbrev first-kept : {S : Type 0} → S → StreamView S
 first-kept s = record { state = s; rest = []; place = 0; held = []; at = 0; over = false }
 
-all-first : {S P : Type 0} (format : S → Format P Reason) (next : S → P → S) → ((s : S) → IsSound (format s)) → (s : S) (kept : Kept S) → wrong_at (format s).checks [] ≡ None → kept ≡ first-kept s →
+all-first : {S P : Type 0} (format : S → Format P Reason) (next : S → P → S) → ((s : S) → IsSound (format s)) → (s : S) (kept : StreamView S) → wrong_at (format s).checks [] ≡ None → kept ≡ first-kept s →
     HasAll (reads format next) (record { state = s; place = 0 }) kept [] [] false
 all-first {S = S} {P = P} format next sound s kept none is =
     let a : Position S = record { state = s; place = 0 } in
@@ -61,12 +61,12 @@ all-first {S = S} {P = P} format next sound s kept none is =
       place = λ _. refl;
       fits = λ i. omega arith;
     } in
-    subst (λ (k : Kept S). HasAll r a k [] [] false) (sym is) first
+    subst (λ (k : StreamView S). HasAll r a k [] [] false) (sym is) first
 
-pub client-first : (kept : Kept (Unit {0})) → kept ≡ record { state = tt; rest = []; place = 0; held = []; at = 0; over = false } → HasAll client_reader client_start kept [] [] false
+pub client-first : (kept : StreamView (Unit {0})) → kept ≡ record { state = tt; rest = []; place = 0; held = []; at = 0; over = false } → HasAll client_reader client_start kept [] [] false
 client-first kept is = all-first client_format client_next (λ s. client_packets_sound) tt kept refl is
 
-host-first : (kept : Kept RedirState) → kept ≡ record { state = start; rest = []; place = 0; held = []; at = 0; over = false } → HasAll host_reader host_start kept [] [] false
+host-first : (kept : StreamView RedirState) → kept ≡ record { state = start; rest = []; place = 0; held = []; at = 0; over = false } → HasAll host_reader host_start kept [] [] false
 host-first kept is = all-first host_format after (stream_sound ToGuest) start kept refl is
 
 pub stands-first : (first : ℕ) (g : Inner) → g.want ≡ None → IsFirst g.translator first → g.client ≡ record { state = tt; rest = []; place = 0; held = []; at = 0; over = false } →
@@ -80,7 +80,7 @@ stands-first first g works translator client host = record {
 
 -- ---- a client's end
 
-pub ends-client : (first : ℕ) (old : Inner) (t : Translator) (kept : Kept (Unit {0})) (events : List Event) (out_old out_new : Outputs) → Stands first (kept_of old) events →
+pub ends-client : (first : ℕ) (old : Inner) (t : Translator) (kept : StreamView (Unit {0})) (events : List Event) (out_old out_new : Outputs) → Stands first (kept_of old) events →
     TakesItem old.translator t raw.ClientLeft out_old out_new → kept ≡ record { state = tt; rest = []; place = 0; held = []; at = 0; over = false } →
     TakesOn first (record old { client = kept; translator = t }) events ClientEnd out_old out_new
 ends-client first old t kept events out_old out_new stands takes is =
@@ -115,7 +115,7 @@ ends-again first g events out stands over =
       sends = sends-past first out out xs xs (HostLeft ∷ xs) same (sends-none first out xs);
     }
 
-pub ends-host : (first : ℕ) (old : Inner) (t : Translator) (kept : Kept RedirState) (events : List Event) (out_old out_new : Outputs) → Stands first (kept_of old) events →
+pub ends-host : (first : ℕ) (old : Inner) (t : Translator) (kept : StreamView RedirState) (events : List Event) (out_old out_new : Outputs) → Stands first (kept_of old) events →
     old.host.over ≡ false → TakesItem old.translator t raw.HostLeft out_old out_new → kept ≡ ended old.host →
     TakesOn first (record old { host = kept; translator = t }) events HostEnd out_old out_new
 ends-host first old t kept events out_old out_new stands runs takes is =
@@ -129,9 +129,9 @@ ends-host first old t kept events out_old out_new stands runs takes is =
         translates = translates-item first old.translator t xs HostLeft out_old out_new stands.translates taken does;
         client = all-same client_reader client_start old.client old.client (client_bytes events) (asked xs) (asked xs) (client_over (past first xs)) (client_over (past first (HostLeft ∷ xs))) refl refl (left-client first xs) stands.client;
         host = record {
-          over_is = ap (λ (k : Kept RedirState). k.over) is ∙ sym over;
-          none = λ _. ap (λ (k : Kept RedirState). k.held) is;
-          empty = λ _. ap (λ (k : Kept RedirState). k.rest) is;
+          over_is = ap (λ (k : StreamView RedirState). k.over) is ∙ sym over;
+          none = λ _. ap (λ (k : StreamView RedirState). k.held) is;
+          empty = λ _. ap (λ (k : StreamView RedirState). k.rest) is;
           drained = λ going. absurd (true≢false (sym over ∙ going));
           whole = λ going. absurd (true≢false (sym over ∙ going));
           place = λ going. absurd (true≢false (sym over ∙ going));

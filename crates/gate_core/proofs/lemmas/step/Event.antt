@@ -6,7 +6,7 @@ use Rattle.std.proofs.lemmas.Bool.{true≢false}
 use Rattle.usb_base.specs.declared.memory.Memory.{Memory}
 use Rattle.usb_base.specs.declared.reason.Reason.{Reason}
 use Rattle.packet_stream.specs.Split.{Reader, Position, split}
-use Rattle.packet_stream.specs.Streams.{Kept}
+use Rattle.packet_stream.specs.Streams.{StreamView}
 use Rattle.packet_stream.proofs.Laws.{IsSteady}
 use Rattle.packet_stream.proofs.Following.{follows-holds}
 use Rattle.redir_data.specs.declared.state.RedirState.{RedirState}
@@ -33,13 +33,13 @@ use Rattle.gate_core.proofs.lemmas.step.Sides.{client-steady, host-steady}
 -- ---- either side
 
 -- a side of which nothing has changed
-pub all-same : {S P : Type 0} (r : Reader S P Reason) (start : Position S) (old new : Kept S) (bytes : List ℕ) (before after : List (ℕ × P)) (was is : Bool) → new ≡ old → after ≡ before → is ≡ was →
+pub all-same : {S P : Type 0} (r : Reader S P Reason) (start : Position S) (old new : StreamView S) (bytes : List ℕ) (before after : List (ℕ × P)) (was is : Bool) → new ≡ old → after ≡ before → is ≡ was →
     HasAll r start old bytes before was → HasAll r start new bytes after is
 all-same {S = S} {P = P} r start old new bytes before after was is kept given over all =
-    subst (λ (k : Kept S). HasAll r start k bytes after is) (sym kept)
+    subst (λ (k : StreamView S). HasAll r start k bytes after is) (sym kept)
     (subst (λ (l : List (ℕ × P)). HasAll r start old bytes l is) (sym given) (subst (HasAll r start old bytes before) (sym over) all))
 
-pub stands-all : {S P : Type 0} (r : Reader S P Reason) → IsSteady r → (start : Position S) (kept : Kept S) (bytes : List ℕ) (given : List (ℕ × P)) (over : Bool) → HasAll r start kept bytes given over →
+pub stands-all : {S P : Type 0} (r : Reader S P Reason) → IsSteady r → (start : Position S) (kept : StreamView S) (bytes : List ℕ) (given : List (ℕ × P)) (over : Bool) → HasAll r start kept bytes given over →
     StreamStands r start kept bytes given over
 stands-all r steady start kept bytes given over all = record {
   going = λ going.
@@ -91,7 +91,7 @@ stops-still first old t events e out_old out_new nothing stops =
 
 -- ---- a piece of the client
 
-takes-asked : (first : ℕ) (old : Inner) (kept : Kept (Unit {0})) (t : Translator) (events : List Event) (piece : List ℕ) (out_old out_new : Outputs) → Stands first (kept_of old) events →
+takes-asked : (first : ℕ) (old : Inner) (kept : StreamView (Unit {0})) (t : Translator) (events : List Event) (piece : List ℕ) (out_old out_new : Outputs) → Stands first (kept_of old) events →
     Finished first (client_half first) kept t (client_bytes events) piece (arrivals events) out_old out_new →
     TakesOn first (record old { client = kept; translator = t }) events (ClientPiece piece) out_old out_new
 takes-asked first old kept t events piece out_old out_new stands f = record {
@@ -105,7 +105,7 @@ takes-asked first old kept t events piece out_old out_new stands f = record {
   sends = f.sends;
 }
 
-halts-asked : (first : ℕ) (old : Inner) (kept : Kept (Unit {0})) (t : Translator) (events : List Event) (piece : List ℕ) (out_old out_new : Outputs) → Stands first (kept_of old) events →
+halts-asked : (first : ℕ) (old : Inner) (kept : StreamView (Unit {0})) (t : Translator) (events : List Event) (piece : List ℕ) (out_old out_new : Outputs) → Stands first (kept_of old) events →
     Halted first (client_half first) kept t (client_bytes events) piece (arrivals events) out_old out_new →
     Stops first (kept_of (record old { client = kept; translator = t })) events (ClientPiece piece) out_old.to_client out_new.to_client out_old.to_host out_new.to_host
 halts-asked first old kept t events piece out_old out_new stands h = record {
@@ -126,7 +126,7 @@ halts-asked first old kept t events piece out_old out_new stands h = record {
   host = h.sends.host;
 }
 
-unput-asked : (first : ℕ) (old : Inner) (kept : Kept (Unit {0})) (t : Translator) (events : List Event) (piece : List ℕ) (out_old out_new : Outputs) → Stands first (kept_of old) events →
+unput-asked : (first : ℕ) (old : Inner) (kept : StreamView (Unit {0})) (t : Translator) (events : List Event) (piece : List ℕ) (out_old out_new : Outputs) → Stands first (kept_of old) events →
     IsUnput old.client kept old.translator t piece out_old out_new → Stops first (kept_of (record old { client = kept; translator = t })) events (ClientPiece piece) out_old.to_client out_new.to_client out_old.to_host out_new.to_host
 unput-asked first old kept t events piece out_old out_new stands u =
     stops-still first (record old { client = kept }) t events (ClientPiece piece) out_old out_new u.nothing
@@ -137,7 +137,7 @@ unput-asked first old kept t events piece out_old out_new stands u =
       host = (stands-for first old events stands).host;
     }) (inl (u.some.0, sym stands.client.over_is ∙ u.some.1)))
 
-pub took-asked : (r : Result (Unit {0}) Memory) (old : Inner) (kept : Kept (Unit {0})) (t : Translator) (piece : List ℕ) (out_old out_new : Outputs) →
+pub took-asked : (r : Result (Unit {0}) Memory) (old : Inner) (kept : StreamView (Unit {0})) (t : Translator) (piece : List ℕ) (out_old out_new : Outputs) →
     TakesPiece r client_half old.client kept old.translator t piece out_old out_new →
     TakesEvent r old (record old { client = kept; translator = t }) (ClientPiece piece) out_old out_new
 took-asked (Ok v) old kept t piece out_old out_new takes = λ first events stands.
@@ -154,7 +154,7 @@ asked-past old has = ∥∥₁_map has (λ w. (w.0, (client_bytes w.1.0, (arriva
 
 -- ---- a piece of the host
 
-takes-told : (first : ℕ) (old : Inner) (kept : Kept RedirState) (t : Translator) (events : List Event) (piece : List ℕ) (out_old out_new : Outputs) → Stands first (kept_of old) events →
+takes-told : (first : ℕ) (old : Inner) (kept : StreamView RedirState) (t : Translator) (events : List Event) (piece : List ℕ) (out_old out_new : Outputs) → Stands first (kept_of old) events →
     Finished first (host_half first) kept t (host_bytes events) piece (arrivals events) out_old out_new →
     TakesOn first (record old { host = kept; translator = t }) events (HostPiece piece) out_old out_new
 takes-told first old kept t events piece out_old out_new stands f = record {
@@ -168,7 +168,7 @@ takes-told first old kept t events piece out_old out_new stands f = record {
   sends = f.sends;
 }
 
-halts-told : (first : ℕ) (old : Inner) (kept : Kept RedirState) (t : Translator) (events : List Event) (piece : List ℕ) (out_old out_new : Outputs) → Stands first (kept_of old) events →
+halts-told : (first : ℕ) (old : Inner) (kept : StreamView RedirState) (t : Translator) (events : List Event) (piece : List ℕ) (out_old out_new : Outputs) → Stands first (kept_of old) events →
     Halted first (host_half first) kept t (host_bytes events) piece (arrivals events) out_old out_new →
     Stops first (kept_of (record old { host = kept; translator = t })) events (HostPiece piece) out_old.to_client out_new.to_client out_old.to_host out_new.to_host
 halts-told first old kept t events piece out_old out_new stands h = record {
@@ -189,7 +189,7 @@ halts-told first old kept t events piece out_old out_new stands h = record {
   host = h.sends.host;
 }
 
-unput-told : (first : ℕ) (old : Inner) (kept : Kept RedirState) (t : Translator) (events : List Event) (piece : List ℕ) (out_old out_new : Outputs) → Stands first (kept_of old) events →
+unput-told : (first : ℕ) (old : Inner) (kept : StreamView RedirState) (t : Translator) (events : List Event) (piece : List ℕ) (out_old out_new : Outputs) → Stands first (kept_of old) events →
     IsUnput old.host kept old.translator t piece out_old out_new → Stops first (kept_of (record old { host = kept; translator = t })) events (HostPiece piece) out_old.to_client out_new.to_client out_old.to_host out_new.to_host
 unput-told first old kept t events piece out_old out_new stands u =
     stops-still first (record old { host = kept }) t events (HostPiece piece) out_old out_new u.nothing
@@ -200,7 +200,7 @@ unput-told first old kept t events piece out_old out_new stands u =
       client = (stands-for first old events stands).client;
     }) (inl (u.some.0, sym stands.host.over_is ∙ u.some.1)))
 
-pub took-told : (r : Result (Unit {0}) Memory) (old : Inner) (kept : Kept RedirState) (t : Translator) (piece : List ℕ) (out_old out_new : Outputs) →
+pub took-told : (r : Result (Unit {0}) Memory) (old : Inner) (kept : StreamView RedirState) (t : Translator) (piece : List ℕ) (out_old out_new : Outputs) →
     TakesPiece r host_half old.host kept old.translator t piece out_old out_new →
     TakesEvent r old (record old { host = kept; translator = t }) (HostPiece piece) out_old out_new
 took-told (Ok v) old kept t piece out_old out_new takes = λ first events stands.

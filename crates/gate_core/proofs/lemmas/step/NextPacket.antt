@@ -5,13 +5,13 @@ use Rattle.usb_base.specs.declared.reason.Reason.{Reason}
 use Rattle.packet_stream.specs.Format.{Format, IsSound}
 use Rattle.packet_stream.specs.Split.{Position, Spells, reads, split}
 use Rattle.packet_stream.specs.declared.read.ReadError.{ReadError}
-use Rattle.packet_stream.specs.Streams.{Kept, Left, FollowsBy, Follows, Gives, Answered, Nexts, Changes, capped}
+use Rattle.packet_stream.specs.Streams.{StreamView, Left, FollowsBy, Follows, Gives, Answered, Nexts, Changes, capped}
 use Rattle.packet_stream.proofs.Following.{follows-front}
 use Rattle.packet_stream.proofs.Splits.{is_splitting}
 use Rattle.packet_stream.proofs.Loops.{changed_to}
 
 -- the bytes of a stream are bytes, and its place is one
-abbrev pub IsReadable : {S : Type 0} → Kept S → Type 0
+abbrev pub IsReadable : {S : Type 0} → StreamView S → Type 0
 IsReadable kept = kept.over ≡ false → AreBytes kept.rest × (kept.place ≡ capped kept.place)
 
 first-fits : {S P : Type 0} (format : S → Format P Reason) (next : S → P → S) (a z : Position S) (bytes rest : List ℕ) (ps left : List (ℕ × P)) (i : ℕ × P) → ps ≡ i ∷ left →
@@ -20,7 +20,7 @@ first-fits {P = P} format next a z bytes rest ps left i is spelled =
     let first : Spells format next a bytes (i ∷ left) z rest = subst (λ (l : List (ℕ × P)). Spells format next a bytes l z rest) is spelled in
     first.2
 
-pub fits-next : {S P : Type 0} (format : S → Format P Reason) (next : S → P → S) → ((s : S) → IsSound (format s)) → (takes : P → Bool) (old new : Kept S) (result : Result (Option (ℕ × P)) ReadError) (i : ℕ × P) →
+pub fits-next : {S P : Type 0} (format : S → Format P Reason) (next : S → P → S) → ((s : S) → IsSound (format s)) → (takes : P → Bool) (old new : StreamView S) (result : Result (Option (ℕ × P)) ReadError) (i : ℕ × P) →
     IsReadable old → Changes result old new → Nexts (reads format next) takes result old new → result ≡ Ok (Some i) → (format old.state).Fits i.1
 fits-next {S = S} {P = P} format next sound takes old new result i readable changes nexts is =
     let r = reads format next in

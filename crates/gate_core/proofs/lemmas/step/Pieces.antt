@@ -10,7 +10,7 @@ use Rattle.usb_base.proofs.Numbers.{AreBytes-append}
 use Rattle.packet_stream.specs.declared.read.ReadError.{ReadError}
 use Rattle.packet_stream.specs.declared.read.ReadError.TheVariants.{Refused, Memory as OutOfMemory}
 use Rattle.packet_stream.specs.Split.{Splitting, split}
-use Rattle.packet_stream.specs.Streams.{Kept, passed, after_piece, Follows, Nexts, Puts, Changes}
+use Rattle.packet_stream.specs.Streams.{StreamView, passed, after_piece, Follows, Nexts, Puts, Changes}
 use Rattle.packet_stream.specs.Items.{packets, wrongs, items, added}
 use Rattle.packet_stream.proofs.Loops.{changed_to}
 use Rattle.gate_history.specs.declared.item.Item.{Item as RawItem}
@@ -90,7 +90,7 @@ skip-all first d (x ∷ later) xs over e =
 
 -- ---- within the piece
 
-pub record Taking {S P : Type 0} (first : ℕ) (h : Half S P) (kept : Kept S) (t : Translator) (bytes piece : List ℕ) (before : List Item) (out_old out_new : Outputs) : Type 0 where
+pub record Taking {S P : Type 0} (first : ℕ) (h : Half S P) (kept : StreamView S) (t : Translator) (bytes piece : List ℕ) (before : List Item) (out_old out_new : Outputs) : Type 0 where
   pub taken : List Item
   pub stream : Taken h.stream kept bytes piece (h.came before) taken
   pub over_is : kept.over ≡ h.stream.over (onto taken before)
@@ -99,7 +99,7 @@ pub record Taking {S P : Type 0} (first : ℕ) (h : Half S P) (kept : Kept S) (t
   pub others_are : h.others (onto taken before) ≡ h.others before
   pub other_over : h.other_over (onto taken before) ≡ h.other_over before
 
-pub taking-first : {S P : Type 0} (first : ℕ) (d : Side S P first) (old new : Kept S) (t : Translator) (bytes piece : List ℕ) (before : List Item) (out : Outputs) → AreBytes piece →
+pub taking-first : {S P : Type 0} (first : ℕ) (d : Side S P first) (old new : StreamView S) (t : Translator) (bytes piece : List ℕ) (before : List Item) (out : Outputs) → AreBytes piece →
     HasAll d.half.stream.reader d.half.stream.start old bytes (d.half.came before) (d.half.stream.over before) → Translates first (items_of t) before → new ≡ after_piece old piece → Puts d.half.stream.reader piece old new →
     Taking first d.half new t bytes piece before out out
 taking-first first d old new t bytes piece before out are all translates is puts = record {
@@ -113,7 +113,7 @@ taking-first first d old new t bytes piece before out are all translates is puts
 }
 
 -- the stream goes on behind what was taken
-pub goes-on : {S P : Type 0} (first : ℕ) (d : Side S P first) (kept : Kept S) (t : Translator) (bytes piece : List ℕ) (before : List Item) (out_old out_new : Outputs) →
+pub goes-on : {S P : Type 0} (first : ℕ) (d : Side S P first) (kept : StreamView S) (t : Translator) (bytes piece : List ℕ) (before : List Item) (out_old out_new : Outputs) →
     Taking first d.half kept t bytes piece before out_old out_new → kept.over ≡ false → GoesOn first d.half kept t
 goes-on {P = P} first d kept t bytes piece before out_old out_new k runs =
     let g = k.stream.going runs in
@@ -131,11 +131,11 @@ abbrev pub TakesItem : Translator → Translator → RawItem → Outputs → Out
 TakesItem old new item out_old out_new =
     (st : State) (x : Item) → IsItem item x → Holds old st → IsSound st → is_left_out st x ≡ false → Does st (mark_of st x) old new out_old out_new
 
-ended-over : {S : Type 0} (kept : Kept S) (flag over : Bool) → flag ≡ over → (over ≡ false → kept.over ≡ false) → (ended_if flag kept).over ≡ over
+ended-over : {S : Type 0} (kept : StreamView S) (flag over : Bool) → flag ≡ over → (over ≡ false → kept.over ≡ false) → (ended_if flag kept).over ≡ over
 ended-over kept true over e going = e
 ended-over kept false over e going = going (sym e) ∙ e
 
-taking-one : {S P : Type 0} (first : ℕ) (d : Side S P first) (old new : Kept S) (t u : Translator) (bytes piece : List ℕ) (before : List Item) (out_old out out_new : Outputs) (item : RawItem) (x : Item) →
+taking-one : {S P : Type 0} (first : ℕ) (d : Side S P first) (old new : StreamView S) (t u : Translator) (bytes piece : List ℕ) (before : List Item) (out_old out out_new : Outputs) (item : RawItem) (x : Item) →
     (k : Taking first d.half old t bytes piece before out_old out) → old.over ≡ false → Taken d.half.stream new bytes piece (d.half.came before) (k.taken ++ x ∷ []) → IsItem item x →
     ((xs : List Item) → is_left_out (state_of first (past first xs)) x ≡ d.half.stream.over xs) → ((xs : List Item) → d.half.others (x ∷ xs) ≡ d.half.others xs) → ((xs : List Item) → d.half.other_over (x ∷ xs) ≡ d.half.other_over xs) →
     ((xs : List Item) → d.half.stream.over (x ∷ xs) ≡ false → new.over ≡ false) →
@@ -161,7 +161,7 @@ taking-one first d old new t u bytes piece before out_old out out_new item x k r
 pub same-item : (a b : RawItem) → ◌≡◌ {A = Result (Option RawItem) Memory} (Ok (Some a)) (Ok (Some b)) → a ≡ b
 same-item a b e = cc
 
-pub taking-item : {S P : Type 0} (first : ℕ) (d : Side S P first) (takes : P → Bool) (old new : Kept S) (t u : Translator) (bytes piece : List ℕ) (before : List Item) (out_old out out_new : Outputs) (item : RawItem) (answer : Result (Option (ℕ × P)) ReadError) →
+pub taking-item : {S P : Type 0} (first : ℕ) (d : Side S P first) (takes : P → Bool) (old new : StreamView S) (t u : Translator) (bytes piece : List ℕ) (before : List Item) (out_old out out_new : Outputs) (item : RawItem) (answer : Result (Option (ℕ × P)) ReadError) →
     item_next d.raw_packet d.raw_wrong answer ≡ Ok (Some item) → Changes answer old new → Nexts d.half.stream.reader takes answer old new → TakesItem t u item out out_new →
     Taking first d.half old t bytes piece before out_old out →
     Taking first d.half (ended_if (d.flag u) new) u bytes piece before out_old out_new
@@ -182,7 +182,7 @@ taking-item first d takes old new t u bytes piece before out_old out out_new ite
 
 -- ---- nothing more is there
 
-finished-going : {S P : Type 0} (first : ℕ) (d : Side S P first) (takes : P → Bool) (old new : Kept S) (t : Translator) (bytes piece : List ℕ) (before : List Item) (out_old out_new : Outputs) →
+finished-going : {S P : Type 0} (first : ℕ) (d : Side S P first) (takes : P → Bool) (old new : StreamView S) (t : Translator) (bytes piece : List ℕ) (before : List Item) (out_old out_new : Outputs) →
     Changes {P = P} (Ok None) old new → Nexts d.half.stream.reader takes (Ok None) old new → Taking first d.half old t bytes piece before out_old out_new → old.over ≡ false →
     Finished first d.half new t bytes piece before out_old out_new
 finished-going {S = S} {P = P} first d takes old new t bytes piece before out_old out_new changes nexts k runs =
@@ -202,7 +202,7 @@ finished-going {S = S} {P = P} first d takes old new t bytes piece before out_ol
       other_over = ap d.half.other_over same ∙ k.other_over;
     }
 
-finished-over : {S P : Type 0} (first : ℕ) (d : Side S P first) (old new : Kept S) (t : Translator) (bytes piece : List ℕ) (before : List Item) (out_old out_new : Outputs) →
+finished-over : {S P : Type 0} (first : ℕ) (d : Side S P first) (old new : StreamView S) (t : Translator) (bytes piece : List ℕ) (before : List Item) (out_old out_new : Outputs) →
     AreBytes bytes → AreBytes piece → new ≡ passed old → Taking first d.half old t bytes piece before out_old out_new → old.over ≡ true →
     Finished first d.half new t bytes piece before out_old out_new
 finished-over {S = S} first d old new t bytes piece before out_old out_new are more is k ends =
@@ -216,7 +216,7 @@ finished-over {S = S} first d old new t bytes piece before out_old out_new are m
     let still : d.half.stream.over ys ≡ true = d.laws.over_past ys xs past-is ∙ over in
     record {
       all = record {
-        over_is = ap (λ (k : Kept S). k.over) is ∙ ends ∙ sym still;
+        over_is = ap (λ (k : StreamView S). k.over) is ∙ ends ∙ sym still;
         none = λ _. cut.none;
         empty = λ _. cut.empty;
         drained = λ going. absurd (true≢false (sym still ∙ going));
@@ -230,7 +230,7 @@ finished-over {S = S} first d old new t bytes piece before out_old out_new are m
       other_over = d.laws.other_past ys xs past-is ∙ k.other_over;
     }
 
-finished-by : {S P : Type 0} (first : ℕ) (d : Side S P first) (takes : P → Bool) (old new : Kept S) (t : Translator) (bytes piece : List ℕ) (before : List Item) (out_old out_new : Outputs) →
+finished-by : {S P : Type 0} (first : ℕ) (d : Side S P first) (takes : P → Bool) (old new : StreamView S) (t : Translator) (bytes piece : List ℕ) (before : List Item) (out_old out_new : Outputs) →
     AreBytes bytes → AreBytes piece → Changes {P = P} (Ok None) old new → Nexts d.half.stream.reader takes (Ok None) old new → Taking first d.half old t bytes piece before out_old out_new →
     (over : Bool) → old.over ≡ over → Finished first d.half new t bytes piece before out_old out_new
 finished-by first d takes old new t bytes piece before out_old out_new are more changes nexts k false runs =
@@ -244,7 +244,7 @@ no-item packet wrong (Ok (Some i)) e = absurd cc
 no-item packet wrong (Err (Refused place why)) e = absurd cc
 no-item packet wrong (Err (OutOfMemory memory)) e = absurd cc
 
-pub taking-all : {S P : Type 0} (first : ℕ) (d : Side S P first) (takes : P → Bool) (old new : Kept S) (t : Translator) (bytes piece : List ℕ) (before : List Item) (out_old out_new : Outputs) (answer : Result (Option (ℕ × P)) ReadError) →
+pub taking-all : {S P : Type 0} (first : ℕ) (d : Side S P first) (takes : P → Bool) (old new : StreamView S) (t : Translator) (bytes piece : List ℕ) (before : List Item) (out_old out_new : Outputs) (answer : Result (Option (ℕ × P)) ReadError) →
     AreBytes bytes → AreBytes piece → item_next d.raw_packet d.raw_wrong answer ≡ Ok None → Changes answer old new → Nexts d.half.stream.reader takes answer old new →
     Taking first d.half old t bytes piece before out_old out_new → Finished first d.half new t bytes piece before out_old out_new
 taking-all {P = P} first d takes old new t bytes piece before out_old out_new answer are more is changes nexts k =
@@ -254,7 +254,7 @@ taking-all {P = P} first d takes old new t bytes piece before out_old out_new an
 
 -- ---- memory ran out
 
-more-runs : {S P : Type 0} (old new : Kept S) (answer : Result (Option (ℕ × P)) ReadError) → IsMore answer → Changes answer old new → old.over ≡ false
+more-runs : {S P : Type 0} (old new : StreamView S) (answer : Result (Option (ℕ × P)) ReadError) → IsMore answer → Changes answer old new → old.over ≡ false
 more-runs old new (Ok None) more changes = absurd more
 more-runs old new (Ok (Some i)) more changes = changes.1
 more-runs old new (Err (Refused place why)) more changes = changes.0
@@ -293,7 +293,7 @@ wants-by first d takes same t xs (Err (OutOfMemory memory)) x is w translates ov
     })
 
 pub taking-halted : {S P : Type 0} (first : ℕ) (d : Side S P first) (takes : P → Bool) → ((n : ℕ) (p : P) → takes p ≡ takes_memory (d.half.stream.packet n p)) →
-    (old new : Kept S) (t : Translator) (bytes piece : List ℕ) (before : List Item) (out_old out_new : Outputs) (answer : Result (Option (ℕ × P)) ReadError) →
+    (old new : StreamView S) (t : Translator) (bytes piece : List ℕ) (before : List Item) (out_old out_new : Outputs) (answer : Result (Option (ℕ × P)) ReadError) →
     WantsItem t (item_next d.raw_packet d.raw_wrong answer) → Changes answer old new → Nexts d.half.stream.reader takes answer old new →
     Taking first d.half old t bytes piece before out_old out_new → Halted first d.half new t bytes piece before out_old out_new
 taking-halted {S = S} {P = P} first d takes same old new t bytes piece before out_old out_new answer wants changes nexts k =
@@ -324,13 +324,13 @@ pub nothing-done : (t : Translator) (out : Outputs) → DoesNothing t t out out
 nothing-done t out = record { same = refl; outputs = refl }
 
 -- for want of memory the translator has changed nothing
-pub halted-still : {S P : Type 0} (first : ℕ) (d : Side S P first) (kept : Kept S) (t u : Translator) (bytes piece : List ℕ) (before : List Item) (out_old out out_new : Outputs) →
+pub halted-still : {S P : Type 0} (first : ℕ) (d : Side S P first) (kept : StreamView S) (t u : Translator) (bytes piece : List ℕ) (before : List Item) (out_old out out_new : Outputs) →
     DoesNothing t u out out_new → Halted first d.half kept t bytes piece before out_old out → Halted first d.half kept u bytes piece before out_old out_new
 halted-still first d kept t u bytes piece before out_old out out_new nothing h =
     subst (λ (x : Translator). Halted first d.half kept x bytes piece before out_old out_new) (sym nothing.same)
     (subst (λ (o : Outputs). Halted first d.half kept t bytes piece before out_old o) (sym nothing.outputs) h)
 
-pub err-piece : {S P : Type 0} (r : Result (Unit {0}) Memory) (half : ℕ → Half S P) (old new : Kept S) (t u : Translator) (piece : List ℕ) (out_old out_new : Outputs) → IsErr r →
+pub err-piece : {S P : Type 0} (r : Result (Unit {0}) Memory) (half : ℕ → Half S P) (old new : StreamView S) (t u : Translator) (piece : List ℕ) (out_old out_new : Outputs) → IsErr r →
     ((first : ℕ) (bytes : List ℕ) (before : List Item) → IsAt first (half first) old t bytes before →
     IsUnput old new t u piece out_old out_new ⊎ Halted first (half first) new u bytes piece before out_old out_new) →
     TakesPiece r half old new t u piece out_old out_new

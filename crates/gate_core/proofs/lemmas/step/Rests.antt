@@ -2,7 +2,7 @@
 use Rattle.std.proofs.Common.{◌≡◌, ℕ, ◌+◌, Bool, true, false, cond, List, length, refl, ap, ◌∙◌}
 use Rattle.usb_base.specs.declared.reason.Reason.{Reason}
 use Rattle.packet_stream.specs.Split.{Reader, Position, split}
-use Rattle.packet_stream.specs.Streams.{Kept}
+use Rattle.packet_stream.specs.Streams.{StreamView}
 use Rattle.gate_history.specs.step.Events.{Event, client_bytes, host_bytes}
 use Rattle.gate_history.specs.step.Streams.{client_reader, client_start, host_reader, host_start}
 use Rattle.gate_history.specs.state.Sides.{client_over, host_over}
@@ -11,7 +11,7 @@ use Rattle.gate_core.specs.state.Kept.{GateKept}
 use Rattle.gate_history.specs.step.Came.{asked, told}
 use Rattle.gate_core.specs.step.Stands.{HasAll, Stands}
 
-held-by : {S P : Type 0} (r : Reader S P Reason) (start : Position S) (kept : Kept S) (bytes : List ℕ) (given : List (ℕ × P)) (over : Bool) → HasAll r start kept bytes given over →
+held-by : {S P : Type 0} (r : Reader S P Reason) (start : Position S) (kept : StreamView S) (bytes : List ℕ) (given : List (ℕ × P)) (over : Bool) → HasAll r start kept bytes given over →
     length kept.held ≡ cond over 0 (length (split r start bytes).rest)
 held-by r start kept bytes given true all = ap length (all.none refl)
 held-by r start kept bytes given false all = ap length (all.whole refl ∙ (all.drained refl).rest)

@@ -6,7 +6,7 @@ use Rattle.usb_base.specs.Number.{AreBytes}
 use Rattle.usb_base.specs.declared.reason.Reason.{Reason}
 use Rattle.packet_stream.specs.declared.read.ReadError.TheVariants.{Refused, Memory as OutOfMemory}
 use Rattle.packet_stream.specs.Split.{Reader, Splitting, split}
-use Rattle.packet_stream.specs.Streams.{Kept, Left, FollowsBy, Nexts, capped}
+use Rattle.packet_stream.specs.Streams.{StreamView, Left, FollowsBy, Nexts, capped}
 use Rattle.packet_stream.proofs.Following.{follows-front}
 use Rattle.redir_wire.specs.declared.packet.Caps.{Caps}
 use Rattle.redir_wire.specs.declared.packet.Header.{Header}
@@ -28,17 +28,17 @@ use Rattle.gate_core.proofs.lemmas.step.Pieces.{same-item}
 
 -- ---- the client's
 
-readable-prop : {S : Type 0} (kept : Kept S) → IsProp (AreBytes kept.rest × (kept.place ≡ capped kept.place))
+readable-prop : {S : Type 0} (kept : StreamView S) → IsProp (AreBytes kept.rest × (kept.place ≡ capped kept.place))
 readable-prop kept = hlevel props
 
 capped-again : (place at : ℕ) → place ≡ capped at → place ≡ capped place
 capped-again place at e = omega (arith, e)
 
-left-by : {S P : Type 0} (r : Reader S P Reason) (kept : Kept S) (x : Splitting S P Reason) (given : List (ℕ × P)) (over : Bool) → over ≡ false → FollowsBy r kept x given over → Left r kept x given
+left-by : {S P : Type 0} (r : Reader S P Reason) (kept : StreamView S) (x : Splitting S P Reason) (given : List (ℕ × P)) (over : Bool) → over ≡ false → FollowsBy r kept x given over → Left r kept x given
 left-by r kept x given false e f = f
 left-by r kept x given true e f = absurd cc
 
-readable : {S P : Type 0} (first : ℕ) (h : Half S P) (kept : Kept S) (t : Translator) → GoesOn first h kept t → kept.over ≡ false → AreBytes kept.rest × (kept.place ≡ capped kept.place)
+readable : {S P : Type 0} (first : ℕ) (h : Half S P) (kept : StreamView S) (t : Translator) → GoesOn first h kept t → kept.over ≡ false → AreBytes kept.rest × (kept.place ≡ capped kept.place)
 readable first h kept t g runs =
     let left = left-by h.stream.reader kept (split h.stream.reader h.stream.start g.bytes) (h.came g.items) kept.over runs g.follows.follows in
     (left.fits, capped-again kept.place left.at.place left.place)
@@ -54,7 +54,7 @@ asked-fits kept new t (Err (OutOfMemory memory)) item goes is changes nexts = ab
 
 -- ---- the host's
 
-told-next : (first : ℕ) (kept new : Kept RedirState) (t : Translator) (i : ℕ × (Header × RedirPacket)) → Nexts host_reader told_takes_memory (Ok (Some i)) kept new → GoesOn first (host_half first) kept t → ToldFits t.caps i.1.0 i.1.1
+told-next : (first : ℕ) (kept new : StreamView RedirState) (t : Translator) (i : ℕ × (Header × RedirPacket)) → Nexts host_reader told_takes_memory (Ok (Some i)) kept new → GoesOn first (host_half first) kept t → ToldFits t.caps i.1.0 i.1.1
 told-next first kept new t i nexts g =
     let given = told g.items in
     let n = nexts host_start g.bytes given g.follows in

@@ -7,7 +7,7 @@ use Rattle.usb_base.specs.declared.reason.Reason.{Reason}
 use Rattle.packet_stream.specs.declared.read.ReadError.{ReadError}
 use Rattle.packet_stream.specs.declared.read.ReadError.TheVariants.{Refused, Memory}
 use Rattle.packet_stream.specs.Split.{Reader, Position, split}
-use Rattle.packet_stream.specs.Streams.{Kept, passed, ended, after_piece, after_piece_by, Follows, Drained, Closed, Answered, Nexts, Puts, Changes, capped}
+use Rattle.packet_stream.specs.Streams.{StreamView, passed, ended, after_piece, after_piece_by, Follows, Drained, Closed, Answered, Nexts, Puts, Changes, capped}
 use Rattle.packet_stream.specs.Items.{SideStream, packets, wrongs, added}
 use Rattle.packet_stream.proofs.Laws.{IsSteady}
 use Rattle.packet_stream.proofs.Following.{drained-follows, follows-front, follows-holds, over_after}
@@ -21,36 +21,36 @@ pub record Before {S P : Type 0} (r : Reader S P Reason) (start : Position S) (b
   pub right : (split r start bytes).wrong ≡ None
 
 -- these items of the piece were taken, which are all packets, and the stream goes on behind them
-pub record Going {S P I : Type 0} (s : SideStream S P Reason I) (kept : Kept S) (bytes piece : List ℕ) (given : List (ℕ × P)) (taken : List I) : Type 0 where
+pub record Going {S P I : Type 0} (s : SideStream S P Reason I) (kept : StreamView S) (bytes piece : List ℕ) (given : List (ℕ × P)) (taken : List I) : Type 0 where
   pub before : Before s.reader s.start bytes given
   pub more : List (ℕ × P)
   pub are : taken ≡ packets s more
   pub follows : Follows s.reader s.start kept (bytes ++ piece) (given ++ more)
 
 -- these items were taken, and nothing more is read
-pub record Cut {S P I : Type 0} (s : SideStream S P Reason I) (kept : Kept S) (bytes piece : List ℕ) (taken : List I) : Type 0 where
+pub record Cut {S P I : Type 0} (s : SideStream S P Reason I) (kept : StreamView S) (bytes piece : List ℕ) (taken : List I) : Type 0 where
   pub none : kept.held ≡ []
   pub empty : kept.rest ≡ []
   pub later : List I
   pub parts : added s bytes piece ≡ taken ++ later
 
-pub record Taken {S P I : Type 0} (s : SideStream S P Reason I) (kept : Kept S) (bytes piece : List ℕ) (given : List (ℕ × P)) (taken : List I) : Type 0 where
+pub record Taken {S P I : Type 0} (s : SideStream S P Reason I) (kept : StreamView S) (bytes piece : List ℕ) (given : List (ℕ × P)) (taken : List I) : Type 0 where
   pub going : kept.over ≡ false → Going s kept bytes piece given taken
   pub cut : kept.over ≡ true → Cut s kept bytes piece taken
 
 -- ---- the piece is put
 
-pub follows-all : {S P : Type 0} (r : Reader S P Reason) → IsSteady r → (start : Position S) (kept : Kept S) (bytes : List ℕ) (given : List (ℕ × P)) (over : Bool) →
+pub follows-all : {S P : Type 0} (r : Reader S P Reason) → IsSteady r → (start : Position S) (kept : StreamView S) (bytes : List ℕ) (given : List (ℕ × P)) (over : Bool) →
     HasAll r start kept bytes given over → over ≡ false → Follows r start kept bytes given
 follows-all r steady start kept bytes given over all going = drained-follows r steady start kept bytes given all.fits (all.over_is ∙ going) (all.drained going)
 
-pub over-put : {S : Type 0} (old new : Kept S) (piece : List ℕ) → new ≡ after_piece old piece → new.over ≡ old.over
-over-put {S = S} old new piece is = ap (λ (k : Kept S). k.over) is ∙ over_after old piece old.over refl
+pub over-put : {S : Type 0} (old new : StreamView S) (piece : List ℕ) → new ≡ after_piece old piece → new.over ≡ old.over
+over-put {S = S} old new piece is = ap (λ (k : StreamView S). k.over) is ∙ over_after old piece old.over refl
 
-put-over : {S : Type 0} (old new : Kept S) (piece : List ℕ) → new ≡ after_piece old piece → old.over ≡ true → new ≡ old
+put-over : {S : Type 0} (old new : StreamView S) (piece : List ℕ) → new ≡ after_piece old piece → old.over ≡ true → new ≡ old
 put-over old new piece is over = is ∙ ap (after_piece_by old piece) over
 
-pub taken-put : {S P I : Type 0} (s : SideStream S P Reason I) → IsSteady s.reader → (old new : Kept S) (bytes piece : List ℕ) (given : List (ℕ × P)) (over : Bool) → AreBytes piece →
+pub taken-put : {S P I : Type 0} (s : SideStream S P Reason I) → IsSteady s.reader → (old new : StreamView S) (bytes piece : List ℕ) (given : List (ℕ × P)) (over : Bool) → AreBytes piece →
     HasAll s.reader s.start old bytes given over → new ≡ after_piece old piece → Puts s.reader piece old new → Taken s new bytes piece given []
 taken-put {S = S} {P = P} {I = I} s steady old new bytes piece given over are all is puts = record {
   going = λ runs.
@@ -68,17 +68,17 @@ taken-put {S = S} {P = P} {I = I} s steady old new bytes piece given over are al
       let same : new ≡ old = put-over old new piece is was in
       let ended : over ≡ true = sym all.over_is ∙ was in
       record {
-        none = ap (λ (k : Kept S). k.held) same ∙ all.none ended;
-        empty = ap (λ (k : Kept S). k.rest) same ∙ all.empty ended;
+        none = ap (λ (k : StreamView S). k.held) same ∙ all.none ended;
+        empty = ap (λ (k : StreamView S). k.rest) same ∙ all.empty ended;
         later = added s bytes piece;
         parts = refl;
       };
 }
 
 -- for want of memory the piece hasn't come
-pub all-passed : {S P : Type 0} (r : Reader S P Reason) → IsSteady r → (start : Position S) (old new : Kept S) (bytes : List ℕ) (given : List (ℕ × P)) (over : Bool) →
+pub all-passed : {S P : Type 0} (r : Reader S P Reason) → IsSteady r → (start : Position S) (old new : StreamView S) (bytes : List ℕ) (given : List (ℕ × P)) (over : Bool) →
     HasAll r start old bytes given over → new ≡ passed old → HasAll r start new bytes given over
-all-passed {S = S} {P = P} r steady start old new bytes given over all is = subst (λ (k : Kept S). HasAll r start k bytes given over) (sym is) (record {
+all-passed {S = S} {P = P} r steady start old new bytes given over all is = subst (λ (k : StreamView S). HasAll r start k bytes given over) (sym is) (record {
   over_is = all.over_is;
   none = λ ended. all.empty ended;
   empty = all.empty;
@@ -92,18 +92,18 @@ all-passed {S = S} {P = P} r steady start old new bytes given over all is = subs
 
 -- ---- the next item
 
-answered-to : {S P : Type 0} (r : Reader S P Reason) (takes : P → Bool) (start : Position S) (kept new : Kept S) (bytes : List ℕ) (given : List (ℕ × P)) (result answer : Result (Option (ℕ × P)) ReadError) →
+answered-to : {S P : Type 0} (r : Reader S P Reason) (takes : P → Bool) (start : Position S) (kept new : StreamView S) (bytes : List ℕ) (given : List (ℕ × P)) (result answer : Result (Option (ℕ × P)) ReadError) →
     Nexts r takes result kept new → result ≡ answer → Follows r start kept bytes given → Answered r takes start answer new bytes given
 answered-to {P = P} r takes start kept new bytes given result answer next is f =
     subst (λ (x : Result (Option (ℕ × P)) ReadError). Answered r takes start x new bytes given) is (next start bytes given f)
 
 -- an item was taken that came at this place
-pub record TakenAt {S P I : Type 0} (s : SideStream S P Reason I) (new : Kept S) (bytes piece : List ℕ) (given : List (ℕ × P)) (taken : List I) (place : ℕ) (item : ℕ → I) : Type 0 where
+pub record TakenAt {S P I : Type 0} (s : SideStream S P Reason I) (new : StreamView S) (bytes piece : List ℕ) (given : List (ℕ × P)) (taken : List I) (place : ℕ) (item : ℕ → I) : Type 0 where
   pub at : ℕ
   pub place-is : place ≡ capped at
   pub stream : Taken s new bytes piece given (taken ++ item at ∷ [])
 
-pub taken-packet : {S P I : Type 0} (s : SideStream S P Reason I) (takes : P → Bool) (old new : Kept S) (bytes piece : List ℕ) (given : List (ℕ × P)) (taken : List I) (i : ℕ × P) →
+pub taken-packet : {S P I : Type 0} (s : SideStream S P Reason I) (takes : P → Bool) (old new : StreamView S) (bytes piece : List ℕ) (given : List (ℕ × P)) (taken : List I) (i : ℕ × P) →
     Taken s old bytes piece given taken → Changes (Ok (Some i)) old new → Nexts s.reader takes (Ok (Some i)) old new → TakenAt s new bytes piece given taken i.0 (λ at. s.packet at i.1)
 taken-packet {S = S} {P = P} {I = I} s takes old new bytes piece given taken i t changes nexts =
     let g = t.going changes.1 in
@@ -123,7 +123,7 @@ taken-packet {S = S} {P = P} {I = I} s takes old new bytes piece given taken i t
       };
     }
 
-pub taken-wrong : {S P I : Type 0} (s : SideStream S P Reason I) (takes : P → Bool) (old new : Kept S) (bytes piece : List ℕ) (given : List (ℕ × P)) (taken : List I) (place : ℕ) (why : Reason) →
+pub taken-wrong : {S P I : Type 0} (s : SideStream S P Reason I) (takes : P → Bool) (old new : StreamView S) (bytes piece : List ℕ) (given : List (ℕ × P)) (taken : List I) (place : ℕ) (why : Reason) →
     Taken s old bytes piece given taken → Changes {P = P} (Err (Refused place why)) old new → Nexts s.reader takes (Err (Refused place why)) old new → TakenAt s new bytes piece given taken place (λ at. s.wrong at why)
 taken-wrong {S = S} {P = P} {I = I} s takes old new bytes piece given taken place why t changes nexts =
     let g = t.going changes.0 in
@@ -139,10 +139,10 @@ taken-wrong {S = S} {P = P} {I = I} s takes old new bytes piece given taken plac
       at = w.at;
       place-is = w.place-is;
       stream = record {
-        going = λ runs. absurd (true≢false (sym (ap (λ (k : Kept S). k.over) changes.1) ∙ runs));
+        going = λ runs. absurd (true≢false (sym (ap (λ (k : StreamView S). k.over) changes.1) ∙ runs));
         cut = λ ends. record {
-          none = ap (λ (k : Kept S). k.held) changes.1;
-          empty = ap (λ (k : Kept S). k.rest) changes.1;
+          none = ap (λ (k : StreamView S). k.held) changes.1;
+          empty = ap (λ (k : StreamView S). k.rest) changes.1;
           later = [];
           parts = parts ∙ sym (append-nil (taken ++ item));
         };
@@ -150,7 +150,7 @@ taken-wrong {S = S} {P = P} {I = I} s takes old new bytes piece given taken plac
     }
 
 -- a side is over with what was taken: the rest is left out
-cut-going : {S P I : Type 0} (s : SideStream S P Reason I) (kept : Kept S) (bytes piece : List ℕ) (given : List (ℕ × P)) (taken : List I) → Going s kept bytes piece given taken →
+cut-going : {S P I : Type 0} (s : SideStream S P Reason I) (kept : StreamView S) (bytes piece : List ℕ) (given : List (ℕ × P)) (taken : List I) → Going s kept bytes piece given taken →
     Cut s (ended kept) bytes piece taken
 cut-going {S = S} {P = P} {I = I} s kept bytes piece given taken g =
     let front = follows-front s.reader s.start kept (bytes ++ piece) (given ++ g.more) g.follows in
@@ -164,12 +164,12 @@ cut-going {S = S} {P = P} {I = I} s kept bytes piece given taken g =
           ∙ ap (λ (l : List I). l ++ later) (sym g.are);
     }
 
-cut-by : {S P I : Type 0} (s : SideStream S P Reason I) (kept : Kept S) (bytes piece : List ℕ) (given : List (ℕ × P)) (taken : List I) → Taken s kept bytes piece given taken →
+cut-by : {S P I : Type 0} (s : SideStream S P Reason I) (kept : StreamView S) (bytes piece : List ℕ) (given : List (ℕ × P)) (taken : List I) → Taken s kept bytes piece given taken →
     (over : Bool) → kept.over ≡ over → Cut s (ended kept) bytes piece taken
 cut-by s kept bytes piece given taken t false going = cut-going s kept bytes piece given taken (t.going going)
 cut-by s kept bytes piece given taken t true ended = let cut = t.cut ended in record { none = refl; empty = refl; later = cut.later; parts = cut.parts }
 
-pub taken-ended : {S P I : Type 0} (s : SideStream S P Reason I) (kept : Kept S) (bytes piece : List ℕ) (given : List (ℕ × P)) (taken : List I) → Taken s kept bytes piece given taken →
+pub taken-ended : {S P I : Type 0} (s : SideStream S P Reason I) (kept : StreamView S) (bytes piece : List ℕ) (given : List (ℕ × P)) (taken : List I) → Taken s kept bytes piece given taken →
     (over : Bool) → Taken s (ended_if over kept) bytes piece given taken
 taken-ended s kept bytes piece given taken t false = t
 taken-ended s kept bytes piece given taken t true = record {
@@ -179,17 +179,17 @@ taken-ended s kept bytes piece given taken t true = record {
 
 -- ---- nothing more is there
 
-pub record Drained-of {S P I : Type 0} (s : SideStream S P Reason I) (new : Kept S) (bytes piece : List ℕ) (given : List (ℕ × P)) (taken : List I) : Type 0 where
+pub record Drained-of {S P I : Type 0} (s : SideStream S P Reason I) (new : StreamView S) (bytes piece : List ℕ) (given : List (ℕ × P)) (taken : List I) : Type 0 where
   pub more : List (ℕ × P)
   pub are : taken ≡ packets s more
   pub parts : added s bytes piece ≡ taken
   pub all : HasAll s.reader s.start new (bytes ++ piece) (given ++ more) false
 
-pub taken-all : {S P I : Type 0} (s : SideStream S P Reason I) (takes : P → Bool) (old new : Kept S) (bytes piece : List ℕ) (given : List (ℕ × P)) (taken : List I) →
+pub taken-all : {S P I : Type 0} (s : SideStream S P Reason I) (takes : P → Bool) (old new : StreamView S) (bytes piece : List ℕ) (given : List (ℕ × P)) (taken : List I) →
     Taken s old bytes piece given taken → Changes {P = P} (Ok None) old new → Nexts s.reader takes (Ok None) old new → old.over ≡ false → Drained-of s new bytes piece given taken
 taken-all {S = S} {P = P} {I = I} s takes old new bytes piece given taken t changes nexts runs =
     let g = t.going runs in
-    let over : new.over ≡ false = ap (λ (k : Kept S). k.over) changes ∙ runs in
+    let over : new.over ≡ false = ap (λ (k : StreamView S). k.over) changes ∙ runs in
     let d : Drained new (split s.reader s.start (bytes ++ piece)) (given ++ g.more) = nexts s.start (bytes ++ piece) (given ++ g.more) g.follows over in
     let more : (split s.reader s.start (bytes ++ piece)).packets ≡ (split s.reader s.start bytes).packets ++ g.more =
     d.packets ∙ ap (λ (l : List (ℕ × P)). l ++ g.more) (sym g.before.packets) in
@@ -205,16 +205,16 @@ taken-all {S = S} {P = P} {I = I} s takes old new bytes piece given taken t chan
         none = λ ends. absurd (true≢false (sym ends));
         empty = λ ends. absurd (true≢false (sym ends));
         drained = λ _. d;
-        whole = λ _. ap (λ (k : Kept S). k.held) changes ∙ sym (ap (λ (k : Kept S). k.rest) changes);
-        place = λ _. ap (λ (k : Kept S). k.at) changes ∙ sym (ap (λ (k : Kept S). k.place) changes);
+        whole = λ _. ap (λ (k : StreamView S). k.held) changes ∙ sym (ap (λ (k : StreamView S). k.rest) changes);
+        place = λ _. ap (λ (k : StreamView S). k.at) changes ∙ sym (ap (λ (k : StreamView S). k.place) changes);
         fits = g.follows.fits;
       };
     }
 
-pub cut-passed : {S P I : Type 0} (s : SideStream S P Reason I) (old new : Kept S) (bytes piece : List ℕ) (taken : List I) → new ≡ passed old → Cut s old bytes piece taken → Cut s new bytes piece taken
+pub cut-passed : {S P I : Type 0} (s : SideStream S P Reason I) (old new : StreamView S) (bytes piece : List ℕ) (taken : List I) → new ≡ passed old → Cut s old bytes piece taken → Cut s new bytes piece taken
 cut-passed {S = S} s old new bytes piece taken is cut = record {
-  none = ap (λ (k : Kept S). k.held) is ∙ cut.empty;
-  empty = ap (λ (k : Kept S). k.rest) is ∙ cut.empty;
+  none = ap (λ (k : StreamView S). k.held) is ∙ cut.empty;
+  empty = ap (λ (k : StreamView S). k.rest) is ∙ cut.empty;
   later = cut.later;
   parts = cut.parts;
 }
@@ -235,7 +235,7 @@ record Ahead {S P I : Type 0} (s : SideStream S P Reason I) (takes : P → Bool)
   pub packets : (split s.reader s.start stream).packets ≡ given ++ next ∷ left
   pub is : IsNextBy s takes answer (s.packet next.0 next.1)
 
-pub record Stuck {S P I : Type 0} (s : SideStream S P Reason I) (takes : P → Bool) (answer : Result (Option (ℕ × P)) ReadError) (new : Kept S) (bytes piece : List ℕ) (given : List (ℕ × P)) (taken : List I) : Type 0 where
+pub record Stuck {S P I : Type 0} (s : SideStream S P Reason I) (takes : P → Bool) (answer : Result (Option (ℕ × P)) ReadError) (new : StreamView S) (bytes piece : List ℕ) (given : List (ℕ × P)) (taken : List I) : Type 0 where
   pub more : List (ℕ × P)
   pub are : taken ≡ packets s more
   -- the first of those that are left
@@ -252,7 +252,7 @@ IsMore (Ok None) = ⊥
 IsMore (Ok (Some i)) = Unit {0}
 IsMore (Err e) = Unit {0}
 
-held-stuck : {S P I : Type 0} (s : SideStream S P Reason I) (takes : P → Bool) (answer : Result (Option (ℕ × P)) ReadError) (old new : Kept S) (bytes piece : List ℕ) (given : List (ℕ × P)) (taken : List I) →
+held-stuck : {S P I : Type 0} (s : SideStream S P Reason I) (takes : P → Bool) (answer : Result (Option (ℕ × P)) ReadError) (old new : StreamView S) (bytes piece : List ℕ) (given : List (ℕ × P)) (taken : List I) →
     Taken s old bytes piece given taken → old.over ≡ false → new.over ≡ false → new.held ≡ old.rest → new.at ≡ old.place →
     ((all : List (ℕ × P)) → Follows s.reader s.start old (bytes ++ piece) all → Ahead s takes answer (bytes ++ piece) all) → Stuck s takes answer new bytes piece given taken
 held-stuck {S = S} {P = P} {I = I} s takes answer old new bytes piece given taken t was over held at ahead =
@@ -275,7 +275,7 @@ held-stuck {S = S} {P = P} {I = I} s takes answer old new bytes piece given take
       none = λ ends. absurd (true≢false (sym ends ∙ over));
     }
 
-pub taken-stuck : {S P I : Type 0} (s : SideStream S P Reason I) (takes : P → Bool) (old new : Kept S) (bytes piece : List ℕ) (given : List (ℕ × P)) (taken : List I) (answer : Result (Option (ℕ × P)) ReadError) → IsMore answer →
+pub taken-stuck : {S P I : Type 0} (s : SideStream S P Reason I) (takes : P → Bool) (old new : StreamView S) (bytes piece : List ℕ) (given : List (ℕ × P)) (taken : List I) (answer : Result (Option (ℕ × P)) ReadError) → IsMore answer →
     Taken s old bytes piece given taken → Changes answer old new → Nexts s.reader takes answer old new → Stuck s takes answer new bytes piece given taken
 taken-stuck s takes old new bytes piece given taken (Ok None) more t changes nexts = absurd more
 taken-stuck {P = P} s takes old new bytes piece given taken (Ok (Some i)) more t changes nexts =
@@ -286,7 +286,7 @@ taken-stuck {P = P} s takes old new bytes piece given taken (Ok (Some i)) more t
     let front = follows-front s.reader s.start new (bytes ++ piece) (all ++ one) n.follows in
     record { next = (n.at, i.1); left = front.0; packets = front.1 ∙ append_assoc all one front.0; is = (n.at, n.place-is, refl) })
 taken-stuck {S = S} s takes old new bytes piece given taken (Err (Memory memory)) more t changes nexts =
-    held-stuck s takes (Err (Memory memory)) old new bytes piece given taken t changes.0 (ap (λ (k : Kept S). k.over) changes.1 ∙ changes.0) (ap (λ (k : Kept S). k.held) changes.1) (ap (λ (k : Kept S). k.at) changes.1)
+    held-stuck s takes (Err (Memory memory)) old new bytes piece given taken t changes.0 (ap (λ (k : StreamView S). k.over) changes.1 ∙ changes.0) (ap (λ (k : StreamView S). k.held) changes.1) (ap (λ (k : StreamView S). k.at) changes.1)
     (λ all follows.
     let w = nexts s.start (bytes ++ piece) all follows in
     record { next = w.next; left = w.left; packets = w.packets; is = (w.next, refl, w.takes-some) })
@@ -295,7 +295,7 @@ taken-stuck {S = S} {P = P} {I = I} s takes old new bytes piece given taken (Err
     let w = nexts s.start (bytes ++ piece) (given ++ g.more) g.follows in
     let x = split s.reader s.start (bytes ++ piece) in
     let closed : Closed x (given ++ g.more) = record { packets = w.packets; at = (w.at, why); wrong = w.wrong } in
-    let over : new.over ≡ true = ap (λ (k : Kept S). k.over) changes.1 in
+    let over : new.over ≡ true = ap (λ (k : StreamView S). k.over) changes.1 in
     let item : I = s.wrong w.at why in
     let all : x.packets ≡ (split s.reader s.start bytes).packets ++ g.more = w.packets ∙ ap (λ (l : List (ℕ × P)). l ++ g.more) (sym g.before.packets) in
     record {
@@ -308,5 +308,5 @@ taken-stuck {S = S} {P = P} {I = I} s takes old new bytes piece given taken (Err
           ∙ ap (λ (l : List I). l ++ item ∷ []) (sym g.are);
       next-is = (w.at, w.place-is, refl);
       left = subst (IsLeftBy s.reader new x (given ++ g.more)) (sym over) closed;
-      none = λ _. ap (λ (k : Kept S). k.held) changes.1;
+      none = λ _. ap (λ (k : StreamView S). k.held) changes.1;
     }

@@ -15,7 +15,7 @@ use Rattle.gate_history.specs.state.Calls.{called, last_or}
 use Rattle.gate_history.specs.write.Packets.{stop_of, stops}
 use Rattle.gate_history.specs.write.Bytes.{host_packet_bytes}
 use Rattle.gate_parts.specs.write.Extends.{Extends}
-use Rattle.gate_core.specs.inner.Holds.{Leaves}
+use Rattle.gate_core.specs.inner.Holds.{StopsShort}
 use Rattle.gate_core.specs.inner.Calls.{flying_in, ids_after, with_ids, after_stops, bytes_of}
 use Rattle.gate_history.proofs.lemmas.Lists.{Each}
 use Rattle.gate_history.proofs.lemmas.state.Calls.{IsSilent, draws-append, zip-append, last-append, last_or-append, called-append, called-silent}
@@ -70,7 +70,7 @@ on-err (Err e) P h = h
 
 -- ---- want of memory as the first bytes of an item are written
 
-pub leaves-client : (old new : Kept) (out : Outputs) (client_new : List ℕ) → new ≡ old → Extends out.to_client client_new → Leaves old new out (record out { to_client = client_new })
+pub leaves-client : (old new : Kept) (out : Outputs) (client_new : List ℕ) → new ≡ old → Extends out.to_client client_new → StopsShort old new out (record out { to_client = client_new })
 leaves-client old new out client_new same written = record {
   same = same;
   client = written;
@@ -78,7 +78,7 @@ leaves-client old new out client_new same written = record {
   notes = record { more = []; is = sym (append-nil out.notes) };
 }
 
-pub leaves-host : (old new : Kept) (out : Outputs) (host_new : List ℕ) → new ≡ old → Extends out.to_host host_new → Leaves old new out (record out { to_host = host_new })
+pub leaves-host : (old new : Kept) (out : Outputs) (host_new : List ℕ) → new ≡ old → Extends out.to_host host_new → StopsShort old new out (record out { to_host = host_new })
 leaves-host old new out host_new same written = record {
   same = same;
   client = record { more = []; is = sym (append-nil out.to_client) };

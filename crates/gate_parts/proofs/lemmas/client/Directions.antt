@@ -15,7 +15,7 @@ use Rattle.usbip_urb.specs.Buffers.{laid}
 use Rattle.usbip_urb.specs.declared.code.TheConstants.{MAX_LIVE}
 use Rattle.control_route.specs.declared.route.Route.{Route}
 use Rattle.control_route.specs.declared.route.Route.TheVariants as route
-use Rattle.control_route.specs.Routes.{Row, has_no_data, is_byte, by_row, is_for, rows, route_of}
+use Rattle.control_route.specs.Routes.{RouteRow, has_no_data, is_byte, by_row, is_for, rows, route_of}
 use Rattle.gate_history.specs.write.Errno.{enoent, ebusy, einval, emsgsize, eshutdown}
 use Rattle.gate_history.specs.client.Requests.{Request, address, is_in_setup}
 use Rattle.gate_history.specs.client.Verdict.{InterruptOut, Verdict, Now, Wire, Routed, IsoOut, Stream, max_narrow, none_of, bool_eq, is_invalid, is_control, is_iso, is_narrow, by_route, by_setup, by_kind, by_endpoint, by_transfer, verdict, goes_by_id}
@@ -40,7 +40,7 @@ both-left true b e = refl
 both-left false b e = e
 
 -- the row that it has says so
-reads-among : (s : Setup) (rs : List Row) → Each (λ row. is_for s row ≡ true → route_gets (by_row s (Some row)) ≡ true → is_in_setup s ≡ true) rs →
+reads-among : (s : Setup) (rs : List RouteRow) → Each (λ row. is_for s row ≡ true → route_gets (by_row s (Some row)) ≡ true → is_in_setup s ≡ true) rs →
     route_gets (by_row s (find (is_for s) rs)) ≡ true → is_in_setup s ≡ true
 reads-among s [] h k = absurd (false≢true k)
 reads-among s (row ∷ rs) h k = go (is_for s row) refl (λ g. reads-among s rs h.1 g) k

@@ -7,7 +7,7 @@ use Rattle.usb_base.specs.declared.reason.Reason.{Reason}
 use Rattle.usb_base.proofs.Numbers.{AreBytes-append}
 use Rattle.packet_stream.specs.Loops.{TakesPackets}
 use Rattle.packet_stream.specs.Split.{Splitting, further_by}
-use Rattle.packet_stream.specs.Streams.{Kept as Stream, after_piece, Drained, Puts, capped}
+use Rattle.packet_stream.specs.Streams.{StreamView as Stream, after_piece, Drained, Puts, capped}
 use Rattle.packet_stream.specs.declared.read.ReadError.{ReadError}
 use Rattle.usb_base.specs.declared.memory.Memory.{Memory as NoMemory}
 use Rattle.packet_stream.specs.declared.read.ReadError.TheVariants.{Refused as IsRefused, Memory}

@@ -9,7 +9,7 @@ use Rattle.usb_base.proofs.Numbers.{AreBytes-append}
 use Rattle.packet_stream.specs.Items.{SideStream}
 use Rattle.packet_stream.specs.Loops.{Goes}
 use Rattle.packet_stream.specs.Split.{Position, past, Spells}
-use Rattle.packet_stream.specs.Streams.{Kept as Stream, after_piece, Follows, Drained, Gives, Answered, Nexts, Puts, Wants as StreamWants, capped}
+use Rattle.packet_stream.specs.Streams.{StreamView as Stream, after_piece, Follows, Drained, Gives, Answered, Nexts, Puts, Wants as StreamWants, capped}
 use Rattle.usb_base.specs.declared.memory.Memory.{Memory as NoMemory}
 use Rattle.packet_stream.specs.declared.read.ReadError.{ReadError}
 use Rattle.packet_stream.specs.declared.read.ReadError.TheVariants.{Refused as IsRefused, Memory}

@@ -6,7 +6,7 @@ use Rattle.std.proofs.lemmas.List.{append-nil}
 use Rattle.usb_base.specs.declared.reason.Reason.{Reason}
 use Rattle.packet_stream.specs.Format.{Found, Short, Whole}
 use Rattle.packet_stream.specs.Split.{Splitting}
-use Rattle.packet_stream.specs.Streams.{Kept as Stream, capped}
+use Rattle.packet_stream.specs.Streams.{StreamView as Stream, capped}
 use Rattle.packet_stream.proofs.Laws.{reads_steady, split-is}
 use Rattle.redir_wire.specs.declared.packet.Header.{Header}
 use Rattle.redir_wire.specs.declared.packet.Way.TheVariants.{ToHost}

@@ -9,7 +9,7 @@ use Rattle.usbgate_tapes.specs.model.Made.{made, loaded}
 use Rattle.usbgate_tapes.specs.Prescribed.{Prescribed, over_tape, printed, usage}
 use Rattle.usbgate.specs.Prescribed.{prescribed}
 use Rattle.usbgate_commands.specs.Recording.{records}
-use Rattle.usbgate_tapes.specs.Run.{Leaves}
+use Rattle.usbgate_tapes.specs.Run.{RunLeaves}
 use Rattle.usbgate_tapes.specs.Logs.{LeavesByLog}
 use Rattle.usbgate_commands.proofs.Served.{unserved, unlent, links-stand, link-fault-of, link-stands}
 use Rattle.usbgate_tapes.proofs.lemmas.model.Simulated.{unsimulated, unsimulated_log}
@@ -36,13 +36,13 @@ returns-in_default-clause-simulates g c = λ device is. unsimulated device (g.S.
 pub returns-in-Replay-clause-leaves : goal.returns-in-Replay-clause-leaves
 returns-in-Replay-clause-leaves g c = λ p is.
     let command = over_tape (over_events (replay c.in-Replay.first_id)) in
-    subst (λ (q : Prescribed). Leaves c.replay.result q (g.S.Source.remaining c.args.tape.now) (g.S.Source.remaining c.replay.new.tape) (g.K.Sink.contents c.args.out.now) (g.K.Sink.contents c.replay.new.out))
+    subst (λ (q : Prescribed). RunLeaves c.replay.result q (g.S.Source.remaining c.args.tape.now) (g.S.Source.remaining c.replay.new.tape) (g.K.Sink.contents c.args.out.now) (g.K.Sink.contents c.replay.new.out))
     (same_Some command p (ap prescribed (sym c.in-Replay.is ∙ c.in-Ok.ensures.value) ∙ is)) c.replay.ensures.leaves
 
 pub returns-in-Model-clause-leaves : goal.returns-in-Model-clause-leaves
 returns-in-Model-clause-leaves g c = λ p is.
     let command = over_tape (model_of c.in-Model.device) in
-    subst (λ (q : Prescribed). Leaves c.model.result q (g.S.Source.remaining c.args.tape.now) (g.S.Source.remaining c.model.new.tape) (g.K.Sink.contents c.args.out.now) (g.K.Sink.contents c.model.new.out))
+    subst (λ (q : Prescribed). RunLeaves c.model.result q (g.S.Source.remaining c.args.tape.now) (g.S.Source.remaining c.model.new.tape) (g.K.Sink.contents c.args.out.now) (g.K.Sink.contents c.model.new.out))
     (same_Some command p (ap prescribed (sym c.in-Model.is ∙ c.in-Ok.ensures.value) ∙ is)) c.model.ensures.leaves
 
 pub returns-in-Model-clause-simulates : goal.returns-in-Model-clause-simulates
@@ -73,12 +73,12 @@ returns-in-Unknown-clause-writes_stand g c = (c.print_usage.ensures.causes 0).wr
 
 pub returns-in-Make-clause-leaves : goal.returns-in-Make-clause-leaves
 returns-in-Make-clause-leaves g c = λ p is.
-    subst (λ (q : Prescribed). Leaves c.make.result q (g.S.Source.remaining c.args.tape.now) (g.S.Source.remaining c.args.tape.now) (g.K.Sink.contents c.args.out.now) (g.K.Sink.contents c.make.new.out))
+    subst (λ (q : Prescribed). RunLeaves c.make.result q (g.S.Source.remaining c.args.tape.now) (g.S.Source.remaining c.args.tape.now) (g.K.Sink.contents c.args.out.now) (g.K.Sink.contents c.make.new.out))
     (same_Some (printed (made c.in-Make.count)) p (ap prescribed (sym c.in-Make.is ∙ c.in-Ok.ensures.value) ∙ is)) (c.make.ensures.leaves (g.S.Source.remaining c.args.tape.now))
 
 pub returns-in-Load-clause-leaves : goal.returns-in-Load-clause-leaves
 returns-in-Load-clause-leaves g c = λ p is.
-    subst (λ (q : Prescribed). Leaves c.load.result q (g.S.Source.remaining c.args.tape.now) (g.S.Source.remaining c.args.tape.now) (g.K.Sink.contents c.args.out.now) (g.K.Sink.contents c.load.new.out))
+    subst (λ (q : Prescribed). RunLeaves c.load.result q (g.S.Source.remaining c.args.tape.now) (g.S.Source.remaining c.args.tape.now) (g.K.Sink.contents c.args.out.now) (g.K.Sink.contents c.load.new.out))
     (same_Some (printed (loaded c.in-Load.count)) p (ap prescribed (sym c.in-Load.is ∙ c.in-Ok.ensures.value) ∙ is)) (c.load.ensures.leaves (g.S.Source.remaining c.args.tape.now))
 
 pub returns-in-Make-clause-writes_stand : goal.returns-in-Make-clause-writes_stand

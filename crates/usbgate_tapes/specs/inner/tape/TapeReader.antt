@@ -10,7 +10,7 @@ use Rattle.usbgate_tapes.specs.tape.Tape.{lines_of, content}
 use Rattle.usbgate_tapes.specs.Text.{bad_line}
 use Rattle.usbgate_tapes.specs.tape.TapeCommand.{TapeCommand, tape_limit, Progress, begin, next_line, Reading, read_lines, read_tape, tape_text, tape_status}
 use Rattle.usbgate_tapes.specs.Prescribed.{over_tape}
-use Rattle.usbgate_tapes.specs.Run.{EndsALine, HasNoLF, Leaves, ComesToEnd}
+use Rattle.usbgate_tapes.specs.Run.{EndsALine, HasNoLF, RunLeaves, ComesToEnd}
 use Rattle.usbgate_tapes.specs.Logs.{LeavesByLog, HoldsOfRead}
 use Rattle.usbgate_tapes.specs.Wants.{IsJoined}
 
@@ -145,7 +145,7 @@ ReadsToByLog read_gives status Keeps command old new = ComesToEnd status (HoldsO
 -- what a run leaves, and to what it has read
 pub record Runs {C T S K : Type 0} (command : TapeCommand T) (Keeps : C → T → Type 0) (read_gives : S → List ℕ → Result ℕ Failed → S → Type 0) (write_gives : K → List ℕ → Result ℕ Failed → K → Type 0) (remaining : S → Option (List ℕ)) (contents : K → Option (List ℕ))
     (status : Status) (tape_old tape_new : S) (out_old out_new : K) : Type 0 where
-  pub leaves : Leaves status (over_tape command) (remaining tape_old) (remaining tape_new) (contents out_old) (contents out_new)
+  pub leaves : RunLeaves status (over_tape command) (remaining tape_old) (remaining tape_new) (contents out_old) (contents out_new)
   pub leaves_log : LeavesByLog read_gives write_gives status (over_tape command) tape_old tape_new out_old out_new
   pub kept : ReadsTo status Keeps command (remaining tape_old)
   pub kept_log : ReadsToByLog read_gives status Keeps command tape_old tape_new

@@ -1,7 +1,7 @@
 use Rattle.std.proofs.Common.{◌≡◌, ◌-◌, true, ◌∷◌, refl, length, take, sym, ◌∙◌, ap, subst, arith}
 use Rattle.gate_outside.specs.declared.turn.Polled.TheVariants.{Took, NotYet, Ended}
 use Rattle.gate_outside.specs.Link.{Link}
-use Rattle.bridge_run.specs.Events.{Event}
+use Rattle.bridge_run.specs.Events.{LinkEvent}
 use Rattle.bridge_run.specs.Course.{Setting, Takes}
 use Rattle.bridge_run.specs.Calls.{Goes, piece, end_of, down, quiet}
 use Rattle.bridge_run.specs.Calls.{turned as passed}
@@ -10,7 +10,7 @@ use Rattle.bridge_run.specs.inner.Follows.{Runs, setting, polls, behind}
 use Rattle.bridge_run.proofs.lemmas.calls.Course.{reaches-none, reaches-call, runs-then}
 use Rattle.bridge_run.proofs.lemmas.calls.Answers.{OneMoved, poll-call, passed-follows, took-follows, ended-follows, failed-cut, up-is, setting-down, moved-no_fault}
 use Rattle.bridge_run.proofs.lemmas.events.Rest.{faults-then, wears-then, end-wears}
-use Rattle.bridge_run.specs.declared.kept.Kept.{Kept}
+use Rattle.bridge_run.specs.declared.rounds.Rounds.{Rounds}
 use Rattle.bridge_run.specs.inner.Logging.{IsTaking}
 use Rattle.bridge_run.specs.Asks.{OfSide}
 use Rattle.bridge_run.specs.Log.{Told}
@@ -39,7 +39,7 @@ returns-in-Took-clause-course g c = λ first begun k f.
     let f2 = took-follows stands p kept c.take.new.self (outside links' door') out (passed side k) n f1 c.take.ensures in
     let d = record (passed side k) { busy = true; left = (passed side k).left - n } in
     let next = Takes (piece side (take n buf)) (behind side) in
-    let run = subst (λ (e : Event). Runs c.happen.result (g.C.Served.stands first c.happen.new.self.core) (g.C.Served.runs_out first) (setting p c.take.new.self) c.happen.new.self.kept (outside (g.D.Doors.link c.happen.new.doors) (g.D.Doors.door c.happen.new.doors)) (gathering begun (g.K.Sink.contents c.happen.new.out) (g.T.Tape.contents c.happen.new.tape) c.happen.new.self.waiting) (Goes (Takes e (behind side)) d) (behind side))
+    let run = subst (λ (e : LinkEvent). Runs c.happen.result (g.C.Served.stands first c.happen.new.self.core) (g.C.Served.runs_out first) (setting p c.take.new.self) c.happen.new.self.kept (outside (g.D.Doors.link c.happen.new.doors) (g.D.Doors.door c.happen.new.doors)) (gathering begun (g.K.Sink.contents c.happen.new.out) (g.T.Tape.contents c.happen.new.tape) c.happen.new.self.waiting) (Goes (Takes e (behind side)) d) (behind side))
     c.piece.ensures (c.happen.ensures.course first begun (behind side) d f2) in
     runs-then c.happen.result (g.C.Served.stands first c.happen.new.self.core) (g.C.Served.runs_out first) s c.happen.new.self.kept (outside (g.D.Doors.link c.happen.new.doors) (g.D.Doors.door c.happen.new.doors)) (gathering begun (g.K.Sink.contents c.happen.new.out) (g.T.Tape.contents c.happen.new.tape) c.happen.new.self.waiting) from next d (behind side)
     (reaches-call s from (polls side) k (Goes next d) (reaches-none s from) (poll-call s side links door out k (Took n) buf f.tells up len c.in-Took.ensures.link.0))
@@ -88,7 +88,7 @@ returns-in-Ended-clause-course g c = λ first begun k f.
     let f2 = ended-follows side stands p kept c.end.new.self links links' door door' out k (length buf) f len moved (ap (λ (l : Link). l.up) c.in-Ended.ensures.link.1) (ap (λ (l : Link). l.turns) c.in-Ended.ensures.link.1) (ap (λ (l : Link). l.written) c.in-Ended.ensures.link.1) c.end.ensures in
     let d = record (down side (passed side k)) { busy = true } in
     let next = Takes (end_of side) (behind side) in
-    let run = subst (λ (e : Event). Runs c.happen-in-Ended.result (g.C.Served.stands first c.happen-in-Ended.new.self.core) (g.C.Served.runs_out first) (setting p c.end.new.self) c.happen-in-Ended.new.self.kept (outside (g.D.Doors.link c.happen-in-Ended.new.doors) (g.D.Doors.door c.happen-in-Ended.new.doors)) (gathering begun (g.K.Sink.contents c.happen-in-Ended.new.out) (g.T.Tape.contents c.happen-in-Ended.new.tape) c.happen-in-Ended.new.self.waiting) (Goes (Takes e (behind side)) d) (behind side))
+    let run = subst (λ (e : LinkEvent). Runs c.happen-in-Ended.result (g.C.Served.stands first c.happen-in-Ended.new.self.core) (g.C.Served.runs_out first) (setting p c.end.new.self) c.happen-in-Ended.new.self.kept (outside (g.D.Doors.link c.happen-in-Ended.new.doors) (g.D.Doors.door c.happen-in-Ended.new.doors)) (gathering begun (g.K.Sink.contents c.happen-in-Ended.new.out) (g.T.Tape.contents c.happen-in-Ended.new.tape) c.happen-in-Ended.new.self.waiting) (Goes (Takes e (behind side)) d) (behind side))
     c.end_of.ensures (c.happen-in-Ended.ensures.course first begun (behind side) d f2) in
     runs-then c.happen-in-Ended.result (g.C.Served.stands first c.happen-in-Ended.new.self.core) (g.C.Served.runs_out first) s c.happen-in-Ended.new.self.kept (outside (g.D.Doors.link c.happen-in-Ended.new.doors) (g.D.Doors.door c.happen-in-Ended.new.doors)) (gathering begun (g.K.Sink.contents c.happen-in-Ended.new.out) (g.T.Tape.contents c.happen-in-Ended.new.tape) c.happen-in-Ended.new.self.waiting) from next d (behind side)
     (reaches-call s from (polls side) k (Goes next d) (reaches-none s from) (poll-call s side links door out k Ended buf f.tells up len c.in-Ended.ensures.link.0))
@@ -150,10 +150,10 @@ returns-in-Took-clause-log g c = λ first terms begun begun_out taped a.
     let k = c.args.self.now.kept in
     let polled = Took c.in-Took.n in
     let asks = OfSide c.args.side polled ∷ a.asks in
-    let h = c.happen.ensures.log first terms asks begun begun_out taped (subst (λ (e : Event). IsTaking gives stands tells terms p asks e c.take.new.self begun c.poll.new.self) (sym c.piece.ensures)
+    let h = c.happen.ensures.log first terms asks begun begun_out taped (subst (λ (e : LinkEvent). IsTaking gives stands tells terms p asks e c.take.new.self begun c.poll.new.self) (sym c.piece.ensures)
     (took-taking gives stands tells terms p c.args.side c.in-Took.n c.poll.new.buf k c.take.new.self begun c.args.doors.now c.poll.new.self a (sym c.is_up.ensures ∙ c.if-not-is_up.false) c.in-Took.ensures.gives c.take.ensures)) in
     came-logs c.happen.result gives (g.C.Served.stands first c.happen.new.self.core) (g.C.Served.runs_out first) (Told g.K.Sink.write_gives begun_out c.happen.new.out) terms p c.args.side polled a.asks k c.take.new.self c.happen.new.self.kept begun c.happen.new.doors h refl a.patient
-    (ap (λ (q : Kept). q.busy) c.take.ensures) (ap (λ (q : Kept). q.idle) c.take.ensures) (ap (λ (q : Kept). q.waits) c.take.ensures) c.happen.ensures.wears
+    (ap (λ (q : Rounds). q.busy) c.take.ensures) (ap (λ (q : Rounds). q.idle) c.take.ensures) (ap (λ (q : Rounds). q.waits) c.take.ensures) c.happen.ensures.wears
 
 pub returns-in-NotYet-clause-log : goal.returns-in-NotYet-clause-log
 returns-in-NotYet-clause-log g c = λ first terms begun begun_out taped a.
@@ -173,10 +173,10 @@ returns-in-Ended-clause-log g c = λ first terms begun begun_out taped a.
     let tells = Told g.K.Sink.write_gives begun_out c.args.out.now in
     let k = c.args.self.now.kept in
     let asks = OfSide c.args.side Ended ∷ a.asks in
-    let h = c.happen-in-Ended.ensures.log first terms asks begun begun_out taped (subst (λ (e : Event). IsTaking gives stands tells terms p asks e c.end.new.self begun c.poll.new.self) (sym c.end_of.ensures)
+    let h = c.happen-in-Ended.ensures.log first terms asks begun begun_out taped (subst (λ (e : LinkEvent). IsTaking gives stands tells terms p asks e c.end.new.self begun c.poll.new.self) (sym c.end_of.ensures)
     (end-taking gives stands tells terms p c.args.side c.poll.new.buf k c.end.new.self begun c.args.doors.now c.poll.new.self a (sym c.is_up.ensures ∙ c.if-not-is_up.false) c.in-Ended.ensures.gives c.end.ensures)) in
     came-logs c.happen-in-Ended.result gives (g.C.Served.stands first c.happen-in-Ended.new.self.core) (g.C.Served.runs_out first) (Told g.K.Sink.write_gives begun_out c.happen-in-Ended.new.out) terms p c.args.side Ended a.asks k c.end.new.self c.happen-in-Ended.new.self.kept begun c.happen-in-Ended.new.doors h refl a.patient
-    (ap (λ (q : Kept). q.busy) c.end.ensures) (down-idle c.args.side k c.end.new.self c.end.ensures) (down-waits c.args.side k c.end.new.self c.end.ensures) c.happen-in-Ended.ensures.wears
+    (ap (λ (q : Rounds). q.busy) c.end.ensures) (down-idle c.args.side k c.end.new.self c.end.ensures) (down-waits c.args.side k c.end.new.self c.end.ensures) c.happen-in-Ended.ensures.wears
 
 pub returns-in-Failed-clause-log : goal.returns-in-Failed-clause-log
 returns-in-Failed-clause-log g c = λ first terms begun begun_out taped a.

@@ -2,7 +2,7 @@ use Rattle.std.proofs.Common.{Bool, true, ◌∷◌, Ok, sym, ◌∙◌, ap, sub
 use Rattle.gate_outside.specs.declared.fault.Failed.{Failed as Fault}
 use Rattle.gate_outside.specs.Doors.{Accepts}
 use Rattle.bridge_run.specs.Events.{ClientComes}
-use Rattle.bridge_run.specs.declared.kept.Kept.{Kept}
+use Rattle.bridge_run.specs.declared.rounds.Rounds.{Rounds}
 use Rattle.bridge_run.specs.Course.{Setting, AtDoor, AtClient, Takes}
 use Rattle.bridge_run.specs.Calls.{Goes, come, course_of}
 use Rattle.bridge_run.specs.Outside.{outside, gathering}
@@ -77,7 +77,7 @@ returns-in-Ok-true-clause-log g c = λ first terms begun begun_out taped a.
     let h = c.happen.ensures.log first terms (ForClient (Ok true) ∷ a.asks) begun begun_out taped
     (came-taking gives (g.C.Served.stands first c.args.self.now.core) (Told g.K.Sink.write_gives begun_out c.args.out.now) terms p k c.come.new.self begun c.args.doors.now c.accept.new.self a answered c.come.ensures) in
     client-logs c.happen.result gives (g.C.Served.stands first c.happen.new.self.core) (g.C.Served.runs_out first) (Told g.K.Sink.write_gives begun_out c.happen.new.out) terms p a.asks k c.come.new.self c.happen.new.self.kept begun c.happen.new.doors h a.patient
-    (ap (λ (q : Kept). q.busy) c.come.ensures) (ap (λ (q : Kept). q.idle) c.come.ensures) (ap (λ (q : Kept). q.waits) c.come.ensures) c.happen.ensures.wears
+    (ap (λ (q : Rounds). q.busy) c.come.ensures) (ap (λ (q : Rounds). q.idle) c.come.ensures) (ap (λ (q : Rounds). q.waits) c.come.ensures) c.happen.ensures.wears
 
 pub returns-in-Ok-false-clause-log : goal.returns-in-Ok-false-clause-log
 returns-in-Ok-false-clause-log g c = λ first terms begun begun_out taped a.

@@ -5,7 +5,7 @@ use Rattle.std.specs.Io.KnownBytes.{Appends}
 use Rattle.gate_outside.specs.Front.{AppendsFront}
 use Rattle.gate_outside.specs.Link.{Link}
 use Rattle.bridge_run.specs.Events.{event_of}
-use Rattle.bridge_run.specs.declared.kept.Kept.{Kept}
+use Rattle.bridge_run.specs.declared.rounds.Rounds.{Rounds}
 use Rattle.bridge_run.specs.Prescribed.{refuses}
 use Rattle.bridge_run.specs.Outside.{outside, Tells, gathering, faults}
 use Rattle.bridge_run.specs.declared.serve_end.ServeEnd.{ServeEnd}
@@ -25,7 +25,7 @@ use Rattle.bridge_run.proofs.session.Session.put.Goals as goal
 pub returns-in-Err-clause-course : goal.returns-in-Err-clause-course
 returns-in-Err-clause-course g c = λ first begun k f.
     c.stop.ensures.course first begun (g.K.Sink.contents c.args.out.now) k (c.in-Err.ensures.stops first k.events f.stands_for)
-    (record { client = ap (λ (q : Kept). q.client_up) c.prepare.ensures.kept ∙ f.client_up; host = ap (λ (q : Kept). q.host_up) c.prepare.ensures.kept ∙ f.host_up })
+    (record { client = ap (λ (q : Rounds). q.client_up) c.prepare.ensures.kept ∙ f.client_up; host = ap (λ (q : Rounds). q.host_up) c.prepare.ensures.kept ∙ f.host_up })
     (subst (λ (l : List ℕ). Tells (outside (g.D.Doors.link c.args.doors.now) (g.D.Doors.door c.args.doors.now)) (gathering begun (g.K.Sink.contents c.args.out.now) (g.T.Tape.contents c.args.tape.now) l) k) (sym c.prepare.ensures.waiting) f.tells)
 
 pub returns-in-Err-clause-log : goal.returns-in-Err-clause-log
@@ -45,9 +45,9 @@ returns-in_err-record_event-clause-course g c = λ first begun k f.
     let w = outside (g.D.Doors.link c.args.doors.now) (g.D.Doors.door c.args.doors.now) in
     let out = (gathering begun (g.K.Sink.contents c.args.out.now) (g.T.Tape.contents c.record_event.new.tape) c.record_event.new.waiting) in
     let prepared = c.in_default.ensures.prepared first k.events f.stands_for in
-    let up_client = ap (λ (k : Kept). k.client_up) c.prepare.ensures.kept ∙ f.client_up in
-    let up_host = ap (λ (k : Kept). k.host_up) c.prepare.ensures.kept ∙ f.host_up in
-    let left = ap (λ (k : Kept). k.left) c.prepare.ensures.kept ∙ f.left in
+    let up_client = ap (λ (k : Rounds). k.client_up) c.prepare.ensures.kept ∙ f.client_up in
+    let up_host = ap (λ (k : Rounds). k.host_up) c.prepare.ensures.kept ∙ f.host_up in
+    let left = ap (λ (k : Rounds). k.left) c.prepare.ensures.kept ∙ f.left in
     let due = due-of p k e c.prepare.new.self.sent c.prepare.new.self.lines c.prepare.new.self.kept c.is_due-due.result prepared up_client up_host left c.is_due-due.ensures in
     cut-puts _ c.from_residual.result (g.C.Served.stands first c.prepare.new.self.core) (g.C.Served.runs_out first) p e c.prepare.new.self.kept w out k c.from_residual.ensures.1
     (λ end. put-in_entry p k e c.prepare.new.self.sent c.prepare.new.self.lines c.is_due-due.result w (gathering begun (g.K.Sink.contents c.args.out.now) (g.T.Tape.contents c.args.tape.now) c.args.self.now.waiting) out c.prepare.new.self.waiting prepared f.tells f.tells.told due c.prepare.ensures.waiting c.in_err-record_event.ensures.err)
@@ -69,9 +69,9 @@ returns-in_err-write_link-clause-course g c = λ first begun k f.
     let sent = c.prepare.new.self.sent in
     let lines = c.prepare.new.self.lines in
     let prepared = c.in_default.ensures.prepared first k.events f.stands_for in
-    let up_client = ap (λ (k : Kept). k.client_up) c.prepare.ensures.kept ∙ f.client_up in
-    let up_host = ap (λ (k : Kept). k.host_up) c.prepare.ensures.kept ∙ f.host_up in
-    let left = ap (λ (k : Kept). k.left) c.prepare.ensures.kept ∙ f.left in
+    let up_client = ap (λ (k : Rounds). k.client_up) c.prepare.ensures.kept ∙ f.client_up in
+    let up_host = ap (λ (k : Rounds). k.host_up) c.prepare.ensures.kept ∙ f.host_up in
+    let left = ap (λ (k : Rounds). k.left) c.prepare.ensures.kept ∙ f.left in
     let due = due-of p k e c.prepare.new.self.sent c.prepare.new.self.lines c.prepare.new.self.kept c.is_due-due.result prepared up_client up_host left c.is_due-due.ensures in
     let recorded = recorded-by p k e sent c.is_due-due.result (gathering begun (g.K.Sink.contents c.args.out.now) (g.T.Tape.contents c.args.tape.now) c.args.self.now.waiting) (gathering begun (g.K.Sink.contents c.args.out.now) (g.T.Tape.contents c.record_event.new.tape) c.record_event.new.waiting) c.prepare.new.self.waiting c.prepare.ensures.waiting due c.in_ok-record_event.ensures.ok c.in_ok-record_event.ensures.waits in
     cut-puts _ c.from_residual-in_err-write_link.result (g.C.Served.stands first c.prepare.new.self.core) (g.C.Served.runs_out first) p e c.prepare.new.self.kept (outside (g.D.Doors.link c.write_link.new.doors) (g.D.Doors.door c.write_link.new.doors)) (gathering begun (g.K.Sink.contents c.args.out.now) (g.T.Tape.contents c.record_event.new.tape) c.record_event.new.waiting) k c.from_residual-in_err-write_link.ensures.1
@@ -86,9 +86,9 @@ returns-in_err-write_link-2-clause-course g c = λ first begun k f.
     let sent = c.prepare.new.self.sent in
     let lines = c.prepare.new.self.lines in
     let prepared = c.in_default.ensures.prepared first k.events f.stands_for in
-    let up_client = ap (λ (k : Kept). k.client_up) c.prepare.ensures.kept ∙ f.client_up in
-    let up_host = ap (λ (k : Kept). k.host_up) c.prepare.ensures.kept ∙ f.host_up in
-    let left = ap (λ (k : Kept). k.left) c.prepare.ensures.kept ∙ f.left in
+    let up_client = ap (λ (k : Rounds). k.client_up) c.prepare.ensures.kept ∙ f.client_up in
+    let up_host = ap (λ (k : Rounds). k.host_up) c.prepare.ensures.kept ∙ f.host_up in
+    let left = ap (λ (k : Rounds). k.left) c.prepare.ensures.kept ∙ f.left in
     let due = due-of p k e c.prepare.new.self.sent c.prepare.new.self.lines c.prepare.new.self.kept c.is_due-due.result prepared up_client up_host left c.is_due-due.ensures in
     let recorded = recorded-by p k e sent c.is_due-due.result (gathering begun (g.K.Sink.contents c.args.out.now) (g.T.Tape.contents c.args.tape.now) c.args.self.now.waiting) (gathering begun (g.K.Sink.contents c.args.out.now) (g.T.Tape.contents c.record_event.new.tape) c.record_event.new.waiting) c.prepare.new.self.waiting c.prepare.ensures.waiting due c.in_ok-record_event.ensures.ok c.in_ok-record_event.ensures.waits in
     let wrote_client = c.in_ok-write_link.ensures.link ∙ ap (λ (b : List ℕ). wrote_if c.prepare.new.self.kept.client_up b (g.D.Doors.link c.args.doors.now Client)) c.as_slice.ensures in
@@ -106,9 +106,9 @@ returns-in-Err-write_all-clause-course g c = λ first begun k f.
     let sent = c.prepare.new.self.sent in
     let lines = c.prepare.new.self.lines in
     let prepared = c.in_default.ensures.prepared first k.events f.stands_for in
-    let up_client = ap (λ (k : Kept). k.client_up) c.prepare.ensures.kept ∙ f.client_up in
-    let up_host = ap (λ (k : Kept). k.host_up) c.prepare.ensures.kept ∙ f.host_up in
-    let left = ap (λ (k : Kept). k.left) c.prepare.ensures.kept ∙ f.left in
+    let up_client = ap (λ (k : Rounds). k.client_up) c.prepare.ensures.kept ∙ f.client_up in
+    let up_host = ap (λ (k : Rounds). k.host_up) c.prepare.ensures.kept ∙ f.host_up in
+    let left = ap (λ (k : Rounds). k.left) c.prepare.ensures.kept ∙ f.left in
     let due = due-of p k e c.prepare.new.self.sent c.prepare.new.self.lines c.prepare.new.self.kept c.is_due-due.result prepared up_client up_host left c.is_due-due.ensures in
     let recorded = recorded-by p k e sent c.is_due-due.result (gathering begun (g.K.Sink.contents c.args.out.now) (g.T.Tape.contents c.args.tape.now) c.args.self.now.waiting) (gathering begun (g.K.Sink.contents c.write_all.new.sink) (g.T.Tape.contents c.record_event.new.tape) c.record_event.new.waiting) c.prepare.new.self.waiting c.prepare.ensures.waiting due c.in_ok-record_event.ensures.ok c.in_ok-record_event.ensures.waits in
     let rc = refuses Client sent.refusals || sent.lets_go in
@@ -134,9 +134,9 @@ returns-in-Ok-clause-course g c = λ first begun k f.
     let sent = c.prepare.new.self.sent in
     let lines = c.prepare.new.self.lines in
     let prepared = c.in_default.ensures.prepared first k.events f.stands_for in
-    let up_client = ap (λ (k : Kept). k.client_up) c.prepare.ensures.kept ∙ f.client_up in
-    let up_host = ap (λ (k : Kept). k.host_up) c.prepare.ensures.kept ∙ f.host_up in
-    let left = ap (λ (k : Kept). k.left) c.prepare.ensures.kept ∙ f.left in
+    let up_client = ap (λ (k : Rounds). k.client_up) c.prepare.ensures.kept ∙ f.client_up in
+    let up_host = ap (λ (k : Rounds). k.host_up) c.prepare.ensures.kept ∙ f.host_up in
+    let left = ap (λ (k : Rounds). k.left) c.prepare.ensures.kept ∙ f.left in
     let due = due-of p k e c.prepare.new.self.sent c.prepare.new.self.lines c.prepare.new.self.kept c.is_due-due.result prepared up_client up_host left c.is_due-due.ensures in
     let recorded = recorded-by p k e sent c.is_due-due.result (gathering begun (g.K.Sink.contents c.args.out.now) (g.T.Tape.contents c.args.tape.now) c.args.self.now.waiting) (gathering begun (g.K.Sink.contents c.write_all.new.sink) (g.T.Tape.contents c.record_event.new.tape) c.record_event.new.waiting) c.prepare.new.self.waiting c.prepare.ensures.waiting due c.in_ok-record_event.ensures.ok c.in_ok-record_event.ensures.waits in
     let rc = refuses Client sent.refusals || sent.lets_go in
@@ -241,7 +241,7 @@ returns-in-Err-write_all-clause-log g c = λ first terms asks begun begun_out ta
     (record {
       stands_for = c.in_default.ensures.stands first t.events t.stands_for;
       told = told-front writes p t.events e sent lines c.as_slice-3.result.now begun_out c.args.out.now c.write_all.new.sink prepared c.as_slice-3.ensures t.told c.in-Err-write_all.ensures.writes_front;
-      left = ap (λ (k : Kept). k.left) kept ∙ t.left;
+      left = ap (λ (k : Rounds). k.left) kept ∙ t.left;
       client_up = client-kept p e t.events old c.refuse.new.self sent lines prepared kept t.client_up;
       host_up = host-kept terms p e t.events old c.refuse.new.self sent lines prepared kept t.host_up;
       refused = refused-kept p e t.events old c.refuse.new.self sent lines prepared kept t.refused;
@@ -275,7 +275,7 @@ returns-in-Ok-clause-log g c = λ first terms asks begun begun_out taped t.
     (record {
       stands_for = c.in_default.ensures.stands first t.events t.stands_for;
       told = told-event writes p t.events e sent lines c.as_slice-3.result.now begun_out c.args.out.now c.write_all.new.sink prepared c.as_slice-3.ensures t.told c.in-Ok.ensures.writes;
-      left = ap (λ (k : Kept). k.left) kept ∙ t.left;
+      left = ap (λ (k : Rounds). k.left) kept ∙ t.left;
       client_up = client-kept p e t.events old c.refuse.new.self sent lines prepared kept t.client_up;
       host_up = host-kept terms p e t.events old c.refuse.new.self sent lines prepared kept t.host_up;
       refused = refused-kept p e t.events old c.refuse.new.self sent lines prepared kept t.refused;

@@ -2,7 +2,7 @@ use Rattle.std.proofs.Common.{◌≡◌, ◌<◌, ◌++◌, [], length, sym, ref
 use Rattle.std.proofs.lemmas.List.{append-nil}
 use Rattle.packet_stream.specs.Format.{Wrong, reading}
 use Rattle.packet_stream.specs.Split.{reads}
-use Rattle.packet_stream.specs.Streams.{Kept}
+use Rattle.packet_stream.specs.Streams.{StreamView}
 use Rattle.packet_stream.proofs.Laws.{reads_steady}
 use Rattle.packet_stream.proofs.Following.{follows-whole, follows-short, follows-wrong, follows-wants, shorter}
 use Rattle.packet_stream.proofs.stream.Stream.next.Goals as goal
@@ -27,7 +27,7 @@ returns-in-Ok-Whole-clause-changes g c =
     let left : c.take.new.bytes ≡ drop w.len own.bytes = rw w.field-0-is at w.ensures.left in
     let less : length c.take.new.bytes < length own.bytes = omega (arith, ap length left, shorter w.len own.bytes some there) in
     let given = c.given_from.ensures in
-    let old : ◌≡◌ {A = Kept g.row.F-State.Denot} c.args.self.now (record { state = own.state; rest = own.bytes; place = own.place; held = own.given.bytes.value; at = own.given.place; over = own.over }) = sym c.self.view_is in
+    let old : ◌≡◌ {A = StreamView g.row.F-State.Denot} c.args.self.now (record { state = own.state; rest = own.bytes; place = own.place; held = own.given.bytes.value; at = own.given.place; over = own.over }) = sym c.self.view_is in
     rw old (less, c.if-self.false, c.if-self.false, given.bytes, given.place, given.place)
 
 pub returns-in-Ok-Short-clause-follows : goal.returns-in-Ok-Short-clause-follows

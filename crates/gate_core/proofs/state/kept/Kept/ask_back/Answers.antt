@@ -8,7 +8,7 @@ use Rattle.unlink_race.specs.Firsts.{change_first}
 use Rattle.unlink_race.specs.Unlinking.{unlinked_by}
 use Rattle.unlink_race.proofs.Firsts.{took_first, took_none, position_found}
 use Rattle.gate_core.specs.declared.state.kept.Kept.{Kept}
-use Rattle.gate_core.specs.declared.client.unlink.Asked.{Asked}
+use Rattle.gate_core.specs.declared.client.unlink.UnlinkAnswer.{UnlinkAnswer}
 use Rattle.gate_core.specs.inner.Unlink.{asked_of}
 use Rattle.gate_core.proofs.lemmas.host.Loss.{capped-same}
 use Rattle.gate_core.proofs.lemmas.client.UnlinkRows.{Told, rows-told}
@@ -49,7 +49,7 @@ returns-in_default-clause-ok c st h sound =
 pub returns-in-Late-clause-ok : goal.returns-in-Late-clause-ok
 returns-in-Late-clause-ok c st h sound =
     let old = c.args.self.now in
-    let told = subst (λ (a : Asked). Told old.caps c.args.target c.args.by old.lives.live a) (asked-so (has_number c.args.target) old.lives.live c.in-Some.at (sym c.place_of_number.ensures ∙ c.in-Some.is) ∙ sym c.asked.ensures.value ∙ c.in-Late.is) (rows-told old.caps c.args.target c.args.by old.lives.live (one-numbered old st c.args.target h sound)) in
+    let told = subst (λ (a : UnlinkAnswer). Told old.caps c.args.target c.args.by old.lives.live a) (asked-so (has_number c.args.target) old.lives.live c.in-Some.at (sym c.place_of_number.ensures ∙ c.in-Some.is) ∙ sym c.asked.ensures.value ∙ c.in-Late.is) (rows-told old.caps c.args.target c.args.by old.lives.live (one-numbered old st c.args.target h sound)) in
     on_ok_weaker c.write_ret_unlink-in-Late.result (λ sent.
     does-unlink st c.args.by c.args.target _ old old _ _ h sound c.requires.kept.answered_fits c.requires.kept.dropped_fits told
     (λ i. record old { unlinked = capped-same old.unlinked c.requires.kept.unlinked_fits i })
@@ -59,7 +59,7 @@ returns-in-Late-clause-ok c st h sound =
 pub returns-in_ok-write_cancel-in-Cancel-clause-ok : goal.returns-in_ok-write_cancel-in-Cancel-clause-ok
 returns-in_ok-write_cancel-in-Cancel-clause-ok c st h sound =
     let old = c.args.self.now in
-    let told = subst (λ (a : Asked). Told old.caps c.args.target c.args.by old.lives.live a) (asked-so (has_number c.args.target) old.lives.live c.in-Some.at (sym c.place_of_number.ensures ∙ c.in-Some.is) ∙ sym c.asked.ensures.value ∙ c.in-Cancel.is) (rows-told old.caps c.args.target c.args.by old.lives.live (one-numbered old st c.args.target h sound)) in
+    let told = subst (λ (a : UnlinkAnswer). Told old.caps c.args.target c.args.by old.lives.live a) (asked-so (has_number c.args.target) old.lives.live c.in-Some.at (sym c.place_of_number.ensures ∙ c.in-Some.is) ∙ sym c.asked.ensures.value ∙ c.in-Cancel.is) (rows-told old.caps c.args.target c.args.by old.lives.live (one-numbered old st c.args.target h sound)) in
     does-unlink st c.args.by c.args.target _ old _ _ _ h sound c.requires.kept.answered_fits c.requires.kept.dropped_fits told
     ((c.mark.ensures.marked c.args.target (sym c.place_of_number.ensures ∙ c.in-Some.is)).is ∙ ap (marked c.args.target c.args.by old) (capped-same old.unlinked c.requires.kept.unlinked_fits))
     (sym (append-nil c.args.out.now.to_client)) c.in_ok-write_cancel-in-Cancel.ensures.ok c.in_ok-push.ensures.ok
@@ -67,7 +67,7 @@ returns-in_ok-write_cancel-in-Cancel-clause-ok c st h sound =
 pub returns-in-Waits-clause-ok : goal.returns-in-Waits-clause-ok
 returns-in-Waits-clause-ok c st h sound =
     let old = c.args.self.now in
-    let told = subst (λ (a : Asked). Told old.caps c.args.target c.args.by old.lives.live a) (asked-so (has_number c.args.target) old.lives.live c.in-Some.at (sym c.place_of_number.ensures ∙ c.in-Some.is) ∙ sym c.asked.ensures.value ∙ c.in-Waits.is) (rows-told old.caps c.args.target c.args.by old.lives.live (one-numbered old st c.args.target h sound)) in
+    let told = subst (λ (a : UnlinkAnswer). Told old.caps c.args.target c.args.by old.lives.live a) (asked-so (has_number c.args.target) old.lives.live c.in-Some.at (sym c.place_of_number.ensures ∙ c.in-Some.is) ∙ sym c.asked.ensures.value ∙ c.in-Waits.is) (rows-told old.caps c.args.target c.args.by old.lives.live (one-numbered old st c.args.target h sound)) in
     does-unlink st c.args.by c.args.target _ old _ _ _ h sound c.requires.kept.answered_fits c.requires.kept.dropped_fits told
     ((c.mark-in-Waits.ensures.marked c.args.target (sym c.place_of_number.ensures ∙ c.in-Some.is)).is ∙ ap (marked c.args.target c.args.by old) (capped-same old.unlinked c.requires.kept.unlinked_fits))
     (sym (append-nil c.args.out.now.to_client)) (sym (append-nil c.args.out.now.to_host)) c.in_ok-push.ensures.ok
@@ -75,6 +75,6 @@ returns-in-Waits-clause-ok c st h sound =
 pub returns-in_ok-write_ret_unlink-in-Taken-clause-ok : goal.returns-in_ok-write_ret_unlink-in-Taken-clause-ok
 returns-in_ok-write_ret_unlink-in-Taken-clause-ok c st h sound =
     let old = c.args.self.now in
-    let told = subst (λ (a : Asked). Told old.caps c.args.target c.args.by old.lives.live a) (asked-so (has_number c.args.target) old.lives.live c.in-Some.at (sym c.place_of_number.ensures ∙ c.in-Some.is) ∙ sym c.asked.ensures.value ∙ c.in-Taken.is) (rows-told old.caps c.args.target c.args.by old.lives.live (one-numbered old st c.args.target h sound)) in
+    let told = subst (λ (a : UnlinkAnswer). Told old.caps c.args.target c.args.by old.lives.live a) (asked-so (has_number c.args.target) old.lives.live c.in-Some.at (sym c.place_of_number.ensures ∙ c.in-Some.is) ∙ sym c.asked.ensures.value ∙ c.in-Taken.is) (rows-told old.caps c.args.target c.args.by old.lives.live (one-numbered old st c.args.target h sound)) in
     does-unlink st c.args.by c.args.target _ old _ _ _ h sound c.requires.kept.answered_fits c.requires.kept.dropped_fits told
     (c.take_back.ensures.taken c.args.target (sym c.place_of_number.ensures ∙ c.in-Some.is)).is c.in_ok-write_ret_unlink-in-Taken.ensures.ok (sym (append-nil c.args.out.now.to_host)) c.in_ok-push.ensures.ok

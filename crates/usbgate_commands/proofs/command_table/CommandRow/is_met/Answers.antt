@@ -5,15 +5,15 @@ use Rattle.std.proofs.lemmas.Iterator.{YieldsList-from_slice}
 use Rattle.std.proofs.lemmas.Iterator.Search.{all_from_yields_List}
 use Rattle.usbgate_commands.specs.declared.given.Given.{Given}
 use Rattle.usbgate_commands.specs.declared.command_table.Need.{Need}
-use Rattle.usbgate_commands.specs.declared.command_table.Row.{Row}
+use Rattle.usbgate_commands.specs.declared.command_table.CommandRow.{CommandRow}
 use Rattle.usbgate_commands.specs.Words.{admits, is_met}
 use Rattle.usbgate_commands.specs.inner.Given.{text_of, IsGiven}
-use Rattle.usbgate_commands.proofs.command_table.Row.is_met.Goals as goal
+use Rattle.usbgate_commands.proofs.command_table.CommandRow.is_met.Goals as goal
 
 abbrev Word : Type 0
 Word = Need × Option (Bor (List ℕ))
 
-abbrev words_of : Row → Given → List Word
+abbrev words_of : CommandRow → Given → List Word
 words_of row g =
     (row.number, g.number) ∷ (row.device, g.device) ∷ (row.side, g.side) ∷ (row.host, g.host) ∷ (row.listen, g.listen) ∷ (row.idle, g.idle) ∷ (row.first_id, g.first_id) ∷ (row.after_loss, g.after_loss) ∷ (row.recording, g.recording) ∷ []
 
@@ -24,7 +24,7 @@ given-some : (word : Option (Bor (List ℕ))) (text : Option (List ℕ)) → tex
 given-some None text e = ap is_some e
 given-some (Some w) text e = ap is_some e
 
-met : (row : Row) (g : Given) (given : List ℕ → Option (List ℕ)) → IsGiven g given → list_all passes (words_of row g) ≡ is_met row given
+met : (row : CommandRow) (g : Given) (given : List ℕ → Option (List ℕ)) → IsGiven g given → list_all passes (words_of row g) ≡ is_met row given
 met row g given h =
     let number = given-some g.number _ h.number in
     let device = given-some g.device _ h.device in

@@ -5,7 +5,7 @@ use Rattle.redir_host.specs.step.Items.{Offers}
 use Rattle.redir_host.proofs.lemmas.step.Stands.{stands-offered}
 use Rattle.redir_host.proofs.lemmas.step.Wanted.{on_err_both, stops-one}
 use Rattle.redir_host.specs.inner.Views.{kept_of}
-use Rattle.redir_host.proofs.kept.Kept.offer.Goals as goal
+use Rattle.redir_host.proofs.inner.Inner.offer.Goals as goal
 
 pub returns-clause-does : goal.returns-clause-does
 returns-clause-does g c =

@@ -4,7 +4,7 @@ use Rattle.redir_host.specs.guest.Guest.{guest_split}
 use Rattle.redir_host.proofs.lemmas.guest.PieceEnds.{on-err, over-piece, all-taken, wrong-told, stops-first, stops-packet, stops-note}
 use Rattle.redir_host.proofs.lemmas.guest.Pieces.{before}
 use Rattle.redir_host.specs.inner.Views.{kept_of}
-use Rattle.redir_host.proofs.kept.Kept.take.Goals as goal
+use Rattle.redir_host.proofs.inner.Inner.take.Goals as goal
 
 pub returns-then-is_over-clause-ok : goal.returns-then-is_over-clause-ok
 returns-then-is_over-clause-ok g c first acts stands =

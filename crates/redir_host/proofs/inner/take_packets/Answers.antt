@@ -4,7 +4,7 @@ use Rattle.redir_data.specs.Packets.{takes_memory}
 use Rattle.redir_host.specs.guest.Guest.{guest_reader}
 use Rattle.redir_host.specs.guest.Takings.{TookPackets}
 use Rattle.redir_host.proofs.lemmas.guest.Pieces.{Going, going-none, going-one, going-given, going-ended, going-stopped, leaves-read, leaves-taken, leaves-wanted, next-taken}
-use Rattle.redir_host.proofs.kept.take_packets.Goals as goal
+use Rattle.redir_host.proofs.inner.take_packets.Goals as goal
 
 pub returns-in_err-header-clause-takes : goal.returns-in_err-header-clause-takes
 returns-in_err-header-clause-takes g c =

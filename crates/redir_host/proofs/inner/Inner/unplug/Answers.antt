@@ -5,7 +5,7 @@ use Rattle.redir_host.specs.step.Items.{Unplugs}
 use Rattle.redir_host.proofs.lemmas.step.Stands.{stands-unplugged}
 use Rattle.redir_host.proofs.lemmas.step.Wanted.{on_err_both, stops-one}
 use Rattle.redir_host.specs.inner.Views.{kept_of}
-use Rattle.redir_host.proofs.kept.Kept.unplug.Goals as goal
+use Rattle.redir_host.proofs.inner.Inner.unplug.Goals as goal
 
 pub returns-clause-does : goal.returns-clause-does
 returns-clause-does g c =

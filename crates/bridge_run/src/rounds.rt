@@ -10,7 +10,7 @@ use usb_base::{Refusal, Side};
 
 /// Which links are up, and how long it goes on.
 #[derive(Clone, Copy)]
-pub struct Kept {
+pub struct Rounds {
     pub client_up: bool,
     pub host_up: bool,
     /// Something has come in this round.
@@ -24,13 +24,13 @@ pub struct Kept {
     pub refused: Option<Refusal>,
 }
 
-impl Kept {
+impl Rounds {
     /// No client is there, and nothing has come. `idle` rounds in a row may bring nothing, and `budget` bytes may be
     /// taken.
     pub fn new(host_up: bool, idle: u64, budget: u64) -> Self
         ensures { result ≡ begun host_up idle budget }
     {
-        Kept {
+        Rounds {
             client_up: false,
             host_up,
             busy: false,

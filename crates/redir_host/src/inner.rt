@@ -26,7 +26,7 @@ use usb_base::{Bytes, EpAddr, Memory};
 
 /// The guest's stream, and the host that takes its packets.
 #[derive(Drop)]
-pub struct Kept<G> {
+pub struct Inner<G> {
     pub alloc: Global,
     pub stream: Stream<FromGuest>,
     pub host: Host<G>,
@@ -34,7 +34,7 @@ pub struct Kept<G> {
     pub want: Option<Memory>,
 }
 
-impl<G> Kept<G> {
+impl<G> Inner<G> {
     /// Whether it works: once memory has run out in a call, it doesn't any more.
     pub fn works(&self) -> Result<(), Memory>
         ensures ok { OnOk result ((kept_of self.now).failed ≡ false) }
@@ -59,12 +59,12 @@ impl<G> Kept<G> {
     }
 }
 
-impl<G: Gadget> Kept<G> {
+impl<G: Gadget> Inner<G> {
     /// The host of a device that was just plugged in.
     pub fn new(alloc: Global, gadget: G) -> Self
         ensures { Stands G.meaning gadget (kept_of result) [] }
     {
-        Kept {
+        Inner {
             alloc,
             stream: Stream::new(alloc, RedirState::start()),
             host: Host::new(alloc, gadget),

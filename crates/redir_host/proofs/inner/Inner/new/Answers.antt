@@ -1,8 +1,8 @@
 use Rattle.std.proofs.Common.{false, [], refl, ap, ◌∙◌}
-use Rattle.packet_stream.specs.Streams.{Kept as Stream}
+use Rattle.packet_stream.specs.Streams.{StreamView as Stream}
 use Rattle.redir_data.specs.declared.state.RedirState.{RedirState}
 use Rattle.redir_host.proofs.lemmas.step.Stands.{stands-first}
-use Rattle.redir_host.proofs.kept.Kept.new.Goals as goal
+use Rattle.redir_host.proofs.inner.Inner.new.Goals as goal
 
 pub returns : goal.returns
 returns g c =

@@ -5,7 +5,7 @@ use Rattle.redir_host.specs.step.Stands.{DoesAct}
 use Rattle.redir_host.proofs.lemmas.step.Stands.{stands-performed}
 use Rattle.redir_host.proofs.lemmas.step.Wanted.{on_err_both, on_err_given, on_ok_given, performed-gives, stops-one}
 use Rattle.redir_host.specs.inner.Views.{kept_of}
-use Rattle.redir_host.proofs.kept.Kept.perform.Goals as goal
+use Rattle.redir_host.proofs.inner.Inner.perform.Goals as goal
 
 pub returns-clause-does : goal.returns-clause-does
 returns-clause-does g c =
