@@ -9,7 +9,7 @@ use Rattle.control_route.specs.declared.route.Route.{Route}
 use Rattle.control_route.specs.Changes.{is_change}
 use Rattle.model_device.specs.Submit.{routed_outcome}
 use Rattle.redir_host.specs.guest.Asking.{routed}
-pub use Rattle.redir_host.specs.state.Queues.{without_first}
+pub use Rattle.usb_base.specs.Firsts.{without_first}
 use Rattle.redir_host.specs.state.Queues.{queue_of}
 use Rattle.gate_history.specs.client.Requests.{Request}
 use Rattle.gate_history.specs.client.Verdict.{Verdict, Routed, changes}
