@@ -76,9 +76,9 @@ pub record Debt : Type 0 where
 abbrev pub at_queue : Entry → HostRequest
 at_queue e = record { id = e.id; form = form_of e.load; transfer = queued_transfer e.load; reset = resets e.load.verdict }
 
--- in line, a reset stands before the packet that asks for its answer
+-- in line, a reset stands before the packet that asks for its answer; the place is that of `in_line`
 abbrev pub at_host : Entry → List InLine
-at_host e = (if resets e.load.verdict then Reset ∷ [] else []) ++ Waits e.id (form_of e.load) (queued_transfer e.load) ∷ []
+at_host e = (if resets e.load.verdict then Reset ∷ [] else []) ++ Waits 0 e.id (form_of e.load) (queued_transfer e.load) ∷ []
 
 abbrev pub at_device : Entry → Waiting
 at_device e = record { load = e.load; asked = e.asked }

@@ -12,9 +12,9 @@ use Rattle.direct_proof.specs.Tagged.{Tagged, packets_in, runs_in}
 
 -- ---- the wire to the host
 
--- what a packet puts in line; a cancel finds its request there, and puts nothing
+-- what a packet puts in line, whatever its place, which is 0 here; a cancel finds its request there, and puts nothing
 abbrev pub in_line : ℕ × RedirPacket → List InLine
-in_line p = packet_line [] p.0 p.1
+in_line p = packet_line 0 p.0 p.1
 
 abbrev pub lines : List (ℕ × RedirPacket) → List InLine
 lines [] = []

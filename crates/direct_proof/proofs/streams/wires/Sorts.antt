@@ -22,7 +22,7 @@ form_changes _ = false
 
 abbrev pub line_changes : InLine → Bool
 line_changes Reset = true
-line_changes (Waits 0 id f t) = form_changes f
+line_changes (Waits place id f t) = form_changes f
 
 no : false ≡ true → ⊥
 no e = cc
