@@ -2,7 +2,7 @@
 
 ghost use Rattle.std.specs.Prelude.{◌≡◌, ◌<◌, false, length, IsTrue, is_some};
 ghost use Rattle.gate_outside.specs.Doors.{Polls, TookWithin};
-ghost use Rattle.gate_sockets.specs.Polling.{PassesOver, Heard, Hears, PollSteps};
+ghost use Rattle.gate_sockets.specs.Polling.{PassesOver, Hears, PollSteps};
 ghost use Rattle.gate_sockets.specs.State.{fresh, opened, closed, broke, faulted, idled, untold};
 ghost use Rattle.gate_sockets.specs.Writing.{ReadOn, WroteOnce, Takes};
 
@@ -152,7 +152,18 @@ impl<S: Connection> Socket<S> {
             self.rest();
             return Polled::NotYet;
         }
-        self.hear_once(buf, ready)
+        ready.reads(self.side);
+        self.rests = 0;
+        let limit = buf.len();
+        let Some(stream) = &mut self.stream else {
+            unreachable!();
+        };
+        let step = step_of(stream.read_once(buf), limit);
+        match step {
+            Step::Blocked => ready.drained(),
+            _ => ready.moved(),
+        }
+        self.hear(step)
     }
 
     /// Whether the poll passes the link over, after a moment. Where a read had to wait the next polls do so, until the
@@ -168,27 +179,6 @@ impl<S: Connection> Socket<S> {
         ready.found_nothing(network);
         self.rests -= 1;
         self.rests > 0 && !ready.is_told(self.side)
-    }
-
-    /// Reads once, and says what that means.
-    fn hear_once(&mut self, buf: &mut [u8], ready: &mut Ready) -> Polled
-        requires up { IsTrue (is_some self.old.stream) }
-        requires room { 0 < length buf.old }
-        ensures bound { TookWithin result buf.new }
-        ensures heard { Heard S.read_gives result buf.new self.old self.new }
-    {
-        ready.reads(self.side);
-        self.rests = 0;
-        let limit = buf.len();
-        let Some(stream) = &mut self.stream else {
-            unreachable!();
-        };
-        let step = step_of(stream.read_once(buf), limit);
-        match step {
-            Step::Blocked => ready.drained(),
-            _ => ready.moved(),
-        }
-        self.hear(step)
     }
 
     /// What a read means.

@@ -1,6 +1,6 @@
 -- The requests in flight, of which one has its place among both lists: it is the first that passes a test, and is taken
 -- out there.
-use Rattle.std.proofs.Common.{◌≡◌, ℕ, zero, suc, ◌+◌, ◌-◌, ◌<◌, ◌≤◌, Bool, true, false, cond, not, ltb, List, [], ◌∷◌, ◌++◌, length, Some, None, slice_get, refl, sym, ap, subst, ◌∙◌, arith}
+use Rattle.std.proofs.Common.{◌≡◌, ℕ, zero, suc, ◌+◌, ◌-◌, ◌<◌, ◌≤◌, Bool, true, false, cond, not, ltb, List, [], ◌∷◌, ◌++◌, length, Some, None, slice_get, refl, sym, ap, subst, ◌∙◌, ◌^◌, arith}
 use Rattle.std.specs.List.{find, position, position_or_len, remove}
 use Rattle.std.proofs.lemmas.Bool.{lt-ltb, le-ltb}
 use Rattle.std.proofs.lemmas.List.{length-append}
@@ -10,6 +10,10 @@ use Rattle.unlink_race.specs.declared.live.Live.{Live}
 use Rattle.unlink_race.specs.Firsts.{without_first}
 use Rattle.unlink_race.specs.Requests.{Requests, in_flight, without_at}
 use Rattle.unlink_race.proofs.Firsts.{remove_first, position_found, find_past, took_first}
+use Rattle.usbip_urb.specs.declared.code.TheConstants.{MAX_LIVE}
+use Rattle.gate_core.specs.declared.state.kept.Kept.{Kept}
+use Rattle.gate_parts.specs.state.Rows.{IsFine}
+use Rattle.gate_core.specs.inner.Holds.{IsKept}
 use Rattle.gate_history.proofs.lemmas.Lists.{Each}
 
 -- ---- the place of the first that passes, in two lists one behind the other
@@ -143,3 +147,30 @@ is-fewer P r i = of (ltb i (length r.live))
     of : (b : Bool) → IsFewer P r (cond b (record r { live = remove r.live i }) (record r { abandoned = remove r.abandoned (i - length r.live) }))
     of true = record { fine = each-removed P r.live i; few = length-removed r.live i; left_few = omega arith; none_left = λ h. h }
     of false = record { fine = λ h. h; few = omega arith; left_few = length-removed r.abandoned (i - length r.live); none_left = none-removed r.abandoned (i - length r.live) }
+
+-- ---- what is kept stays sound
+
+-- with other requests and counts
+pub with-requests : (t : Kept) (lives : Requests) (answered unlinked : ℕ) → IsKept t → Each (IsFine t.caps) lives.live → (t.imported ≡ true → lives.abandoned ≡ []) →
+    length lives.live ≤ MAX_LIVE → length lives.abandoned ≤ MAX_LIVE → answered ≤ 2 ^ 64 - 1 → unlinked ≤ 2 ^ 64 - 1 → IsKept (record t { lives = lives; answered = answered; unlinked = unlinked })
+with-requests t lives answered unlinked k fine apart few left answered_fits unlinked_fits = record {
+  fine = fine;
+  apart = apart;
+  few = few;
+  left = left;
+  places = k.places;
+  started = k.started;
+  stopped = k.stopped;
+  answered_fits = answered_fits;
+  unlinked_fits = unlinked_fits;
+  dropped_fits = k.dropped_fits;
+}
+
+-- with one less
+pub without-one : (t : Kept) (i : ℕ) (lives : Requests) (answered unlinked : ℕ) → IsKept t → lives ≡ without_at i t.lives →
+    answered ≤ 2 ^ 64 - 1 → unlinked ≤ 2 ^ 64 - 1 → IsKept (record t { lives = lives; answered = answered; unlinked = unlinked })
+without-one t i lives answered unlinked k is answered_fits unlinked_fits =
+    let fewer = is-fewer (IsFine t.caps) t.lives i in
+    subst (λ (r : Requests). IsKept (record t { lives = r; answered = answered; unlinked = unlinked })) (sym is)
+    (with-requests t (without_at i t.lives) answered unlinked k (fewer.fine k.fine) (λ h. fewer.none_left (k.apart h))
+    (omega (arith, k.few, fewer.few)) (omega (arith, k.left, fewer.left_few)) answered_fits unlinked_fits)

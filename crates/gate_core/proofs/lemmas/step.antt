@@ -1,5 +1,6 @@
 -- One item, one event, and all of them.
 pub mod NextPacket
+pub mod Quiet
 pub mod Steady
 pub mod Take
 pub mod Translator

@@ -1,5 +1,5 @@
 -- When what is kept stands for a state of the machine, and what it does with an item.
-use Rattle.std.specs.Prelude.{◌≡◌, ◌⊎◌, ◌∷◌, ◌<◌, not, ◌+◌, ◌-◌, ◌^◌, [], ◌++◌, ◌≤◌, ℕ, true, false, List, length, filter, IsTrue, None}
+use Rattle.std.specs.Prelude.{◌≡◌, ◌⊎◌, ◌∷◌, ◌<◌, not, ◌+◌, ◌-◌, ◌^◌, [], ◌++◌, ◌≤◌, ℕ, true, false, length, filter, IsTrue, None}
 use Rattle.std.specs.List.{AllByRecursion, list_any}
 use Rattle.usbip_urb.specs.declared.code.TheConstants.{MAX_LENGTH, MAX_LIVE}
 use Rattle.usbip_urb.specs.Buffers.{laid}
@@ -7,7 +7,6 @@ use Rattle.unlink_race.specs.Requests.{no_requests}
 use Rattle.unlink_race.specs.declared.live.Live.{Live}
 use Rattle.unlink_race.specs.declared.live.LiveKind.{LiveKind}
 use Rattle.unlink_race.specs.Searches.{goes_by_id, has_number, is_stream}
-use Rattle.gate_history.specs.declared.note.Note.{Note}
 use Rattle.gate_core.specs.declared.write.outputs.Outputs.{Outputs}
 use Rattle.gate_core.specs.declared.state.kept.Kept.{Kept}
 use Rattle.gate_parts.specs.declared.state.calls.Called.{Called}
@@ -104,28 +103,34 @@ pub record StopsShort (old new : Kept) (out_old out_new : Outputs) : Type 0 wher
 -- ---- all requests ended
 
 -- with the loss of the device, so many of them asked back
+abbrev pub lost_by : ℕ → Kept → Kept
+lost_by unlinked old = record old {
+  lives = no_requests;
+  facts = no_facts;
+  lost = true;
+  streams = no_streams;
+  fence = None;
+  answered = capped (old.answered + (length old.lives.live - unlinked));
+  unlinked = capped (old.unlinked + unlinked);
+}
+
 pub record HasLost (unlinked : ℕ) (old new : Kept) : Type 0 where
-  pub is : new ≡ record old {
-    lives = no_requests;
-    facts = no_facts;
-    lost = true;
-    streams = no_streams;
-    fence = None;
-    answered = capped (old.answered + (length old.lives.live - unlinked));
-    unlinked = capped (old.unlinked + unlinked);
-  }
+  pub is : new ≡ lost_by unlinked old
 
 -- with their client, whose streams are stopped
+abbrev pub left_by : Called → Kept → Kept
+left_by called old = record old {
+  lives = record { live = []; abandoned = old.lives.abandoned ++ filter goes_by_id old.lives.live };
+  imported = false;
+  streams = no_streams;
+  calls = called.calls;
+  fence = called.fence;
+  last = called.last;
+  dropped = capped (old.dropped + length old.lives.live);
+}
+
 pub record HasLeft (called : Called) (old new : Kept) : Type 0 where
-  pub is : new ≡ record old {
-    lives = record { live = []; abandoned = old.lives.abandoned ++ filter goes_by_id old.lives.live };
-    imported = false;
-    streams = no_streams;
-    calls = called.calls;
-    fence = called.fence;
-    last = called.last;
-    dropped = capped (old.dropped + length old.lives.live);
-  }
+  pub is : new ≡ left_by called old
 
 -- ---- a submit is taken in
 

@@ -44,13 +44,8 @@ pub fn write_filling(
     ensures wants { OnErr result (IsSome (row_cut up.old.row.max_packet live.now (drop from up.old.held))) }
 {
     let before = out.len();
-    match push_filling(alloc, live, up, from, out) {
-        Ok(taken) => Ok(taken),
-        Err(memory) => {
-            out.cut(before);
-            Err(memory)
-        }
-    }
+    let pushed = push_filling(alloc, live, up, from, out);
+    out.cut_on_err(before, pushed)
 }
 
 // For want of memory some of the bytes may be there.

@@ -127,13 +127,8 @@ fn write_reset(first: u64, second: u64, caps: Caps, out: &mut Bytes) -> Result<(
 {
     let before = out.len();
     write_control(&RedirControl::Reset, first, caps, out)?;
-    match write_control(&RedirControl::GetConfiguration, second, caps, out) {
-        Ok(()) => Ok(()),
-        Err(memory) => {
-            out.cut(before);
-            Err(memory)
-        }
-    }
+    let asked = write_control(&RedirControl::GetConfiguration, second, caps, out);
+    out.cut_on_err(before, asked)
 }
 
 /// Appends the start of an endpoint's stream. For want of memory `out` stands.

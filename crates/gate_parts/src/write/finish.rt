@@ -95,13 +95,8 @@ fn write_late(
 {
     let before = out.len();
     write_outcome(alloc, asked, outcome, out)?;
-    match write_ret_unlink(by, 0, out) {
-        Ok(()) => Ok(()),
-        Err(memory) => {
-            out.cut(before);
-            Err(memory)
-        }
-    }
+    let answered = write_ret_unlink(by, 0, out);
+    out.cut_on_err(before, answered)
 }
 
 /// Tells that a request was answered, and appends its answers. It gives whether its unlink has won.

@@ -12,12 +12,7 @@ pub fn client_refusal(place: u64, reason: Reason) -> Refusal
     ensures value { (at : ℕ) → place ≡ capped at → result ≡ refusal Client at reason }
     ensures side { result.side ≡ Client }
 {
-    Refusal {
-        side: Side::Client,
-        place,
-        reason,
-        kept: None,
-    }
+    refusal_at(Side::Client, place, reason)
 }
 
 /// The host is refused at this place of its stream.
@@ -25,8 +20,15 @@ pub fn host_refusal(place: u64, reason: Reason) -> Refusal
     ensures value { (at : ℕ) → place ≡ capped at → result ≡ refusal Host at reason }
     ensures side { result.side ≡ Host }
 {
+    refusal_at(Side::Host, place, reason)
+}
+
+// A refusal of which nothing is kept yet.
+fn refusal_at(side: Side, place: u64, reason: Reason) -> Refusal
+    ensures { result ≡ record { side = side; place = place; reason = reason; kept = None } }
+{
     Refusal {
-        side: Side::Host,
+        side,
         place,
         reason,
         kept: None,

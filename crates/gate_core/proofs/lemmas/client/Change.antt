@@ -8,7 +8,6 @@ use Rattle.std.proofs.lemmas.Grind.{flat_map-append}
 use Rattle.usbip_urb.specs.declared.packet.UrbPacket.{UrbPacket}
 use Rattle.usbip_urb.specs.declared.client.ClientPacket.TheVariants.{Urb}
 use Rattle.usbip_urb.specs.ClientPackets.{client_spelling}
-use Rattle.redir_data.specs.declared.packet.RedirPacket.{RedirPacket}
 use Rattle.control_route.specs.declared.route.Route.{Route}
 use Rattle.unlink_race.specs.declared.live.Live.{Live}
 use Rattle.unlink_race.specs.declared.live.StreamEnd.TheVariants.{Change}
@@ -32,14 +31,13 @@ use Rattle.gate_history.specs.step.Meaning.{mark_as, drawn_for, submission}
 use Rattle.gate_history.specs.state.Sound.{IsSound}
 use Rattle.gate_history.specs.write.Answers.{without_packets, answers_at}
 use Rattle.gate_history.specs.write.Output.{fresh}
-use Rattle.gate_history.specs.write.Notes.{answer_notes}
 use Rattle.gate_history.specs.write.All.{is_ret_submit, is_won_unlink}
 use Rattle.gate_history.specs.write.Bytes.{host_packet_bytes}
 use Rattle.gate_history.specs.step.Machine.{live_after}
-use Rattle.gate_parts.specs.state.Rows.{row, unmarked, left_row, row_request, ended_bytes}
+use Rattle.gate_parts.specs.state.Rows.{row, row_request, ended_bytes}
 use Rattle.gate_core.specs.inner.Holds.{Holds, Does}
-use Rattle.gate_history.proofs.lemmas.Lists.{Each, Each-weaker, filter-all, filter-map, filter-same}
-use Rattle.gate_core.proofs.lemmas.host.Loss.{capped-same}
+use Rattle.gate_history.proofs.lemmas.Lists.{Each, Each-weaker, filter-map, filter-same}
+use Rattle.gate_core.proofs.lemmas.step.Quiet.{capped-same, moved, does-quiet, none-answered}
 use Rattle.gate_history.proofs.lemmas.step.NoCancel.{none-cancelled, stays-uncancelled}
 use Rattle.gate_history.proofs.lemmas.step.Effects.{change-left, change-noted, change-dropped}
 use Rattle.gate_core.proofs.lemmas.client.WaitRows.{IsGoing, each-mapped, all-going, touched-row}
@@ -120,40 +118,18 @@ module _ (st : State) (sound : IsSound st) (q : Request) (r : Route) where
       out_new.notes ≡ out_old.notes ++ note.Submitted q.number change.id ∷ [] →
       Does st (mark_as st (Opens change) None) old new out_old out_new
   does-change old new out_old out_new h unlinked_fits dropped_fits is client host notes =
-      let asked : List (ℕ × RedirPacket) = zip (drawn_for st q (Routed r)) (packets_of st.streams (Routed r) q) in
+      let rows : List Live = filter (λ l. not (touched_by r l)) old.lives.live ++ row (fresh change) ∷ [] in
       let done = counted-all e (touched_by r) packet is_ret_submit (λ l. refl) st.live all-so in
       let won = counted-none e (touched_by r) packet is_won_unlink (λ l. refl) st.live all-so in
-      record {
-        holds = record {
-          facts = ap (λ (k : Kept). k.facts) is ∙ h.facts;
-          caps = ap (λ (k : Kept). k.caps) is ∙ h.caps;
-          imported = ap (λ (k : Kept). k.imported) is ∙ h.imported;
-          lost = ap (λ (k : Kept). k.lost) is ∙ h.lost;
-          client_over = ap (λ (k : Kept). k.client_over) is ∙ h.client_over;
-          host_over = ap (λ (k : Kept). k.host_over) is ∙ h.host_over;
-          streams = ap (λ (k : Kept). k.streams) is ∙ ap (lower (is_ended (Some r))) h.streams;
-          calls = ap (λ (k : Kept). k.calls) is ∙ ap (called asked) h.calls;
-          fence = ap (λ (k : Kept). k.fence) is ∙ h.fence;
-          last = ap (λ (k : Kept). k.last) is ∙ ap (λ (n : ℕ). last_of n (drawn_for st q (Routed r))) h.last;
-          live = ap (λ (k : Kept). k.lives.live) is ∙ ap (λ (ls : List Live). filter (λ l. not (touched_by r l)) ls ++ row (fresh change) ∷ []) h.live ∙ sym live-rows;
-          abandoned = ap (λ (k : Kept). map unmarked k.lives.abandoned) is ∙ h.abandoned ∙ ap (map left_row) (sym (filter-all st.abandoned));
-        };
-        client = client ∙ ap (λ (bs : List ℕ). out_old.to_client ++ bs)
-            (ap (flat_map (ended_bytes (Change r) eshutdown)) h.live ∙ sym (ended-bytes e (touched_by r) packet st.live all-so)
-            ∙ ap (λ (ps : List UrbPacket). flat_map client_spelling (map Urb ps)) (sym change-sent));
-        host = host ∙ ap (λ (bs : List ℕ). out_old.to_host ++ bs)
-            ((λ i. flat_map (host_packet_bytes (h.caps i)) asked)
-            ∙ ap (flat_map (host_packet_bytes st.agreed)) (sym (append-nil asked) ∙ ap (λ (ps : List (ℕ × RedirPacket)). (ps ++ asked) ++ []) (sym (none-cancelled e stays-uncancelled st.live))));
-        notes = notes ∙ ap (λ (ns : List Note). out_old.notes ++ note.Submitted q.number change.id ∷ ns) (sym (change-noted st change touched ByChange others own refl)) ∙ closing (answer_notes st e);
-        answered = ap (λ (k : Kept). k.answered) is ∙ ap (λ (ls : List Live). capped (old.answered + length (filter (touched_by r) ls))) h.live
-            ∙ ap (λ (n : ℕ). capped (old.answered + n)) (sym done)
-            ∙ ap (λ (ps : List UrbPacket). capped (old.answered + length (filter is_ret_submit (map Urb ps)))) (sym change-sent);
-        unlinked = ap (λ (k : Kept). k.unlinked) is ∙ capped-same old.unlinked unlinked_fits
-            ∙ ap (λ (n : ℕ). capped (old.unlinked + n)) (sym won)
-            ∙ ap (λ (ps : List UrbPacket). capped (old.unlinked + length (filter is_won_unlink (map Urb ps)))) (sym change-sent);
-        dropped = ap (λ (k : Kept). k.dropped) is ∙ capped-same old.dropped dropped_fits
-            ∙ ap (λ (ss : List Submission). capped (old.dropped + length ss)) (sym (change-dropped st change touched ByChange others own refl));
-      }
-    where
-      closing : (ns : List Note) → out_old.notes ++ note.Submitted q.number change.id ∷ ns ≡ out_old.notes ++ (((((note.Submitted q.number change.id ∷ []) ++ ns) ++ []) ++ []) ++ [])
-      closing ns = ap (λ (l : List Note). out_old.notes ++ note.Submitted q.number change.id ∷ l) (sym (append-nil ns) ∙ sym (append-nil (ns ++ [])) ∙ sym (append-nil ((ns ++ []) ++ [])))
+      does-quiet st e refl old new rows old.lives.abandoned (length (filter (touched_by r) old.lives.live)) 0 out_old out_new h dropped_fits
+      (is ∙ (λ i. record (moved st e rows old.lives.abandoned (length (filter (touched_by r) old.lives.live)) 0 old) { unlinked = capped-same old.unlinked unlinked_fits i }))
+      (ap (λ (ls : List Live). filter (λ l. not (touched_by r l)) ls ++ row (fresh change) ∷ []) h.live ∙ sym live-rows)
+      (h.abandoned ∙ none-answered e st.abandoned (λ s. refl))
+      (ap (λ (ls : List Live). length (filter (touched_by r) ls)) h.live ∙ sym done ∙ ap (λ (ps : List UrbPacket). length (filter is_ret_submit (map Urb ps))) (sym change-sent))
+      (sym won ∙ ap (λ (ps : List UrbPacket). length (filter is_won_unlink (map Urb ps))) (sym change-sent))
+      (change-dropped st change touched ByChange others own refl)
+      (client ∙ ap (λ (bs : List ℕ). out_old.to_client ++ bs)
+      (ap (flat_map (ended_bytes (Change r) eshutdown)) h.live ∙ sym (ended-bytes e (touched_by r) packet st.live all-so)
+      ∙ ap (λ (ps : List UrbPacket). flat_map client_spelling (map Urb ps)) (sym change-sent)))
+      (host ∙ (λ i. out_old.to_host ++ flat_map (host_packet_bytes (h.caps i)) (sym (none-cancelled e stays-uncancelled st.live) i ++ zip (drawn_for st q (Routed r)) (packets_of st.streams (Routed r) q))))
+      (notes ∙ ap (λ (ns : List Note). out_old.notes ++ note.Submitted q.number change.id ∷ ns) (sym (change-noted st change touched ByChange others own refl)))

@@ -1,12 +1,11 @@
 -- What an accepted submit that ends no other makes of what is kept, and what it sends and tells.
-use Rattle.std.proofs.Common.{◌≡◌, ℕ, ◌+◌, ◌^◌, ◌-◌, ◌<◌, ◌≤◌, eqb, Bool, true, false, cond, List, [], ◌∷◌, ◌++◌, length, map, Some, None, sym, ap, ◌∙◌, arith}
+use Rattle.std.proofs.Common.{◌≡◌, ℕ, ◌+◌, ◌^◌, ◌-◌, ◌<◌, ◌≤◌, eqb, Bool, true, false, cond, List, [], ◌∷◌, ◌++◌, length, map, Some, None, refl, sym, ap, ◌∙◌, arith}
 use Rattle.std.specs.Prelude.{is_none, filter, zip}
 use Rattle.std.specs.List.{flat_map}
-use Rattle.std.proofs.lemmas.List.{append-nil, map-append}
+use Rattle.std.proofs.lemmas.List.{map-append}
 use Rattle.usbip_urb.specs.declared.client.ClientPacket.{ClientPacket}
 use Rattle.usbip_urb.specs.declared.client.ClientPacket.TheVariants.{Urb}
 use Rattle.usbip_urb.specs.ClientPackets.{client_spelling}
-use Rattle.redir_data.specs.declared.packet.RedirPacket.{RedirPacket}
 use Rattle.unlink_race.specs.declared.live.Live.{Live}
 use Rattle.gate_history.specs.declared.note.Note.{Note}
 use Rattle.gate_history.specs.declared.note.Note.TheVariants as note
@@ -25,13 +24,13 @@ use Rattle.gate_history.specs.step.Meaning.{mark_as, drawn_for}
 use Rattle.gate_history.specs.state.Sound.{IsSound}
 use Rattle.gate_history.specs.write.Answers.{answers_at}
 use Rattle.gate_history.specs.write.Output.{fresh, answered}
-use Rattle.gate_history.specs.write.Notes.{answer_notes, is_by_answer, is_by_client}
+use Rattle.gate_history.specs.write.Notes.{is_by_answer, is_by_client}
 use Rattle.gate_history.specs.write.All.{is_ret_submit, is_won_unlink}
 use Rattle.gate_history.specs.write.Bytes.{host_packet_bytes}
-use Rattle.gate_parts.specs.state.Rows.{row, unmarked, left_row}
+use Rattle.gate_parts.specs.state.Rows.{row}
 use Rattle.gate_core.specs.inner.Holds.{Holds, Does}
-use Rattle.gate_history.proofs.lemmas.Lists.{Each, Each-weaker, filter-all}
-use Rattle.gate_core.proofs.lemmas.host.Loss.{capped-same}
+use Rattle.gate_history.proofs.lemmas.Lists.{Each, Each-weaker}
+use Rattle.gate_core.proofs.lemmas.step.Quiet.{capped-same, moved, does-quiet, none-answered}
 use Rattle.gate_history.proofs.lemmas.step.Effects.{opening-left, opening-answered, opening-noted, opening-dropped}
 use Rattle.gate_history.proofs.lemmas.step.NoCancel.{none-cancelled, stays-uncancelled}
 
@@ -77,32 +76,12 @@ module _ (st : State) (s : Submission) (placed : s.place ≡ st.items) (sound : 
   does-open old new more out_old out_new h unlinked_fits dropped_fits kept by_answer by_client none_won is client host notes =
       let e = Opens s in
       let sent : answered st e ≡ map Urb (answers_at s None (at_once s.verdict)) = opening-answered st s others own in
-      record {
-        holds = record {
-          facts = ap (λ (k : Kept). k.facts) is ∙ h.facts;
-          caps = ap (λ (k : Kept). k.caps) is ∙ h.caps;
-          imported = ap (λ (k : Kept). k.imported) is ∙ h.imported;
-          lost = ap (λ (k : Kept). k.lost) is ∙ h.lost;
-          client_over = ap (λ (k : Kept). k.client_over) is ∙ h.client_over;
-          host_over = ap (λ (k : Kept). k.host_over) is ∙ h.host_over;
-          streams = ap (λ (k : Kept). k.streams) is ∙ ap (opened_streams s.verdict s.request.transfer.ep) h.streams;
-          calls = ap (λ (k : Kept). k.calls) is ∙ ap (called (zip (drawn_for st s.request s.verdict) (packets_of st.streams s.verdict s.request))) h.calls;
-          fence = ap (λ (k : Kept). k.fence) is ∙ h.fence;
-          last = ap (λ (k : Kept). k.last) is ∙ ap (λ (n : ℕ). last_of n (drawn_for st s.request s.verdict)) h.last;
-          live = ap (λ (k : Kept). k.lives.live) is ∙ ap (λ (ls : List Live). ls ++ map row more) h.live ∙ sym (map-append row st.live more)
-              ∙ ap (map row) (ap (λ (ps : List Pending). st.live ++ ps) (sym kept) ∙ sym (opening-left st s others own));
-          abandoned = ap (λ (k : Kept). map unmarked k.lives.abandoned) is ∙ h.abandoned ∙ ap (map left_row) (sym (filter-all st.abandoned));
-        };
-        client = client ∙ ap (λ (ps : List ClientPacket). out_old.to_client ++ flat_map client_spelling ps) (sym sent);
-        host = host ∙ ap (λ (bs : List ℕ). out_old.to_host ++ bs)
-            ((λ i. flat_map (host_packet_bytes (h.caps i)) (zip (drawn_for st s.request s.verdict) (packets_of st.streams s.verdict s.request)))
-            ∙ ap (flat_map (host_packet_bytes st.agreed)) (sym (append-nil (zip (drawn_for st s.request s.verdict) (packets_of st.streams s.verdict s.request)))
-            ∙ ap (λ (ps : List (ℕ × RedirPacket)). (ps ++ zip (drawn_for st s.request s.verdict) (packets_of st.streams s.verdict s.request)) ++ []) (sym (none-cancelled e stays-uncancelled st.live))));
-        notes = notes ∙ ap (λ (ns : List Note). out_old.notes ++ note.Submitted s.request.number s.id ∷ ns) (sym (opening-noted st s others own by_answer)) ∙ closing (answer_notes st e);
-        answered = ap (λ (k : Kept). k.answered) is ∙ ap (λ (ps : List ClientPacket). capped (old.answered + length (filter is_ret_submit ps))) (sym sent);
-        unlinked = ap (λ (k : Kept). k.unlinked) is ∙ capped-same old.unlinked unlinked_fits ∙ ap (λ (ps : List ClientPacket). capped (old.unlinked + length ps)) (sym none_won ∙ ap (filter is_won_unlink) (sym sent));
-        dropped = ap (λ (k : Kept). k.dropped) is ∙ capped-same old.dropped dropped_fits ∙ ap (λ (ss : List Submission). capped (old.dropped + length ss)) (sym (opening-dropped st s others own by_client));
-      }
-    where
-      closing : (ns : List Note) → out_old.notes ++ note.Submitted s.request.number s.id ∷ ns ≡ out_old.notes ++ (((((note.Submitted s.request.number s.id ∷ []) ++ ns) ++ []) ++ []) ++ [])
-      closing ns = ap (λ (l : List Note). out_old.notes ++ note.Submitted s.request.number s.id ∷ l) (sym (append-nil ns) ∙ sym (append-nil (ns ++ [])) ∙ sym (append-nil ((ns ++ []) ++ [])))
+      does-quiet st e refl old new (old.lives.live ++ map row more) old.lives.abandoned (length (filter is_ret_submit (map Urb (answers_at s None (at_once s.verdict))))) 0 out_old out_new h dropped_fits
+      (is ∙ (λ i. record (moved st e (old.lives.live ++ map row more) old.lives.abandoned (length (filter is_ret_submit (map Urb (answers_at s None (at_once s.verdict))))) 0 old) { unlinked = capped-same old.unlinked unlinked_fits i }))
+      (ap (λ (ls : List Live). ls ++ map row more) h.live ∙ sym (map-append row st.live more) ∙ ap (map row) (ap (λ (ps : List Pending). st.live ++ ps) (sym kept) ∙ sym (opening-left st s others own)))
+      (h.abandoned ∙ none-answered e st.abandoned (λ t. refl))
+      (ap (λ (ps : List ClientPacket). length (filter is_ret_submit ps)) (sym sent)) (ap length (sym none_won) ∙ ap (λ (ps : List ClientPacket). length (filter is_won_unlink ps)) (sym sent))
+      (opening-dropped st s others own by_client)
+      (client ∙ ap (λ (ps : List ClientPacket). out_old.to_client ++ flat_map client_spelling ps) (sym sent))
+      (host ∙ (λ i. out_old.to_host ++ flat_map (host_packet_bytes (h.caps i)) (sym (none-cancelled e stays-uncancelled st.live) i ++ zip (drawn_for st s.request s.verdict) (packets_of st.streams s.verdict s.request))))
+      (notes ∙ ap (λ (ns : List Note). out_old.notes ++ note.Submitted s.request.number s.id ∷ ns) (sym (opening-noted st s others own by_answer)))

@@ -12,7 +12,6 @@ use Rattle.redir_wire.specs.declared.packet.RedirControl.TheVariants as plain
 use Rattle.redir_data.specs.declared.packet.RedirPacket.TheVariants.{Plain}
 use Rattle.unlink_race.specs.declared.live.Live.{Live}
 use Rattle.unlink_race.specs.Searches.{has_number}
-use Rattle.gate_history.specs.declared.note.Note.{Note}
 use Rattle.gate_history.specs.declared.note.Note.TheVariants as note
 use Rattle.gate_core.specs.declared.write.outputs.Outputs.{Outputs}
 use Rattle.gate_core.specs.declared.state.kept.Kept.{Kept}
@@ -36,35 +35,20 @@ use Rattle.gate_core.specs.inner.Unlink.{asked_row, is_taken_row, cancel_row, as
 use Rattle.gate_core.specs.inner.Holds.{Holds, Does}
 use Rattle.gate_history.proofs.lemmas.Lists.{Each, Each-weaker, filter-map}
 use Rattle.gate_parts.proofs.lemmas.state.Rows.{wire-row, by_id-row}
-use Rattle.gate_core.proofs.lemmas.host.Loss.{capped-same}
+use Rattle.gate_core.proofs.lemmas.step.Quiet.{capped-same, IsSilent}
 use Rattle.gate_core.proofs.lemmas.client.WaitRows.{IsGoing, all-going, stream-row}
-use Rattle.gate_core.proofs.lemmas.state.RequestEnds.{EndsSo, ends-so, stay-rows, counted-all, counted-none, IsEnding, does-ending}
+use Rattle.gate_core.proofs.lemmas.state.RequestEnds.{EndsSo, ends-so, stay-rows, counted-all, counted-none, does-ending}
 use Rattle.gate_core.proofs.lemmas.client.UnlinkRows.{Told, is_found_row}
 
 silent : (b : Bool) (p : ClientPacket) (test : ClientPacket → Bool) → test p ≡ false → filter test (cond b [] (p ∷ [])) ≡ []
 silent true p test h = refl
 silent false p test h = ap (λ (b : Bool). cond b (p ∷ []) []) h
 
-unlinks-ending : (st : State) (by target : ℕ) → IsEnding st (Unlinks by target)
-unlinks-ending st by target =
+unlinks-silent : (st : State) (by target : ℕ) → IsSilent st (Unlinks by target)
+unlinks-silent st by target =
     let found : Bool = list_any (λ p. is_target target p || is_taken target p) st.live in
-    record {
-      stays = refl;
-      keeps = refl;
-      open_host = refl;
-      no_caps = refl;
-      no_import = refl;
-      no_refusal = refl;
-      no_end = refl;
-      opens = refl;
-      answers_none = λ s. refl;
-      no_packets = refl;
-      no_ids = refl;
-      no_word = λ caps. refl;
-      no_place = refl;
-      no_answer = silent found (Urb (ret_unlink by (pos 0))) is_ret_submit refl;
-      none_won = silent found (Urb (ret_unlink by (pos 0))) is_won_unlink refl;
-    }
+    let late : ClientPacket = Urb (ret_unlink by (pos 0)) in
+    record { opens = refl; answers_none = λ s. refl; no_packets = refl; no_answer = silent found late is_ret_submit refl; none_won = silent found late is_won_unlink refl }
 
 -- ---- those that wait for packets are taken back
 
@@ -124,7 +108,7 @@ does-unlink st by target told old new out_old out_new h sound answered_fits drop
     let so = all-so by target st sound in
     let e : Effect = Unlinks by target in
     let found : Bool = list_any (λ p. is_target target p || is_taken target p) st.live in
-    does-ending st e (is_taken_row target) (back by target) (unlinks-ending st by target) so old new (left_told told target by old.lives.live) 0 (taken_count told)
+    does-ending st e (is_taken_row target) (back by target) refl (unlinks-silent st by target) so old new (left_told told target by old.lives.live) 0 (taken_count told)
     out_old out_new h dropped_fits
     (counted-none e (is_taken_row target) (back by target) is_ret_submit (λ l. refl) st.live so)
     (counted-all e (is_taken_row target) (back by target) is_won_unlink (λ l. refl) st.live so ∙ ap (λ (ls : List Live). length (filter (is_taken_row target) ls)) (sym h.live) ∙ sym t.count)

@@ -21,7 +21,7 @@ use Rattle.gate_history.specs.client.Requests.{Request}
 use Rattle.gate_history.specs.client.Verdict.{Verdict, Stream}
 use Rattle.gate_history.specs.host.Fillings.{Fill, none_filled, filled_by, fill}
 use Rattle.gate_history.specs.step.Marks.{Submission, Effect, Waits}
-use Rattle.gate_history.specs.client.Submits.{Pending, waits_at, packets_end}
+use Rattle.gate_history.specs.client.Submits.{Pending, waits_at, packets_end, own_end}
 use Rattle.gate_history.specs.state.Ups.{Up, stream_at, held_of, hold, raise, raised}
 use Rattle.gate_history.specs.write.Packets.{starts}
 use Rattle.gate_history.specs.state.Calls.{Calls, called}
@@ -37,10 +37,9 @@ use Rattle.gate_core.specs.inner.Fill.{joining_row, with_row, HasJoined}
 use Rattle.gate_core.specs.inner.Holds.{IsKept, Holds, Does}
 use Rattle.gate_history.proofs.lemmas.Lists.{Each, Each-append}
 use Rattle.gate_core.proofs.lemmas.client.WaitRows.{IsGoing, all-going}
-use Rattle.gate_core.proofs.lemmas.host.Loss.{capped-same}
-use Rattle.gate_history.proofs.lemmas.step.NoCancel.{stays-uncancelled}
+use Rattle.gate_core.proofs.lemmas.step.Quiet.{capped-same}
 use Rattle.gate_core.proofs.lemmas.host.Fill.{Differ, number, requests, waiters, fillings, FillsAll, fills-all}
-use Rattle.gate_core.proofs.lemmas.host.FillItem.{IsFiller, does-fill, does-fill-up}
+use Rattle.gate_core.proofs.lemmas.host.FillItem.{does-fill, does-fill-up}
 use Rattle.gate_core.proofs.lemmas.host.Arrive.{all-differ, waiting-are}
 use Rattle.gate_parts.proofs.lemmas.host.FillLoop.{nothing-cut, nothing-sent}
 use Rattle.gate_parts.proofs.lemmas.state.Places.{set-back}
@@ -89,24 +88,8 @@ module _ (st : State) (sound : IsSound st) (r : Request) (kept : EpRow) (packets
       (ap (λ (rs : List Request). rs ++ r ∷ []) (waiting-are st r.transfer.ep)
       ∙ sym (ap requests it-waits ∙ map-append (λ (p : Pending). p.submit.request) (waiters r.transfer.ep st.live) (fresh s ∷ [])))
 
-  filler : IsFiller st e r.transfer.ep (fillings kept.max_packet (waiters r.transfer.ep (present st e)) packets)
-  filler = record {
-    stays = refl;
-    keeps = refl;
-    open_host = refl;
-    no_caps = refl;
-    no_import = refl;
-    no_refusal = refl;
-    no_end = refl;
-    answers_none = λ t. refl;
-    no_word = λ caps. refl;
-    no_place = refl;
-    no_reply = refl;
-    no_asks = λ t. refl;
-    no_cancel = stays-uncancelled;
-    no_fence = λ fence. refl;
-    fills = λ t. ap (λ (x : Fill). packets_end r.transfer.ep x.fillings t) filled;
-  }
+  fills : (t : Submission) → own_end e t ≡ packets_end r.transfer.ep (fillings kept.max_packet (waiters r.transfer.ep (present st e)) packets) t
+  fills t = ap (λ (x : Fill). packets_end r.transfer.ep x.fillings t) filled
 
   all : (rows : List Live) → rows ≡ map row st.live → list_any (has_number r.number) rows ≡ false → FillsAll kept.max_packet r.transfer.ep (present st e) packets
   all rows is free =
@@ -136,7 +119,7 @@ does-join st sound r told up up_new old emptied mid new out client_new notes_new
     let there : stream_at st.streams r.transfer.ep ≡ Some up = ap (λ (ups : List (Option Up)). stream_at ups r.transfer.ep) (sym h.streams) ∙ at in
     let same = ap (λ (t : Kept). t.lives.live) emptied-is in
     subst (λ (x : Effect). Does st (mark_as st x None) old new out (record out { to_client = client_new; notes = notes_new })) (sym (accepts-up st r told up there))
-    (does-fill-up st (e st sound r up.row up.held) up.row.max_packet r.transfer.ep up.held (filler st sound r up.row up.held) (all st sound r up.row up.held old.lives.live h.live free)
+    (does-fill-up st (e st sound r up.row up.held) up.row.max_packet r.transfer.ep up.held refl (fills st sound r up.row up.held) (all st sound r up.row up.held old.lives.live h.live free)
     up up_new old (with_row (joining_row up r) emptied) mid new out (record out { to_client = client_new; notes = notes_new }) (f st sound r up.row up.held) h k.unlinked_fits k.dropped_fits at refl
     (filled st sound r up.row up.held)
     (ap (λ (o : Option Up). next_ids st (length (starts o r.transfer.ep up.row))) there)
@@ -195,7 +178,7 @@ does-start st sound r told old new calls_new last_new out host_new notes_new h k
     let none : fill told.max_packet (requests (waiters r.transfer.ep (present st (e st sound r told [])))) [] ≡ none_filled [] = nothing told.max_packet (requests (waiters r.transfer.ep (present st (e st sound r told [])))) in
     let left : (f st sound r told []).left ≡ [] = ap (λ (x : Fill). x.left) (nothing told.max_packet (waiting st r.transfer.ep ++ r ∷ [])) in
     subst (λ (x : Effect). Does st (mark_as st x None) old new out (record out { to_host = host_new; notes = notes_new })) (sym (accepts-down st r told there))
-    (does-fill st (e st sound r told []) told.max_packet r.transfer.ep [] (filler st sound r told []) (all st sound r told [] old.lives.live h.live free)
+    (does-fill st (e st sound r told []) told.max_packet r.transfer.ep [] refl (fills st sound r told []) (all st sound r told [] old.lives.live h.live free)
     old new rows out (record out { to_host = host_new; notes = notes_new }) h k.unlinked_fits k.dropped_fits
     (rows-are st sound r told [] old.lives.live h.live)
     (is ∙ (λ i. record old {

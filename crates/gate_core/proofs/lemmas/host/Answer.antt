@@ -53,12 +53,12 @@ use Rattle.gate_history.specs.step.Fits.{ResponseFits}
 use Rattle.gate_history.proofs.lemmas.Lists.{Each, every, filter-same, filter-map, flat_map-map}
 use Rattle.gate_history.proofs.lemmas.step.Effects.{answer-left, answer-sent, answer-noted, answer-dropped}
 use Rattle.gate_core.proofs.lemmas.Firsts.{without-first, find-first}
-use Rattle.gate_core.proofs.lemmas.Held.{there-too, each-at}
-use Rattle.gate_core.proofs.lemmas.host.Loss.{capped-same}
+use Rattle.gate_core.proofs.lemmas.Held.{is-there, there-too, each-at}
+use Rattle.gate_core.proofs.lemmas.step.Quiet.{capped-same, does-quiet, silent-is}
 use Rattle.gate_parts.proofs.lemmas.state.Rows.{by_id-row}
 use Rattle.gate_history.specs.step.Wants.{GivesSome}
 use Rattle.gate_core.proofs.lemmas.write.Gives.{by-answer}
-use Rattle.gate_core.proofs.lemmas.step.Steady.{host-same, rows-same, does-idle, does-steady, agrees-steady}
+use Rattle.gate_core.proofs.lemmas.step.Steady.{host-same, rows-same, does-idle, does-steady}
 use Rattle.gate_history.proofs.lemmas.step.NoCancel.{stays-uncancelled}
 use Rattle.gate_parts.proofs.lemmas.host.Responses.{row-mismatch, mismatch-capped, is-answer}
 
@@ -212,31 +212,13 @@ module _ (st : State) (id : ℕ) (o : Outcome) where
   does-answer old new rows left found out client_new notes_new h few one live_is left_is is client notes =
       let sends : sent found ≡ to_client st (mark_as st (Answers id o) None) = sym (answer-sent st id o ∙ ap sent one) in
       let tells : told_of found ≡ answer_notes st (Answers id o) = sym (answer-noted st id o ∙ ap told_of one) in
-      record {
-        holds = record {
-          facts = ap (λ (k : Kept). k.facts) is ∙ h.facts;
-          caps = ap (λ (k : Kept). k.caps) is ∙ h.caps;
-          imported = ap (λ (k : Kept). k.imported) is ∙ h.imported;
-          lost = ap (λ (k : Kept). k.lost) is ∙ h.lost;
-          client_over = ap (λ (k : Kept). k.client_over) is ∙ h.client_over;
-          host_over = ap (λ (k : Kept). k.host_over) is ∙ h.host_over;
-          streams = ap (λ (k : Kept). k.streams) is ∙ h.streams;
-          calls = ap (λ (k : Kept). k.calls) is ∙ h.calls;
-          fence = ap (λ (k : Kept). k.fence) is ∙ h.fence;
-          last = ap (λ (k : Kept). k.last) is ∙ h.last;
-          live = ap (λ (k : Kept). k.lives.live) is ∙ live_is ∙ ap (map row) (sym (answer-left st id o));
-          abandoned = ap (λ (k : Kept). map unmarked k.lives.abandoned) is ∙ left_is;
-        };
-        client = client ∙ ap (λ (ps : List ClientPacket). out.to_client ++ flat_map client_spelling ps) sends;
-        host = host-same st.agreed (Answers id o) out.to_host st.live stays-uncancelled
-            ∙ ap (λ (ps : List (ℕ × RedirPacket)). out.to_host ++ flat_map (host_packet_bytes st.agreed) ps)
-            (sym (append-nil (map cancel (filter (cancels (Answers id o)) st.live))) ∙ sym (append-nil (map cancel (filter (cancels (Answers id o)) st.live) ++ [])));
-        notes = notes ∙ ap (λ (ns : List Note). out.notes ++ ns)
-            (tells ∙ sym (append-nil (answer_notes st (Answers id o))) ∙ sym (append-nil (answer_notes st (Answers id o) ++ [])) ∙ sym (append-nil ((answer_notes st (Answers id o) ++ []) ++ [])));
-        answered = ap (λ (k : Kept). k.answered) is ∙ ap (λ (ps : List ClientPacket). capped (old.answered + length (filter is_ret_submit ps))) sends;
-        unlinked = ap (λ (k : Kept). k.unlinked) is ∙ ap (λ (ps : List ClientPacket). capped (old.unlinked + length (filter is_won_unlink ps))) sends;
-        dropped = ap (λ (k : Kept). k.dropped) is ∙ capped-same old.dropped few ∙ ap (λ (ss : List Submission). capped (old.dropped + length ss)) (sym (answer-dropped st id o));
-      }
+      does-quiet st (Answers id o) refl old new rows left (length (filter is_ret_submit (sent found))) (length (filter is_won_unlink (sent found))) out (record out { to_client = client_new; notes = notes_new }) h few is
+      (live_is ∙ ap (map row) (sym (answer-left st id o))) left_is
+      (ap (λ (ps : List ClientPacket). length (filter is_ret_submit ps)) sends) (ap (λ (ps : List ClientPacket). length (filter is_won_unlink ps)) sends) (answer-dropped st id o)
+      (client ∙ ap (λ (ps : List ClientPacket). out.to_client ++ flat_map client_spelling ps) sends)
+      (host-same st.agreed (Answers id o) out.to_host st.live stays-uncancelled
+      ∙ ap (λ (ps : List (ℕ × RedirPacket)). out.to_host ++ flat_map (host_packet_bytes st.agreed) ps) (sym (append-nil (map cancel (filter (cancels (Answers id o)) st.live)))))
+      (notes ∙ ap (λ (ns : List Note). out.notes ++ ns) tells)
 
 -- ---- the answer of the one that waits
 
@@ -320,7 +302,7 @@ module _ (st : State) (id : ℕ) (response : Response) (sound : IsSound st) wher
 
 -- ---- what is wrong of an answer
 
-abbrev pub wrong_of : State → ℕ → Header → Response → Submission → Option Refusal
+abbrev wrong_of : State → ℕ → Header → Response → Submission → Option Refusal
 wrong_of st at h response s = mismatch at (head_size (wide_ids st.agreed)) s h.kind response
 
 -- by the row of the request that waits for it, and by its submit
@@ -350,21 +332,34 @@ found-wrong old st at place h response holds is fits =
     of (Some p) r a e = one p.submit p.unlinker
     of None r a e = left r a e
 
-pub is-refused : (st : State) (at : ℕ) (h : Header) (response : Response) (o : Option Submission) (r : Refusal) → option_and_then (wrong_of st at h response) o ≡ Some r → answer_to st at h response o ≡ Refuses r
+is-refused : (st : State) (at : ℕ) (h : Header) (response : Response) (o : Option Submission) (r : Refusal) → option_and_then (wrong_of st at h response) o ≡ Some r → answer_to st at h response o ≡ Refuses r
 is-refused st at h response None r e = absurd (false≢true (sym (ap is_none e)))
 is-refused st at h response (Some s) r e = ap (answered_as h.id (seen s.request s.verdict response)) e
 
-pub is-completed : (st : State) (at : ℕ) (h : Header) (response : Response) (o : Option Submission) → option_and_then (wrong_of st at h response) o ≡ None → answer_to st at h response o ≡ completes h.id response o
+is-completed : (st : State) (at : ℕ) (h : Header) (response : Response) (o : Option Submission) → option_and_then (wrong_of st at h response) o ≡ None → answer_to st at h response o ≡ completes h.id response o
 is-completed st at h response None e = refl
 is-completed st at h response (Some s) e = ap (answered_as h.id (seen s.request s.verdict response)) e
 
 -- by the row that is found
-pub wrong-at : (old : Kept) (st : State) (at place : ℕ) (h : Header) (response : Response) (l : Live) → Holds old st → place ≡ capped at → ResponseFits h.kind (Some response) →
+wrong-at : (old : Kept) (st : State) (at place : ℕ) (h : Header) (response : Response) (l : Live) → Holds old st → place ≡ capped at → ResponseFits h.kind (Some response) →
     find (has_row_id h.id) (in_flight old.lives) ≡ Some l →
     row_mismatch place (head_size (wide_ids old.caps)) l h.kind response ≡ option_and_then (wrong_of st at h response) (find (has_id h.id) (submits st ++ st.abandoned))
 wrong-at old st at place h response l holds is fits found =
     ap (option_and_then (λ k. row_mismatch place (head_size (wide_ids old.caps)) k h.kind response)) (sym found ∙ find-append (has_row_id h.id) old.lives.live old.lives.abandoned)
     ∙ found-wrong old st at place h response holds is fits
+
+-- by the place of the request in flight, of which this is found to be wrong
+module _ (old : Kept) (st : State) (at place i : ℕ) (h : Header) (response : Response) (found : Option Refusal) (holds : Holds old st) (is : place ≡ capped at) (fits : ResponseFits h.kind (Some response))
+    (there : position (has_row_id h.id) (in_flight old.lives) ≡ Some i)
+    (value : (l : Live) → slice_get (in_flight old.lives) i ≡ Some l → found ≡ row_mismatch place (head_size (wide_ids old.caps)) l h.kind response) where
+  judged : option_and_then (wrong_of st at h response) (find (has_id h.id) (submits st ++ st.abandoned)) ≡ found
+  judged = let one = is-there (has_row_id h.id) old.lives i there in sym (wrong-at old st at place h response one.live holds is fits one.found) ∙ sym (value one.live one.at)
+
+  pub means-refusal : (r : Refusal) → found ≡ Some r → Refuses r ≡ answer_to st at h response (find (has_id h.id) (submits st ++ st.abandoned))
+  means-refusal r e = sym (is-refused st at h response (find (has_id h.id) (submits st ++ st.abandoned)) r (judged ∙ e))
+
+  pub means-end : found ≡ None → completes h.id response (find (has_id h.id) (submits st ++ st.abandoned)) ≡ answer_to st at h response (find (has_id h.id) (submits st ++ st.abandoned))
+  means-end e = sym (is-completed st at h response (find (has_id h.id) (submits st ++ st.abandoned)) (judged ∙ e))
 
 -- an answer of which nothing is wrong is that of the live request that waits for it
 pub found-answer : (caps : Caps) (place head kind i : ℕ) (response : Response) (rows left : List Live) (l : Live) → Each (IsFine caps) rows → ResponseFits kind (Some response) →
@@ -450,7 +445,7 @@ does-tell st at header response fact old mid out_old out_new going d =
 pub does-agree : (st : State) (old : Kept) (caps : Caps) (out : Outputs) → Holds old st → old.answered ≤ 2 ^ 64 - 1 → old.unlinked ≤ 2 ^ 64 - 1 → old.dropped ≤ 2 ^ 64 - 1 →
     Does st (mark_as st (Agrees caps) None) old (record old { caps = caps }) out out
 does-agree st old caps out h answered_fits unlinked_fits dropped_fits =
-    does-steady st (Agrees caps) (agrees-steady st caps) old (record old { caps = caps }) old.lives.live out out h answered_fits unlinked_fits dropped_fits
+    does-steady st (Agrees caps) refl (silent-is st (Agrees caps) refl) (λ s. refl) old (record old { caps = caps }) old.lives.live out out h answered_fits unlinked_fits dropped_fits
     (rows-same (Agrees caps) old.lives.live st.live (λ s. refl) h.live) refl (sym (append-nil out.to_client)) (host-same st.agreed (Agrees caps) out.to_host st.live stays-uncancelled) (sym (append-nil out.notes))
 
 pub told-other : (st : State) (at : ℕ) (h : Header) (p : RedirControl) → ((hello : Hello) → p ≡ plain.Hello hello → ⊥) → (p ≡ plain.Disconnect → ⊥) →

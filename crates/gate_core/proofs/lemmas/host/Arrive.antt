@@ -1,5 +1,5 @@
 -- What a packet of a stream makes of what is kept.
-use Rattle.std.proofs.Common.{◌≡◌, ◌≤◌, ◌%◌, ◌==◌, ℕ, Bool, true, false, cond, List, [], ◌∷◌, ◌++◌, length, map, Option, Some, None, Result, Ok, Err, OnOk, OnErr, refl, sym, ap, ◌∙◌, subst, inl, inr, arith}
+use Rattle.std.proofs.Common.{◌≡◌, ◌≤◌, ◌%◌, ◌==◌, ℕ, Bool, true, false, cond, List, [], ◌∷◌, ◌++◌, length, map, get_or, Option, Some, None, Result, Ok, Err, OnOk, OnErr, refl, sym, ap, ◌∙◌, subst, inl, inr, arith}
 use Rattle.std.specs.Prelude.{nat_lt, filter, slice_set}
 use Rattle.std.specs.Option.{option_map}
 use Rattle.std.proofs.lemmas.Bool.{lt-ltb, ltb-true, cases_Bool}
@@ -22,13 +22,15 @@ use Rattle.gate_history.specs.write.Output.{present}
 use Rattle.gate_parts.specs.state.Rows.{row}
 use Rattle.gate_parts.specs.host.Fill.{up_fill, up_bytes, filled_notes}
 use Rattle.gate_core.specs.inner.Fill.{with_packet, received_bytes, received_notes, HasEnded, HasReceivedIf, HasReceived}
-use Rattle.gate_core.specs.inner.Holds.{IsKept, Holds, Does}
-use Rattle.gate_history.proofs.lemmas.Lists.{Each, every, filter-map, map-map}
+use Rattle.gate_core.specs.inner.Holds.{IsKept, Holds, Does, StopsShort}
+use Rattle.gate_parts.specs.write.Extends.{Extends}
+use Rattle.gate_history.proofs.lemmas.Lists.{Each, filter-map, map-map}
 use Rattle.gate_core.proofs.lemmas.client.WaitRows.{IsGoing, all-going}
-use Rattle.gate_core.proofs.lemmas.step.Steady.{IsSteady, does-steady, rows-same, host-same}
+use Rattle.gate_core.proofs.lemmas.step.Quiet.{silent-is}
+use Rattle.gate_core.proofs.lemmas.step.Steady.{does-steady, rows-same, host-same}
 use Rattle.gate_history.proofs.lemmas.step.NoCancel.{stays-uncancelled}
 use Rattle.gate_core.proofs.lemmas.host.Fill.{Differ, number, requests, waiters, fillings, FillsAll, fills-all}
-use Rattle.gate_core.proofs.lemmas.host.FillItem.{IsFiller, does-fill-up}
+use Rattle.gate_core.proofs.lemmas.host.FillItem.{does-fill-up}
 use Rattle.gate_parts.proofs.lemmas.state.Places.{set-twice, set-back}
 
 -- ---- the stream of an address
@@ -98,24 +100,8 @@ module _ (st : State) (sound : IsSound st) (ep : ℕ) (packet : StreamPacket) (u
   filled : fill up.row.max_packet (waiting st ep) (up.held ++ packet ∷ []) ≡ fill up.row.max_packet (requests (waiters ep (present st held))) (up.held ++ packet ∷ [])
   filled = ap (λ (rs : List Request). fill up.row.max_packet rs (up.held ++ packet ∷ [])) (waiting-are st ep ∙ ap (λ (ps : List Pending). requests (waiters ep ps)) (sym here))
 
-  arrives-filler : IsFiller st held ep (fillings up.row.max_packet (waiters ep (present st held)) (up.held ++ packet ∷ []))
-  arrives-filler = record {
-    stays = refl;
-    keeps = refl;
-    open_host = refl;
-    no_caps = refl;
-    no_import = refl;
-    no_refusal = refl;
-    no_end = refl;
-    answers_none = λ s. refl;
-    no_word = λ caps. refl;
-    no_place = refl;
-    no_reply = refl;
-    no_asks = λ s. refl;
-    no_cancel = stays-uncancelled;
-    no_fence = λ fence. refl;
-    fills = λ s. ap (λ (f : Fill). packets_end ep f.fillings s) filled;
-  }
+  fills : (s : Submission) → own_end held s ≡ packets_end ep (fillings up.row.max_packet (waiters ep (present st held)) (up.held ++ packet ∷ [])) s
+  fills s = ap (λ (f : Fill). packets_end ep f.fillings s) filled
 
   all : FillsAll up.row.max_packet ep (present st held) (up.held ++ packet ∷ [])
   all =
@@ -132,7 +118,7 @@ module _ (st : State) (sound : IsSound st) (ep : ℕ) (packet : StreamPacket) (u
       notes_new ≡ out.notes ++ note.Arrived ep ∷ filled_notes (up_fill ep (with_packet packet up) between.lives.live) →
       Does st (mark_as st held None) old new out (record out { to_client = client_new; notes = notes_new })
   does-hold up_new old between mid new out client_new notes_new h k at between-is ended is client notes =
-      does-fill-up st held up.row.max_packet ep (up.held ++ packet ∷ []) arrives-filler all up up_new old between mid new out (record out { to_client = client_new; notes = notes_new })
+      does-fill-up st held up.row.max_packet ep (up.held ++ packet ∷ []) refl fills all up up_new old between mid new out (record out { to_client = client_new; notes = notes_new })
       (fill up.row.max_packet (waiting st ep) (up.held ++ packet ∷ [])) h k.unlinked_fits k.dropped_fits at refl filled refl refl
       (ap (λ (t : Kept). t.lives.live) between-is ∙ h.live ∙ ap (map row) (sym here))
       (between-is ∙ ap (λ (t : Kept). record old { lives = t.lives; streams = slice_set old.streams (endpoint_index ep) None }) (sym between-is))
@@ -147,29 +133,11 @@ module _ (st : State) (ep : ℕ) (up : Up) (at : stream_at st.streams ep ≡ Som
   none-ends : (s : Submission) → packets_end ep [] s ≡ None
   none-ends s = elim (waits_at ep s) as (λ b. cond b (option_map ByPackets None) None ≡ None) [ true ↦ refl | false ↦ refl ]
 
-  lost-steady : IsSteady st lost
-  lost-steady = record {
-    stays = refl;
-    keeps = refl;
-    open_host = refl;
-    no_refusal = refl;
-    no_end = refl;
-    opens = refl;
-    ends_none = every (λ (p : Pending). own_end lost p.submit ≡ None) (λ p. none-ends p.submit) st.live;
-    answers_none = λ s. refl;
-    no_packets = refl;
-    no_ids = refl;
-    no_word = λ caps. refl;
-    no_place = refl;
-    no_answer = refl;
-    none_won = refl;
-  }
-
   -- it is told, and nothing changes
   pub does-lose : (old new : Kept) (out : Outputs) (notes_new : List Note) → Holds old st → IsKept old → new ≡ old →
       notes_new ≡ out.notes ++ note.Arrived ep ∷ [] → Does st (mark_as st lost None) old new out (record out { notes = notes_new })
   does-lose old new out notes_new h k is notes =
-      does-steady st lost lost-steady old new old.lives.live out (record out { notes = notes_new }) h k.answered_fits k.unlinked_fits k.dropped_fits
+      does-steady st lost refl (silent-is st lost refl) none-ends old new old.lives.live out (record out { notes = notes_new }) h k.answered_fits k.unlinked_fits k.dropped_fits
       (rows-same lost old.lives.live st.live (λ s. refl) h.live)
       (is ∙ ap (λ (ups : List (Option Up)). record old { streams = ups }) (sym same)) (sym (append-nil out.to_client)) (host-same st.agreed lost out.to_host st.live stays-uncancelled) notes
     where
@@ -216,6 +184,22 @@ does-receive st sound endpoint iso packet up up_new old between mid new out clie
         subst (λ (bs : List ℕ). Does st (mark_as st (Arrives endpoint (none_filled up.held)) None) old new out (record out { to_client = bs; notes = notes_new })) (sym (cl ∙ append-nil out.to_client))
         (does-lose st endpoint up (ap (λ (ups : List (Option Up)). stream_at ups endpoint) (sym h.streams) ∙ at) old new out notes_new h k same nt)
 
-pub on-err : {T E : Type 0} {P Q R U S : Type 0} (r : Result T E) → (P → Q → R → U → S) → OnErr r P → OnErr r Q → OnErr r R → OnErr r U → OnErr r S
+on-err : {T E : Type 0} {P Q R U S : Type 0} (r : Result T E) → (P → Q → R → U → S) → OnErr r P → OnErr r Q → OnErr r R → OnErr r U → OnErr r S
 on-err (Ok v) f p q r u = tt
 on-err (Err e) f p q r u = f p q r u
+
+-- for want of memory the stream is put back as it was
+pub puts-back : {T E : Type 0} (r : Result T E) (old mid : Kept) (up up_new : Up) (i : ℕ) (taken put : List (Option Up)) (out : Outputs) (client_new : List ℕ) (notes_new : List Note) →
+    taken ≡ slice_set old.streams i None → Some up ≡ get_or old.streams i None → put ≡ slice_set mid.streams i (Some up_new) →
+    OnErr r (mid ≡ record old { streams = taken }) → OnErr r (up_new ≡ up) → OnErr r (Extends out.to_client client_new) → OnErr r (Extends out.notes notes_new) →
+    OnErr r (StopsShort old (record mid { streams = put }) out (record out { to_client = client_new; notes = notes_new }))
+puts-back r old mid up up_new i taken put out client_new notes_new taken-is here put-is =
+    on-err r (λ same back client notes. record {
+      same = ap (λ (t : Kept). record t { streams = put }) same
+          ∙ ap (λ (ups : List (Option Up)). record old { streams = ups })
+          (put-is ∙ ap (λ (t : Kept). slice_set t.streams i (Some up_new)) same ∙ (λ j. slice_set (taken-is j) i (Some (back j)))
+          ∙ set-twice old.streams i None (Some up) ∙ ap (slice_set old.streams i) here ∙ set-back old.streams i None);
+      client = client;
+      host = record { more = []; is = sym (append-nil out.to_host) };
+      notes = notes;
+    })

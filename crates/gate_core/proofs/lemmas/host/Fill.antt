@@ -24,6 +24,7 @@ use Rattle.gate_parts.specs.host.Fill.{rows_fill, filled_bytes, filled_notes, by
 use Rattle.gate_history.proofs.lemmas.Lists.{Each, Each-weaker, Each-filter, every, both, filter-same, filter-none, filter-twice, flat_map-same, flat_map-filter, flat_map-none}
 use Rattle.unlink_race.specs.Requests.{Requests}
 use Rattle.gate_core.specs.declared.state.kept.Kept.{Kept}
+use Rattle.gate_core.proofs.lemmas.Held.{with-requests}
 use Rattle.gate_core.specs.inner.Holds.{IsKept}
 use Rattle.gate_core.proofs.lemmas.host.Answer.{Each-without, length-without}
 use Rattle.gate_core.proofs.lemmas.client.WaitRows.{IsGoing, waits-row, waits-rows}
@@ -40,18 +41,10 @@ few-left test (suc n) ls = let a = length-without test (without_firsts n test ls
 
 pub kept-filled : (t : Kept) (n : ℕ) (test : Live → Bool) (lives : Requests) (answered : ℕ) → IsKept t → lives ≡ record t.lives { live = without_firsts n test t.lives.live } → answered ≤ 2 ^ 64 - 1
     → IsKept (record t { lives = lives; answered = answered })
-kept-filled t n test lives answered k is fits = record {
-  fine = subst (λ (r : Requests). Each (IsFine t.caps) r.live) (sym is) (each-left (IsFine t.caps) test n t.lives.live k.fine);
-  apart = λ i. ap (λ (r : Requests). r.abandoned) is ∙ k.apart i;
-  few = let a = ap (λ (r : Requests). length r.live) is in let b = few-left test n t.lives.live in omega (arith, a, b, k.few);
-  left = let a = ap (λ (r : Requests). length r.abandoned) is in omega (arith, a, k.left);
-  places = k.places;
-  started = k.started;
-  stopped = k.stopped;
-  answered_fits = fits;
-  unlinked_fits = k.unlinked_fits;
-  dropped_fits = k.dropped_fits;
-}
+kept-filled t n test lives answered k is fits =
+    subst (λ (r : Requests). IsKept (record t { lives = r; answered = answered })) (sym is)
+    (with-requests t (record t.lives { live = without_firsts n test t.lives.live }) answered t.unlinked k (each-left (IsFine t.caps) test n t.lives.live k.fine) k.apart
+    (let fewer = few-left test n t.lives.live in omega (arith, fewer, k.few)) k.left fits k.unlinked_fits)
 
 -- ---- of those that wait, whose numbers differ
 

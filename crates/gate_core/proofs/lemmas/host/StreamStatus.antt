@@ -8,7 +8,6 @@ use Rattle.usb_base.specs.Status.{errno_of, is_success}
 use Rattle.usbip_urb.specs.declared.packet.UrbPacket.{UrbPacket}
 use Rattle.usbip_urb.specs.declared.client.ClientPacket.TheVariants.{Urb}
 use Rattle.unlink_race.specs.declared.live.Live.{Live}
-use Rattle.gate_history.specs.declared.note.Note.{Note}
 use Rattle.gate_core.specs.declared.write.outputs.Outputs.{Outputs}
 use Rattle.gate_core.specs.declared.state.kept.Kept.{Kept}
 use Rattle.gate_history.specs.step.Items.{capped}
@@ -27,31 +26,12 @@ use Rattle.gate_parts.specs.state.Rows.{row, row_request}
 use Rattle.gate_core.specs.inner.StreamEnd.{is_told, status_bytes, HasStreamEnd}
 use Rattle.gate_core.specs.inner.Holds.{Holds, Does}
 use Rattle.gate_history.proofs.lemmas.Lists.{Each, Each-weaker, filter-all}
-use Rattle.gate_core.proofs.lemmas.host.Loss.{capped-same}
+use Rattle.gate_core.proofs.lemmas.step.Quiet.{capped-same, silent-is}
 use Rattle.gate_history.proofs.lemmas.step.NoCancel.{asks-none, stays-uncancelled}
 use Rattle.gate_core.proofs.lemmas.step.Steady.{host-same}
 use Rattle.gate_core.proofs.lemmas.client.WaitRows.{IsGoing, all-going, waits-row}
-use Rattle.gate_core.proofs.lemmas.state.RequestEnds.{EndsSo, ends-so, ended_packets, stay-rows, counted-all, counted-none, IsEnding, does-ending}
+use Rattle.gate_core.proofs.lemmas.state.RequestEnds.{EndsSo, ends-so, ended_packets, stay-rows, counted-all, counted-none, does-ending}
 use Rattle.gate_core.proofs.lemmas.write.Gives.{by-client}
-
-stream_told-ending : (st : State) (id ep : ℕ) (status : UsbStatus) → IsEnding st (StreamTold id ep status)
-stream_told-ending st id ep status = record {
-  stays = refl;
-  keeps = refl;
-  open_host = refl;
-  no_caps = refl;
-  no_import = refl;
-  no_refusal = refl;
-  no_end = refl;
-  opens = refl;
-  answers_none = λ s. refl;
-  no_packets = refl;
-  no_ids = refl;
-  no_word = λ caps. refl;
-  no_place = refl;
-  no_answer = refl;
-  none_won = refl;
-}
 
 module _ (st : State) (sound : IsSound st) (id ep : ℕ) (status : UsbStatus) where
   abbrev told : Effect
@@ -74,7 +54,7 @@ module _ (st : State) (sound : IsSound st) (id ep : ℕ) (status : UsbStatus) wh
       client_new ≡ out.to_client ++ flat_map (status_bytes ep status) old.lives.live →
       Does st (mark_as st (StreamTold id ep status) None) old new out (record out { to_client = client_new })
   does-tell_stream old mid new out client_new h unlinked_fits dropped_fits ended is client =
-      does-ending st told (is_told ep status) packet (stream_told-ending st id ep status) all-so old new
+      does-ending st told (is_told ep status) packet refl (silent-is st told refl) all-so old new
       (filter (λ l. not (is_told ep status l)) old.lives.live) (length (filter (is_told ep status) old.lives.live)) 0
       out (record out { to_client = client_new }) h dropped_fits
       (counted-all told (is_told ep status) packet is_ret_submit (λ l. refl) st.live all-so ∙ ap (λ (ls : List Live). length (filter (is_told ep status) ls)) (sym h.live))

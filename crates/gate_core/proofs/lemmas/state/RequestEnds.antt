@@ -1,44 +1,31 @@
 -- Items that end some of the live requests, which are those whose rows pass a test: what is left, and what is sent for them.
-use Rattle.std.proofs.Common.{◌≡◌, ℕ, suc, ◌+◌, ◌^◌, ◌-◌, ◌≤◌, ◌&&◌, ◌||◌, Bool, true, false, cond, not, List, [], ◌∷◌, ◌++◌, length, map, Option, Some, None, refl, sym, ap, ◌∙◌}
-use Rattle.std.specs.Prelude.{is_none, unwrap_or, filter, zip}
+use Rattle.std.proofs.Common.{◌≡◌, ℕ, suc, ◌^◌, ◌-◌, ◌≤◌, Bool, true, false, cond, not, List, [], ◌∷◌, ◌++◌, length, map, Some, None, refl, sym, ap, ◌∙◌}
+use Rattle.std.specs.Prelude.{is_none, filter}
 use Rattle.std.specs.List.{flat_map}
-use Rattle.std.proofs.lemmas.List.{append-nil}
-use Rattle.std.proofs.lemmas.List.Elements.{filter-append}
 use Rattle.std.proofs.lemmas.Grind.{flat_map-append}
 use Rattle.usbip_urb.specs.declared.packet.UrbPacket.{UrbPacket}
 use Rattle.usbip_urb.specs.declared.client.ClientPacket.{ClientPacket}
 use Rattle.usbip_urb.specs.declared.client.ClientPacket.TheVariants.{Urb}
 use Rattle.usbip_urb.specs.ClientPackets.{client_spelling}
 use Rattle.usbip_urb.specs.Spelling.{spelling}
-use Rattle.redir_wire.specs.declared.packet.Caps.{Caps}
-use Rattle.redir_data.specs.declared.packet.RedirPacket.{RedirPacket}
 use Rattle.unlink_race.specs.declared.live.Live.{Live}
-use Rattle.gate_history.specs.declared.note.Note.{Note}
 use Rattle.gate_history.specs.declared.note.Note.TheVariants as note
 use Rattle.gate_core.specs.declared.write.outputs.Outputs.{Outputs}
 use Rattle.gate_core.specs.declared.state.kept.Kept.{Kept}
-use Rattle.gate_history.specs.step.Items.{capped}
-use Rattle.gate_history.specs.step.Marks.{Submission, Effect}
-use Rattle.gate_history.specs.state.Facts.{no_facts, tell}
-use Rattle.gate_history.specs.state.Sides.{refused_at, leaves, is_loss, closes_host, imports, refuses_client, ends_client, agrees}
-use Rattle.gate_history.specs.client.Submits.{Pending, End, opened, ends, is_answered}
-use Rattle.gate_history.specs.state.Ids.{last_of}
-use Rattle.gate_history.specs.state.Ups.{no_streams, moved_streams}
-use Rattle.gate_history.specs.write.Packets.{asked_packets}
-use Rattle.gate_history.specs.state.Calls.{called, last_or, moved_fence}
-use Rattle.gate_history.specs.state.State.{State, submits}
-use Rattle.gate_history.specs.client.Verdict.{goes_by_id}
-use Rattle.gate_history.specs.step.Meaning.{mark_as, drawn_by}
+use Rattle.gate_history.specs.step.Marks.{Effect}
+use Rattle.gate_history.specs.client.Submits.{Pending, End, ends}
+use Rattle.gate_history.specs.state.State.{State}
+use Rattle.gate_history.specs.step.Meaning.{mark_as}
 use Rattle.gate_history.specs.write.Answers.{answers, answers_at}
-use Rattle.gate_history.specs.write.Output.{fresh, present, replies, cancels, cancel, acknowledgements, to_client}
-use Rattle.gate_history.specs.write.Notes.{when, import_notes, submit_notes, unlink_notes, arrival_notes, answer_notes, is_by_answer, refusal_notes, is_by_client}
+use Rattle.gate_history.specs.write.Output.{present, answered, replies, cancels, cancel}
+use Rattle.gate_history.specs.write.Notes.{import_notes, submit_notes, unlink_notes, arrival_notes, is_by_answer, is_by_client}
 use Rattle.gate_history.specs.write.All.{is_ret_submit, is_won_unlink}
 use Rattle.gate_history.specs.write.Bytes.{host_packet_bytes}
 use Rattle.gate_history.specs.step.Machine.{ask}
-use Rattle.gate_parts.specs.state.Rows.{row, unmarked, left_row}
+use Rattle.gate_parts.specs.state.Rows.{row}
 use Rattle.gate_core.specs.inner.Holds.{Holds, Does}
-use Rattle.gate_history.proofs.lemmas.Lists.{Each, Each-weaker, every, filter-same, filter-none, filter-all, filter-map}
-use Rattle.gate_core.proofs.lemmas.host.Loss.{capped-same}
+use Rattle.gate_history.proofs.lemmas.Lists.{Each, Each-weaker, filter-same, filter-none, filter-map}
+use Rattle.gate_core.proofs.lemmas.step.Quiet.{is_quiet, IsSilent, moved_alone, none-opened, does-silent}
 
 -- ---- the live requests that an item ends
 
@@ -113,87 +100,31 @@ module _ (e : Effect) (test : Live → Bool) (packet : Live → UrbPacket) where
 
 -- ---- an effect that ends some of them, opens none and asks the host for nothing
 
-pub record IsEnding (st : State) (e : Effect) : Type 0 where
-  pub stays : leaves e ≡ false
-  pub keeps : is_loss e ≡ false
-  pub open_host : closes_host e ≡ false
-  pub no_caps : agrees e ≡ None
-  pub no_import : imports e ≡ false
-  pub no_refusal : refuses_client e ≡ false
-  pub no_end : ends_client e ≡ false
-  pub opens : opened e ≡ []
-  pub answers_none : (s : Submission) → is_answered e s ≡ false
-  pub no_packets : asked_packets st.streams e ≡ []
-  pub no_ids : drawn_by st e ≡ []
-  pub no_word : (caps : Caps) → acknowledgements caps e ≡ []
-  pub no_place : refused_at e ≡ None
-  pub no_answer : filter is_ret_submit (replies st e) ≡ []
-  pub none_won : filter is_won_unlink (replies st e) ≡ []
-
-module _ (st : State) (e : Effect) (test : Live → Bool) (packet : Live → UrbPacket) (l : IsEnding st e) (so : Each (EndsSo e test packet) st.live) where
+module _ (st : State) (e : Effect) (test : Live → Bool) (packet : Live → UrbPacket) (quiet : is_quiet e ≡ true) (s : IsSilent st e) (so : Each (EndsSo e test packet) st.live) where
   here : present st e ≡ st.live
-  here = ap (λ (ss : List Submission). st.live ++ map fresh ss) l.opens ∙ append-nil st.live
+  here = none-opened st e quiet s
 
-  ending-sent : to_client st (mark_as st e None) ≡ replies st e ++ map Urb (ended_packets e test packet st.live)
-  ending-sent = ap (λ (ps : List Pending). replies st e ++ map Urb (ended_packets e test packet ps)) here
-
-  ending-counted : (which : ClientPacket → Bool) → filter which (replies st e) ≡ [] → length (filter which (to_client st (mark_as st e None))) ≡ length (filter which (map Urb (ended_packets e test packet st.live)))
-  ending-counted which none =
-      ap (λ (ps : List ClientPacket). length (filter which ps)) ending-sent
-      ∙ ap length (filter-append which (replies st e) (map Urb (ended_packets e test packet st.live)) ∙ ap (λ (ps : List ClientPacket). ps ++ filter which (map Urb (ended_packets e test packet st.live))) none)
+  ending-sent : answered st e ≡ map Urb (ended_packets e test packet st.live)
+  ending-sent = ap (λ (ps : List Pending). map Urb (ended_packets e test packet ps)) here
 
   -- so many submits and unlinks are answered
   pub does-ending : (old new : Kept) (rows : List Live) (done won : ℕ) (out_old out_new : Outputs) → Holds old st → old.dropped ≤ 2 ^ 64 - 1 →
       length (filter is_ret_submit (map Urb (ended_packets e test packet st.live))) ≡ done →
       length (filter is_won_unlink (map Urb (ended_packets e test packet st.live))) ≡ won →
       rows ≡ map row (map (ask e) (filter (λ p. is_none (ends e p.submit)) st.live)) →
-      new ≡ record old {
-        lives = record { live = rows; abandoned = old.lives.abandoned };
-        streams = moved_streams e old.streams;
-        fence = moved_fence e old.fence;
-        answered = capped (old.answered + done);
-        unlinked = capped (old.unlinked + won);
-      } →
+      new ≡ moved_alone e rows done won old →
       out_new.to_client ≡ out_old.to_client ++ (flat_map client_spelling (replies st e) ++ flat_map (λ l. cond (test l) (spelling (packet l)) []) old.lives.live) →
       out_new.to_host ≡ out_old.to_host ++ flat_map (host_packet_bytes st.agreed) (map cancel (filter (cancels e) st.live)) →
       out_new.notes ≡ out_old.notes ++ (import_notes e ++ submit_notes e ++ unlink_notes e ++ arrival_notes e) →
       Does st (mark_as st e None) old new out_old out_new
   does-ending old new rows done won out_old out_new h dropped_fits done-is won-is rows-are is client host notes =
-      record {
-        holds = record {
-          facts = ap (λ (k : Kept). k.facts) is ∙ h.facts ∙ sym (ap (λ (b : Bool). cond b no_facts (tell st.facts None)) l.keeps);
-          caps = ap (λ (k : Kept). k.caps) is ∙ h.caps ∙ sym (ap (λ (a : Option Caps). unwrap_or a st.agreed) l.no_caps);
-          imported = ap (λ (k : Kept). k.imported) is ∙ h.imported ∙ (λ i. cond (sym l.no_import i) true (cond (sym l.stays i) false st.imported));
-          lost = ap (λ (k : Kept). k.lost) is ∙ h.lost ∙ (λ i. cond (sym l.keeps i) true (cond (sym l.no_import i) false st.lost));
-          client_over = ap (λ (k : Kept). k.client_over) is ∙ h.client_over ∙ (λ i. cond (sym l.no_refusal i) true (cond (sym l.no_end i) false st.client_over));
-          host_over = ap (λ (k : Kept). k.host_over) is ∙ h.host_over ∙ sym (ap (λ (b : Bool). cond b true st.host_over) l.open_host);
-          streams = ap (λ (k : Kept). k.streams) is ∙ ap (moved_streams e) h.streams ∙ (λ i. cond (sym l.stays i || sym l.keeps i) no_streams (moved_streams e st.streams));
-          calls = ap (λ (k : Kept). k.calls) is ∙ h.calls ∙ (λ i. called (zip (sym l.no_ids i) (sym l.no_packets i)) st.calls);
-          fence = ap (λ (k : Kept). k.fence) is ∙ ap (moved_fence e) h.fence ∙ (λ i. cond (sym l.stays i) (last_or st.fence (drawn_by st e)) (cond (sym l.keeps i) None (moved_fence e st.fence)));
-          last = ap (λ (k : Kept). k.last) is ∙ h.last ∙ ap (last_of st.last) (sym l.no_ids);
-          live = ap (λ (k : Kept). k.lives.live) is ∙ rows-are ∙ ap (λ (ps : List Pending). map row (map (ask e) (filter (λ p. is_none (ends e p.submit)) ps))) (sym here);
-          abandoned = ap (λ (k : Kept). map unmarked k.lives.abandoned) is ∙ h.abandoned
-              ∙ ap (map left_row) (sym (filter-same (λ s. not (is_answered e s)) (λ s. true) st.abandoned (every (λ s. not (is_answered e s) ≡ true) (λ s. ap not (l.answers_none s)) st.abandoned) ∙ filter-all st.abandoned))
-              ∙ (λ i. map left_row (cond (sym l.stays i) (st.abandoned ++ filter (λ s. goes_by_id s.verdict) (submits st)) (cond (sym l.keeps i) [] (filter (λ s. not (is_answered e s)) st.abandoned))));
-        };
-        client = client ∙ ap (λ (bs : List ℕ). out_old.to_client ++ bs)
-            ((λ i. flat_map client_spelling (replies st e) ++ flat_map (λ l. cond (test l) (spelling (packet l)) []) (h.live i))
-            ∙ ap (λ (bs : List ℕ). flat_map client_spelling (replies st e) ++ bs) (sym (ended-bytes e test packet st.live so))
-            ∙ sym (flat_map-append client_spelling (replies st e) (map Urb (ended_packets e test packet st.live)))
-            ∙ ap (flat_map client_spelling) (sym ending-sent));
-        host = host ∙ ap (λ (ps : List (ℕ × RedirPacket)). out_old.to_host ++ flat_map (host_packet_bytes st.agreed) ps)
-            (sym (append-nil (map cancel (filter (cancels e) st.live))) ∙ sym (append-nil (map cancel (filter (cancels e) st.live) ++ []))
-            ∙ (λ i. (map cancel (filter (cancels e) st.live) ++ zip (sym l.no_ids i) (sym l.no_packets i)) ++ sym (l.no_word st.agreed) i));
-        notes = notes ∙ ap (λ (ns : List Note). out_old.notes ++ ns)
-            (sym (append-nil told) ∙ sym (append-nil (told ++ [])) ∙ sym (append-nil ((told ++ []) ++ [])) ∙ sym (append-nil (((told ++ []) ++ []) ++ []))
-            ∙ (λ i. (((told ++ sym unanswered i) ++ when ((sym l.keeps i && st.imported) && not st.lost) note.DeviceGone) ++ when (sym l.stays i && not st.client_over) note.ClientGone) ++ refusal_notes (sym l.no_place i)));
-        answered = ap (λ (k : Kept). k.answered) is ∙ ap (λ (n : ℕ). capped (old.answered + n)) (sym (ending-counted is_ret_submit l.no_answer ∙ done-is));
-        unlinked = ap (λ (k : Kept). k.unlinked) is ∙ ap (λ (n : ℕ). capped (old.unlinked + n)) (sym (ending-counted is_won_unlink l.none_won ∙ won-is));
-        dropped = ap (λ (k : Kept). k.dropped) is ∙ capped-same old.dropped dropped_fits ∙ ap (λ (ps : List Pending). capped (old.dropped + length (map (λ (p : Pending). p.submit) ps))) (sym (ap (filter (λ p. is_by_client (ends e p.submit))) here ∙ none-dropped e test packet st.live so));
-      }
-    where
-      told : List Note
-      told = import_notes e ++ submit_notes e ++ unlink_notes e ++ arrival_notes e
-
-      unanswered : answer_notes st e ≡ []
-      unanswered = ap (map (λ (p : Pending). note.Answered p.submit.request.number)) (ap (filter (λ p. is_by_answer (ends e p.submit))) here ∙ none-told e test packet st.live so)
+      does-silent st e quiet s old new rows done won out_old out_new h dropped_fits is
+      (rows-are ∙ ap (λ (ps : List Pending). map row (map (ask e) (filter (λ p. is_none (ends e p.submit)) ps))) (sym here))
+      (sym done-is ∙ ap (λ (ps : List ClientPacket). length (filter is_ret_submit ps)) (sym ending-sent)) (sym won-is ∙ ap (λ (ps : List ClientPacket). length (filter is_won_unlink ps)) (sym ending-sent))
+      (ap (map (λ (p : Pending). note.Answered p.submit.request.number)) (ap (filter (λ p. is_by_answer (ends e p.submit))) here ∙ none-told e test packet st.live so))
+      (ap (map (λ (p : Pending). p.submit)) (ap (filter (λ p. is_by_client (ends e p.submit))) here ∙ none-dropped e test packet st.live so))
+      (client ∙ ap (λ (bs : List ℕ). out_old.to_client ++ bs)
+      ((λ i. flat_map client_spelling (replies st e) ++ flat_map (λ l. cond (test l) (spelling (packet l)) []) (h.live i))
+      ∙ ap (λ (bs : List ℕ). flat_map client_spelling (replies st e) ++ bs) (sym (ended-bytes e test packet st.live so) ∙ ap (flat_map client_spelling) (sym ending-sent))
+      ∙ sym (flat_map-append client_spelling (replies st e) (answered st e))))
+      host notes

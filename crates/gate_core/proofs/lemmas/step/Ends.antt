@@ -10,7 +10,6 @@ use Rattle.redir_data.specs.declared.state.RedirState.{RedirState}
 use Rattle.redir_data.specs.Streams.{start, after}
 use Rattle.redir_data.specs.sound.Joined.{stream_sound}
 use Rattle.usbip_urb.specs.Sound.ClientPackets.{client_packets_sound}
-use Rattle.gate_history.specs.declared.note.Note.{Note}
 use Rattle.gate_history.specs.declared.item.Item.TheVariants as raw
 use Rattle.gate_core.specs.declared.write.outputs.Outputs.{Outputs}
 use Rattle.gate_core.specs.declared.step.inner.Inner.{Inner}

@@ -1,16 +1,16 @@
 -- One event more: what each way of taking it makes of the gate.
-use Rattle.std.proofs.Common.{◌≡◌, ◌⊎◌, ◌<◌, ℕ, Bool, false, List, [], ◌∷◌, length, Option, None, Result, Ok, Err, inl, inr, refl, sym, ap, subst, ◌∙◌}
+use Rattle.std.proofs.Common.{◌≡◌, ◌⊎◌, ℕ, Bool, List, [], ◌∷◌, ◌++◌, Result, Ok, Err, inl, inr, refl, sym, ap, subst, ◌∙◌}
 use Rattle.std.specs.Prelude.{IsErr}
 use Rattle.std.proofs.Math.Logic.{∥∥₁_map}
 use Rattle.std.proofs.lemmas.Bool.{true≢false}
 use Rattle.usb_base.specs.declared.memory.Memory.{Memory}
 use Rattle.usb_base.specs.declared.reason.Reason.{Reason}
 use Rattle.packet_stream.specs.Split.{Reader, Position, split}
-use Rattle.packet_stream.specs.Streams.{StreamView}
+use Rattle.packet_stream.specs.Streams.{StreamView, passed}
+use Rattle.packet_stream.specs.Items.{added}
 use Rattle.packet_stream.proofs.Laws.{IsSteady}
 use Rattle.packet_stream.proofs.Following.{follows-holds}
 use Rattle.redir_data.specs.declared.state.RedirState.{RedirState}
-use Rattle.gate_history.specs.declared.note.Note.{Note}
 use Rattle.gate_core.specs.declared.write.outputs.Outputs.{Outputs}
 use Rattle.gate_core.specs.declared.step.inner.Inner.{Inner}
 use Rattle.gate_core.specs.declared.state.kept.Kept.{Kept as Translator}
@@ -18,14 +18,13 @@ use Rattle.gate_history.specs.step.Events.{Event, ClientPiece, HostPiece, client
 use Rattle.gate_history.specs.step.Items.{Item}
 use Rattle.gate_history.specs.state.Sides.{client_over, host_over}
 use Rattle.gate_history.specs.step.Streams.{client_reader, client_start, host_reader, host_start}
-use Rattle.gate_history.specs.step.Past.{past}
 use Rattle.gate_history.specs.step.History.{brought, onto, arrivals, history}
 use Rattle.gate_history.specs.step.Came.{asked, told}
 use Rattle.gate_core.specs.step.Stands.{IsLeftBy, StreamStands, StandsFor, HasAll, Stands, Stops, HasPast}
 use Rattle.gate_history.specs.step.Wants.{IsHeld, FirstWants}
 use Rattle.gate_core.specs.inner.Holds.{DoesNothing}
-use Rattle.gate_core.specs.inner.Steps.{kept_of, TakesOn, TakesEvent}
-use Rattle.gate_core.specs.inner.Sides.{Packets, IsAt, Finished, Halted, IsUnput, TakesPiece, client_half, host_half}
+use Rattle.gate_core.specs.inner.Steps.{kept_of, TakesEvent}
+use Rattle.gate_core.specs.inner.Sides.{Packets, Half, IsAt, Halted, TakesPiece, client_half, host_half}
 use Rattle.gate_core.proofs.lemmas.step.Take.{follows-all, all-passed}
 use Rattle.gate_core.proofs.lemmas.step.Translator.{gains-none}
 use Rattle.gate_core.proofs.lemmas.step.Sides.{client-steady, host-steady}
@@ -89,63 +88,78 @@ stops-still first old t events e out_old out_new nothing stops =
     subst (λ (x : Translator). Stops first (kept_of (record old { translator = x })) events e out_old.to_client out_new.to_client out_old.to_host out_new.to_host) (sym nothing.same)
     (subst (λ (o : Outputs). Stops first (kept_of old) events e out_old.to_client o.to_client out_old.to_host o.to_host) (sym nothing.outputs) stops)
 
--- ---- a piece of the client
+-- ---- a piece of either side
 
-takes-asked : (first : ℕ) (old : Inner) (kept : StreamView (Unit {0})) (t : Translator) (events : List Event) (piece : List ℕ) (out_old out_new : Outputs) → Stands first (kept_of old) events →
-    Finished first (client_half first) kept t (client_bytes events) piece (arrivals events) out_old out_new →
-    TakesOn first (record old { client = kept; translator = t }) events (ClientPiece piece) out_old out_new
-takes-asked first old kept t events piece out_old out_new stands f = record {
-  stands = record {
-    works = stands.works;
-    translates = f.translates;
-    client = f.all;
-    host = all-same host_reader host_start old.host old.host (host_bytes events) (told (arrivals events)) (told (arrivals (ClientPiece piece ∷ events))) (host_over (history first events)) (host_over (history first (ClientPiece piece ∷ events)))
-        refl (ap (λ (p : Packets). p.1) f.others_are) f.other_over stands.host;
-  };
-  sends = f.sends;
-}
+-- so a side sees the other
+record Sees {S P T Q : Type 0} (own : Half S P) (other : Half T Q) : Type 0 where
+  steady : IsSteady own.stream.reader
+  other_steady : IsSteady other.stream.reader
+  came : (xs ys : List Item) → own.others ys ≡ own.others xs → other.came ys ≡ other.came xs
+  over : (xs : List Item) → own.other_over xs ≡ other.stream.over xs
 
-halts-asked : (first : ℕ) (old : Inner) (kept : StreamView (Unit {0})) (t : Translator) (events : List Event) (piece : List ℕ) (out_old out_new : Outputs) → Stands first (kept_of old) events →
-    Halted first (client_half first) kept t (client_bytes events) piece (arrivals events) out_old out_new →
-    Stops first (kept_of (record old { client = kept; translator = t })) events (ClientPiece piece) out_old.to_client out_new.to_client out_old.to_host out_new.to_host
-halts-asked first old kept t events piece out_old out_new stands h = record {
+-- both streams stand for these items, wherever memory ran out
+record Both {S P T Q : Type 0} (own : Half S P) (other : Half T Q) (mine : StreamView S) (theirs : StreamView T) (bytes their_bytes : List ℕ) (xs : List Item) : Type 0 where
+  own_stands : StreamStands own.stream.reader own.stream.start mine bytes (own.came xs) (own.stream.over xs)
+  other_stands : StreamStands other.stream.reader other.stream.start theirs their_bytes (other.came xs) (other.stream.over xs)
+
+module _ {S P T Q : Type 0} (first : ℕ) (own : Half S P) (other : Half T Q) (sees : Sees own other) (old : StreamView S) (theirs : StreamView T) (events : List Event) (bytes their_bytes : List ℕ)
+    (all : HasAll own.stream.reader own.stream.start old bytes (own.came (arrivals events)) (own.stream.over (arrivals events)))
+    (their_all : HasAll other.stream.reader other.stream.start theirs their_bytes (other.came (arrivals events)) (other.stream.over (arrivals events))) where
+  -- of the other side nothing has changed
+  theirs-same : (xs : List Item) → own.others xs ≡ own.others (arrivals events) → own.other_over xs ≡ own.other_over (arrivals events) → HasAll other.stream.reader other.stream.start theirs their_bytes (other.came xs) (other.stream.over xs)
+  theirs-same xs came over =
+      all-same other.stream.reader other.stream.start theirs theirs their_bytes (other.came (arrivals events)) (other.came xs) (other.stream.over (arrivals events)) (other.stream.over xs)
+      refl (sees.came (arrivals events) xs came) (sym (sees.over xs) ∙ over ∙ sees.over (arrivals events)) their_all
+
+  theirs-stand : (xs : List Item) → own.others xs ≡ own.others (arrivals events) → own.other_over xs ≡ own.other_over (arrivals events) → StreamStands other.stream.reader other.stream.start theirs their_bytes (other.came xs) (other.stream.over xs)
+  theirs-stand xs came over = stands-all other.stream.reader sees.other_steady other.stream.start theirs their_bytes (other.came xs) (other.stream.over xs) (theirs-same xs came over)
+
+  unput-both : (new : StreamView S) → new ≡ passed old → Both own other new theirs bytes their_bytes (arrivals events)
+  unput-both new is = record {
+    own_stands = stands-all own.stream.reader sees.steady own.stream.start new bytes (own.came (arrivals events)) (own.stream.over (arrivals events))
+        (all-passed own.stream.reader sees.steady own.stream.start old new bytes (own.came (arrivals events)) (own.stream.over (arrivals events)) all is);
+    other_stands = theirs-stand (arrivals events) refl refl;
+  }
+
+  halted-both : (new : StreamView S) (t : Translator) (piece : List ℕ) (out_old out_new : Outputs) (h : Halted first own new t bytes piece (arrivals events) out_old out_new) → Both own other new theirs (bytes ++ piece) their_bytes (onto h.taken (arrivals events))
+  halted-both new t piece out_old out_new h = record { own_stands = h.stands; other_stands = theirs-stand (onto h.taken (arrivals events)) h.others_are h.other_over }
+
+-- the event was taken up to an item that memory ran out for
+halted-event : {S P : Type 0} (first : ℕ) (own : Half S P) (new : StreamView S) (t : Translator) (g : Inner) (events : List Event) (e : Event) (bytes piece : List ℕ) (out_old out_new : Outputs) → brought events e ≡ added own.stream bytes piece →
+    (h : Halted first own new t bytes piece (arrivals events) out_old out_new) → StandsFor first (kept_of g) (e ∷ events) (onto h.taken (arrivals events)) → Stops first (kept_of g) events e out_old.to_client out_new.to_client out_old.to_host out_new.to_host
+halted-event first own new t g events e bytes piece out_old out_new brings h stands = record {
   taken = h.taken;
   later = h.next ∷ h.behind;
-  parts = h.parts;
-  seen = ClientPiece piece ∷ events;
+  parts = brings ∙ h.parts;
+  seen = e ∷ events;
   seen-is = inl refl;
   wanted = inr h.wants;
-  stands = record {
-    translates = h.translates;
-    client = h.stands;
-    host = stands-all host_reader host-steady host_start old.host (host_bytes events) (told (onto h.taken (arrivals events))) (host_over (past first (onto h.taken (arrivals events))))
-        (all-same host_reader host_start old.host old.host (host_bytes events) (told (arrivals events)) (told (onto h.taken (arrivals events))) (host_over (history first events)) (host_over (past first (onto h.taken (arrivals events))))
-        refl (ap (λ (p : Packets). p.1) h.others_are) h.other_over stands.host);
-  };
+  stands = stands;
   client = h.sends.client;
   host = h.sends.host;
 }
 
-unput-asked : (first : ℕ) (old : Inner) (kept : StreamView (Unit {0})) (t : Translator) (events : List Event) (piece : List ℕ) (out_old out_new : Outputs) → Stands first (kept_of old) events →
-    IsUnput old.client kept old.translator t piece out_old out_new → Stops first (kept_of (record old { client = kept; translator = t })) events (ClientPiece piece) out_old.to_client out_new.to_client out_old.to_host out_new.to_host
-unput-asked first old kept t events piece out_old out_new stands u =
-    stops-still first (record old { client = kept }) t events (ClientPiece piece) out_old out_new u.nothing
-    (stops-before first (record old { client = kept }) events (ClientPiece piece) out_old.to_client out_old.to_host (record {
-      translates = stands.translates;
-      client = stands-all client_reader client-steady client_start kept (client_bytes events) (asked (arrivals events)) (client_over (history first events))
-          (all-passed client_reader client-steady client_start old.client kept (client_bytes events) (asked (arrivals events)) (client_over (history first events)) stands.client u.kept);
-      host = (stands-for first old events stands).host;
-    }) (inl (u.some.0, sym stands.client.over_is ∙ u.some.1)))
+-- ---- a piece of the client
+
+client-sees : (first : ℕ) → Sees (client_half first) (host_half first)
+client-sees first = record { steady = client-steady; other_steady = host-steady; came = λ xs ys e. ap (λ (p : Packets). p.1) e; over = λ xs. refl }
 
 pub took-asked : (r : Result (Unit {0}) Memory) (old : Inner) (kept : StreamView (Unit {0})) (t : Translator) (piece : List ℕ) (out_old out_new : Outputs) →
     TakesPiece r client_half old.client kept old.translator t piece out_old out_new →
     TakesEvent r old (record old { client = kept; translator = t }) (ClientPiece piece) out_old out_new
 took-asked (Ok v) old kept t piece out_old out_new takes = λ first events stands.
-    takes-asked first old kept t events piece out_old out_new stands (takes first (client_bytes events) (arrivals events) (record { all = stands.client; translates = stands.translates }))
+    let f = takes first (client_bytes events) (arrivals events) (record { all = stands.client; translates = stands.translates }) in
+    let theirs = theirs-same first (client_half first) (host_half first) (client-sees first) old.client old.host events (client_bytes events) (host_bytes events) stands.client stands.host (arrivals (ClientPiece piece ∷ events)) f.others_are f.other_over in
+    record { stands = record { works = stands.works; translates = f.translates; client = f.all; host = theirs }; sends = f.sends }
 took-asked (Err memory) old kept t piece out_old out_new takes = λ first events stands.
+    let e = ClientPiece piece in
     elim (takes first (client_bytes events) (arrivals events) (record { all = stands.client; translates = stands.translates })) [
-      | inl unput ↦ unput-asked first old kept t events piece out_old out_new stands unput
-      | inr halted ↦ halts-asked first old kept t events piece out_old out_new stands halted
+      | inl unput ↦ let b = unput-both first (client_half first) (host_half first) (client-sees first) old.client old.host events (client_bytes events) (host_bytes events) stands.client stands.host kept unput.kept in
+          stops-still first (record old { client = kept }) t events e out_old out_new unput.nothing
+          (stops-before first (record old { client = kept }) events e out_old.to_client out_old.to_host (record { translates = stands.translates; client = b.own_stands; host = b.other_stands })
+          (inl (unput.some.0, sym stands.client.over_is ∙ unput.some.1)))
+      | inr halted ↦ let b = halted-both first (client_half first) (host_half first) (client-sees first) old.client old.host events (client_bytes events) (host_bytes events) stands.client stands.host kept t piece out_old out_new halted in
+          halted-event first (client_half first) kept t (record old { client = kept; translator = t }) events e (client_bytes events) piece out_old out_new refl halted (record { translates = halted.translates; client = b.own_stands; host = b.other_stands })
     ]
 
 -- it stands somewhere
@@ -154,61 +168,25 @@ asked-past old has = ∥∥₁_map has (λ w. (w.0, (client_bytes w.1.0, (arriva
 
 -- ---- a piece of the host
 
-takes-told : (first : ℕ) (old : Inner) (kept : StreamView RedirState) (t : Translator) (events : List Event) (piece : List ℕ) (out_old out_new : Outputs) → Stands first (kept_of old) events →
-    Finished first (host_half first) kept t (host_bytes events) piece (arrivals events) out_old out_new →
-    TakesOn first (record old { host = kept; translator = t }) events (HostPiece piece) out_old out_new
-takes-told first old kept t events piece out_old out_new stands f = record {
-  stands = record {
-    works = stands.works;
-    translates = f.translates;
-    host = f.all;
-    client = all-same client_reader client_start old.client old.client (client_bytes events) (asked (arrivals events)) (asked (arrivals (HostPiece piece ∷ events))) (client_over (history first events)) (client_over (history first (HostPiece piece ∷ events)))
-        refl (ap (λ (p : Packets). p.0) f.others_are) f.other_over stands.client;
-  };
-  sends = f.sends;
-}
-
-halts-told : (first : ℕ) (old : Inner) (kept : StreamView RedirState) (t : Translator) (events : List Event) (piece : List ℕ) (out_old out_new : Outputs) → Stands first (kept_of old) events →
-    Halted first (host_half first) kept t (host_bytes events) piece (arrivals events) out_old out_new →
-    Stops first (kept_of (record old { host = kept; translator = t })) events (HostPiece piece) out_old.to_client out_new.to_client out_old.to_host out_new.to_host
-halts-told first old kept t events piece out_old out_new stands h = record {
-  taken = h.taken;
-  later = h.next ∷ h.behind;
-  parts = h.parts;
-  seen = HostPiece piece ∷ events;
-  seen-is = inl refl;
-  wanted = inr h.wants;
-  stands = record {
-    translates = h.translates;
-    host = h.stands;
-    client = stands-all client_reader client-steady client_start old.client (client_bytes events) (asked (onto h.taken (arrivals events))) (client_over (past first (onto h.taken (arrivals events))))
-        (all-same client_reader client_start old.client old.client (client_bytes events) (asked (arrivals events)) (asked (onto h.taken (arrivals events))) (client_over (history first events)) (client_over (past first (onto h.taken (arrivals events))))
-        refl (ap (λ (p : Packets). p.0) h.others_are) h.other_over stands.client);
-  };
-  client = h.sends.client;
-  host = h.sends.host;
-}
-
-unput-told : (first : ℕ) (old : Inner) (kept : StreamView RedirState) (t : Translator) (events : List Event) (piece : List ℕ) (out_old out_new : Outputs) → Stands first (kept_of old) events →
-    IsUnput old.host kept old.translator t piece out_old out_new → Stops first (kept_of (record old { host = kept; translator = t })) events (HostPiece piece) out_old.to_client out_new.to_client out_old.to_host out_new.to_host
-unput-told first old kept t events piece out_old out_new stands u =
-    stops-still first (record old { host = kept }) t events (HostPiece piece) out_old out_new u.nothing
-    (stops-before first (record old { host = kept }) events (HostPiece piece) out_old.to_client out_old.to_host (record {
-      translates = stands.translates;
-      host = stands-all host_reader host-steady host_start kept (host_bytes events) (told (arrivals events)) (host_over (history first events))
-          (all-passed host_reader host-steady host_start old.host kept (host_bytes events) (told (arrivals events)) (host_over (history first events)) stands.host u.kept);
-      client = (stands-for first old events stands).client;
-    }) (inl (u.some.0, sym stands.host.over_is ∙ u.some.1)))
+host-sees : (first : ℕ) → Sees (host_half first) (client_half first)
+host-sees first = record { steady = host-steady; other_steady = client-steady; came = λ xs ys e. ap (λ (p : Packets). p.0) e; over = λ xs. refl }
 
 pub took-told : (r : Result (Unit {0}) Memory) (old : Inner) (kept : StreamView RedirState) (t : Translator) (piece : List ℕ) (out_old out_new : Outputs) →
     TakesPiece r host_half old.host kept old.translator t piece out_old out_new →
     TakesEvent r old (record old { host = kept; translator = t }) (HostPiece piece) out_old out_new
 took-told (Ok v) old kept t piece out_old out_new takes = λ first events stands.
-    takes-told first old kept t events piece out_old out_new stands (takes first (host_bytes events) (arrivals events) (record { all = stands.host; translates = stands.translates }))
+    let f = takes first (host_bytes events) (arrivals events) (record { all = stands.host; translates = stands.translates }) in
+    let theirs = theirs-same first (host_half first) (client_half first) (host-sees first) old.host old.client events (host_bytes events) (client_bytes events) stands.host stands.client (arrivals (HostPiece piece ∷ events)) f.others_are f.other_over in
+    record { stands = record { works = stands.works; translates = f.translates; client = theirs; host = f.all }; sends = f.sends }
 took-told (Err memory) old kept t piece out_old out_new takes = λ first events stands.
+    let e = HostPiece piece in
     elim (takes first (host_bytes events) (arrivals events) (record { all = stands.host; translates = stands.translates })) [
-      | inl unput ↦ unput-told first old kept t events piece out_old out_new stands unput
-      | inr halted ↦ halts-told first old kept t events piece out_old out_new stands halted
+      | inl unput ↦ let b = unput-both first (host_half first) (client_half first) (host-sees first) old.host old.client events (host_bytes events) (client_bytes events) stands.host stands.client kept unput.kept in
+          stops-still first (record old { host = kept }) t events e out_old out_new unput.nothing
+          (stops-before first (record old { host = kept }) events e out_old.to_client out_old.to_host (record { translates = stands.translates; client = b.other_stands; host = b.own_stands })
+          (inl (unput.some.0, sym stands.host.over_is ∙ unput.some.1)))
+      | inr halted ↦ let b = halted-both first (host_half first) (client_half first) (host-sees first) old.host old.client events (host_bytes events) (client_bytes events) stands.host stands.client kept t piece out_old out_new halted in
+          halted-event first (host_half first) kept t (record old { host = kept; translator = t }) events e (host_bytes events) piece out_old out_new refl halted (record { translates = halted.translates; client = b.other_stands; host = b.own_stands })
     ]
 
 -- it stands somewhere

@@ -14,7 +14,6 @@ use Rattle.packet_stream.specs.Streams.{StreamView, passed, after_piece, Follows
 use Rattle.packet_stream.specs.Items.{packets, wrongs, items, added}
 use Rattle.packet_stream.proofs.Loops.{changed_to}
 use Rattle.gate_history.specs.declared.item.Item.{Item as RawItem}
-use Rattle.gate_history.specs.declared.note.Note.{Note}
 use Rattle.gate_core.specs.declared.write.outputs.Outputs.{Outputs}
 use Rattle.gate_core.specs.declared.state.kept.Kept.{Kept as Translator}
 use Rattle.gate_history.specs.step.Items.{Item}

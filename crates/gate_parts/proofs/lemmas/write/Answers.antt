@@ -15,30 +15,31 @@ use Rattle.unlink_race.specs.declared.ending.Ending.{Ending}
 use Rattle.unlink_race.specs.declared.ending.Ending.TheVariants.{Completed, Unlinked, CompletedThenLate}
 use Rattle.unlink_race.specs.Endings.{ending_of}
 use Rattle.gate_history.specs.write.Errno.{econnreset, eshutdown}
+use Rattle.gate_history.specs.client.Requests.{Request}
 use Rattle.gate_history.specs.client.Verdict.{is_wire}
 use Rattle.gate_history.specs.step.Marks.{Submission}
 use Rattle.gate_history.specs.write.Answers.{is_cancelled, ret_unlink, without_packets, with_outcome, answers_by, lost_answer}
 use Rattle.gate_parts.specs.state.Rows.{is_wire_row, IsRowOf, row_request}
 
-pub row-without : (s : Submission) (l : Live) (st : ℤ) → IsRowOf s l → without_packets (row_request l) st ≡ without_packets s.request st
-row-without s l st row = λ i. without_packets (record {
+-- of a request an answer has these alone
+abbrev answered-of : Request → Request
+answered-of r = record r { transfer = record { ep = 0; setup = None; wanted = r.transfer.wanted; body = [] } }
+
+row-answered : (s : Submission) (l : Live) → IsRowOf s l → row_request l ≡ answered-of s.request
+row-answered s l row = λ i. record {
   number = row.number i;
   is_in = row.is_in i;
   flags = row.flags i;
   packets = row.packets i;
   descs = row.descs i;
   transfer = record { ep = 0; setup = None; wanted = row.wanted i; body = [] };
-}) st
+}
+
+pub row-without : (s : Submission) (l : Live) (st : ℤ) → IsRowOf s l → without_packets (row_request l) st ≡ without_packets s.request st
+row-without s l st row = ap (λ (r : Request). without_packets r st) (row-answered s l row)
 
 pub row-outcome : (s : Submission) (l : Live) (o : Outcome) → IsRowOf s l → with_outcome (row_request l) o ≡ with_outcome s.request o
-row-outcome s l o row = λ i. with_outcome (record {
-  number = row.number i;
-  is_in = row.is_in i;
-  flags = row.flags i;
-  packets = row.packets i;
-  descs = row.descs i;
-  transfer = record { ep = 0; setup = None; wanted = row.wanted i; body = [] };
-}) o
+row-outcome s l o row = ap (λ (r : Request). with_outcome r o) (row-answered s l row)
 
 -- ---- by how it ends
 

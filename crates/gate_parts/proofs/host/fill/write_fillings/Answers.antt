@@ -9,28 +9,16 @@ use Rattle.gate_parts.specs.host.Fill.{row_cut, cut_bytes, HasTaken, waiting_row
 use Rattle.gate_parts.proofs.lemmas.host.FillLoop.{waiting-at, left-next, left-none, left-all, none-left, none-held, stopped, taken, moved, extended, some-filled, cut-some, on-err}
 use Rattle.gate_parts.proofs.host.fill.write_fillings.Goals as goal
 
-pub returns-then-filled-held-clause-filled : goal.returns-then-filled-held-clause-filled
-returns-then-filled-held-clause-filled c =
+pub returns-then-filled-held : goal.returns-then-filled-held
+returns-then-filled-held c =
     let all = none-held c.loop-nth.invariant.so_far (c.if-filled-held.true ∙ c.len-held.ensures.len ∙ ap (λ (b : Held). length b.packets) c.inbox.ensures) in
-    record { requests = all.requests; few = all.few; left = all.left }
-
-pub returns-then-filled-held-clause-sent : goal.returns-then-filled-held-clause-sent
-returns-then-filled-held-clause-sent c = (none-held c.loop-nth.invariant.so_far (c.if-filled-held.true ∙ c.len-held.ensures.len ∙ ap (λ (b : Held). length b.packets) c.inbox.ensures)).sent
-
-pub returns-then-filled-held-clause-told : goal.returns-then-filled-held-clause-told
-returns-then-filled-held-clause-told c = (none-held c.loop-nth.invariant.so_far (c.if-filled-held.true ∙ c.len-held.ensures.len ∙ ap (λ (b : Held). length b.packets) c.inbox.ensures)).told
+    record { same = c.loop-nth.invariant.same; filled = record { requests = all.requests; few = all.few; left = all.left }; sent = all.sent; told = all.told; err = tt; err_notes = tt; wants = tt }
 
 -- no more wait
-pub returns-in_default-clause-filled : goal.returns-in_default-clause-filled
-returns-in_default-clause-filled c =
+pub returns-in_default : goal.returns-in_default
+returns-in_default c =
     let all = none-left c.loop-nth.invariant.so_far (left-none (waiting_rows c.args.ep c.args.lives.now.live) c.loop-nth.nth (sym c.in_default.ensures)) in
-    record { requests = all.requests; few = all.few; left = all.left }
-
-pub returns-in_default-clause-sent : goal.returns-in_default-clause-sent
-returns-in_default-clause-sent c = (none-left c.loop-nth.invariant.so_far (left-none (waiting_rows c.args.ep c.args.lives.now.live) c.loop-nth.nth (sym c.in_default.ensures))).sent
-
-pub returns-in_default-clause-told : goal.returns-in_default-clause-told
-returns-in_default-clause-told c = (none-left c.loop-nth.invariant.so_far (left-none (waiting_rows c.args.ep c.args.lives.now.live) c.loop-nth.nth (sym c.in_default.ensures))).told
+    record { same = c.loop-nth.invariant.same; filled = record { requests = all.requests; few = all.few; left = all.left }; sent = all.sent; told = all.told; err = tt; err_notes = tt; wants = tt }
 
 pub write_filling-requires-clause-packets : goal.write_filling-requires-clause-packets
 write_filling-requires-clause-packets c =
@@ -46,36 +34,15 @@ write_filling-requires-clause-lies c =
     fine.0.lies fine.1
 
 -- the next isn't filled
-pub returns-in_default-2-clause-filled : goal.returns-in_default-2-clause-filled
-returns-in_default-2-clause-filled c =
+pub returns-in_default-2 : goal.returns-in_default-2
+returns-in_default-2 c =
     let l = c.in-Some.live.now in
-    let k = c.loop-nth.filled.packets in
     let same = c.loop-nth.invariant.same in
-    let cut-at = λ (u : Up). row_cut u.row.max_packet l (drop k u.held) in
-    let none = subst (λ t. HasTaken t (drop k c.loop-nth.up.held) (cut-at c.loop-nth.up)) c.in_default-2.is c.in_ok-taken.ensures.taken in
+    let cut-at = λ (u : Up). row_cut u.row.max_packet l (drop c.loop-nth.filled.packets u.held) in
+    let none = subst (λ t. HasTaken t (drop c.loop-nth.filled.packets c.loop-nth.up.held) (cut-at c.loop-nth.up)) c.in_default-2.is c.in_ok-taken.ensures.taken in
     let all = stopped c.loop-nth.invariant.so_far l (left-next (waiting_rows c.args.ep c.args.lives.now.live) c.loop-nth.nth l (sym c.in-Some.ensures)) (sym (ap cut-at same) ∙ none)
     (c.in_ok-taken.ensures.sent ∙ ap (λ (u : Up). c.loop-nth.to_client ++ cut_bytes l (cut-at u)) same) in
-    record { requests = all.requests; few = all.few; left = all.left }
-
-pub returns-in_default-2-clause-sent : goal.returns-in_default-2-clause-sent
-returns-in_default-2-clause-sent c =
-    let l = c.in-Some.live.now in
-    let k = c.loop-nth.filled.packets in
-    let same = c.loop-nth.invariant.same in
-    let cut-at = λ (u : Up). row_cut u.row.max_packet l (drop k u.held) in
-    let none = subst (λ t. HasTaken t (drop k c.loop-nth.up.held) (cut-at c.loop-nth.up)) c.in_default-2.is c.in_ok-taken.ensures.taken in
-    (stopped c.loop-nth.invariant.so_far l (left-next (waiting_rows c.args.ep c.args.lives.now.live) c.loop-nth.nth l (sym c.in-Some.ensures)) (sym (ap cut-at same) ∙ none)
-    (c.in_ok-taken.ensures.sent ∙ ap (λ (u : Up). c.loop-nth.to_client ++ cut_bytes l (cut-at u)) same)).sent
-
-pub returns-in_default-2-clause-told : goal.returns-in_default-2-clause-told
-returns-in_default-2-clause-told c =
-    let l = c.in-Some.live.now in
-    let k = c.loop-nth.filled.packets in
-    let same = c.loop-nth.invariant.same in
-    let cut-at = λ (u : Up). row_cut u.row.max_packet l (drop k u.held) in
-    let none = subst (λ t. HasTaken t (drop k c.loop-nth.up.held) (cut-at c.loop-nth.up)) c.in_default-2.is c.in_ok-taken.ensures.taken in
-    (stopped c.loop-nth.invariant.so_far l (left-next (waiting_rows c.args.ep c.args.lives.now.live) c.loop-nth.nth l (sym c.in-Some.ensures)) (sym (ap cut-at same) ∙ none)
-    (c.in_ok-taken.ensures.sent ∙ ap (λ (u : Up). c.loop-nth.to_client ++ cut_bytes l (cut-at u)) same)).told
+    record { same = c.write_filling.ensures.same ∙ same; filled = record { requests = all.requests; few = all.few; left = all.left }; sent = all.sent; told = all.told; err = tt; err_notes = tt; wants = tt }
 
 pub loop-nth-preserved : goal.loop-nth-preserved
 loop-nth-preserved c =
@@ -95,21 +62,11 @@ loop-nth-preserved c =
     }
 
 -- all were gone over
-pub returns-clause-filled : goal.returns-clause-filled
-returns-clause-filled c =
+pub returns : goal.returns
+returns c =
     let past : length c.args.lives.now.live ≤ c.loop-nth.nth = omega (arith, c.loop-nth-test.false, c.len-nth-end.ensures.len) in
     let all = none-left c.loop-nth.invariant.so_far (left-all c.args.ep c.args.lives.now.live c.loop-nth.nth past) in
-    record { requests = all.requests; few = all.few; left = all.left }
-
-pub returns-clause-sent : goal.returns-clause-sent
-returns-clause-sent c =
-    let past : length c.args.lives.now.live ≤ c.loop-nth.nth = omega (arith, c.loop-nth-test.false, c.len-nth-end.ensures.len) in
-    (none-left c.loop-nth.invariant.so_far (left-all c.args.ep c.args.lives.now.live c.loop-nth.nth past)).sent
-
-pub returns-clause-told : goal.returns-clause-told
-returns-clause-told c =
-    let past : length c.args.lives.now.live ≤ c.loop-nth.nth = omega (arith, c.loop-nth-test.false, c.len-nth-end.ensures.len) in
-    (none-left c.loop-nth.invariant.so_far (left-all c.args.ep c.args.lives.now.live c.loop-nth.nth past)).told
+    record { same = c.loop-nth.invariant.same; filled = record { requests = all.requests; few = all.few; left = all.left }; sent = all.sent; told = all.told; err = tt; err_notes = tt; wants = tt }
 
 -- memory ran out for one that is filled
 pub returns-in_err-taken-clause-wants : goal.returns-in_err-taken-clause-wants

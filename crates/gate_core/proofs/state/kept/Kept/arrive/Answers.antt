@@ -1,7 +1,6 @@
-use Rattle.std.proofs.Common.{◌≡◌, ◌∙◌, ◌++◌, ◌∷◌, [], ℕ, List, Option, Some, None, ap, sym, subst, refl, arith}
+use Rattle.std.proofs.Common.{◌≡◌, ◌∙◌, ◌++◌, ◌∷◌, ℕ, List, Option, Some, None, ap, sym, subst, refl, arith}
 use Rattle.std.specs.Prelude.{slice_set}
 use Rattle.std.proofs.lemmas.Bool.{false≢true}
-use Rattle.std.proofs.lemmas.List.{append-nil}
 use Rattle.usb_base.specs.Endpoint.{endpoint_index}
 use Rattle.gate_history.specs.declared.note.Note.TheVariants as note
 use Rattle.gate_history.specs.step.Marks.{Idle}
@@ -11,8 +10,8 @@ use Rattle.gate_history.specs.state.Ups.{Up, stream_at, stream_of}
 use Rattle.gate_history.specs.step.Meaning.{mark_as, arrives}
 use Rattle.gate_core.specs.inner.Holds.{Does}
 use Rattle.gate_core.proofs.lemmas.step.Steady.{does-idle}
-use Rattle.gate_parts.proofs.lemmas.state.Places.{set-back, set-twice}
-use Rattle.gate_core.proofs.lemmas.host.Arrive.{of-address, of-none, on-ok, on-err, does-receive}
+use Rattle.gate_parts.proofs.lemmas.state.Places.{set-back}
+use Rattle.gate_core.proofs.lemmas.host.Arrive.{of-address, of-none, on-ok, puts-back, does-receive}
 use Rattle.gate_history.specs.step.Wants.{GivesSome}
 use Rattle.gate_core.proofs.lemmas.write.Gives.{by-arrival}
 use Rattle.gate_core.proofs.lemmas.write.InTurn as stopping
@@ -59,20 +58,8 @@ returns-clause-ok c st h sound =
 
 pub returns-clause-err : goal.returns-clause-err
 returns-clause-err c =
-    let old = c.args.self.now in
-    let i = endpoint_index c.in-Some.ep in
-    on-err c.receive-received.result
-    (λ same up client notes. record {
-      same = ap (λ (t : Kept). record t { streams = c.put.new.self }) same
-          ∙ ap (λ (ups : List (Option Up)). record old { streams = ups })
-          (c.put.ensures ∙ ap (λ (t : Kept). slice_set t.streams i (Some c.receive-received.new.up)) same
-          ∙ (λ j. slice_set (c.in-Some-take.ensures.rest j) i (Some (up j)))
-          ∙ set-twice old.streams i None (Some c.in-Some-take.up) ∙ ap (slice_set old.streams i) c.in-Some-take.ensures.up ∙ set-back old.streams i None);
-      client = client;
-      host = record { more = []; is = sym (append-nil c.args.out.now.to_host) };
-      notes = notes;
-    })
-    c.receive-received.ensures.same c.receive-received.ensures.same_up c.receive-received.ensures.err c.receive-received.ensures.err_notes
+    puts-back c.receive-received.result c.args.self.now c.receive-received.new.self c.in-Some-take.up c.receive-received.new.up (endpoint_index c.in-Some.ep) c.take.new.self c.put.new.self c.args.out.now c.receive-received.new.to_client c.receive-received.new.notes
+    c.in-Some-take.ensures.rest c.in-Some-take.ensures.up c.put.ensures c.receive-received.ensures.same c.receive-received.ensures.same_up c.receive-received.ensures.err c.receive-received.ensures.err_notes
 
 pub returns-clause-wants : goal.returns-clause-wants
 returns-clause-wants c st h =

@@ -10,7 +10,7 @@ use Rattle.unlink_race.proofs.Firsts.{took_first, took_none, position_found}
 use Rattle.gate_core.specs.declared.state.kept.Kept.{Kept}
 use Rattle.gate_core.specs.declared.client.unlink.UnlinkAnswer.{UnlinkAnswer}
 use Rattle.gate_core.specs.inner.Unlink.{asked_of}
-use Rattle.gate_core.proofs.lemmas.host.Loss.{capped-same}
+use Rattle.gate_core.proofs.lemmas.step.Quiet.{capped-same}
 use Rattle.gate_core.proofs.lemmas.client.UnlinkRows.{Told, rows-told}
 use Rattle.gate_core.proofs.lemmas.client.Unlink.{one-numbered, does-unlink}
 use Rattle.gate_core.proofs.state.kept.Kept.ask_back.Goals as goal

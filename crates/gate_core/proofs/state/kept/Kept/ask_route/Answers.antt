@@ -12,28 +12,26 @@ use Rattle.gate_history.proofs.lemmas.state.Draws.{length-draws}
 use Rattle.gate_core.proofs.lemmas.state.Ids.{route-ids, route-id, route-one}
 use Rattle.gate_core.proofs.state.kept.Kept.ask_route.Goals as goal
 
+-- two ids that are drawn in turn
+in-turn : (m : ℕ) (f : List ℕ) (last first second : ℕ) → first ≡ draw m f last → second ≡ draw m f first → first ∷ second ∷ [] ≡ draw m f last ∷ draw m f (draw m f last) ∷ []
+in-turn m f last first second a b = λ i. a i ∷ (b ∙ ap (draw m f) a) i ∷ []
+
 pub returns-clause-sent : goal.returns-clause-sent
 returns-clause-sent c =
     let t = c.args.self.now in
     let r = c.args.route.now in
-    let m = greatest (wide_ids t.caps) in
-    let f = flying_in t in
-    let first = c.draw-first.ensures.value in
-    let second = c.draw-second.ensures.value ∙ ap (draw m f) first in
-    let ids : take c.packet_count-count.result (c.draw-first.result ∷ c.draw-second.result ∷ []) ≡ ids_after t c.args.last (length (route_packets r)) =
-    (λ i. take (c.packet_count-count.ensures.count i) (first i ∷ second i ∷ [])) ∙ route-ids m f c.args.last r in
-    c.in_ok-write_route.ensures.ok ∙ ap (λ (ns : List ℕ). c.args.to_host.now ++ flat_map (host_packet_bytes t.caps) (zip ns (route_packets r))) ids
+    let drawn = in-turn (greatest (wide_ids t.caps)) (flying_in t) c.args.last _ _ c.draw-first.ensures.value c.draw-second.ensures.value in
+    c.in_ok-write_route.ensures.ok ∙ ap (λ (ns : List ℕ). c.args.to_host.now ++ flat_map (host_packet_bytes t.caps) (zip ns (route_packets r)))
+    ((λ i. take (c.packet_count-count.ensures.count i) (drawn i)) ∙ route-ids (greatest (wide_ids t.caps)) (flying_in t) c.args.last r)
 
 pub returns-clause-id : goal.returns-clause-id
 returns-clause-id c =
     let t = c.args.self.now in
     let r = c.args.route.now in
-    let m = greatest (wide_ids t.caps) in
-    let f = flying_in t in
-    let first = c.draw-first.ensures.value in
-    let second = c.draw-second.ensures.value ∙ ap (draw m f) first in
-    (λ i. get_or (first i ∷ second i ∷ []) (c.packet_count-count.ensures.count i - 1) 0) ∙ route-id m f c.args.last r c.requires.some
-    ∙ last-any 0 c.args.last (ids_after t c.args.last (length (route_packets r))) (let n = length-draws m f c.args.last (length (route_packets r)) in omega (arith, n, c.requires.some))
+    let drawn = in-turn (greatest (wide_ids t.caps)) (flying_in t) c.args.last _ _ c.draw-first.ensures.value c.draw-second.ensures.value in
+    let n = length-draws (greatest (wide_ids t.caps)) (flying_in t) c.args.last (length (route_packets r)) in
+    (λ i. get_or (drawn i) (c.packet_count-count.ensures.count i - 1) 0) ∙ route-id (greatest (wide_ids t.caps)) (flying_in t) c.args.last r c.requires.some
+    ∙ last-any 0 c.args.last (ids_after t c.args.last (length (route_packets r))) (omega (arith, n, c.requires.some))
 
 pub returns-clause-fits : goal.returns-clause-fits
 returns-clause-fits c =

@@ -1,4 +1,4 @@
-use Rattle.std.proofs.Common.{◌<◌, not, false, None, List, [], ◌++◌, length, refl, sym, ap, subst, ◌∙◌, arith}
+use Rattle.std.proofs.Common.{◌<◌, not, false, None, List, ◌++◌, length, refl, sym, ap, subst, ◌∙◌, arith}
 use Rattle.std.proofs.lemmas.List.{append-nil}
 use Rattle.gate_core.specs.declared.state.kept.Kept.{Kept}
 use Rattle.gate_history.specs.declared.note.Note.{Note}
@@ -6,7 +6,7 @@ use Rattle.gate_history.specs.declared.note.Note.TheVariants as note
 use Rattle.usb_base.specs.declared.side.Side.TheVariants.{Client}
 use Rattle.gate_history.specs.step.Marks.{Ends}
 use Rattle.gate_history.specs.write.Notes.{when}
-use Rattle.gate_core.proofs.lemmas.client.Leave.{end-leaves, left-none, does-leave}
+use Rattle.gate_core.proofs.lemmas.client.Leave.{leaving-cancels, does-leave}
 use Rattle.gate_core.proofs.lemmas.state.Ids.{parts-are, leaving-sent, stops-are}
 use Rattle.gate_core.proofs.lemmas.write.InTurn.{extends-after, on-err, leaves-host}
 use Rattle.std.specs.Prelude.{filter}
@@ -20,19 +20,15 @@ use Rattle.gate_core.proofs.state.kept.Kept.client_left.Goals as goal
 pub returns-clause-ok : goal.returns-clause-ok
 returns-clause-ok c st h =
     let old = c.args.self.now in
-    does-leave st _ [] (end-leaves st) c.in_ok-called.called old _ c.args.out.now _ _ h c.requires.kept.answered_fits c.requires.kept.unlinked_fits
+    does-leave st (Ends Client) refl refl refl c.in_ok-called.called old _ c.args.out.now _ _ h c.requires.kept.answered_fits c.requires.kept.unlinked_fits
     (parts-are old st h (Ends Client) c.in_ok-called.called refl c.in_ok-called.ensures.called)
-    (ap (λ (k : Kept). record k { client_over = false }) (left-none c.in_ok-called.called old c.leave.new.self c.leave.ensures.left))
+    (ap (λ (k : Kept). record k { client_over = false }) c.leave.ensures.left.is)
     (leaving-sent old st h (Ends Client) refl c.args.out.now.to_host _ _ c.in_ok-write_cancels.ensures.ok c.in_ok-called.ensures.sent)
     (c.in_ok-tell_gone.ensures.ok ∙ ap (λ (ns : List Note). c.args.out.now.notes ++ ns) (sym (append-nil (when (not old.client_over) note.ClientGone))))
 
 pub returns-in_err-called-clause-err : goal.returns-in_err-called-clause-err
-returns-in_err-called-clause-err c = on-err c.from_residual-in_err-called.result _ (record {
-  same = refl;
-  client = record { more = []; is = sym (append-nil c.args.out.now.to_client) };
-  host = extends-after c.args.out.now.to_host c.write_cancels.new.to_host c.write_stops.new.to_host _ c.in_ok-write_cancels.ensures.ok c.in_err-called.ensures.err;
-  notes = record { more = []; is = sym (append-nil c.args.out.now.notes) };
-})
+returns-in_err-called-clause-err c = on-err c.from_residual-in_err-called.result _ (leaves-host c.args.self.now c.args.self.now c.args.out.now c.write_stops.new.to_host refl
+    (extends-after c.args.out.now.to_host c.write_cancels.new.to_host c.write_stops.new.to_host _ c.in_ok-write_cancels.ensures.ok c.in_err-called.ensures.err))
 
 pub returns-in_err-write_cancels-clause-wants : goal.returns-in_err-write_cancels-clause-wants
 returns-in_err-write_cancels-clause-wants c st h =
@@ -41,7 +37,7 @@ returns-in_err-write_cancels-clause-wants c st h =
       arith,
       c.in_err-write_cancels.ensures.wants,
       ap (λ (ls : List Live). length (filter is_cancelled_row ls)) h.live,
-      cancelled-some (cancels (Ends Client)) (end-leaves st).cancel_is st.live,
+      cancelled-some (cancels (Ends Client)) (leaving-cancels st (Ends Client) refl refl) st.live,
     )))
 
 pub returns-in_err-called-clause-wants : goal.returns-in_err-called-clause-wants

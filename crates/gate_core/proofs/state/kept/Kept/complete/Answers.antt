@@ -1,13 +1,11 @@
-use Rattle.std.proofs.Common.{◌≡◌, ◌∙◌, ◌+◌, ℕ, Bool, true, false, not, cond, refl, sym, ap, subst, arith}
+use Rattle.std.proofs.Common.{◌≡◌, ◌∙◌, ◌+◌, ℕ, Bool, true, false, not, cond, refl, sym, ap, arith}
 use mir.Val.{bool_byte}
 use Rattle.std.specs.Option.{option_copied}
 use Rattle.unlink_race.specs.Searches.{has_id}
-use Rattle.unlink_race.specs.Requests.{Requests}
-use Rattle.gate_core.specs.inner.Holds.{IsKept}
 use Rattle.gate_parts.specs.state.Rows.{IsFine}
 use Rattle.gate_parts.specs.host.Responses.{response_view}
 use Rattle.gate_history.specs.step.Items.{capped}
-use Rattle.gate_core.proofs.lemmas.Held.{live-taken, left-taken, is-fewer, each-at}
+use Rattle.gate_core.proofs.lemmas.Held.{live-taken, left-taken, without-one, each-at}
 use Rattle.gate_core.proofs.lemmas.host.Answer.{does-live, live-gives, does-late}
 use Rattle.gate_core.proofs.lemmas.write.InTurn.{on-err}
 use Rattle.gate_core.proofs.state.kept.Kept.complete.Goals as goal
@@ -31,21 +29,8 @@ write_completed-requires-clause-read c =
 
 pub returns-clause-kept : goal.returns-clause-kept
 returns-clause-kept c =
-    let old = c.args.self.now in
-    let kept = c.requires.kept in
-    let fewer = is-fewer (IsFine old.caps) old.lives c.args.at in
-    subst (λ (r : Requests). IsKept (record old { lives = r; answered = c.saturating_add-self.result; unlinked = c.saturating_add-self-2.result })) (sym c.finish_at-2.ensures.rest) (record {
-      fine = fewer.fine kept.fine;
-      apart = λ h. fewer.none_left (kept.apart h);
-      few = omega (arith, kept.few, fewer.few);
-      left = omega (arith, kept.left, fewer.left_few);
-      places = kept.places;
-      started = kept.started;
-      stopped = kept.stopped;
-      answered_fits = omega (arith, c.saturating_add-self.ensures);
-      unlinked_fits = omega (arith, c.saturating_add-self-2.ensures);
-      dropped_fits = kept.dropped_fits;
-    })
+    without-one c.args.self.now c.args.at c.finish_at-2.new.self c.saturating_add-self.result c.saturating_add-self-2.result c.requires.kept c.finish_at-2.ensures.rest
+    (omega (arith, c.saturating_add-self.ensures)) (omega (arith, c.saturating_add-self-2.ensures))
 
 lost-one : (won : Bool) → bool_byte (not won) ≡ cond won 0 1
 lost-one true = refl
@@ -66,21 +51,8 @@ returns-clause-ok c st id is h sound =
 
 pub returns-in_default-clause-kept : goal.returns-in_default-clause-kept
 returns-in_default-clause-kept c =
-    let old = c.args.self.now in
-    let kept = c.requires.kept in
-    let fewer = is-fewer (IsFine old.caps) old.lives c.args.at in
-    subst (λ (r : Requests). IsKept (record old { lives = r })) (sym c.finish_at.ensures.rest) (record {
-      fine = fewer.fine kept.fine;
-      apart = λ h. fewer.none_left (kept.apart h);
-      few = omega (arith, kept.few, fewer.few);
-      left = omega (arith, kept.left, fewer.left_few);
-      places = kept.places;
-      started = kept.started;
-      stopped = kept.stopped;
-      answered_fits = kept.answered_fits;
-      unlinked_fits = kept.unlinked_fits;
-      dropped_fits = kept.dropped_fits;
-    })
+    let k = c.requires.kept in
+    without-one c.args.self.now c.args.at c.finish_at.new.self c.args.self.now.answered c.args.self.now.unlinked k c.finish_at.ensures.rest k.answered_fits k.unlinked_fits
 
 pub returns-in_err-won-clause-wants : goal.returns-in_err-won-clause-wants
 returns-in_err-won-clause-wants c st id is h sound =

@@ -3,7 +3,7 @@ use Rattle.std.proofs.lemmas.List.{append-nil, length-map}
 use Rattle.gate_history.specs.declared.note.Note.{Note}
 use Rattle.gate_history.specs.declared.note.Note.TheVariants as note
 use Rattle.gate_history.specs.write.Notes.{when}
-use Rattle.gate_core.proofs.lemmas.host.Loss.{disconnect-loses, lost-is, does-loss}
+use Rattle.gate_core.proofs.lemmas.host.Loss.{lost-is, does-loss}
 use Rattle.redir_wire.specs.declared.packet.Caps.{Caps}
 use Rattle.gate_history.specs.step.Marks.{Disconnects}
 use Rattle.gate_history.specs.write.Output.{acknowledgements}
@@ -16,7 +16,7 @@ pub returns-clause-ok : goal.returns-clause-ok
 returns-clause-ok c st h =
     let old = c.args.self.now in
     let lost = lost-is c.in_ok-unlinked.unlinked old c.lose.new.self c.lose.ensures.lost c.in_ok-unlinked.ensures.count in
-    does-loss st _ _ (disconnect-loses st c.args.id) old _ _ _ h c.requires.kept.dropped_fits lost c.in_ok-unlinked.ensures.ok c.in_ok-acknowledge.ensures.ok
+    does-loss st (Disconnects c.args.id) None refl refl refl old _ _ _ h c.requires.kept.dropped_fits lost c.in_ok-unlinked.ensures.ok c.in_ok-acknowledge.ensures.ok
     (c.in_ok-tell_loss.ensures.ok ∙ ap (λ (ns : List Note). c.args.out.now.notes ++ ns) (sym (append-nil (when (old.imported && not old.lost) note.DeviceGone))))
 
 pub returns-in_err-unlinked-clause-wants : goal.returns-in_err-unlinked-clause-wants

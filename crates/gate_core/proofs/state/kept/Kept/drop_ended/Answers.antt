@@ -8,6 +8,7 @@ use Rattle.gate_history.specs.step.Items.{capped}
 use Rattle.gate_parts.specs.state.Rows.{IsFine}
 use Rattle.gate_core.specs.inner.Holds.{IsKept}
 use Rattle.gate_history.proofs.lemmas.Lists.{Each-filter, length-filter}
+use Rattle.gate_core.proofs.lemmas.Held.{with-requests}
 use Rattle.gate_core.proofs.state.kept.Kept.drop_ended.Goals as goal
 
 pub overflow_sub-ended : goal.overflow_sub-ended
@@ -21,18 +22,10 @@ returns-clause-kept c =
     let old = c.args.self.now in
     let stays = λ (l : Live). not (ended_by c.args.end.now l) in
     let fewer = length-filter stays old.lives.live in
-    subst (λ (r : Requests). IsKept (record old { lives = r; answered = c.saturating_add-self.result })) (sym c.drop_ended.ensures) (record {
-      fine = Each-filter (IsFine old.caps) stays old.lives.live c.requires.kept.fine;
-      apart = c.requires.kept.apart;
-      few = omega (arith, c.requires.kept.few, fewer);
-      left = c.requires.kept.left;
-      places = c.requires.kept.places;
-      started = c.requires.kept.started;
-      stopped = c.requires.kept.stopped;
-      answered_fits = omega (arith, c.saturating_add-self.ensures);
-      unlinked_fits = c.requires.kept.unlinked_fits;
-      dropped_fits = c.requires.kept.dropped_fits;
-    })
+    let k = c.requires.kept in
+    subst (λ (r : Requests). IsKept (record old { lives = r; answered = c.saturating_add-self.result })) (sym c.drop_ended.ensures)
+    (with-requests old (record old.lives { live = filter stays old.lives.live }) c.saturating_add-self.result old.unlinked k (Each-filter (IsFine old.caps) stays old.lives.live k.fine) k.apart
+    (omega (arith, k.few, fewer)) k.left (omega (arith, c.saturating_add-self.ensures)) k.unlinked_fits)
 
 pub returns-clause-dropped : goal.returns-clause-dropped
 returns-clause-dropped c =

@@ -16,7 +16,7 @@ use Rattle.gate_history.specs.write.Answers.{without_packets}
 use Rattle.gate_parts.specs.state.Rows.{row_request, ended_bytes}
 use Rattle.gate_core.specs.inner.StreamEnd.{is_told, status_bytes}
 use Rattle.gate_history.proofs.lemmas.Lists.{every, filter-same, filter-none, filter-all, flat_map-same, flat_map-none}
-use Rattle.gate_core.proofs.lemmas.host.Loss.{capped-same}
+use Rattle.gate_core.proofs.lemmas.step.Quiet.{capped-same}
 use Rattle.gate_history.proofs.lemmas.step.NoCancel.{and-false}
 use Rattle.gate_core.proofs.lemmas.write.InTurn.{on-err}
 use Rattle.gate_core.proofs.state.kept.Kept.end_stream.Goals as goal

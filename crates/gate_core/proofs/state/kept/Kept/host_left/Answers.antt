@@ -4,7 +4,7 @@ use Rattle.gate_core.specs.declared.state.kept.Kept.{Kept}
 use Rattle.gate_history.specs.declared.note.Note.{Note}
 use Rattle.gate_history.specs.declared.note.Note.TheVariants as note
 use Rattle.gate_history.specs.write.Notes.{when}
-use Rattle.gate_core.proofs.lemmas.host.Loss.{end-loses, lost-is, does-loss}
+use Rattle.gate_core.proofs.lemmas.host.Loss.{lost-is, does-loss}
 use Rattle.usb_base.specs.declared.side.Side.TheVariants.{Host}
 use Rattle.gate_history.specs.step.Marks.{Ends}
 use Rattle.gate_parts.specs.state.Rows.{row}
@@ -16,7 +16,7 @@ pub returns-clause-ok : goal.returns-clause-ok
 returns-clause-ok c st h =
     let old = c.args.self.now in
     let lost = lost-is c.in_ok-unlinked.unlinked old c.lose.new.self c.lose.ensures.lost c.in_ok-unlinked.ensures.count in
-    does-loss st _ _ (end-loses st) old _ _ _ h c.requires.kept.dropped_fits (ap (λ (k : Kept). record k { host_over = true }) lost) c.in_ok-unlinked.ensures.ok (sym (append-nil c.args.out.now.to_host))
+    does-loss st (Ends Host) None refl refl refl old _ _ _ h c.requires.kept.dropped_fits (ap (λ (k : Kept). record k { host_over = true }) lost) c.in_ok-unlinked.ensures.ok (sym (append-nil c.args.out.now.to_host))
     (c.in_ok-tell_loss.ensures.ok ∙ ap (λ (ns : List Note). c.args.out.now.notes ++ ns) (sym (append-nil (when (old.imported && not old.lost) note.DeviceGone))))
 
 pub returns-in_err-unlinked-clause-wants : goal.returns-in_err-unlinked-clause-wants

@@ -2,11 +2,12 @@ use Rattle.std.proofs.Common.{List, sym, ap, subst, ◌∙◌, arith}
 use Rattle.unlink_race.specs.declared.live.Live.{Live}
 use Rattle.unlink_race.specs.Requests.{Requests}
 use Rattle.unlink_race.specs.Searches.{has_number}
+use Rattle.unlink_race.specs.Firsts.{change_first}
 use Rattle.unlink_race.specs.Unlinking.{unlinked_by}
 use Rattle.unlink_race.proofs.Firsts.{position_found, changed_first}
 use Rattle.gate_parts.specs.state.Rows.{IsFine}
 use Rattle.gate_core.specs.inner.Holds.{IsKept}
-use Rattle.gate_core.proofs.lemmas.Held.{there}
+use Rattle.gate_core.proofs.lemmas.Held.{there, with-requests}
 use Rattle.gate_core.proofs.lemmas.client.UnlinkRows.{each-changed, length-changed}
 use Rattle.gate_core.proofs.state.kept.Kept.mark.Goals as goal
 
@@ -20,19 +21,12 @@ returns-clause-kept c =
     let at = c.requires.there.1 in
     let one = there old.lives.live c.args.at (position_found (has_number target) old.lives.live c.args.at at).1 in
     let is = c.mark_at.ensures one.0 one.1 ∙ ap (λ (ls : List Live). record old.lives { live = ls }) (changed_first (has_number target) (unlinked_by c.args.by) old.lives.live c.args.at one.0 at one.1) in
-    subst (λ (r : Requests). IsKept (record old { lives = r })) (sym is) (record {
-      fine = each-changed (IsFine old.caps) (has_number target) (unlinked_by c.args.by) old.lives.live
-          (λ l f. record { packets = f.packets; few_bytes = f.few_bytes; read = f.read; id_fits = f.id_fits; lies = f.lies }) c.requires.kept.fine;
-      apart = c.requires.kept.apart;
-      few = omega (arith, c.requires.kept.few, length-changed (has_number target) (unlinked_by c.args.by) old.lives.live);
-      left = c.requires.kept.left;
-      places = c.requires.kept.places;
-      started = c.requires.kept.started;
-      stopped = c.requires.kept.stopped;
-      answered_fits = c.requires.kept.answered_fits;
-      unlinked_fits = c.requires.kept.unlinked_fits;
-      dropped_fits = c.requires.kept.dropped_fits;
-    })
+    let k = c.requires.kept in
+    subst (λ (r : Requests). IsKept (record old { lives = r })) (sym is)
+    (with-requests old (record old.lives { live = change_first (has_number target) (unlinked_by c.args.by) old.lives.live }) old.answered old.unlinked k
+    (each-changed (IsFine old.caps) (has_number target) (unlinked_by c.args.by) old.lives.live
+    (λ l f. record { packets = f.packets; few_bytes = f.few_bytes; read = f.read; id_fits = f.id_fits; lies = f.lies }) k.fine)
+    k.apart (omega (arith, k.few, length-changed (has_number target) (unlinked_by c.args.by) old.lives.live)) k.left k.answered_fits k.unlinked_fits)
 
 pub returns-clause-marked : goal.returns-clause-marked
 returns-clause-marked c target at =

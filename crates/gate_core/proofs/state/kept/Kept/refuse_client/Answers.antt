@@ -5,9 +5,8 @@ use Rattle.usb_base.specs.declared.side.Side.{Side}
 use Rattle.gate_history.specs.state.Sides.{is_client}
 use Rattle.gate_history.specs.step.Marks.{Refuses}
 use Rattle.gate_history.specs.write.Notes.{when}
-use Rattle.gate_core.proofs.lemmas.client.Leave.{refusal-leaves, left-none, does-leave}
+use Rattle.gate_core.proofs.lemmas.client.Leave.{leaving-asked, does-leave}
 use Rattle.gate_core.proofs.lemmas.state.Ids.{parts-are, leaving-sent}
-use Rattle.std.proofs.lemmas.List.{append-nil}
 use Rattle.gate_core.proofs.lemmas.write.InTurn.{extends-after, on-err, leaves-host}
 use Rattle.gate_core.proofs.state.kept.Kept.refuse_client.Goals as goal
 
@@ -15,22 +14,20 @@ pub returns-clause-ok : goal.returns-clause-ok
 returns-clause-ok c st h going =
     let old = c.args.self.now in
     let over : true ≡ cond (is_client c.args.refusal.side) true old.client_over = ap (λ (s : Side). cond (is_client s) true old.client_over) (sym c.requires.side) in
-    let leaves = refusal-leaves st c.args.refusal c.requires.side in
+    let e = Refuses c.args.refusal in
+    let gone = ap is_client c.requires.side in
+    let asked = leaving-asked st e refl gone in
     let first : when (not old.client_over) note.ClientGone ≡ note.ClientGone ∷ [] = ap (λ (b : Bool). when (not b) note.ClientGone) (h.client_over ∙ going) in
-    does-leave st _ [] leaves c.in_ok-called.called old _ c.args.out.now _ _ h c.requires.kept.answered_fits c.requires.kept.unlinked_fits
-    (parts-are old st h (Refuses c.args.refusal) c.in_ok-called.called leaves.asked c.in_ok-called.ensures.called)
-    (λ i. record (left-none c.in_ok-called.called old c.leave.new.self c.leave.ensures.left i) { client_over = over i })
-    (leaving-sent old st h (Refuses c.args.refusal) leaves.asked c.args.out.now.to_host _ _ c.in_ok-write_cancels.ensures.ok c.in_ok-called.ensures.sent)
+    does-leave st e refl gone (ap (λ (s : Side). not (is_client s)) c.requires.side) c.in_ok-called.called old _ c.args.out.now _ _ h c.requires.kept.answered_fits c.requires.kept.unlinked_fits
+    (parts-are old st h e c.in_ok-called.called asked c.in_ok-called.ensures.called)
+    (λ i. record (c.leave.ensures.left.is i) { client_over = over i })
+    (leaving-sent old st h e asked c.args.out.now.to_host _ _ c.in_ok-write_cancels.ensures.ok c.in_ok-called.ensures.sent)
     (c.in_ok-push-2.ensures.ok ∙ ap (λ (ns : List Note). ns ++ note.Refused c.args.refusal ∷ []) c.in_ok-push.ensures.ok ∙ append_assoc c.args.out.now.notes (note.ClientGone ∷ []) (note.Refused c.args.refusal ∷ [])
     ∙ ap (λ (ns : List Note). c.args.out.now.notes ++ (ns ++ note.Refused c.args.refusal ∷ [])) (sym first))
 
 pub returns-in_err-called-clause-err : goal.returns-in_err-called-clause-err
-returns-in_err-called-clause-err c = on-err c.from_residual-in_err-called.result _ (record {
-  same = refl;
-  client = record { more = []; is = sym (append-nil c.args.out.now.to_client) };
-  host = extends-after c.args.out.now.to_host c.write_cancels.new.to_host c.write_stops.new.to_host _ c.in_ok-write_cancels.ensures.ok c.in_err-called.ensures.err;
-  notes = record { more = []; is = sym (append-nil c.args.out.now.notes) };
-})
+returns-in_err-called-clause-err c = on-err c.from_residual-in_err-called.result _ (leaves-host c.args.self.now c.args.self.now c.args.out.now c.write_stops.new.to_host refl
+    (extends-after c.args.out.now.to_host c.write_cancels.new.to_host c.write_stops.new.to_host _ c.in_ok-write_cancels.ensures.ok c.in_err-called.ensures.err))
 
 pub returns-in_err-write_cancels-clause-err : goal.returns-in_err-write_cancels-clause-err
 returns-in_err-write_cancels-clause-err c = on-err c.from_residual.result _ (leaves-host c.args.self.now c.args.self.now c.args.out.now c.write_cancels.new.to_host refl c.in_err-write_cancels.ensures.err)

@@ -3,7 +3,7 @@ use Rattle.std.proofs.lemmas.List.{append-nil}
 use Rattle.unlink_race.specs.declared.live.LiveKind.TheVariants as live_kind
 use Rattle.gate_history.specs.declared.note.Note.TheVariants as note
 use Rattle.gate_parts.specs.state.Rows.{row_for}
-use Rattle.gate_core.proofs.lemmas.host.Loss.{capped-same}
+use Rattle.gate_core.proofs.lemmas.step.Quiet.{capped-same}
 use Rattle.gate_history.specs.client.Verdict.{Wire}
 use Rattle.gate_history.specs.state.Ids.{draw, greatest}
 use Rattle.gate_history.specs.state.Flight.{wide_ids}

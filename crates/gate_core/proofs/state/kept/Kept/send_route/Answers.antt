@@ -27,7 +27,7 @@ use Rattle.gate_parts.specs.state.Rows.{ended_bytes, row_for}
 use Rattle.gate_history.proofs.lemmas.state.Calls.{last-any, route-silent}
 use Rattle.gate_history.proofs.lemmas.state.Draws.{length-draws}
 use Rattle.gate_core.proofs.lemmas.state.Ids.{ids-are, asked-are, stops-are}
-use Rattle.gate_core.proofs.lemmas.write.InTurn.{last-more, bytes-more, calls-silent, extends-after, on-err}
+use Rattle.gate_core.proofs.lemmas.write.InTurn.{last-more, bytes-more, calls-silent, extends-after, on-err, leaves-client}
 use Rattle.gate_core.proofs.lemmas.client.Change.{does-change}
 use Rattle.gate_core.proofs.state.kept.Kept.send_route.Goals as goal
 
@@ -90,12 +90,7 @@ returns-clause-ok c st h sound =
     (c.in_ok-push.ensures.ok ∙ ap (λ (n : ℕ). c.args.out.now.notes ++ note.Submitted r.number n ∷ []) id)
 
 pub returns-in_err-write_ends-clause-err : goal.returns-in_err-write_ends-clause-err
-returns-in_err-write_ends-clause-err c = on-err c.from_residual.result _ (record {
-  same = refl;
-  client = c.in_err-write_ends.ensures.err;
-  host = record { more = []; is = sym (append-nil c.args.out.now.to_host) };
-  notes = record { more = []; is = sym (append-nil c.args.out.now.notes) };
-})
+returns-in_err-write_ends-clause-err c = on-err c.from_residual.result _ (leaves-client c.args.self.now c.args.self.now c.args.out.now c.write_ends.new.to_client refl c.in_err-write_ends.ensures.err)
 
 pub returns-in_err-called-clause-err : goal.returns-in_err-called-clause-err
 returns-in_err-called-clause-err c = on-err c.from_residual-in_err-called.result _ (record {

@@ -1,23 +1,24 @@
-use Rattle.std.proofs.Common.{◌≡◌, ◌+◌, ℕ, not, cond, true, false, None, OnOk, sym, ap, subst, ◌∙◌, arith, w32, length}
+use Rattle.std.proofs.Common.{◌≡◌, ◌+◌, ℕ, not, cond, true, false, refl, sym, ap, subst, ◌∙◌, arith, w32, length}
 use Rattle.std.specs.List.{list_any}
 use Rattle.usb_base.specs.declared.reason.Reason.TheVariants.{NotImported, DuplicateSeq}
 use Rattle.usb_base.specs.declared.side.Side.TheVariants.{Client}
 use Rattle.unlink_race.specs.Searches.{has_number}
 use Rattle.gate_history.specs.step.Items.{capped}
 use Rattle.gate_history.specs.client.Requests.{Request, request_of}
-use Rattle.gate_history.specs.step.Marks.{Effect, Refuses}
+use Rattle.gate_history.specs.step.Marks.{Refuses}
 use Rattle.gate_history.specs.state.State.{State, is_number, submits, change_waits}
-use Rattle.gate_history.specs.step.Meaning.{mark_as, refused, accepts, verdict_of, urb_meaning}
+use Rattle.gate_history.specs.step.Meaning.{refused, accepts, verdict_of, urb_meaning}
 use Rattle.gate_core.specs.declared.state.kept.Kept.{Kept}
-use Rattle.gate_core.specs.inner.Holds.{Holds, Does}
+use Rattle.gate_core.specs.inner.Holds.{Holds}
 use Rattle.gate_core.proofs.lemmas.state.Ids.{number-rows}
 use Rattle.std.specs.Prelude.{FitsSigned}
 use Rattle.std.proofs.lemmas.Int.{to_z-of_z}
-use Rattle.gate_history.specs.client.Verdict.{Verdict, Now}
+use Rattle.gate_history.specs.client.Verdict.{Now, Wire, Routed, IsoOut}
 use Rattle.gate_history.specs.state.Flight.{wide_bulk}
 use Rattle.gate_parts.proofs.lemmas.client.Directions.{StatusFits, verdict-fits}
 use Rattle.gate_history.specs.client.Views.{request_view, verdict_view}
-use Rattle.gate_core.proofs.lemmas.client.Accept.{now-opens, wire-opens, routed-opens, iso-opens}
+use Rattle.gate_core.proofs.lemmas.client.Accept.{opens}
+use Rattle.gate_core.proofs.lemmas.step.Quiet.{as-effect}
 use Rattle.usbip_urb.specs.declared.packet.Submit.{Submit}
 use Rattle.usbip_urb.specs.declared.packet.UrbPacket.TheVariants.{Submit as SubmitPacket}
 use Rattle.gate_core.proofs.state.kept.Kept.submit.Goals as goal
@@ -39,7 +40,7 @@ returns-then-has-clause-ok c st at place h sound going =
     let s = c.args.submit in
     let here = sym h.imported ∙ c.if-not-self.false in
     let live = ap (list_any (has_number s.head.seqnum)) h.live ∙ number-rows s.head.seqnum st.live in
-    subst (λ (e : Effect). OnOk c.refuse_client-then-has.result (Does st (mark_as st e None) c.args.self.now c.refuse_client-then-has.new.self c.args.out.now c.refuse_client-then-has.new.out))
+    as-effect c.refuse_client-then-has.result st _ _ c.args.self.now c.refuse_client-then-has.new.self c.args.out.now c.refuse_client-then-has.new.out
     (ap (λ r. Refuses r) (c.client_refusal-then-has.ensures.value (at + 4) (c.saturating_add-place.ensures ∙ further at c.args.place place))
     ∙ (λ i. cond (not (sym here i)) (refused Client at NotImported) (cond (sym (sym live ∙ sym c.has.ensures ∙ c.if-has.true) i) (refused Client (at + 4) DuplicateSeq) (accepts st (request_of s) (verdict_of st (request_of s))))))
     (c.refuse_client-then-has.ensures.ok st h going)
@@ -47,7 +48,7 @@ returns-then-has-clause-ok c st at place h sound going =
 pub returns-then-not-self-clause-ok : goal.returns-then-not-self-clause-ok
 returns-then-not-self-clause-ok c st at place h sound going =
     let s = c.args.submit in
-    subst (λ (e : Effect). OnOk c.refuse_client.result (Does st (mark_as st e None) c.args.self.now c.refuse_client.new.self c.args.out.now c.refuse_client.new.out))
+    as-effect c.refuse_client.result st _ _ c.args.self.now c.refuse_client.new.self c.args.out.now c.refuse_client.new.out
     (ap (λ r. Refuses r) (c.client_refusal.ensures.value at place)
     ∙ (λ i. cond (not (sym (sym h.imported ∙ c.if-not-self.true) i)) (refused Client at NotImported) (cond (list_any (is_number s.head.seqnum) (submits st)) (refused Client (at + 4) DuplicateSeq) (accepts st (request_of s) (verdict_of st (request_of s))))))
     (c.refuse_client.ensures.ok st h going)
@@ -61,38 +62,30 @@ returns-in-Now-clause-ok c st at place h sound going =
     let accepted = is-accepted c.args.self.now st at c.args.submit r h c.of-request.ensures.value c.if-not-self.false (sym c.has.ensures ∙ c.if-has.false) in
     let now : Now c.in-Now.status ≡ verdict_of st r = sym (ap verdict_view c.in-Now.is) ∙ c.verdict.ensures.value st h in
     let fits : FitsSigned w32 c.in-Now.status = subst StatusFits (sym now) (verdict-fits st.lost (length st.live) (change_waits st) st.facts.table (wide_bulk st.agreed) r) in
-    subst (λ (e : Effect). OnOk c.answer_now.result (Does st (mark_as st e None) c.args.self.now c.answer_now.new.self c.args.out.now c.answer_now.new.out))
-    (now-opens st r _ ∙ ap (accepts st r) (ap (λ s. Now s) (to_z-of_z w32 c.in-Now.status fits) ∙ now) ∙ accepted)
+    as-effect c.answer_now.result st _ _ c.args.self.now c.answer_now.new.self c.args.out.now c.answer_now.new.out
+    (opens st r (Now _) refl ∙ ap (accepts st r) (ap (λ s. Now s) (to_z-of_z w32 c.in-Now.status fits) ∙ now) ∙ accepted)
     (c.answer_now.ensures.ok st h sound)
 
 pub returns-in-Wire-clause-ok : goal.returns-in-Wire-clause-ok
 returns-in-Wire-clause-ok c st at place h sound going =
     let r = request_view c.of-request.result in
     let accepted = is-accepted c.args.self.now st at c.args.submit r h c.of-request.ensures.value c.if-not-self.false (sym c.has.ensures ∙ c.if-has.false) in
-    subst (λ (e : Effect). OnOk c.send.result (Does st (mark_as st e None) c.args.self.now c.send.new.self c.args.out.now c.send.new.out))
-    (wire-opens st r _ ∙ ap (accepts st r) (sym (ap verdict_view c.in-Wire.is) ∙ c.verdict.ensures.value st h) ∙ accepted)
-    (c.send.ensures.ok st h sound)
+    as-effect c.send.result st _ _ c.args.self.now c.send.new.self c.args.out.now c.send.new.out (opens st r (Wire _) refl ∙ ap (accepts st r) (sym (ap verdict_view c.in-Wire.is) ∙ c.verdict.ensures.value st h) ∙ accepted) (c.send.ensures.ok st h sound)
 
 pub returns-in-Routed-clause-ok : goal.returns-in-Routed-clause-ok
 returns-in-Routed-clause-ok c st at place h sound going =
     let r = request_view c.of-request.result in
     let accepted = is-accepted c.args.self.now st at c.args.submit r h c.of-request.ensures.value c.if-not-self.false (sym c.has.ensures ∙ c.if-has.false) in
-    subst (λ (e : Effect). OnOk c.send_route.result (Does st (mark_as st e None) c.args.self.now c.send_route.new.self c.args.out.now c.send_route.new.out))
-    (routed-opens st r _ ∙ ap (accepts st r) (sym (ap verdict_view c.in-Routed.is) ∙ c.verdict.ensures.value st h) ∙ accepted)
-    (c.send_route.ensures.ok st h sound)
+    as-effect c.send_route.result st _ _ c.args.self.now c.send_route.new.self c.args.out.now c.send_route.new.out (opens st r (Routed _) refl ∙ ap (accepts st r) (sym (ap verdict_view c.in-Routed.is) ∙ c.verdict.ensures.value st h) ∙ accepted) (c.send_route.ensures.ok st h sound)
 
 pub returns-in-IsoOut-clause-ok : goal.returns-in-IsoOut-clause-ok
 returns-in-IsoOut-clause-ok c st at place h sound going =
     let r = request_view c.of-request.result in
     let accepted = is-accepted c.args.self.now st at c.args.submit r h c.of-request.ensures.value c.if-not-self.false (sym c.has.ensures ∙ c.if-has.false) in
-    subst (λ (e : Effect). OnOk c.send_iso.result (Does st (mark_as st e None) c.args.self.now c.send_iso.new.self c.args.out.now c.send_iso.new.out))
-    (iso-opens st r _ ∙ ap (accepts st r) (sym (ap verdict_view c.in-IsoOut.is) ∙ c.verdict.ensures.value st h) ∙ accepted)
-    (c.send_iso.ensures.ok st h sound)
+    as-effect c.send_iso.result st _ _ c.args.self.now c.send_iso.new.self c.args.out.now c.send_iso.new.out (opens st r (IsoOut _) refl ∙ ap (accepts st r) (sym (ap verdict_view c.in-IsoOut.is) ∙ c.verdict.ensures.value st h) ∙ accepted) (c.send_iso.ensures.ok st h sound)
 
 pub returns-in-Stream-clause-ok : goal.returns-in-Stream-clause-ok
 returns-in-Stream-clause-ok c st at place h sound going =
     let r = request_view c.of-request.result in
     let accepted = is-accepted c.args.self.now st at c.args.submit r h c.of-request.ensures.value c.if-not-self.false (sym c.has.ensures ∙ c.if-has.false) in
-    subst (λ (e : Effect). OnOk c.wait.result (Does st (mark_as st e None) c.args.self.now c.wait.new.self c.args.out.now c.wait.new.out))
-    (ap (accepts st r) (sym (ap verdict_view c.in-Stream.is) ∙ c.verdict.ensures.value st h) ∙ accepted)
-    (c.wait.ensures.ok st h sound)
+    as-effect c.wait.result st _ _ c.args.self.now c.wait.new.self c.args.out.now c.wait.new.out (ap (accepts st r) (sym (ap verdict_view c.in-Stream.is) ∙ c.verdict.ensures.value st h) ∙ accepted) (c.wait.ensures.ok st h sound)

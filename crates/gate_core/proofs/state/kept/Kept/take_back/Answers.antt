@@ -1,9 +1,6 @@
-use Rattle.std.proofs.Common.{sym, subst, ◌∙◌, arith}
-use Rattle.unlink_race.specs.Requests.{Requests}
+use Rattle.std.proofs.Common.{◌∙◌, arith}
 use Rattle.unlink_race.specs.Searches.{has_number}
-use Rattle.gate_parts.specs.state.Rows.{IsFine}
-use Rattle.gate_core.specs.inner.Holds.{IsKept}
-use Rattle.gate_core.proofs.lemmas.Held.{among-both, number-taken, is-fewer}
+use Rattle.gate_core.proofs.lemmas.Held.{among-both, number-taken, without-one}
 use Rattle.gate_core.proofs.state.kept.Kept.take_back.Goals as goal
 
 pub finish_at-requires : goal.finish_at-requires
@@ -11,21 +8,8 @@ finish_at-requires c = among-both (has_number c.requires.there.0) c.args.self.no
 
 pub returns-clause-kept : goal.returns-clause-kept
 returns-clause-kept c =
-    let old = c.args.self.now in
-    let kept = c.requires.kept in
-    let fewer = is-fewer (IsFine old.caps) old.lives c.args.at in
-    subst (λ (r : Requests). IsKept (record old { lives = r; unlinked = c.saturating_add-self.result })) (sym c.finish_at.ensures.rest) (record {
-      fine = fewer.fine kept.fine;
-      apart = λ h. fewer.none_left (kept.apart h);
-      few = omega (arith, kept.few, fewer.few);
-      left = omega (arith, kept.left, fewer.left_few);
-      places = kept.places;
-      started = kept.started;
-      stopped = kept.stopped;
-      answered_fits = kept.answered_fits;
-      unlinked_fits = omega (arith, c.saturating_add-self.ensures);
-      dropped_fits = kept.dropped_fits;
-    })
+    let k = c.requires.kept in
+    without-one c.args.self.now c.args.at c.finish_at.new.self c.args.self.now.answered c.saturating_add-self.result k c.finish_at.ensures.rest k.answered_fits (omega (arith, c.saturating_add-self.ensures))
 
 pub returns-clause-taken : goal.returns-clause-taken
 returns-clause-taken c target at =

@@ -1,6 +1,5 @@
-use Rattle.std.proofs.Common.{◌≡◌, ◌∙◌, [], ℕ, List, Option, Some, None, OnOk, ap, sym, subst}
+use Rattle.std.proofs.Common.{◌≡◌, ◌∙◌, ℕ, List, Option, Some, None, OnOk, ap, sym, subst}
 use Rattle.std.specs.Prelude.{slice_set}
-use Rattle.std.proofs.lemmas.List.{append-nil}
 use Rattle.usb_base.specs.Endpoint.{endpoint_index}
 use Rattle.gate_core.specs.declared.state.kept.Kept.{Kept}
 use Rattle.gate_history.specs.state.Ups.{Up, stream_at}
@@ -8,8 +7,8 @@ use Rattle.gate_history.specs.client.Verdict.{Stream}
 use Rattle.gate_history.specs.step.Meaning.{mark_as, accepts}
 use Rattle.gate_history.specs.client.Views.{request_view}
 use Rattle.gate_core.specs.inner.Holds.{Holds, Does}
-use Rattle.gate_parts.proofs.lemmas.state.Places.{set-back, set-twice}
-use Rattle.gate_core.proofs.lemmas.host.Arrive.{on-ok, on-err}
+use Rattle.gate_parts.proofs.lemmas.state.Places.{set-back}
+use Rattle.gate_core.proofs.lemmas.host.Arrive.{on-ok, puts-back}
 use Rattle.gate_core.proofs.lemmas.client.Wait.{does-join}
 use Rattle.gate_core.proofs.state.kept.Kept.wait.Goals as goal
 
@@ -44,17 +43,5 @@ returns-clause-ok c st h sound =
 
 pub returns-clause-err : goal.returns-clause-err
 returns-clause-err c =
-    let old = c.args.self.now in
-    let i = endpoint_index c.ep-ep.result in
-    on-err c.join-joined.result
-    (λ same up client notes. record {
-      same = ap (λ (t : Kept). record t { streams = c.put.new.self }) same
-          ∙ ap (λ (ups : List (Option Up)). record old { streams = ups })
-          (c.put.ensures ∙ ap (λ (t : Kept). slice_set t.streams i (Some c.join-joined.new.up)) same
-          ∙ (λ j. slice_set (c.in-Some.ensures.rest j) i (Some (up j)))
-          ∙ set-twice old.streams i None (Some c.in-Some.up) ∙ ap (slice_set old.streams i) c.in-Some.ensures.up ∙ set-back old.streams i None);
-      client = client;
-      host = record { more = []; is = sym (append-nil c.args.out.now.to_host) };
-      notes = notes;
-    })
-    c.join-joined.ensures.same c.join-joined.ensures.same_up c.join-joined.ensures.err c.join-joined.ensures.err_notes
+    puts-back c.join-joined.result c.args.self.now c.join-joined.new.self c.in-Some.up c.join-joined.new.up (endpoint_index c.ep-ep.result) c.take.new.self c.put.new.self c.args.out.now c.join-joined.new.to_client c.join-joined.new.notes
+    c.in-Some.ensures.rest c.in-Some.ensures.up c.put.ensures c.join-joined.ensures.same c.join-joined.ensures.same_up c.join-joined.ensures.err c.join-joined.ensures.err_notes
