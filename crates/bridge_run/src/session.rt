@@ -37,7 +37,7 @@ use usb_base::{Bytes, Memory};
 pub struct Session<C> {
     alloc: Global,
     core: C,
-    kept: Rounds,
+    rounds: Rounds,
     /// What the event at hand sends, and the lines that tell its refusals.
     sent: Sent,
     lines: Bytes,
@@ -47,15 +47,15 @@ pub struct Session<C> {
 
 impl<C: Served + Drop> Session<C> {
     /// Nothing is sent yet, which takes no memory.
-    pub fn new(alloc: Global, core: C, kept: Rounds) -> Self
+    pub fn new(alloc: Global, core: C, rounds: Rounds) -> Self
         ensures core { result.core ≡ core }
-        ensures kept { result.kept ≡ kept }
+        ensures rounds { result.rounds ≡ rounds }
         ensures waiting { result.waiting ≡ [] }
     {
         Session {
             alloc,
             core,
-            kept,
+            rounds,
             sent: Sent::new(alloc),
             lines: Bytes::new(alloc),
             waiting: Bytes::new(alloc),
@@ -69,7 +69,7 @@ impl<C: Served + Drop> Session<C> {
         ensures stops { OnErr result ((first : C.First) (past : List PastEvent) → C.stands first self.old.core past → IsPart (C.runs_out first) (C.sends first) past (event_of event.entry) self.new.sent.to_client self.new.sent.to_host) }
         ensures quiet { OnOk result (is_quiet (event_of event.entry) ≡ true → self.new.sent.refusals ≡ []) }
         ensures stays { OnOk result (is_quiet (event_of event.entry) ≡ true → self.new.sent.lets_go ≡ false) }
-        ensures kept { self.new.kept ≡ self.old.kept }
+        ensures rounds { self.new.rounds ≡ self.old.rounds }
         ensures waiting { self.new.waiting ≡ self.old.waiting }
     {
         self.sent.clear();
@@ -80,23 +80,23 @@ impl<C: Served + Drop> Session<C> {
 
     /// Whether the event's lines don't wait: it sends anything, or no more may come.
     fn is_due(&self) -> bool
-        ensures { result ≡ (sends_any self.now.sent.to_client self.now.sent.to_host self.now.sent.refusals self.now.sent.lets_go || is_last self.now.kept.client_up self.now.kept.host_up self.now.kept.left) }
+        ensures { result ≡ (sends_any self.now.sent.to_client self.now.sent.to_host self.now.sent.refusals self.now.sent.lets_go || is_last self.now.rounds.client_up self.now.rounds.host_up self.now.rounds.left) }
     {
-        self.sent.is_any() || self.kept.is_last()
+        self.sent.is_any() || self.rounds.is_last()
     }
 
     /// Memory ran out as the event was taken. If it had sent bytes by then, its line is recorded, behind those that wait,
     /// and they are written to each side whose link is up. None of its refusals is told. Says how serving ends.
     fn stop<D: Doors, T: Tape>(&mut self, event: LinkEvent, doors: &mut D, tape: &mut T) -> ServeEnd
-        requires { Agrees self.old.kept (outside (D.link doors.old) (D.door doors.old)) }
-        ensures course { (first : C.First) (begun told : Option (List ℕ)) (c : Course) → IsPart (C.runs_out first) (C.sends first) c.events (event_of event.entry) self.old.sent.to_client self.old.sent.to_host → AreUp self.old.kept c
+        requires { Agrees self.old.rounds (outside (D.link doors.old) (D.door doors.old)) }
+        ensures course { (first : C.First) (begun told : Option (List ℕ)) (c : Course) → IsPart (C.runs_out first) (C.sends first) c.events (event_of event.entry) self.old.sent.to_client self.old.sent.to_host → AreUp self.old.rounds c
             → Tells (outside (D.link doors.old) (D.door doors.old)) (gathering begun told (T.contents tape.old) self.old.waiting) c
             → Cut (MayRunOut result (C.runs_out first) (C.sends first)) (outside (D.link doors.new) (D.door doors.new)) (gathering begun told (T.contents tape.new) self.new.waiting) c (put (C.sends first) (event_of event.entry) c) }
         ensures log { (first : C.First) (terms : Terms) (events : List PastEvent) (begun : D) → terms.taped ≡ T.made tape.old → IsPart (C.runs_out first) (C.sends first) events (event_of event.entry) self.old.sent.to_client self.old.sent.to_host
-            → IsStopping D.call_gives terms (C.sends first) (event_of event.entry) events self.old.kept begun doors.old → StopLogs result D.call_gives (C.runs_out first) terms (C.sends first) (event_of event.entry) events begun doors.new }
+            → IsStopping D.call_gives terms (C.sends first) (event_of event.entry) events self.old.rounds begun doors.old → StopLogs result D.call_gives (C.runs_out first) terms (C.sends first) (event_of event.entry) events begun doors.new }
         ensures faults { (sink : ℕ) → HasCause result (outside (D.link doors.old) (D.door doors.old)) (outside (D.link doors.new) (D.door doors.new)) (faults sink (T.counts tape.old)) (faults sink (T.counts tape.new)) }
         ensures cut { IsCutEnd result }
-        ensures kept { self.new.kept ≡ self.old.kept }
+        ensures rounds { self.new.rounds ≡ self.old.rounds }
         ensures made { T.made tape.new ≡ T.made tape.old }
     {
         if !self.sent.has_bytes() {
@@ -114,11 +114,11 @@ impl<C: Served + Drop> Session<C> {
             return end;
         }
         let to_client = self.sent.to_client.as_slice();
-        if let Err(end) = write_link(doors, Side::Client, self.kept.client_up, to_client) {
+        if let Err(end) = write_link(doors, Side::Client, self.rounds.client_up, to_client) {
             return end;
         }
         let to_host = self.sent.to_host.as_slice();
-        if let Err(end) = write_link(doors, Side::Host, self.kept.host_up, to_host) {
+        if let Err(end) = write_link(doors, Side::Host, self.rounds.host_up, to_host) {
             return end;
         }
         ServeEnd::Memory
@@ -134,18 +134,18 @@ impl<C: Served + Drop> Session<C> {
         out: &mut K,
         tape: &mut T,
     ) -> Result<bool, ServeEnd>
-        requires { Agrees self.old.kept (outside (D.link doors.old) (D.door doors.old)) }
-        ensures course { (first : C.First) (begun : Option (List ℕ)) (c : Course) → Follows (C.stands first self.old.core) (C.sends first) self.old.kept (outside (D.link doors.old) (D.door doors.old)) (gathering begun (K.contents out.old) (T.contents tape.old) self.old.waiting) c
-            → Puts result (C.stands first self.new.core) (C.runs_out first) (C.sends first) (event_of event.entry) self.new.kept (outside (D.link doors.new) (D.door doors.new)) (gathering begun (K.contents out.new) (T.contents tape.new) self.new.waiting) c }
-        ensures log { (first : C.First) (terms : Terms) (asks : List Ask) (begun : D) (begun_out : K) → terms.taped ≡ T.made tape.old → IsTaking D.call_gives (C.stands first self.old.core) (Told K.write_gives begun_out out.old) terms (C.sends first) asks (event_of event.entry) self.old.kept begun doors.old
-            → PutLogs result D.call_gives (C.stands first self.new.core) (C.runs_out first) (Told K.write_gives begun_out out.new) terms (C.sends first) asks (event_of event.entry) self.new.kept begun doors.new }
+        requires { Agrees self.old.rounds (outside (D.link doors.old) (D.door doors.old)) }
+        ensures course { (first : C.First) (begun : Option (List ℕ)) (c : Course) → Follows (C.stands first self.old.core) (C.sends first) self.old.rounds (outside (D.link doors.old) (D.door doors.old)) (gathering begun (K.contents out.old) (T.contents tape.old) self.old.waiting) c
+            → Puts result (C.stands first self.new.core) (C.runs_out first) (C.sends first) (event_of event.entry) self.new.rounds (outside (D.link doors.new) (D.door doors.new)) (gathering begun (K.contents out.new) (T.contents tape.new) self.new.waiting) c }
+        ensures log { (first : C.First) (terms : Terms) (asks : List Ask) (begun : D) (begun_out : K) → terms.taped ≡ T.made tape.old → IsTaking D.call_gives (C.stands first self.old.core) (Told K.write_gives begun_out out.old) terms (C.sends first) asks (event_of event.entry) self.old.rounds begun doors.old
+            → PutLogs result D.call_gives (C.stands first self.new.core) (C.runs_out first) (Told K.write_gives begun_out out.new) terms (C.sends first) asks (event_of event.entry) self.new.rounds begun doors.new }
         ensures faults { HasFaults result (outside (D.link doors.old) (D.door doors.old)) (outside (D.link doors.new) (D.door doors.new)) (faults (K.faults out.old) (T.counts tape.old)) (faults (K.faults out.new) (T.counts tape.new)) }
         ensures cut { IfErr result IsCutEnd }
-        ensures agrees { OnOk result (Agrees self.new.kept (outside (D.link doors.new) (D.door doors.new))) }
-        ensures wears { Wears self.old.kept self.new.kept }
+        ensures agrees { OnOk result (Agrees self.new.rounds (outside (D.link doors.new) (D.door doors.new))) }
+        ensures wears { Wears self.old.rounds self.new.rounds }
         ensures made { T.made tape.new ≡ T.made tape.old }
-        ensures left { self.new.kept.left ≡ self.old.kept.left }
-        ensures quiet { IfOk result (λ dropped. is_quiet (event_of event.entry) ≡ true → (dropped ≡ false) × (self.new.kept ≡ self.old.kept)) }
+        ensures left { self.new.rounds.left ≡ self.old.rounds.left }
+        ensures quiet { IfOk result (λ dropped. is_quiet (event_of event.entry) ≡ true → (dropped ≡ false) × (self.new.rounds ≡ self.old.rounds)) }
         ensures idles { OnOk result (NotIdle (outside (D.link doors.old) (D.door doors.old)) (outside (D.link doors.new) (D.door doors.new))) }
     {
         if let Err(_) = self.prepare(event) {
@@ -157,7 +157,7 @@ impl<C: Served + Drop> Session<C> {
             client_up,
             host_up,
             ..
-        } = self.kept;
+        } = self.rounds;
         write_link(
             doors,
             Side::Client,
@@ -168,7 +168,7 @@ impl<C: Served + Drop> Session<C> {
         let dropped = self.sent.drops_client();
         close_link(doors, Side::Client, dropped);
         close_link(doors, Side::Host, self.sent.refuses(Side::Host));
-        self.kept.refuse(&self.sent);
+        self.rounds.refuse(&self.sent);
         match write_all(out, self.lines.as_slice()) {
             Ok(()) => Ok(dropped),
             Err(_) => Err(ServeEnd::WriteFault),
@@ -183,26 +183,26 @@ impl<C: Served + Drop> Session<C> {
         out: &mut K,
         tape: &mut T,
     ) -> Result<(), ServeEnd>
-        requires { Agrees self.old.kept (outside (D.link doors.old) (D.door doors.old)) }
-        ensures course { (first : C.First) (begun : Option (List ℕ)) (next : Next) (c : Course) → Follows (C.stands first self.old.core) (C.sends first) self.old.kept (outside (D.link doors.old) (D.door doors.old)) (gathering begun (K.contents out.old) (T.contents tape.old) self.old.waiting) c
-            → Runs result (C.stands first self.new.core) (C.runs_out first) (setting (C.sends first) self.old.kept) self.new.kept (outside (D.link doors.new) (D.door doors.new)) (gathering begun (K.contents out.new) (T.contents tape.new) self.new.waiting) (Goes (Takes (event_of event.entry) next) c) next }
-        ensures log { (first : C.First) (terms : Terms) (asks : List Ask) (begun : D) (begun_out : K) → terms.taped ≡ T.made tape.old → IsTaking D.call_gives (C.stands first self.old.core) (Told K.write_gives begun_out out.old) terms (C.sends first) asks (event_of event.entry) self.old.kept begun doors.old
-            → HappenLogs result D.call_gives (C.stands first self.new.core) (C.runs_out first) (Told K.write_gives begun_out out.new) terms (C.sends first) asks self.new.kept begun doors.new }
+        requires { Agrees self.old.rounds (outside (D.link doors.old) (D.door doors.old)) }
+        ensures course { (first : C.First) (begun : Option (List ℕ)) (next : Next) (c : Course) → Follows (C.stands first self.old.core) (C.sends first) self.old.rounds (outside (D.link doors.old) (D.door doors.old)) (gathering begun (K.contents out.old) (T.contents tape.old) self.old.waiting) c
+            → Runs result (C.stands first self.new.core) (C.runs_out first) (setting (C.sends first) self.old.rounds) self.new.rounds (outside (D.link doors.new) (D.door doors.new)) (gathering begun (K.contents out.new) (T.contents tape.new) self.new.waiting) (Goes (Takes (event_of event.entry) next) c) next }
+        ensures log { (first : C.First) (terms : Terms) (asks : List Ask) (begun : D) (begun_out : K) → terms.taped ≡ T.made tape.old → IsTaking D.call_gives (C.stands first self.old.core) (Told K.write_gives begun_out out.old) terms (C.sends first) asks (event_of event.entry) self.old.rounds begun doors.old
+            → HappenLogs result D.call_gives (C.stands first self.new.core) (C.runs_out first) (Told K.write_gives begun_out out.new) terms (C.sends first) asks self.new.rounds begun doors.new }
         ensures faults { HasFaults result (outside (D.link doors.old) (D.door doors.old)) (outside (D.link doors.new) (D.door doors.new)) (faults (K.faults out.old) (T.counts tape.old)) (faults (K.faults out.new) (T.counts tape.new)) }
-        ensures agrees { OnOk result (Agrees self.new.kept (outside (D.link doors.new) (D.door doors.new))) }
-        ensures wears { Wears self.old.kept self.new.kept }
+        ensures agrees { OnOk result (Agrees self.new.rounds (outside (D.link doors.new) (D.door doors.new))) }
+        ensures wears { Wears self.old.rounds self.new.rounds }
         ensures made { T.made tape.new ≡ T.made tape.old }
-        ensures left { OnOk result (0 < self.new.kept.left) }
-        ensures quiet { OnOk result (is_quiet (event_of event.entry) ≡ true → self.new.kept ≡ self.old.kept) }
+        ensures left { OnOk result (0 < self.new.rounds.left) }
+        ensures quiet { OnOk result (is_quiet (event_of event.entry) ≡ true → self.new.rounds ≡ self.old.rounds) }
         ensures idles { OnOk result (NotIdle (outside (D.link doors.old) (D.door doors.old)) (outside (D.link doors.new) (D.door doors.new))) }
         ensures within { EndsWithin result (outside (D.link doors.new) (D.door doors.new)) }
     {
         let dropped = self.put(event, doors, out, tape)?;
         if !ends_next(event, dropped) {
-            return self.kept.settle();
+            return self.rounds.settle();
         }
         self.put(LinkEvent::ClientEnd, doors, out, tape)?;
-        self.kept.settle()
+        self.rounds.settle()
     }
 
     /// Asks for a client, where none is there.
@@ -212,27 +212,27 @@ impl<C: Served + Drop> Session<C> {
         out: &mut K,
         tape: &mut T,
     ) -> Result<(), ServeEnd>
-        requires agrees { Agrees self.old.kept (outside (D.link doors.old) (D.door doors.old)) }
-        requires left { 0 < self.old.kept.left }
-        ensures course { (first : C.First) (begun : Option (List ℕ)) (c : Course) → Follows (C.stands first self.old.core) (C.sends first) self.old.kept (outside (D.link doors.old) (D.door doors.old)) (gathering begun (K.contents out.old) (T.contents tape.old) self.old.waiting) c
-            → Runs result (C.stands first self.new.core) (C.runs_out first) (setting (C.sends first) self.old.kept) self.new.kept (outside (D.link doors.new) (D.door doors.new)) (gathering begun (K.contents out.new) (T.contents tape.new) self.new.waiting) (Goes AtDoor c) AtClient }
-        ensures log { (first : C.First) (terms : Terms) (begun : D) (begun_out : K) → terms.taped ≡ T.made tape.old → IsAsking RoundBegins D.call_gives (C.stands first self.old.core) (Told K.write_gives begun_out out.old) terms (C.sends first) self.old.kept begun doors.old
-            → Logs result DoorAsked D.call_gives (C.stands first self.new.core) (C.runs_out first) (Told K.write_gives begun_out out.new) terms (C.sends first) self.new.kept begun doors.new }
+        requires agrees { Agrees self.old.rounds (outside (D.link doors.old) (D.door doors.old)) }
+        requires left { 0 < self.old.rounds.left }
+        ensures course { (first : C.First) (begun : Option (List ℕ)) (c : Course) → Follows (C.stands first self.old.core) (C.sends first) self.old.rounds (outside (D.link doors.old) (D.door doors.old)) (gathering begun (K.contents out.old) (T.contents tape.old) self.old.waiting) c
+            → Runs result (C.stands first self.new.core) (C.runs_out first) (setting (C.sends first) self.old.rounds) self.new.rounds (outside (D.link doors.new) (D.door doors.new)) (gathering begun (K.contents out.new) (T.contents tape.new) self.new.waiting) (Goes AtDoor c) AtClient }
+        ensures log { (first : C.First) (terms : Terms) (begun : D) (begun_out : K) → terms.taped ≡ T.made tape.old → IsAsking RoundBegins D.call_gives (C.stands first self.old.core) (Told K.write_gives begun_out out.old) terms (C.sends first) self.old.rounds begun doors.old
+            → Logs result DoorAsked D.call_gives (C.stands first self.new.core) (C.runs_out first) (Told K.write_gives begun_out out.new) terms (C.sends first) self.new.rounds begun doors.new }
         ensures faults { HasFaults result (outside (D.link doors.old) (D.door doors.old)) (outside (D.link doors.new) (D.door doors.new)) (faults (K.faults out.old) (T.counts tape.old)) (faults (K.faults out.new) (T.counts tape.new)) }
-        ensures agrees { OnOk result (Agrees self.new.kept (outside (D.link doors.new) (D.door doors.new))) }
-        ensures wears { Wears self.old.kept self.new.kept }
+        ensures agrees { OnOk result (Agrees self.new.rounds (outside (D.link doors.new) (D.door doors.new))) }
+        ensures wears { Wears self.old.rounds self.new.rounds }
         ensures made { T.made tape.new ≡ T.made tape.old }
-        ensures left { OnOk result (0 < self.new.kept.left) }
-        ensures idles { OnOk result (IdledOnce (not self.old.kept.client_up) self.old.kept self.new.kept (D.link doors.old Client).idle (D.link doors.new Client).idle) }
+        ensures left { OnOk result (0 < self.new.rounds.left) }
+        ensures idles { OnOk result (IdledOnce (not self.old.rounds.client_up) self.old.rounds self.new.rounds (D.link doors.old Client).idle (D.link doors.new Client).idle) }
         ensures other { OnOk result ((D.link doors.new Host).idle ≡ (D.link doors.old Host).idle) }
         ensures within { EndsWithin result (outside (D.link doors.new) (D.door doors.new)) }
     {
-        if self.kept.client_up {
+        if self.rounds.client_up {
             return Ok(());
         }
         match doors.accept() {
             Ok(true) => {
-                self.kept.come();
+                self.rounds.come();
                 self.happen(LinkEvent::ClientComes, doors, out, tape)
             }
             Ok(false) => Ok(()),
@@ -248,17 +248,17 @@ impl<C: Served + Drop> Session<C> {
         out: &mut K,
         tape: &mut T,
     ) -> Result<(), ServeEnd>
-        requires agrees { Agrees self.old.kept (outside (D.link doors.old) (D.door doors.old)) }
-        requires left { 0 < self.old.kept.left }
-        ensures course { (first : C.First) (begun : Option (List ℕ)) (next : Next) (c : Course) → Follows (C.stands first self.old.core) (C.sends first) self.old.kept (outside (D.link doors.old) (D.door doors.old)) (gathering begun (K.contents out.old) (T.contents tape.old) self.old.waiting) c
-            → Runs result (C.stands first self.new.core) (C.runs_out first) (setting (C.sends first) self.old.kept) self.new.kept (outside (D.link doors.new) (D.door doors.new)) (gathering begun (K.contents out.new) (T.contents tape.new) self.new.waiting) (Goes (quiet side next) c) next }
-        ensures log { (first : C.First) (terms : Terms) (asks : List Ask) (begun : D) (begun_out : K) → terms.taped ≡ T.made tape.old → IsResting side D.call_gives (C.stands first self.old.core) (Told K.write_gives begun_out out.old) terms (C.sends first) asks self.old.kept begun doors.old
-            → HappenLogs result D.call_gives (C.stands first self.new.core) (C.runs_out first) (Told K.write_gives begun_out out.new) terms (C.sends first) asks self.new.kept begun doors.new }
+        requires agrees { Agrees self.old.rounds (outside (D.link doors.old) (D.door doors.old)) }
+        requires left { 0 < self.old.rounds.left }
+        ensures course { (first : C.First) (begun : Option (List ℕ)) (next : Next) (c : Course) → Follows (C.stands first self.old.core) (C.sends first) self.old.rounds (outside (D.link doors.old) (D.door doors.old)) (gathering begun (K.contents out.old) (T.contents tape.old) self.old.waiting) c
+            → Runs result (C.stands first self.new.core) (C.runs_out first) (setting (C.sends first) self.old.rounds) self.new.rounds (outside (D.link doors.new) (D.door doors.new)) (gathering begun (K.contents out.new) (T.contents tape.new) self.new.waiting) (Goes (quiet side next) c) next }
+        ensures log { (first : C.First) (terms : Terms) (asks : List Ask) (begun : D) (begun_out : K) → terms.taped ≡ T.made tape.old → IsResting side D.call_gives (C.stands first self.old.core) (Told K.write_gives begun_out out.old) terms (C.sends first) asks self.old.rounds begun doors.old
+            → HappenLogs result D.call_gives (C.stands first self.new.core) (C.runs_out first) (Told K.write_gives begun_out out.new) terms (C.sends first) asks self.new.rounds begun doors.new }
         ensures faults { HasFaults result (outside (D.link doors.old) (D.door doors.old)) (outside (D.link doors.new) (D.door doors.new)) (faults (K.faults out.old) (T.counts tape.old)) (faults (K.faults out.new) (T.counts tape.new)) }
-        ensures agrees { OnOk result (Agrees self.new.kept (outside (D.link doors.new) (D.door doors.new))) }
-        ensures wears { Wears self.old.kept self.new.kept }
+        ensures agrees { OnOk result (Agrees self.new.rounds (outside (D.link doors.new) (D.door doors.new))) }
+        ensures wears { Wears self.old.rounds self.new.rounds }
         ensures made { T.made tape.new ≡ T.made tape.old }
-        ensures kept { OnOk result (self.new.kept ≡ self.old.kept) }
+        ensures rounds { OnOk result (self.new.rounds ≡ self.old.rounds) }
         ensures idles { OnOk result (NotIdle (outside (D.link doors.old) (D.door doors.old)) (outside (D.link doors.new) (D.door doors.new))) }
         ensures within { EndsWithin result (outside (D.link doors.new) (D.door doors.new)) }
     {
@@ -277,33 +277,33 @@ impl<C: Served + Drop> Session<C> {
         out: &mut K,
         tape: &mut T,
     ) -> Result<(), ServeEnd>
-        requires agrees { Agrees self.old.kept (outside (D.link doors.old) (D.door doors.old)) }
-        requires left { 0 < self.old.kept.left }
+        requires agrees { Agrees self.old.rounds (outside (D.link doors.old) (D.door doors.old)) }
+        requires left { 0 < self.old.rounds.left }
         requires room { length buf.old ≡ 65536 }
-        ensures course { (first : C.First) (begun : Option (List ℕ)) (c : Course) → Follows (C.stands first self.old.core) (C.sends first) self.old.kept (outside (D.link doors.old) (D.door doors.old)) (gathering begun (K.contents out.old) (T.contents tape.old) self.old.waiting) c
-            → Runs result (C.stands first self.new.core) (C.runs_out first) (setting (C.sends first) self.old.kept) self.new.kept (outside (D.link doors.new) (D.door doors.new)) (gathering begun (K.contents out.new) (T.contents tape.new) self.new.waiting) (Goes (polls side) c) (behind side) }
-        ensures log { (first : C.First) (terms : Terms) (begun : D) (begun_out : K) → terms.taped ≡ T.made tape.old → IsAsking (stage_of side) D.call_gives (C.stands first self.old.core) (Told K.write_gives begun_out out.old) terms (C.sends first) self.old.kept begun doors.old
-            → Logs result (stage_behind side) D.call_gives (C.stands first self.new.core) (C.runs_out first) (Told K.write_gives begun_out out.new) terms (C.sends first) self.new.kept begun doors.new }
+        ensures course { (first : C.First) (begun : Option (List ℕ)) (c : Course) → Follows (C.stands first self.old.core) (C.sends first) self.old.rounds (outside (D.link doors.old) (D.door doors.old)) (gathering begun (K.contents out.old) (T.contents tape.old) self.old.waiting) c
+            → Runs result (C.stands first self.new.core) (C.runs_out first) (setting (C.sends first) self.old.rounds) self.new.rounds (outside (D.link doors.new) (D.door doors.new)) (gathering begun (K.contents out.new) (T.contents tape.new) self.new.waiting) (Goes (polls side) c) (behind side) }
+        ensures log { (first : C.First) (terms : Terms) (begun : D) (begun_out : K) → terms.taped ≡ T.made tape.old → IsAsking (stage_of side) D.call_gives (C.stands first self.old.core) (Told K.write_gives begun_out out.old) terms (C.sends first) self.old.rounds begun doors.old
+            → Logs result (stage_behind side) D.call_gives (C.stands first self.new.core) (C.runs_out first) (Told K.write_gives begun_out out.new) terms (C.sends first) self.new.rounds begun doors.new }
         ensures faults { HasFaults result (outside (D.link doors.old) (D.door doors.old)) (outside (D.link doors.new) (D.door doors.new)) (faults (K.faults out.old) (T.counts tape.old)) (faults (K.faults out.new) (T.counts tape.new)) }
-        ensures agrees { OnOk result (Agrees self.new.kept (outside (D.link doors.new) (D.door doors.new))) }
-        ensures wears { Wears self.old.kept self.new.kept }
+        ensures agrees { OnOk result (Agrees self.new.rounds (outside (D.link doors.new) (D.door doors.new))) }
+        ensures wears { Wears self.old.rounds self.new.rounds }
         ensures made { T.made tape.new ≡ T.made tape.old }
-        ensures left { OnOk result (0 < self.new.kept.left) }
-        ensures idles { OnOk result (IdledOnce (up_of side self.old.kept) self.old.kept self.new.kept (D.link doors.old side).idle (D.link doors.new side).idle) }
+        ensures left { OnOk result (0 < self.new.rounds.left) }
+        ensures idles { OnOk result (IdledOnce (up_of side self.old.rounds) self.old.rounds self.new.rounds (D.link doors.old side).idle (D.link doors.new side).idle) }
         ensures other { OnOk result ((D.link doors.new (other side)).idle ≡ (D.link doors.old (other side)).idle) }
         ensures within { EndsWithin result (outside (D.link doors.new) (D.door doors.new)) }
     {
-        if !self.kept.is_up(side) {
+        if !self.rounds.is_up(side) {
             return Ok(());
         }
         match doors.poll(side, buf) {
             Polled::Took(n) => {
-                self.kept.take(n);
+                self.rounds.take(n);
                 self.happen(piece(side, &buf[..n]), doors, out, tape)
             }
             Polled::NotYet => self.be_quiet(side, doors, out, tape),
             Polled::Ended => {
-                self.kept.end(side);
+                self.rounds.end(side);
                 self.happen(end_of(side), doors, out, tape)
             }
             Polled::Failed => Err(ServeEnd::LinkFault(side)),
@@ -318,26 +318,26 @@ impl<C: Served + Drop> Session<C> {
         out: &mut K,
         tape: &mut T,
     ) -> Result<(), ServeEnd>
-        requires agrees { Agrees self.old.kept (outside (D.link doors.old) (D.door doors.old)) }
-        requires live { IsLive self.old.kept }
+        requires agrees { Agrees self.old.rounds (outside (D.link doors.old) (D.door doors.old)) }
+        requires live { IsLive self.old.rounds }
         requires room { length buf.old ≡ 65536 }
-        ensures course { (first : C.First) (begun : Option (List ℕ)) (c : Course) → Follows (C.stands first self.old.core) (C.sends first) self.old.kept (outside (D.link doors.old) (D.door doors.old)) (gathering begun (K.contents out.old) (T.contents tape.old) self.old.waiting) c
-            → Runs result (C.stands first self.new.core) (C.runs_out first) (setting (C.sends first) self.old.kept) self.new.kept (outside (D.link doors.new) (D.door doors.new)) (gathering begun (K.contents out.new) (T.contents tape.new) self.new.waiting) (Goes AtDoor c) AtDoor }
-        ensures log { (first : C.First) (terms : Terms) (begun : D) (begun_out : K) → terms.taped ≡ T.made tape.old → IsAsking RoundBegins D.call_gives (C.stands first self.old.core) (Told K.write_gives begun_out out.old) terms (C.sends first) self.old.kept begun doors.old
-            → Logs result RoundBegins D.call_gives (C.stands first self.new.core) (C.runs_out first) (Told K.write_gives begun_out out.new) terms (C.sends first) self.new.kept begun doors.new }
+        ensures course { (first : C.First) (begun : Option (List ℕ)) (c : Course) → Follows (C.stands first self.old.core) (C.sends first) self.old.rounds (outside (D.link doors.old) (D.door doors.old)) (gathering begun (K.contents out.old) (T.contents tape.old) self.old.waiting) c
+            → Runs result (C.stands first self.new.core) (C.runs_out first) (setting (C.sends first) self.old.rounds) self.new.rounds (outside (D.link doors.new) (D.door doors.new)) (gathering begun (K.contents out.new) (T.contents tape.new) self.new.waiting) (Goes AtDoor c) AtDoor }
+        ensures log { (first : C.First) (terms : Terms) (begun : D) (begun_out : K) → terms.taped ≡ T.made tape.old → IsAsking RoundBegins D.call_gives (C.stands first self.old.core) (Told K.write_gives begun_out out.old) terms (C.sends first) self.old.rounds begun doors.old
+            → Logs result RoundBegins D.call_gives (C.stands first self.new.core) (C.runs_out first) (Told K.write_gives begun_out out.new) terms (C.sends first) self.new.rounds begun doors.new }
         ensures faults { HasFaults result (outside (D.link doors.old) (D.door doors.old)) (outside (D.link doors.new) (D.door doors.new)) (faults (K.faults out.old) (T.counts tape.old)) (faults (K.faults out.new) (T.counts tape.new)) }
-        ensures agrees { OnOk result (Agrees self.new.kept (outside (D.link doors.new) (D.door doors.new))) }
-        ensures live { OnOk result (IsLive self.new.kept) }
-        ensures idle { OnOk result (self.new.kept.idle ≡ self.old.kept.idle) }
+        ensures agrees { OnOk result (Agrees self.new.rounds (outside (D.link doors.new) (D.door doors.new))) }
+        ensures live { OnOk result (IsLive self.new.rounds) }
+        ensures idle { OnOk result (self.new.rounds.idle ≡ self.old.rounds.idle) }
         ensures made { T.made tape.new ≡ T.made tape.old }
-        ensures idles { RoundIdles result self.old.kept self.new.kept (outside (D.link doors.old) (D.door doors.old)) (outside (D.link doors.new) (D.door doors.new)) }
-        ensures fewer { OnOk result (rounds_of self.new.kept < rounds_of self.old.kept) }
+        ensures idles { RoundIdles result self.old.rounds self.new.rounds (outside (D.link doors.old) (D.door doors.old)) (outside (D.link doors.new) (D.door doors.new)) }
+        ensures fewer { OnOk result (rounds_of self.new.rounds < rounds_of self.old.rounds) }
     {
         self.ask_door(doors, out, tape)?;
         self.ask(Side::Client, buf, doors, out, tape)?;
         self.ask(Side::Host, buf, doors, out, tape)?;
-        write_waiting(!self.kept.busy, &mut self.waiting, tape)?;
-        self.kept.rest()
+        write_waiting(!self.rounds.busy, &mut self.waiting, tape)?;
+        self.rounds.rest()
     }
 
     /// Rounds, one after another, to the end.
@@ -348,16 +348,16 @@ impl<C: Served + Drop> Session<C> {
         out: &mut K,
         tape: &mut T,
     ) -> ServeEnd
-        requires agrees { Agrees self.old.kept (outside (D.link doors.old) (D.door doors.old)) }
-        requires live { IsLive self.old.kept }
+        requires agrees { Agrees self.old.rounds (outside (D.link doors.old) (D.door doors.old)) }
+        requires live { IsLive self.old.rounds }
         requires room { length buf.old ≡ 65536 }
-        requires fresh { self.old.kept.waits ≡ self.old.kept.idle }
-        ensures course { (first : C.First) (begun : Option (List ℕ)) (c : Course) → Follows (C.stands first self.old.core) (C.sends first) self.old.kept (outside (D.link doors.old) (D.door doors.old)) (gathering begun (K.contents out.old) (T.contents tape.old) self.old.waiting) c
-            → Leaves result (C.runs_out first) (setting (C.sends first) self.old.kept) (Goes AtDoor c) (outside (D.link doors.new) (D.door doors.new)) (written begun (K.contents out.new) (T.contents tape.new)) }
-        ensures log { (first : C.First) (terms : Terms) (begun : D) (begun_out : K) → terms.taped ≡ T.made tape.old → IsAsking RoundBegins D.call_gives (C.stands first self.old.core) (Told K.write_gives begun_out out.old) terms (C.sends first) self.old.kept begun doors.old
+        requires fresh { self.old.rounds.waits ≡ self.old.rounds.idle }
+        ensures course { (first : C.First) (begun : Option (List ℕ)) (c : Course) → Follows (C.stands first self.old.core) (C.sends first) self.old.rounds (outside (D.link doors.old) (D.door doors.old)) (gathering begun (K.contents out.old) (T.contents tape.old) self.old.waiting) c
+            → Leaves result (C.runs_out first) (setting (C.sends first) self.old.rounds) (Goes AtDoor c) (outside (D.link doors.new) (D.door doors.new)) (written begun (K.contents out.new) (T.contents tape.new)) }
+        ensures log { (first : C.First) (terms : Terms) (begun : D) (begun_out : K) → terms.taped ≡ T.made tape.old → IsAsking RoundBegins D.call_gives (C.stands first self.old.core) (Told K.write_gives begun_out out.old) terms (C.sends first) self.old.rounds begun doors.old
             → Logged result D.call_gives (C.runs_out first) (Told K.write_gives begun_out out.new) terms (C.sends first) begun doors.new }
         ensures cause { HasCause result (outside (D.link doors.old) (D.door doors.old)) (outside (D.link doors.new) (D.door doors.new)) (faults (K.faults out.old) (T.counts tape.old)) (faults (K.faults out.new) (T.counts tape.new)) }
-        ensures reason { HasReason result self.old.kept.idle (outside (D.link doors.old) (D.door doors.old)) (outside (D.link doors.new) (D.door doors.new)) }
+        ensures reason { HasReason result self.old.rounds.idle (outside (D.link doors.old) (D.door doors.old)) (outside (D.link doors.new) (D.door doors.new)) }
     {
         'rounds: loop {
             if let Err(end) = self.round(buf, doors, out, tape) {

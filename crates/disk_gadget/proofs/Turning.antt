@@ -1,7 +1,9 @@
 -- A transfer of a bulk endpoint is a turn.
-use Rattle.std.proofs.Common.{◌≡◌, ℕ, Bool, true, false, nat_lt, List, Option, Some, None, refl}
-use Rattle.std.specs.Prelude.{Result, Ok, Err, OnOk}
+use Rattle.std.proofs.Common.{◌≡◌, ℕ, Bool, true, false, nat_lt, List, Option, Some, None, refl, sym, ap, subst, ◌∙◌}
+use Rattle.std.specs.Prelude.{Result, Ok, Err, IfOk, OnOk}
 use Rattle.usb_base.specs.Endpoint.{is_in_endpoint}
+use Rattle.usb_base.specs.declared.memory.Memory.{Memory}
+use Rattle.usb_base.specs.declared.transfer.Outcome.{Outcome}
 use Rattle.usb_base.specs.declared.transfer.Transfer.{Transfer}
 use Rattle.chapter9.specs.declared.state.DevState.{DevState}
 use Rattle.model_device.specs.Device.{device_parts, is_running}
@@ -31,18 +33,27 @@ step_in d t s r i = rw (s, r, i) refl
 pub step_out : (d : DiskState) (t : Transfer) → t.setup ≡ None → is_running (device_parts described) d.state.device t.ep ≡ true → is_in_endpoint t.ep ≡ false → disk_step d t ≡ on_blocks d.blocks (turned d.state.device (turn_out d t))
 step_out d t s r i = rw (s, r, i) refl
 
-pub outcome_turned : (blocks : List ℕ) (device : DevState) (o : Option Turn) → given_in (on_blocks blocks (turned device o)) ≡ turn_outcome blocks o
+outcome_turned : (blocks : List ℕ) (device : DevState) (o : Option Turn) → given_in (on_blocks blocks (turned device o)) ≡ turn_outcome blocks o
 outcome_turned blocks device None = refl
 outcome_turned blocks device (Some turn) = refl
 
-pub state_turned : (d : DiskState) (o : Option Turn) → state_in d (on_blocks d.blocks (turned d.state.device o)) ≡ record { state = record { device = turn_device d.state.device o; kept = turn_course d.state.kept o }; blocks = turn_blocks d.blocks o }
+state_turned : (d : DiskState) (o : Option Turn) → state_in d (on_blocks d.blocks (turned d.state.device o)) ≡ record { state = record { device = turn_device d.state.device o; kept = turn_course d.state.kept o }; blocks = turn_blocks d.blocks o }
 state_turned d None = refl
 state_turned d (Some turn) = refl
 
 -- all parts of it together
-pub together : {X Y : Type 0} (r : Result X Y) (device device2 : DevState) (course course2 : Course) (blocks blocks2 : List ℕ) → OnOk r (device ≡ device2) → OnOk r (course ≡ course2) → OnOk r (blocks ≡ blocks2) → OnOk r (disk_of device course blocks ≡ disk_of device2 course2 blocks2)
+together : {X Y : Type 0} (r : Result X Y) (device device2 : DevState) (course course2 : Course) (blocks blocks2 : List ℕ) → OnOk r (device ≡ device2) → OnOk r (course ≡ course2) → OnOk r (blocks ≡ blocks2) → OnOk r (disk_of device course blocks ≡ disk_of device2 course2 blocks2)
 together (Ok x) device device2 course course2 blocks blocks2 a b c = λ i. disk_of (a i) (b i) (c i)
 together (Err e) device device2 course course2 blocks blocks2 a b c = tt
+
+-- what a transfer that is a turn gives, and how the device stands then
+pub outcome-of_turn : (d : DiskState) (t : Transfer) (o : Option Turn) (r : Result (Option Outcome) Memory) → disk_step d t ≡ on_blocks d.blocks (turned d.state.device o) → IfOk r (λ outcome. outcome ≡ turn_outcome d.blocks o) → IfOk r (λ outcome. outcome ≡ given_in (disk_step d t))
+outcome-of_turn d t o r is gives = subst (λ x. IfOk r (λ outcome. outcome ≡ x)) (sym (ap given_in is ∙ outcome_turned d.blocks d.state.device o)) gives
+
+pub state-of_turn : {X Y : Type 0} (d : DiskState) (t : Transfer) (o : Option Turn) (r : Result X Y) (device : DevState) (course : Course) (blocks : List ℕ) → disk_step d t ≡ on_blocks d.blocks (turned d.state.device o)
+    → OnOk r (device ≡ turn_device d.state.device o) → OnOk r (course ≡ turn_course d.state.kept o) → OnOk r (blocks ≡ turn_blocks d.blocks o) → OnOk r (disk_of device course blocks ≡ state_in d (disk_step d t))
+state-of_turn d t o r device course blocks is a b c =
+    subst (λ x. OnOk r (disk_of device course blocks ≡ x)) (sym (ap (state_in d) is ∙ state_turned d o)) (together r device (turn_device d.state.device o) course (turn_course d.state.kept o) blocks (turn_blocks d.blocks o) a b c)
 
 -- a turn from the device neither halts it nor writes a block
 pub gives-apart : (device : DevState) (blocks : List ℕ) (sense : Option Sense) (wanted : ℕ) (stage : Stage) → (device ≡ turn_device device (given_by sense wanted stage)) × (blocks ≡ turn_blocks blocks (given_by sense wanted stage))

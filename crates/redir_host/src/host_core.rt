@@ -19,7 +19,7 @@ use usb_base::{Bytes, EpAddr, Memory};
 /// and changes nothing.
 #[derive(Drop)]
 pub struct HostCore<G: Gadget> {
-    kept: Inner<G>,
+    inner: Inner<G>,
 }
 
 impl<G: Gadget> Model for HostCore<G> {
@@ -29,9 +29,9 @@ impl<G: Gadget> Model for HostCore<G> {
 
     ghost Value = { HostKept G };
 
-    ghost view = { λ core. kept_of core.kept };
+    ghost view = { λ core. kept_of core.inner };
 
-    ghost invariant = { λ core. IsReady G.meaning (kept_of core.kept) };
+    ghost invariant = { λ core. IsReady G.meaning (kept_of core.inner) };
 }
 
 impl<G: Gadget> HostCore<G> {
@@ -43,7 +43,7 @@ impl<G: Gadget> HostCore<G> {
     {
         write_hello(alloc, out)?;
         Ok(HostCore {
-            kept: Inner::new(alloc, gadget),
+            inner: Inner::new(alloc, gadget),
         })
     }
 
@@ -56,10 +56,10 @@ impl<G: Gadget> HostCore<G> {
         ensures fails { OnErr result (HasFailed self.new) }
         ensures failed { HasFailed self.old → IsErr result × (self.new ≡ self.old) × (out.new ≡ out.old) }
     {
-        self.kept.works()?;
-        let mut notes = HostNotes::new(self.kept.alloc);
-        let taken = self.kept.take(bytes, out, &mut notes);
-        self.kept.fail_on_err(taken)?;
+        self.inner.works()?;
+        let mut notes = HostNotes::new(self.inner.alloc);
+        let taken = self.inner.take(bytes, out, &mut notes);
+        self.inner.fail_on_err(taken)?;
         Ok(notes)
     }
 
@@ -73,9 +73,9 @@ impl<G: Gadget> HostCore<G> {
         ensures fails { OnErr result (HasFailed self.new) }
         ensures failed { HasFailed self.old → IsErr result × (self.new ≡ self.old) }
     {
-        self.kept.works()?;
-        let told = self.kept.perform(ep, out);
-        self.kept.fail_on_err(told)
+        self.inner.works()?;
+        let told = self.inner.perform(ep, out);
+        self.inner.fail_on_err(told)
     }
 
     /// Offers the guest what the device has for an endpoint whose stream runs. For want of memory, which only a packet
@@ -88,9 +88,9 @@ impl<G: Gadget> HostCore<G> {
         ensures fails { OnErr result (HasFailed self.new) }
         ensures failed { HasFailed self.old → IsErr result × (self.new ≡ self.old) }
     {
-        self.kept.works()?;
-        let told = self.kept.offer(ep, out);
-        self.kept.fail_on_err(told)
+        self.inner.works()?;
+        let told = self.inner.offer(ep, out);
+        self.inner.fail_on_err(told)
     }
 
     /// Takes the device away, and tells so where the guest has sent its hello; false where it was taken away before.
@@ -103,8 +103,8 @@ impl<G: Gadget> HostCore<G> {
         ensures fails { OnErr result (HasFailed self.new) }
         ensures failed { HasFailed self.old → IsErr result × (self.new ≡ self.old) }
     {
-        self.kept.works()?;
-        let told = self.kept.unplug(out);
-        self.kept.fail_on_err(told)
+        self.inner.works()?;
+        let told = self.inner.unplug(out);
+        self.inner.fail_on_err(told)
     }
 }

@@ -120,51 +120,22 @@ impl<G: Gadget> Host<G> {
         ensures ok { OnOk result (PerformsNow (performs_marked G.meaning self.old request.now request.now.form) self.new out.old out.new) }
         ensures err { OnErr result (Begins out.old out.new) }
     {
+        let table = self.gadget.table();
+        let outcome = self.reset(alloc)?;
         match request.form {
-            Form::GetConfiguration => self.perform_by_reset(alloc, request, out),
+            Form::GetConfiguration => {
+                self.finish(alloc, request, Some(Route::Reset), &table, outcome, out)
+            }
             Form::Control(_)
             | Form::Bulk { .. }
             | Form::Interrupt
             | Form::SetConfiguration { .. }
             | Form::SetAlt { .. }
-            | Form::GetAlt { .. } => self.perform_behind_reset(alloc, request, out),
+            | Form::GetAlt { .. } => {
+                self.change(alloc, &Route::Reset, &table, outcome.status, out)?;
+                self.perform_now(alloc, request, out)
+            }
         }
-    }
-
-    /// Answers a request by the reset of the device alone.
-    fn perform_by_reset(
-        &mut self,
-        alloc: Global,
-        request: &Request,
-        out: &mut Bytes,
-    ) -> Result<(), Memory>
-        requires sound { IsSound self.old }
-        requires request { IsRequest self.old.guest request.now }
-        ensures ok { OnOk result (PerformsNow (does G.meaning self.old request.now (Some route.Reset) (G.meaning.perform self.old.gadget (routed route.Reset))) self.new out.old out.new) }
-        ensures err { OnErr result (Begins out.old out.new) }
-    {
-        let table = self.gadget.table();
-        let outcome = self.reset(alloc)?;
-        self.finish(alloc, request, Some(Route::Reset), &table, outcome, out)
-    }
-
-    /// Resets the device, and then performs a request.
-    fn perform_behind_reset(
-        &mut self,
-        alloc: Global,
-        request: &Request,
-        out: &mut Bytes,
-    ) -> Result<(), Memory>
-        requires sound { IsSound self.old }
-        requires request { IsRequest self.old.guest request.now }
-        requires marked { request.now.reset ≡ true }
-        ensures ok { OnOk result (PerformsNow (resets G.meaning self.old request.now (G.meaning.perform self.old.gadget (routed route.Reset))) self.new out.old out.new) }
-        ensures err { OnErr result (Begins out.old out.new) }
-    {
-        let table = self.gadget.table();
-        let outcome = self.reset(alloc)?;
-        self.change(alloc, &Route::Reset, &table, outcome.status, out)?;
-        self.perform_now(alloc, request, out)
     }
 
     /// Resets the device.

@@ -1,6 +1,7 @@
 -- The doors' calls.
 pub mod Course
 pub mod Answers
+pub mod Asked
 pub mod Open
 pub mod Idle
 pub mod Sink

@@ -18,7 +18,7 @@ use Rattle.bridge_run.specs.Calls.{turned as passed}
 use Rattle.bridge_run.specs.Outside.{Outside, outside, NoFault, Shows, Tells, IsTold, IsBetween, IsOneOf, HasLines, IsTaped, Cut, Written, Faults}
 use Rattle.bridge_run.specs.inner.Keeping.{up_of, with_up}
 use Rattle.bridge_run.specs.inner.Follows.{Follows, setting, polls, behind}
-use Rattle.bridge_run.proofs.lemmas.events.Put.{between-none, all-recorded, if-told}
+use Rattle.bridge_run.proofs.lemmas.events.Put.{between-none, all-recorded, if-told, retold}
 
 -- ---- the door
 
@@ -56,7 +56,7 @@ accepted stands p k k' w w' out c f a host kept =
     record {
       course = come_course t.0 t.1 c;
       is = come-is c.clients t.0 t.1 c t.2;
-      follows = record {
+      follows = subst (λ (q : Rounds). Follows stands p q w' out (come_course t.0 t.1 c)) (sym kept) (record {
         stands_for = f.stands_for;
         tells = record {
           client = record {
@@ -69,13 +69,13 @@ accepted stands p k k' w w' out c f a host kept =
           told = f.tells.told;
           tape = f.tells.tape;
         };
-        client_up = ap (λ (k : Rounds). k.client_up) kept;
-        host_up = ap (λ (k : Rounds). k.host_up) kept ∙ f.host_up;
-        busy = ap (λ (k : Rounds). k.busy) kept;
-        waits = ap (λ (k : Rounds). k.waits) kept ∙ f.waits;
-        left = ap (λ (k : Rounds). k.left) kept ∙ ap (λ (n : ℕ). n - 1) f.left;
-        refused = ap (λ (k : Rounds). k.refused) kept ∙ f.refused;
-      };
+        client_up = refl;
+        host_up = f.host_up;
+        busy = refl;
+        waits = f.waits;
+        left = ap (λ (n : ℕ). n - 1) f.left;
+        refused = f.refused;
+      });
     }
 
 none-come : (known : Option (List (List Turn))) (clients : List (List Turn)) → known ≡ Some clients → IfSome known (λ cs. cs ≡ []) → clients ≡ []
@@ -93,22 +93,13 @@ pub waited : (stands : List LinkEvent → Type 0) (p : Prescribed) (k : Rounds) 
     → Accepts {E = Fault} (Ok false) w.door w'.door w.client w'.client → w'.host ≡ w.host → (come c.clients c ≡ Goes AtClient c) × Follows stands p k w' out c
 waited stands p k w w' out c f a host = (
   ap (λ (cs : List (List Turn)). come cs c) (none-come w.door.to_come c.clients f.tells.clients a.0),
-  record {
-    stands_for = f.stands_for;
-    tells = record {
-      client = same-shows w.client w'.client c.client_up c.client c.to_client (ap (λ (l : Link). l.up) a.1) (ap (λ (l : Link). l.turns) a.1) (ap (λ (l : Link). l.written) a.1) f.tells.client;
-      host = subst (λ (l : Link). Shows l c.host_up c.host c.to_host) (sym host) f.tells.host;
-      clients = ap (λ (d : Door). d.to_come) a.2 ∙ f.tells.clients;
-      told = f.tells.told;
-      tape = f.tells.tape;
-    };
-    client_up = f.client_up;
-    host_up = f.host_up;
-    busy = f.busy;
-    waits = f.waits;
-    left = f.left;
-    refused = f.refused;
-  },
+  retold stands p k w w' out out c c.client c.host c.recorded c.waiting f (record {
+    client = same-shows w.client w'.client c.client_up c.client c.to_client (ap (λ (l : Link). l.up) a.1) (ap (λ (l : Link). l.turns) a.1) (ap (λ (l : Link). l.written) a.1) f.tells.client;
+    host = subst (λ (l : Link). Shows l c.host_up c.host c.to_host) (sym host) f.tells.host;
+    clients = ap (λ (d : Door). d.to_come) a.2 ∙ f.tells.clients;
+    told = f.tells.told;
+    tape = f.tells.tape;
+  }),
 )
 
 -- the course behind a call wrote nothing
@@ -241,54 +232,43 @@ pub passed-follows : (side : Side) (stands : List LinkEvent → Type 0) (p : Pre
     → OneMoved side links links' door door' → (links' side).up ≡ (links side).up → (links' side).turns ≡ option_map (λ ts. after len (pending ts)) (links side).turns → (links' side).written ≡ (links side).written
     → Follows stands p k (outside links' door') out (passed side c)
 passed-follows Client stands p k links links' door door' out c len f is moved u turns written =
-    let t = passed-tells Client c.client_up links links' door door' out c len f.tells is moved (u ∙ f.tells.client.up-is) turns written in
-    record { stands_for = f.stands_for; tells = record { client = t.client; host = t.host; clients = t.clients; told = t.told; tape = t.tape }; client_up = f.client_up; host_up = f.host_up; busy = f.busy; waits = f.waits; left = f.left; refused = f.refused }
+    retold stands p k (outside links door) (outside links' door') out out c (after room (pending c.client)) c.host c.recorded c.waiting f
+    (passed-tells Client c.client_up links links' door door' out c len f.tells is moved (u ∙ f.tells.client.up-is) turns written)
 passed-follows Host stands p k links links' door door' out c len f is moved u turns written =
-    let t = passed-tells Host c.host_up links links' door door' out c len f.tells is moved (u ∙ f.tells.host.up-is) turns written in
-    record { stands_for = f.stands_for; tells = record { client = t.client; host = t.host; clients = t.clients; told = t.told; tape = t.tape }; client_up = f.client_up; host_up = f.host_up; busy = f.busy; waits = f.waits; left = f.left; refused = f.refused }
+    retold stands p k (outside links door) (outside links' door') out out c c.client (after room (pending c.host)) c.recorded c.waiting f
+    (passed-tells Host c.host_up links links' door door' out c len f.tells is moved (u ∙ f.tells.host.up-is) turns written)
 
 -- bytes have come
 pub took-follows : (stands : List LinkEvent → Type 0) (p : Prescribed) (k k' : Rounds) (w : Outside) (out : Written) (c : Course) (n : ℕ) → Follows stands p k w out c → k' ≡ record k { busy = true; left = k.left - n }
     → Follows stands p k' w out (record c { busy = true; left = c.left - n })
-took-follows stands p k k' w out c n f kept = record {
-  stands_for = f.stands_for;
-  tells = record { client = f.tells.client; host = f.tells.host; clients = f.tells.clients; told = f.tells.told; tape = f.tells.tape };
-  client_up = ap (λ (k : Rounds). k.client_up) kept ∙ f.client_up;
-  host_up = ap (λ (k : Rounds). k.host_up) kept ∙ f.host_up;
-  busy = ap (λ (k : Rounds). k.busy) kept;
-  waits = ap (λ (k : Rounds). k.waits) kept ∙ f.waits;
-  left = ap (λ (k : Rounds). k.left) kept ∙ ap (λ (m : ℕ). m - n) f.left;
-  refused = ap (λ (k : Rounds). k.refused) kept ∙ f.refused;
-}
+took-follows stands p k k' w out c n f kept =
+    subst (λ (q : Rounds). Follows stands p q w out (record c { busy = true; left = c.left - n })) (sym kept) (record {
+      stands_for = f.stands_for;
+      tells = record { client = f.tells.client; host = f.tells.host; clients = f.tells.clients; told = f.tells.told; tape = f.tells.tape };
+      client_up = f.client_up;
+      host_up = f.host_up;
+      busy = refl;
+      waits = f.waits;
+      left = ap (λ (m : ℕ). m - n) f.left;
+      refused = f.refused;
+    })
 
 -- the link has ended
+ended-as : (side : Side) (stands : List LinkEvent → Type 0) (p : Prescribed) (k : Rounds) (links links' : Side → Link) (door door' : Door) (out : Written) (c : Course) (len : ℕ) → Follows stands p k (outside links door) out c → len ≡ room
+    → OneMoved side links links' door door' → (links' side).up ≡ false → (links' side).turns ≡ option_map (λ ts. after len (pending ts)) (links side).turns → (links' side).written ≡ (links side).written
+    → Follows stands p (record (with_up side k) { busy = true }) (outside links' door') out (record (down side (passed side c)) { busy = true })
+ended-as Client stands p k links links' door door' out c len f is moved u turns written =
+    let t = passed-tells Client false links links' door door' out c len f.tells is moved u turns written in
+    record { stands_for = f.stands_for; tells = record { client = t.client; host = t.host; clients = t.clients; told = t.told; tape = t.tape }; client_up = refl; host_up = f.host_up; busy = refl; waits = f.waits; left = f.left; refused = f.refused }
+ended-as Host stands p k links links' door door' out c len f is moved u turns written =
+    let t = passed-tells Host false links links' door door' out c len f.tells is moved u turns written in
+    record { stands_for = f.stands_for; tells = record { client = t.client; host = t.host; clients = t.clients; told = t.told; tape = t.tape }; client_up = f.client_up; host_up = refl; busy = refl; waits = f.waits; left = f.left; refused = f.refused }
+
 pub ended-follows : (side : Side) (stands : List LinkEvent → Type 0) (p : Prescribed) (k k' : Rounds) (links links' : Side → Link) (door door' : Door) (out : Written) (c : Course) (len : ℕ) → Follows stands p k (outside links door) out c → len ≡ room
     → OneMoved side links links' door door' → (links' side).up ≡ false → (links' side).turns ≡ option_map (λ ts. after len (pending ts)) (links side).turns → (links' side).written ≡ (links side).written
     → k' ≡ record (with_up side k) { busy = true } → Follows stands p k' (outside links' door') out (record (down side (passed side c)) { busy = true })
-ended-follows Client stands p k k' links links' door door' out c len f is moved u turns written kept =
-    let t = passed-tells Client false links links' door door' out c len f.tells is moved u turns written in
-    record {
-      stands_for = f.stands_for;
-      tells = record { client = t.client; host = t.host; clients = t.clients; told = t.told; tape = t.tape };
-      client_up = ap (λ (k : Rounds). k.client_up) kept;
-      host_up = ap (λ (k : Rounds). k.host_up) kept ∙ f.host_up;
-      busy = ap (λ (k : Rounds). k.busy) kept;
-      waits = ap (λ (k : Rounds). k.waits) kept ∙ f.waits;
-      left = ap (λ (k : Rounds). k.left) kept ∙ f.left;
-      refused = ap (λ (k : Rounds). k.refused) kept ∙ f.refused;
-    }
-ended-follows Host stands p k k' links links' door door' out c len f is moved u turns written kept =
-    let t = passed-tells Host false links links' door door' out c len f.tells is moved u turns written in
-    record {
-      stands_for = f.stands_for;
-      tells = record { client = t.client; host = t.host; clients = t.clients; told = t.told; tape = t.tape };
-      client_up = ap (λ (k : Rounds). k.client_up) kept ∙ f.client_up;
-      host_up = ap (λ (k : Rounds). k.host_up) kept;
-      busy = ap (λ (k : Rounds). k.busy) kept;
-      waits = ap (λ (k : Rounds). k.waits) kept ∙ f.waits;
-      left = ap (λ (k : Rounds). k.left) kept ∙ f.left;
-      refused = ap (λ (k : Rounds). k.refused) kept ∙ f.refused;
-    }
+ended-follows side stands p k k' links links' door door' out c len f is moved u turns written kept =
+    subst (λ (q : Rounds). Follows stands p q (outside links' door') out (record (down side (passed side c)) { busy = true })) (sym kept) (ended-as side stands p k links links' door door' out c len f is moved u turns written)
 
 -- ---- a poll that failed
 

@@ -7,9 +7,9 @@ use Rattle.bridge_run.specs.declared.serve_end.ServeEnd.TheVariants.{Ended, Link
 use Rattle.bridge_run.specs.declared.rounds.Rounds.{Rounds}
 use Rattle.bridge_run.specs.Course.{Setting, Course, Next}
 use Rattle.bridge_run.specs.Calls.{Outcome, Goes, Stops, call, calls, and_then, course_of}
-use Rattle.bridge_run.specs.Outside.{Outside, Cut, Written}
+use Rattle.bridge_run.specs.Outside.{Outside, Cut, Written, Faults, HasCause}
 use Rattle.bridge_run.specs.Serves.{Reaches, EndsSo, MayRunOut, CutShort, Leaves}
-use Rattle.bridge_run.specs.inner.Follows.{IsCutEnd, Runs}
+use Rattle.bridge_run.specs.inner.Follows.{IsCutEnd, HasFaults, Runs}
 
 calls-more : (s : Setting) (m n : ℕ) (o : Outcome) → calls s (m + n) o ≡ calls s n (calls s m o)
 calls-more s m zero o = ap (λ (k : ℕ). calls s k o) (add-zero m)
@@ -62,3 +62,10 @@ cut-next {e = e} {runs_out = runs_out} s from next c d w out r is x = record { n
 pub is-err : {T : Type 0} → (result : Result T ServeEnd) (e : ServeEnd) → IsErrAnd result (λ x. x ≡ e) → result ≡ Err e
 is-err (Ok x) e is = absurd is
 is-err (Err x) e is = ap Err is
+
+pub err-runs : {T : Type 0} → (result : Result T ServeEnd) (e : ServeEnd) → IsErrAnd result (λ x. x ≡ e) → (stands : List LinkEvent → Type 0) (runs_out : List LinkEvent → LinkEvent → List ℕ → List ℕ → Type 0) (s : Setting) (k : Rounds) (w : Outside) (out : Written) (from : Outcome) (to : Next)
+    → Leaves e runs_out s from w out → Runs result stands runs_out s k w out from to
+err-runs {T = T} result e is stands runs_out s k w out from to leaves = subst (λ (r : Result T ServeEnd). Runs r stands runs_out s k w out from to) (sym (is-err result e is)) leaves
+
+pub err-faults : {T : Type 0} → (result : Result T ServeEnd) (e : ServeEnd) → IsErrAnd result (λ x. x ≡ e) → (old new : Outside) (sink_old sink_new : Faults) → HasCause e old new sink_old sink_new → HasFaults result old new sink_old sink_new
+err-faults {T = T} result e is old new sink_old sink_new cause = subst (λ (r : Result T ServeEnd). HasFaults r old new sink_old sink_new) (sym (is-err result e is)) cause

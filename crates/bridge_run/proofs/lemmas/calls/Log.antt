@@ -36,7 +36,7 @@ pub record HasSent (terms : Terms) (p : Prescribed) (asks : List Ask) (calls : L
 sent-closing : (r : Bool) (of : Side) (terms : Terms) (p : Prescribed) (calls : List Call) (events : List LinkEvent) → IsWritten terms p events calls → IsWritten terms p events (closing r of calls)
 sent-closing r of terms p calls events w = record { client = went-closing r of Client calls ∙ w.client; host = went-closing r of Host calls ∙ w.host }
 
-pub has-sent : {D : Type 0} → (gives : D → Call → D → Type 0) (stands : List LinkEvent → Type 0) (tells : List ℕ → Type 0) (terms : Terms) (p : Prescribed) (asks : List Ask) (e : LinkEvent) (k k1 : Rounds) (sent : Sent) (lines : List ℕ) (begun d0 d1 d2 : D)
+has-sent : {D : Type 0} → (gives : D → Call → D → Type 0) (stands : List LinkEvent → Type 0) (tells : List ℕ → Type 0) (terms : Terms) (p : Prescribed) (asks : List Ask) (e : LinkEvent) (k k1 : Rounds) (sent : Sent) (lines : List ℕ) (begun d0 d1 d2 : D)
     → (t : IsTaking gives stands tells terms p asks e k begun d0) → Prepared p t.events e sent lines → k1 ≡ k
     → (w1 : WroteMore gives Client (all_if k1.client_up sent.to_client) t.calls begun d1) → (w2 : WroteMore gives Host (all_if k1.host_up sent.to_host) w1.behind begun d2)
     → HasSent terms p asks w2.behind e t.events
@@ -97,7 +97,7 @@ has-taken gives stands tells terms p asks k begun now calls e events is just cal
   over = over-of terms p e events (events_of calls) k is t.client_up t.host_up;
 }
 
-pub put-behind : {D : Type 0} → (gives : D → Call → D → Type 0) (stands : List LinkEvent → Type 0) (tells : List ℕ → Type 0) (terms : Terms) (p : Prescribed) (asks : List Ask) (e : LinkEvent) (events : List LinkEvent) (k : Rounds) (begun now : D) (calls : List Call) (refused dropped : Bool)
+put-behind : {D : Type 0} → (gives : D → Call → D → Type 0) (stands : List LinkEvent → Type 0) (tells : List ℕ → Type 0) (terms : Terms) (p : Prescribed) (asks : List Ask) (e : LinkEvent) (events : List LinkEvent) (k : Rounds) (begun now : D) (calls : List Call) (refused dropped : Bool)
     → HasSent terms p asks calls e events → Called gives (closing refused Host (closing dropped Client calls)) begun now → TakenBy stands tells terms p asks k (e ∷ events)
     → (dropped ≡ true → k.client_up ≡ false) → IsBehind (ends_next e dropped) gives stands tells terms p asks k begun now
 put-behind gives stands tells terms p asks e events k begun now calls refused false h called t down =
@@ -145,12 +145,12 @@ put-behind {D = D} gives stands tells terms p asks e events k begun now calls re
         (has-taken gives stands tells terms p asks k begun now all e events (behind ∙ ap (λ (b : Bool). cond b (ClientEnd ∷ e ∷ events) (e ∷ events)) is) just called settled asked written t)
 
 -- the links that are up behind it
-pub client-kept : (p : Prescribed) (e : LinkEvent) (events : List LinkEvent) (k k' : Rounds) (sent : Sent) (lines : List ℕ) → Prepared p events e sent lines → k' ≡ refusing sent.refusals sent.lets_go k
+client-kept : (p : Prescribed) (e : LinkEvent) (events : List LinkEvent) (k k' : Rounds) (sent : Sent) (lines : List ℕ) → Prepared p events e sent lines → k' ≡ refusing sent.refusals sent.lets_go k
     → k.client_up ≡ client_at e (client_behind p events) → k'.client_up ≡ client_behind p (e ∷ events)
 client-kept p e events k k' sent lines prepared kept up =
     ap (λ (q : Rounds). q.client_up) kept ∙ ap (λ (u : Bool). u && not (refuses Client sent.refusals || sent.lets_go)) up ∙ ap (λ (d : Bool). client_at e (client_behind p events) && not d) (dropped-is p events e sent lines prepared)
 
-pub host-kept : (terms : Terms) (p : Prescribed) (e : LinkEvent) (events : List LinkEvent) (k k' : Rounds) (sent : Sent) (lines : List ℕ) → Prepared p events e sent lines → k' ≡ refusing sent.refusals sent.lets_go k
+host-kept : (terms : Terms) (p : Prescribed) (e : LinkEvent) (events : List LinkEvent) (k k' : Rounds) (sent : Sent) (lines : List ℕ) → Prepared p events e sent lines → k' ≡ refusing sent.refusals sent.lets_go k
     → k.host_up ≡ host_at e (host_since (is_some terms.host) p events) → k'.host_up ≡ host_since (is_some terms.host) p (e ∷ events)
 host-kept terms p e events k k' sent lines prepared kept up =
     ap (λ (q : Rounds). q.host_up) kept ∙ ap (λ (u : Bool). u && not (refuses Host sent.refusals)) up ∙ ap (λ (rs : List Refusal). host_at e (host_since (is_some terms.host) p events) && not (refuses Host rs)) prepared.refusals
@@ -159,15 +159,33 @@ and-none : (u : Bool) → (u && not true) ≡ false
 and-none true = refl
 and-none false = refl
 
-pub dropped-down : (k k' : Rounds) (sent : Sent) (dropped : Bool) → k' ≡ refusing sent.refusals sent.lets_go k → dropped ≡ (refuses Client sent.refusals || sent.lets_go) → dropped ≡ true → k'.client_up ≡ false
+dropped-down : (k k' : Rounds) (sent : Sent) (dropped : Bool) → k' ≡ refusing sent.refusals sent.lets_go k → dropped ≡ (refuses Client sent.refusals || sent.lets_go) → dropped ≡ true → k'.client_up ≡ false
 dropped-down k k' sent dropped kept is down = ap (λ (q : Rounds). q.client_up) kept ∙ ap (λ (d : Bool). k.client_up && not d) (sym is ∙ down) ∙ and-none k.client_up
 
 -- the first refusal of all
-pub refused-kept : (p : Prescribed) (e : LinkEvent) (events : List LinkEvent) (k k' : Rounds) (sent : Sent) (lines : List ℕ) → Prepared p events e sent lines → k' ≡ refusing sent.refusals sent.lets_go k
+refused-kept : (p : Prescribed) (e : LinkEvent) (events : List LinkEvent) (k k' : Rounds) (sent : Sent) (lines : List ℕ) → Prepared p events e sent lines → k' ≡ refusing sent.refusals sent.lets_go k
     → k.refused ≡ first_of (p.refusals events) → k'.refused ≡ first_of (p.refusals (e ∷ events))
 refused-kept p e events k k' sent lines prepared kept is =
     ap (λ (q : Rounds). q.refused) kept ∙ ap (λ (r : Option Refusal). or_else r (first_of sent.refusals)) is ∙ ap (λ (rs : List Refusal). or_else (first_of (p.refusals events)) (first_of rs)) prepared.refusals
     ∙ sym (first_of-append (p.refusals events) (gained p.refusals events e)) ∙ ap first_of (sym prepared.grows)
+
+-- all is sent, each side that is refused is closed, and a client that is let go
+pub behind-sent : {D : Type 0} → (gives : D → Call → D → Type 0) (stands stands' : List LinkEvent → Type 0) (before tells : List ℕ → Type 0) (terms : Terms) (p : Prescribed) (asks : List Ask) (e : LinkEvent) (k k1 k2 : Rounds) (sent : Sent) (lines : List ℕ) (begun d0 d1 d2 now : D) (dropped refused : Bool)
+    → (t : IsTaking gives stands before terms p asks e k begun d0) → Prepared p t.events e sent lines → k1 ≡ k → (w1 : WroteMore gives Client (all_if k1.client_up sent.to_client) t.calls begun d1) → (w2 : WroteMore gives Host (all_if k1.host_up sent.to_host) w1.behind begun d2)
+    → Called gives (closing refused Host (closing dropped Client w2.behind)) begun now → k2 ≡ refusing sent.refusals sent.lets_go k1 → dropped ≡ (refuses Client sent.refusals || sent.lets_go) → stands' (e ∷ t.events) → tells (told_of p (e ∷ t.events))
+    → IsBehind (ends_next e dropped) gives stands' tells terms p asks k2 begun now
+behind-sent gives stands stands' before tells terms p asks e k k1 k2 sent lines begun d0 d1 d2 now dropped refused t prepared same w1 w2 called new drops now_stands told =
+    let kept = new ∙ ap (refusing sent.refusals sent.lets_go) same in
+    put-behind gives stands' tells terms p asks e t.events k2 begun now w2.behind refused dropped (has-sent gives stands before terms p asks e k k1 sent lines begun d0 d1 d2 t prepared same w1 w2) called
+    (record {
+      stands_for = now_stands;
+      told = told;
+      left = ap (λ (q : Rounds). q.left) kept ∙ t.left;
+      client_up = client-kept p e t.events k k2 sent lines prepared kept t.client_up;
+      host_up = host-kept terms p e t.events k k2 sent lines prepared kept t.host_up;
+      refused = refused-kept p e t.events k k2 sent lines prepared kept t.refused;
+    })
+    (dropped-down k k2 sent dropped kept drops)
 
 -- ---- in part
 

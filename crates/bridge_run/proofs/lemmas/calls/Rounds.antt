@@ -8,17 +8,17 @@ use Rattle.gate_outside.specs.declared.fault.Failed.{Failed as Fault}
 use Rattle.gate_outside.specs.declared.turn.Polled.{Polled}
 use Rattle.gate_outside.specs.declared.turn.Polled.TheVariants.{Took, NotYet, Ended, Failed}
 use Rattle.gate_outside.specs.Calls.{Call, Accept, Poll, written_by, went}
-use Rattle.bridge_run.specs.Events.{LinkEvent, ClientComes}
+use Rattle.bridge_run.specs.Events.{LinkEvent, ClientComes, ClientQuiet}
 use Rattle.bridge_run.specs.declared.rounds.Rounds.{Rounds}
 use Rattle.bridge_run.specs.declared.serve_end.ServeEnd.{ServeEnd}
 use Rattle.bridge_run.specs.declared.serve_end.ServeEnd.TheVariants as end
-use Rattle.bridge_run.specs.Prescribed.{Prescribed}
+use Rattle.bridge_run.specs.Prescribed.{Prescribed, first_of}
 use Rattle.bridge_run.specs.Calls.{piece, end_of}
-use Rattle.bridge_run.specs.Ups.{client_at, client_behind, host_at, host_since}
-use Rattle.bridge_run.specs.Asks.{Ask, ForClient, OfSide, asks_of, taken, has_just_come, quiet_rounds, is_behind_host, is_behind_client}
-use Rattle.bridge_run.specs.Log.{Terms, events_of, IsWritten, MayBegin, MayAsk, BeginsRound, IsTurnOf, Logged}
+use Rattle.bridge_run.specs.Ups.{client_at, client_behind, host_at, host_since, told_of}
+use Rattle.bridge_run.specs.Asks.{Ask, ForClient, OfSide, asks_of, taken, taken_by, has_just_come, quiet_rounds, is_behind_host, is_behind_client}
+use Rattle.bridge_run.specs.Log.{Terms, events_of, IsWritten, is_over, AsksSettled, JustCame, MayBegin, MayAsk, BeginsRound, IsTurnOf, Logged}
 use Rattle.bridge_run.specs.inner.Keeping.{up_of, with_up, chances_of, Wears, one_if}
-use Rattle.bridge_run.specs.inner.Logging.{IsTaking, HappenLogs, IsResting, RoundBegins, DoorAsked, IsPatient, HasWaited, Waits, DoorTurn, HasTurn, stage_of, stage_behind, IsAsking, Logs}
+use Rattle.bridge_run.specs.inner.Logging.{IsAt, IsOn, IsTaking, HappenLogs, IsResting, RoundBegins, DoorAsked, IsPatient, HasWaited, Waits, DoorTurn, HasTurn, stage_of, stage_behind, IsAsking, Logs}
 use Rattle.bridge_run.proofs.lemmas.calls.Log.{failed-logs}
 use Rattle.bridge_run.proofs.lemmas.calls.Resting.{begins-of}
 
@@ -90,97 +90,106 @@ less-left b t n l is = omega arith
 same-left : (b t l : ℕ) → l ≡ b - t → l ≡ b - (t + 0)
 same-left b t l is = omega arith
 
-pub took-taking : {D : Type 0} → (gives : D → Call → D → Type 0) (stands : List LinkEvent → Type 0) (tells : List ℕ → Type 0) (terms : Terms) (p : Prescribed) (side : Side) (n : ℕ) (buf : List ℕ) (k k' : Rounds) (begun d0 d1 : D) → (a : IsAsking (stage_of side) gives stands tells terms p k begun d0)
-    → up_of side k ≡ true → gives d0 (Poll side (Took n) buf) d1 → k' ≡ record k { busy = true; left = k.left - n } → IsTaking gives stands tells terms p (OfSide side (Took n) ∷ a.asks) (piece side (take n buf)) k' begun d1
-took-taking gives stands tells terms p side n buf k k' begun d0 d1 a up g kept = record {
-  calls = Poll side (Took n) buf ∷ a.on.at.calls;
-  called = (d0, (a.on.at.called, g));
-  settled = (a.on.at.settled, may-poll side gives stands tells terms p k begun d0 up a);
-  asks-are = ap (λ (l : List Ask). OfSide side (Took n) ∷ l) a.on.at.asks-are;
-  events = events_of a.on.at.calls;
-  events-are = refl;
-  just_came = tt;
-  stands_for = a.on.at.stands_for;
-  written = quiet-written terms p (events_of a.on.at.calls) a.on.at.calls (Poll side (Took n) buf) refl refl a.on.at.written;
-  told = a.on.at.told;
-  left = ap (λ (q : Rounds). q.left) kept ∙ less-left terms.budget (taken a.asks) n k.left a.on.at.left;
-  client_up = ap (λ (q : Rounds). q.client_up) kept ∙ a.on.at.client_up ∙ sym (client-in side (take n buf) (client_behind p (events_of a.on.at.calls)));
-  host_up = ap (λ (q : Rounds). q.host_up) kept ∙ a.on.at.host_up ∙ sym (host-in side (take n buf) (host_since (is_some terms.host) p (events_of a.on.at.calls)));
-  refused = ap (λ (q : Rounds). q.refused) kept ∙ a.on.at.refused;
+all-left : (b t n l : ℕ) → n ≡ 0 → l ≡ b - t → l ≡ b - (t + n)
+all-left b t n l none is = omega arith
+
+some-left : (b t n : ℕ) → n ≡ 0 → t < b → t + n < b
+some-left b t n none is = omega arith
+
+-- a call whose answer is an event, which is still to be taken
+brings-taking : {D : Type 0} → (gives : D → Call → D → Type 0) (stands : List LinkEvent → Type 0) (tells : List ℕ → Type 0) (terms : Terms) (p : Prescribed) (asks : List Ask) (ask : Ask) (call : Call) (e : LinkEvent) (k k' : Rounds) (begun d0 d1 : D) → (at : IsAt gives stands tells terms p asks k begun d0) → gives d0 call d1
+    → AsksSettled terms p call at.calls → asks_of (call ∷ at.calls) ≡ ask ∷ asks_of at.calls → events_of (call ∷ at.calls) ≡ e ∷ events_of at.calls → JustCame (call ∷ at.calls) → IsWritten terms p (events_of at.calls) (call ∷ at.calls)
+    → k'.left ≡ terms.budget - taken (ask ∷ asks) → k'.client_up ≡ client_at e (client_behind p (events_of at.calls)) → k'.host_up ≡ host_at e (host_since (is_some terms.host) p (events_of at.calls)) → k'.refused ≡ k.refused
+    → IsTaking gives stands tells terms p (ask ∷ asks) e k' begun d1
+brings-taking gives stands tells terms p asks ask call e k k' begun d0 d1 at g may asked brings came written left client host refused = record {
+  calls = call ∷ at.calls;
+  called = (d0, (at.called, g));
+  settled = (at.settled, may);
+  asks-are = asked ∙ ap (λ (l : List Ask). ask ∷ l) at.asks-are;
+  events = events_of at.calls;
+  events-are = brings;
+  just_came = came;
+  stands_for = at.stands_for;
+  written = written;
+  told = at.told;
+  left = left;
+  client_up = client;
+  host_up = host;
+  refused = refused ∙ at.refused;
 }
 
-more-goes : (b t : ℕ) → t < b → t + 0 < b
-more-goes b t is = omega arith
+-- a call whose answer is no event, and brings nothing
+quiet-on : {D : Type 0} → (gives : D → Call → D → Type 0) (stands : List LinkEvent → Type 0) (tells : List ℕ → Type 0) (terms : Terms) (p : Prescribed) (asks : List Ask) (ask : Ask) (call : Call) (k : Rounds) (begun d0 d1 : D) → (on : IsOn gives stands tells terms p asks k begun d0) → gives d0 call d1
+    → AsksSettled terms p call on.at.calls → written_by Client call ≡ [] → written_by Host call ≡ [] → asks_of (call ∷ on.at.calls) ≡ ask ∷ asks_of on.at.calls → events_of (call ∷ on.at.calls) ≡ events_of on.at.calls → taken_by ask ≡ 0
+    → IsOn gives stands tells terms p (ask ∷ asks) k begun d1
+quiet-on gives stands tells terms p asks ask call k begun d0 d1 on g may client host asked same none =
+    let at = on.at in
+    let same' = sym same in
+    record {
+      at = record {
+        calls = call ∷ at.calls;
+        called = (d0, (at.called, g));
+        settled = (at.settled, may);
+        asks-are = asked ∙ ap (λ (l : List Ask). ask ∷ l) at.asks-are;
+        stands_for = subst stands same' at.stands_for;
+        written = subst (λ (events : List LinkEvent). IsWritten terms p events (call ∷ at.calls)) same' (quiet-written terms p (events_of at.calls) at.calls call client host at.written);
+        told = subst (λ (events : List LinkEvent). tells (told_of p events)) same' at.told;
+        left = all-left terms.budget (taken asks) (taken_by ask) k.left none at.left;
+        client_up = at.client_up ∙ ap (client_behind p) same';
+        host_up = at.host_up ∙ ap (host_since (is_some terms.host) p) same';
+        refused = at.refused ∙ ap (λ (events : List LinkEvent). first_of (p.refusals events)) same';
+      };
+      goes_on = record {
+        links = subst (λ (events : List LinkEvent). is_over terms p events ≡ false) same' on.goes_on.links;
+        left = subst (λ (l : List Ask). taken l < terms.budget) (sym asked) (some-left terms.budget (taken (asks_of at.calls)) (taken_by ask) none on.goes_on.left);
+      };
+    }
+
+pub took-taking : {D : Type 0} → (gives : D → Call → D → Type 0) (stands : List LinkEvent → Type 0) (tells : List ℕ → Type 0) (terms : Terms) (p : Prescribed) (side : Side) (n : ℕ) (buf : List ℕ) (k k' : Rounds) (begun d0 d1 : D) → (a : IsAsking (stage_of side) gives stands tells terms p k begun d0)
+    → up_of side k ≡ true → gives d0 (Poll side (Took n) buf) d1 → k' ≡ record k { busy = true; left = k.left - n } → IsTaking gives stands tells terms p (OfSide side (Took n) ∷ a.asks) (piece side (take n buf)) k' begun d1
+took-taking gives stands tells terms p side n buf k k' begun d0 d1 a up g kept =
+    let at = a.on.at in
+    let events = events_of at.calls in
+    brings-taking gives stands tells terms p a.asks (OfSide side (Took n)) (Poll side (Took n) buf) (piece side (take n buf)) k k' begun d0 d1 at g (may-poll side gives stands tells terms p k begun d0 up a) refl refl tt
+    (quiet-written terms p events at.calls (Poll side (Took n) buf) refl refl at.written) (ap (λ (q : Rounds). q.left) kept ∙ less-left terms.budget (taken a.asks) n k.left at.left)
+    (ap (λ (q : Rounds). q.client_up) kept ∙ at.client_up ∙ sym (client-in side (take n buf) (client_behind p events)))
+    (ap (λ (q : Rounds). q.host_up) kept ∙ at.host_up ∙ sym (host-in side (take n buf) (host_since (is_some terms.host) p events)))
+    (ap (λ (q : Rounds). q.refused) kept)
 
 pub rest-resting : {D : Type 0} → (gives : D → Call → D → Type 0) (stands : List LinkEvent → Type 0) (tells : List ℕ → Type 0) (terms : Terms) (p : Prescribed) (side : Side) (buf : List ℕ) (k : Rounds) (begun d0 d1 : D) → (a : IsAsking (stage_of side) gives stands tells terms p k begun d0)
     → up_of side k ≡ true → gives d0 (Poll side NotYet buf) d1 → IsResting side gives stands tells terms p (OfSide side NotYet ∷ a.asks) k begun d1
-rest-resting gives stands tells terms p Client buf k begun d0 d1 a up g = record {
-  calls = Poll Client NotYet buf ∷ a.on.at.calls;
-  called = (d0, (a.on.at.called, g));
-  settled = (a.on.at.settled, may-poll Client gives stands tells terms p k begun d0 up a);
-  asks-are = ap (λ (l : List Ask). OfSide Client NotYet ∷ l) a.on.at.asks-are;
-  events = events_of a.on.at.calls;
-  events-are = refl;
-  just_came = tt;
-  stands_for = a.on.at.stands_for;
-  written = quiet-written terms p (events_of a.on.at.calls) a.on.at.calls (Poll Client NotYet buf) refl refl a.on.at.written;
-  told = a.on.at.told;
-  left = same-left terms.budget (taken a.asks) k.left a.on.at.left;
-  client_up = a.on.at.client_up;
-  host_up = a.on.at.host_up;
-  refused = a.on.at.refused;
-}
-rest-resting gives stands tells terms p Host buf k begun d0 d1 a up g = record {
-  at = record {
-    calls = Poll Host NotYet buf ∷ a.on.at.calls;
-    called = (d0, (a.on.at.called, g));
-    settled = (a.on.at.settled, may-poll Host gives stands tells terms p k begun d0 up a);
-    asks-are = ap (λ (l : List Ask). OfSide Host NotYet ∷ l) a.on.at.asks-are;
-    stands_for = a.on.at.stands_for;
-    written = quiet-written terms p (events_of a.on.at.calls) a.on.at.calls (Poll Host NotYet buf) refl refl a.on.at.written;
-    told = a.on.at.told;
-    left = same-left terms.budget (taken a.asks) k.left a.on.at.left;
-    client_up = a.on.at.client_up;
-    host_up = a.on.at.host_up;
-    refused = a.on.at.refused;
-  };
-  goes_on = record { links = a.on.goes_on.links; left = more-goes terms.budget (taken (asks_of a.on.at.calls)) a.on.goes_on.left };
-}
+rest-resting gives stands tells terms p Client buf k begun d0 d1 a up g =
+    let at = a.on.at in
+    brings-taking gives stands tells terms p a.asks (OfSide Client NotYet) (Poll Client NotYet buf) ClientQuiet k k begun d0 d1 at g (may-poll Client gives stands tells terms p k begun d0 up a) refl refl tt
+    (quiet-written terms p (events_of at.calls) at.calls (Poll Client NotYet buf) refl refl at.written) (same-left terms.budget (taken a.asks) k.left at.left) at.client_up at.host_up refl
+rest-resting gives stands tells terms p Host buf k begun d0 d1 a up g =
+    quiet-on gives stands tells terms p a.asks (OfSide Host NotYet) (Poll Host NotYet buf) k begun d0 d1 a.on g (may-poll Host gives stands tells terms p k begun d0 up a) refl refl refl refl refl
+
+-- a side's end takes its link down, and leaves the other's, what may still come, and the first refusal
+down-left : (side : Side) (k k' : Rounds) → k' ≡ record (with_up side k) { busy = true } → k'.left ≡ k.left
+down-left Client k k' is = ap (λ (q : Rounds). q.left) is
+down-left Host k k' is = ap (λ (q : Rounds). q.left) is
+
+down-refused : (side : Side) (k k' : Rounds) → k' ≡ record (with_up side k) { busy = true } → k'.refused ≡ k.refused
+down-refused Client k k' is = ap (λ (q : Rounds). q.refused) is
+down-refused Host k k' is = ap (λ (q : Rounds). q.refused) is
+
+down-client : (side : Side) (k k' : Rounds) (up : Bool) → k' ≡ record (with_up side k) { busy = true } → k.client_up ≡ up → k'.client_up ≡ client_at (end_of side) up
+down-client Client k k' up is was = ap (λ (q : Rounds). q.client_up) is
+down-client Host k k' up is was = ap (λ (q : Rounds). q.client_up) is ∙ was
+
+down-host : (side : Side) (k k' : Rounds) (up : Bool) → k' ≡ record (with_up side k) { busy = true } → k.host_up ≡ up → k'.host_up ≡ host_at (end_of side) up
+down-host Client k k' up is was = ap (λ (q : Rounds). q.host_up) is ∙ was
+down-host Host k k' up is was = ap (λ (q : Rounds). q.host_up) is
 
 pub end-taking : {D : Type 0} → (gives : D → Call → D → Type 0) (stands : List LinkEvent → Type 0) (tells : List ℕ → Type 0) (terms : Terms) (p : Prescribed) (side : Side) (buf : List ℕ) (k k' : Rounds) (begun d0 d1 : D) → (a : IsAsking (stage_of side) gives stands tells terms p k begun d0)
     → up_of side k ≡ true → gives d0 (Poll side Ended buf) d1 → k' ≡ record (with_up side k) { busy = true } → IsTaking gives stands tells terms p (OfSide side Ended ∷ a.asks) (end_of side) k' begun d1
-end-taking gives stands tells terms p Client buf k k' begun d0 d1 a up g kept = record {
-  calls = Poll Client Ended buf ∷ a.on.at.calls;
-  called = (d0, (a.on.at.called, g));
-  settled = (a.on.at.settled, may-poll Client gives stands tells terms p k begun d0 up a);
-  asks-are = ap (λ (l : List Ask). OfSide Client Ended ∷ l) a.on.at.asks-are;
-  events = events_of a.on.at.calls;
-  events-are = refl;
-  just_came = tt;
-  stands_for = a.on.at.stands_for;
-  written = quiet-written terms p (events_of a.on.at.calls) a.on.at.calls (Poll Client Ended buf) refl refl a.on.at.written;
-  told = a.on.at.told;
-  left = ap (λ (q : Rounds). q.left) kept ∙ same-left terms.budget (taken a.asks) k.left a.on.at.left;
-  client_up = ap (λ (q : Rounds). q.client_up) kept;
-  host_up = ap (λ (q : Rounds). q.host_up) kept ∙ a.on.at.host_up;
-  refused = ap (λ (q : Rounds). q.refused) kept ∙ a.on.at.refused;
-}
-end-taking gives stands tells terms p Host buf k k' begun d0 d1 a up g kept = record {
-  calls = Poll Host Ended buf ∷ a.on.at.calls;
-  called = (d0, (a.on.at.called, g));
-  settled = (a.on.at.settled, may-poll Host gives stands tells terms p k begun d0 up a);
-  asks-are = ap (λ (l : List Ask). OfSide Host Ended ∷ l) a.on.at.asks-are;
-  events = events_of a.on.at.calls;
-  events-are = refl;
-  just_came = tt;
-  stands_for = a.on.at.stands_for;
-  written = quiet-written terms p (events_of a.on.at.calls) a.on.at.calls (Poll Host Ended buf) refl refl a.on.at.written;
-  told = a.on.at.told;
-  left = ap (λ (q : Rounds). q.left) kept ∙ same-left terms.budget (taken a.asks) k.left a.on.at.left;
-  client_up = ap (λ (q : Rounds). q.client_up) kept ∙ a.on.at.client_up;
-  host_up = ap (λ (q : Rounds). q.host_up) kept;
-  refused = ap (λ (q : Rounds). q.refused) kept ∙ a.on.at.refused;
-}
+end-taking gives stands tells terms p side buf k k' begun d0 d1 a up g kept =
+    let at = a.on.at in
+    let events = events_of at.calls in
+    brings-taking gives stands tells terms p a.asks (OfSide side Ended) (Poll side Ended buf) (end_of side) k k' begun d0 d1 at g (may-poll side gives stands tells terms p k begun d0 up a) refl refl tt
+    (quiet-written terms p events at.calls (Poll side Ended buf) refl refl at.written) (down-left side k k' kept ∙ same-left terms.budget (taken a.asks) k.left at.left)
+    (down-client side k k' (client_behind p events) kept at.client_up) (down-host side k k' (host_since (is_some terms.host) p events) kept at.host_up) (down-refused side k k' kept)
 
 pub poll-failed : {D : Type 0} → (gives : D → Call → D → Type 0) (stands : List LinkEvent → Type 0) (runs_out : List LinkEvent → LinkEvent → List ℕ → List ℕ → Type 0) (tells : List ℕ → Type 0) (terms : Terms) (p : Prescribed) (side : Side) (buf : List ℕ) (k : Rounds) (begun d0 d1 : D) → IsAsking (stage_of side) gives stands tells terms p k begun d0
     → up_of side k ≡ true → gives d0 (Poll side Failed buf) d1 → Logged (end.LinkFault side) gives runs_out tells terms p begun d1
@@ -190,22 +199,11 @@ poll-failed gives stands runs_out tells terms p side buf k begun d0 d1 a up g =
 
 pub came-taking : {D : Type 0} → (gives : D → Call → D → Type 0) (stands : List LinkEvent → Type 0) (tells : List ℕ → Type 0) (terms : Terms) (p : Prescribed) (k k' : Rounds) (begun d0 d1 : D) → (a : IsAsking RoundBegins gives stands tells terms p k begun d0) → gives d0 (Accept (Ok true)) d1
     → k' ≡ record k { client_up = true; busy = true; left = k.left - 1 } → IsTaking gives stands tells terms p (ForClient (Ok true) ∷ a.asks) ClientComes k' begun d1
-came-taking gives stands tells terms p k k' begun d0 d1 a g kept = record {
-  calls = Accept (Ok true) ∷ a.on.at.calls;
-  called = (d0, (a.on.at.called, g));
-  settled = (a.on.at.settled, may-accept gives stands tells terms p k begun d0 a);
-  asks-are = ap (λ (l : List Ask). ForClient (Ok true) ∷ l) a.on.at.asks-are;
-  events = events_of a.on.at.calls;
-  events-are = refl;
-  just_came = tt;
-  stands_for = a.on.at.stands_for;
-  written = quiet-written terms p (events_of a.on.at.calls) a.on.at.calls (Accept (Ok true)) refl refl a.on.at.written;
-  told = a.on.at.told;
-  left = ap (λ (q : Rounds). q.left) kept ∙ less-left terms.budget (taken a.asks) 1 k.left a.on.at.left;
-  client_up = ap (λ (q : Rounds). q.client_up) kept;
-  host_up = ap (λ (q : Rounds). q.host_up) kept ∙ a.on.at.host_up;
-  refused = ap (λ (q : Rounds). q.refused) kept ∙ a.on.at.refused;
-}
+came-taking gives stands tells terms p k k' begun d0 d1 a g kept =
+    let at = a.on.at in
+    brings-taking gives stands tells terms p a.asks (ForClient (Ok true)) (Accept (Ok true)) ClientComes k k' begun d0 d1 at g (may-accept gives stands tells terms p k begun d0 a) refl refl tt
+    (quiet-written terms p (events_of at.calls) at.calls (Accept (Ok true)) refl refl at.written) (ap (λ (q : Rounds). q.left) kept ∙ less-left terms.budget (taken a.asks) 1 k.left at.left)
+    (ap (λ (q : Rounds). q.client_up) kept) (ap (λ (q : Rounds). q.host_up) kept ∙ at.host_up) (ap (λ (q : Rounds). q.refused) kept)
 
 asked-more : (w q i o : ℕ) → w + q ≡ i + 0 → o ≡ 1 → w + (q + 1) ≡ i + o
 asked-more w q i o is one = omega arith
@@ -214,22 +212,7 @@ pub nobody-at : {D : Type 0} → (gives : D → Call → D → Type 0) (stands :
     → IsAsking DoorAsked gives stands tells terms p k begun d1
 nobody-at gives stands tells terms p k begun d0 d1 a down g = record {
   asks = ForClient (Ok false) ∷ a.asks;
-  on = record {
-    at = record {
-      calls = Accept (Ok false) ∷ a.on.at.calls;
-      called = (d0, (a.on.at.called, g));
-      settled = (a.on.at.settled, may-accept gives stands tells terms p k begun d0 a);
-      asks-are = ap (λ (l : List Ask). ForClient (Ok false) ∷ l) a.on.at.asks-are;
-      stands_for = a.on.at.stands_for;
-      written = quiet-written terms p (events_of a.on.at.calls) a.on.at.calls (Accept (Ok false)) refl refl a.on.at.written;
-      told = a.on.at.told;
-      left = same-left terms.budget (taken a.asks) k.left a.on.at.left;
-      client_up = a.on.at.client_up;
-      host_up = a.on.at.host_up;
-      refused = a.on.at.refused;
-    };
-    goes_on = record { links = a.on.goes_on.links; left = more-goes terms.budget (taken (asks_of a.on.at.calls)) a.on.goes_on.left };
-  };
+  on = quiet-on gives stands tells terms p a.asks (ForClient (Ok false)) (Accept (Ok false)) k begun d0 d1 a.on g (may-accept gives stands tells terms p k begun d0 a) refl refl refl refl refl;
   patient = a.patient;
   waited = record {
     came = λ up. absurd (false≢true (sym down ∙ up));

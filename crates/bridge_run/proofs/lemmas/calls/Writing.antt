@@ -3,6 +3,7 @@ use Rattle.std.proofs.Common.{◌≡◌, ℕ, Bool, true, false, List, [], ◌�
 use Rattle.usb_base.specs.declared.side.Side.{Side}
 use Rattle.usb_base.specs.declared.side.Side.TheVariants.{Client, Host}
 use Rattle.gate_outside.specs.declared.fault.Failed.{Failed as Fault}
+use Rattle.gate_outside.specs.Link.{other}
 use Rattle.gate_outside.specs.Calls.{Call, Write, Close, Called, front_of, went}
 use Rattle.bridge_run.specs.Prescribed.{Prescribed}
 use Rattle.bridge_run.specs.Asks.{asks_of}
@@ -23,63 +24,45 @@ wrote-none gives side calls begun now called = record {
   other-is = refl;
 }
 
+-- what a write says of its own side, and of the other
+went-side : (side : Side) (sent : List ℕ) (answer : Result ℕ Fault) (calls : List Call) → went side (Write side sent answer ∷ calls) ≡ went side calls ++ front_of answer sent
+went-side Client sent answer calls = refl
+went-side Host sent answer calls = refl
+
+went-other : (side : Side) (sent : List ℕ) (answer : Result ℕ Fault) (calls : List Call) → went (other side) (Write side sent answer ∷ calls) ≡ went (other side) calls
+went-other Client sent answer calls = append-nil (went Host calls)
+went-other Host sent answer calls = append-nil (went Client calls)
+
 pub wrote-call : {D : Type 0} → (gives : D → Call → D → Type 0) (side : Side) (bytes sent : List ℕ) (answer : Result ℕ Fault) (calls : List Call) (begun mid now : D) → WroteMore gives side bytes calls begun mid
     → gives mid (Write side sent answer) now → WroteMore gives side (bytes ++ front_of answer sent) calls begun now
-wrote-call gives Client bytes sent answer calls begun mid now w g = record {
-  behind = Write Client sent answer ∷ w.behind;
+wrote-call gives side bytes sent answer calls begun mid now w g = record {
+  behind = Write side sent answer ∷ w.behind;
   called = (mid, (w.called, g));
   settled = λ terms p settled. (w.settled terms p settled, tt);
   asks-are = w.asks-are;
   events-are = w.events-are;
   just_came = w.just_came;
-  side-is = ap (λ (l : List ℕ). l ++ front_of answer sent) w.side-is ∙ append_assoc (went Client calls) bytes (front_of answer sent);
-  other-is = append-nil (went Host w.behind) ∙ w.other-is;
-}
-wrote-call gives Host bytes sent answer calls begun mid now w g = record {
-  behind = Write Host sent answer ∷ w.behind;
-  called = (mid, (w.called, g));
-  settled = λ terms p settled. (w.settled terms p settled, tt);
-  asks-are = w.asks-are;
-  events-are = w.events-are;
-  just_came = w.just_came;
-  side-is = ap (λ (l : List ℕ). l ++ front_of answer sent) w.side-is ∙ append_assoc (went Host calls) bytes (front_of answer sent);
-  other-is = append-nil (went Client w.behind) ∙ w.other-is;
+  side-is = went-side side sent answer w.behind ∙ ap (λ (l : List ℕ). l ++ front_of answer sent) w.side-is ∙ append_assoc (went side calls) bytes (front_of answer sent);
+  other-is = went-other side sent answer w.behind ∙ w.other-is;
 }
 
 -- a write failed, which wrote nothing
 pub failed-behind : {D : Type 0} → (gives : D → Call → D → Type 0) (side : Side) (up : Bool) (bytes front back sent : List ℕ) (failed : Fault) (calls : List Call) (begun mid now : D) → up ≡ true → bytes ≡ front ++ back
     → WroteMore gives side front calls begun mid → gives mid (Write side sent (Err failed)) now → FailedBehind gives side up bytes calls begun now
-failed-behind gives Client up bytes front back sent failed calls begun mid now is parts w g = record {
+failed-behind gives side up bytes front back sent failed calls begun mid now is parts w g = record {
   front = front;
   back = back;
   is_up = is;
   parts = parts;
   wrote = record {
-    behind = Write Client sent (Err failed) ∷ w.behind;
+    behind = Write side sent (Err failed) ∷ w.behind;
     called = (mid, (w.called, g));
     settled = λ terms p settled. (w.settled terms p settled, tt);
     asks-are = w.asks-are;
     events-are = w.events-are;
     just_came = w.just_came;
-    side-is = append-nil (went Client w.behind) ∙ w.side-is;
-    other-is = append-nil (went Host w.behind) ∙ w.other-is;
-  };
-  failed = refl;
-}
-failed-behind gives Host up bytes front back sent failed calls begun mid now is parts w g = record {
-  front = front;
-  back = back;
-  is_up = is;
-  parts = parts;
-  wrote = record {
-    behind = Write Host sent (Err failed) ∷ w.behind;
-    called = (mid, (w.called, g));
-    settled = λ terms p settled. (w.settled terms p settled, tt);
-    asks-are = w.asks-are;
-    events-are = w.events-are;
-    just_came = w.just_came;
-    side-is = append-nil (went Host w.behind) ∙ w.side-is;
-    other-is = append-nil (went Client w.behind) ∙ w.other-is;
+    side-is = went-side side sent (Err failed) w.behind ∙ append-nil (went side w.behind) ∙ w.side-is;
+    other-is = went-other side sent (Err failed) w.behind ∙ w.other-is;
   };
   failed = refl;
 }

@@ -38,22 +38,7 @@ each-more act (ep ∷ eps) acts =
 more-on-more : (a b c : List Act) (x : List Act) → ((more : List Act) × (a ≡ more ++ b)) → ((more : List Act) × (b ≡ more ++ c)) → (more : List Act) × (a ≡ more ++ c)
 more-on-more a b c x f g = (f.0 ++ g.0, f.1 ∙ ap (λ (l : List Act). f.0 ++ l) g.1 ∙ sym (append_assoc f.0 g.0 c))
 
--- some acts were done, and memory ran out within those that come behind
-pub stop-then : {S : Type 0} (m : Meaning S) (s : S) (k : Core S) (past mid acts all : List Act) (old out new : List ℕ) → Acts m s k past mid old out → StopsIn m s mid acts out new → ((more : List Act) × (all ≡ more ++ acts)) → StopsIn m s past all old new
-stop-then m s k past mid acts all old out new a x longer = record {
-  given = a.given ++ x.given;
-  stops = record {
-    done = x.stops.done;
-    next = x.stops.next;
-    later = longer.0 ++ x.stops.later;
-    acts-are = longer.1 ∙ ap (λ (l : List Act). longer.0 ++ l) x.stops.acts-are ∙ sym (append_assoc longer.0 x.stops.later (x.stops.next ∷ x.stops.done));
-    part = x.stops.part;
-    stops = x.stops.stops;
-    sent-is = x.stops.sent-is ∙ ap (λ (l : List ℕ). l ++ x.given) a.sends ∙ append_assoc (host_out m s past) a.given x.given;
-  };
-  sent = x.sent ∙ ap (λ (l : List ℕ). l ++ x.given) a.sent ∙ append_assoc old a.given x.given;
-}
-
+-- memory ran out within some acts, and so within those and others behind them
 pub stop-longer : {S : Type 0} (m : Meaning S) (s : S) (past acts all : List Act) (old new : List ℕ) → StopsIn m s past acts old new → ((more : List Act) × (all ≡ more ++ acts)) → StopsIn m s past all old new
 stop-longer m s past acts all old new x longer = record {
   given = x.given;
@@ -68,6 +53,23 @@ stop-longer m s past acts all old new x longer = record {
   };
   sent = x.sent;
 }
+
+-- some acts were done, and memory ran out within those that come behind
+pub stop-then : {S : Type 0} (m : Meaning S) (s : S) (k : Core S) (past mid acts all : List Act) (old out new : List ℕ) → Acts m s k past mid old out → StopsIn m s mid acts out new → ((more : List Act) × (all ≡ more ++ acts)) → StopsIn m s past all old new
+stop-then m s k past mid acts all old out new a x longer =
+    stop-longer m s past acts all old new (record {
+      given = a.given ++ x.given;
+      stops = record {
+        done = x.stops.done;
+        next = x.stops.next;
+        later = x.stops.later;
+        acts-are = x.stops.acts-are;
+        part = x.stops.part;
+        stops = x.stops.stops;
+        sent-is = x.stops.sent-is ∙ ap (λ (l : List ℕ). l ++ x.given) a.sends ∙ append_assoc (host_out m s past) a.given x.given;
+      };
+      sent = x.sent ∙ ap (λ (l : List ℕ). l ++ x.given) a.sent ∙ append_assoc old a.given x.given;
+    }) longer
 
 -- ---- each endpoint
 

@@ -75,7 +75,7 @@ pub dropped-is : (p : Prescribed) (events : List LinkEvent) (e : LinkEvent) (sen
 dropped-is p events e sent lines prepared =
     ap (λ (rs : List Refusal). refuses Client rs || sent.lets_go) prepared.refusals ∙ ap (λ (b : Bool). refuses Client (gained p.refusals events e) || b) prepared.lets_go
 
-pub put-client : (p : Prescribed) (c : Course) (e : LinkEvent) (sent : Sent) (lines : List ℕ) (old new : Link) (up : Bool) → Prepared p c.events e sent lines
+put-client : (p : Prescribed) (c : Course) (e : LinkEvent) (sent : Sent) (lines : List ℕ) (old new : Link) (up : Bool) → Prepared p c.events e sent lines
     → Shows old c.client_up c.client c.to_client → up ≡ c.client_up → new ≡ closed_if (refuses Client sent.refusals || sent.lets_go) Client (wrote_if up sent.to_client old)
     → Shows new (put p e c).client_up (put p e c).client (put p e c).to_client
 put-client p c e sent lines old new up prepared s u is =
@@ -87,7 +87,7 @@ put-client p c e sent lines old new up prepared s u is =
     let first = subst (λ (d : Bool). Shows new (c.client_up && not d) (cond d [] c.client) (cond c.client_up (c.to_client ++ sent.to_client) c.to_client)) (dropped-is p c.events e sent lines prepared) there in
     subst (λ (b : List ℕ). Shows new (c.client_up && not (drops p c.events e)) (cond (drops p c.events e) [] c.client) (cond c.client_up (c.to_client ++ b) c.to_client)) prepared.client first
 
-pub put-host : (p : Prescribed) (c : Course) (e : LinkEvent) (sent : Sent) (lines : List ℕ) (old new : Link) (up : Bool) → Prepared p c.events e sent lines
+put-host : (p : Prescribed) (c : Course) (e : LinkEvent) (sent : Sent) (lines : List ℕ) (old new : Link) (up : Bool) → Prepared p c.events e sent lines
     → Shows old c.host_up c.host c.to_host → up ≡ c.host_up → new ≡ closed_if (refuses Host sent.refusals) Host (wrote_if up sent.to_host old)
     → Shows new (put p e c).host_up (put p e c).host (put p e c).to_host
 put-host p c e sent lines old new up prepared s u is =
@@ -144,7 +144,7 @@ pub record IsRecorded (p : Prescribed) (c : Course) (e : LinkEvent) (sent : Sent
   pub waits : IfSome out'.tape (λ held. out'.waiting ≡ waiting_if (due || is_full (out.waiting ++ lines_of e sent.refusals)) (out.waiting ++ lines_of e sent.refusals))
 
 -- whether they are due is known of what is kept
-pub due-of : (p : Prescribed) (c : Course) (e : LinkEvent) (sent : Sent) (lines : List ℕ) (k : Rounds) (due : Bool) → Prepared p c.events e sent lines → k.client_up ≡ c.client_up → k.host_up ≡ c.host_up → k.left ≡ c.left
+due-of : (p : Prescribed) (c : Course) (e : LinkEvent) (sent : Sent) (lines : List ℕ) (k : Rounds) (due : Bool) → Prepared p c.events e sent lines → k.client_up ≡ c.client_up → k.host_up ≡ c.host_up → k.left ≡ c.left
     → due ≡ (sends_any sent.to_client sent.to_host sent.refusals sent.lets_go || is_last k.client_up k.host_up k.left) → due ≡ sends_now p e c
 due-of p c e sent lines k due prepared client host left is =
     is
@@ -164,6 +164,12 @@ recorded-by p c e sent due out out' waiting same due-is tape waits = record {
   tape-is = subst (λ (l : List ℕ). out'.tape ≡ append_known out.tape (written_if (due || is_full (l ++ lines_of e sent.refusals)) (l ++ lines_of e sent.refusals))) same tape;
   waits = subst (λ (l : List ℕ). IfSome out'.tape (λ held. out'.waiting ≡ waiting_if (due || is_full (l ++ lines_of e sent.refusals)) (l ++ lines_of e sent.refusals))) same waits;
 }
+
+-- and so where what is kept follows the course
+pub due-now : {stands : List LinkEvent → Type 0} {p : Prescribed} {k : Rounds} {w : Outside} {out : Written} {c : Course} → (e : LinkEvent) (sent : Sent) (lines : List ℕ) (k1 : Rounds) (due : Bool) → Follows stands p k w out c → k1 ≡ k → Prepared p c.events e sent lines
+    → due ≡ (sends_any sent.to_client sent.to_host sent.refusals sent.lets_go || is_last k1.client_up k1.host_up k1.left) → due ≡ sends_now p e c
+due-now {p = p} {c = c} e sent lines k1 due f same prepared is =
+    due-of p c e sent lines k1 due prepared (ap (λ (q : Rounds). q.client_up) same ∙ f.client_up) (ap (λ (q : Rounds). q.host_up) same ∙ f.host_up) (ap (λ (q : Rounds). q.left) same ∙ f.left) is
 
 -- what the tape has behind lines that are due or not, and what waits
 abbrev Gathers : Written → Course → Bool → List ℕ → Type 0
@@ -207,6 +213,12 @@ none-recorded : (known : Option (List ℕ)) → append_known known [] ≡ known
 none-recorded None = refl
 none-recorded (Some held) = ap Some (append-nil held)
 
+-- a course of which only the turns, the lines on the tape and those that wait have become others
+pub retold : (stands : List LinkEvent → Type 0) (p : Prescribed) (k : Rounds) (w w' : Outside) (out out' : Written) (c : Course) (client host : List Turn) (recorded waiting : List ℕ) → Follows stands p k w out c
+    → Tells w' out' (record c { client = client; host = host; recorded = recorded; waiting = waiting }) → Follows stands p k w' out' (record c { client = client; host = host; recorded = recorded; waiting = waiting })
+retold stands p k w w' out out' c client host recorded waiting f t =
+    record { stands_for = f.stands_for; tells = t; client_up = f.client_up; host_up = f.host_up; busy = f.busy; waits = f.waits; left = f.left; refused = f.refused }
+
 pub put-follows : (stands : List LinkEvent → Type 0) (p : Prescribed) (k k' : Rounds) (w w' : Outside) (out out' : Written) (c : Course) (e : LinkEvent) (sent : Sent) (lines : List ℕ) (due : Bool)
     (old-stands : List LinkEvent → Type 0) → Follows old-stands p k w out c → Prepared p c.events e sent lines → stands (e ∷ c.events) → k' ≡ refusing sent.refusals sent.lets_go k
     → Shows w'.client (put p e c).client_up (put p e c).client (put p e c).to_client → Shows w'.host (put p e c).host_up (put p e c).host (put p e c).to_host
@@ -233,6 +245,19 @@ put-follows stands p k k' w w' out out' c e sent lines due old-stands f prepared
           ∙ sym (first_of-append (p.refusals c.events) (gained p.refusals c.events e))
           ∙ ap first_of (sym prepared.grows);
     }
+
+-- what both links tell once all is written that an event sends, and each side that it refuses is closed
+pub sides-put : (p : Prescribed) (c : Course) (e : LinkEvent) (sent : Sent) (lines : List ℕ) {up_client up_host dropped refused : Bool} {client host client1 host1 client2 host2 client3 host3 client4 host4 : Link} {to_client to_host : List ℕ} → Prepared p c.events e sent lines
+    → Shows client c.client_up c.client c.to_client → Shows host c.host_up c.host c.to_host → up_client ≡ c.client_up → up_host ≡ c.host_up
+    → to_client ≡ sent.to_client → client1 ≡ wrote_if up_client to_client client → host1 ≡ host → to_host ≡ sent.to_host → host2 ≡ wrote_if up_host to_host host1 → client2 ≡ client1
+    → dropped ≡ (refuses Client sent.refusals || sent.lets_go) → client3 ≡ closed_if dropped Client client2 → host3 ≡ host2 → refused ≡ refuses Host sent.refusals → host4 ≡ closed_if refused Host host3 → client4 ≡ client3
+    → Shows client4 (put p e c).client_up (put p e c).client (put p e c).to_client × Shows host4 (put p e c).host_up (put p e c).host (put p e c).to_host
+sides-put p c e sent lines {up_client = up_client} {up_host = up_host} {dropped = dropped} {refused = refused} {client = client} {host = host} {host1 = host1} {client2 = client2} {host3 = host3} {client4 = client4} {host4 = host4} prepared shows_client shows_host is_client is_host bytes_client wrote_client stays_host bytes_host wrote_host stays_client is_dropped closed_client left_host refuses_host closed_host left_client = (
+  put-client p c e sent lines client client4 up_client prepared shows_client is_client
+      (left_client ∙ closed_client ∙ ap (λ (r : Bool). closed_if r Client client2) is_dropped ∙ ap (λ (l : Link). closed_if (refuses Client sent.refusals || sent.lets_go) Client l) (stays_client ∙ wrote_client ∙ ap (λ (b : List ℕ). wrote_if up_client b client) bytes_client)),
+  put-host p c e sent lines host host4 up_host prepared shows_host is_host
+      (closed_host ∙ ap (λ (r : Bool). closed_if r Host host3) refuses_host ∙ ap (λ (l : Link). closed_if (refuses Host sent.refusals) Host l) (left_host ∙ wrote_host ∙ ap (λ (b : List ℕ). wrote_if up_host b host1) bytes_host ∙ ap (λ (l : Link). wrote_if up_host sent.to_host l) stays_host)),
+)
 
 -- ---- cuts
 

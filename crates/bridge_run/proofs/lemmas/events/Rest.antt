@@ -20,9 +20,9 @@ use Rattle.bridge_run.specs.Outside.{Outside, OneRose, NoFault, Tells, IsTold, C
 use Rattle.bridge_run.specs.Serves.{Reaches}
 use Rattle.bridge_run.specs.inner.Keeping.{up_of, with_up, one_if, chances_of, Wears, rounds_of, IsLive, RestsBusy, Rests}
 use Rattle.bridge_run.specs.inner.Follows.{Follows, HasFaults, setting, Comes, Runs}
-use Rattle.bridge_run.proofs.lemmas.calls.Course.{reaches-call, runs-then}
+use Rattle.bridge_run.proofs.lemmas.calls.Course.{reaches-call, reaches-then, runs-then}
 use Rattle.bridge_run.proofs.lemmas.events.Settle.{positive-not_zero, choice}
-use Rattle.bridge_run.proofs.lemmas.events.Put.{moved, written-front, if-told}
+use Rattle.bridge_run.proofs.lemmas.events.Put.{moved, written-front, if-told, retold}
 use Rattle.bridge_run.proofs.lemmas.calls.Answers.{between-same}
 
 -- ---- faults
@@ -39,6 +39,10 @@ faults-then (Err (Ended refused)) a b c f g h n m = record { client = m.client �
 faults-then (Err Idle) a b c f g h n m = record { client = m.client ∙ n.client; host = m.host ∙ n.host; sink = m.sink ∙ n.sink }
 faults-then (Err Spent) a b c f g h n m = record { client = m.client ∙ n.client; host = m.host ∙ n.host; sink = m.sink ∙ n.sink }
 faults-then (Err Memory) a b c f g h n m = record { client = m.client ∙ n.client; host = m.host ∙ n.host; sink = m.sink ∙ n.sink }
+
+-- none behind none
+pub no-faults : {a b c : Outside} {f g h : Faults} → NoFault a b f g → NoFault b c g h → NoFault a c f h
+no-faults n m = record { client = m.client ∙ n.client; host = m.host ∙ n.host; sink = m.sink ∙ n.sink }
 
 pub no-fault : (w : Outside) (f : Faults) → NoFault w w f f
 no-fault w f = record { client = refl; host = refl; sink = refl }
@@ -58,16 +62,17 @@ rests-faults (Err Memory) k k' a b f g r n = absurd r
 -- what is kept has become another, and so has the course
 rested : (stands : List LinkEvent → Type 0) (p : Prescribed) (k k' : Rounds) (w : Outside) (out : Written) (c : Course) (busy : Bool) (waits : ℕ) → Follows stands p k w out c → k' ≡ record k { busy = busy; waits = waits }
     → (n : ℕ) → waits ≡ n → Follows stands p k' w out (record c { busy = busy; waits = n })
-rested stands p k k' w out c busy waits f kept n is = record {
-  stands_for = f.stands_for;
-  tells = record { client = f.tells.client; host = f.tells.host; clients = f.tells.clients; told = f.tells.told; tape = f.tells.tape };
-  client_up = ap (λ (k : Rounds). k.client_up) kept ∙ f.client_up;
-  host_up = ap (λ (k : Rounds). k.host_up) kept ∙ f.host_up;
-  busy = ap (λ (k : Rounds). k.busy) kept;
-  waits = ap (λ (k : Rounds). k.waits) kept ∙ is;
-  left = ap (λ (k : Rounds). k.left) kept ∙ f.left;
-  refused = ap (λ (k : Rounds). k.refused) kept ∙ f.refused;
-}
+rested stands p k k' w out c busy waits f kept n is =
+    subst (λ (q : Rounds). Follows stands p q w out (record c { busy = busy; waits = n })) (sym kept) (record {
+      stands_for = f.stands_for;
+      tells = record { client = f.tells.client; host = f.tells.host; clients = f.tells.clients; told = f.tells.told; tape = f.tells.tape };
+      client_up = f.client_up;
+      host_up = f.host_up;
+      busy = refl;
+      waits = is;
+      left = f.left;
+      refused = f.refused;
+    })
 
 rest-is : (s : Setting) (c : Course) (b last : Bool) → c.busy ≡ b → (c.waits - 1 == 0) ≡ last
     → rest s c ≡ cond b (Goes AtDoor (record c { busy = false; waits = s.idle })) (cond last (Stops Idle (record (gathered c) { waits = c.waits - 1 })) (Goes AtDoor (record (gathered c) { waits = c.waits - 1 })))
@@ -80,39 +85,23 @@ pub record Flushes (busy : Bool) (out out' : Written) : Type 0 where
   pub waits : IfSome out'.tape (λ held. out'.waiting ≡ waiting_if (not busy) out.waiting)
 
 flushed : (busy : Bool) (stands : List LinkEvent → Type 0) (p : Prescribed) (k : Rounds) (w : Outside) (out out' : Written) (c : Course) → Follows stands p k w out c → Flushes busy out out' → Follows stands p k w out' (cond busy c (gathered c))
-flushed true stands p k w out out' c f is = record {
-  stands_for = f.stands_for;
-  tells = record {
-    client = f.tells.client;
-    host = f.tells.host;
-    clients = f.tells.clients;
-    told = is.told c.told f.tells.told;
-    tape = subst (λ (l : List ℕ). IfSome out'.tape (λ held. (held ≡ l) × (out'.waiting ≡ c.waiting))) (append-nil c.recorded)
-        (moved (λ (l : List ℕ). []) (λ (l : List ℕ). l) out.tape out'.tape out.waiting out'.waiting c.recorded c.waiting f.tells.tape is.tape is.waits);
-  };
-  client_up = f.client_up;
-  host_up = f.host_up;
-  busy = f.busy;
-  waits = f.waits;
-  left = f.left;
-  refused = f.refused;
-}
-flushed false stands p k w out out' c f is = record {
-  stands_for = f.stands_for;
-  tells = record {
-    client = f.tells.client;
-    host = f.tells.host;
-    clients = f.tells.clients;
-    told = is.told c.told f.tells.told;
-    tape = moved (λ (l : List ℕ). l) (λ (l : List ℕ). []) out.tape out'.tape out.waiting out'.waiting c.recorded c.waiting f.tells.tape is.tape is.waits;
-  };
-  client_up = f.client_up;
-  host_up = f.host_up;
-  busy = f.busy;
-  waits = f.waits;
-  left = f.left;
-  refused = f.refused;
-}
+flushed true stands p k w out out' c f is =
+    retold stands p k w w out out' c c.client c.host c.recorded c.waiting f (record {
+      client = f.tells.client;
+      host = f.tells.host;
+      clients = f.tells.clients;
+      told = is.told c.told f.tells.told;
+      tape = subst (λ (l : List ℕ). IfSome out'.tape (λ held. (held ≡ l) × (out'.waiting ≡ c.waiting))) (append-nil c.recorded)
+          (moved (λ (l : List ℕ). []) (λ (l : List ℕ). l) out.tape out'.tape out.waiting out'.waiting c.recorded c.waiting f.tells.tape is.tape is.waits);
+    })
+flushed false stands p k w out out' c f is =
+    retold stands p k w w out out' c c.client c.host (gathered c).recorded (gathered c).waiting f (record {
+      client = f.tells.client;
+      host = f.tells.host;
+      clients = f.tells.clients;
+      told = is.told c.told f.tells.told;
+      tape = moved (λ (l : List ℕ). l) (λ (l : List ℕ). []) out.tape out'.tape out.waiting out'.waiting c.recorded c.waiting f.tells.tape is.tape is.waits;
+    })
 
 rest-ok : (b : Bool) (stands : List LinkEvent → Type 0) (runs_out : List LinkEvent → LinkEvent → List ℕ → List ℕ → Type 0) (p : Prescribed) (idle : ℕ) (k k' : Rounds) (w : Outside) (out : Written) (from : Outcome) (c : Course) → k.busy ≡ b → RestsBusy b k k' → k.idle ≡ idle
     → Follows stands p k w out (cond b c (gathered c)) → Reaches (record { served = p; idle = idle }) from (Goes AtEnd c) → Runs {T = Unit {0}} (Ok tt) stands runs_out (record { served = p; idle = idle }) k' w out from AtDoor
@@ -247,3 +236,10 @@ pub goes-on : {T : Type 0} → (result : Result T ServeEnd) (stands stands2 : Li
 goes-on result stands stands2 runs_out p k0 k1 k2 w w2 out out2 from next1 next2 a idle b =
     runs-then result stands2 runs_out (setting p k0) k2 w2 out2 from next1 a.course next2 a.reaches
     (subst (λ (i : ℕ). Runs result stands2 runs_out (record { served = p; idle = i }) k2 w2 out2 (Goes next1 a.course) next2) idle b)
+
+-- behind a step that went well
+pub goes-ok : {stands stands2 : List LinkEvent → Type 0} {k1 k2 : Rounds} {w w2 : Outside} {out out2 : Written} {from : Outcome} {next1 next2 : Next} → (p : Prescribed) (k0 : Rounds)
+    → (a : Comes stands (setting p k0) k1 w out from next1) → k1.idle ≡ k0.idle → Comes stands2 (setting p k1) k2 w2 out2 (Goes next1 a.course) next2 → Comes stands2 (setting p k0) k2 w2 out2 from next2
+goes-ok {stands2 = stands2} {k2 = k2} {w2 = w2} {out2 = out2} {from = from} {next1 = next1} {next2 = next2} p k0 a idle b =
+    let c = subst (λ (i : ℕ). Comes stands2 (record { served = p; idle = i }) k2 w2 out2 (Goes next1 a.course) next2) idle b in
+    record { course = c.course; reaches = reaches-then (setting p k0) from next1 a.course (Goes next2 c.course) a.reaches c.reaches; follows = c.follows }

@@ -83,7 +83,7 @@ recorded-line {ran_out = ran_out} p c e w out client host sent (Some held) known
       told = sent.told;
     })))
 
-pub stop-recorded : (ran_out : List LinkEvent → LinkEvent → List ℕ → List ℕ → Type 0) (p : Prescribed) (c : Course) (e : LinkEvent) (client host : List ℕ) (refusals : List Refusal) (w : Outside) (out out' : Written) (waiting : List ℕ) → Sent ran_out c e client host w out' → IsFront client (gained p.to_client c.events e) → IsFront host (gained p.to_host c.events e)
+stop-recorded : (ran_out : List LinkEvent → LinkEvent → List ℕ → List ℕ → Type 0) (p : Prescribed) (c : Course) (e : LinkEvent) (client host : List ℕ) (refusals : List Refusal) (w : Outside) (out out' : Written) (waiting : List ℕ) → Sent ran_out c e client host w out' → IsFront client (gained p.to_client c.events e) → IsFront host (gained p.to_host c.events e)
     → (has_any client || has_any host) ≡ true → refusals ≡ [] → waiting ≡ out.waiting → IsTaped out c → out'.tape ≡ append_known out.tape (waiting ++ lines_of e refusals) → IfSome out'.tape (λ held. HasLines ran_out w out' c (put p e c) held)
 stop-recorded ran_out p c e client host refusals w out out' waiting sent f g some none same taped is =
     recorded-line {ran_out = ran_out} p c e w out' client host sent out.tape out'.tape out.waiting (due-bytes p c e client host f g some) taped
@@ -137,12 +137,16 @@ link-front u v x b b' old new t s same is w = between-front u x b old new t s (s
 wrote-as : (u v : Bool) (b b' : List ℕ) (old new : Link) → v ≡ u → b' ≡ b → new ≡ wrote_if v b' old → new ≡ wrote_if u b old
 wrote-as u v b b' old new same is wrote = wrote ∙ ap (λ (y : Bool). wrote_if y b' old) same ∙ ap (λ (l : List ℕ). wrote_if u l old) is
 
-pub link-all : (u v : Bool) (x b b' : List ℕ) (old new : Link) (t : List Turn) → Shows old u t x → v ≡ u → b' ≡ b → new ≡ wrote_if v b' old → IsBetween x new.written (cond u (x ++ b) x)
+link-all : (u v : Bool) (x b b' : List ℕ) (old new : Link) (t : List Turn) → Shows old u t x → v ≡ u → b' ≡ b → new ≡ wrote_if v b' old → IsBetween x new.written (cond u (x ++ b) x)
 link-all u v x b b' old new t s same is wrote =
     between-all x new.written (cond u (x ++ b) x) (cond u b []) (ap (λ (l : Link). l.written) (wrote-as u v b b' old new same is wrote) ∙ (wrote-shows u b old t x s).written-is) (more_if u x b)
 
-pub turns-all : (u v : Bool) (x b b' : List ℕ) (old new : Link) (t : List Turn) → Shows old u t x → v ≡ u → b' ≡ b → new ≡ wrote_if v b' old → new.turns ≡ Some t
+turns-all : (u v : Bool) (x b b' : List ℕ) (old new : Link) (t : List Turn) → Shows old u t x → v ≡ u → b' ≡ b → new ≡ wrote_if v b' old → new.turns ≡ Some t
 turns-all u v x b b' old new t s same is wrote = ap (λ (l : Link). l.turns) (wrote-as u v b b' old new same is wrote) ∙ (wrote-shows u b old t x s).turns-is
+
+-- all of it is sent
+pub sent-all : (u v : Bool) (x b b' : List ℕ) (old new : Link) (t : List Turn) → Shows old u t x → v ≡ u → b' ≡ b → new ≡ wrote_if v b' old → (new.turns ≡ Some t) × IsBetween x new.written (cond u (x ++ b) x)
+sent-all u v x b b' old new t s same is wrote = (turns-all u v x b b' old new t s same is wrote, link-all u v x b b' old new t s same is wrote)
 
 -- a link that is as it was
 pub still-shows : (u : Bool) (t : List Turn) (x : List ℕ) (old new : Link) → new ≡ old → Shows old u t x → Shows new u t x
@@ -163,3 +167,11 @@ stop-cut p c e client host w w' out out' f g t told client-turns host-turns door
       told = told-before p c e out' told;
       tape = tape;
     }
+
+-- and its line is recorded
+pub stop-written : {ran_out : List LinkEvent → LinkEvent → List ℕ → List ℕ → Type 0} → (p : Prescribed) (c : Course) (e : LinkEvent) (client host : List ℕ) (refusals : List Refusal) (w w' : Outside) (out out' : Written) (waiting : List ℕ) → ran_out c.events e client host → IsFront client (gained p.to_client c.events e) → IsFront host (gained p.to_host c.events e)
+    → (has_any client || has_any host) ≡ true → refusals ≡ [] → waiting ≡ out.waiting → out'.tape ≡ append_known out.tape (waiting ++ lines_of e refusals) → Tells w out c → IsTold out' c.told → w'.client.turns ≡ Some c.client → w'.host.turns ≡ Some c.host → w'.door ≡ w.door
+    → IsBetween c.to_client w'.client.written (cond c.client_up (c.to_client ++ client) c.to_client) → IsBetween c.to_host w'.host.written (cond c.host_up (c.to_host ++ host) c.to_host) → Cut ran_out w' out' c (put p e c)
+stop-written {ran_out = ran_out} p c e client host refusals w w' out out' waiting stopped f g some none same is t told client-turns host-turns door to_client to_host =
+    stop-cut p c e client host w w' out out' f g t told client-turns host-turns door to_client to_host
+    (stop-recorded ran_out p c e client host refusals w' out out' waiting (record { stopped = stopped; some = some; to_client = to_client; to_host = to_host; told = told }) f g some none same t.tape is)

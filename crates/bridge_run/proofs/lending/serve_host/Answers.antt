@@ -43,7 +43,7 @@ returns-clause-leaves g c = λ k b t.
     let out = written (g.K.Sink.contents c.args.out.now) (g.K.Sink.contents c.args.out.now) None in
     let core = c.new-session.result.core in
     let stands : List LinkEvent → Type 0 = λ events. IsLent m first core events in
-    subst (λ (q : Rounds). Follows stands p q w (gathering (g.K.Sink.contents c.args.out.now) (g.K.Sink.contents c.args.out.now) None c.new-session.result.waiting) k → Leaves c.run.result (LentStops m first) (setting p q) (Goes AtDoor k) ends (written (g.K.Sink.contents c.args.out.now) (g.K.Sink.contents c.run.new.out) None)) (c.new-session.ensures.kept ∙ c.new.ensures) (c.run.ensures.course first (g.K.Sink.contents c.args.out.now) k)
+    subst (λ (q : Rounds). Follows stands p q w (gathering (g.K.Sink.contents c.args.out.now) (g.K.Sink.contents c.args.out.now) None c.new-session.result.waiting) k → Leaves c.run.result (LentStops m first) (setting p q) (Goes AtDoor k) ends (written (g.K.Sink.contents c.args.out.now) (g.K.Sink.contents c.run.new.out) None)) (c.new-session.ensures.rounds ∙ c.new.ensures) (c.run.ensures.course first (g.K.Sink.contents c.args.out.now) k)
     (subst (λ (l : List ℕ). Follows stands p (begun false c.args.idle c.args.budget) w (gathering (g.K.Sink.contents c.args.out.now) (g.K.Sink.contents c.args.out.now) None l) k) (sym c.new-session.ensures.waiting)
     (door-follows stands p c.args.idle c.args.budget
     (outside (g.D.Doors.link c.args.doors.now) (g.D.Doors.door c.args.doors.now)) w out k b (subst (λ x. IsLent m first x []) (sym c.new-session.ensures.core) c.in-Ok.ensures) refl t
@@ -62,7 +62,7 @@ returns-clause-reason g c =
     let ends = outside (g.D.Doors.link c.run.new.doors) (g.D.Doors.door c.run.new.doors) in
     reason-from c.run.result c.args.idle before w ends
     (record { client = ap (λ (l : Link). l.idle) c.in_default.ensures.listens.1; host = ap (λ (l : Link). l.idle) c.in_default.ensures.other })
-    (subst (λ (q : Rounds). HasReason c.run.result q.idle w ends) (c.new-session.ensures.kept ∙ c.new.ensures) c.run.ensures.reason)
+    (subst (λ (q : Rounds). HasReason c.run.result q.idle w ends) (c.new-session.ensures.rounds ∙ c.new.ensures) c.run.ensures.reason)
 
 pub returns-in-Err-clause-log : goal.returns-in-Err-clause-log
 returns-in-Err-clause-log g c = nothing-before g.D.Doors.call_gives (LentStops g.G.Gadget.meaning c.args.gadget) (Told g.K.Sink.write_gives c.args.out.now c.args.out.now) (no_host c.args.listen.now c.args.idle c.args.budget) (lent_sends g.G.Gadget.meaning c.args.gadget) c.args.doors.now (told-none g.K.Sink.write_gives c.args.out.now)
@@ -81,5 +81,5 @@ returns-clause-log g c =
     let first = c.args.gadget in
     let core = c.new-session.result.core in
     c.run.ensures.log first (no_host c.args.listen.now c.args.idle c.args.budget) c.args.doors.now c.args.out.now refl
-    (door-at g.D.Doors.call_gives (λ events. IsLent m first core events) (Told g.K.Sink.write_gives c.args.out.now c.args.out.now) (lent_sends m first) c.new-session.result.kept c.args.idle c.args.budget c.args.listen.now _ c.args.doors.now c.listen.new.self c.in_default.ensures.gives
-    (subst (λ x. IsLent m first x []) (sym c.new-session.ensures.core) c.in-Ok.ensures) (told-none g.K.Sink.write_gives c.args.out.now) refl c.requires.idle c.requires.budget (c.new-session.ensures.kept ∙ c.new.ensures))
+    (door-at g.D.Doors.call_gives (λ events. IsLent m first core events) (Told g.K.Sink.write_gives c.args.out.now c.args.out.now) (lent_sends m first) c.new-session.result.rounds c.args.idle c.args.budget c.args.listen.now _ c.args.doors.now c.listen.new.self c.in_default.ensures.gives
+    (subst (λ x. IsLent m first x []) (sym c.new-session.ensures.core) c.in-Ok.ensures) (told-none g.K.Sink.write_gives c.args.out.now) refl c.requires.idle c.requires.budget (c.new-session.ensures.rounds ∙ c.new.ensures))

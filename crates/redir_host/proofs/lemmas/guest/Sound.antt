@@ -83,24 +83,13 @@ to-device : (ep told : ℕ) (body : List ℕ) → length body ≡ data_count ToH
 to-device ep told body there out = sym (there ∙ ap (λ (b : Bool). cond (not b) told 0) out)
 
 control-by : (setup : Setup) (ep told : ℕ) (body : List ℕ) (b : Bool) → nat_lt setup.kind 128 ≡ b → ep ≡ cond b 0 128 → length body ≡ data_count ToHost ep told → IsTransfer (record { ep = ep; setup = Some setup; wanted = told; body = body })
-control-by setup ep told body true kind is there =
+control-by setup ep told body b kind is there =
     let Says : ℕ → Type 0 = λ e. length body ≡ data_count ToHost e told → IsTransfer (record { ep = e; setup = Some setup; wanted = told; body = body }) in
-    subst Says (sym is) (λ there. record {
-      address = lit< tt;
-      has_setup = refl;
-      direction = ap not kind;
-      from_device = λ into. absurd (let no : false ≡ true = into in cc);
-      to_device = λ _. sym there;
-    }) there
-control-by setup ep told body false kind is there =
-    let Says : ℕ → Type 0 = λ e. length body ≡ data_count ToHost e told → IsTransfer (record { ep = e; setup = Some setup; wanted = told; body = body }) in
-    subst Says (sym is) (λ there. record {
-      address = lit< tt;
-      has_setup = refl;
-      direction = ap not kind;
-      from_device = λ _. none-there body there;
-      to_device = λ out. absurd (let no : true ≡ false = out in cc);
-    }) there
+    subst Says (sym is) (go b kind) there
+  where
+    go : (b : Bool) → nat_lt setup.kind 128 ≡ b → length body ≡ data_count ToHost (cond b 0 128) told → IsTransfer (record { ep = cond b 0 128; setup = Some setup; wanted = told; body = body })
+    go true kind there = record { address = lit< tt; has_setup = refl; direction = ap not kind; from_device = λ into. absurd (let no : false ≡ true = into in cc); to_device = λ _. sym there }
+    go false kind there = record { address = lit< tt; has_setup = refl; direction = ap not kind; from_device = λ _. none-there body there; to_device = λ out. absurd (let no : true ≡ false = out in cc) }
 
 other-transfer : (ep told : ℕ) (body : List ℕ) → is_other ep ≡ true → length body ≡ data_count ToHost ep told → IsTransfer (record { ep = ep; setup = None; wanted = told; body = body })
 other-transfer ep told body other there = record {
@@ -256,6 +245,13 @@ later-plain m h header c number sound is kind other =
     keeps-all h (plain_move m h header.id c) h.unplugged sound
     (plain-keeps m h header.id c sound greeted (subst (λ (b : Bool). IdFits (is_wide b h.guest.caps) header.id) greeted is.header.id_fits))
 
+-- a packet that moves data is no hello
+pub carried : (d : RedirData) (number : ℕ) → number ≡ data_number d → (number == 0) ≡ false
+carried (moving.Control ep asked kind status value index told body) number e = ap (λ (n : ℕ). n == 0) e
+carried (moving.Bulk ep status told stream body) number e = ap (λ (n : ℕ). n == 0) e
+carried (moving.Iso ep status told body) number e = ap (λ (n : ℕ). n == 0) e
+carried (moving.Interrupt ep status told body) number e = ap (λ (n : ℕ). n == 0) e
+
 pub keeps-packet : {S : Type 0} (m : Meaning S) (h : Host S) (header : Header) (p : RedirPacket) → IsSound h → IsTaken h.guest header p → Keeps (record h { guest = advanced h.guest p }) (packet_move m h header.id p).host
 keeps-packet {S = S} m h header (Plain (plain.Hello x)) sound is =
     let g : Host S = record h { guest = advanced h.guest (Plain (plain.Hello x)) } in
@@ -281,12 +277,6 @@ keeps-packet m h header (Plain (plain.InterruptStatus status ep)) sound is = lat
 keeps-packet m h header (Plain plain.Cancel) sound is = later-plain m h header plain.Cancel 21 sound is is.kind refl
 keeps-packet m h header (Plain plain.DisconnectAck) sound is = later-plain m h header plain.DisconnectAck 24 sound is is.kind refl
 keeps-packet m h header (Carrying d) sound is =
-    let greeted = later h.guest.first header.kind header.kind is.header.in_turn refl (carried d is.kind) in
+    let greeted = later h.guest.first header.kind header.kind is.header.in_turn refl (carried d header.kind is.kind) in
     keeps-all h (data_move h header.id (asking_of d)) h.unplugged sound
     (data-keeps h header.id d sound greeted (subst (λ (b : Bool). IdFits (is_wide b h.guest.caps) header.id) greeted is.header.id_fits) is.fits)
-  where
-    carried : (d : RedirData) → header.kind ≡ data_number d → (header.kind == 0) ≡ false
-    carried (moving.Control ep asked kind status value index told body) e = ap (λ (n : ℕ). n == 0) e
-    carried (moving.Bulk ep status told stream body) e = ap (λ (n : ℕ). n == 0) e
-    carried (moving.Iso ep status told body) e = ap (λ (n : ℕ). n == 0) e
-    carried (moving.Interrupt ep status told body) e = ap (λ (n : ℕ). n == 0) e

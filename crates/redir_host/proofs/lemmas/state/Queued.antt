@@ -10,6 +10,7 @@ use Rattle.std.specs.BTreeMap.Range.{IsInRange, IsLeBy}
 use Rattle.std.specs.BTreeSet.{contains}
 use Rattle.std.specs.Cmp.{tied_then}
 use Rattle.std.specs.declared.ops.Bound.TheVariants.{Included}
+use Rattle.std.proofs.Math.Bool.{and-true, and-false}
 use Rattle.std.proofs.lemmas.Bool.{and_parts, cases_Bool, cases_eq, eqb-true, le-leb, leb-true}
 use Rattle.std.proofs.lemmas.Cmp.{ranked, by_ranked, tied_itself, nat_cmp_total, eq_by_cmp_equiv}
 use Rattle.std.proofs.lemmas.Map.Entries.{lookup-filter-values, option_filter}
@@ -118,7 +119,7 @@ pub moved : (old_get new_get : ℕ → Option Request) (old_has new_has : ℕ ×
 moved old_get new_get old_has new_has queue n o w b was gets has held before after is k = elim (cases_eq n k.1) [
   | inl same ↦
       let got : new_get k.1 ≡ w = gets k.1 ∙ ap (λ (t : Bool). cond t w (old_get k.1)) (same_at n k.1 same) in
-      let at_k : is_key (key_cmp (queue, n)) k ≡ at queue k.0 = key_at (queue, n) k ∙ ap (λ (t : Bool). at queue k.0 && t) (same_at n k.1 same) ∙ and_true (at queue k.0) in
+      let at_k : is_key (key_cmp (queue, n)) k ≡ at queue k.0 = key_at (queue, n) k ∙ ap (λ (t : Bool). at queue k.0 && t) (same_at n k.1 same) ∙ and-true (at queue k.0) in
       let reads : old_has k ≡ waits_in k.0 o = was k ∙ ap (λ m. waits_in k.0 (old_get m)) (sym same) ∙ ap (waits_in k.0) held in
       elim (cases_eq queue k.0) [
         | inl own ↦ has k ∙ ap (λ (t : Bool). cond t b (old_has k)) (at_k ∙ same_at queue k.0 own) ∙ is ∙ ap (λ l. waits_in l w) own ∙ ap (waits_in k.0) (sym got)
@@ -126,17 +127,9 @@ moved old_get new_get old_has new_has queue n o w b was gets has held before aft
       ]
   | inr differ ↦
       let got : new_get k.1 ≡ old_get k.1 = gets k.1 ∙ ap (λ (t : Bool). cond t w (old_get k.1)) (apart n k.1 differ) in
-      let at_k : is_key (key_cmp (queue, n)) k ≡ false = key_at (queue, n) k ∙ ap (λ (t : Bool). at queue k.0 && t) (apart n k.1 differ) ∙ and_false (at queue k.0) in
+      let at_k : is_key (key_cmp (queue, n)) k ≡ false = key_at (queue, n) k ∙ ap (λ (t : Bool). at queue k.0 && t) (apart n k.1 differ) ∙ and-false (at queue k.0) in
       has k ∙ ap (λ (t : Bool). cond t b (old_has k)) at_k ∙ was k ∙ ap (waits_in k.0) (sym got)
 ]
-  where
-    and_true : (b : Bool) → (b && true) ≡ b
-    and_true true = refl
-    and_true false = refl
-
-    and_false : (b : Bool) → (b && false) ≡ false
-    and_false true = refl
-    and_false false = refl
 
 -- a key was put in and taken out again
 pub undone : (old mid new : ℕ × ℕ → Bool) (key : ℕ × ℕ) → ((k : ℕ × ℕ) → mid k ≡ cond (is_key (key_cmp key) k) true (old k)) → ((k : ℕ × ℕ) → new k ≡ cond (is_key (key_cmp key) k) false (mid k)) →
@@ -217,15 +210,7 @@ any_filtered p k (x ∷ ks) =
 
 waits_still : (queue : ℕ) (s : Request → Bool) (o : Option Request) → (waits_in queue o && is_some (option_filter s o)) ≡ waits_in queue (option_filter s o)
 waits_still queue s None = refl
-waits_still queue s (Some q) = elim (s q) as (λ (b : Bool). ((queue_of q.transfer.ep == queue) && is_some (cond b (Some q) None)) ≡ waits_in queue (cond b (Some q) None)) [ true ↦ kept (queue_of q.transfer.ep == queue) | false ↦ gone (queue_of q.transfer.ep == queue) ]
-  where
-    kept : (b : Bool) → (b && true) ≡ b
-    kept true = refl
-    kept false = refl
-
-    gone : (b : Bool) → (b && false) ≡ false
-    gone true = refl
-    gone false = refl
+waits_still queue s (Some q) = elim (s q) as (λ (b : Bool). ((queue_of q.transfer.ep == queue) && is_some (cond b (Some q) None)) ≡ waits_in queue (cond b (Some q) None)) [ true ↦ and-true (queue_of q.transfer.ep == queue) | false ↦ and-false (queue_of q.transfer.ep == queue) ]
 
 -- the keys of those that stay are those that wait then
 pub waits_filtered : (w : Waiting) (s : Request → Bool) (es : List (ℕ × Request)) (ks : List (ℕ × ℕ)) → IsIndexed w → es ≡ filter (λ (e : ℕ × Request). s e.1) w.requests.entries →

@@ -1,5 +1,5 @@
 -- What is known of a host stays known, whatever comes: performs, offers and the end keep it.
-use Rattle.std.proofs.Common.{◌≡◌, ℕ, Bool, true, false, cond, List, [], ◌∷◌, Some, None, refl, ◌∙◌}
+use Rattle.std.proofs.Common.{◌≡◌, ℕ, Bool, true, false, cond, List, [], ◌∷◌, Some, None, refl, sym, subst, ◌∙◌}
 use Rattle.std.specs.Prelude.{Option}
 use Rattle.std.specs.List.{find}
 use Rattle.usb_base.specs.declared.endpoint.EpTable.{EpTable}
@@ -92,12 +92,18 @@ each-without P test [] each = tt
 each-without P test (x ∷ xs) each =
     elim (test x) as (λ (b : Bool). Each P (cond b xs (x ∷ without_first test xs))) [ true ↦ each.1 | false ↦ (each.0, each-without P test xs each.1) ]
 
+-- without an endpoint's first request
+pub sound-without : {S : Type 0} (h : Host S) (ep : ℕ) (rest : List Request) (s : S) → IsSound h → rest ≡ without_first (is_at ep) h.queue → IsSound (record h { queue = rest; gadget = s })
+sound-without h ep rest s sound is = record {
+  requests = subst (Each (IsRequest h.guest)) (sym is) (each-without (IsRequest h.guest) (is_at ep) h.queue sound.requests);
+  streams = sound.streams;
+}
+
 keeps-first : {S : Type 0} (m : Meaning S) (h : Host S) (ep : ℕ) (o : Option Request) → IsSound h → KeepsWith h (first_performed m h ep o)
 keeps-first m h ep None sound = tt
 keeps-first {S = S} m h ep (Some q) sound =
     let g : Host S = record h { queue = without_first (is_at ep) h.queue } in
-    let rest : IsSound g = record { requests = each-without (IsRequest h.guest) (is_at ep) h.queue sound.requests; streams = sound.streams } in
-    keeps-id h q (performs_any m g q) (widened g (performs_any m g q) (keeps-any m g q q.reset rest) refl)
+    keeps-id h q (performs_any m g q) (widened g (performs_any m g q) (keeps-any m g q q.reset (sound-without h ep g.queue h.gadget sound refl)) refl)
   where
     widened : (g : Host S) (o : Option (Move S)) → KeepsIf g o → g.guest ≡ h.guest → KeepsIf h o
     widened g None k same = tt

@@ -1,5 +1,5 @@
 -- What a host sends for a packet of its guest can be read, with all that it has sent before.
-use Rattle.std.proofs.Common.{◌≡◌, ℕ, ◌&&◌, ◌==◌, Bool, true, false, cond, List, [], ◌∷◌, ◌++◌, Some, None, refl, sym, ap, subst, lit<}
+use Rattle.std.proofs.Common.{◌≡◌, ℕ, ◌&&◌, ◌==◌, Bool, true, false, cond, List, [], ◌∷◌, ◌++◌, Some, None, refl, sym, subst, lit<}
 use Rattle.std.specs.Prelude.{Option, IfSome, nat_le}
 use Rattle.std.specs.List.{find}
 use Rattle.std.proofs.lemmas.Bool.{true≢false}
@@ -21,7 +21,6 @@ use Rattle.redir_data.specs.declared.packet.RedirPacket.TheVariants.{Plain, Carr
 use Rattle.redir_data.specs.declared.state.RedirState.{RedirState}
 use Rattle.redir_data.specs.Ranges.{IsData}
 use Rattle.redir_data.specs.Sent.{CanBeRead}
-use Rattle.redir_data.specs.Spelling.{number_of as data_number}
 use Rattle.redir_data.specs.Streams.{advanced}
 use Rattle.redir_data.proofs.Sent.{control_sent}
 use Rattle.model_device.specs.Gadget.{IsGadget}
@@ -43,7 +42,7 @@ use Rattle.redir_host.specs.state.Queues.{is_cancelled_by}
 use Rattle.redir_host.specs.write.Readable.{AreRead, InRange, TakesInRange, Unless}
 use Rattle.redir_host.specs.state.Sound.{Each, FormFits, IsRequest, IsSound}
 use Rattle.redir_host.proofs.lemmas.write.Answers.{ended_fits}
-use Rattle.redir_host.proofs.lemmas.guest.Sound.{earlier, later}
+use Rattle.redir_host.proofs.lemmas.guest.Sound.{carried, earlier, later}
 use Rattle.redir_host.proofs.lemmas.write.Readable.{answer-read, are-read, cancelled-read, facts-read, nothing-sent}
 use Rattle.redir_host.proofs.lemmas.state.Each.{each_behind, each_front, each_joined, if_found}
 use Rattle.redir_host.proofs.lemmas.write.Facts.{connect}
@@ -153,12 +152,6 @@ packet-read m lawful h header (Plain (plain.InterruptStatus status ep)) xs sound
 packet-read m lawful h header (Plain plain.Cancel) xs sound is fit before = later-read m h header plain.Cancel 21 xs sound is is.kind refl refl before
 packet-read m lawful h header (Plain plain.DisconnectAck) xs sound is fit before = later-read m h header plain.DisconnectAck 24 xs sound is is.kind refl refl before
 packet-read m lawful h header (Carrying d) xs sound is fit before =
-    let greeted = later h.guest.first header.kind header.kind is.header.in_turn refl (carried d is.kind) in
+    let greeted = later h.guest.first header.kind header.kind is.header.in_turn refl (carried d header.kind is.kind) in
     read-more h.guest xs (cond h.unplugged (quiet h) (data_move h header.id (asking_of d))).sent before
     (read-all h (data_move h header.id (asking_of d)) h.unplugged greeted (data-read h header.id d (subst (λ (b : Bool). IdFits (is_wide b h.guest.caps) header.id) greeted is.header.id_fits) is.fits))
-  where
-    carried : (d : RedirData) → header.kind ≡ data_number d → (header.kind == 0) ≡ false
-    carried (moving.Control ep asked kind status value index told body) e = ap (λ (n : ℕ). n == 0) e
-    carried (moving.Bulk ep status told stream body) e = ap (λ (n : ℕ). n == 0) e
-    carried (moving.Iso ep status told body) e = ap (λ (n : ℕ). n == 0) e
-    carried (moving.Interrupt ep status told body) e = ap (λ (n : ℕ). n == 0) e

@@ -5,8 +5,8 @@ use Rattle.bridge_run.specs.declared.serve_end.ServeEnd.{ServeEnd}
 use Rattle.bridge_run.specs.Course.{Takes}
 use Rattle.bridge_run.specs.Calls.{Goes, put}
 use Rattle.bridge_run.specs.Outside.{outside, gathering}
-use Rattle.bridge_run.specs.inner.Follows.{Runs, setting}
-use Rattle.bridge_run.proofs.lemmas.calls.Course.{reaches-none, reaches-call, cut-leaves, cut-next, is-err}
+use Rattle.bridge_run.specs.inner.Follows.{setting}
+use Rattle.bridge_run.proofs.lemmas.calls.Course.{reaches-none, reaches-call, cut-leaves, cut-next, err-runs, is-err}
 use Rattle.bridge_run.proofs.lemmas.events.Settle.{settled, take-course, take-settles, take-ends, quiet-on, on-all}
 use Rattle.bridge_run.specs.Log.{Told}
 use Rattle.bridge_run.specs.inner.Logging.{IsBehind, HappenLogs}
@@ -16,19 +16,19 @@ use Rattle.bridge_run.proofs.session.Session.happen.Goals as goal
 pub returns-in_err-dropped-clause-course : goal.returns-in_err-dropped-clause-course
 returns-in_err-dropped-clause-course g c = λ first begun next k f.
     let p = g.C.Served.sends first in
-    let s = setting p c.args.self.now.kept in
+    let s = setting p c.args.self.now.rounds in
     let w = outside (g.D.Doors.link c.put.new.doors) (g.D.Doors.door c.put.new.doors) in
     let out = gathering begun (g.K.Sink.contents c.put.new.out) (g.T.Tape.contents c.put.new.tape) c.put.new.self.waiting in
     let e = event_of c.args.event in
     let from = Goes (Takes e next) k in
     let end = c.in_err-dropped.field-0.0 in
-    subst (λ (r : Result (Unit {0}) ServeEnd). Runs r (g.C.Served.stands first c.put.new.self.core) (g.C.Served.runs_out first) s c.put.new.self.kept w out from next) (sym (is-err c.from_residual.result end c.from_residual.ensures.1))
+    err-runs c.from_residual.result end c.from_residual.ensures.1 (g.C.Served.stands first c.put.new.self.core) (g.C.Served.runs_out first) s c.put.new.self.rounds w out from next
     (cut-leaves end (g.C.Served.runs_out first) s from w out c.in_err-dropped.ensures.cut (cut-next s from (Takes e next) k (put p e k) w out (reaches-none s from) (take-course s e next k) (c.in_err-dropped.ensures.course first begun k f)))
 
 pub returns-in_err-put-clause-course : goal.returns-in_err-put-clause-course
 returns-in_err-put-clause-course g c = λ first begun next k f.
     let p = g.C.Served.sends first in
-    let s = setting p c.args.self.now.kept in
+    let s = setting p c.args.self.now.rounds in
     let w = outside (g.D.Doors.link c.put-2.new.doors) (g.D.Doors.door c.put-2.new.doors) in
     let out = gathering begun (g.K.Sink.contents c.put-2.new.out) (g.T.Tape.contents c.put-2.new.tape) c.put-2.new.self.waiting in
     let e = event_of c.args.event in
@@ -36,26 +36,26 @@ returns-in_err-put-clause-course g c = λ first begun next k f.
     let end = c.in_err-put.field-0.0 in
     let first_put = c.in_ok-dropped.ensures.course first begun k f in
     let ends = take-ends s e next k c.in_ok-dropped.dropped first_put.1 (sym c.ends_next.ensures ∙ c.if-not-ends_next.false) in
-    subst (λ (r : Result (Unit {0}) ServeEnd). Runs r (g.C.Served.stands first c.put-2.new.self.core) (g.C.Served.runs_out first) s c.put-2.new.self.kept w out from next) (sym (is-err c.from_residual-in_err-put.result end c.from_residual-in_err-put.ensures.1))
+    err-runs c.from_residual-in_err-put.result end c.from_residual-in_err-put.ensures.1 (g.C.Served.stands first c.put-2.new.self.core) (g.C.Served.runs_out first) s c.put-2.new.self.rounds w out from next
     (cut-leaves end (g.C.Served.runs_out first) s from w out c.in_err-put.ensures.cut (cut-next s from (Takes ClientEnd next) (put p e k) (put p ClientEnd (put p e k)) w out
     (reaches-call s from (Takes e next) k (Goes (Takes ClientEnd next) (put p e k)) (reaches-none s from) ends) (take-course s ClientEnd next (put p e k)) (c.in_err-put.ensures.course first begun (put p e k) first_put.0)))
 
 pub returns-then-not-ends_next-clause-course : goal.returns-then-not-ends_next-clause-course
 returns-then-not-ends_next-clause-course g c = λ first begun next k f.
     let p = g.C.Served.sends first in
-    let s = setting p c.args.self.now.kept in
+    let s = setting p c.args.self.now.rounds in
     let w = outside (g.D.Doors.link c.put.new.doors) (g.D.Doors.door c.put.new.doors) in
     let out = gathering begun (g.K.Sink.contents c.put.new.out) (g.T.Tape.contents c.put.new.tape) c.put.new.self.waiting in
     let e = event_of c.args.event in
     let from = Goes (Takes e next) k in
     let first_put = c.in_ok-dropped.ensures.course first begun k f in
-    settled c.settle.result (g.C.Served.stands first c.put.new.self.core) (g.C.Served.runs_out first) p c.args.self.now.kept.idle c.put.new.self.kept w out from (Takes e next) k next (put p e k) c.settle.ensures first_put.0
+    settled c.settle.result (g.C.Served.stands first c.put.new.self.core) (g.C.Served.runs_out first) p c.args.self.now.rounds.idle c.put.new.self.rounds w out from (Takes e next) k next (put p e k) c.settle.ensures first_put.0
     (reaches-none s from) (take-settles s e next k c.in_ok-dropped.dropped first_put.1 (sym c.ends_next.ensures ∙ c.if-not-ends_next.true))
 
 pub returns-clause-course : goal.returns-clause-course
 returns-clause-course g c = λ first begun next k f.
     let p = g.C.Served.sends first in
-    let s = setting p c.args.self.now.kept in
+    let s = setting p c.args.self.now.rounds in
     let w = outside (g.D.Doors.link c.put-2.new.doors) (g.D.Doors.door c.put-2.new.doors) in
     let out = gathering begun (g.K.Sink.contents c.put-2.new.out) (g.T.Tape.contents c.put-2.new.tape) c.put-2.new.self.waiting in
     let e = event_of c.args.event in
@@ -63,7 +63,7 @@ returns-clause-course g c = λ first begun next k f.
     let first_put = c.in_ok-dropped.ensures.course first begun k f in
     let second_put = c.in_ok-put.ensures.course first begun (put p e k) first_put.0 in
     let ends = take-ends s e next k c.in_ok-dropped.dropped first_put.1 (sym c.ends_next.ensures ∙ c.if-not-ends_next.false) in
-    settled c.settle-2.result (g.C.Served.stands first c.put-2.new.self.core) (g.C.Served.runs_out first) p c.args.self.now.kept.idle c.put-2.new.self.kept w out from (Takes ClientEnd next) (put p e k) next (put p ClientEnd (put p e k)) c.settle-2.ensures second_put.0
+    settled c.settle-2.result (g.C.Served.stands first c.put-2.new.self.core) (g.C.Served.runs_out first) p c.args.self.now.rounds.idle c.put-2.new.self.rounds w out from (Takes ClientEnd next) (put p e k) next (put p ClientEnd (put p e k)) c.settle-2.ensures second_put.0
     (reaches-call s from (Takes e next) k (Goes (Takes ClientEnd next) (put p e k)) (reaches-none s from) ends) (take-settles s ClientEnd next (put p e k) _ second_put.1 refl)
 
 pub returns-then-not-ends_next-clause-quiet : goal.returns-then-not-ends_next-clause-quiet
@@ -75,16 +75,16 @@ returns-clause-quiet g c = on-all c.settle-2.result _
 
 pub returns-in_err-dropped-clause-log : goal.returns-in_err-dropped-clause-log
 returns-in_err-dropped-clause-log g c = λ first terms asks begun begun_out taped t.
-    subst (λ (r : Result (Unit {0}) ServeEnd). HappenLogs r g.D.Doors.call_gives (g.C.Served.stands first c.put.new.self.core) (g.C.Served.runs_out first) (Told g.K.Sink.write_gives begun_out c.put.new.out) terms (g.C.Served.sends first) asks c.put.new.self.kept begun c.put.new.doors) (sym (is-err c.from_residual.result c.in_err-dropped.field-0.0 c.from_residual.ensures.1))
+    subst (λ (r : Result (Unit {0}) ServeEnd). HappenLogs r g.D.Doors.call_gives (g.C.Served.stands first c.put.new.self.core) (g.C.Served.runs_out first) (Told g.K.Sink.write_gives begun_out c.put.new.out) terms (g.C.Served.sends first) asks c.put.new.self.rounds begun c.put.new.doors) (sym (is-err c.from_residual.result c.in_err-dropped.field-0.0 c.from_residual.ensures.1))
     (c.in_err-dropped.ensures.log first terms asks begun begun_out taped t)
 
 pub returns-in_err-put-clause-log : goal.returns-in_err-put-clause-log
 returns-in_err-put-clause-log g c = λ first terms asks begun begun_out taped t.
     let gives = g.D.Doors.call_gives in
     let p = g.C.Served.sends first in
-    let taking = subst (λ (b : Bool). IsBehind b gives (g.C.Served.stands first c.put.new.self.core) (Told g.K.Sink.write_gives begun_out c.put.new.out) terms p asks c.put.new.self.kept begun c.put.new.doors) (sym c.ends_next.ensures ∙ c.if-not-ends_next.false)
+    let taking = subst (λ (b : Bool). IsBehind b gives (g.C.Served.stands first c.put.new.self.core) (Told g.K.Sink.write_gives begun_out c.put.new.out) terms p asks c.put.new.self.rounds begun c.put.new.doors) (sym c.ends_next.ensures ∙ c.if-not-ends_next.false)
     (c.in_ok-dropped.ensures.log first terms asks begun begun_out taped t) in
-    subst (λ (r : Result (Unit {0}) ServeEnd). HappenLogs r gives (g.C.Served.stands first c.put-2.new.self.core) (g.C.Served.runs_out first) (Told g.K.Sink.write_gives begun_out c.put-2.new.out) terms p asks c.put-2.new.self.kept begun c.put-2.new.doors) (sym (is-err c.from_residual-in_err-put.result c.in_err-put.field-0.0 c.from_residual-in_err-put.ensures.1))
+    subst (λ (r : Result (Unit {0}) ServeEnd). HappenLogs r gives (g.C.Served.stands first c.put-2.new.self.core) (g.C.Served.runs_out first) (Told g.K.Sink.write_gives begun_out c.put-2.new.out) terms p asks c.put-2.new.self.rounds begun c.put-2.new.doors) (sym (is-err c.from_residual-in_err-put.result c.in_err-put.field-0.0 c.from_residual-in_err-put.ensures.1))
     (c.in_err-put.ensures.log first terms asks begun begun_out (taped ∙ sym c.put.ensures.made) taking)
 
 pub returns-then-not-ends_next-clause-log : goal.returns-then-not-ends_next-clause-log
@@ -92,14 +92,14 @@ returns-then-not-ends_next-clause-log g c = λ first terms asks begun begun_out 
     let gives = g.D.Doors.call_gives in
     let p = g.C.Served.sends first in
     let tells = Told g.K.Sink.write_gives begun_out c.put.new.out in
-    let taken = subst (λ (b : Bool). IsBehind b gives (g.C.Served.stands first c.put.new.self.core) tells terms p asks c.put.new.self.kept begun c.put.new.doors) (sym c.ends_next.ensures ∙ c.if-not-ends_next.true)
+    let taken = subst (λ (b : Bool). IsBehind b gives (g.C.Served.stands first c.put.new.self.core) tells terms p asks c.put.new.self.rounds begun c.put.new.doors) (sym c.ends_next.ensures ∙ c.if-not-ends_next.true)
     (c.in_ok-dropped.ensures.log first terms asks begun begun_out taped t) in
-    settled-logs c.settle.result gives (g.C.Served.stands first c.put.new.self.core) (g.C.Served.runs_out first) tells terms p asks c.put.new.self.kept begun c.put.new.doors c.settle.ensures taken
+    settled-logs c.settle.result gives (g.C.Served.stands first c.put.new.self.core) (g.C.Served.runs_out first) tells terms p asks c.put.new.self.rounds begun c.put.new.doors c.settle.ensures taken
 
 pub returns-clause-log : goal.returns-clause-log
 returns-clause-log g c = λ first terms asks begun begun_out taped t.
     let gives = g.D.Doors.call_gives in
     let p = g.C.Served.sends first in
-    let taking = subst (λ (b : Bool). IsBehind b gives (g.C.Served.stands first c.put.new.self.core) (Told g.K.Sink.write_gives begun_out c.put.new.out) terms p asks c.put.new.self.kept begun c.put.new.doors) (sym c.ends_next.ensures ∙ c.if-not-ends_next.false)
+    let taking = subst (λ (b : Bool). IsBehind b gives (g.C.Served.stands first c.put.new.self.core) (Told g.K.Sink.write_gives begun_out c.put.new.out) terms p asks c.put.new.self.rounds begun c.put.new.doors) (sym c.ends_next.ensures ∙ c.if-not-ends_next.false)
     (c.in_ok-dropped.ensures.log first terms asks begun begun_out taped t) in
-    settled-logs c.settle-2.result gives (g.C.Served.stands first c.put-2.new.self.core) (g.C.Served.runs_out first) (Told g.K.Sink.write_gives begun_out c.put-2.new.out) terms p asks c.put-2.new.self.kept begun c.put-2.new.doors c.settle-2.ensures (c.in_ok-put.ensures.log first terms asks begun begun_out (taped ∙ sym c.put.ensures.made) taking)
+    settled-logs c.settle-2.result gives (g.C.Served.stands first c.put-2.new.self.core) (g.C.Served.runs_out first) (Told g.K.Sink.write_gives begun_out c.put-2.new.out) terms p asks c.put-2.new.self.rounds begun c.put-2.new.doors c.settle-2.ensures (c.in_ok-put.ensures.log first terms asks begun begun_out (taped ∙ sym c.put.ensures.made) taking)

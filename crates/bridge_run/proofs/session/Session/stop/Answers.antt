@@ -3,13 +3,12 @@ use Rattle.usb_base.specs.declared.side.Side.TheVariants.{Client, Host}
 use Rattle.gate_outside.specs.Link.{Link}
 use Rattle.bridge_run.specs.Events.{event_of}
 use Rattle.bridge_run.specs.declared.serve_end.ServeEnd.{ServeEnd}
-use Rattle.bridge_run.specs.declared.serve_end.ServeEnd.TheVariants.{LinkFault, Memory}
 use Rattle.bridge_run.specs.Calls.{put}
 use Rattle.bridge_run.specs.Outside.{outside, gathering, Cut}
 use Rattle.bridge_run.specs.Serves.{MayRunOut}
 use Rattle.bridge_run.specs.inner.Stopping.{StopLogs}
 use Rattle.bridge_run.proofs.lemmas.events.Put.{put-before}
-use Rattle.bridge_run.proofs.lemmas.events.Stop.{stop-recorded, stop-unrecorded, link-still, link-front, link-all, turns-all, still-shows, stop-cut}
+use Rattle.bridge_run.proofs.lemmas.events.Stop.{stop-unrecorded, stop-written, link-still, link-front, sent-all, still-shows, stop-cut}
 use Rattle.bridge_run.proofs.lemmas.calls.Stop.{stop-none, stop-tape, stop-client, stop-host, stop-all}
 use Rattle.bridge_run.proofs.session.Session.stop.Goals as goal
 
@@ -35,83 +34,39 @@ returns-in-Err-clause-course g c = λ first begun told k part up t.
 pub returns-in-Err-write_link-clause-course : goal.returns-in-Err-write_link-clause-course
 returns-in-Err-write_link-clause-course g c = λ first begun told k part up t.
     let p = g.C.Served.sends first in
-    let e = event_of c.args.event in
-    let kept = c.args.self.now.kept in
-    let client = c.args.self.now.sent.to_client in
-    let host = c.args.self.now.sent.to_host in
-    let links = g.D.Doors.link c.args.doors.now in
-    let links1 = g.D.Doors.link c.write_link.new.doors in
-    let w = outside links (g.D.Doors.door c.args.doors.now) in
-    let w1 = outside links1 (g.D.Doors.door c.write_link.new.doors) in
-    let out = gathering begun told (g.T.Tape.contents c.args.tape.now) c.args.self.now.waiting in
-    let out' = gathering begun told (g.T.Tape.contents c.record_event.new.tape) c.record_event.new.waiting in
-    let to_client = link-front k.client_up kept.client_up k.to_client client c.as_slice-to_client.result.now (links Client) (links1 Client) k.client t.client up.client c.as_slice-to_client.ensures c.in-Err-write_link.ensures.link in
-    let to_host = link-still k.host_up k.to_host host (links Host) (links1 Host) k.host t.host c.in-Err-write_link.ensures.other in
-    subst (λ (x : ServeEnd). Cut (MayRunOut x (g.C.Served.runs_out first) p) w1 out' k (put p e k)) (sym c.in-Err-write_link.ensures.fault)
-    (stop-cut p k e client host w w1 out out' part.to_client part.to_host t t.told
+    let w1 = outside (g.D.Doors.link c.write_link.new.doors) (g.D.Doors.door c.write_link.new.doors) in
+    subst (λ (x : ServeEnd). Cut (MayRunOut x (g.C.Served.runs_out first) p) w1 (gathering begun told (g.T.Tape.contents c.record_event.new.tape) c.record_event.new.waiting) k (put p (event_of c.args.event) k)) (sym c.in-Err-write_link.ensures.fault)
+    (stop-written p k (event_of c.args.event) c.args.self.now.sent.to_client c.args.self.now.sent.to_host c.clear.new.self _ w1 _ (gathering begun told (g.T.Tape.contents c.record_event.new.tape) c.record_event.new.waiting) c.args.self.now.waiting part.ran_out part.to_client part.to_host (sym c.has_bytes.ensures ∙ c.if-not-has_bytes.false) c.clear.ensures refl c.in_default.ensures.ok t t.told
     (ap (λ (l : Link). l.turns) c.in-Err-write_link.ensures.link.link ∙ t.client.turns-is) (ap (λ (l : Link). l.turns) c.in-Err-write_link.ensures.other ∙ t.host.turns-is) c.in-Err-write_link.ensures.door
-    to_client to_host
-    (stop-recorded (MayRunOut (LinkFault Client) (g.C.Served.runs_out first) p) p k e client host c.clear.new.self w1 out out' c.args.self.now.waiting (record { stopped = part.ran_out; some = sym c.has_bytes.ensures ∙ c.if-not-has_bytes.false; to_client = to_client; to_host = to_host; told = t.told }) part.to_client part.to_host (sym c.has_bytes.ensures ∙ c.if-not-has_bytes.false) c.clear.ensures refl t.tape c.in_default.ensures.ok))
+    (link-front _ _ _ _ _ _ _ _ t.client up.client c.as_slice-to_client.ensures c.in-Err-write_link.ensures.link) (link-still _ _ c.args.self.now.sent.to_host _ _ _ t.host c.in-Err-write_link.ensures.other))
 
 pub returns-in-Err-write_link-2-clause-course : goal.returns-in-Err-write_link-2-clause-course
 returns-in-Err-write_link-2-clause-course g c = λ first begun told k part up t.
     let p = g.C.Served.sends first in
-    let e = event_of c.args.event in
-    let kept = c.args.self.now.kept in
-    let client = c.args.self.now.sent.to_client in
-    let host = c.args.self.now.sent.to_host in
-    let links = g.D.Doors.link c.args.doors.now in
-    let links1 = g.D.Doors.link c.write_link.new.doors in
-    let links2 = g.D.Doors.link c.write_link-2.new.doors in
-    let w = outside links (g.D.Doors.door c.args.doors.now) in
-    let w2 = outside links2 (g.D.Doors.door c.write_link-2.new.doors) in
-    let out = gathering begun told (g.T.Tape.contents c.args.tape.now) c.args.self.now.waiting in
-    let out' = gathering begun told (g.T.Tape.contents c.record_event.new.tape) c.record_event.new.waiting in
-    let wrote = c.in-Err-write_link-2.ensures.other ∙ c.in_default-write_link.ensures.link in
+    let w2 = outside (g.D.Doors.link c.write_link-2.new.doors) (g.D.Doors.door c.write_link-2.new.doors) in
     let still = c.in_default-write_link.ensures.other in
-    let to_client = link-all k.client_up kept.client_up k.to_client client c.as_slice-to_client.result.now (links Client) (links2 Client) k.client t.client up.client c.as_slice-to_client.ensures wrote in
-    let to_host = link-front k.host_up kept.host_up k.to_host host c.as_slice-to_host.result.now (links1 Host) (links2 Host) k.host (still-shows k.host_up k.host k.to_host (links Host) (links1 Host) still t.host) up.host c.as_slice-to_host.ensures c.in-Err-write_link-2.ensures.link in
-    subst (λ (x : ServeEnd). Cut (MayRunOut x (g.C.Served.runs_out first) p) w2 out' k (put p e k)) (sym c.in-Err-write_link-2.ensures.fault)
-    (stop-cut p k e client host w w2 out out' part.to_client part.to_host t t.told
-    (turns-all k.client_up kept.client_up k.to_client client c.as_slice-to_client.result.now (links Client) (links2 Client) k.client t.client up.client c.as_slice-to_client.ensures wrote)
-    (ap (λ (l : Link). l.turns) c.in-Err-write_link-2.ensures.link.link ∙ ap (λ (l : Link). l.turns) still ∙ t.host.turns-is) (c.in-Err-write_link-2.ensures.door ∙ c.in_default-write_link.ensures.door)
-    to_client to_host
-    (stop-recorded (MayRunOut (LinkFault Host) (g.C.Served.runs_out first) p) p k e client host c.clear.new.self w2 out out' c.args.self.now.waiting (record { stopped = part.ran_out; some = sym c.has_bytes.ensures ∙ c.if-not-has_bytes.false; to_client = to_client; to_host = to_host; told = t.told }) part.to_client part.to_host (sym c.has_bytes.ensures ∙ c.if-not-has_bytes.false) c.clear.ensures refl t.tape c.in_default.ensures.ok))
+    let client = sent-all _ _ _ _ _ _ _ _ t.client up.client c.as_slice-to_client.ensures (c.in-Err-write_link-2.ensures.other ∙ c.in_default-write_link.ensures.link) in
+    subst (λ (x : ServeEnd). Cut (MayRunOut x (g.C.Served.runs_out first) p) w2 (gathering begun told (g.T.Tape.contents c.record_event.new.tape) c.record_event.new.waiting) k (put p (event_of c.args.event) k)) (sym c.in-Err-write_link-2.ensures.fault)
+    (stop-written p k (event_of c.args.event) c.args.self.now.sent.to_client c.args.self.now.sent.to_host c.clear.new.self _ w2 _ (gathering begun told (g.T.Tape.contents c.record_event.new.tape) c.record_event.new.waiting) c.args.self.now.waiting part.ran_out part.to_client part.to_host (sym c.has_bytes.ensures ∙ c.if-not-has_bytes.false) c.clear.ensures refl c.in_default.ensures.ok t t.told
+    client.0 (ap (λ (l : Link). l.turns) c.in-Err-write_link-2.ensures.link.link ∙ ap (λ (l : Link). l.turns) still ∙ t.host.turns-is) (c.in-Err-write_link-2.ensures.door ∙ c.in_default-write_link.ensures.door)
+    client.1 (link-front _ _ _ _ _ _ _ _ (still-shows _ _ _ _ _ still t.host) up.host c.as_slice-to_host.ensures c.in-Err-write_link-2.ensures.link))
 
 pub returns-clause-course : goal.returns-clause-course
 returns-clause-course g c = λ first begun told k part up t.
     let p = g.C.Served.sends first in
-    let e = event_of c.args.event in
-    let kept = c.args.self.now.kept in
-    let client = c.args.self.now.sent.to_client in
-    let host = c.args.self.now.sent.to_host in
-    let links = g.D.Doors.link c.args.doors.now in
-    let links1 = g.D.Doors.link c.write_link.new.doors in
-    let links2 = g.D.Doors.link c.write_link-2.new.doors in
-    let w = outside links (g.D.Doors.door c.args.doors.now) in
-    let w2 = outside links2 (g.D.Doors.door c.write_link-2.new.doors) in
-    let out = gathering begun told (g.T.Tape.contents c.args.tape.now) c.args.self.now.waiting in
-    let out' = gathering begun told (g.T.Tape.contents c.record_event.new.tape) c.record_event.new.waiting in
-    let wrote = c.in_default-write_link-2.ensures.other ∙ c.in_default-write_link.ensures.link in
-    let still = c.in_default-write_link.ensures.other in
-    let shows = still-shows k.host_up k.host k.to_host (links Host) (links1 Host) still t.host in
-    let to_client = link-all k.client_up kept.client_up k.to_client client c.as_slice-to_client.result.now (links Client) (links2 Client) k.client t.client up.client c.as_slice-to_client.ensures wrote in
-    let to_host = link-all k.host_up kept.host_up k.to_host host c.as_slice-to_host.result.now (links1 Host) (links2 Host) k.host shows up.host c.as_slice-to_host.ensures c.in_default-write_link-2.ensures.link in
-    stop-cut p k e client host w w2 out out' part.to_client part.to_host t t.told
-    (turns-all k.client_up kept.client_up k.to_client client c.as_slice-to_client.result.now (links Client) (links2 Client) k.client t.client up.client c.as_slice-to_client.ensures wrote)
-    (turns-all k.host_up kept.host_up k.to_host host c.as_slice-to_host.result.now (links1 Host) (links2 Host) k.host shows up.host c.as_slice-to_host.ensures c.in_default-write_link-2.ensures.link)
-    (c.in_default-write_link-2.ensures.door ∙ c.in_default-write_link.ensures.door)
-    to_client to_host
-    (stop-recorded (MayRunOut Memory (g.C.Served.runs_out first) p) p k e client host c.clear.new.self w2 out out' c.args.self.now.waiting (record { stopped = part.ran_out; some = sym c.has_bytes.ensures ∙ c.if-not-has_bytes.false; to_client = to_client; to_host = to_host; told = t.told }) part.to_client part.to_host (sym c.has_bytes.ensures ∙ c.if-not-has_bytes.false) c.clear.ensures refl t.tape c.in_default.ensures.ok)
+    let client = sent-all _ _ _ _ _ _ _ _ t.client up.client c.as_slice-to_client.ensures (c.in_default-write_link-2.ensures.other ∙ c.in_default-write_link.ensures.link) in
+    let host = sent-all _ _ _ _ _ _ _ _ (still-shows _ _ _ _ _ c.in_default-write_link.ensures.other t.host) up.host c.as_slice-to_host.ensures c.in_default-write_link-2.ensures.link in
+    stop-written p k (event_of c.args.event) c.args.self.now.sent.to_client c.args.self.now.sent.to_host c.clear.new.self _ (outside (g.D.Doors.link c.write_link-2.new.doors) (g.D.Doors.door c.write_link-2.new.doors)) _ (gathering begun told (g.T.Tape.contents c.record_event.new.tape) c.record_event.new.waiting) c.args.self.now.waiting part.ran_out part.to_client part.to_host (sym c.has_bytes.ensures ∙ c.if-not-has_bytes.false) c.clear.ensures refl c.in_default.ensures.ok t t.told
+    client.0 host.0 (c.in_default-write_link-2.ensures.door ∙ c.in_default-write_link.ensures.door) client.1 host.1
 
 pub returns-then-not-has_bytes-clause-log : goal.returns-then-not-has_bytes-clause-log
 returns-then-not-has_bytes-clause-log g c = λ first terms events begun taped part s.
-    stop-none g.D.Doors.call_gives (g.C.Served.runs_out first) terms (g.C.Served.sends first) (event_of c.args.event) events c.args.self.now.kept c.args.self.now.sent.to_client c.args.self.now.sent.to_host begun c.args.doors.now
+    stop-none g.D.Doors.call_gives (g.C.Served.runs_out first) terms (g.C.Served.sends first) (event_of c.args.event) events c.args.self.now.rounds c.args.self.now.sent.to_client c.args.self.now.sent.to_host begun c.args.doors.now
     (sym c.has_bytes.ensures ∙ c.if-not-has_bytes.true) part s
 
 pub returns-in-Err-clause-log : goal.returns-in-Err-clause-log
 returns-in-Err-clause-log g c = λ first terms events begun taped part s.
-    stop-tape c.in-Err.end (g.T.Tape.counts c.args.tape.now) (g.T.Tape.counts c.record_event.new.tape) g.D.Doors.call_gives (g.C.Served.runs_out first) terms (g.C.Served.sends first) (event_of c.args.event) events c.args.self.now.kept (g.T.Tape.made c.args.tape.now) c.clear.new.self
+    stop-tape c.in-Err.end (g.T.Tape.counts c.args.tape.now) (g.T.Tape.counts c.record_event.new.tape) g.D.Doors.call_gives (g.C.Served.runs_out first) terms (g.C.Served.sends first) (event_of c.args.event) events c.args.self.now.rounds (g.T.Tape.made c.args.tape.now) c.clear.new.self
     begun c.args.doors.now c.in-Err.ensures.cause c.in-Err.ensures.wants c.clear.ensures taped s
 
 pub returns-in-Err-write_link-clause-log : goal.returns-in-Err-write_link-clause-log
@@ -121,7 +76,7 @@ returns-in-Err-write_link-clause-log g c = λ first terms events begun taped par
     let p = g.C.Served.sends first in
     let e = event_of c.args.event in
     subst (λ (x : ServeEnd). StopLogs x gives runs_out terms p e events begun c.write_link.new.doors) (sym c.in-Err-write_link.ensures.fault)
-    (stop-client gives runs_out terms p e events c.args.self.now.kept c.args.self.now.sent.to_client c.args.self.now.sent.to_host c.as_slice-to_client.result.now begun c.args.doors.now c.write_link.new.doors part s c.as_slice-to_client.ensures
+    (stop-client gives runs_out terms p e events c.args.self.now.rounds c.args.self.now.sent.to_client c.args.self.now.sent.to_host c.as_slice-to_client.result.now begun c.args.doors.now c.write_link.new.doors part s c.as_slice-to_client.ensures
     (c.in-Err-write_link.ensures.log begun s.calls s.called))
 
 pub returns-in-Err-write_link-2-clause-log : goal.returns-in-Err-write_link-2-clause-log
@@ -132,11 +87,11 @@ returns-in-Err-write_link-2-clause-log g c = λ first terms events begun taped p
     let e = event_of c.args.event in
     let w1 = c.in_default-write_link.ensures.log begun s.calls s.called in
     subst (λ (x : ServeEnd). StopLogs x gives runs_out terms p e events begun c.write_link-2.new.doors) (sym c.in-Err-write_link-2.ensures.fault)
-    (stop-host gives runs_out terms p e events c.args.self.now.kept c.args.self.now.sent.to_client c.args.self.now.sent.to_host c.as_slice-to_client.result.now c.as_slice-to_host.result.now begun c.args.doors.now c.write_link.new.doors c.write_link-2.new.doors part s
+    (stop-host gives runs_out terms p e events c.args.self.now.rounds c.args.self.now.sent.to_client c.args.self.now.sent.to_host c.as_slice-to_client.result.now c.as_slice-to_host.result.now begun c.args.doors.now c.write_link.new.doors c.write_link-2.new.doors part s
     c.as_slice-to_client.ensures c.as_slice-to_host.ensures w1 (c.in-Err-write_link-2.ensures.log begun w1.behind w1.called))
 
 pub returns-clause-log : goal.returns-clause-log
 returns-clause-log g c = λ first terms events begun taped part s.
     let w1 = c.in_default-write_link.ensures.log begun s.calls s.called in
-    stop-all g.D.Doors.call_gives (g.C.Served.runs_out first) terms (g.C.Served.sends first) (event_of c.args.event) events c.args.self.now.kept c.args.self.now.sent.to_client c.args.self.now.sent.to_host c.as_slice-to_client.result.now c.as_slice-to_host.result.now begun c.args.doors.now
+    stop-all g.D.Doors.call_gives (g.C.Served.runs_out first) terms (g.C.Served.sends first) (event_of c.args.event) events c.args.self.now.rounds c.args.self.now.sent.to_client c.args.self.now.sent.to_host c.as_slice-to_client.result.now c.as_slice-to_host.result.now begun c.args.doors.now
     c.write_link.new.doors c.write_link-2.new.doors part s c.as_slice-to_client.ensures c.as_slice-to_host.ensures w1 (c.in_default-write_link-2.ensures.log begun w1.behind w1.called)

@@ -1,4 +1,4 @@
-use Rattle.std.proofs.Common.{List, sym, subst}
+use Rattle.std.proofs.Common.{List, subst}
 use Rattle.std.specs.List.{find}
 use Rattle.redir_host.specs.declared.note.Performed.TheVariants.{Done}
 use Rattle.redir_host.specs.declared.request.Request.{Request}
@@ -7,19 +7,14 @@ use Rattle.redir_host.specs.device.Performing.{performs_marked, with_id}
 use Rattle.redir_host.specs.device.Resets.{PerformsNow}
 use Rattle.usb_base.specs.Firsts.{without_first}
 use Rattle.redir_host.specs.state.Queues.{is_at}
-use Rattle.redir_host.specs.state.Sound.{Each, IsRequest}
+use Rattle.redir_host.specs.state.Sound.{IsRequest}
 use Rattle.redir_host.proofs.lemmas.state.Each.{each_found}
-use Rattle.redir_host.proofs.lemmas.state.Sound.{each-without}
+use Rattle.redir_host.proofs.lemmas.state.Sound.{sound-without}
 use Rattle.redir_host.proofs.lemmas.step.Makes.{performs_now, some_same}
 use Rattle.redir_host.proofs.host.Host.perform_marked.Goals as goal
 
 pub perform_reset-requires-clause-sound : goal.perform_reset-requires-clause-sound
-perform_reset-requires-clause-sound g c =
-    let h = c.args.self.now in
-    record {
-      requests = subst (Each (IsRequest h.guest)) (sym c.remove_first-request.ensures.rest) (each-without (IsRequest h.guest) (is_at c.args.ep) h.queue c.requires.sound.requests);
-      streams = c.requires.sound.streams;
-    }
+perform_reset-requires-clause-sound g c = sound-without c.args.self.now c.args.ep _ _ c.requires.sound c.remove_first-request.ensures.rest
 
 pub perform_reset-requires-clause-request : goal.perform_reset-requires-clause-request
 perform_reset-requires-clause-request g c =

@@ -8,9 +8,9 @@ use Rattle.redir_host.specs.step.Makes.{Performs, Tells}
 use Rattle.redir_host.specs.device.Performing.{done_by, performs, with_id}
 use Rattle.usb_base.specs.Firsts.{without_first}
 use Rattle.redir_host.specs.state.Queues.{is_at}
-use Rattle.redir_host.specs.state.Sound.{Each, IsRequest}
+use Rattle.redir_host.specs.state.Sound.{IsRequest}
 use Rattle.redir_host.proofs.lemmas.state.Each.{each_found}
-use Rattle.redir_host.proofs.lemmas.state.Sound.{each-without}
+use Rattle.redir_host.proofs.lemmas.state.Sound.{sound-without}
 use Rattle.redir_host.proofs.lemmas.step.Makes.{lent_is, outcome_is, performed_is, performs_done, performs_none, not_ready, some_same}
 use Rattle.redir_host.proofs.host.Host.perform_unmarked.Goals as goal
 
@@ -20,12 +20,7 @@ perform-requires g c =
     (each_found (IsRequest h.guest) (is_at c.args.ep) h.queue c.unwrap.result.now c.requires.sound.requests (sym c.first.ensures ∙ ap option_copied c.unwrap.ensures)).0.transfer
 
 pub finish-requires-clause-sound : goal.finish-requires-clause-sound
-finish-requires-clause-sound g c =
-    let h = c.args.self.now in
-    record {
-      requests = subst (Each (IsRequest h.guest)) (sym c.remove_first-request.ensures.rest) (each-without (IsRequest h.guest) (is_at c.args.ep) h.queue c.requires.sound.requests);
-      streams = c.requires.sound.streams;
-    }
+finish-requires-clause-sound g c = sound-without c.args.self.now c.args.ep _ _ c.requires.sound c.remove_first-request.ensures.rest
 
 pub finish-requires-clause-request : goal.finish-requires-clause-request
 finish-requires-clause-request g c =
