@@ -1,8 +1,8 @@
 -- What a packet of any type awaits is what the one of both formats awaits.
 use Rattle.std.proofs.Common.{◌≡◌, ℕ, ◌+◌, ◌<◌, ◌≤◌, ◌==◌, inl, inr, Bool, true, false, cond, List, ◌++◌, length, None, refl, sym, ap, ◌∙◌, arith}
-use Rattle.std.specs.Prelude.{nat_lt, not, ◌||◌}
+use Rattle.std.specs.Prelude.{nat_lt, not}
 use Rattle.std.specs.Int.{w32}
-use Rattle.std.proofs.lemmas.Bool.{eqb-true, le-ltb, lt-ltb}
+use Rattle.std.proofs.lemmas.Bool.{eqb-true, le-ltb, lt-ltb, not_from_false, or_left}
 use Rattle.usb_base.specs.Number.{le_at, byte_at}
 use Rattle.usb_base.specs.declared.reason.Reason.{Reason}
 use Rattle.usb_base.proofs.Numbers.{le_at-append_32}
@@ -35,16 +35,12 @@ use Rattle.redir_data.specs.sound.Checks.{is_numbered, least_length}
 
 -- ---- the packets that move data
 
-number_by : (t u : Bool) → t ≡ false → (not t || u) ≡ true
-number_by true u e = absurd cc
-number_by false u e = refl
-
 its_fields : (caps : Caps) (k : DataKind) (kind length : ℕ) → (kind == (data_row k).number) ≡ true → is_its_length caps kind length ≡ true → fixed caps k ≤ length
 its_fields caps k kind length is its =
     least_length caps (record { kind = kind; length = length; id = 0 }) k (ap data_numbered (eqb-true kind (data_row k).number is) ∙ data_again k) its
 
 idle_of : (caps : Caps) (way : Way) (k : DataKind) (h : Header) (b : List ℕ) → (h.kind == (data_row k).number) ≡ false → (data_check caps way k).passes h b ≡ true
-idle_of caps way k h b untried = number_by (h.kind == (data_row k).number) (h.length == fixed caps k + data_count way (byte_at 0 b) (told_length caps k b)) untried
+idle_of caps way k h b untried = or_left (not (h.kind == (data_row k).number)) (h.length == fixed caps k + data_count way (byte_at 0 b) (told_length caps k b)) (not_from_false (h.kind == (data_row k).number) untried)
 
 transfers_own : (caps : Caps) (way : Way) → AreOwn caps (transfers caps way).checks
 transfers_own caps way = (

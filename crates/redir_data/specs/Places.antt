@@ -1,5 +1,5 @@
 -- The fields of a packet that moves data, at their places behind its header, and its data.
-use Rattle.std.specs.Prelude.{ℕ, ◌+◌, ◌-◌, ◌*◌, Bool, true, false, List, []}
+use Rattle.std.specs.Prelude.{ℕ, ◌+◌, ◌-◌, ◌*◌, Bool, if◌then◌else◌, List, []}
 use Rattle.std.specs.Int.{w16, w32}
 use Rattle.std.specs.Option.{option_map_or}
 use Rattle.usb_base.specs.Number.{le_at, byte_at, part}
@@ -19,20 +19,16 @@ fixed caps kind = fixed_length caps (data_row kind)
 -- the place of the length field, of its lower 16 bits
 abbrev pub length_place : DataKind → ℕ
 length_place kinds.Control = 8
-length_place kinds.Bulk = 2
-length_place kinds.Iso = 2
-length_place kinds.Interrupt = 2
+length_place _ = 2
 
 abbrev pub bulk_length : Bool → List ℕ → ℕ
-bulk_length true b = le_at w16 2 b + 65536 * le_at w16 8 b
-bulk_length false b = le_at w16 2 b
+bulk_length wide b = if wide then le_at w16 2 b + 65536 * le_at w16 8 b else le_at w16 2 b
 
 -- the length that a packet tells
 abbrev pub told_length : Caps → DataKind → List ℕ → ℕ
 told_length caps kinds.Control b = le_at w16 8 b
 told_length caps kinds.Bulk b = bulk_length (has caps 6) b
-told_length caps kinds.Iso b = le_at w16 2 b
-told_length caps kinds.Interrupt b = le_at w16 2 b
+told_length caps _ b = le_at w16 2 b
 
 -- the fields with this length, and these data
 abbrev pub fields_with : DataKind → List ℕ → ℕ → List ℕ → RedirData

@@ -1,8 +1,8 @@
 -- What lets a reader wait for bytes: no later byte makes a packet shorter, and no check that isn't tried fails.
 use Rattle.std.proofs.Common.{◌≡◌, ℕ, ◌+◌, ◌<◌, ◌≤◌, ◌==◌, inl, inr, Bool, true, false, cond, List, [], ◌∷◌, ◌++◌, length, drop, None, refl, sym, ap, ◌∙◌, arith}
-use Rattle.std.specs.Prelude.{nat_le, nat_lt, not, ◌||◌}
+use Rattle.std.specs.Prelude.{nat_le, nat_lt, not}
 use Rattle.std.specs.Int.{w32}
-use Rattle.std.proofs.lemmas.Bool.{cases_lt, le-ltb, eqb-true}
+use Rattle.std.proofs.lemmas.Bool.{cases_lt, le-ltb, eqb-true, not_from_false, or_left}
 use Rattle.std.proofs.lemmas.List.{length-append}
 use Rattle.usb_base.specs.Number.{le_at}
 use Rattle.usb_base.proofs.Numbers.{le_at-append_32}
@@ -152,10 +152,6 @@ packets_patient f first caps way steady own = record {
 
 -- ---- the packets that move no data
 
-number_by : (t u : Bool) → t ≡ false → (not t || u) ≡ true
-number_by true u e = absurd cc
-number_by false u e = refl
-
 count_there : (caps : Caps) (kind length : ℕ) → (kind == 4) ≡ true → is_its_length caps kind length ≡ true → 4 ≤ length
 count_there caps kind length is its =
     let same : is_its_length caps 4 length ≡ true = sym (ap (λ (n : ℕ). is_its_length caps n length) (eqb-true kind 4 is)) ∙ its in
@@ -163,7 +159,7 @@ count_there caps kind length is its =
     omega (arith, eqb-true length 132 told)
 
 pub controls_own : (caps : Caps) → AreOwn caps (controls caps).checks
-controls_own caps = (λ h b untried. number_by (h.kind == 4) (nat_le (le_at w32 0 b) 32) untried, count_there caps, tt)
+controls_own caps = (λ h b untried. or_left (not (h.kind == 4)) (nat_le (le_at w32 0 b) 32) (not_from_false (h.kind == 4) untried), count_there caps, tt)
 
 pub plain_patient : (first : Bool) (caps : Caps) (way : Way) → IsPatient (plain first caps way)
 plain_patient first caps way = packets_patient (controls caps) first caps way (plain_bodies first caps way).steady (controls_own caps)

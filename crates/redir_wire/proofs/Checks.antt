@@ -1,8 +1,8 @@
 -- Checks that pass, that are no matter, and that fail before others.
-use Rattle.std.proofs.Common.{◌≡◌, ℕ, ◌<◌, ◌≤◌, Bool, true, false, cond, List, [], ◌∷◌, ◌++◌, length, Option, Some, None, refl, ◌∙◌}
-use Rattle.std.specs.Prelude.{nat_le, nat_lt, not, ◌&&◌}
-use Rattle.std.proofs.lemmas.Bool.{leb-true, ltb-true}
-use Rattle.packet_stream.specs.Format.{Check, wrong_at, Format, Found, Whole, Short, reading_by, reading}
+use Rattle.std.proofs.Common.{◌≡◌, ℕ, ◌≤◌, Bool, true, false, cond, List, [], ◌∷◌, ◌++◌, length, Option, Some, None, refl, ◌∙◌}
+use Rattle.std.specs.Prelude.{nat_le, not, ◌&&◌}
+use Rattle.std.proofs.lemmas.Bool.{leb-true}
+use Rattle.packet_stream.specs.Format.{Check, wrong_at}
 use Rattle.packet_stream.proofs.Formats.{none_first, none_later, none_from}
 
 -- each of them passes once its bytes are there
@@ -34,16 +34,3 @@ fails false x w now then h e = h e
 pub wrong_front : {R : Type 0} (cs ds : List (Check R)) (b : List ℕ) (w : ℕ × R) → wrong_at cs b ≡ Some w → wrong_at (cs ++ ds) b ≡ Some w
 wrong_front [] ds b w e = absurd cc
 wrong_front (c ∷ cs) ds b w e = fails (nat_le c.needed (length b) && not (c.passes b)) (c.place, c.reason) w (wrong_at cs b) (wrong_at (cs ++ ds) b) (wrong_front cs ds b w) e
-
--- ---- what reading tells where less than a packet is there
-
-short_by_length : {P R : Type 0} (f : Format P R) (b : List ℕ) (t : Bool) → nat_lt (length b) (f.size b) ≡ t → ◌≡◌ {A = Found P R} (cond t Short (Whole (f.packet b) (f.size b))) Short → length b < f.size b
-short_by_length f b true less e = ltb-true (length b) (f.size b) less
-short_by_length f b false less e = absurd cc
-
-short_by : {P R : Type 0} (f : Format P R) (b : List ℕ) (w : Option (ℕ × R)) → reading_by f b w ≡ Short → (w ≡ None) × (length b < f.size b)
-short_by f b None e = (refl, short_by_length f b (nat_lt (length b) (f.size b)) refl e)
-short_by f b (Some w) e = absurd cc
-
-pub short_parts : {P R : Type 0} (f : Format P R) (b : List ℕ) → reading f b ≡ Short → (wrong_at f.checks b ≡ None) × (length b < f.size b)
-short_parts f b e = short_by f b (wrong_at f.checks b) e

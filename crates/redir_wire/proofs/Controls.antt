@@ -23,7 +23,7 @@ use Rattle.redir_wire.specs.Words.{words, words_of, halves, halves_of}
 use Rattle.redir_wire.specs.Field.{wire_bytes, if_sent}
 use Rattle.redir_wire.specs.Spelling.{kind_of, number_of, connect_fields, interface_fields, endpoint_fields, fields}
 use Rattle.redir_wire.specs.Ranges.{IsSent, IsWritable, Ranges, HelloRanges, ConnectRanges, InterfaceRanges, EpRanges, IsControl}
-use Rattle.redir_wire.specs.Places.{hello_at, version_at, connect_at, interface_info_at, max_packet_at, ep_info_at, word_count, fields_at}
+use Rattle.redir_wire.specs.Places.{hello_at, connect_at, interface_info_at, max_packet_at, ep_info_at, word_count, fields_at}
 use Rattle.redir_wire.proofs.Lengths.{length_fields}
 use Rattle.redir_wire.proofs.Words.{zeros_fit, length-words_of, words_spelled, words_ranges, words_again, length-halves_of, halves_spelled, halves_ranges, halves_again}
 
@@ -43,7 +43,7 @@ bytes_there zero b there = refl
 bytes_there (suc n) [] there = absurd (omega arith)
 bytes_there (suc n) (x ∷ b) there = ap (λ (l : List ℕ). x ∷ l) (one_less n 0 x b ∙ bytes_there n b (omega arith))
 
-version_range : (sent : Bool) (b : List ℕ) → AreBytes b → (version_at sent b < 2 ^ 16) × IsSent sent 0 (version_at sent b)
+version_range : (sent : Bool) (b : List ℕ) → AreBytes b → (cond sent (le_at w16 8 b) 0 < 2 ^ 16) × IsSent sent 0 (cond sent (le_at w16 8 b) 0)
 version_range true b are = (le_at-below_16 8 b are, tt)
 version_range false b are = (omega arith, refl)
 
@@ -178,7 +178,7 @@ hello_again x more n r e =
     let found = (λ i. words_of ((ap word_count e ∙ count_of_length (length x.words)) i) (behind i)) ∙ words_again x.words more r.words in
     λ i. record { version = version i; words = found i }
 
-version_again : (sent : Bool) (c : Connect) (more : List ℕ) → c.version < 2 ^ 16 → IsSent sent 0 c.version → version_at sent (wire_bytes (connect_fields sent c) ++ more) ≡ c.version
+version_again : (sent : Bool) (c : Connect) (more : List ℕ) → c.version < 2 ^ 16 → IsSent sent 0 c.version → cond sent (le_at w16 8 (wire_bytes (connect_fields sent c) ++ more)) 0 ≡ c.version
 unfolding le le_at
 version_again true c more fits is = from_le_bytes-to_le_bytes_2 c.version fits
 version_again false c more fits is = sym is

@@ -1,7 +1,7 @@
 -- The types of packets and their numbers.
 use Rattle.std.proofs.Common.{◌≡◌, ℕ, ◌<◌, ◌^◌, Bool, true, false, cond, List, [], ◌∷◌, Option, Some, None, refl, sym, ap, ◌∙◌, arith}
 use Rattle.std.specs.Prelude.{find, not, ◌&&◌, ◌||◌, ◌==◌, is_some}
-use Rattle.std.proofs.lemmas.Bool.{eqb-true}
+use Rattle.std.proofs.lemmas.Bool.{and_from, eqb-true, not_from_false}
 use Rattle.redir_wire.specs.declared.packet.Caps.{Caps}
 use Rattle.redir_wire.specs.declared.kind.PlainKind.{PlainKind}
 use Rattle.redir_wire.specs.declared.kind.PlainKind.TheVariants as plain
@@ -76,9 +76,5 @@ number_fits (Plain k) = omega arith
 number_fits (Carrying moving.Control) = omega arith
 number_fits (Carrying k) = omega arith
 
-and_true : (t u : Bool) → t ≡ false → u ≡ true → (not t && u) ≡ true
-and_true true u e f = absurd cc
-and_true false u e f = f
-
 pub agreed_by : (caps : Caps) (k : Kind) (test : TypeRow → Bool) → test (row_of k) ≡ true → (not (is_left_out (row_of k).number) && row_says test (row_of k).number) ≡ true
-agreed_by caps k test e = and_true (is_left_out (row_of k).number) (row_says test (row_of k).number) (not_left_out k) (says test k ∙ e)
+agreed_by caps k test e = and_from (not (is_left_out (row_of k).number)) (row_says test (row_of k).number) (not_from_false (is_left_out (row_of k).number) (not_left_out k)) (says test k ∙ e)

@@ -9,6 +9,7 @@ use Rattle.std.proofs.lemmas.List.{length-append, append-nil}
 use Rattle.usb_base.specs.Number.{le_at}
 use Rattle.usb_base.specs.declared.reason.Reason.{Reason}
 use Rattle.packet_stream.specs.Format.{Check, wrong_at, Found, Whole, Short, Wrong, reading_by, reading}
+use Rattle.packet_stream.proofs.Awaiting.{short_parts}
 use Rattle.packet_stream.proofs.Formats.{none_before, wrong_parts, wrong_reading}
 use Rattle.redir_wire.specs.declared.packet.Caps.{Caps}
 use Rattle.redir_wire.specs.declared.packet.Way.{Way}
@@ -16,7 +17,7 @@ use Rattle.redir_wire.specs.declared.packet.Header.{Header}
 use Rattle.redir_wire.specs.Header.{is_wide, head_size, head_bytes, header_at, head_checks, IsHeader, headers}
 use Rattle.redir_wire.specs.Bodies.{Bodies, with_header, behind, behind_head, own_check, size, packets}
 use Rattle.redir_wire.specs.Past.{found_past}
-use Rattle.redir_wire.proofs.Checks.{passed, skip, wrong_front, short_parts}
+use Rattle.redir_wire.proofs.Checks.{passed, skip, wrong_front}
 use Rattle.redir_wire.proofs.Heads.{passes, limit_below}
 use Rattle.redir_wire.proofs.Headers.{size_least, length_head, kind_there, header_there, behind_there}
 use Rattle.redir_wire.proofs.Packets.{AreSteadyBehind, headed, past_head, wrong_behind, behind_steady}

@@ -1,5 +1,5 @@
 -- Capabilities: which are there, which are agreed, and which the first word of a hello tells ("Capabilities negotiation").
-use Rattle.std.specs.Prelude.{◌≡◌, ◌<◌, ℕ, ◌==◌, ◌&&◌, Bool, List, [], ◌∷◌}
+use Rattle.std.specs.Prelude.{◌≡◌, ◌<◌, ℕ, ◌==◌, ◌&&◌, Bool, get_or}
 use Rattle.std.specs.Int.{bit_at}
 use Rattle.std.specs.Int.Bits.{bit_and}
 use Rattle.redir_wire.specs.declared.packet.Caps.{Caps}
@@ -19,12 +19,9 @@ HasBoth a b both = (bit : ℕ) → bit < 32 → has both bit ≡ (has a bit && h
 abbrev pub no_caps : Caps
 no_caps = record { bits = 0 }
 
-abbrev pub first_word : List ℕ → ℕ
-first_word [] = 0
-first_word (word ∷ words) = word
-
+-- those of the first word; a hello may have none
 abbrev pub caps_of : Hello → Caps
-caps_of h = record { bits = first_word h.words }
+caps_of h = record { bits = get_or h.words 0 0 }
 
 -- what the gateway announces: the version of a device_connect (1), the acknowledgement of a disconnect (3), max packet sizes (4),
 -- 64-bit ids (5) and 32-bit bulk lengths (6)

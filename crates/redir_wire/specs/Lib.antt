@@ -1,5 +1,6 @@
 pub mod Capability
 pub mod Table
+pub mod Bits
 pub mod Words
 pub mod Field
 pub mod Header

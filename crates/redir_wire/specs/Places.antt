@@ -1,5 +1,5 @@
 -- The fields of a packet that moves no data, at their places behind its header.
-use Rattle.std.specs.Prelude.{ℕ, ◌-◌, ◌/◌, Bool, true, false, List, drop, replicate}
+use Rattle.std.specs.Prelude.{ℕ, ◌-◌, ◌/◌, Bool, if◌then◌else◌, List, drop, replicate}
 use Rattle.std.specs.Int.{w16, w32}
 use Rattle.std.specs.Option.{option_map_or}
 use Rattle.usb_base.specs.Number.{le_at, byte_at, part}
@@ -21,28 +21,22 @@ abbrev pub hello_at : ℕ → List ℕ → Hello
 hello_at count b = record { version = part 0 64 b; words = words_of count (drop 64 b) }
 
 -- a field that isn't sent is 0
-abbrev pub version_at : Bool → List ℕ → ℕ
-version_at true b = le_at w16 8 b
-version_at false b = 0
-
 abbrev pub connect_at : Bool → List ℕ → Connect
-connect_at sent b =
-    record {
-      speed = byte_at 0 b;
-      class = byte_at 1 b;
-      subclass = byte_at 2 b;
-      protocol = byte_at 3 b;
-      vendor = le_at w16 4 b;
-      product = le_at w16 6 b;
-      version = version_at sent b;
-    }
+connect_at sent b = record {
+  speed = byte_at 0 b;
+  class = byte_at 1 b;
+  subclass = byte_at 2 b;
+  protocol = byte_at 3 b;
+  vendor = le_at w16 4 b;
+  product = le_at w16 6 b;
+  version = if sent then le_at w16 8 b else 0;
+}
 
 abbrev pub interface_info_at : List ℕ → InterfaceInfo
 interface_info_at b = record { count = le_at w32 0 b; interface = part 4 32 b; class = part 36 32 b; subclass = part 68 32 b; protocol = part 100 32 b }
 
 abbrev pub max_packet_at : Bool → List ℕ → List ℕ
-max_packet_at true b = halves_of 32 (drop 96 b)
-max_packet_at false b = replicate 32 0
+max_packet_at sent b = if sent then halves_of 32 (drop 96 b) else replicate 32 0
 
 abbrev pub ep_info_at : Bool → List ℕ → EpInfo
 ep_info_at sent b = record { kinds = part 0 32 b; interval = part 32 32 b; interface = part 64 32 b; max_packet = max_packet_at sent b }

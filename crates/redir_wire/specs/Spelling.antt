@@ -1,5 +1,5 @@
 -- The fields of a packet that moves no data, in wire order ("Control packets").
-use Rattle.std.specs.Prelude.{ℕ, ◌+◌, ◌*◌, ◌==◌, Bool, List, [], ◌∷◌, length}
+use Rattle.std.specs.Prelude.{ℕ, ◌+◌, ◌*◌, ◌==◌, Bool, false, List, [], ◌∷◌, length}
 use Rattle.redir_wire.specs.declared.packet.Caps.{Caps}
 use Rattle.redir_wire.specs.declared.packet.Connect.{Connect}
 use Rattle.redir_wire.specs.declared.packet.InterfaceInfo.{InterfaceInfo}
@@ -12,28 +12,6 @@ use Rattle.redir_wire.specs.declared.kind.PlainKind.TheVariants as plain
 use Rattle.redir_wire.specs.Table.{plain_row, has_more, fixed_length}
 use Rattle.redir_wire.specs.Field.{Field, Bytes, Shorts, Longs, ByteTable, ShortTable, wire_bytes, if_sent}
 
-abbrev pub kind_of : RedirControl → PlainKind
-kind_of (controls.Hello h) = plain.Hello
-kind_of (controls.Connect c) = plain.Connect
-kind_of controls.Disconnect = plain.Disconnect
-kind_of controls.Reset = plain.Reset
-kind_of (controls.InterfaceInfo i) = plain.InterfaceInfo
-kind_of (controls.EpInfo e) = plain.EpInfo
-kind_of (controls.SetConfiguration configuration) = plain.SetConfiguration
-kind_of controls.GetConfiguration = plain.GetConfiguration
-kind_of (controls.ConfigurationStatus status configuration) = plain.ConfigurationStatus
-kind_of (controls.SetAlt interface alt) = plain.SetAlt
-kind_of (controls.GetAlt interface) = plain.GetAlt
-kind_of (controls.AltStatus status interface alt) = plain.AltStatus
-kind_of (controls.StartIso endpoint pkts_per_urb no_urbs) = plain.StartIso
-kind_of (controls.StopIso endpoint) = plain.StopIso
-kind_of (controls.IsoStatus status endpoint) = plain.IsoStatus
-kind_of (controls.StartInterrupt endpoint) = plain.StartInterrupt
-kind_of (controls.StopInterrupt endpoint) = plain.StopInterrupt
-kind_of (controls.InterruptStatus status endpoint) = plain.InterruptStatus
-kind_of controls.Cancel = plain.Cancel
-kind_of controls.DisconnectAck = plain.DisconnectAck
-
 abbrev pub connect_fields : Bool → Connect → List Field
 connect_fields more c = Bytes (c.speed ∷ c.class ∷ c.subclass ∷ c.protocol ∷ []) ∷ Shorts (c.vendor ∷ c.product ∷ []) ∷ if_sent more (Shorts (c.version ∷ []) ∷ [])
 
@@ -43,28 +21,34 @@ interface_fields i = Longs (i.count ∷ []) ∷ ByteTable i.interface ∷ ByteTa
 abbrev pub endpoint_fields : Bool → EpInfo → List Field
 endpoint_fields more e = ByteTable e.kinds ∷ ByteTable e.interval ∷ ByteTable e.interface ∷ ShortTable (if_sent more e.max_packet) ∷ []
 
--- what it has behind its header; `more` says that the fields are there that go with a capability
+-- its type, and what it has behind its header; `more` says that the fields are there that go with a capability
+abbrev pub form_of : Bool → RedirControl → PlainKind × List Field
+form_of more (controls.Hello h) = (plain.Hello, ByteTable h.version ∷ Longs h.words ∷ [])
+form_of more (controls.Connect c) = (plain.Connect, connect_fields more c)
+form_of more controls.Disconnect = (plain.Disconnect, [])
+form_of more controls.Reset = (plain.Reset, [])
+form_of more (controls.InterfaceInfo i) = (plain.InterfaceInfo, interface_fields i)
+form_of more (controls.EpInfo e) = (plain.EpInfo, endpoint_fields more e)
+form_of more (controls.SetConfiguration configuration) = (plain.SetConfiguration, Bytes (configuration ∷ []) ∷ [])
+form_of more controls.GetConfiguration = (plain.GetConfiguration, [])
+form_of more (controls.ConfigurationStatus status configuration) = (plain.ConfigurationStatus, Bytes (status ∷ configuration ∷ []) ∷ [])
+form_of more (controls.SetAlt interface alt) = (plain.SetAlt, Bytes (interface ∷ alt ∷ []) ∷ [])
+form_of more (controls.GetAlt interface) = (plain.GetAlt, Bytes (interface ∷ []) ∷ [])
+form_of more (controls.AltStatus status interface alt) = (plain.AltStatus, Bytes (status ∷ interface ∷ alt ∷ []) ∷ [])
+form_of more (controls.StartIso endpoint pkts_per_urb no_urbs) = (plain.StartIso, Bytes (endpoint ∷ pkts_per_urb ∷ no_urbs ∷ []) ∷ [])
+form_of more (controls.StopIso endpoint) = (plain.StopIso, Bytes (endpoint ∷ []) ∷ [])
+form_of more (controls.IsoStatus status endpoint) = (plain.IsoStatus, Bytes (status ∷ endpoint ∷ []) ∷ [])
+form_of more (controls.StartInterrupt endpoint) = (plain.StartInterrupt, Bytes (endpoint ∷ []) ∷ [])
+form_of more (controls.StopInterrupt endpoint) = (plain.StopInterrupt, Bytes (endpoint ∷ []) ∷ [])
+form_of more (controls.InterruptStatus status endpoint) = (plain.InterruptStatus, Bytes (status ∷ endpoint ∷ []) ∷ [])
+form_of more controls.Cancel = (plain.Cancel, [])
+form_of more controls.DisconnectAck = (plain.DisconnectAck, [])
+
+abbrev pub kind_of : RedirControl → PlainKind
+kind_of p = (form_of false p).0
+
 abbrev pub fields_of : Bool → RedirControl → List Field
-fields_of more (controls.Hello h) = ByteTable h.version ∷ Longs h.words ∷ []
-fields_of more (controls.Connect c) = connect_fields more c
-fields_of more controls.Disconnect = []
-fields_of more controls.Reset = []
-fields_of more (controls.InterfaceInfo i) = interface_fields i
-fields_of more (controls.EpInfo e) = endpoint_fields more e
-fields_of more (controls.SetConfiguration configuration) = Bytes (configuration ∷ []) ∷ []
-fields_of more controls.GetConfiguration = []
-fields_of more (controls.ConfigurationStatus status configuration) = Bytes (status ∷ configuration ∷ []) ∷ []
-fields_of more (controls.SetAlt interface alt) = Bytes (interface ∷ alt ∷ []) ∷ []
-fields_of more (controls.GetAlt interface) = Bytes (interface ∷ []) ∷ []
-fields_of more (controls.AltStatus status interface alt) = Bytes (status ∷ interface ∷ alt ∷ []) ∷ []
-fields_of more (controls.StartIso endpoint pkts_per_urb no_urbs) = Bytes (endpoint ∷ pkts_per_urb ∷ no_urbs ∷ []) ∷ []
-fields_of more (controls.StopIso endpoint) = Bytes (endpoint ∷ []) ∷ []
-fields_of more (controls.IsoStatus status endpoint) = Bytes (status ∷ endpoint ∷ []) ∷ []
-fields_of more (controls.StartInterrupt endpoint) = Bytes (endpoint ∷ []) ∷ []
-fields_of more (controls.StopInterrupt endpoint) = Bytes (endpoint ∷ []) ∷ []
-fields_of more (controls.InterruptStatus status endpoint) = Bytes (status ∷ endpoint ∷ []) ∷ []
-fields_of more controls.Cancel = []
-fields_of more controls.DisconnectAck = []
+fields_of more p = (form_of more p).1
 
 -- the bytes behind its header with these capabilities
 abbrev pub fields : Caps → RedirControl → List ℕ

@@ -1,6 +1,6 @@
 -- The table of packets: each type's number, the way that it goes, the capability that it wants, and its length ("Packet types").
-use Rattle.std.specs.Prelude.{ℕ, ◌+◌, ◌-◌, ◌%◌, Bool, true, false, ◌==◌, ◌&&◌, ◌||◌, nat_le, nat_lt, List, [], ◌∷◌, Option, Some, None, find, ◌<◌, IfSome, if◌then◌else◌, codes}
-use Rattle.std.specs.Option.{option_map_or}
+use Rattle.std.specs.Prelude.{ℕ, ◌+◌, ◌-◌, ◌%◌, Bool, true, false, ◌==◌, ◌&&◌, ◌||◌, nat_le, nat_lt, List, [], ◌∷◌, Option, Some, None, find, if◌then◌else◌, codes}
+use Rattle.std.specs.Option.{option_map, option_map_or, option_or}
 use Rattle.redir_wire.specs.declared.packet.Caps.{Caps}
 use Rattle.redir_wire.specs.declared.packet.Way.{Way}
 use Rattle.redir_wire.specs.declared.packet.Way.TheVariants.{ToGuest, ToHost}
@@ -85,13 +85,8 @@ plain_numbered number = find (λ k. (plain_row k).number == number) plain_kinds
 unfoldable pub data_numbered : ℕ → Option DataKind
 data_numbered number = find (λ k. (data_row k).number == number) data_kinds
 
-abbrev pub or_carrying : Option PlainKind → Option DataKind → Option Kind
-or_carrying (Some k) d = Some (Plain k)
-or_carrying None (Some d) = Some (Carrying d)
-or_carrying None None = None
-
 abbrev pub kind_numbered : ℕ → Option Kind
-kind_numbered number = or_carrying (plain_numbered number) (data_numbered number)
+kind_numbered number = option_or (option_map Plain (plain_numbered number)) (option_map Carrying (data_numbered number))
 
 -- the types of the protocol that the gateway never agrees to: bulk streams, filters, buffered bulk
 abbrev pub is_left_out : ℕ → Bool
@@ -102,9 +97,8 @@ is_left_out number =
 
 abbrev pub is_way : Way → Way → Bool
 is_way ToGuest ToGuest = true
-is_way ToGuest ToHost = false
-is_way ToHost ToGuest = false
 is_way ToHost ToHost = true
+is_way _ _ = false
 
 abbrev pub goes : Way → TypeRow → Bool
 goes way r = option_map_or (is_way way) r.way true
@@ -135,9 +129,3 @@ is_tail Data fixed length = nat_le fixed length
 
 abbrev pub has_length : Caps → TypeRow → ℕ → Bool
 has_length caps r length = is_tail r.tail (fixed_length caps r) length
-
--- the capabilities of a row are bits, and its lengths small
-pub record AreBits (r : TypeRow) : Type 0 where
-  pub wanted : IfSome r.wanted (λ bit. bit < 32)
-  pub more : IfSome r.more (λ m. (m.capability < 32) × (m.bytes < 100))
-  pub fixed : r.fixed < 200

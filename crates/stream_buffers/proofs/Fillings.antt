@@ -1,7 +1,7 @@
 -- The packets that were seen, and the next one.
-use Rattle.std.proofs.Common.{◌≡◌, ℕ, ◌+◌, ◌<◌, ◌≤◌, ◌||◌, nat_le, Bool, true, false, List, [], ◌∷◌, ◌++◌, length, take, drop, get_or, None, refl, sym, ap, ◌∙◌, arith, below_more}
+use Rattle.std.proofs.Common.{◌≡◌, ℕ, ◌+◌, ◌<◌, ◌≤◌, ◌||◌, nat_le, Bool, false, List, [], ◌∷◌, ◌++◌, length, take, drop, get_or, None, sym, ap, ◌∙◌, arith, below_more}
 use Rattle.std.proofs.lemmas.List.{take_more, take-take, take-append-drop, append-nil, length-append, get_or_default}
-use Rattle.std.proofs.lemmas.Bool.{leb-false, lt-leb}
+use Rattle.std.proofs.lemmas.Bool.{leb-false, lt-leb, or_parts}
 use Rattle.std.proofs.lemmas.Grind.{flat_map-append}
 use Rattle.usb_base.specs.declared.status.UsbStatus.TheVariants.{Success}
 use Rattle.usb_base.specs.declared.transfer.StreamPacket.{StreamPacket}
@@ -51,15 +51,11 @@ looked max_packet wanted packets k bytes sum p test within is seen came tested =
 
 -- ---- whoever is looked at and doesn't fill it
 
-or_neither : (a b : Bool) → (a || b) ≡ false → (a ≡ false) × (b ≡ false)
-or_neither false b e = (refl, e)
-or_neither true b e = absurd (cc)
-
 pub go_on : (max_packet wanted bytes : ℕ) (p : StreamPacket) → (ends max_packet p || nat_le wanted bytes) ≡ false → ends max_packet p ≡ false
-go_on max_packet wanted bytes p fails = (or_neither (ends max_packet p) (nat_le wanted bytes) fails).0
+go_on max_packet wanted bytes p fails = (or_parts (ends max_packet p) (nat_le wanted bytes) fails).0
 
 pub too_few : (max_packet wanted bytes : ℕ) (p : StreamPacket) → (ends max_packet p || nat_le wanted bytes) ≡ false → bytes < wanted
-too_few max_packet wanted bytes p fails = leb-false wanted bytes (or_neither (ends max_packet p) (nat_le wanted bytes) fails).1
+too_few max_packet wanted bytes p fails = leb-false wanted bytes (or_parts (ends max_packet p) (nat_le wanted bytes) fails).1
 
 shorter : (n : ℕ) (packets : List StreamPacket) → length (bodies (take n packets)) ≤ length (bodies packets)
 shorter n packets =

@@ -23,14 +23,12 @@ filled d p = record d { actual = length (piece d p); status = errno_of (piece_st
 
 -- joined without gaps, whatever the offsets
 abbrev pub pieces : List IsoDesc → List StreamPacket → List ℕ
-pieces [] ps = []
-pieces (d ∷ ds) [] = []
 pieces (d ∷ ds) (p ∷ ps) = piece d p ++ pieces ds ps
+pieces _ _ = []
 
 abbrev pub all_filled : List IsoDesc → List StreamPacket → List IsoDesc
-all_filled [] ps = []
-all_filled (d ∷ ds) [] = []
 all_filled (d ∷ ds) (p ∷ ps) = filled d p ∷ all_filled ds ps
+all_filled _ _ = []
 
 abbrev pub iso_outcome : List IsoDesc → List StreamPacket → IsoOutcome
 iso_outcome descs packets = record { body = pieces descs packets; descs = all_filled descs packets }

@@ -3,7 +3,7 @@ use Rattle.std.specs.Prelude.{Bool, true, false, List, [], ◌∷◌}
 use Rattle.packet_stream.specs.Format.{Format}
 use Rattle.usb_base.specs.declared.reason.Reason.{Reason}
 use Rattle.usbip_op.specs.declared.packet.OpPacket.{OpPacket}
-use Rattle.usbip_op.specs.declared.packet.OpPacket.TheVariants.{ReqDevlist, ReqImport, RepDevlist, RepImport}
+use Rattle.usbip_op.specs.declared.packet.OpPacket.TheVariants.{RepDevlist}
 use Rattle.usbip_op.specs.declared.packet.OpWay.{OpWay}
 use Rattle.usbip_op.specs.declared.packet.OpWay.TheVariants.{Request, Reply}
 use Rattle.usbip_op.specs.Requests.{requests}
@@ -20,7 +20,5 @@ has_row (x ∷ xs) = true
 
 -- memory is taken for the rows of a list
 abbrev pub takes_memory : OpPacket → Bool
-takes_memory (ReqDevlist status) = false
-takes_memory (ReqImport status busid) = false
 takes_memory (RepDevlist status devices) = has_row devices
-takes_memory (RepImport status device) = false
+takes_memory _ = false

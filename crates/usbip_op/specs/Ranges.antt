@@ -1,5 +1,5 @@
 -- Which fields packets may have.
-use Rattle.std.specs.Prelude.{◌≡◌, ◌≢◌, ◌↔◌, ℕ, ◌≤◌, ◌<◌, ◌^◌, List, [], length, Option, Some, None, IsSome, All}
+use Rattle.std.specs.Prelude.{◌≡◌, ◌≢◌, ◌↔◌, ℕ, ◌≤◌, ◌<◌, ◌^◌, List, [], length, IsSome, IfSome, All}
 use Rattle.usbip_op.specs.declared.code.TheConstants.{MAX_DEVICES}
 use Rattle.usbip_op.specs.declared.packet.DeviceRow.{DeviceRow}
 use Rattle.usbip_op.specs.declared.packet.Listed.{Listed}
@@ -20,15 +20,11 @@ pub record IsDevice (d : DeviceRow) : Type 0 where
   pub product_fits : d.product < 2 ^ 16
   pub version_fits : d.version < 2 ^ 16
 
-abbrev pub IsDeviceIn : Option DeviceRow → Type 0
-IsDeviceIn None = Unit {0}
-IsDeviceIn (Some d) = IsDevice d
-
 abbrev pub IsInRange : OpPacket → Type 0
 IsInRange (ReqDevlist status) = status < 2 ^ 32
 IsInRange (ReqImport status busid) = (status < 2 ^ 32) × (length busid ≡ 32)
 IsInRange (RepDevlist status devices) = (status < 2 ^ 32) × All (λ l. IsDevice l.device) devices
-IsInRange (RepImport status device) = (status < 2 ^ 32) × IsDeviceIn device
+IsInRange (RepImport status device) = (status < 2 ^ 32) × IfSome device IsDevice
 
 -- ---- what a sender keeps to beside them
 
@@ -43,22 +39,17 @@ pub record IsWritableList (status : ℕ) (devices : List Listed) : Type 0 where
   pub counted : All HasItsInterfaces devices
 
 -- an import tells a device exactly where its status is 0
-abbrev pub IsWritableImport : ℕ → Option DeviceRow → Type 0
-IsWritableImport status device = IsSome device ↔ (status ≡ 0)
-
 abbrev pub IsWritable : OpPacket → Type 0
-IsWritable (ReqDevlist status) = Unit {0}
-IsWritable (ReqImport status busid) = Unit {0}
 IsWritable (RepDevlist status devices) = IsWritableList status devices
-IsWritable (RepImport status device) = IsWritableImport status device
+IsWritable (RepImport status device) = IsSome device ↔ (status ≡ 0)
+IsWritable _ = Unit {0}
 
 -- ---- which way a packet goes
 
 abbrev pub way_of : OpPacket → OpWay
 way_of (ReqDevlist status) = Request
 way_of (ReqImport status busid) = Request
-way_of (RepDevlist status devices) = Reply
-way_of (RepImport status device) = Reply
+way_of _ = Reply
 
 -- a packet that goes this way, in the ranges of its types, which a sender may write
 abbrev pub IsPacket : OpWay → OpPacket → Type 0

@@ -1,5 +1,6 @@
 -- The bytes of list and import packets, fields in wire order ("usbip_protocol", OP_REQ_DEVLIST to OP_REP_IMPORT).
-use Rattle.std.specs.Prelude.{ℕ, ◌==◌, if◌then◌else◌, List, [], ◌∷◌, ◌++◌, length, Option, Some, None, flat_map}
+use Rattle.std.specs.Prelude.{ℕ, ◌==◌, if◌then◌else◌, List, [], ◌∷◌, ◌++◌, length, flat_map}
+use Rattle.std.specs.Option.{option_map_or}
 use Rattle.std.specs.Int.{w16, w32}
 use Rattle.usb_base.specs.Number.{be}
 use Rattle.usbip_op.specs.declared.code.TheConstants.{OP_REP_DEVLIST, OP_REP_IMPORT, OP_REQ_DEVLIST, OP_REQ_IMPORT, USBIP_VERSION}
@@ -29,10 +30,6 @@ interface_bytes i = i.class ∷ i.subclass ∷ i.protocol ∷ i.pad ∷ []
 abbrev pub listed_bytes : Listed → List ℕ
 listed_bytes l = device_bytes l.device ++ flat_map interface_bytes l.interfaces
 
-abbrev pub imported_bytes : Option DeviceRow → List ℕ
-imported_bytes None = []
-imported_bytes (Some d) = device_bytes d
-
 -- with a status other than 0 a list reply ends after its head
 abbrev pub devices_bytes : ℕ → List Listed → List ℕ
 devices_bytes status devices = if status == 0 then be w32 (length devices) ++ flat_map listed_bytes devices else []
@@ -41,4 +38,4 @@ abbrev pub spelling : OpPacket → List ℕ
 spelling (ReqDevlist status) = head_bytes OP_REQ_DEVLIST status
 spelling (ReqImport status busid) = head_bytes OP_REQ_IMPORT status ++ busid
 spelling (RepDevlist status devices) = head_bytes OP_REP_DEVLIST status ++ devices_bytes status devices
-spelling (RepImport status device) = head_bytes OP_REP_IMPORT status ++ imported_bytes device
+spelling (RepImport status device) = head_bytes OP_REP_IMPORT status ++ option_map_or device_bytes device []

@@ -7,5 +7,4 @@ use Rattle.usbip_urb.specs.declared.packet.UrbPacket.TheVariants as urb
 abbrev pub takes_memory : UrbPacket → Bool
 takes_memory (urb.Submit s) = nat_lt 0 (length s.body) || nat_lt 0 (length s.descs)
 takes_memory (urb.RetSubmit r) = nat_lt 0 (length r.body) || nat_lt 0 (length r.descs)
-takes_memory (urb.Unlink u) = false
-takes_memory (urb.RetUnlink r) = false
+takes_memory _ = false

@@ -81,12 +81,10 @@ pub record RetUnlinkFits (r : RetUnlink) : Type 0 where
 abbrev pub IsRequest : UrbPacket → Type 0
 IsRequest (urb.Submit s) = IsSubmit s × (s.head.devid ≡ EXPORTED_DEVID) × SubmitFits s
 IsRequest (urb.Unlink u) = IsRequestHead u.head × (u.head.devid ≡ EXPORTED_DEVID) × UnlinkFits u
-IsRequest (urb.RetSubmit r) = ⊥
-IsRequest (urb.RetUnlink r) = ⊥
+IsRequest _ = ⊥
 
 -- answers, the body of a submit's by whether it was IN
 abbrev pub IsAnswer : Bool → UrbPacket → Type 0
 IsAnswer is_in (urb.RetSubmit r) = IsRetSubmit is_in r × RetSubmitFits r
 IsAnswer is_in (urb.RetUnlink r) = RetUnlinkFits r
-IsAnswer is_in (urb.Submit s) = ⊥
-IsAnswer is_in (urb.Unlink u) = ⊥
+IsAnswer is_in _ = ⊥

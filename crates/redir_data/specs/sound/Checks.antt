@@ -1,7 +1,7 @@
 -- Of the checks behind a header only that of its own type matters.
 use Rattle.std.proofs.Common.{◌≡◌, ℕ, ◌+◌, ◌<◌, ◌≤◌, Bool, true, false, cond, List, [], ◌∷◌, length, Option, Some, None, refl, sym, ap, ◌∙◌, arith}
 use Rattle.std.specs.Prelude.{nat_le, not, ◌&&◌, ◌||◌, ◌==◌}
-use Rattle.std.proofs.lemmas.Bool.{eqb-true, leb-true, le-leb, lt-ltb, le-ltb}
+use Rattle.std.proofs.lemmas.Bool.{eqb-true, leb-true, le-leb, lt-ltb, le-ltb, not_from_false, or_left}
 use Rattle.std.proofs.lemmas.Grind.{common_steps}
 use Rattle.usb_base.specs.Number.{byte_at}
 use Rattle.usb_base.specs.declared.reason.Reason.{Reason}
@@ -58,16 +58,12 @@ least_length caps h k e its =
 abbrev pub its_check : Caps → Way → Header → DataKind → Check Reason
 its_check caps way h k = check (length_place k) (fixed caps k) DataLength ((data_check caps way k).passes h)
 
-passes_other : (t u : Bool) → t ≡ false → (not t || u) ≡ true
-passes_other true u e = absurd cc
-passes_other false u e = refl
-
 passes_own : (t u : Bool) → t ≡ true → (not t || u) ≡ u
 passes_own true u e = refl
 passes_own false u e = absurd cc
 
 other : (caps : Caps) (way : Way) (h : Header) (k j : DataKind) (b : List ℕ) → h.kind ≡ (data_row k).number → ((data_row k).number == (data_row j).number) ≡ false → (data_check caps way j).passes h b ≡ true
-other caps way h k j b kind apart = passes_other (h.kind == (data_row j).number) _ (ap (λ (n : ℕ). n == (data_row j).number) kind ∙ apart)
+other caps way h k j b kind apart = or_left (not (h.kind == (data_row j).number)) _ (not_from_false (h.kind == (data_row j).number) (ap (λ (n : ℕ). n == (data_row j).number) kind ∙ apart))
 
 -- how many bytes a packet with these fields has behind its header
 abbrev pub announced : Caps → Way → DataKind → List ℕ → ℕ
