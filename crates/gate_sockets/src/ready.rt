@@ -124,9 +124,10 @@ impl Ready {
         true
     }
 
-    /// A write was blocked. Waits until something may be written, or for a moment.
-    pub(crate) fn blocked(&mut self) {
+    /// A write was blocked. Waits until something may be written, for a moment at most, and says whether it may.
+    pub(crate) fn blocked(&mut self) -> bool {
         let most = Duration::from_millis(WRITE_WAIT_MILLIS);
-        let _ = self.writing.poll(&mut self.events, Some(most));
+        let waited = self.writing.poll(&mut self.events, Some(most));
+        waited.is_ok() && !self.events.is_empty()
     }
 }

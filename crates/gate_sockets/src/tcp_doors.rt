@@ -181,14 +181,17 @@ impl<'rt, N: Network + Eprint> TcpDoors<'rt, N> {
         }
     }
 
-    /// Reads ahead on both links: a peer that writes before it reads may be what a write waits for.
-    fn read_on(&mut self)
+    /// Waits for a moment where a write is blocked. Where it may not go on then, both links are read ahead: a peer that
+    /// writes before it reads may be what it waits for.
+    fn wait_to_write(&mut self)
         ensures client { ReadOn N.Stream.read_gives N.Stream.write_gives self.old.client self.new.client }
         ensures host { ReadOn N.Stream.read_gives N.Stream.write_gives self.old.host self.new.host }
         ensures door { self.new.door ≡ self.old.door }
     {
-        self.client.read_on(CLIENT_AHEAD);
-        self.host.read_on(HOST_AHEAD);
+        if !self.ready.blocked() {
+            self.client.read_on(CLIENT_AHEAD);
+            self.host.read_on(HOST_AHEAD);
+        }
     }
 
     fn fail(&mut self, side: Side) -> Failed
@@ -307,8 +310,7 @@ impl<'rt, N: Network + Eprint> Doors for TcpDoors<'rt, N> {
                 self.ready.moved();
                 return Ok(count);
             }
-            self.read_on();
-            self.ready.blocked();
+            self.wait_to_write();
         }
         match self.write_once(side, piece) {
             Some(count) => Ok(count),

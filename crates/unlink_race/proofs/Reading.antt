@@ -1,5 +1,5 @@
 -- Keys with the numbers that are read of their requests: a search of the keys, and what stands at its place.
-use Rattle.std.proofs.Common.{◌≡◌, ◌==◌, ◌&&◌, ◌||◌, ℕ, ◌+◌, ◌<◌, ◌≤◌, Bool, true, false, not, cond, zero, suc, ltb, List, [], ◌∷◌, ◌++◌, length, map, drop, get_or, Option, Some, None, IsSome, option_map, refl, ap, sym, ◌∙◌, arith, inl, inr}
+use Rattle.std.proofs.Common.{◌≡◌, ◌==◌, ◌&&◌, ◌||◌, ℕ, ◌+◌, ◌-◌, ◌<◌, ◌≤◌, Bool, true, false, not, cond, zero, suc, ltb, List, [], ◌∷◌, ◌++◌, length, map, drop, get_or, Option, Some, None, IsSome, option_map, refl, ap, sym, ◌∙◌, arith, inl, inr}
 use Rattle.std.specs.List.{find, insert, list_any, position, position_or_len, remove, slice_get, zip}
 use Rattle.std.specs.List.Sorted.{IsNonDecreasingBy, IsPartitionedBy, IsPartitionPoint}
 use Rattle.std.specs.Option.{option_cmp}
@@ -71,6 +71,44 @@ module _ (by : By) (lanes : List Entries) (ps : Pairs) (reads : Reads by lanes p
           let same = ap number_of (get_or_default ps k d none inside) in
           omega (arith, more, same),
     )
+
+    -- the last passes, and so do all
+    pub all_pass : IsNonDecreasingBy number_of ps → (n last key : ℕ) → n ≡ length ps → last + 1 ≡ n → key ≡ get_or (map key_in ps) last key → test key ≡ true → Before ps n bound × Behind ps n bound
+    all_pass up n last key all is read passes =
+        let long = length-map ps key_in in
+        let inside : last < length (map key_in ps) = omega (arith, all, is, long) in
+        split n (omega (arith, all)) (
+          λ k d low below. parted up k last d (omega (arith, below, is)) inside (ap test (get_or_default (map key_in ps) last d key inside ∙ sym read) ∙ passes),
+          λ k d low below. absurd (omega (arith, low, below, long, all)),
+        )
+
+    -- the first doesn't pass, and so none does
+    pub none_pass : IsNonDecreasingBy number_of ps → (key : ℕ) → key ≡ get_or (map key_in ps) 0 key → test key ≡ false → Before ps 0 bound × Behind ps 0 bound
+    none_pass up key read fails =
+        split 0 (omega arith) (
+          λ k d low below. absurd (omega (arith, below)),
+          λ k d low below.
+              let inside : 0 < length (map key_in ps) = omega (arith, below) in
+              let first : test (get_or (map key_in ps) 0 d) ≡ false = ap test (get_or_default (map key_in ps) 0 d key inside ∙ sym read) ∙ fails in
+              elim (cases_Bool (test (get_or (map key_in ps) k d))) [
+                | inl passes ↦ absurd (false≢true (sym first ∙ parted up 0 k d (omega arith) below passes))
+                | inr failing ↦ failing
+              ],
+        )
+
+-- there is no key, and so no pair
+pub no_pairs : (ps : Pairs) (keys : List ℕ) → keys ≡ map key_in ps → (length keys == 0) ≡ true → length ps ≡ 0
+no_pairs ps keys same is =
+    let long = ap length same ∙ length-map ps key_in in
+    elim (eqb_tells (length keys) 0) [
+      | inl none ↦ (let zero = none.1 in omega (arith, zero, long))
+      | inr some ↦ absurd (false≢true (sym some.0 ∙ is))
+    ]
+
+-- there is a last key
+pub last_there : (keys : List ℕ) → (length keys == 0) ≡ false → length keys - 1 + 1 ≡ length keys
+last_there [] is = absurd (false≢true (sym is ∙ eq-eqb 0 0 refl))
+last_there (k ∷ ks) is = omega arith
 
 -- ---- the requests stand under their keys, so each number is that of its key's request
 

@@ -1,4 +1,5 @@
-//! Keys in the order of a number that their requests have: a search for a number doesn't walk.
+//! Keys in the order of a number that their requests have: a search for a number doesn't walk. Most requests come with
+//! a number above all others, and end first of all: a search looks at both ends before it halves what is between.
 
 ghost use Rattle.std.specs.Prelude.{◌≡◌, ◌==◌, ◌<◌, ◌≤◌, ◌+◌, ◌++◌, ℕ, true, List, [], ◌∷◌, length, map, remove, slice_get, Some, option_map};
 ghost use Rattle.std.specs.List.{find, position};
@@ -55,6 +56,12 @@ fn place_before(arena: &Arena<(u64, Live)>, keys: &[Key], by: By, number: u64) -
     ensures bound { result ≤ length keys.now }
     ensures parted { (pairs : List (ℕ × ℕ)) → keys.now ≡ map (λ p. p.1) pairs → Reads by arena.now.lanes pairs → IsNonDecreasingBy (λ p. p.0) pairs → Before pairs result number × Behind pairs result number }
 {
+    if keys.is_empty() || !compared(arena, keys[0], by, number).is_lt() {
+        return 0;
+    }
+    if compared(arena, keys[keys.len() - 1], by, number).is_lt() {
+        return keys.len();
+    }
     keys.partition_point(|key| compared(arena, *key, by, number).is_lt())
 }
 
@@ -63,6 +70,9 @@ fn place_behind(arena: &Arena<(u64, Live)>, keys: &[Key], by: By, number: u64) -
     ensures bound { result ≤ length keys.now }
     ensures parted { (pairs : List (ℕ × ℕ)) → keys.now ≡ map (λ p. p.1) pairs → Reads by arena.now.lanes pairs → IsNonDecreasingBy (λ p. p.0) pairs → Before pairs result (number + 1) × Behind pairs result (number + 1) }
 {
+    if keys.is_empty() || compared(arena, keys[keys.len() - 1], by, number).is_le() {
+        return keys.len();
+    }
     keys.partition_point(|key| compared(arena, *key, by, number).is_le())
 }
 

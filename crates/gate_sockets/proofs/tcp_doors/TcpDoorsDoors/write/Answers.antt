@@ -54,13 +54,12 @@ loop-tried-preserved g c =
     let a = c.args.self.now in
     let m = c.loop-tried.self in
     let n = c.write_once.new.self in
-    let d = c.read_on.new.self in
-    let on = read-both r w n d c.read_on.ensures.client c.read_on.ensures.host in
+    let d = c.wait_to_write.new.self in
+    let on = read-both r w n d c.wait_to_write.ensures.client c.wait_to_write.ensures.host in
     let here = tried-again r w c.loop-tried._tried (state_of a side) (state_of m side) (state_of n side) (state_of d side) c.loop-tried.invariant.0 c.in_default.ensures.side.0 (on side) in
     let there = read-further r w (state_of a (other side)) (state_of m (other side)) (state_of n (other side)) (state_of d (other side)) c.loop-tried.invariant.1 c.in_default.ensures.other (on (other side)) in
-    let door = c.read_on.ensures.door ∙ c.in_default.ensures.door ∙ c.loop-tried.invariant.2 in
-    subst (λ (x : States _ _). Waited r w (c.loop-tried._tried + 1) (state_of a side) (state_of x side) × Waited r w 0 (state_of a (other side)) (state_of x (other side)) × (x.door ≡ a.door))
-    (sym c.self-in-loop-tried.view_is) (here, there, door)
+    let door = c.wait_to_write.ensures.door ∙ c.in_default.ensures.door ∙ c.loop-tried.invariant.2 in
+    (here, there, door)
 
 pub returns-in-Some-write_once-clause-side : goal.returns-in-Some-write_once-clause-side
 returns-in-Some-write_once-clause-side g c =
