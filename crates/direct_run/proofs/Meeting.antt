@@ -4,6 +4,8 @@ use Rattle.std.proofs.Common.{◌≡◌, ℕ, Bool, true, false, cond, List, [],
 use Rattle.std.specs.Prelude.{unwrap_or}
 use Rattle.std.specs.List.{flat_map}
 use Rattle.std.proofs.lemmas.Grind.{flat_map-append}
+use Rattle.usb_base.specs.declared.reason.Reason.{Reason}
+use Rattle.usbip_urb.specs.declared.client.ClientPacket.{ClientPacket}
 use Rattle.redir_wire.specs.declared.packet.Caps.{Caps}
 use Rattle.redir_wire.specs.declared.packet.Header.{Header}
 use Rattle.redir_wire.specs.declared.packet.RedirControl.TheVariants as plain
@@ -13,7 +15,7 @@ use Rattle.redir_data.specs.declared.packet.RedirPacket.TheVariants.{Plain, Carr
 use Rattle.redir_host.specs.write.Output.{host_hello}
 use Rattle.gate_history.specs.step.Items.{Item, Asked, ClientWrong, ClientLeft, Told, HostWrong, HostLeft}
 use Rattle.gate_history.specs.step.Marks.{Mark, Agrees}
-use Rattle.gate_history.specs.state.Sides.{agrees}
+use Rattle.gate_history.specs.state.Sides.{agreed as agreed_of, agrees, host_over as host_over_of}
 use Rattle.gate_history.specs.state.Ups.{Up}
 use Rattle.gate_history.specs.write.Packets.{asked_packets}
 use Rattle.gate_history.specs.state.State.{State}
@@ -70,23 +72,24 @@ unmet-first first = record { fresh = record { quiet = record { live = refl; conn
 
 -- ---- the client's items leave what is of the host
 
+-- by each kind of them
+client-items : (P : Item → Type 0) → ((place : ℕ) (packet : ClientPacket) → P (Asked place packet)) → ((place : ℕ) (reason : Reason) → P (ClientWrong place reason)) → P ClientLeft → (x : Item) → IsClients x → P x
+client-items P asked wrong left (Asked place packet) client = asked place packet
+client-items P asked wrong left (ClientWrong place reason) client = wrong place reason
+client-items P asked wrong left ClientLeft client = left
+client-items P asked wrong left _ client = absurd client
+
 pub client-agreed : (first : ℕ) (xs : List Item) (x : Item) → IsClients x → (run first (x ∷ xs)).agreed ≡ (run first xs).agreed
-client-agreed first xs x client = ap (λ (st : State). st.agreed) (sym (state-run first (x ∷ xs))) ∙ by x client ∙ ap (λ (st : State). st.agreed) (state-run first xs)
-  where
-    by : (y : Item) → IsClients y → Rattle.gate_history.specs.state.Sides.agreed (past first (y ∷ xs)) ≡ Rattle.gate_history.specs.state.Sides.agreed (past first xs)
-    by (Asked place packet) h = asked-agreed first xs place packet
-    by (ClientWrong place reason) h = wrong-agreed first xs place reason
-    by ClientLeft h = left-agreed first xs
-    by _ h = absurd h
+client-agreed first xs x client =
+    ap (λ (st : State). st.agreed) (sym (state-run first (x ∷ xs)))
+    ∙ client-items (λ (y : Item). agreed_of (past first (y ∷ xs)) ≡ agreed_of (past first xs)) (asked-agreed first xs) (wrong-agreed first xs) (left-agreed first xs) x client
+    ∙ ap (λ (st : State). st.agreed) (state-run first xs)
 
 client-host : (first : ℕ) (xs : List Item) (x : Item) → IsClients x → (run first (x ∷ xs)).host_over ≡ (run first xs).host_over
-client-host first xs x client = ap (λ (st : State). st.host_over) (sym (state-run first (x ∷ xs))) ∙ by x client ∙ ap (λ (st : State). st.host_over) (state-run first xs)
-  where
-    by : (y : Item) → IsClients y → Rattle.gate_history.specs.state.Sides.host_over (past first (y ∷ xs)) ≡ Rattle.gate_history.specs.state.Sides.host_over (past first xs)
-    by (Asked place packet) h = asked-host first xs place packet
-    by (ClientWrong place reason) h = wrong-host first xs place reason
-    by ClientLeft h = left-host first xs
-    by _ h = absurd h
+client-host first xs x client =
+    ap (λ (st : State). st.host_over) (sym (state-run first (x ∷ xs)))
+    ∙ client-items (λ (y : Item). host_over_of (past first (y ∷ xs)) ≡ host_over_of (past first xs)) (asked-host first xs) (wrong-host first xs) (left-host first xs) x client
+    ∙ ap (λ (st : State). st.host_over) (state-run first xs)
 
 -- ---- one item more
 

@@ -10,7 +10,8 @@ use Rattle.direct_run.specs.declared.submitted.Submitted.{Submitted}
 use Rattle.direct_run.specs.declared.told.Told.{Told}
 use Rattle.direct_run.specs.Kept.{SystemKept}
 use Rattle.direct_run.specs.Known.{IsKnown}
-use Rattle.direct_run.specs.Steps.{Step}
+use Rattle.direct_run.specs.declared.step.Step.{Step as RawStep}
+use Rattle.direct_run.specs.Steps.{Step, step_of}
 use Rattle.direct_run.specs.World.{Course, happened, acted, sent_to_host, sent_to_gate, after_step, course}
 use Rattle.direct_run.specs.Trace.{told_of_event, told_of_act, act_items, told_of, told_by}
 use Rattle.direct_run.specs.Stands.{Runs, Stands, Takes}
@@ -57,3 +58,19 @@ act-takes {S = S} m s old new steps x a told rest h d rest-is fits same same-tol
         (flows-step m s (course m s steps) x (flows-steps m s steps h.known) h.known
         (subst (λ (c : Course). AreBytes (flat_map piece_bytes c.events)) (sym same) h.known.bytes)
         (subst (λ (c : Course). AreBytes (guest_bytes c.acts)) (sym same) d.host.stream.fits))
+
+-- ---- a step that takes none of the bytes on their way
+
+pub event-step : {S : Type 0} (m : Meaning S) (s : S) (old new : SystemKept S) (steps : List Step) (x x' : RawStep) (e : Event) (told : Told) → (h : Stands m s old steps) → DoesEvent old new (course m s steps).events e told → x ≡ x' → host_bytes (e ∷ (course m s steps).events) ≡ host_bytes (course m s steps).events
+    → after_step m s (course m s steps) (step_of x') ≡ happened (course m s steps) e → told_by m s (course m s steps) (step_of x') ≡ told_of_event (course m s steps).events e → Takes m s new steps (step_of x) told
+event-step m s old new steps x x' e told h d is none after tells =
+    let run = course m s steps in
+    event-takes m s old new steps (step_of x) e told old.to_gate h d (h.runs.to_gate ∙ ap (λ (b : List ℕ). drop (length b) (sent_to_gate m s run)) (sym none)) (subst (λ (b : List ℕ). length b ≤ length (sent_to_gate m s run)) (sym none) h.runs.gate_had)
+    (ap (λ (y : RawStep). after_step m s run (step_of y)) is ∙ after) (ap (λ (y : RawStep). told_by m s run (step_of y)) is ∙ tells)
+
+pub act-step : {S : Type 0} (m : Meaning S) (s : S) (old new : SystemKept S) (steps : List Step) (x x' : RawStep) (a : Act) (told : Told) → (h : Stands m s old steps) → DoesAct m s old new (course m s steps).acts a told → x ≡ x' → guest_bytes (a ∷ (course m s steps).acts) ≡ guest_bytes (course m s steps).acts
+    → after_step m s (course m s steps) (step_of x') ≡ acted (course m s steps) a → told_by m s (course m s steps) (step_of x') ≡ told_of m s (course m s steps) a → Takes m s new steps (step_of x) told
+act-step m s old new steps x x' a told h d is none after tells =
+    let run = course m s steps in
+    act-takes m s old new steps (step_of x) a told old.to_host h d (h.runs.to_host ∙ ap (λ (b : List ℕ). drop (length b) (sent_to_host run)) (sym none)) (subst (λ (b : List ℕ). length b ≤ length (sent_to_host run)) (sym none) h.runs.host_had)
+    (ap (λ (y : RawStep). after_step m s run (step_of y)) is ∙ after) (ap (λ (y : RawStep). told_by m s run (step_of y)) is ∙ tells)

@@ -46,6 +46,12 @@ pub both-parts : (a b : Bool) → (a && b) ≡ true → (a ≡ true) × (b ≡ t
 both-parts true b h = (refl, h)
 both-parts false b h = absurd (not-both (sym h))
 
+-- what is gathered from each element of a list
+pub gathers-append : {X Y : Type 0} (f : X → List Y) (all : List X → List Y) → all [] ≡ [] → ((x : X) (xs : List X) → all (x ∷ xs) ≡ f x ++ all xs) → (xs ys : List X) → all (xs ++ ys) ≡ all xs ++ all ys
+gathers-append {Y = Y} f all none more [] ys = ap (λ (l : List Y). l ++ all ys) (sym none)
+gathers-append {Y = Y} f all none more (x ∷ xs) ys =
+    more x (xs ++ ys) ∙ ap (λ (l : List Y). f x ++ l) (gathers-append f all none more xs ys) ∙ sym (append_assoc (f x) (all xs) (all ys)) ∙ ap (λ (l : List Y). l ++ all ys) (sym (more x xs))
+
 pub any-append : {X : Type 0} (p : X → Bool) (xs ys : List X) → list_any p (xs ++ ys) ≡ (list_any p xs || list_any p ys)
 any-append p [] ys = refl
 any-append p (x ∷ xs) ys = ap (λ (b : Bool). p x || b) (any-append p xs ys) ∙ or-assoc (p x) (list_any p xs) (list_any p ys)
@@ -86,12 +92,10 @@ shape (id, Carrying d) = go (asking_of d) refl
     go (Asks f t) e = Asking_for f t (ap (asked_line 0 id) e) (ap is_request e)
 
 pub lines-append : (ps qs : List (ℕ × RedirPacket)) → lines (ps ++ qs) ≡ lines ps ++ lines qs
-lines-append [] qs = refl
-lines-append (p ∷ ps) qs = ap (λ (l : List InLine). in_line p ++ l) (lines-append ps qs) ∙ sym (append_assoc (in_line p) (lines ps) (lines qs))
+lines-append = gathers-append in_line lines refl (λ p ps. refl)
 
 pub at_hosts-append : (cs ds : List Entry) → at_hosts (cs ++ ds) ≡ at_hosts cs ++ at_hosts ds
-at_hosts-append [] ds = refl
-at_hosts-append (c ∷ cs) ds = ap (λ (l : List InLine). at_host c ++ l) (at_hosts-append cs ds) ∙ sym (append_assoc (at_host c) (at_hosts cs) (at_hosts ds))
+at_hosts-append = gathers-append at_host at_hosts refl (λ c cs. refl)
 
 -- the first entry, where a request is the next in line
 pub record Next (h : Bool) (id : ℕ) (f : Form) (t : Transfer) (ls : List InLine) (cs : List Entry) : Type 0 where

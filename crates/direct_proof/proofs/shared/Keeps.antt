@@ -1,5 +1,5 @@
 -- A move keeps what the two machines share with the device attached directly.
-use Rattle.std.proofs.Common.{◌≡◌, Bool, true, false, List, [], ◌∷◌, ◌++◌, map, refl, sym, ap, ◌∙◌, subst, append-nil, append_assoc}
+use Rattle.std.proofs.Common.{◌≡◌, Bool, true, false, List, [], ◌∷◌, ◌++◌, map, refl, sym, ap, ◌∙◌, subst, append-nil}
 use Rattle.std.specs.List.{flat_map}
 use Rattle.usbip_op.specs.declared.packet.OpPacket.{OpPacket}
 use Rattle.usbip_urb.specs.declared.packet.UrbPacket.{UrbPacket}
@@ -16,7 +16,7 @@ use Rattle.direct_proof.specs.Related.{Related}
 use Rattle.direct_proof.specs.Runs.{urb_in}
 use Rattle.direct_proof.proofs.answers.Answered.{IsDeed}
 use Rattle.direct_proof.proofs.shared.Traces.{acts-append, allowed-append, answers-append}
-use Rattle.direct_proof.proofs.shared.Folds.{clash}
+use Rattle.direct_proof.proofs.shared.Folds.{clash, gathers-append}
 
 -- what a move did is what the device attached directly does
 pub record Keeps {S : Type 0} (m : Meaning S) (w : World S) (j : Shared) (made : Made S) : Type 0 where
@@ -27,8 +27,7 @@ pub record Keeps {S : Type 0} (m : Meaning S) (w : World S) (j : Shared) (made :
   pub outs : flat_map urb_in made.outs ≡ all_answers m (view w j) made.deeds
 
 urbs-append : (xs ys : List ClientPacket) → flat_map urb_in (xs ++ ys) ≡ flat_map urb_in xs ++ flat_map urb_in ys
-urbs-append [] ys = refl
-urbs-append (x ∷ xs) ys = ap (λ (l : List UrbPacket). urb_in x ++ l) (urbs-append xs ys) ∙ sym (append_assoc (urb_in x) (flat_map urb_in xs) (flat_map urb_in ys))
+urbs-append = gathers-append urb_in (flat_map urb_in) refl (λ x xs. refl)
 
 pub urbs-mapped : (xs : List UrbPacket) → flat_map urb_in (map Urb xs) ≡ xs
 urbs-mapped [] = refl

@@ -1,5 +1,5 @@
 -- The wire to the host: streams that quit, starts and stops, and their ids, as it grows and is read.
-use Rattle.std.proofs.Common.{◌≡◌, ℕ, ◌+◌, ◌≤◌, ◌||◌, Bool, true, false, cond, List, [], ◌∷◌, ◌++◌, Option, Some, None, refl, sym, ap, ◌∙◌, subst, arith, append-nil, append_assoc, is_some}
+use Rattle.std.proofs.Common.{◌≡◌, ℕ, ◌+◌, ◌≤◌, ◌||◌, Bool, true, false, cond, List, [], ◌∷◌, ◌++◌, Option, Some, None, refl, sym, ap, ◌∙◌, subst, arith, append-nil, is_some}
 use Rattle.std.specs.List.{list_any}
 use Rattle.usb_base.specs.declared.endpoint.EpTable.{EpTable}
 use Rattle.redir_data.specs.declared.packet.RedirPacket.{RedirPacket}
@@ -13,7 +13,7 @@ use Rattle.direct_proof.specs.Running.{Quits, runs_after, Trails, passes, called
 use Rattle.direct_proof.specs.Calls.{call_id, calls_on, statuses_on, status_id, Controls, CallIsKept, StatusIsKept, Fenced}
 use Rattle.direct_proof.specs.Kinds.{CallIsIn}
 use Rattle.direct_proof.proofs.shared.Owed.{each-append}
-use Rattle.direct_proof.proofs.shared.Folds.{not-both, or-left, or-assoc, or-false, any-append}
+use Rattle.direct_proof.proofs.shared.Folds.{not-both, or-left, or-assoc, or-false, any-append, gathers-append}
 
 -- ---- packets that say nothing of streams
 
@@ -68,12 +68,10 @@ times-append id [] ys = omega arith
 times-append id (x ∷ xs) ys = let r = times-append id xs ys in omega (arith, r)
 
 pub calls-append : (ps qs : List (ℕ × RedirPacket)) → calls_on (ps ++ qs) ≡ calls_on ps ++ calls_on qs
-calls-append [] qs = refl
-calls-append (p ∷ ps) qs = ap (λ (l : List ℕ). call_id p ++ l) (calls-append ps qs) ∙ sym (append_assoc (call_id p) (calls_on ps) (calls_on qs))
+calls-append = gathers-append call_id calls_on refl (λ p ps. refl)
 
 pub statuses-append : (bs cs : List Tagged) → statuses_on (bs ++ cs) ≡ statuses_on bs ++ statuses_on cs
-statuses-append [] cs = refl
-statuses-append (b ∷ bs) cs = ap (λ (l : List ℕ). status_id b ++ l) (statuses-append bs cs) ∙ sym (append_assoc (status_id b) (statuses_on bs) (statuses_on cs))
+statuses-append = gathers-append status_id statuses_on refl (λ b bs. refl)
 
 calls-quiet : (qs : List (ℕ × RedirPacket)) → Each IsQuiet qs → calls_on qs ≡ []
 calls-quiet [] h = refl

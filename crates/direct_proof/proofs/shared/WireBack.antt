@@ -1,20 +1,18 @@
 -- What has run, and the packets of streams, on a wire back that grows.
-use Rattle.std.proofs.Common.{◌≡◌, ℕ, Bool, true, false, cond, List, [], ◌∷◌, ◌++◌, map, Option, Some, None, refl, sym, ap, ◌∙◌, append-nil, append_assoc}
+use Rattle.std.proofs.Common.{◌≡◌, ℕ, Bool, true, false, cond, List, [], ◌∷◌, ◌++◌, map, Option, Some, None, refl, sym, ap, ◌∙◌, append-nil}
 use Rattle.std.proofs.lemmas.List.{map-append}
-use Rattle.usb_base.specs.declared.transfer.StreamPacket.{StreamPacket}
 use Rattle.gate_history.specs.state.Ups.{Up}
 use Rattle.gate_history.specs.client.Verdict.{is_iso}
 use Rattle.direct_proof.specs.Requests.{Coming, ran_of}
 use Rattle.direct_proof.specs.Tagged.{Tagged, Answered, ran_in, runs_in, packets_in, packet_in}
 use Rattle.direct_proof.specs.Shared.{way_of}
+use Rattle.direct_proof.proofs.shared.Folds.{gathers-append}
 
 pub runs_in-append : (bs cs : List Tagged) → runs_in (bs ++ cs) ≡ runs_in bs ++ runs_in cs
-runs_in-append [] cs = refl
-runs_in-append (b ∷ bs) cs = ap (λ (l : List Coming). ran_in b ++ l) (runs_in-append bs cs) ∙ sym (append_assoc (ran_in b) (runs_in bs) (runs_in cs))
+runs_in-append = gathers-append ran_in runs_in refl (λ b bs. refl)
 
 pub packets_in-append : (iso : Bool) (ep : ℕ) (bs cs : List Tagged) → packets_in iso ep (bs ++ cs) ≡ packets_in iso ep bs ++ packets_in iso ep cs
-packets_in-append iso ep [] cs = refl
-packets_in-append iso ep (b ∷ bs) cs = ap (λ (l : List StreamPacket). packet_in iso ep b ++ l) (packets_in-append iso ep bs cs) ∙ sym (append_assoc (packet_in iso ep b) (packets_in iso ep bs) (packets_in iso ep cs))
+packets_in-append iso ep = gathers-append (packet_in iso ep) (packets_in iso ep) refl (λ b bs. refl)
 
 -- an answer is no packet of a stream
 pub way-answer : (up : Option Up) (ep : ℕ) (bs : List Tagged) (c : Coming) → way_of up ep (bs ++ Answered c ∷ []) ≡ way_of up ep bs
