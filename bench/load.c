@@ -21,7 +21,7 @@
    Each side has a thread that reads and one that writes. A reader takes what has come in one call. What is to be sent
    for that goes out with AT_ONCE packets in one call at most, where the isochronous packets of a transfer count as one.
    The reader sends it where it is short and the link takes it at once, so that a lone transfer wakes no thread beside
-   the two that its packets wake; the rest is left to the writer. */
+   the two that its packets wake; the rest is left to the writer, and so are a stream's packets. */
 #define _GNU_SOURCE
 #include <arpa/inet.h>
 #include <endian.h>
@@ -290,7 +290,8 @@ static void begin_outbox(struct outbox *box, int link, int has_data, uint64_t ea
     pthread_t writer;
     box->link = link;
     box->message = message;
-    box->is_short = !has_data || length * each <= SHORT;
+    /* What a stream brings is posted by the client's thread, which has its requests to send. */
+    box->is_short = !has_data || (length * each <= SHORT && !is_stream());
     box->most = at_once * each < MOST_AT_ONCE ? at_once * each : MOST_AT_ONCE;
     pthread_mutex_init(&box->lock, NULL);
     pthread_cond_init(&box->handed_over, NULL);
