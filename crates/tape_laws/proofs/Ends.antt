@@ -22,7 +22,7 @@ use Rattle.usbgate_tapes.specs.Text.{made_text, counts_line}
 use Rattle.usbgate_tapes.specs.tape.TapeCommand.{tape_limit, Reading, last_text}
 use Rattle.usbgate_tapes.specs.tape.EventCommand.{over_events}
 use Rattle.usbgate_tapes.specs.Replay.{replay}
-use Rattle.usbgate_commands.specs.Recording.{IsUnmade}
+use Rattle.usbgate_commands.specs.Recording.{IsUnmade, IsUnbegun}
 use Rattle.usbgate_commands.specs.Serving.{ServeSettings}
 use Rattle.usbgate_commands.specs.Serves.{setting_of, ended_as, IsUnrecorded, IsRecorded, Serves, ServesBy}
 use Rattle.bridge_run.specs.Recorded.{event_line, lines_of as event_lines}
@@ -31,12 +31,12 @@ use Rattle.bridge_run.specs.Log.{IsFront}
 use Rattle.bridge_run.specs.Ups.{client_at, host_at, client_behind, to_clients}
 use Rattle.tape_laws.specs.Ups.{host_behind, to_host}
 use Rattle.tape_laws.specs.Begun.{IsFresh}
-use Rattle.tape_laws.specs.Plays.{read_of, Plays, WroteFront, EndsTape, PlaysInPart, IsUnserved, Replays}
+use Rattle.tape_laws.specs.Plays.{read_of, Plays, WroteFront, EndsTape, PlaysInPart, IsUnserved, IsAsBefore, PlaysNothing, Replays}
 use Rattle.tape_laws.proofs.Cutting.{cut-at, are-lines, ends-fit, client-front, host-front, call-takes}
 use Rattle.tape_laws.proofs.Events.{AllFit}
 use Rattle.tape_laws.proofs.Courses.{Holds, Stands, At, IsMaking, call-comes, calls-come}
 use Rattle.tape_laws.proofs.Courses as course
-use Rattle.tape_laws.proofs.Recording.{recording, recording-comes, line-comes, rest_read, front-read, all-read, front-text}
+use Rattle.tape_laws.proofs.Recording.{recording, recording-comes, line-comes, rest_read, front-read, all-read, front-text, first-line-read}
 
 -- ---- a run that has ended by itself
 
@@ -335,14 +335,14 @@ short-plays : (asked : ServeSettings) (e : ServeEnd) (c : Course) (new : Outside
 short-plays asked e c new out held f tape-is room x = cut-plays asked e c x.course x.next new out held x.reaches x.cut tape-is room (reached asked c (Goes x.next x.course) f x.reaches)
 
 end-replays : (asked : ServeSettings) (c : Course) (e : ServeEnd) (new : Outside) (out : Written) (held : List ℕ) → IsFresh asked c → out.tape ≡ Some held → length held ≤ tape_limit → Leaves e (gate_runs_out asked.first_id) (setting_of asked) (Goes Making c) new out
-    → Replays (ended_as e) asked c new held
-end-replays asked c (end.Ended None) new out held f tape-is room x = ended-plays asked c (end.Ended None) new out held (λ d h. h) f tape-is room x
-end-replays asked c (end.Ended (Some r)) new out held f tape-is room x = ended-plays asked c (end.Ended (Some r)) new out held (λ d h. h) f tape-is room x
-end-replays asked c end.Idle new out held f tape-is room x = ended-plays asked c end.Idle new out held (λ d h. h) f tape-is room x
-end-replays asked c end.Spent new out held f tape-is room x = ended-plays asked c end.Spent new out held (λ d h. h) f tape-is room x
-end-replays asked c (end.LinkFault side) new out held f tape-is room x = short-plays asked (end.LinkFault side) c new out held f tape-is room x
-end-replays asked c end.WriteFault new out held f tape-is room x = inr (short-plays asked end.WriteFault c new out held f tape-is room x)
-end-replays asked c end.Memory new out held f tape-is room x = inr (short-plays asked end.Memory c new out held f tape-is room x)
+    → (before : Option (List ℕ)) → Replays (ended_as e) asked c before new held
+end-replays asked c (end.Ended None) new out held f tape-is room x before = ended-plays asked c (end.Ended None) new out held (λ d h. h) f tape-is room x
+end-replays asked c (end.Ended (Some r)) new out held f tape-is room x before = ended-plays asked c (end.Ended (Some r)) new out held (λ d h. h) f tape-is room x
+end-replays asked c end.Idle new out held f tape-is room x before = ended-plays asked c end.Idle new out held (λ d h. h) f tape-is room x
+end-replays asked c end.Spent new out held f tape-is room x before = ended-plays asked c end.Spent new out held (λ d h. h) f tape-is room x
+end-replays asked c (end.LinkFault side) new out held f tape-is room x before = short-plays asked (end.LinkFault side) c new out held f tape-is room x
+end-replays asked c end.WriteFault new out held f tape-is room x before = inr (inr (short-plays asked end.WriteFault c new out held f tape-is room x))
+end-replays asked c end.Memory new out held f tape-is room x before = inr (short-plays asked end.Memory c new out held f tape-is room x)
 
 -- ---- nothing was done
 
@@ -352,17 +352,38 @@ untouched asked c old out f tells = record {
   host = tells.host.written-is ∙ ap (λ (l : List ℕ). Some l) f.no_host;
 }
 
-unmade-replays : (status : Status) (asked : ServeSettings) (c : Course) (new : Outside) (held : List ℕ) (t t' : Counts) → IsUnmade status t t' → IsUnserved new → Replays status asked c new held
-unmade-replays Usage asked c new held t t' is x = x
-unmade-replays WriteFault asked c new held t t' is x = inl x
-unmade-replays OutOfMemory asked c new held t t' is x = inl x
-unmade-replays Done asked c new held t t' is x = absurd is
-unmade-replays Refused asked c new held t t' is x = absurd is
-unmade-replays ReadFault asked c new held t t' is x = absurd is
-unmade-replays (LinkFault side) asked c new held t t' is x = absurd is
-unmade-replays (BadTape n) asked c new held t t' is x = absurd is
-unmade-replays Idle asked c new held t t' is x = absurd is
-unmade-replays Spent asked c new held t t' is x = absurd is
+plays-nothing : (asked : ServeSettings) (new : Outside) (held : List ℕ) → IsUnserved new → IsFront held (first_comment asked.first_id) → length held ≤ tape_limit → PlaysNothing asked new held
+plays-nothing asked new held unserved front room =
+    let read = first-line-read asked held front room in
+    let command = over_events (replay asked.first_id) in
+    let made = made_text asked.first_id in
+    record {
+      unserved = unserved;
+      front = front;
+      good = ap (λ (x : Reading (List GateEvent)). x.bad) read.read-is;
+      none = ap (λ (x : Reading (List GateEvent)). x.after.kept) read.read-is ∙ read.kept-is;
+      prints = ap (λ (x : Reading (List GateEvent)). made ++ x.text ++ last_text command x) read.read-is
+          ∙ ap (λ (l : List ℕ). l ++ counts_line (counts_of asked.first_id (history asked.first_id read.to.kept))) (append-nil made)
+          ∙ ap (λ (l : List GateEvent). made ++ counts_line (counts_of asked.first_id (history asked.first_id l))) read.kept-is;
+    }
+
+unmade-replays : (status : Status) (asked : ServeSettings) (c : Course) (before : Option (List ℕ)) (new : Outside) (held : List ℕ) (t t' : Counts) → IsUnmade status t t' → IsAsBefore before new held → Replays status asked c before new held
+unmade-replays Usage asked c before new held t t' is x = x
+unmade-replays WriteFault asked c before new held t t' is x = inl x
+unmade-replays OutOfMemory asked c before new held t t' is x = inl x
+unmade-replays Done asked c before new held t t' is x = absurd is
+unmade-replays Refused asked c before new held t t' is x = absurd is
+unmade-replays ReadFault asked c before new held t t' is x = absurd is
+unmade-replays (LinkFault side) asked c before new held t t' is x = absurd is
+unmade-replays (BadTape n) asked c before new held t t' is x = absurd is
+unmade-replays Idle asked c before new held t t' is x = absurd is
+unmade-replays Spent asked c before new held t t' is x = absurd is
+
+unbegun-replays : (status : Status) (asked : ServeSettings) (c : Course) (before after : Option (List ℕ)) (new : Outside) (held : List ℕ) (t t' : Counts) → after ≡ Some held → length held ≤ tape_limit → IsUnmade status t t' → IsUnserved new → IsUnbegun asked.first_id status before after → Replays status asked c before new held
+unbegun-replays status asked c before after new held t t' tape-is room is none (inl same) = unmade-replays status asked c before new held t t' is (record { unserved = none; before-is = sym same ∙ tape-is })
+unbegun-replays status asked c before after new held t t' tape-is room is none (inr cut) =
+    let front = subst (λ (o : Option (List ℕ)). IfSome o (λ (l : List ℕ). IsFront l (first_comment asked.first_id))) tape-is cut.1 in
+    subst (λ (s : Status). Replays s asked c before new held) (sym cut.0) (inr (inl (plays-nothing asked new held none front room)))
 
 -- ---- the law
 
@@ -371,14 +392,14 @@ told-line None line recorded waiting h is none = tt
 told-line (Some l) line recorded waiting h is none = (h ∙ sym is, sym none)
 
 pub replays : (status : Status) (asked : ServeSettings) (name : List ℕ) (old new : Outside) (f f' : Faults) (w w' : Written) (c : Course) (held : List ℕ) → asked.recording ≡ Some name → Serves status asked old new f f' w w' → IsFresh asked c
-    → Tells old (written w.begun w.told None) c → w'.tape ≡ Some held → length held ≤ tape_limit → Replays status asked c new held
+    → Tells old (written w.begun w.told None) c → w'.tape ≡ Some held → length held ≤ tape_limit → Replays status asked c w.tape new held
 replays status asked name old new f f' w w' c held asks serves fresh tells tape-is room = go (subst (λ (o : Option (List ℕ)). ServesBy o asked status old new f f' w w') asks serves)
   where
-    go : IsUnrecorded status old new f f' w w' ⊎ IsRecorded asked status old new f f' w w' → Replays status asked c new held
+    go : IsUnrecorded asked status old new f f' w w' ⊎ IsRecorded asked status old new f f' w w' → Replays status asked c w.tape new held
     go (inl x) =
-        unmade-replays status asked c new held f.tape f'.tape x.cause
-        (subst IsUnserved (sym x.outside-is) (untouched asked c old (written w.begun w.told None) fresh tells))
+        unbegun-replays status asked c w.tape w'.tape new held f.tape f'.tape tape-is room x.cause
+        (subst IsUnserved (sym x.outside-is) (untouched asked c old (written w.begun w.told None) fresh tells)) x.tape
     go (inr x) =
-        subst (λ (s : Status). Replays s asked c new held) (sym x.ends.status-is)
+        subst (λ (s : Status). Replays s asked c w.tape new held) (sym x.ends.status-is)
         (end-replays asked c x.ends.end new w' held fresh tape-is room
-        (x.ends.leaves c fresh.begins (record { client = tells.client; host = tells.host; clients = tells.clients; told = tells.told; tape = told-line x.known (first_comment asked.first_id) c.recorded c.waiting x.first_line fresh.recorded-is fresh.begins.none_waits })))
+        (x.ends.leaves c fresh.begins (record { client = tells.client; host = tells.host; clients = tells.clients; told = tells.told; tape = told-line x.known (first_comment asked.first_id) c.recorded c.waiting x.first_line fresh.recorded-is fresh.begins.none_waits })) w.tape)

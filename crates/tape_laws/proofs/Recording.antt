@@ -1,19 +1,25 @@
 -- What is read of a recording, and of a front of one.
-use Rattle.std.proofs.Common.{◌≡◌, ◌≤◌, ℕ, false, List, [], ◌∷◌, ◌++◌, length, refl, sym, ap, ◌∙◌, append_assoc, append-nil, arith}
+use Rattle.std.proofs.Common.{◌≡◌, ◌⊎◌, ◌≤◌, ℕ, zero, suc, ◌+◌, ◌-◌, Bool, false, cond, ◌&&◌, ◌==◌, inl, inr, List, [], ◌∷◌, ◌++◌, length, take, slice_index, nat_eq, nat_lt, Option, Some, None, refl, sym, ap, subst, ◌∙◌, append_assoc, append-nil, arith}
+use Rattle.std.proofs.lemmas.Bool.{cond_both, eqb-true, false_from_ne_true, le-ltb}
 use Rattle.std.proofs.lemmas.List.{length-append}
 use Rattle.gate_history.specs.step.Events.{Event as GateEvent}
 use Rattle.session_tape.specs.Lines.{first_comment}
 use Rattle.bridge_run.specs.Events.{LinkEvent}
 use Rattle.bridge_run.specs.Gate.{gate_events}
-use Rattle.usbgate_tapes.specs.tape.Tape.{lines_of}
+use Rattle.packet_show.specs.declared.tape.TapeKind.TheVariants.{Replay}
+use Rattle.packet_show.specs.declared.tape.TapeLine.{TapeLine}
+use Rattle.packet_show.specs.declared.tape.TapeLine.TheVariants.{Skip}
+use Rattle.packet_show.specs.Tape.{tape_line}
+use Rattle.bridge_run.specs.Log.{IsFront}
+use Rattle.usbgate_tapes.specs.tape.Tape.{before_first, lines_of, content}
 use Rattle.usbgate_tapes.specs.Text.{made_text}
-use Rattle.usbgate_tapes.specs.tape.TapeCommand.{tape_limit, Progress, begin, one_further, Reading, read_lines, last_text}
-use Rattle.usbgate_tapes.specs.tape.EventCommand.{over_events}
+use Rattle.usbgate_tapes.specs.tape.TapeCommand.{tape_limit, Progress, begin, one_further, next_line, Reading, on_line, read_lines, last_text}
+use Rattle.usbgate_tapes.specs.tape.EventCommand.{on_said, over_events}
 use Rattle.usbgate_tapes.specs.Replay.{replay}
 use Rattle.usbgate_commands.specs.Serving.{ServeSettings}
 use Rattle.usbgate_tapes.specs.Run.{HasNoLF}
 use Rattle.usbgate_tapes.proofs.lemmas.tape.Lines.{HasNoLF-append}
-use Rattle.std.specs.Prelude.{codes}
+use Rattle.std.specs.Prelude.{codes, option_map}
 use Rattle.std.specs.Fmt.{decimal}
 use Rattle.bridge_run.specs.Recorded.{lines_of as event_lines}
 use Rattle.tape_laws.specs.Recordings.{recorded, served, replayed, all_replayed}
@@ -87,3 +93,67 @@ line-comes asked events e fit room =
       reads = reads-both command (begin command) before.to last.to (recording asked events) (event_lines e []) (all_replayed asked events) (replayed asked events e) before.reads last.reads;
       kept-is = last.kept-is;
     }
+
+-- ---- a front of the first line
+
+-- a front of a line is one line, or nothing
+one-line : (part held lost : List ℕ) → HasNoLF part → part ++ 10 ∷ [] ≡ held ++ lost → (held ≡ []) ⊎ (lines_of held ≡ held ∷ [])
+one-line part [] lost whole is = inl refl
+one-line [] (h ∷ []) lost whole is = let lf : h ≡ 10 = cc in inr (ap (λ (n : ℕ). lines_of (n ∷ [])) lf ∙ ap (λ (n : ℕ). (n ∷ []) ∷ []) (sym lf))
+one-line [] (h ∷ g ∷ hs) lost whole is = absurd cc
+one-line (p ∷ ps) (h ∷ hs) lost whole is =
+    let same : p ≡ h = cc in
+    let others : ps ++ 10 ∷ [] ≡ hs ++ lost = cc in
+    let no_lf : nat_eq h 10 ≡ false = false_from_ne_true (nat_eq h 10) (λ e. whole.0 (same ∙ eqb-true h 10 e)) in
+    inr (ap (λ (t : Bool). cond t ((10 ∷ []) ∷ lines_of hs) (before_first h (lines_of hs))) no_lf ∙ go (one-line ps hs lost whole.1 others))
+  where
+    go : (hs ≡ []) ⊎ (lines_of hs ≡ hs ∷ []) → before_first h (lines_of hs) ≡ (h ∷ hs) ∷ []
+    go (inl none) = ap (λ (l : List ℕ). before_first h (lines_of l)) none ∙ ap (λ (l : List ℕ). (h ∷ l) ∷ []) (sym none)
+    go (inr one) = ap (before_first h) one
+
+-- what begins with `#` says nothing, with an LF and without
+front-skips : (n : ℕ) (bs : List ℕ) → tape_line Replay (take n (35 ∷ bs)) ≡ Some Skip
+front-skips zero bs = refl
+front-skips (suc n) bs = refl
+
+comment-skips : (bs : List ℕ) → tape_line Replay (content (35 ∷ bs)) ≡ Some Skip
+comment-skips bs =
+    let line = 35 ∷ bs in
+    let last = length line - 1 in
+    cond_both (nat_lt 0 (length line) && (slice_index line last == 10)) (take last line) line (λ (l : List ℕ). tape_line Replay l ≡ Some Skip) (λ ends. front-skips last bs) (λ goes_on. refl)
+
+-- it is read as no event, and has no text
+pub record IsSilent (asked : ServeSettings) (held : List ℕ) : Type 0 where
+  pub to : Progress (List GateEvent)
+  pub read-is : read_of asked held ≡ record { text = []; after = to; bad = false }
+  pub kept-is : to.kept ≡ []
+
+comment-read : (asked : ServeSettings) (bs : List ℕ) → lines_of (35 ∷ bs) ≡ (35 ∷ bs) ∷ [] → length (35 ∷ bs) ≤ tape_limit → IsSilent asked (35 ∷ bs)
+comment-read asked bs one room =
+    let command = over_events (replay asked.first_id) in
+    let from = begin command in
+    let line = 35 ∷ bs in
+    let none : List ℕ × List GateEvent = ([], []) in
+    let within : nat_lt tape_limit (0 + length line) ≡ false = le-ltb tape_limit (0 + length line) (omega (arith, room)) in
+    let next : next_line command from line ≡ Some (one_further from line none) =
+    ap (λ (t : Bool). cond t None (option_map (one_further from line) (command.line [] (content line)))) within
+    ∙ ap (λ (o : Option TapeLine). option_map (one_further from line) (on_said (replay asked.first_id) [] o)) (comment-skips bs) in
+    record {
+      to = (one_further from line none).1;
+      read-is = ap (λ (l : List (List ℕ)). read_lines command from l) one ∙ ap (λ (o : Option (List ℕ × Progress (List GateEvent))). on_line from (λ (q : Progress (List GateEvent)). read_lines command q []) o) next;
+      kept-is = refl;
+    }
+
+comment-front : (asked : ServeSettings) (words held lost : List ℕ) → HasNoLF (35 ∷ words) → (35 ∷ words) ++ 10 ∷ [] ≡ held ++ lost → length held ≤ tape_limit → IsSilent asked held
+comment-front asked words [] lost whole is room = record { to = begin (over_events (replay asked.first_id)); read-is = refl; kept-is = refl }
+comment-front asked words (h ∷ hs) lost whole is room = subst (λ (n : ℕ). IsSilent asked (n ∷ hs)) hash (go (one-line (35 ∷ words) (h ∷ hs) lost whole is))
+  where
+    hash : 35 ≡ h
+    hash = cc
+
+    go : (h ∷ hs ≡ []) ⊎ (lines_of (h ∷ hs) ≡ (h ∷ hs) ∷ []) → IsSilent asked (35 ∷ hs)
+    go (inl none) = absurd cc
+    go (inr one) = comment-read asked hs (subst (λ (n : ℕ). lines_of (n ∷ hs) ≡ (n ∷ hs) ∷ []) (sym hash) one) room
+
+pub first-line-read : (asked : ServeSettings) (held : List ℕ) → IsFront held (first_comment asked.first_id) → length held ≤ tape_limit → IsSilent asked held
+first-line-read asked held front room = comment-front asked (codes " --first-id " ++ decimal asked.first_id) held front.0 (first-whole asked.first_id) front.1 room

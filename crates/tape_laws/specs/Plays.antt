@@ -10,6 +10,7 @@ use Rattle.bridge_run.specs.Course.{Course, Next, Making}
 use Rattle.bridge_run.specs.Calls.{Goes, Stops, call, course_of}
 use Rattle.bridge_run.specs.Outside.{Outside}
 use Rattle.bridge_run.specs.Gate.{gate_events}
+use Rattle.bridge_run.specs.Log.{IsFront}
 use Rattle.bridge_run.specs.GateStops.{gate_runs_out}
 use Rattle.bridge_run.specs.Prescribed.{gained}
 use Rattle.bridge_run.specs.RanOut.{RanOutWithin}
@@ -107,19 +108,34 @@ pub record PlaysInPart (asked : ServeSettings) (c : Course) (new : Outside) (hel
   pub client : WroteFront new.client.written (to_clients (served asked) events)
   pub host : WroteFront new.host.written (to_host (served asked) events)
 
--- nothing was served, since no file was made, or its first line wasn't written
+-- nothing was written to a link
 pub record IsUnserved (new : Outside) : Type 0 where
   pub client : new.client.written ≡ Some []
   pub host : new.host.written ≡ Some []
 
-abbrev pub Replays : Status → ServeSettings → Course → Outside → List ℕ → Type 0
-Replays Done asked c new held = Plays asked c new held
-Replays Refused asked c new held = Plays asked c new held
-Replays Idle asked c new held = Plays asked c new held
-Replays Spent asked c new held = Plays asked c new held
-Replays Usage asked c new held = IsUnserved new
-Replays WriteFault asked c new held = IsUnserved new ⊎ PlaysInPart asked c new held
-Replays (LinkFault side) asked c new held = PlaysInPart asked c new held
-Replays OutOfMemory asked c new held = IsUnserved new ⊎ PlaysInPart asked c new held
-Replays ReadFault asked c new held = ⊥
-Replays (BadTape number) asked c new held = ⊥
+-- nothing was served, since no file was made, and the recording has what it had before
+pub record IsAsBefore (before : Option (List ℕ)) (new : Outside) (held : List ℕ) : Type 0 where
+  pub unserved : IsUnserved new
+  pub before-is : before ≡ Some held
+
+-- Nothing was served, since the first line couldn't be written, of which the tape has a front. It is read as no event, and
+-- its replay prints what a replay of nothing does: the hello and the counts.
+pub record PlaysNothing (asked : ServeSettings) (new : Outside) (held : List ℕ) : Type 0 where
+  pub unserved : IsUnserved new
+  pub front : IsFront held (first_comment asked.first_id)
+  pub good : (read_of asked held).bad ≡ false
+  pub none : (read_of asked held).after.kept ≡ []
+  pub prints : text_of asked held ≡ made_text asked.first_id ++ counts_line (counts_of asked.first_id (history asked.first_id []))
+
+-- what a tape that told so much before has then, and what its replay prints
+abbrev pub Replays : Status → ServeSettings → Course → Option (List ℕ) → Outside → List ℕ → Type 0
+Replays Done asked c before new held = Plays asked c new held
+Replays Refused asked c before new held = Plays asked c new held
+Replays Idle asked c before new held = Plays asked c new held
+Replays Spent asked c before new held = Plays asked c new held
+Replays Usage asked c before new held = IsAsBefore before new held
+Replays WriteFault asked c before new held = IsAsBefore before new held ⊎ (PlaysNothing asked new held ⊎ PlaysInPart asked c new held)
+Replays (LinkFault side) asked c before new held = PlaysInPart asked c new held
+Replays OutOfMemory asked c before new held = IsAsBefore before new held ⊎ PlaysInPart asked c new held
+Replays ReadFault asked c before new held = ⊥
+Replays (BadTape number) asked c before new held = ⊥

@@ -1,1 +1,2 @@
 mod Simulated
+mod Asked

@@ -6,17 +6,16 @@ ghost use Rattle.usb_base.specs.declared.side.Side.{Side as ASide};
 ghost use Rattle.usb_base.specs.declared.side.Side.TheVariants.{Client, Host};
 ghost use Rattle.session_tape.specs.Tapes.{WasThere};
 ghost use Rattle.bridge_run.specs.Log.{Told};
-ghost use Rattle.bridge_run.specs.Outside.{outside, written, faults, OneRose};
+ghost use Rattle.bridge_run.specs.Outside.{written, faults, OneRose};
 ghost use Rattle.usbgate_tapes.specs.declared.model.device.Device.{Device as ADevice};
-ghost use Rattle.usbgate_tapes.specs.Run.{RunLeaves, OpensNoLink, IsOfNoCommand, IsOfNoTape};
-ghost use Rattle.usbgate_tapes.specs.Logs.{LeavesByLog};
+ghost use Rattle.usbgate_tapes.specs.Run.{OpensNoLink, IsOfNoCommand, IsOfNoTape};
+ghost use Rattle.usbgate_tapes.specs.Logs.{RunLeaves};
 ghost use Rattle.usbgate_tapes.specs.Prescribed.{Prescribed};
 ghost use Rattle.usbgate.specs.Prescribed.{prescribed};
-ghost use Rattle.usbgate_tapes.specs.model.Simulated.{SimulatesTape, SimulatesByLog, MadeSimulates};
+ghost use Rattle.usbgate_tapes.specs.model.Simulated.{RunSimulates, MadeSimulates};
 ghost use Rattle.usbgate_commands.specs.Serving.{ServeSettings};
 ghost use Rattle.usbgate_commands.specs.Lending.{AskedLent};
-ghost use Rattle.usbgate_commands.specs.Logs.{ServesByLog, LendsByLog};
-ghost use Rattle.usbgate_commands.specs.Serves.{Serves, Lends};
+ghost use Rattle.usbgate_commands.specs.Logs.{RunServes, RunLends};
 ghost use Rattle.usbgate_commands.specs.Recording.{records};
 ghost use Rattle.usbgate_commands.specs.Words.{texts, command_of};
 
@@ -46,19 +45,15 @@ pub fn run<S: Source, K: Sink, D: Doors, T: MakeTape>(
     requires client_down { (D.link doors.old Client).up ≡ false }
     requires host_down { (D.link doors.old Host).up ≡ false }
     ensures leaves { (p : Prescribed) → prescribed (command_of (texts words.now)) ≡ Some p
-        → RunLeaves result p (S.remaining tape.old) (S.remaining tape.new) (K.contents out.old) (K.contents out.new) }
-    ensures leaves_log { (p : Prescribed) → prescribed (command_of (texts words.now)) ≡ Some p → LeavesByLog S.read_gives K.write_gives result p tape.old tape.new out.old out.new }
-    ensures simulates { (device : ADevice) → command_of (texts words.now) ≡ Command.Model device → SimulatesTape result device (S.remaining tape.old) }
-    ensures simulates_log { (device : ADevice) → command_of (texts words.now) ≡ Command.Model device → SimulatesByLog S.read_gives result device tape.old tape.new }
+        → RunLeaves S.read_gives K.write_gives S.remaining K.contents result p tape.old tape.new out.old out.new }
+    ensures simulates { (device : ADevice) → command_of (texts words.now) ≡ Command.Model device → RunSimulates S.read_gives S.remaining result device tape.old tape.new }
     ensures load_simulates { (count : ℕ) → command_of (texts words.now) ≡ Command.Load count → result ≡ Status.Done → MadeSimulates count }
     ensures serves { (asked : ServeSettings) → command_of (texts words.now) ≡ Command.Serve asked
-        → Serves result asked (outside (D.link doors.old) (D.door doors.old)) (outside (D.link doors.new) (D.door doors.new))
+        → RunServes D.call_gives D.link D.door (Told K.write_gives out.old out.new) result asked doors.old doors.new
         (faults (K.faults out.old) (T.counts recording.old)) (faults (K.faults out.new) (T.counts recording.new)) (written (K.contents out.old) (K.contents out.old) (T.contents recording.old)) (written (K.contents out.old) (K.contents out.new) (T.contents recording.new)) }
     ensures lends { (asked : AskedLent) → command_of (texts words.now) ≡ Command.Host asked
-        → Lends result asked (outside (D.link doors.old) (D.door doors.old)) (outside (D.link doors.new) (D.door doors.new))
+        → RunLends D.call_gives D.link D.door (Told K.write_gives out.old out.new) result asked doors.old doors.new
         (K.faults out.old) (K.faults out.new) (K.contents out.old) (K.contents out.new) }
-    ensures serves_log { (asked : ServeSettings) → command_of (texts words.now) ≡ Command.Serve asked → ServesByLog D.call_gives (Told K.write_gives out.old out.new) result asked doors.old doors.new }
-    ensures lends_log { (asked : AskedLent) → command_of (texts words.now) ≡ Command.Host asked → LendsByLog D.call_gives (Told K.write_gives out.old out.new) result asked doors.old doors.new }
     ensures usage { result ≡ Status.Usage → (command_of (texts words.now) ≡ Command.Unknown) ⊎ ((records (command_of (texts words.now)) ≡ true) × WasThere (T.counts recording.old) (T.counts recording.new)) }
     ensures no_command { command_of (texts words.now) ≡ Command.Unknown → IsOfNoCommand result }
     ensures made { (count : ℕ) → command_of (texts words.now) ≡ Command.Make count → IsOfNoTape result × (tape.new ≡ tape.old) }

@@ -71,7 +71,7 @@ unserved-so s w f begun out = record {
 
 unserved-by : (recording : Option (List ℕ)) (asked : ServeSettings) (w : Outside) (f : Faults) (out : Written) → ServesBy recording asked OutOfMemory w w f f out out
 unserved-by None asked w f out = record { tape-is = refl; counts-are = refl; ends = unserved-so (setting_of asked) w (faults f.sink (counts 0 0)) out.begun out.told }
-unserved-by (Some name) asked w f out = inl (record { outside-is = refl; sink = refl; told = refl; cause = refl })
+unserved-by (Some name) asked w f out = inl (record { outside-is = refl; sink = refl; told = refl; cause = refl; tape = inl refl })
 
 -- memory ran out before
 pub unserved : (asked : ServeSettings) (w : Outside) (f : Faults) (out : Written) → Serves OutOfMemory asked w w f f out out
@@ -258,7 +258,7 @@ serves-none (Some name) asked status old new f f' w w' is h = absurd (some-none 
     some-none e = cc
 
 pub serves-some : (recording : Option (List ℕ)) (name : List ℕ) (asked : ServeSettings) (status : Status) (old new : Outside) (f f' : Faults) (w w' : Written) → recording ≡ Some name
-    → IsUnrecorded status old new f f' w w' ⊎ IsRecorded asked status old new f f' w w' → ServesBy recording asked status old new f f' w w'
+    → IsUnrecorded asked status old new f f' w w' ⊎ IsRecorded asked status old new f f' w w' → ServesBy recording asked status old new f f' w w'
 serves-some None name asked status old new f f' w w' is h = absurd (none-some is)
   where
     none-some : None ≡ Some name → ⊥

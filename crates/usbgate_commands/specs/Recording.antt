@@ -1,8 +1,10 @@
 -- Which commands record, why a recording wasn't begun, and what serving counts.
-use Rattle.std.specs.Prelude.{◌≡◌, ◌≢◌, Bool, false, is_some}
+use Rattle.std.specs.Prelude.{◌≡◌, ◌≢◌, ◌⊎◌, ℕ, Bool, false, List, Option, IfSome, is_some}
 use Rattle.usb_base.specs.declared.side.Side.TheVariants.{Client, Host}
 use Rattle.gate_outside.specs.Faults.{Rose}
+use Rattle.session_tape.specs.Lines.{first_comment}
 use Rattle.session_tape.specs.Tapes.{Counts, OneFault, WasThere}
+use Rattle.bridge_run.specs.Log.{IsFront}
 use Rattle.bridge_run.specs.Outside.{Outside, Faults, OneRose}
 use Rattle.usbgate_commands.specs.declared.words.Command.{Command}
 use Rattle.usbgate_commands.specs.declared.words.Command.TheVariants.{Serve}
@@ -26,6 +28,10 @@ IsUnmade (LinkFault side) old new = ⊥
 IsUnmade (BadTape n) old new = ⊥
 IsUnmade Idle old new = ⊥
 IsUnmade Spent old new = ⊥
+
+-- such a recording has what it had before, or, where its first line couldn't be written, a front of that
+abbrev pub IsUnbegun : ℕ → Status → Option (List ℕ) → Option (List ℕ) → Type 0
+IsUnbegun first_id status old new = (new ≡ old) ⊎ ((status ≡ WriteFault) × IfSome new (λ held. IsFront held (first_comment first_id)))
 
 -- the causes of serving's ends, by counts
 pub record HasServed (status : Status) (old new : Outside) (faults_old faults_new : Faults) : Type 0 where

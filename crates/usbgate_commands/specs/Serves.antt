@@ -25,7 +25,7 @@ use Rattle.usbgate_tapes.specs.declared.status.Status.{Status}
 use Rattle.usbgate_tapes.specs.declared.status.Status.TheVariants.{Done, Refused, WriteFault, LinkFault, OutOfMemory, Idle, Spent}
 use Rattle.usbgate_commands.specs.Serving.{ServeSettings}
 use Rattle.usbgate_commands.specs.Lending.{AskedLent}
-use Rattle.usbgate_commands.specs.Recording.{IsUnmade}
+use Rattle.usbgate_commands.specs.Recording.{IsUnmade, IsUnbegun}
 
 -- so many bytes and clients may come: 2 ^ 62
 abbrev pub budget : ℕ
@@ -73,11 +73,12 @@ pub record EndsOf (runs_out : List LinkEvent → LinkEvent → List ℕ → List
 -- ---- serving, where the host is dialled first
 
 -- nothing was done, since no file was made, or its first line wasn't written
-pub record IsUnrecorded (status : Status) (old new : Outside) (faults_old faults_new : Faults) (written_old written_new : Written) : Type 0 where
+pub record IsUnrecorded (asked : ServeSettings) (status : Status) (old new : Outside) (faults_old faults_new : Faults) (written_old written_new : Written) : Type 0 where
   pub outside-is : new ≡ old
   pub sink : faults_new.sink ≡ faults_old.sink
   pub told : written_new.told ≡ written_old.told
   pub cause : IsUnmade status faults_old.tape faults_new.tape
+  pub tape : IsUnbegun asked.first_id status written_old.tape written_new.tape
 
 -- behind the first line, where the tape tells its bytes
 pub record IsRecorded (asked : ServeSettings) (status : Status) (old new : Outside) (faults_old faults_new : Faults) (written_old written_new : Written) : Type 0 where
@@ -94,7 +95,7 @@ pub record HasNoTape (asked : ServeSettings) (status : Status) (old new : Outsid
 abbrev pub ServesBy : Option (List ℕ) → ServeSettings → Status → (old new : Outside) → (faults_old faults_new : Faults) → (written_old written_new : Written) → Type 0
 ServesBy None asked status old new faults_old faults_new written_old written_new = HasNoTape asked status old new faults_old faults_new written_old written_new
 ServesBy (Some name) asked status old new faults_old faults_new written_old written_new =
-    IsUnrecorded status old new faults_old faults_new written_old written_new ⊎ IsRecorded asked status old new faults_old faults_new written_old written_new
+    IsUnrecorded asked status old new faults_old faults_new written_old written_new ⊎ IsRecorded asked status old new faults_old faults_new written_old written_new
 
 abbrev pub Serves : Status → ServeSettings → (old new : Outside) → (faults_old faults_new : Faults) → (written_old written_new : Written) → Type 0
 Serves status asked old new faults_old faults_new written_old written_new = ServesBy asked.recording asked status old new faults_old faults_new written_old written_new

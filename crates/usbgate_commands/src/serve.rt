@@ -6,7 +6,7 @@ ghost use Rattle.gate_outside.specs.Faults.{Rose};
 ghost use Rattle.session_tape.specs.Lines.{first_comment};
 ghost use Rattle.bridge_run.specs.Course.{Making};
 ghost use Rattle.bridge_run.specs.Outside.{outside, written, faults};
-ghost use Rattle.usbgate_commands.specs.Recording.{IsUnmade, HasServed};
+ghost use Rattle.usbgate_commands.specs.Recording.{IsUnmade, IsUnbegun, HasServed};
 ghost use Rattle.bridge_run.specs.Gate.{gate_sends};
 ghost use Rattle.bridge_run.specs.GateStops.{gate_runs_out};
 ghost use Rattle.bridge_run.specs.Log.{Told};
@@ -65,6 +65,7 @@ fn begin<T: MakeTape>(
     ensures first_line { OnOk result (IfSome (T.contents recording.new) (λ held. held ≡ first_comment first_id)) }
     ensures stands { OnOk result (T.counts recording.new ≡ T.counts recording.old) }
     ensures cause { IfErr result (λ status. IsUnmade status (T.counts recording.old) (T.counts recording.new)) }
+    ensures unbegun { IfErr result (λ status. IsUnbegun first_id status (T.contents recording.old) (T.contents recording.new)) }
 {
     let Ok(comment) = first_comment(alloc, u64::from(first_id)) else {
         return Err(Status::OutOfMemory);

@@ -58,8 +58,8 @@ LeavesTold Idle p tape text remaining contents = ⊥
 LeavesTold Spent p tape text remaining contents = ⊥
 
 -- over a tape and a sink that tell their bytes
-abbrev pub RunLeaves : Status → Prescribed → Option (List ℕ) → Option (List ℕ) → Option (List ℕ) → Option (List ℕ) → Type 0
-RunLeaves status p remaining_old remaining_new contents_old contents_new =
+abbrev pub LeavesWhereTold : Status → Prescribed → Option (List ℕ) → Option (List ℕ) → Option (List ℕ) → Option (List ℕ) → Type 0
+LeavesWhereTold status p remaining_old remaining_new contents_old contents_new =
     (tape text : List ℕ) → remaining_old ≡ Some tape → contents_old ≡ Some text → LeavesTold status p tape text remaining_new contents_new
 
 -- how a command can end that opens no link

@@ -5,13 +5,12 @@ ghost use Rattle.std.specs.Io.KnownBytes.{Appends};
 ghost use Rattle.gate_outside.specs.Faults.{HasCause};
 ghost use Rattle.gate_outside.specs.Front.{AppendsFront};
 ghost use Rattle.gate_outside.specs.Moved.{Moves, MovesFront};
-ghost use Rattle.usbgate_tapes.specs.Run.{RunLeaves};
-ghost use Rattle.usbgate_tapes.specs.Logs.{LeavesByLog};
+ghost use Rattle.usbgate_tapes.specs.Logs.{RunLeaves};
 ghost use Rattle.usbgate_tapes.specs.Prescribed.{over_tape as tape_prescribed};
 ghost use Rattle.usbgate_tapes.specs.tape.EventCommand.{over_events};
 ghost use Rattle.usbgate_tapes.specs.Replay.{replay as replaying};
 ghost use Rattle.usbgate_tapes.specs.model.Model.{model as modelling, model_of};
-ghost use Rattle.usbgate_tapes.specs.model.Simulated.{AreSimulated, SimulatesTape, AreSimulatedByLog, SimulatesByLog};
+ghost use Rattle.usbgate_tapes.specs.model.Simulated.{AreSimulated, RunSimulates};
 ghost use Rattle.usbgate_tapes.specs.Show.{show as showing, show_side};
 ghost use Rattle.usbgate_tapes.specs.inner.show.Show.{shown_by};
 ghost use Rattle.usbgate_tapes.specs.Causes.{HasCauses};
@@ -42,8 +41,7 @@ const CHUNK: usize = 65_536;
 /// Puts the events of a tape to a gate, and prints what that sends and which sides it refuses.
 pub fn replay<S: Source, K: Sink>(alloc: Global, first_id: u32, tape: &mut S, out: &mut K) -> Status
     requires { 1 ≤ first_id }
-    ensures leaves { RunLeaves result (tape_prescribed (over_events (replaying first_id))) (S.remaining tape.old) (S.remaining tape.new) (K.contents out.old) (K.contents out.new) }
-    ensures leaves_log { LeavesByLog S.read_gives K.write_gives result (tape_prescribed (over_events (replaying first_id))) tape.old tape.new out.old out.new }
+    ensures leaves { RunLeaves S.read_gives K.write_gives S.remaining K.contents result (tape_prescribed (over_events (replaying first_id))) tape.old tape.new out.old out.new }
     ensures causes { HasCauses result (S.faults tape.old) (S.faults tape.new) (K.faults out.old) (K.faults out.new) }
     ensures command { result ≢ Status.Usage }
 {
@@ -56,10 +54,8 @@ pub fn replay<S: Source, K: Sink>(alloc: Global, first_id: u32, tape: &mut S, ou
 
 /// Does the steps of a tape with a gateway and a modelled device, and prints what each tells.
 pub fn model<S: Source, K: Sink>(alloc: Global, device: Device, tape: &mut S, out: &mut K) -> Status
-    ensures leaves { RunLeaves result (tape_prescribed (model_of device)) (S.remaining tape.old) (S.remaining tape.new) (K.contents out.old) (K.contents out.new) }
-    ensures leaves_log { LeavesByLog S.read_gives K.write_gives result (tape_prescribed (model_of device)) tape.old tape.new out.old out.new }
-    ensures simulates { SimulatesTape result device (S.remaining tape.old) }
-    ensures simulates_log { SimulatesByLog S.read_gives result device tape.old tape.new }
+    ensures leaves { RunLeaves S.read_gives K.write_gives S.remaining K.contents result (tape_prescribed (model_of device)) tape.old tape.new out.old out.new }
+    ensures simulates { RunSimulates S.read_gives S.remaining result device tape.old tape.new }
     ensures causes { HasCauses result (S.faults tape.old) (S.faults tape.new) (K.faults out.old) (K.faults out.new) }
     ensures command { result ≢ Status.Usage }
 {
@@ -89,10 +85,8 @@ fn model_with<G: Gadget, S: Source, K: Sink>(
     tape: &mut S,
     out: &mut K,
 ) -> Status
-    ensures leaves { RunLeaves result (tape_prescribed (modelling G.meaning gadget)) (S.remaining tape.old) (S.remaining tape.new) (K.contents out.old) (K.contents out.new) }
-    ensures leaves_log { LeavesByLog S.read_gives K.write_gives result (tape_prescribed (modelling G.meaning gadget)) tape.old tape.new out.old out.new }
-    ensures simulates { AreSimulated result G.meaning gadget (S.remaining tape.old) }
-    ensures simulates_log { AreSimulatedByLog S.read_gives result G.meaning gadget tape.old tape.new }
+    ensures leaves { RunLeaves S.read_gives K.write_gives S.remaining K.contents result (tape_prescribed (modelling G.meaning gadget)) tape.old tape.new out.old out.new }
+    ensures simulates { AreSimulated S.read_gives S.remaining result G.meaning gadget tape.old tape.new }
     ensures causes { HasCauses result (S.faults tape.old) (S.faults tape.new) (K.faults out.old) (K.faults out.new) }
     ensures command { result ≢ Status.Usage }
 {
@@ -106,8 +100,7 @@ fn model_with<G: Gadget, S: Source, K: Sink>(
 
 /// Prints the packets of one side's stream in a tape.
 pub fn show<S: Source, K: Sink>(alloc: Global, side: Side, tape: &mut S, out: &mut K) -> Status
-    ensures leaves { RunLeaves result (tape_prescribed (over_events (showing side))) (S.remaining tape.old) (S.remaining tape.new) (K.contents out.old) (K.contents out.new) }
-    ensures leaves_log { LeavesByLog S.read_gives K.write_gives result (tape_prescribed (over_events (showing side))) tape.old tape.new out.old out.new }
+    ensures leaves { RunLeaves S.read_gives K.write_gives S.remaining K.contents result (tape_prescribed (over_events (showing side))) tape.old tape.new out.old out.new }
     ensures causes { HasCauses result (S.faults tape.old) (S.faults tape.new) (K.faults out.old) (K.faults out.new) }
     ensures command { result ≢ Status.Usage }
 {
@@ -122,8 +115,7 @@ fn show_stream<F: ShownFormat, S: Source, K: Sink>(
     tape: &mut S,
     out: &mut K,
 ) -> Status
-    ensures leaves { RunLeaves result (tape_prescribed (over_events (show_side (shown_by F.the_side F.format F.after F.first_state F.bytes F.line)))) (S.remaining tape.old) (S.remaining tape.new) (K.contents out.old) (K.contents out.new) }
-    ensures leaves_log { LeavesByLog S.read_gives K.write_gives result (tape_prescribed (over_events (show_side (shown_by F.the_side F.format F.after F.first_state F.bytes F.line)))) tape.old tape.new out.old out.new }
+    ensures leaves { RunLeaves S.read_gives K.write_gives S.remaining K.contents result (tape_prescribed (over_events (show_side (shown_by F.the_side F.format F.after F.first_state F.bytes F.line)))) tape.old tape.new out.old out.new }
     ensures causes { HasCauses result (S.faults tape.old) (S.faults tape.new) (K.faults out.old) (K.faults out.new) }
     ensures command { result ≢ Status.Usage }
 {

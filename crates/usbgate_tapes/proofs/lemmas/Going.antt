@@ -14,13 +14,12 @@ use Rattle.usbgate_tapes.specs.tape.Tape.{lines_of}
 use Rattle.usbgate_tapes.specs.tape.TapeCommand.{TapeCommand, tape_limit, begin, Reading, read_lines, read_tape, tape_text}
 use Rattle.usbgate_tapes.specs.Prescribed.{Prescribed, over_tape}
 use Rattle.usbgate_tapes.specs.Causes.{HasCauses}
-use Rattle.usbgate_tapes.specs.Run.{ReadInPart, WrittenInPart, WrittenWhole, LeavesTold, RunLeaves, OpensNoLink, ComesToEnd}
-use Rattle.usbgate_tapes.specs.Logs.{LeavesByLog}
+use Rattle.usbgate_tapes.specs.Run.{ReadInPart, WrittenInPart, WrittenWhole, LeavesTold, OpensNoLink, ComesToEnd}
 use Rattle.usbgate_tapes.specs.Wants.{ReadWants}
 use Rattle.usbgate_tapes.specs.inner.tape.TapeReader.{IsKept, Stage, Closes, Runs, end_text}
 use Rattle.usbgate_tapes.proofs.lemmas.tape.Stages.{text_begins}
 use Rattle.usbgate_tapes.proofs.lemmas.Moving.{moves-none, moves-append, at_end}
-use Rattle.usbgate_tapes.proofs.lemmas.Unread.{leaves-none, logs-none, write-memory}
+use Rattle.usbgate_tapes.proofs.lemmas.Unread.{leaves-none, write-memory}
 use Rattle.usbgate_tapes.proofs.lemmas.tape.Wanting.{whole-read}
 use Rattle.usbgate_tapes.proofs.lemmas.Told.{remaining_told, at_end_told, leaves-told}
 
@@ -200,7 +199,7 @@ module _ {C T S K : Type 0} {command : TapeCommand T} {Keeps : C → T → Type 
 
   -- memory runs out before anything was read
   pub runs-none : (tape : S) (out : K) → Runs command Keeps read_gives write_gives remaining contents OutOfMemory tape tape out out
-  runs-none tape out = record { leaves = leaves-none (over_tape command) (remaining tape) (contents out); leaves_log = logs-none read_gives write_gives (over_tape command) tape out; kept = tt; kept_log = tt }
+  runs-none tape out = record { leaves = leaves-none read_gives write_gives remaining contents (over_tape command) tape out; kept = record { by_log = tt; where_told = tt } }
 
   -- a front of the text is written
   in_part : {tape_old tape : S} {out_old out : K} {p : TapeReader C} (g : Goes command Keeps read_gives write_gives remaining contents tape_old tape out_old out p) (front back : List ℕ) → p.text ≡ front ++ back → (later : List ℕ) → WrittenInPart (over_tape command) (moved g.reads ++ later) [] (Some (g.written ++ front))
@@ -216,18 +215,19 @@ module _ {C T S K : Type 0} {command : TapeCommand T} {Keeps : C → T → Type 
   -- the write of the text fails
   pub runs-write : {tape_old tape : S} {out_old out new : K} {p : TapeReader C} {bytes : List ℕ} → Goes command Keeps read_gives write_gives remaining contents tape_old tape out_old out p → bytes ≡ p.text → AppendsFront (contents out) (contents new) bytes → MovesFront write_gives bytes out new → Runs command Keeps read_gives write_gives remaining contents WriteFault tape_old tape out_old new
   runs-write {tape_old = tape_old} {tape = tape} {out_old = out_old} {out = out} {new = new} g bytes-is f m = record {
-    leaves = leaves-told WriteFault (over_tape command) (remaining tape_old) (remaining tape) (contents out_old) (contents new) (moved g.reads) (g.written ++ f.front) g.consumed
-        (Appends-trans (contents out_old) (contents out) (contents new) g.written f.front g.wrote f.appends) (λ later told. in_part g f.front f.back (sym bytes-is ∙ f.parts) later);
-    leaves_log = record {
-      reads = g.reads;
-      read = g.read;
-      written = g.written ++ m.front;
-      writes = moves-append write_gives g.written m.front out_old out new g.writes m.moves;
-      leaves = λ later follows. in_part g m.front m.back (sym bytes-is ∙ m.parts) later;
-      wants = λ e. write-memory e;
+    leaves = record {
+      by_log = record {
+        reads = g.reads;
+        read = g.read;
+        written = g.written ++ m.front;
+        writes = moves-append write_gives g.written m.front out_old out new g.writes m.moves;
+        leaves = λ later follows. in_part g m.front m.back (sym bytes-is ∙ m.parts) later;
+        wants = λ e. write-memory e;
+      };
+      where_told = leaves-told WriteFault (over_tape command) (remaining tape_old) (remaining tape) (contents out_old) (contents new) (moved g.reads) (g.written ++ f.front) g.consumed
+          (Appends-trans (contents out_old) (contents out) (contents new) g.written f.front g.wrote f.appends) (λ later told. in_part g f.front f.back (sym bytes-is ∙ f.parts) later);
     };
-    kept = tt;
-    kept_log = tt;
+    kept = record { by_log = tt; where_told = tt };
   }
 
   -- the text of whole lines is written
@@ -257,18 +257,19 @@ module _ {C T S K : Type 0} {command : TapeCommand T} {Keeps : C → T → Type 
   pub runs-read : {tape_old tape new : S} {out_old out : K} {p : TapeReader C} (buf : List ℕ) (failed : Failed) → Goes command Keeps read_gives write_gives remaining contents tape_old tape out_old out p → p.text ≡ [] → KeepsBytes (remaining tape) (remaining new) → read_gives tape buf (Err failed) new
       → Runs command Keeps read_gives write_gives remaining contents ReadFault tape_old new out_old out
   runs-read {tape_old = tape_old} {tape = tape} {new = new} {out_old = out_old} {out = out} buf failed g none kept gives = record {
-    leaves = leaves-told ReadFault (over_tape command) (remaining tape_old) (remaining new) (contents out_old) (contents out) (moved g.reads) g.written
-        (Consumes-kept (remaining tape_old) (remaining tape) (remaining new) (moved g.reads) g.consumed kept) g.wrote (λ later told. read-part g none later);
-    leaves_log = record {
-      reads = record { bytes = buf; answer = Err failed } ∷ g.reads;
-      read = (tape, (g.read, gives));
-      written = g.written;
-      writes = g.writes;
-      leaves = λ later follows. part-alone g none later;
-      wants = λ e. read-memory e;
+    leaves = record {
+      by_log = record {
+        reads = record { bytes = buf; answer = Err failed } ∷ g.reads;
+        read = (tape, (g.read, gives));
+        written = g.written;
+        writes = g.writes;
+        leaves = λ later follows. part-alone g none later;
+        wants = λ e. read-memory e;
+      };
+      where_told = leaves-told ReadFault (over_tape command) (remaining tape_old) (remaining new) (contents out_old) (contents out) (moved g.reads) g.written
+          (Consumes-kept (remaining tape_old) (remaining tape) (remaining new) (moved g.reads) g.consumed kept) g.wrote (λ later told. read-part g none later);
     };
-    kept = tt;
-    kept_log = tt;
+    kept = record { by_log = tt; where_told = tt };
   }
 
   -- memory runs out after a piece was read
@@ -285,18 +286,19 @@ module _ {C T S K : Type 0} {command : TapeCommand T} {Keeps : C → T → Type 
   pub runs-memory : {tape_old tape new : S} {out_old out : K} {p : TapeReader C} (n : ℕ) (buf : List ℕ) (g : Goes command Keeps read_gives write_gives remaining contents tape_old tape out_old out p) → p.text ≡ [] → Consumes (remaining tape) (remaining new) (take n buf) → read_gives tape buf (Ok n) new
       → ReadWants (over_tape command) (moved g.reads) (take n buf) → Runs command Keeps read_gives write_gives remaining contents OutOfMemory tape_old new out_old out
   runs-memory {tape_old = tape_old} {tape = tape} {new = new} {out_old = out_old} {out = out} n buf g none read gives wants = record {
-    leaves = leaves-told OutOfMemory (over_tape command) (remaining tape_old) (remaining new) (contents out_old) (contents out) (moved g.reads ++ take n buf) g.written
-        (Consumes-trans (remaining tape_old) (remaining tape) (remaining new) (moved g.reads) (take n buf) g.consumed read) g.wrote (λ later told. memory-part g (take n buf) later);
-    leaves_log = record {
-      reads = record { bytes = buf; answer = Ok n } ∷ g.reads;
-      read = (tape, (g.read, gives));
-      written = g.written;
-      writes = g.writes;
-      leaves = λ later follows. memory-part g (take n buf) later;
-      wants = λ e. (subst (λ (l : List ℕ). ReadInPart (over_tape command) l [] (Some []) (Some g.written)) (append-nil (moved g.reads)) (read-part g none []), wants);
+    leaves = record {
+      by_log = record {
+        reads = record { bytes = buf; answer = Ok n } ∷ g.reads;
+        read = (tape, (g.read, gives));
+        written = g.written;
+        writes = g.writes;
+        leaves = λ later follows. memory-part g (take n buf) later;
+        wants = λ e. (subst (λ (l : List ℕ). ReadInPart (over_tape command) l [] (Some []) (Some g.written)) (append-nil (moved g.reads)) (read-part g none []), wants);
+      };
+      where_told = leaves-told OutOfMemory (over_tape command) (remaining tape_old) (remaining new) (contents out_old) (contents out) (moved g.reads ++ take n buf) g.written
+          (Consumes-trans (remaining tape_old) (remaining tape) (remaining new) (moved g.reads) (take n buf) g.consumed read) g.wrote (λ later told. memory-part g (take n buf) later);
     };
-    kept = tt;
-    kept_log = tt;
+    kept = record { by_log = tt; where_told = tt };
   }
 
   -- ---- the end
@@ -310,20 +312,24 @@ module _ {C T S K : Type 0} {command : TapeCommand T} {Keeps : C → T → Type 
       let consumed = Consumes-trans (remaining tape_old) (remaining tape) (remaining new) (moved g.reads) piece g.consumed read in
       let reads = record { bytes = buf; answer = Ok n } ∷ g.reads in
       record {
-        leaves = leaves-told status (over_tape command) (remaining tape_old) (remaining new) (contents out_old) (contents last) (moved g.reads ++ piece) (g.written ++ bytes) consumed
-            (Appends-trans (contents out_old) (contents out) (contents last) g.written bytes g.wrote a) (λ later told. end-whole piece (moved g.reads) c bytes-is later (λ e. at_end_told (remaining new) later (end e) told));
-        leaves_log = record {
-          reads = reads;
-          read = (tape, (g.read, gives));
-          written = g.written ++ bytes;
-          writes = moves-append write_gives g.written bytes out_old out last g.writes m;
-          leaves = λ later follows. end-whole piece (moved g.reads) c bytes-is later (at_end n buf g.reads later bound follows);
-          wants = λ e. absurd (closes-remembers command Keeps (moved g.reads) c e);
+        leaves = record {
+          by_log = record {
+            reads = reads;
+            read = (tape, (g.read, gives));
+            written = g.written ++ bytes;
+            writes = moves-append write_gives g.written bytes out_old out last g.writes m;
+            leaves = λ later follows. end-whole piece (moved g.reads) c bytes-is later (at_end n buf g.reads later bound follows);
+            wants = λ e. absurd (closes-remembers command Keeps (moved g.reads) c e);
+          };
+          where_told = leaves-told status (over_tape command) (remaining tape_old) (remaining new) (contents out_old) (contents last) (moved g.reads ++ piece) (g.written ++ bytes) consumed
+              (Appends-trans (contents out_old) (contents out) (contents last) g.written bytes g.wrote a) (λ later told. end-whole piece (moved g.reads) c bytes-is later (λ e. at_end_told (remaining new) later (end e) told));
         };
-        kept = comes-to status (λ whole told.
-            let t = remaining_told (remaining tape_old) (remaining new) (moved g.reads ++ piece) whole consumed told in
-            subst (λ (l : List ℕ). IsKept Keeps (read_tape command l).after.kept) (sym t.2) (c.kept t.0 (λ e. at_end_told (remaining new) t.0 (end e) t.1)));
-        kept_log = comes-to status (record { reads = reads; read = (tape, (g.read, gives)); each = λ later follows. c.kept later (at_end n buf g.reads later bound follows) });
+        kept = record {
+          by_log = comes-to status (record { reads = reads; read = (tape, (g.read, gives)); each = λ later follows. c.kept later (at_end n buf g.reads later bound follows) });
+          where_told = comes-to status (λ whole told.
+              let t = remaining_told (remaining tape_old) (remaining new) (moved g.reads ++ piece) whole consumed told in
+              subst (λ (l : List ℕ). IsKept Keeps (read_tape command l).after.kept) (sym t.2) (c.kept t.0 (λ e. at_end_told (remaining new) t.0 (end e) t.1)));
+        };
       }
 
   -- the last write fails
@@ -333,19 +339,20 @@ module _ {C T S K : Type 0} {command : TapeCommand T} {Keeps : C → T → Type 
   runs-last {tape_old = tape_old} {tape = tape} {new = new} {out_old = out_old} {out = out} {last = last} n buf g bound read end gives c bytes-is f m =
       let piece = take n buf in
       record {
-        leaves = leaves-told WriteFault (over_tape command) (remaining tape_old) (remaining new) (contents out_old) (contents last) (moved g.reads ++ piece) (g.written ++ f.front)
-            (Consumes-trans (remaining tape_old) (remaining tape) (remaining new) (moved g.reads) piece g.consumed read) (Appends-trans (contents out_old) (contents out) (contents last) g.written f.front g.wrote f.appends)
-            (λ later told. last-part piece (moved g.reads) f.front f.back c (sym bytes-is ∙ f.parts) later (λ e. at_end_told (remaining new) later (end e) told));
-        leaves_log = record {
-          reads = record { bytes = buf; answer = Ok n } ∷ g.reads;
-          read = (tape, (g.read, gives));
-          written = g.written ++ m.front;
-          writes = moves-append write_gives g.written m.front out_old out last g.writes m.moves;
-          leaves = λ later follows. last-part piece (moved g.reads) m.front m.back c (sym bytes-is ∙ m.parts) later (at_end n buf g.reads later bound follows);
-          wants = λ e. write-memory e;
+        leaves = record {
+          by_log = record {
+            reads = record { bytes = buf; answer = Ok n } ∷ g.reads;
+            read = (tape, (g.read, gives));
+            written = g.written ++ m.front;
+            writes = moves-append write_gives g.written m.front out_old out last g.writes m.moves;
+            leaves = λ later follows. last-part piece (moved g.reads) m.front m.back c (sym bytes-is ∙ m.parts) later (at_end n buf g.reads later bound follows);
+            wants = λ e. write-memory e;
+          };
+          where_told = leaves-told WriteFault (over_tape command) (remaining tape_old) (remaining new) (contents out_old) (contents last) (moved g.reads ++ piece) (g.written ++ f.front)
+              (Consumes-trans (remaining tape_old) (remaining tape) (remaining new) (moved g.reads) piece g.consumed read) (Appends-trans (contents out_old) (contents out) (contents last) g.written f.front g.wrote f.appends)
+              (λ later told. last-part piece (moved g.reads) f.front f.back c (sym bytes-is ∙ f.parts) later (λ e. at_end_told (remaining new) later (end e) told));
         };
-        kept = tt;
-        kept_log = tt;
+        kept = record { by_log = tt; where_told = tt };
       }
 
 -- ---- a read

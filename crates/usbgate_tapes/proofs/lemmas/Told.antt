@@ -5,7 +5,7 @@ use Rattle.std.specs.Io.KnownBytes.{Appends, Consumes, IsAtEnd}
 use Rattle.usbgate_tapes.specs.declared.status.Status.{Status}
 use Rattle.usbgate_tapes.specs.declared.status.Status.TheVariants.{Done, Usage, Refused, ReadFault, WriteFault, LinkFault, OutOfMemory, BadTape, Idle, Spent}
 use Rattle.usbgate_tapes.specs.Prescribed.{Prescribed}
-use Rattle.usbgate_tapes.specs.Run.{ReadInPart, WrittenInPart, WrittenWhole, LeavesTold, RunLeaves}
+use Rattle.usbgate_tapes.specs.Run.{ReadInPart, WrittenInPart, WrittenWhole, LeavesTold, LeavesWhereTold}
 
 -- the tape, where it is told, is what was read and what is remaining
 pub remaining_told : (old new : Option (List ℕ)) (read tape : List ℕ) → Consumes old new read → old ≡ Some tape → (rest : List ℕ) × (new ≡ Some rest) × (tape ≡ read ++ rest)
@@ -59,7 +59,7 @@ behind_text Spent p tape text written remaining h = absurd h
 
 -- what is left of any tape that begins so is left of one that tells its bytes
 pub leaves-told : (status : Status) (p : Prescribed) (remaining_old remaining contents_old contents : Option (List ℕ)) (read written : List ℕ) → Consumes remaining_old remaining read → Appends contents_old contents written
-    → ((later : List ℕ) → remaining ≡ Some later → LeavesTold status p (read ++ later) [] (Some later) (Some written)) → RunLeaves status p remaining_old remaining contents_old contents
+    → ((later : List ℕ) → remaining ≡ Some later → LeavesTold status p (read ++ later) [] (Some later) (Some written)) → LeavesWhereTold status p remaining_old remaining contents_old contents
 leaves-told status p remaining_old remaining contents_old contents read written consumed wrote leaves = λ tape text tape_told text_told.
     let t = remaining_told remaining_old remaining read tape consumed tape_told in
     subst (λ (l : List ℕ). LeavesTold status p l text remaining contents) (sym t.2)

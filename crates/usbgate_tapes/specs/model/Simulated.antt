@@ -22,28 +22,19 @@ use Rattle.usbgate_tapes.specs.tape.TapeCommand.{read_tape}
 abbrev pub steps_of : {S : Type 0} → Meaning S → S → List ℕ → List Step
 steps_of m s tape = (read_tape (model m s) tape).after.kept
 
--- where the run comes to the end of a tape that tells its bytes, or to a bad line, what its steps told and sent is what the
--- device does and answers that is attached directly and begins in state s
-abbrev pub AreSimulated : {S : Type 0} → Status → Meaning S → S → Option (List ℕ) → Type 0
-AreSimulated status m s remaining = ComesToEnd status ((tape : List ℕ) → remaining ≡ Some tape → Simulates m s (steps_of m s tape))
+-- Where the run comes to the end of its tape, or to a bad line, what its steps told and sent is what the device does and
+-- answers that is attached directly and begins in state s: by the log of the reads, of each tape that begins with what
+-- they gave, and of a tape that tells its bytes.
+pub record AreSimulated {S T : Type 0} (read_gives : T → List ℕ → Result ℕ Failed → T → Type 0) (remaining : T → Option (List ℕ)) (status : Status) (m : Meaning S) (s : S) (old new : T) : Type 0 where
+  pub by_log : ComesToEnd status (HoldsOfRead read_gives (λ tape. Simulates m s (steps_of m s tape)) old new)
+  pub where_told : ComesToEnd status ((tape : List ℕ) → remaining old ≡ Some tape → Simulates m s (steps_of m s tape))
 
 -- of each device, as it is plugged in
-abbrev pub SimulatesTape : Status → Device → Option (List ℕ) → Type 0
-SimulatesTape status Keyboard remaining = AreSimulated status (meaning_of keyboard) (first_state keyboard) remaining
-SimulatesTape status Loopback remaining = AreSimulated status (meaning_of loopback) (first_state loopback) remaining
-SimulatesTape status Tone remaining = AreSimulated status (meaning_of tone) (first_state tone) remaining
-SimulatesTape status Disk remaining = AreSimulated status disk (first_disk 64) remaining
-
--- the same by the log of the reads, over any tape: of each that begins with what they gave
-abbrev pub AreSimulatedByLog : {S T : Type 0} → (T → List ℕ → Result ℕ Failed → T → Type 0) → Status → Meaning S → S → T → T → Type 0
-AreSimulatedByLog read_gives status m s old new = ComesToEnd status (HoldsOfRead read_gives (λ tape. Simulates m s (steps_of m s tape)) old new)
-
--- of each device, as it is plugged in
-abbrev pub SimulatesByLog : {T : Type 0} → (T → List ℕ → Result ℕ Failed → T → Type 0) → Status → Device → T → T → Type 0
-SimulatesByLog read_gives status Keyboard old new = AreSimulatedByLog read_gives status (meaning_of keyboard) (first_state keyboard) old new
-SimulatesByLog read_gives status Loopback old new = AreSimulatedByLog read_gives status (meaning_of loopback) (first_state loopback) old new
-SimulatesByLog read_gives status Tone old new = AreSimulatedByLog read_gives status (meaning_of tone) (first_state tone) old new
-SimulatesByLog read_gives status Disk old new = AreSimulatedByLog read_gives status disk (first_disk 64) old new
+abbrev pub RunSimulates : {T : Type 0} → (T → List ℕ → Result ℕ Failed → T → Type 0) → (T → Option (List ℕ)) → Status → Device → T → T → Type 0
+RunSimulates read_gives remaining status Keyboard old new = AreSimulated read_gives remaining status (meaning_of keyboard) (first_state keyboard) old new
+RunSimulates read_gives remaining status Loopback old new = AreSimulated read_gives remaining status (meaning_of loopback) (first_state loopback) old new
+RunSimulates read_gives remaining status Tone old new = AreSimulated read_gives remaining status (meaning_of tone) (first_state tone) old new
+RunSimulates read_gives remaining status Disk old new = AreSimulated read_gives remaining status disk (first_disk 64) old new
 
 -- of the loop, by the steps of the tape that a number stands for
 abbrev pub MadeSimulates : ℕ → Type 0

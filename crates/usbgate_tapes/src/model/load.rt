@@ -1,12 +1,12 @@
 //! The command `load`: what a modelled loop makes of the tape that a number stands for.
 
-ghost use Rattle.std.specs.Prelude.{◌≡◌, ◌≤◌, [], ℕ, List, Option, IfOk, OnOk};
+ghost use Rattle.std.specs.Prelude.{◌≡◌, ◌≤◌, [], ℕ, IfOk, OnOk};
 ghost use Rattle.direct_run.specs.Stands.{Stands};
 ghost use Rattle.made_tape.specs.Rounds.{made_lines};
 ghost use Rattle.usbgate_tapes.specs.model.Made.{loaded};
 ghost use Rattle.usbgate_tapes.specs.Prescribed.{printed};
-ghost use Rattle.usbgate_tapes.specs.Run.{RunLeaves, IsOfNoTape};
-ghost use Rattle.usbgate_tapes.specs.Logs.{WritesByLog};
+ghost use Rattle.usbgate_tapes.specs.Run.{IsOfNoTape};
+ghost use Rattle.usbgate_tapes.specs.Logs.{RunWrites};
 ghost use Rattle.usbgate_tapes.specs.model.Simulated.{MadeSimulates};
 ghost use Rattle.usbgate_tapes.specs.Causes.{HasCauses};
 ghost use Rattle.usbgate_tapes.specs.inner.model.Loaded.{steps_after};
@@ -26,8 +26,7 @@ use usb_base::{Bytes, Memory};
 /// Prints the counts.
 pub fn load<K: Sink>(alloc: Global, count: u16, out: &mut K) -> Status
     requires { count ≤ 1000 }
-    ensures leaves { (remaining : Option (List ℕ)) → RunLeaves result (printed (loaded count)) remaining remaining (K.contents out.old) (K.contents out.new) }
-    ensures writes_log { WritesByLog K.write_gives result (printed (loaded count)) out.old out.new }
+    ensures leaves { RunWrites K.write_gives K.contents result (printed (loaded count)) out.old out.new }
     ensures causes { (faults : ℕ) → HasCauses result faults faults (K.faults out.old) (K.faults out.new) }
     ensures ends { IsOfNoTape result }
     ensures simulates { result ≡ Status.Done → MadeSimulates count }

@@ -1,10 +1,10 @@
 //! The command `make`: the tape that a number stands for.
 
-ghost use Rattle.std.specs.Prelude.{ℕ, List, Option};
+ghost use Rattle.std.specs.Prelude.{ℕ};
 ghost use Rattle.usbgate_tapes.specs.model.Made.{made};
 ghost use Rattle.usbgate_tapes.specs.Prescribed.{printed};
-ghost use Rattle.usbgate_tapes.specs.Run.{RunLeaves, IsOfNoTape};
-ghost use Rattle.usbgate_tapes.specs.Logs.{WritesByLog};
+ghost use Rattle.usbgate_tapes.specs.Run.{IsOfNoTape};
+ghost use Rattle.usbgate_tapes.specs.Logs.{RunWrites};
 ghost use Rattle.usbgate_tapes.specs.Causes.{HasCauses};
 
 use crate::status::Status;
@@ -15,8 +15,7 @@ use std::alloc::Global;
 
 /// Prints the tape.
 pub fn make<K: Sink>(alloc: Global, count: u16, out: &mut K) -> Status
-    ensures leaves { (remaining : Option (List ℕ)) → RunLeaves result (printed (made count)) remaining remaining (K.contents out.old) (K.contents out.new) }
-    ensures writes_log { WritesByLog K.write_gives result (printed (made count)) out.old out.new }
+    ensures leaves { RunWrites K.write_gives K.contents result (printed (made count)) out.old out.new }
     ensures causes { (faults : ℕ) → HasCauses result faults faults (K.faults out.old) (K.faults out.new) }
     ensures ends { IsOfNoTape result }
 {

@@ -1,9 +1,9 @@
 //! Texts for which no tape is read.
 
-ghost use Rattle.std.specs.Prelude.{◌≢◌, ℕ, List, Option};
+ghost use Rattle.std.specs.Prelude.{◌≢◌, ℕ};
 ghost use Rattle.usbgate_tapes.specs.Prescribed.{printed, usage as usage_prescribed};
-ghost use Rattle.usbgate_tapes.specs.Run.{RunLeaves, IsOfNoCommand, IsOfNoTape};
-ghost use Rattle.usbgate_tapes.specs.Logs.{WritesByLog};
+ghost use Rattle.usbgate_tapes.specs.Run.{IsOfNoCommand, IsOfNoTape};
+ghost use Rattle.usbgate_tapes.specs.Logs.{RunWrites};
 ghost use Rattle.usbgate_tapes.specs.Causes.{HasCauses};
 
 use crate::status::Status;
@@ -12,8 +12,7 @@ use gate_outside::{Sink, write_all};
 
 /// Writes the text.
 pub fn print<K: Sink>(text: &[u8], out: &mut K) -> Status
-    ensures leaves { (remaining : Option (List ℕ)) → RunLeaves result (printed text.now) remaining remaining (K.contents out.old) (K.contents out.new) }
-    ensures writes_log { WritesByLog K.write_gives result (printed text.now) out.old out.new }
+    ensures leaves { RunWrites K.write_gives K.contents result (printed text.now) out.old out.new }
     ensures causes { (faults : ℕ) → HasCauses result faults faults (K.faults out.old) (K.faults out.new) }
     ensures ends { IsOfNoTape result }
     ensures thrifty { result ≢ Status.OutOfMemory }
@@ -26,8 +25,7 @@ pub fn print<K: Sink>(text: &[u8], out: &mut K) -> Status
 
 /// Prints how the words should be.
 pub fn print_usage<K: Sink>(out: &mut K) -> Status
-    ensures leaves { (remaining : Option (List ℕ)) → RunLeaves result usage_prescribed remaining remaining (K.contents out.old) (K.contents out.new) }
-    ensures writes_log { WritesByLog K.write_gives result usage_prescribed out.old out.new }
+    ensures leaves { RunWrites K.write_gives K.contents result usage_prescribed out.old out.new }
     ensures causes { (faults : ℕ) → HasCauses result faults faults (K.faults out.old) (K.faults out.new) }
     ensures usage { IsOfNoCommand result }
     ensures thrifty { result ≢ Status.OutOfMemory }

@@ -9,44 +9,69 @@ use Rattle.usbgate_tapes.specs.model.Made.{made, loaded}
 use Rattle.usbgate_tapes.specs.Prescribed.{Prescribed, over_tape, printed, usage}
 use Rattle.usbgate.specs.Prescribed.{prescribed}
 use Rattle.usbgate_commands.specs.Recording.{records}
-use Rattle.usbgate_tapes.specs.Run.{RunLeaves}
-use Rattle.usbgate_tapes.specs.Logs.{LeavesByLog}
-use Rattle.usbgate_commands.proofs.Served.{unserved, unlent, links-stand, link-fault-of, link-stands}
-use Rattle.usbgate_tapes.proofs.lemmas.model.Simulated.{unsimulated, unsimulated_log}
-use Rattle.usbgate_tapes.proofs.lemmas.Unread.{logs-none, logs-unread}
-use Rattle.usbgate.proofs.Simulated.{simulates-device, simulates-device_log, simulates-count}
-use Rattle.bridge_run.specs.Gate.{gate_sends}
-use Rattle.bridge_run.specs.GateStops.{gate_runs_out}
-use Rattle.usbgate_commands.specs.Serves.{device_sends, device_runs_out}
-use Rattle.usbgate_commands.specs.Logs.{terms_of, terms_lent}
-use Rattle.usbgate_commands.proofs.Logs.{unlogged}
+use Rattle.usbgate_tapes.specs.Logs.{RunLeaves}
+use Rattle.usbgate_commands.proofs.Served.{links-stand, link-fault-of, link-stands}
+use Rattle.usbgate_tapes.proofs.lemmas.model.Simulated.{unsimulated}
+use Rattle.usbgate_tapes.proofs.lemmas.Unread.{leaves-none, leaves-unread}
+use Rattle.usbgate.proofs.Asked.{serves-asked, lends-asked}
+use Rattle.usbgate.proofs.Simulated.{simulates-device, simulates-count}
+use Rattle.usbgate_commands.proofs.Logs.{run-unserved, run-unlent}
 use Rattle.usbgate.proofs.program.run.Goals as goal
 
 pub returns-in_default-clause-serves : goal.returns-in_default-clause-serves
 returns-in_default-clause-serves g c = λ asked is.
-    unserved asked (outside (g.D.Doors.link c.args.doors.now) (g.D.Doors.door c.args.doors.now)) (faults (g.K.Sink.faults c.args.out.now) (g.T.Tape.counts c.args.recording.now)) (written (g.K.Sink.contents c.args.out.now) (g.K.Sink.contents c.args.out.now) (g.T.Tape.contents c.args.recording.now))
+    run-unserved g.D.Doors.call_gives g.D.Doors.link g.D.Doors.door g.K.Sink.write_gives asked c.args.doors.now c.args.out.now (faults (g.K.Sink.faults c.args.out.now) (g.T.Tape.counts c.args.recording.now))
+    (written (g.K.Sink.contents c.args.out.now) (g.K.Sink.contents c.args.out.now) (g.T.Tape.contents c.args.recording.now))
 
 pub returns-in_default-clause-lends : goal.returns-in_default-clause-lends
 returns-in_default-clause-lends g c = λ asked is.
-    unlent asked (outside (g.D.Doors.link c.args.doors.now) (g.D.Doors.door c.args.doors.now)) (g.K.Sink.faults c.args.out.now) (g.K.Sink.contents c.args.out.now)
+    run-unlent g.D.Doors.call_gives g.D.Doors.link g.D.Doors.door g.K.Sink.write_gives asked c.args.doors.now c.args.out.now (g.K.Sink.faults c.args.out.now) (g.K.Sink.contents c.args.out.now)
+
+pub returns-in_default-clause-leaves : goal.returns-in_default-clause-leaves
+returns-in_default-clause-leaves g c = λ p is. leaves-none g.S.Source.read_gives g.K.Sink.write_gives g.S.Source.remaining g.K.Sink.contents p c.args.tape.now c.args.out.now
 
 pub returns-in_default-clause-simulates : goal.returns-in_default-clause-simulates
-returns-in_default-clause-simulates g c = λ device is. unsimulated device (g.S.Source.remaining c.args.tape.now)
+returns-in_default-clause-simulates g c = λ device is. unsimulated g.S.Source.read_gives g.S.Source.remaining device c.args.tape.now c.args.tape.now
 
 pub returns-in-Replay-clause-leaves : goal.returns-in-Replay-clause-leaves
 returns-in-Replay-clause-leaves g c = λ p is.
-    let command = over_tape (over_events (replay c.in-Replay.first_id)) in
-    subst (λ (q : Prescribed). RunLeaves c.replay.result q (g.S.Source.remaining c.args.tape.now) (g.S.Source.remaining c.replay.new.tape) (g.K.Sink.contents c.args.out.now) (g.K.Sink.contents c.replay.new.out))
-    (same_Some command p (ap prescribed (sym c.in-Replay.is ∙ c.in-Ok.ensures.value) ∙ is)) c.replay.ensures.leaves
+    subst (λ (q : Prescribed). RunLeaves g.S.Source.read_gives g.K.Sink.write_gives g.S.Source.remaining g.K.Sink.contents c.replay.result q c.args.tape.now c.replay.new.tape c.args.out.now c.replay.new.out)
+    (same_Some (over_tape (over_events (replay c.in-Replay.first_id))) p (ap prescribed (sym c.in-Replay.is ∙ c.in-Ok.ensures.value) ∙ is)) c.replay.ensures.leaves
 
 pub returns-in-Model-clause-leaves : goal.returns-in-Model-clause-leaves
 returns-in-Model-clause-leaves g c = λ p is.
-    let command = over_tape (model_of c.in-Model.device) in
-    subst (λ (q : Prescribed). RunLeaves c.model.result q (g.S.Source.remaining c.args.tape.now) (g.S.Source.remaining c.model.new.tape) (g.K.Sink.contents c.args.out.now) (g.K.Sink.contents c.model.new.out))
-    (same_Some command p (ap prescribed (sym c.in-Model.is ∙ c.in-Ok.ensures.value) ∙ is)) c.model.ensures.leaves
+    subst (λ (q : Prescribed). RunLeaves g.S.Source.read_gives g.K.Sink.write_gives g.S.Source.remaining g.K.Sink.contents c.model.result q c.args.tape.now c.model.new.tape c.args.out.now c.model.new.out)
+    (same_Some (over_tape (model_of c.in-Model.device)) p (ap prescribed (sym c.in-Model.is ∙ c.in-Ok.ensures.value) ∙ is)) c.model.ensures.leaves
+
+pub returns-in-Show-clause-leaves : goal.returns-in-Show-clause-leaves
+returns-in-Show-clause-leaves g c = λ p is.
+    subst (λ (q : Prescribed). RunLeaves g.S.Source.read_gives g.K.Sink.write_gives g.S.Source.remaining g.K.Sink.contents c.show.result q c.args.tape.now c.show.new.tape c.args.out.now c.show.new.out)
+    (same_Some (over_tape (over_events (show c.in-Show.side))) p (ap prescribed (sym c.in-Show.is ∙ c.in-Ok.ensures.value) ∙ is)) c.show.ensures.leaves
+
+pub returns-in-Make-clause-leaves : goal.returns-in-Make-clause-leaves
+returns-in-Make-clause-leaves g c = λ p is.
+    subst (λ (q : Prescribed). RunLeaves g.S.Source.read_gives g.K.Sink.write_gives g.S.Source.remaining g.K.Sink.contents c.make.result q c.args.tape.now c.args.tape.now c.args.out.now c.make.new.out)
+    (same_Some (printed (made c.in-Make.count)) p (ap prescribed (sym c.in-Make.is ∙ c.in-Ok.ensures.value) ∙ is)) (leaves-unread g.S.Source.read_gives g.K.Sink.write_gives g.S.Source.remaining g.K.Sink.contents c.make.result (printed (made c.in-Make.count)) c.args.tape.now c.args.out.now c.make.new.out c.make.ensures.leaves)
+
+pub returns-in-Load-clause-leaves : goal.returns-in-Load-clause-leaves
+returns-in-Load-clause-leaves g c = λ p is.
+    subst (λ (q : Prescribed). RunLeaves g.S.Source.read_gives g.K.Sink.write_gives g.S.Source.remaining g.K.Sink.contents c.load.result q c.args.tape.now c.args.tape.now c.args.out.now c.load.new.out)
+    (same_Some (printed (loaded c.in-Load.count)) p (ap prescribed (sym c.in-Load.is ∙ c.in-Ok.ensures.value) ∙ is)) (leaves-unread g.S.Source.read_gives g.K.Sink.write_gives g.S.Source.remaining g.K.Sink.contents c.load.result (printed (loaded c.in-Load.count)) c.args.tape.now c.args.out.now c.load.new.out c.load.ensures.leaves)
+
+pub returns-in-Unknown-clause-leaves : goal.returns-in-Unknown-clause-leaves
+returns-in-Unknown-clause-leaves g c = λ p is.
+    subst (λ (q : Prescribed). RunLeaves g.S.Source.read_gives g.K.Sink.write_gives g.S.Source.remaining g.K.Sink.contents c.print_usage.result q c.args.tape.now c.args.tape.now c.args.out.now c.print_usage.new.out)
+    (same_Some (usage) p (ap prescribed (sym c.in-Unknown.is ∙ c.in-Ok.ensures.value) ∙ is)) (leaves-unread g.S.Source.read_gives g.K.Sink.write_gives g.S.Source.remaining g.K.Sink.contents c.print_usage.result (usage) c.args.tape.now c.args.out.now c.print_usage.new.out c.print_usage.ensures.leaves)
 
 pub returns-in-Model-clause-simulates : goal.returns-in-Model-clause-simulates
-returns-in-Model-clause-simulates g c = λ device is. simulates-device c.in-Model.device device c.model.result (g.S.Source.remaining c.args.tape.now) (sym c.in-Model.is ∙ c.in-Ok.ensures.value ∙ is) c.model.ensures.simulates
+returns-in-Model-clause-simulates g c = λ device is.
+    simulates-device g.S.Source.read_gives g.S.Source.remaining c.in-Model.device device c.model.result c.args.tape.now c.model.new.tape (sym c.in-Model.is ∙ c.in-Ok.ensures.value ∙ is) c.model.ensures.simulates
+
+pub returns-in-Serve-clause-serves : goal.returns-in-Serve-clause-serves
+returns-in-Serve-clause-serves g c = λ asked is. serves-asked c.in-Serve.serving asked (sym c.in-Serve.is ∙ c.in-Ok.ensures.value ∙ is) c.serve.ensures.log c.serve.ensures.serves
+
+pub returns-in-Host-clause-lends : goal.returns-in-Host-clause-lends
+returns-in-Host-clause-lends g c = λ asked is. lends-asked c.in-Host.lending asked (sym c.in-Host.is ∙ c.in-Ok.ensures.value ∙ is) c.host.ensures.log c.host.ensures.lends
 
 pub returns-in-Serve-clause-usage : goal.returns-in-Serve-clause-usage
 returns-in-Serve-clause-usage g c = λ is. inr (ap records (sym c.in-Ok.ensures.value ∙ c.in-Serve.is) ∙ c.serve.ensures.asked is, (c.serve.ensures.causes.usage is).1)
@@ -71,16 +96,6 @@ returns-in-Host-clause-links_stand g c = λ side other.
 pub returns-in-Unknown-clause-writes_stand : goal.returns-in-Unknown-clause-writes_stand
 returns-in-Unknown-clause-writes_stand g c = (c.print_usage.ensures.causes 0).writes_stand
 
-pub returns-in-Make-clause-leaves : goal.returns-in-Make-clause-leaves
-returns-in-Make-clause-leaves g c = λ p is.
-    subst (λ (q : Prescribed). RunLeaves c.make.result q (g.S.Source.remaining c.args.tape.now) (g.S.Source.remaining c.args.tape.now) (g.K.Sink.contents c.args.out.now) (g.K.Sink.contents c.make.new.out))
-    (same_Some (printed (made c.in-Make.count)) p (ap prescribed (sym c.in-Make.is ∙ c.in-Ok.ensures.value) ∙ is)) (c.make.ensures.leaves (g.S.Source.remaining c.args.tape.now))
-
-pub returns-in-Load-clause-leaves : goal.returns-in-Load-clause-leaves
-returns-in-Load-clause-leaves g c = λ p is.
-    subst (λ (q : Prescribed). RunLeaves c.load.result q (g.S.Source.remaining c.args.tape.now) (g.S.Source.remaining c.args.tape.now) (g.K.Sink.contents c.args.out.now) (g.K.Sink.contents c.load.new.out))
-    (same_Some (printed (loaded c.in-Load.count)) p (ap prescribed (sym c.in-Load.is ∙ c.in-Ok.ensures.value) ∙ is)) (c.load.ensures.leaves (g.S.Source.remaining c.args.tape.now))
-
 pub returns-in-Make-clause-writes_stand : goal.returns-in-Make-clause-writes_stand
 returns-in-Make-clause-writes_stand g c = (c.make.ensures.causes 0).writes_stand
 
@@ -89,49 +104,3 @@ returns-in-Load-clause-writes_stand g c = (c.load.ensures.causes 0).writes_stand
 
 pub returns-in-Load-clause-load_simulates : goal.returns-in-Load-clause-load_simulates
 returns-in-Load-clause-load_simulates g c = λ count is done. simulates-count c.in-Load.count count (sym c.in-Load.is ∙ c.in-Ok.ensures.value ∙ is) (c.load.ensures.simulates done)
-
-pub returns-in_default-clause-serves_log : goal.returns-in_default-clause-serves_log
-returns-in_default-clause-serves_log g c = λ asked is. inr (unlogged g.D.Doors.call_gives (gate_runs_out asked.first_id) g.K.Sink.write_gives (terms_of asked) (gate_sends asked.after_loss asked.first_id) c.args.doors.now c.args.out.now)
-
-pub returns-in_default-clause-lends_log : goal.returns-in_default-clause-lends_log
-returns-in_default-clause-lends_log g c = λ asked is. unlogged g.D.Doors.call_gives (device_runs_out asked.device) g.K.Sink.write_gives (terms_lent asked) (device_sends asked.device) c.args.doors.now c.args.out.now
-
-pub returns-in_default-clause-leaves_log : goal.returns-in_default-clause-leaves_log
-returns-in_default-clause-leaves_log g c = λ p is. logs-none g.S.Source.read_gives g.K.Sink.write_gives p c.args.tape.now c.args.out.now
-
-pub returns-in_default-clause-simulates_log : goal.returns-in_default-clause-simulates_log
-returns-in_default-clause-simulates_log g c = λ device is. unsimulated_log g.S.Source.read_gives device c.args.tape.now c.args.tape.now
-
-pub returns-in-Replay-clause-leaves_log : goal.returns-in-Replay-clause-leaves_log
-returns-in-Replay-clause-leaves_log g c = λ p is.
-    subst (λ (q : Prescribed). LeavesByLog g.S.Source.read_gives g.K.Sink.write_gives c.replay.result q c.args.tape.now c.replay.new.tape c.args.out.now c.replay.new.out)
-    (same_Some (over_tape (over_events (replay c.in-Replay.first_id))) p (ap prescribed (sym c.in-Replay.is ∙ c.in-Ok.ensures.value) ∙ is)) c.replay.ensures.leaves_log
-
-pub returns-in-Model-clause-leaves_log : goal.returns-in-Model-clause-leaves_log
-returns-in-Model-clause-leaves_log g c = λ p is.
-    subst (λ (q : Prescribed). LeavesByLog g.S.Source.read_gives g.K.Sink.write_gives c.model.result q c.args.tape.now c.model.new.tape c.args.out.now c.model.new.out)
-    (same_Some (over_tape (model_of c.in-Model.device)) p (ap prescribed (sym c.in-Model.is ∙ c.in-Ok.ensures.value) ∙ is)) c.model.ensures.leaves_log
-
-pub returns-in-Show-clause-leaves_log : goal.returns-in-Show-clause-leaves_log
-returns-in-Show-clause-leaves_log g c = λ p is.
-    subst (λ (q : Prescribed). LeavesByLog g.S.Source.read_gives g.K.Sink.write_gives c.show.result q c.args.tape.now c.show.new.tape c.args.out.now c.show.new.out)
-    (same_Some (over_tape (over_events (show c.in-Show.side))) p (ap prescribed (sym c.in-Show.is ∙ c.in-Ok.ensures.value) ∙ is)) c.show.ensures.leaves_log
-
-pub returns-in-Make-clause-leaves_log : goal.returns-in-Make-clause-leaves_log
-returns-in-Make-clause-leaves_log g c = λ p is.
-    subst (λ (q : Prescribed). LeavesByLog g.S.Source.read_gives g.K.Sink.write_gives c.make.result q c.args.tape.now c.args.tape.now c.args.out.now c.make.new.out)
-    (same_Some (printed (made c.in-Make.count)) p (ap prescribed (sym c.in-Make.is ∙ c.in-Ok.ensures.value) ∙ is)) (logs-unread g.S.Source.read_gives g.K.Sink.write_gives c.make.result (printed (made c.in-Make.count)) c.args.tape.now c.args.out.now c.make.new.out c.make.ensures.writes_log)
-
-pub returns-in-Load-clause-leaves_log : goal.returns-in-Load-clause-leaves_log
-returns-in-Load-clause-leaves_log g c = λ p is.
-    subst (λ (q : Prescribed). LeavesByLog g.S.Source.read_gives g.K.Sink.write_gives c.load.result q c.args.tape.now c.args.tape.now c.args.out.now c.load.new.out)
-    (same_Some (printed (loaded c.in-Load.count)) p (ap prescribed (sym c.in-Load.is ∙ c.in-Ok.ensures.value) ∙ is)) (logs-unread g.S.Source.read_gives g.K.Sink.write_gives c.load.result (printed (loaded c.in-Load.count)) c.args.tape.now c.args.out.now c.load.new.out c.load.ensures.writes_log)
-
-pub returns-in-Unknown-clause-leaves_log : goal.returns-in-Unknown-clause-leaves_log
-returns-in-Unknown-clause-leaves_log g c = λ p is.
-    subst (λ (q : Prescribed). LeavesByLog g.S.Source.read_gives g.K.Sink.write_gives c.print_usage.result q c.args.tape.now c.args.tape.now c.args.out.now c.print_usage.new.out)
-    (same_Some (usage) p (ap prescribed (sym c.in-Unknown.is ∙ c.in-Ok.ensures.value) ∙ is)) (logs-unread g.S.Source.read_gives g.K.Sink.write_gives c.print_usage.result (usage) c.args.tape.now c.args.out.now c.print_usage.new.out c.print_usage.ensures.writes_log)
-
-pub returns-in-Model-clause-simulates_log : goal.returns-in-Model-clause-simulates_log
-returns-in-Model-clause-simulates_log g c = λ device is.
-    simulates-device_log g.S.Source.read_gives c.in-Model.device device c.model.result c.args.tape.now c.model.new.tape (sym c.in-Model.is ∙ c.in-Ok.ensures.value ∙ is) c.model.ensures.simulates_log

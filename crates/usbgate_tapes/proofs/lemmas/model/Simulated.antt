@@ -16,10 +16,10 @@ use Rattle.usbgate_tapes.specs.declared.model.device.Device.TheVariants.{Keyboar
 use Rattle.usbgate_tapes.specs.declared.status.Status.{Status}
 use Rattle.usbgate_tapes.specs.declared.status.Status.TheVariants.{OutOfMemory}
 use Rattle.usbgate_tapes.specs.model.Model.{model}
-use Rattle.usbgate_tapes.specs.model.Simulated.{steps_of, AreSimulated, SimulatesTape, AreSimulatedByLog, SimulatesByLog, MadeSimulates}
+use Rattle.usbgate_tapes.specs.model.Simulated.{steps_of, AreSimulated, RunSimulates, MadeSimulates}
 use Rattle.usbgate_tapes.specs.inner.model.Loaded.{steps_after}
 use Rattle.usbgate_tapes.specs.inner.model.Model.{HasDone}
-use Rattle.usbgate_tapes.specs.inner.tape.TapeReader.{ReadsTo, ReadsToByLog}
+use Rattle.usbgate_tapes.specs.inner.tape.TapeReader.{ReadsTo}
 use Rattle.usbgate_tapes.proofs.lemmas.Going.{comes-too}
 use Rattle.usbgate_tapes.proofs.lemmas.model.Loaded.{kept-made}
 
@@ -27,28 +27,22 @@ use Rattle.usbgate_tapes.proofs.lemmas.model.Loaded.{kept-made}
 abbrev pub SystemsAreDirect : {S : Type 0} → Meaning S → Type 0
 SystemsAreDirect {S = S} m = (first : S) (kept : SystemKept S) (steps : List Step) → Stands m first kept steps → Simulates m first steps
 
-pub are-simulated : {S : Type 0} (m : Meaning S) (s : S) (status : Status) (remaining : Option (List ℕ)) → SystemsAreDirect m → ReadsTo status (HasDone m s) (model m s) remaining → AreSimulated status m s remaining
-are-simulated m s status remaining law reads = comes-too status (λ kept tape told. let k = kept tape told in law s k.0.system (steps_of m s tape) k.1.system) reads
-
-pub are-simulated_log : {S T : Type 0} (m : Meaning S) (s : S) (read_gives : T → List ℕ → Result ℕ Failed → T → Type 0) (status : Status) (old new : T) → SystemsAreDirect m → ReadsToByLog read_gives status (HasDone m s) (model m s) old new → AreSimulatedByLog read_gives status m s old new
-are-simulated_log m s read_gives status old new law reads = comes-too status (λ kept. record {
-  reads = kept.reads;
-  read = kept.read;
-  each = λ later follows. let k = kept.each later follows in law s k.0.system (steps_of m s (moved kept.reads ++ later)) k.1.system;
-}) reads
+pub are-simulated : {S T : Type 0} (m : Meaning S) (s : S) (read_gives : T → List ℕ → Result ℕ Failed → T → Type 0) (remaining : T → Option (List ℕ)) (status : Status) (old new : T) → SystemsAreDirect m → ReadsTo read_gives remaining status (HasDone m s) (model m s) old new → AreSimulated read_gives remaining status m s old new
+are-simulated m s read_gives remaining status old new law reads = record {
+  by_log = comes-too status (λ kept. record {
+    reads = kept.reads;
+    read = kept.read;
+    each = λ later follows. let k = kept.each later follows in law s k.0.system (steps_of m s (moved kept.reads ++ later)) k.1.system;
+  }) reads.by_log;
+  where_told = comes-too status (λ kept tape told. let k = kept tape told in law s k.0.system (steps_of m s tape) k.1.system) reads.where_told;
+}
 
 -- nothing is said of a run that memory was wanting for
-pub unsimulated : (device : Device) (remaining : Option (List ℕ)) → SimulatesTape OutOfMemory device remaining
-unsimulated Keyboard remaining = tt
-unsimulated Loopback remaining = tt
-unsimulated Tone remaining = tt
-unsimulated Disk remaining = tt
-
-pub unsimulated_log : {T : Type 0} (read_gives : T → List ℕ → Result ℕ Failed → T → Type 0) (device : Device) (old new : T) → SimulatesByLog read_gives OutOfMemory device old new
-unsimulated_log read_gives Keyboard old new = tt
-unsimulated_log read_gives Loopback old new = tt
-unsimulated_log read_gives Tone old new = tt
-unsimulated_log read_gives Disk old new = tt
+pub unsimulated : {T : Type 0} (read_gives : T → List ℕ → Result ℕ Failed → T → Type 0) (remaining : T → Option (List ℕ)) (device : Device) (old new : T) → RunSimulates read_gives remaining OutOfMemory device old new
+unsimulated read_gives remaining Keyboard old new = record { by_log = tt; where_told = tt }
+unsimulated read_gives remaining Loopback old new = record { by_log = tt; where_told = tt }
+unsimulated read_gives remaining Tone old new = record { by_log = tt; where_told = tt }
+unsimulated read_gives remaining Disk old new = record { by_log = tt; where_told = tt }
 
 -- a made tape
 pub made-simulates : (count : ℕ) (gadget : State (List ℕ)) (k : SystemKept (State (List ℕ))) → gadget ≡ first_state loopback → TapeAgain (made_lines count) → SystemsAreDirect (meaning_of loopback)

@@ -7,87 +7,60 @@ use Rattle.disk_gadget.specs.DiskStep.{DiskState, disk}
 use Rattle.usbgate_tapes.specs.declared.model.device.Device.{Device}
 use Rattle.usbgate_tapes.specs.model.Model.{model, model_of}
 use Rattle.usbgate_tapes.specs.Prescribed.{Prescribed, over_tape}
-use Rattle.usbgate_tapes.specs.Run.{LeavesTold}
-use Rattle.usbgate_tapes.specs.Logs.{LeavesByLog}
-use Rattle.usbgate_tapes.specs.model.Simulated.{AreSimulated, SimulatesTape, AreSimulatedByLog, SimulatesByLog}
-use Rattle.usbgate_tapes.proofs.lemmas.Unread.{logs-none}
+use Rattle.usbgate_tapes.specs.Logs.{RunLeaves}
+use Rattle.usbgate_tapes.specs.model.Simulated.{AreSimulated, RunSimulates}
+use Rattle.usbgate_tapes.proofs.lemmas.Unread.{leaves-none}
 use Rattle.usbgate_tapes.proofs.runs.model.Goals as goal
-
-pub returns-in-Ok-make-clause-leaves : goal.returns-in-Ok-make-clause-leaves
-returns-in-Ok-make-clause-leaves g c = λ tape text remaining contents.
-    subst (λ (p : Prescribed). LeavesTold c.model_with-in-Ok-make.result p tape text (g.S.Source.remaining c.model_with-in-Ok-make.new.tape) (g.K.Sink.contents c.model_with-in-Ok-make.new.out))
-    (ap (λ (s : State (List ℕ)). over_tape (model (meaning_of loopback) s)) c.in-Ok-make.ensures ∙ ap (λ (d : Device). over_tape (model_of d)) (sym c.in-Loopback.is))
-    (c.model_with-in-Ok-make.ensures.leaves tape text remaining contents)
-
-pub returns-in-Ok-make-clause-simulates : goal.returns-in-Ok-make-clause-simulates
-returns-in-Ok-make-clause-simulates g c =
-    let remaining = g.S.Source.remaining c.args.tape.now in
-    subst (λ (d : Device). SimulatesTape c.model_with-in-Ok-make.result d remaining) (sym c.in-Loopback.is)
-    (subst (λ (s : State (List ℕ)). AreSimulated c.model_with-in-Ok-make.result (meaning_of loopback) s remaining) c.in-Ok-make.ensures c.model_with-in-Ok-make.ensures.simulates)
-
-pub returns-in-Ok-make-3-clause-simulates : goal.returns-in-Ok-make-3-clause-simulates
-returns-in-Ok-make-3-clause-simulates g c =
-    let remaining = g.S.Source.remaining c.args.tape.now in
-    subst (λ (d : Device). SimulatesTape c.model_with-in-Ok-make-3.result d remaining) (sym c.in-Disk.is)
-    (subst (λ (s : DiskState). AreSimulated c.model_with-in-Ok-make-3.result disk s remaining) c.in-Ok-make-3.ensures c.model_with-in-Ok-make-3.ensures.simulates)
 
 pub returns-in-Ok-clause-simulates : goal.returns-in-Ok-clause-simulates
 returns-in-Ok-clause-simulates g c =
-    let remaining = g.S.Source.remaining c.args.tape.now in
-    subst (λ (d : Device). SimulatesTape c.model_with.result d remaining) (sym c.in-Keyboard.is)
-    (subst (λ (s : State ℕ). AreSimulated c.model_with.result (meaning_of keyboard) s remaining) c.in-Ok.ensures c.model_with.ensures.simulates)
+    let gives = g.S.Source.read_gives in
+    let remaining = g.S.Source.remaining in
+    let old = c.args.tape.now in
+    let new = c.model_with.new.tape in
+    subst (λ (d : Device). RunSimulates gives remaining c.model_with.result d old new) (sym c.in-Keyboard.is)
+    (subst (λ (s : State ℕ). AreSimulated gives remaining c.model_with.result (meaning_of keyboard) s old new) c.in-Ok.ensures c.model_with.ensures.simulates)
+
+pub returns-in-Ok-make-clause-leaves : goal.returns-in-Ok-make-clause-leaves
+returns-in-Ok-make-clause-leaves g c =
+    subst (λ (p : Prescribed). RunLeaves g.S.Source.read_gives g.K.Sink.write_gives g.S.Source.remaining g.K.Sink.contents c.model_with-in-Ok-make.result p c.args.tape.now c.model_with-in-Ok-make.new.tape c.args.out.now c.model_with-in-Ok-make.new.out)
+    (ap (λ (s : State (List ℕ)). over_tape (model (meaning_of loopback) s)) c.in-Ok-make.ensures ∙ ap (λ (d : Device). over_tape (model_of d)) (sym c.in-Loopback.is)) c.model_with-in-Ok-make.ensures.leaves
+
+pub returns-in-Ok-make-clause-simulates : goal.returns-in-Ok-make-clause-simulates
+returns-in-Ok-make-clause-simulates g c =
+    let gives = g.S.Source.read_gives in
+    let remaining = g.S.Source.remaining in
+    let old = c.args.tape.now in
+    let new = c.model_with-in-Ok-make.new.tape in
+    subst (λ (d : Device). RunSimulates gives remaining c.model_with-in-Ok-make.result d old new) (sym c.in-Loopback.is)
+    (subst (λ (s : State (List ℕ)). AreSimulated gives remaining c.model_with-in-Ok-make.result (meaning_of loopback) s old new) c.in-Ok-make.ensures c.model_with-in-Ok-make.ensures.simulates)
 
 pub returns-in-Ok-make-2-clause-simulates : goal.returns-in-Ok-make-2-clause-simulates
 returns-in-Ok-make-2-clause-simulates g c =
-    let remaining = g.S.Source.remaining c.args.tape.now in
-    subst (λ (d : Device). SimulatesTape c.model_with-in-Ok-make-2.result d remaining) (sym c.in-Tone.is)
-    (subst (λ (s : State ℕ). AreSimulated c.model_with-in-Ok-make-2.result (meaning_of tone) s remaining) c.in-Ok-make-2.ensures c.model_with-in-Ok-make-2.ensures.simulates)
-
-pub returns-in-Ok-clause-simulates_log : goal.returns-in-Ok-clause-simulates_log
-returns-in-Ok-clause-simulates_log g c =
-    let read_gives = g.S.Source.read_gives in
-    let old = c.args.tape.now in
-    let new = c.model_with.new.tape in
-    subst (λ (d : Device). SimulatesByLog read_gives c.model_with.result d old new) (sym c.in-Keyboard.is)
-    (subst (λ (s : State ℕ). AreSimulatedByLog read_gives c.model_with.result (meaning_of keyboard) s old new) c.in-Ok.ensures c.model_with.ensures.simulates_log)
-
-pub returns-in-Ok-make-clause-leaves_log : goal.returns-in-Ok-make-clause-leaves_log
-returns-in-Ok-make-clause-leaves_log g c =
-    subst (λ (p : Prescribed). LeavesByLog g.S.Source.read_gives g.K.Sink.write_gives c.model_with-in-Ok-make.result p c.args.tape.now c.model_with-in-Ok-make.new.tape c.args.out.now c.model_with-in-Ok-make.new.out)
-    (ap (λ (s : State (List ℕ)). over_tape (model (meaning_of loopback) s)) c.in-Ok-make.ensures ∙ ap (λ (d : Device). over_tape (model_of d)) (sym c.in-Loopback.is)) c.model_with-in-Ok-make.ensures.leaves_log
-
-pub returns-in-Ok-make-clause-simulates_log : goal.returns-in-Ok-make-clause-simulates_log
-returns-in-Ok-make-clause-simulates_log g c =
-    let read_gives = g.S.Source.read_gives in
-    let old = c.args.tape.now in
-    let new = c.model_with-in-Ok-make.new.tape in
-    subst (λ (d : Device). SimulatesByLog read_gives c.model_with-in-Ok-make.result d old new) (sym c.in-Loopback.is)
-    (subst (λ (s : State (List ℕ)). AreSimulatedByLog read_gives c.model_with-in-Ok-make.result (meaning_of loopback) s old new) c.in-Ok-make.ensures c.model_with-in-Ok-make.ensures.simulates_log)
-
-pub returns-in-Ok-make-2-clause-simulates_log : goal.returns-in-Ok-make-2-clause-simulates_log
-returns-in-Ok-make-2-clause-simulates_log g c =
-    let read_gives = g.S.Source.read_gives in
+    let gives = g.S.Source.read_gives in
+    let remaining = g.S.Source.remaining in
     let old = c.args.tape.now in
     let new = c.model_with-in-Ok-make-2.new.tape in
-    subst (λ (d : Device). SimulatesByLog read_gives c.model_with-in-Ok-make-2.result d old new) (sym c.in-Tone.is)
-    (subst (λ (s : State ℕ). AreSimulatedByLog read_gives c.model_with-in-Ok-make-2.result (meaning_of tone) s old new) c.in-Ok-make-2.ensures c.model_with-in-Ok-make-2.ensures.simulates_log)
+    subst (λ (d : Device). RunSimulates gives remaining c.model_with-in-Ok-make-2.result d old new) (sym c.in-Tone.is)
+    (subst (λ (s : State ℕ). AreSimulated gives remaining c.model_with-in-Ok-make-2.result (meaning_of tone) s old new) c.in-Ok-make-2.ensures c.model_with-in-Ok-make-2.ensures.simulates)
 
-pub returns-in-Ok-make-3-clause-simulates_log : goal.returns-in-Ok-make-3-clause-simulates_log
-returns-in-Ok-make-3-clause-simulates_log g c =
-    let read_gives = g.S.Source.read_gives in
+pub returns-in-Ok-make-3-clause-simulates : goal.returns-in-Ok-make-3-clause-simulates
+returns-in-Ok-make-3-clause-simulates g c =
+    let gives = g.S.Source.read_gives in
+    let remaining = g.S.Source.remaining in
     let old = c.args.tape.now in
     let new = c.model_with-in-Ok-make-3.new.tape in
-    subst (λ (d : Device). SimulatesByLog read_gives c.model_with-in-Ok-make-3.result d old new) (sym c.in-Disk.is)
-    (subst (λ (s : DiskState). AreSimulatedByLog read_gives c.model_with-in-Ok-make-3.result (disk) s old new) c.in-Ok-make-3.ensures c.model_with-in-Ok-make-3.ensures.simulates_log)
+    subst (λ (d : Device). RunSimulates gives remaining c.model_with-in-Ok-make-3.result d old new) (sym c.in-Disk.is)
+    (subst (λ (s : DiskState). AreSimulated gives remaining c.model_with-in-Ok-make-3.result disk s old new) c.in-Ok-make-3.ensures c.model_with-in-Ok-make-3.ensures.simulates)
 
-pub returns-in-Err-clause-leaves_log : goal.returns-in-Err-clause-leaves_log
-returns-in-Err-clause-leaves_log g c = logs-none g.S.Source.read_gives g.K.Sink.write_gives (over_tape (model_of c.args.device)) c.args.tape.now c.args.out.now
+pub returns-in-Err-clause-leaves : goal.returns-in-Err-clause-leaves
+returns-in-Err-clause-leaves g c = leaves-none g.S.Source.read_gives g.K.Sink.write_gives g.S.Source.remaining g.K.Sink.contents (over_tape (model_of c.args.device)) c.args.tape.now c.args.out.now
 
-pub returns-in-Err-make-clause-leaves_log : goal.returns-in-Err-make-clause-leaves_log
-returns-in-Err-make-clause-leaves_log g c = logs-none g.S.Source.read_gives g.K.Sink.write_gives (over_tape (model_of c.args.device)) c.args.tape.now c.args.out.now
+pub returns-in-Err-make-clause-leaves : goal.returns-in-Err-make-clause-leaves
+returns-in-Err-make-clause-leaves g c = leaves-none g.S.Source.read_gives g.K.Sink.write_gives g.S.Source.remaining g.K.Sink.contents (over_tape (model_of c.args.device)) c.args.tape.now c.args.out.now
 
-pub returns-in-Err-make-2-clause-leaves_log : goal.returns-in-Err-make-2-clause-leaves_log
-returns-in-Err-make-2-clause-leaves_log g c = logs-none g.S.Source.read_gives g.K.Sink.write_gives (over_tape (model_of c.args.device)) c.args.tape.now c.args.out.now
+pub returns-in-Err-make-2-clause-leaves : goal.returns-in-Err-make-2-clause-leaves
+returns-in-Err-make-2-clause-leaves g c = leaves-none g.S.Source.read_gives g.K.Sink.write_gives g.S.Source.remaining g.K.Sink.contents (over_tape (model_of c.args.device)) c.args.tape.now c.args.out.now
 
-pub returns-in-Err-make-3-clause-leaves_log : goal.returns-in-Err-make-3-clause-leaves_log
-returns-in-Err-make-3-clause-leaves_log g c = logs-none g.S.Source.read_gives g.K.Sink.write_gives (over_tape (model_of c.args.device)) c.args.tape.now c.args.out.now
+pub returns-in-Err-make-3-clause-leaves : goal.returns-in-Err-make-3-clause-leaves
+returns-in-Err-make-3-clause-leaves g c = leaves-none g.S.Source.read_gives g.K.Sink.write_gives g.S.Source.remaining g.K.Sink.contents (over_tape (model_of c.args.device)) c.args.tape.now c.args.out.now

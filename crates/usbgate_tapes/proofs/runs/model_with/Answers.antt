@@ -1,8 +1,8 @@
 use Rattle.std.proofs.Common.{ℕ, List, ◌++◌, ap, ◌∙◌}
 use Rattle.usbgate_tapes.specs.model.Model.{model}
 use Rattle.usbgate_tapes.specs.Prescribed.{over_tape}
-use Rattle.usbgate_tapes.proofs.lemmas.model.Simulated.{are-simulated, are-simulated_log}
-use Rattle.usbgate_tapes.proofs.lemmas.Unread.{logs-none}
+use Rattle.usbgate_tapes.proofs.lemmas.model.Simulated.{are-simulated}
+use Rattle.usbgate_tapes.proofs.lemmas.Unread.{leaves-none}
 use Rattle.usbgate_tapes.proofs.runs.model_with.Goals as goal
 
 pub over_tape-requires : goal.over_tape-requires
@@ -15,22 +15,11 @@ returns-in-Ok-clause-leaves g c =
     let opening = (model g.G.Gadget.meaning c.args.gadget).opening in
     (c.over_tape.ensures.runs c.args.gadget c.in-Ok.ensures.start (c.in-Ok.ensures.text ∙ ap (λ (l : List ℕ). l ++ opening) c.new-text.ensures)).leaves
 
-pub returns-in-Ok-clause-leaves_log : goal.returns-in-Ok-clause-leaves_log
-returns-in-Ok-clause-leaves_log g c =
-    let opening = (model g.G.Gadget.meaning c.args.gadget).opening in
-    (c.over_tape.ensures.runs c.args.gadget c.in-Ok.ensures.start (c.in-Ok.ensures.text ∙ ap (λ (l : List ℕ). l ++ opening) c.new-text.ensures)).leaves_log
-
 pub returns-in-Ok-clause-simulates : goal.returns-in-Ok-clause-simulates
 returns-in-Ok-clause-simulates g c =
     let opening = (model g.G.Gadget.meaning c.args.gadget).opening in
-    are-simulated g.G.Gadget.meaning c.args.gadget c.over_tape.result (g.S.Source.remaining c.args.tape.now) c.systems_are_direct.ensures.simulates
+    are-simulated g.G.Gadget.meaning c.args.gadget g.S.Source.read_gives g.S.Source.remaining c.over_tape.result c.args.tape.now c.over_tape.new.tape c.systems_are_direct.ensures.simulates
     (c.over_tape.ensures.runs c.args.gadget c.in-Ok.ensures.start (c.in-Ok.ensures.text ∙ ap (λ (l : List ℕ). l ++ opening) c.new-text.ensures)).kept
 
-pub returns-in-Ok-clause-simulates_log : goal.returns-in-Ok-clause-simulates_log
-returns-in-Ok-clause-simulates_log g c =
-    let opening = (model g.G.Gadget.meaning c.args.gadget).opening in
-    are-simulated_log g.G.Gadget.meaning c.args.gadget g.S.Source.read_gives c.over_tape.result c.args.tape.now c.over_tape.new.tape c.systems_are_direct.ensures.simulates
-    (c.over_tape.ensures.runs c.args.gadget c.in-Ok.ensures.start (c.in-Ok.ensures.text ∙ ap (λ (l : List ℕ). l ++ opening) c.new-text.ensures)).kept_log
-
-pub returns-in-Err-clause-leaves_log : goal.returns-in-Err-clause-leaves_log
-returns-in-Err-clause-leaves_log g c = logs-none g.S.Source.read_gives g.K.Sink.write_gives (over_tape (model g.G.Gadget.meaning c.args.gadget)) c.args.tape.now c.args.out.now
+pub returns-in-Err-clause-leaves : goal.returns-in-Err-clause-leaves
+returns-in-Err-clause-leaves g c = leaves-none g.S.Source.read_gives g.K.Sink.write_gives g.S.Source.remaining g.K.Sink.contents (over_tape (model g.G.Gadget.meaning c.args.gadget)) c.args.tape.now c.args.out.now

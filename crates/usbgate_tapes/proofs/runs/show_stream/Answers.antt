@@ -16,10 +16,3 @@ returns-clause-leaves g c =
     let format = g.F.PacketFormat in
     let command = show_side (shown_by side.the_side format.format format.after side.first_state side.bytes side.line) in
     (c.over_tape.ensures.runs command (c.start.ensures command (record { command-is = refl; has_shown = c.start-show.ensures })) c.new.ensures).leaves
-
-pub returns-clause-leaves_log : goal.returns-clause-leaves_log
-returns-clause-leaves_log g c =
-    let side = g.F.ShownFormat in
-    let format = g.F.PacketFormat in
-    let command = show_side (shown_by side.the_side format.format format.after side.first_state side.bytes side.line) in
-    (c.over_tape.ensures.runs command (c.start.ensures command (record { command-is = refl; has_shown = c.start-show.ensures })) c.new.ensures).leaves_log

@@ -10,8 +10,8 @@ use Rattle.usbgate_tapes.specs.tape.Tape.{lines_of, content}
 use Rattle.usbgate_tapes.specs.Text.{bad_line}
 use Rattle.usbgate_tapes.specs.tape.TapeCommand.{TapeCommand, tape_limit, Progress, begin, next_line, Reading, read_lines, read_tape, tape_text, tape_status}
 use Rattle.usbgate_tapes.specs.Prescribed.{over_tape}
-use Rattle.usbgate_tapes.specs.Run.{EndsALine, HasNoLF, RunLeaves, ComesToEnd}
-use Rattle.usbgate_tapes.specs.Logs.{LeavesByLog, HoldsOfRead}
+use Rattle.usbgate_tapes.specs.Run.{EndsALine, HasNoLF, ComesToEnd}
+use Rattle.usbgate_tapes.specs.Logs.{HoldsOfRead, RunLeaves}
 use Rattle.usbgate_tapes.specs.Wants.{IsJoined}
 
 -- some command keeps this
@@ -134,18 +134,14 @@ Kept (Some status) s part old new = (tape_limit < s.bytes + length part) × Spoi
 
 -- ---- a whole run
 
--- where it comes to the end of a tape that tells its bytes, or to a bad line, some command keeps what the lines before say
-abbrev pub ReadsTo : {C S : Type 0} → Status → (C → S → Type 0) → TapeCommand S → Option (List ℕ) → Type 0
-ReadsTo status Keeps command remaining = ComesToEnd status ((tape : List ℕ) → remaining ≡ Some tape → IsKept Keeps (read_tape command tape).after.kept)
-
--- the same by the log of the reads, over any tape
-abbrev pub ReadsToByLog : {C S T : Type 0} → (T → List ℕ → Result ℕ Failed → T → Type 0) → Status → (C → S → Type 0) → TapeCommand S → T → T → Type 0
-ReadsToByLog read_gives status Keeps command old new = ComesToEnd status (HoldsOfRead read_gives (λ tape. IsKept Keeps (read_tape command tape).after.kept) old new)
+-- where it comes to the end of its tape, or to a bad line, some command keeps what the lines before say: by the log of the
+-- reads, over any tape, and of one that tells its bytes
+pub record ReadsTo {C S T : Type 0} (read_gives : T → List ℕ → Result ℕ Failed → T → Type 0) (remaining : T → Option (List ℕ)) (status : Status) (Keeps : C → S → Type 0) (command : TapeCommand S) (old new : T) : Type 0 where
+  pub by_log : ComesToEnd status (HoldsOfRead read_gives (λ tape. IsKept Keeps (read_tape command tape).after.kept) old new)
+  pub where_told : ComesToEnd status ((tape : List ℕ) → remaining old ≡ Some tape → IsKept Keeps (read_tape command tape).after.kept)
 
 -- what a run leaves, and to what it has read
 pub record Runs {C T S K : Type 0} (command : TapeCommand T) (Keeps : C → T → Type 0) (read_gives : S → List ℕ → Result ℕ Failed → S → Type 0) (write_gives : K → List ℕ → Result ℕ Failed → K → Type 0) (remaining : S → Option (List ℕ)) (contents : K → Option (List ℕ))
     (status : Status) (tape_old tape_new : S) (out_old out_new : K) : Type 0 where
-  pub leaves : RunLeaves status (over_tape command) (remaining tape_old) (remaining tape_new) (contents out_old) (contents out_new)
-  pub leaves_log : LeavesByLog read_gives write_gives status (over_tape command) tape_old tape_new out_old out_new
-  pub kept : ReadsTo status Keeps command (remaining tape_old)
-  pub kept_log : ReadsToByLog read_gives status Keeps command tape_old tape_new
+  pub leaves : RunLeaves read_gives write_gives remaining contents status (over_tape command) tape_old tape_new out_old out_new
+  pub kept : ReadsTo read_gives remaining status Keeps command tape_old tape_new
