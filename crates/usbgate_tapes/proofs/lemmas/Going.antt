@@ -14,8 +14,7 @@ use Rattle.usbgate_tapes.specs.tape.Tape.{lines_of}
 use Rattle.usbgate_tapes.specs.tape.TapeCommand.{TapeCommand, tape_limit, begin, Reading, read_lines, read_tape, tape_text}
 use Rattle.usbgate_tapes.specs.Prescribed.{Prescribed, over_tape}
 use Rattle.usbgate_tapes.specs.Causes.{HasCauses}
-use Rattle.usbgate_tapes.specs.Run.{ReadInPart, WrittenInPart, WrittenWhole, LeavesTold, RunLeaves, OpensNoLink, ComesToEnd}
-use Rattle.usbgate_tapes.specs.Logs.{LeavesByLog}
+use Rattle.usbgate_tapes.specs.Run.{ReadInPart, WrittenInPart, WrittenWhole, LeavesTold, OpensNoLink, ComesToEnd}
 use Rattle.usbgate_tapes.specs.Wants.{ReadWants}
 use Rattle.usbgate_tapes.specs.inner.tape.TapeReader.{IsKept, Stage, Closes, Runs, end_text}
 use Rattle.usbgate_tapes.proofs.lemmas.tape.Stages.{text_begins}
