@@ -1,6 +1,6 @@
 //! Lines of tapes and of printed text, in their words.
 
-use crate::packets::Packets;
+use named_packets::{Packets, push_bytes};
 use usb_base::Memory;
 
 /// Appends lines, with semicolons between them.
@@ -44,15 +44,6 @@ fn push_words(text: &mut String, line: &str) -> Result<(), Memory> {
         for bytes in word.split('+') {
             push_bytes(text, bytes)?;
         }
-    }
-    Ok(())
-}
-
-/// Appends bytes, which may be followed by how many times they come.
-pub fn push_bytes(text: &mut String, bytes: &str) -> Result<(), Memory> {
-    let (bytes, times) = bytes.split_once('*').unwrap_or((bytes, "1"));
-    for _ in 0..times.parse().unwrap_or(0_u32) {
-        text.push_str(bytes)?;
     }
     Ok(())
 }

@@ -6,7 +6,6 @@ mod cut;
 mod how;
 mod lines;
 mod links;
-mod packets;
 mod recorded;
 mod row;
 mod runs;

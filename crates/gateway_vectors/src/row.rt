@@ -2,9 +2,9 @@
 
 use crate::how::How;
 use crate::lines::{push_characters, push_lines, push_plain};
-use crate::packets::Packets;
 use crate::runs::{Came, ran};
 use crate::verdict::told;
+use named_packets::Packets;
 use std::alloc::Global;
 use usb_base::Memory;
 

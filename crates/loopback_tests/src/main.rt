@@ -3,7 +3,6 @@
 #![tactic(auto)]
 
 mod act;
-mod packets;
 mod peer;
 mod peers;
 mod played;

@@ -1,10 +1,11 @@
 //! A row: what the peers do, and how serving has to end.
 
 use crate::act::{Act, Deed, side_of};
-use crate::packets::Packets;
 use crate::serving::served;
 use bridge_run::{AfterLoss, ServeEnd};
-use std::alloc::Global;
+use hex::FromHexError;
+use named_packets::Packets;
+use std::alloc::{AllocError, Global};
 use std::net::{Net, TcpListener, TcpStream};
 use std::rt::Clock;
 use usb_base::Memory;
@@ -49,7 +50,7 @@ impl Row {
             self.is_known = false;
             return Ok(());
         };
-        let bytes = packets.bytes_of(alloc, words, turn)?;
+        let bytes = bytes_of(alloc, packets, words, turn)?;
         self.acts.push(Act { side, deed, bytes })?;
         Ok(())
     }
@@ -76,6 +77,19 @@ impl Row {
         Ok(format!(in alloc;
             "{name}, {setting}: {done} acts were done, and serving ended: {ended}"
         )?)
+    }
+}
+
+/// The bytes of packets, each by its name and its numbers. Words that are none give no bytes.
+fn bytes_of(alloc: Global, packets: &Packets, words: &str, turn: u32) -> Result<Vec<u8>, Memory> {
+    let mut digits = String::new(alloc);
+    for word in words.split_whitespace() {
+        packets.push(&mut digits, word, turn)?;
+    }
+    match hex::decode(alloc, digits.as_str()) {
+        Ok(bytes) => Ok(bytes),
+        Err(FromHexError::OutOfMemory) => Err(AllocError.into()),
+        Err(_) => Ok(Vec::new(alloc)),
     }
 }
 

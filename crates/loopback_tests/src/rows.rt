@@ -1,7 +1,7 @@
 //! What the lines of standard input say, one after another.
 
-use crate::packets::Packets;
 use crate::row::Row;
+use named_packets::Packets;
 use std::alloc::Global;
 use std::net::{Net, TcpListener, TcpStream};
 use std::rt::Clock;

@@ -4,7 +4,8 @@ use Rattle.std.specs.List.{list_any}
 use Rattle.packet_show.specs.declared.tape.TapeKind.TheVariants.{Model}
 use Rattle.packet_show.specs.declared.tape.TapeLine.{TapeLine}
 use Rattle.packet_show.specs.Tape.{tape_line}
-use Rattle.made_tape.specs.Lines.{LF, words_of, tape_text}
+use Rattle.packet_show.specs.Line.{LF}
+use Rattle.made_tape.specs.Lines.{words_of, tape_text}
 
 -- what is written of a line is one line, which says just that
 pub record IsReadAgain (said : TapeLine) : Type 0 where

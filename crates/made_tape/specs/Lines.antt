@@ -5,28 +5,8 @@ use Rattle.std.specs.Fmt.{decimal}
 use Rattle.hex.specs.Hex.{encode_lower}
 use Rattle.packet_show.specs.declared.tape.TapeLine.{TapeLine}
 use Rattle.packet_show.specs.declared.tape.TapeLine.TheVariants as line
-
-abbrev pub LF : ℕ
-LF = 10
-
-abbrev pub SPACE : ℕ
-SPACE = 32
-
--- `c`, `g`, `h`, `p` and `o`
-abbrev pub LETTER_C : ℕ
-LETTER_C = 99
-
-abbrev pub LETTER_G : ℕ
-LETTER_G = 103
-
-abbrev pub LETTER_H : ℕ
-LETTER_H = 104
-
-abbrev pub LETTER_P : ℕ
-LETTER_P = 112
-
-abbrev pub LETTER_O : ℕ
-LETTER_O = 111
+use Rattle.packet_show.specs.Line.{LF, SPACE}
+use Rattle.packet_show.specs.Tape.{LETTER_C, LETTER_G, LETTER_H, LETTER_O, LETTER_P}
 
 -- a letter and, behind a space, what is said
 abbrev pub lettered : ℕ → List ℕ → List ℕ

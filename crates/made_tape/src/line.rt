@@ -3,7 +3,8 @@
 ghost use Rattle.std.specs.Prelude.{◌≡◌, ◌++◌, ◌∷◌, [], OnOk};
 ghost use Rattle.std.specs.Fmt.{decimal};
 ghost use Rattle.hex.specs.Hex.{encode_lower};
-ghost use Rattle.made_tape.specs.Lines.{SPACE, line_of, words_of};
+ghost use Rattle.packet_show.specs.Line.{SPACE};
+ghost use Rattle.made_tape.specs.Lines.{line_of, words_of};
 
 use itoa::Buffer;
 use packet_show::TapeLine;

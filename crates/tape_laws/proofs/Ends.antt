@@ -9,7 +9,8 @@ use Rattle.session_tape.specs.Lines.{first_comment}
 use Rattle.bridge_run.specs.declared.serve_end.ServeEnd.{ServeEnd}
 use Rattle.bridge_run.specs.declared.serve_end.ServeEnd.TheVariants as end
 use Rattle.bridge_run.specs.Events.{LinkEvent}
-use Rattle.bridge_run.specs.Course.{Course, Next, Making, AtDoor, AtClient, AtHost, AtEnd, Takes}
+use Rattle.bridge_run.specs.Course.{Course, Next, Making, Takes}
+use Rattle.bridge_run.specs.Prescribed.{Prescribed}
 use Rattle.bridge_run.specs.Calls.{Outcome, Goes, Stops, call, course_of}
 use Rattle.bridge_run.specs.Outside.{Outside, Written, Faults, written, Tells, IsBetween, IsRecordedInPart, IsRecordedUntold, HasLines, Cut}
 use Rattle.bridge_run.specs.RanOut.{RanOutWithin}
@@ -88,6 +89,19 @@ record Facts (asked : ServeSettings) (d : Course) : Type 0 where
   pub lost : List ℕ
   pub host-is : to_host (served asked) taped ≡ d.to_host ++ lost
 
+-- what holds of every course that a call begins at
+at-each : (p : Prescribed) (first : List ℕ) (Is : Course → Type 0) → ((d : Course) → IsMaking p first d → Is d) → ((d : Course) (up host_up : Bool) → Holds p first up host_up (course.seen d) → Is d)
+    → (next : Next) (d : Course) → At p first next d → Is d
+at-each p first Is making standing Making d h = making d h
+at-each p first Is making standing (Takes e next) d h = standing d (client_at e (client_behind p d.events)) (host_at e (host_behind p d.events)) h.holds
+at-each p first Is making standing next d h = standing d (client_behind p d.events) (host_behind p d.events) h
+
+-- and of every course that it comes to
+outcome-each : (p : Prescribed) (first : List ℕ) (Is : Course → Type 0) → ((d : Course) → IsMaking p first d → Is d) → ((d : Course) (up host_up : Bool) → Holds p first up host_up (course.seen d) → Is d)
+    → (o : Outcome) → course.Comes p first o → Is (course_of o)
+outcome-each p first Is making standing (Goes next d) h = at-each p first Is making standing next d h
+outcome-each p first Is making standing (Stops e d) h = standing d (client_behind p d.events) (host_behind p d.events) h
+
 stands-facts : (asked : ServeSettings) (d : Course) (up host_up : Bool) → Holds (served asked) (first_comment asked.first_id) up host_up (course.seen d) → Facts asked d
 stands-facts asked d up host_up h = record {
   taped = h.gathers.taped;
@@ -113,16 +127,10 @@ making-facts asked d h = record {
 }
 
 at-facts : (asked : ServeSettings) (next : Next) (d : Course) → At (served asked) (first_comment asked.first_id) next d → Facts asked d
-at-facts asked Making d h = making-facts asked d h
-at-facts asked AtDoor d h = stands-facts asked d (client_behind (served asked) d.events) (host_behind (served asked) d.events) h
-at-facts asked AtClient d h = stands-facts asked d (client_behind (served asked) d.events) (host_behind (served asked) d.events) h
-at-facts asked AtHost d h = stands-facts asked d (client_behind (served asked) d.events) (host_behind (served asked) d.events) h
-at-facts asked AtEnd d h = stands-facts asked d (client_behind (served asked) d.events) (host_behind (served asked) d.events) h
-at-facts asked (Takes e next) d h = stands-facts asked d (client_at e (client_behind (served asked) d.events)) (host_at e (host_behind (served asked) d.events)) h.holds
+at-facts asked = at-each (served asked) (first_comment asked.first_id) (Facts asked) (making-facts asked) (stands-facts asked)
 
 outcome-facts : (asked : ServeSettings) (o : Outcome) → course.Comes (served asked) (first_comment asked.first_id) o → Facts asked (course_of o)
-outcome-facts asked (Goes next d) h = at-facts asked next d h
-outcome-facts asked (Stops e d) h = stands-facts asked d (client_behind (served asked) d.events) (host_behind (served asked) d.events) h
+outcome-facts asked = outcome-each (served asked) (first_comment asked.first_id) (Facts asked) (making-facts asked) (stands-facts asked)
 
 front-of : (known : Option (List ℕ)) (all written lost : List ℕ) → known ≡ Some written → all ≡ written ++ lost → WroteFront known all
 front-of known all wrote lost is all-is = record { front = wrote; lost = lost; known-is = is; all-is = all-is }
@@ -171,16 +179,10 @@ making-whole asked d h = record {
 }
 
 at-whole : (asked : ServeSettings) (next : Next) (d : Course) → At (served asked) (first_comment asked.first_id) next d → Whole asked d
-at-whole asked Making d h = making-whole asked d h
-at-whole asked AtDoor d h = stands-whole asked d (client_behind (served asked) d.events) (host_behind (served asked) d.events) h
-at-whole asked AtClient d h = stands-whole asked d (client_behind (served asked) d.events) (host_behind (served asked) d.events) h
-at-whole asked AtHost d h = stands-whole asked d (client_behind (served asked) d.events) (host_behind (served asked) d.events) h
-at-whole asked AtEnd d h = stands-whole asked d (client_behind (served asked) d.events) (host_behind (served asked) d.events) h
-at-whole asked (Takes e next) d h = stands-whole asked d (client_at e (client_behind (served asked) d.events)) (host_at e (host_behind (served asked) d.events)) h.holds
+at-whole asked = at-each (served asked) (first_comment asked.first_id) (Whole asked) (making-whole asked) (stands-whole asked)
 
 outcome-whole : (asked : ServeSettings) (o : Outcome) → course.Comes (served asked) (first_comment asked.first_id) o → Whole asked (course_of o)
-outcome-whole asked (Goes next d) h = at-whole asked next d h
-outcome-whole asked (Stops e d) h = stands-whole asked d (client_behind (served asked) d.events) (host_behind (served asked) d.events) h
+outcome-whole asked = outcome-each (served asked) (first_comment asked.first_id) (Whole asked) (making-whole asked) (stands-whole asked)
 
 -- the events behind a call that was cut have their lines up to somewhere
 part : (asked : ServeSettings) (c before : Course) (next : Next) (new : Outside) (held : List ℕ) → Reaches (setting_of asked) (Goes Making c) (Goes next before) → (taped later : List LinkEvent) (more lost : List ℕ)

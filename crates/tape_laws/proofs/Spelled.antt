@@ -1,6 +1,6 @@
 -- The lines of a recording have their LF at the end alone.
-use Rattle.std.proofs.Common.{◌≡◌, ℕ, zero, suc, ◌+◌, ◌-◌, ◌/◌, ◌%◌, Bool, true, false, cond, not, ◌&&◌, ◌==◌, List, [], ◌∷◌, ◌++◌, length, take, slice_index, nat_eq, nat_lt, codes, Option, Some, None, refl, sym, ap, ◌∙◌, eq-eqb, arith}
-use Rattle.std.proofs.lemmas.Bool.{and_parts, cond_both, lt-ltb}
+use Rattle.std.proofs.Common.{◌≡◌, ℕ, zero, suc, ◌+◌, ◌-◌, ◌/◌, ◌%◌, Bool, true, false, cond, not, ◌&&◌, ◌==◌, List, [], ◌∷◌, ◌++◌, length, take, slice_index, nat_eq, nat_lt, codes, Option, Some, None, refl, ap, ◌∙◌, eq-eqb, arith}
+use Rattle.std.proofs.lemmas.Bool.{and_parts, cond_both, lt-ltb, not-true}
 use Rattle.std.proofs.Math.Seq.{get_or-append_seam, take-append_seam}
 use Rattle.std.proofs.lemmas.List.{length-append}
 use Rattle.std.specs.Fmt.{decimal, digits, digits_onto, digit_glyph}
@@ -35,15 +35,11 @@ abbrev has_no_lf : List ℕ → Bool
 has_no_lf [] = true
 has_no_lf (b ∷ bs) = not (b == 10) && has_no_lf bs
 
-not-is : (t : Bool) → not t ≡ true → t ≡ false
-not-is true e = sym e
-not-is false e = refl
-
 pub no-lf-tested : (bytes : List ℕ) → has_no_lf bytes ≡ true → HasNoLF bytes
 no-lf-tested [] h = tt
 no-lf-tested (b ∷ bs) h =
     let parts = and_parts (not (b == 10)) (has_no_lf bs) h in
-    let none : nat_eq b 10 ≡ false = not-is (b == 10) parts.0 in (
+    let none : nat_eq b 10 ≡ false = not-true (b == 10) parts.0 in (
       λ e. let one : nat_eq b 10 ≡ true = eq-eqb b 10 e in cc,
       no-lf-tested bs parts.1,
     )

@@ -1,5 +1,5 @@
 -- What the index has of the requests, as one comes, as one ends, and as one is looked for.
-use Rattle.std.proofs.Common.{◌≡◌, ◌≢◌, ◌==◌, ◌&&◌, ◌||◌, ℕ, zero, suc, ◌+◌, ◌<◌, ◌≤◌, Bool, true, false, cond, List, [], ◌∷◌, ◌++◌, length, filter, set, Some, option_map, is_some, refl, ap, sym, subst, ◌∙◌, arith, inl, inr}
+use Rattle.std.proofs.Common.{◌≡◌, ◌≢◌, ◌==◌, ◌&&◌, ℕ, zero, suc, ◌+◌, ◌<◌, ◌≤◌, Bool, true, false, cond, List, [], ◌∷◌, ◌++◌, length, filter, set, Some, option_map, is_some, refl, ap, sym, subst, ◌∙◌, arith, inl, inr}
 use Rattle.std.specs.List.{find, list_any, remove, slice_get, zip}
 use Rattle.std.proofs.lemmas.Bool.{eq-eqb, ne_eqb, cases_eq, cases_Bool, false≢true}
 use lib.ListN.{length-set}
@@ -9,7 +9,7 @@ use Rattle.std.proofs.lemmas.List.Sums.{count_by-le-length}
 use Rattle.std.proofs.lemmas.List.Elements.{filter-append}
 use Rattle.std.proofs.lemmas.Option.{slice_get_within, get_or_from_slice_get}
 use Rattle.std.proofs.lemmas.Slice.Zip.{length-zip}
-use Rattle.std.proofs.Math.Bool.{and-false}
+use Rattle.std.proofs.Math.Bool.{and-false, or-true}
 use Rattle.unlink_race.specs.declared.live.Live.{Live}
 use Rattle.unlink_race.specs.declared.by_number.By.{By}
 use Rattle.unlink_race.specs.declared.by_number.By.TheVariants.{Number, Id}
@@ -154,10 +154,6 @@ module _ (any : Live → Bool) (number : Live → ℕ) where
         | inl first ↦ rw (first, later) (or-true (is_pair (number r.1) r.0 (number s.1, s.0)))
         | inr other ↦ rw other later
       ]
-    where
-      or-true : (b : Bool) → (b || true) ≡ true
-      or-true true = refl
-      or-true false = refl
 
   pub column_removed : (rs : List (ℕ × Live)) (i : ℕ) (r : ℕ × Live) → slice_get rs i ≡ Some r → Distinct key_of rs → column any number (remove rs i) ≡ cond (any r.1) (without_first (is_pair (number r.1) r.0) (column any number rs)) (column any number rs)
   column_removed [] i r is apart = absurd (cc)

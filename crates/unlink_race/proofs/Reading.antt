@@ -10,7 +10,7 @@ use Rattle.std.proofs.lemmas.List.{get_or-map, get_or_default, length-map, lengt
 use Rattle.std.proofs.lemmas.List.Sorted.{IsPartitionedBy-ltb, IsNonDecreasingBy-insert}
 use Rattle.std.proofs.lemmas.List.Edits.{length-insert}
 use Rattle.std.proofs.lemmas.Option.{slice_get-get_or}
-use Rattle.std.proofs.Math.Bool.{and-false}
+use Rattle.std.proofs.Math.Bool.{and-false, or-true}
 use Rattle.urb_arena.specs.Lanes.{find_in}
 use Rattle.unlink_race.specs.declared.live.Live.{Live}
 use Rattle.unlink_race.specs.declared.by_number.By.{By}
@@ -116,10 +116,6 @@ some_at : {X : Type 0} (p : X → Bool) (xs : List X) (i : ℕ) (d : X) → i < 
 some_at p [] i d within here = absurd (omega (arith, within))
 some_at p (x ∷ xs) zero d within here = rw here refl
 some_at p (x ∷ xs) (suc i) d within here = rw (some_at p xs i d (omega (arith, within)) here) (or-true (p x))
-  where
-    or-true : (b : Bool) → (b || true) ≡ true
-    or-true true = refl
-    or-true false = refl
 
 itself_pair : (p : ℕ × ℕ) → is_pair p.0 p.1 p ≡ true
 itself_pair p = rw (eq-eqb p.0 p.0 refl, eq-eqb p.1 p.1 refl) refl

@@ -1,14 +1,14 @@
 -- What an event adds to a replay's text, and to what it keeps.
 use Rattle.std.proofs.Common.{◌≡◌, ℕ, Bool, true, false, ◌||◌, ◌&&◌, not, List, [], ◌∷◌, ◌++◌, length, drop, map, filter, Option, Some, None, is_some, refl, sym, ap, ◌∙◌}
 use Rattle.std.specs.List.{list_any}
-use Rattle.std.proofs.Math.Bool.{or-false}
+use Rattle.std.proofs.Math.Bool.{or_comm}
 use Rattle.std.proofs.lemmas.List.{drop_at}
 use Rattle.std.proofs.lemmas.List.Folds.{list_any-append}
 use Rattle.usb_base.specs.declared.refusal.Refusal.{Refusal}
 use Rattle.gate_history.specs.declared.note.Note.{Note}
 use Rattle.gate_history.specs.declared.note.Note.TheVariants as note
 use Rattle.gate_history.specs.step.Events.{Event}
-use Rattle.gate_history.specs.step.Marks.{Submission, Effect, Idle, Replies, Imports, Opens, Waits, Arrives, Unlinks, Agrees, Answers, StreamTold, Disconnects, Ends, Refuses, Mark}
+use Rattle.gate_history.specs.step.Marks.{Submission, Effect, Imports, Arrives, Unlinks, Mark}
 use Rattle.gate_history.specs.state.Sides.{refused_at, leaves, is_loss}
 use Rattle.gate_history.specs.client.Submits.{Pending, opened, ends}
 use Rattle.gate_history.specs.state.State.{State, state_of}
@@ -41,18 +41,7 @@ quiet-when false n quiet = refl
 
 quiet-import : (e : Effect) → IsQuiet (import_notes e)
 quiet-import (Imports reply) = refl
-quiet-import Idle = refl
-quiet-import (Replies reply) = refl
-quiet-import (Opens s) = refl
-quiet-import (Waits s fill) = refl
-quiet-import (Arrives ep fill) = refl
-quiet-import (StreamTold id ep status) = refl
-quiet-import (Unlinks by target) = refl
-quiet-import (Agrees caps) = refl
-quiet-import (Answers id outcome) = refl
-quiet-import (Disconnects id) = refl
-quiet-import (Ends side) = refl
-quiet-import (Refuses r) = refl
+quiet-import e = refl
 
 quiet-submit : (ss : List Submission) → IsQuiet (map (λ s. note.Submitted s.request.number s.id) ss)
 quiet-submit [] = refl
@@ -60,33 +49,11 @@ quiet-submit (s ∷ ss) = quiet-submit ss
 
 quiet-unlink : (e : Effect) → IsQuiet (unlink_notes e)
 quiet-unlink (Unlinks by target) = refl
-quiet-unlink Idle = refl
-quiet-unlink (Replies reply) = refl
-quiet-unlink (Imports reply) = refl
-quiet-unlink (Opens s) = refl
-quiet-unlink (Waits s fill) = refl
-quiet-unlink (Arrives ep fill) = refl
-quiet-unlink (StreamTold id ep status) = refl
-quiet-unlink (Agrees caps) = refl
-quiet-unlink (Answers id outcome) = refl
-quiet-unlink (Disconnects id) = refl
-quiet-unlink (Ends side) = refl
-quiet-unlink (Refuses r) = refl
+quiet-unlink e = refl
 
 quiet-arrival : (e : Effect) → IsQuiet (arrival_notes e)
 quiet-arrival (Arrives ep fill) = refl
-quiet-arrival Idle = refl
-quiet-arrival (Replies reply) = refl
-quiet-arrival (Imports reply) = refl
-quiet-arrival (Opens s) = refl
-quiet-arrival (Waits s fill) = refl
-quiet-arrival (Unlinks by target) = refl
-quiet-arrival (StreamTold id ep status) = refl
-quiet-arrival (Agrees caps) = refl
-quiet-arrival (Answers id outcome) = refl
-quiet-arrival (Disconnects id) = refl
-quiet-arrival (Ends side) = refl
-quiet-arrival (Refuses r) = refl
+quiet-arrival e = refl
 
 quiet-answer : (ps : List Pending) → IsQuiet (map (λ p. note.Answered p.submit.request.number) ps)
 quiet-answer [] = refl
@@ -111,16 +78,11 @@ told-mark st m =
     quiet-then (came ++ answer_notes st m.what ++ gone) left next_three ∙ quiet-when (leaves m.what && not st.client_over) note.ClientGone refl in
     quiet-then (came ++ answer_notes st m.what ++ gone ++ left) (refusal_notes (refused_at m.what)) all_seven ∙ told-refusal (refused_at m.what)
 
-or-comm : (a b : Bool) → (a || b) ≡ (b || a)
-or-comm true true = refl
-or-comm true false = refl
-or-comm false b = sym (or-false b)
-
 told-past : (first : ℕ) (ms : List Mark) → list_any is_refusal (told_notes first ms) ≡ has_refusal ms
 told-past first [] = refl
 told-past first (m ∷ ms) =
     list_any-append is_refusal (told_notes first ms) (notes_of (state_of first ms) m) ∙ ap (λ (b : Bool). b || list_any is_refusal (notes_of (state_of first ms) m)) (told-past first ms)
-    ∙ ap (λ (b : Bool). has_refusal ms || b) (told-mark (state_of first ms) m) ∙ or-comm (has_refusal ms) (is_some (refused_at m.what))
+    ∙ ap (λ (b : Bool). has_refusal ms || b) (told-mark (state_of first ms) m) ∙ or_comm (has_refusal ms) (is_some (refused_at m.what))
 
 -- with the notes that an event told
 pub refused-more : (first : ℕ) (before after : List Mark) (notes : List Note) → told_notes first after ≡ told_notes first before ++ notes → (has_refusal before || list_any is_refusal notes) ≡ has_refusal after

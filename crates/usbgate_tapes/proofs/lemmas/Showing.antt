@@ -4,6 +4,7 @@ use Rattle.std.specs.Result.{IsErrAnd}
 use Rattle.std.proofs.lemmas.List.{append-nil, drop_at}
 use Rattle.std.proofs.Math.Seq.{drop-length}
 use Rattle.std.proofs.lemmas.Bool.{false≢true}
+use Rattle.std.proofs.Math.Bool.{or-true}
 use Rattle.usb_base.specs.declared.reason.Reason.{Reason}
 use Rattle.usb_base.specs.Refusal.{refusal_line}
 use Rattle.packet_stream.specs.declared.read.ReadError.{ReadError}
@@ -162,10 +163,6 @@ module _ {S P : Type 0} (shown : Shown S P) where
   or-same false true h = h refl
   or-same false false h = refl
 
-  or-true : (a : Bool) → true ≡ (a || true)
-  or-true true = refl
-  or-true false = refl
-
   -- the text of a stream in which nothing is wrong
   right-text : (x : Splitting S P Reason) → x.wrong ≡ None → split_text shown x ≡ packet_lines shown x.packets ++ []
   right-text x right = ap (λ (w : Option (ℕ × Reason)). packet_lines shown x.packets ++ wrong_line shown.side w) right
@@ -277,7 +274,7 @@ module _ {S P : Type 0} (shown : Shown S P) where
               ∙ adds events e text_old (packet_lines shown all.more ++ wrong_line shown.side (Some at)) right
               (gained-more events e all.more (Some at) (none-wrong (stream_split shown events).wrong right) wrongs.packets wrongs.wrong),
           record {
-            refused-is = or-true refused ∙ wrong-after refused true events e h.refused-is now;
+            refused-is = sym (or-true refused) ∙ wrong-after refused true events e h.refused-is now;
             over-is = ends.1 ∙ sym now;
             over-refused = λ o. refl;
             follows = subst (λ (b : List ℕ). Follows shown.reader shown.start new b (split shown.reader shown.start b).packets) (sym bytes-is) (record {

@@ -1,7 +1,7 @@
 -- A made tape read by a model: its lines are all good, and what is kept are the steps that they say.
-use Rattle.std.proofs.Common.{◌≡◌, ℕ, ◌+◌, ◌-◌, ◌≤◌, Bool, true, false, cond, ◌&&◌, ◌||◌, List, [], ◌∷◌, ◌++◌, length, get_or, take, nat_eq, nat_lt, option_map, Option, Some, None, refl, ap, ◌∙◌, append_assoc, arith}
+use Rattle.std.proofs.Common.{◌≡◌, ℕ, ◌+◌, ◌-◌, ◌≤◌, Bool, true, false, cond, ◌&&◌, List, [], ◌∷◌, ◌++◌, length, get_or, take, nat_eq, nat_lt, option_map, Option, Some, None, refl, ap, ◌∙◌, append_assoc, arith}
 use Rattle.std.specs.List.{list_any}
-use Rattle.std.proofs.lemmas.Bool.{le-ltb}
+use Rattle.std.proofs.lemmas.Bool.{le-ltb, or_parts}
 use Rattle.std.proofs.lemmas.List.{length-append}
 use Rattle.std.proofs.Math.Seq.{take-append_seam, get_or-append_seam}
 use Rattle.packet_show.specs.declared.tape.TapeKind.TheVariants.{Model}
@@ -21,14 +21,10 @@ use Rattle.usbgate_tapes.proofs.lemmas.tape.Lines.{lines_of-line}
 
 -- ---- a line
 
-or-none : (a b : Bool) → (a || b) ≡ false → (a ≡ false) × (b ≡ false)
-or-none true b e = absurd (let f : true ≡ false = e in cc)
-or-none false b e = (refl, e)
-
 no-lf : (text : List ℕ) → list_any (λ b. nat_eq b 10) text ≡ false → HasNoLF text
 no-lf [] e = tt
 no-lf (b ∷ bs) e =
-    let parts = or-none (nat_eq b 10) (list_any (λ b. nat_eq b 10) bs) e in
+    let parts = or_parts (nat_eq b 10) (list_any (λ b. nat_eq b 10) bs) e in
     (λ same. let lf : nat_eq b 10 ≡ true = ap (λ (n : ℕ). nat_eq n 10) same in let other : nat_eq b 10 ≡ false = parts.0 in cc, no-lf bs parts.1)
 
 content-line : (text : List ℕ) → content (text ++ 10 ∷ []) ≡ text

@@ -5,7 +5,7 @@ use Rattle.std.proofs.lemmas.List.Quantifiers.{position-Some}
 use Rattle.std.proofs.lemmas.List.Sums.{prefix_len_passes}
 use Rattle.std.proofs.lemmas.Option.{none-some}
 use Rattle.std.proofs.Math.Seq.{take-suc}
-use Rattle.std.proofs.lemmas.Bool.{eqb-true, ltb-false, false_from_ne_true}
+use Rattle.std.proofs.lemmas.Bool.{eqb-true, ltb-false, false_from_ne_true, not-true}
 use Rattle.std.specs.List.{position_or_len}
 use Rattle.usbgate_tapes.specs.tape.Tape.{before_first, lines_of}
 use Rattle.usbgate_tapes.specs.Run.{EndsALine, HasNoLF}
@@ -91,10 +91,6 @@ line_end-some xs i e =
 none_found : (xs : List ℕ) (n : ℕ) (t : Bool) → nat_lt n (length xs) ≡ t → cond t (Some n) None ≡ None → length xs ≤ n
 none_found xs n true e none = absurd (none-some n (sym none))
 none_found xs n false e none = ltb-false n (length xs) e
-
-not-true : (t : Bool) → not t ≡ true → t ≡ false
-not-true true e = sym e
-not-true false e = refl
 
 pub line_end-none : (xs : List ℕ) → position (λ b. nat_eq b 10) xs ≡ None → HasNoLF xs
 line_end-none xs e =

@@ -1,11 +1,11 @@
-//! Packets by name.
+//! Packets by name, for the programs that try the gateway over rows of text. Nothing is proved of their bytes.
+#![tactic(auto)]
 
-use hex::FromHexError;
-use std::alloc::{AllocError, Global};
+use std::alloc::Global;
 use usb_base::Memory;
 
-/// Packets by name, in hexadecimal. `#` stands for a number in four bytes, the high one first, and `@` for an id in
-/// eight, the low one first.
+/// Packets by name, in hexadecimal. `#` stands for the next number in four bytes, the high one first, and `@` for the
+/// next id in eight, the low one first.
 #[derive(Drop)]
 pub struct Packets {
     named: Vec<(String, String)>,
@@ -27,27 +27,15 @@ impl Packets {
         Ok(())
     }
 
-    /// The bytes of packets, each by its name and its numbers. Words that are none give no bytes.
-    pub fn bytes_of(&self, alloc: Global, words: &str, turn: u32) -> Result<Vec<u8>, Memory> {
-        let mut digits = String::new(alloc);
-        for word in words.split_whitespace() {
-            self.push(&mut digits, word, turn)?;
-        }
-        match hex::decode(alloc, digits.as_str()) {
-            Ok(bytes) => Ok(bytes),
-            Err(FromHexError::OutOfMemory) => Err(AllocError.into()),
-            Err(_) => Ok(Vec::new(alloc)),
-        }
-    }
-
-    fn push(&self, digits: &mut String, word: &str, turn: u32) -> Result<(), Memory> {
+    /// Appends the digits of bytes, or of a packet by its name and its numbers, which stand behind colons.
+    pub fn push(&self, digits: &mut String, word: &str, turn: u32) -> Result<(), Memory> {
         let mut parts = word.split(':');
         let name = parts.next().unwrap_or("");
         for piece in self.named(name).split(' ') {
             match piece {
                 "#" => push_number(digits, value_of(parts.next().unwrap_or(""), turn))?,
                 "@" => push_id(digits, value_of(parts.next().unwrap_or(""), turn))?,
-                _ => push_times(digits, piece)?,
+                _ => push_bytes(digits, piece)?,
             }
         }
         Ok(())
@@ -64,19 +52,24 @@ impl Packets {
     }
 }
 
-/// A number in decimal. `N` stands for how often the line has come, and `N+64` for 64 more.
+/// A number in decimal. `N` stands for how often the line has come, `N+64` for 64 more, and `-5` for 5 below 0.
 fn value_of(number: &str, turn: u32) -> u32 {
+    if let Some(below) = number.strip_prefix('-') {
+        return below.parse().unwrap_or(0_u32).wrapping_neg();
+    }
     match number.strip_prefix("N+") {
         Some(more) => turn.wrapping_add(more.parse().unwrap_or(0_u32)),
         None => number.parse().unwrap_or(turn),
     }
 }
 
+/// Appends a number of USB/IP, which has its high byte first.
 fn push_number(digits: &mut String, number: u32) -> Result<(), Memory> {
     write!(digits, "{number:08x}")?;
     Ok(())
 }
 
+/// Appends an id of usbredir, which has its low byte first.
 fn push_id(digits: &mut String, id: u32) -> Result<(), Memory> {
     let id = u64::from(id).swap_bytes();
     write!(digits, "{id:016x}")?;
@@ -84,7 +77,7 @@ fn push_id(digits: &mut String, id: u32) -> Result<(), Memory> {
 }
 
 /// Appends bytes, which may be followed by how many times they come.
-fn push_times(digits: &mut String, bytes: &str) -> Result<(), Memory> {
+pub fn push_bytes(digits: &mut String, bytes: &str) -> Result<(), Memory> {
     let (bytes, times) = bytes.split_once('*').unwrap_or((bytes, "1"));
     for _ in 0..times.parse().unwrap_or(0_u32) {
         digits.push_str(bytes)?;
