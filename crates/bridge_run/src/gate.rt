@@ -1,10 +1,8 @@
 //! The gate as what is served.
 
-ghost use Rattle.std.specs.Prelude.{◌≡◌, ◌++◌, ◌||◌, true, OnOk, OnErr, option_map};
+ghost use Rattle.std.specs.Prelude.{◌≡◌, ◌++◌, ◌||◌, true, OnOk, OnErr};
 ghost use Rattle.std.specs.List.{flat_map, list_any};
-ghost use Rattle.gate_history.specs.step.Events.{event_of as told_of};
-ghost use Rattle.bridge_run.specs.Events.{event_of};
-ghost use Rattle.bridge_run.specs.Gate.{gate_event, refusal_in, is_loss, lets_go};
+ghost use Rattle.bridge_run.specs.Gate.{refusal_in, is_loss, lets_go};
 ghost use Rattle.bridge_run.specs.Recorded.{has_any};
 
 use crate::after_loss::AfterLoss;
@@ -42,29 +40,19 @@ impl Served for Gateway {
     ghost takes_memory = { λ e. is_some (gate_event e) };
 
     fn take(&mut self, event: LinkEvent, sent: &mut Sent) -> Result<(), Memory> {
-        match gate_event(event) {
-            Some(event) => {
-                let notes = self
-                    .gate
-                    .take(event, &mut sent.to_client, &mut sent.to_host)?;
-                sent.lets_go |= lets_go(self.after_loss, &notes);
-                push_refusals(&notes, &mut sent.refusals)
-            }
-            None => Ok(()),
-        }
-    }
-}
-
-/// What an event is to a gate: that a client has come, or is quiet, is none.
-fn gate_event(event: LinkEvent<'_>) -> Option<GateEvent<'_>>
-    ensures { option_map told_of result ≡ gate_event (event_of event.entry) }
-{
-    match event {
-        LinkEvent::ClientComes | LinkEvent::ClientQuiet => None,
-        LinkEvent::ClientPiece(bytes) => Some(GateEvent::ClientPiece(bytes)),
-        LinkEvent::ClientEnd => Some(GateEvent::ClientEnd),
-        LinkEvent::HostPiece(bytes) => Some(GateEvent::HostPiece(bytes)),
-        LinkEvent::HostEnd => Some(GateEvent::HostEnd),
+        // That a client has come, or is quiet, is nothing to a gate.
+        let told = match event {
+            LinkEvent::ClientComes | LinkEvent::ClientQuiet => return Ok(()),
+            LinkEvent::ClientPiece(bytes) => GateEvent::ClientPiece(bytes),
+            LinkEvent::ClientEnd => GateEvent::ClientEnd,
+            LinkEvent::HostPiece(bytes) => GateEvent::HostPiece(bytes),
+            LinkEvent::HostEnd => GateEvent::HostEnd,
+        };
+        let notes = self
+            .gate
+            .take(told, &mut sent.to_client, &mut sent.to_host)?;
+        sent.lets_go |= lets_go(self.after_loss, &notes);
+        push_refusals(&notes, &mut sent.refusals)
     }
 }
 
