@@ -226,7 +226,17 @@ take-comes s first e next c h =
 come-comes : (p : Prescribed) (first : List ℕ) (clients : List (List Turn)) (c : Course) → AllSendBytes clients → Stands p first c → Comes p first (come clients c)
 come-comes p first [] c bytes h = h
 come-comes p first (turns ∷ clients) c bytes h = record {
-  holds = record h { client_up-is = refl; client = bytes.0; clients = bytes.1 };
+  holds = record {
+    client_up-is = refl;
+    host_up-is = h.host_up-is;
+    gathers = h.gathers;
+    to_client-is = h.to_client-is;
+    to_host-is = h.to_host-is;
+    fit = h.fit;
+    client = bytes.0;
+    clients = bytes.1;
+    host = h.host;
+  };
   fits = tt;
   behind = tt;
 }
@@ -261,16 +271,56 @@ piece-is : (b : ℕ) (bs : List ℕ) → AreBytes (b ∷ bs) → IsPiece (take r
 piece-is b bs h = record { some = take-some room b bs (lit< tt); bytes-are = AreBytes-take room (b ∷ bs) h }
 
 with-client : (p : Prescribed) (first : List ℕ) (up host_up : Bool) (c : Course) (turns : List Turn) → SendBytes turns → Holds p first up host_up (seen c) → Holds p first up host_up (seen (record c { client = turns }))
-with-client p first up host_up c turns bytes h = record h { client = bytes }
+with-client p first up host_up c turns bytes h = record {
+  client_up-is = h.client_up-is;
+  host_up-is = h.host_up-is;
+  gathers = h.gathers;
+  to_client-is = h.to_client-is;
+  to_host-is = h.to_host-is;
+  fit = h.fit;
+  client = bytes;
+  clients = h.clients;
+  host = h.host;
+}
 
 with-host : (p : Prescribed) (first : List ℕ) (up host_up : Bool) (c : Course) (turns : List Turn) → SendBytes turns → Holds p first up host_up (seen c) → Holds p first up host_up (seen (record c { host = turns }))
-with-host p first up host_up c turns bytes h = record h { host = bytes }
+with-host p first up host_up c turns bytes h = record {
+  client_up-is = h.client_up-is;
+  host_up-is = h.host_up-is;
+  gathers = h.gathers;
+  to_client-is = h.to_client-is;
+  to_host-is = h.to_host-is;
+  fit = h.fit;
+  client = h.client;
+  clients = h.clients;
+  host = bytes;
+}
 
 without-client : (p : Prescribed) (first : List ℕ) (up host_up : Bool) (c : Course) → Holds p first up host_up (seen c) → Holds p first false host_up (seen (record c { client_up = false }))
-without-client p first up host_up c h = record h { client_up-is = refl }
+without-client p first up host_up c h = record {
+  client_up-is = refl;
+  host_up-is = h.host_up-is;
+  gathers = h.gathers;
+  to_client-is = h.to_client-is;
+  to_host-is = h.to_host-is;
+  fit = h.fit;
+  client = h.client;
+  clients = h.clients;
+  host = h.host;
+}
 
 without-host : (p : Prescribed) (first : List ℕ) (up host_up : Bool) (c : Course) → Holds p first up host_up (seen c) → Holds p first up false (seen (record c { host_up = false }))
-without-host p first up host_up c h = record h { host_up-is = refl }
+without-host p first up host_up c h = record {
+  client_up-is = h.client_up-is;
+  host_up-is = refl;
+  gathers = h.gathers;
+  to_client-is = h.to_client-is;
+  to_host-is = h.to_host-is;
+  fit = h.fit;
+  client = h.client;
+  clients = h.clients;
+  host = h.host;
+}
 
 client-heard : (p : Prescribed) (first : List ℕ) (turns : List Turn) (c : Course) → BeginsFull turns → SendBytes turns → Stands p first c
     → Comes p first (heard Client AtHost (answer room turns) (given room turns) (record c { client = after room turns }))
