@@ -63,12 +63,8 @@ settle s next c =
 
 -- a client that was refused, or let go, has its end next
 abbrev pub ends_next : LinkEvent → Bool → Bool
-ends_next ClientComes dropped = dropped
-ends_next (ClientPiece b) dropped = dropped
-ends_next ClientQuiet dropped = dropped
 ends_next ClientEnd dropped = false
-ends_next (HostPiece b) dropped = dropped
-ends_next HostEnd dropped = dropped
+ends_next e dropped = dropped
 
 abbrev pub take_event : Setting → LinkEvent → Next → Course → Outcome
 take_event s e next c =

@@ -2,8 +2,8 @@
 use Rattle.std.specs.Prelude.{ℕ, Bool, true, false, if◌then◌else◌, List, [], ◌∷◌, ◌++◌, Result, Ok, Err}
 use Rattle.usb_base.specs.declared.side.Side.TheVariants.{Client}
 use Rattle.gate_outside.specs.declared.fault.Failed.{Failed as Fault}
-use Rattle.gate_outside.specs.Calls.{Call, Dial, Listen, Accept, Poll, Write, Close, written_by}
-use Rattle.bridge_run.specs.Events.{LinkEvent, ClientComes, ClientPiece, ClientQuiet, ClientEnd, HostPiece, HostEnd}
+use Rattle.gate_outside.specs.Calls.{Call, Accept, Write, written_by}
+use Rattle.bridge_run.specs.Events.{LinkEvent, ClientComes}
 use Rattle.bridge_run.specs.Prescribed.{Prescribed, gained}
 use Rattle.bridge_run.specs.Ups.{client_at, client_behind}
 
@@ -39,12 +39,9 @@ behind_answer (Ok false) shares = shares
 behind_answer (Err _) shares = shares
 
 abbrev pub with_call : Call → Shares → Shares
-with_call (Dial addr answer) shares = shares
-with_call (Listen addr answer) shares = shares
 with_call (Accept answer) shares = behind_answer answer shares
-with_call (Poll side polled buf) shares = shares
 with_call (Write side bytes answer) shares = with_more (written_by Client (Write side bytes answer)) shares
-with_call (Close side) shares = shares
+with_call call shares = shares
 
 -- the bytes that these calls wrote to each client's link, from where it came to where the next one does
 abbrev pub got_by : List Call → Shares
@@ -55,11 +52,7 @@ got_by (call ∷ calls) = with_call call (got_by calls)
 
 abbrev pub with_event : LinkEvent → List ℕ → Shares → Shares
 with_event ClientComes bytes shares = with_next bytes shares
-with_event (ClientPiece b) bytes shares = with_more bytes shares
-with_event ClientQuiet bytes shares = with_more bytes shares
-with_event ClientEnd bytes shares = with_more bytes shares
-with_event (HostPiece b) bytes shares = with_more bytes shares
-with_event HostEnd bytes shares = with_more bytes shares
+with_event e bytes shares = with_more bytes shares
 
 -- what each event sends to the client that is there, where that one's link is up
 abbrev pub sent_to_each : Prescribed → List LinkEvent → Shares

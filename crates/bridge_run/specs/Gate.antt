@@ -1,6 +1,6 @@
 -- What a gate's events send, and which sides they refuse: what its history says.
 use Rattle.std.specs.Prelude.{ℕ, Bool, true, false, List, [], ◌∷◌, Option, Some, None}
-use Rattle.std.specs.List.{flat_map, list_any}
+use Rattle.std.specs.List.{filter_map, flat_map, list_any}
 use Rattle.usb_base.specs.declared.refusal.Refusal.{Refusal}
 use Rattle.gate_history.specs.declared.note.Note.{Note}
 use Rattle.gate_history.specs.declared.note.Note.TheVariants as note
@@ -10,27 +10,21 @@ use Rattle.gate_history.specs.step.History.{history}
 use Rattle.gate_history.specs.write.Notes.{notes_of}
 use Rattle.gate_history.specs.write.All.{all_of}
 use Rattle.gate_history.specs.write.Bytes.{out_client, out_host}
-use Rattle.bridge_run.specs.Events.{LinkEvent, ClientComes, ClientPiece, ClientQuiet, ClientEnd, HostPiece, HostEnd}
+use Rattle.bridge_run.specs.Events.{LinkEvent, ClientPiece, ClientEnd, HostPiece, HostEnd}
 use Rattle.bridge_run.specs.Prescribed.{Prescribed, gained}
 use Rattle.bridge_run.specs.declared.after_loss.AfterLoss.{AfterLoss}
 use Rattle.bridge_run.specs.declared.after_loss.AfterLoss.TheVariants.{Keep, Close}
 
 -- what an event is to a gate: that a client has come, or is quiet, is none
 abbrev pub gate_event : LinkEvent → Option GateEvent
-gate_event ClientComes = None
 gate_event (ClientPiece b) = Some (gate.ClientPiece b)
-gate_event ClientQuiet = None
 gate_event ClientEnd = Some gate.ClientEnd
 gate_event (HostPiece b) = Some (gate.HostPiece b)
 gate_event HostEnd = Some gate.HostEnd
-
-abbrev pub put_on : {A : Type 0} → Option A → List A → List A
-put_on None xs = xs
-put_on (Some x) xs = x ∷ xs
+gate_event e = None
 
 abbrev pub gate_events : List LinkEvent → List GateEvent
-gate_events [] = []
-gate_events (e ∷ events) = put_on (gate_event e) (gate_events events)
+gate_events events = filter_map gate_event events
 
 abbrev pub refusal_in : Note → List Refusal
 refusal_in (note.Refused refusal) = refusal ∷ []

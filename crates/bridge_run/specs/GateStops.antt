@@ -1,5 +1,5 @@
 -- Where memory ran out as a gate took an event, and what of that had been sent by then.
-use Rattle.std.specs.Prelude.{◌≡◌, ◌⊎◌, ℕ, List, [], ◌++◌, Option, Some, None}
+use Rattle.std.specs.Prelude.{◌≡◌, ◌⊎◌, ℕ, List, [], ◌++◌, IsSomeAnd}
 use Rattle.gate_history.specs.step.Events.{Event as GateEvent}
 use Rattle.gate_history.specs.step.Items.{Item}
 use Rattle.gate_history.specs.step.Past.{past}
@@ -20,9 +20,5 @@ pub record GateStops (first : ℕ) (events : List GateEvent) (e : GateEvent) (cl
   pub host-is : out_host first (past first (onto taken (arrivals events))) ≡ out_host first (history first events) ++ host
 
 -- an event that is none to a gate takes no memory
-abbrev pub StopsAt : ℕ → List GateEvent → Option GateEvent → List ℕ → List ℕ → Type 0
-StopsAt first events None client host = ⊥
-StopsAt first events (Some e) client host = GateStops first events e client host
-
 abbrev pub gate_runs_out : ℕ → List LinkEvent → LinkEvent → List ℕ → List ℕ → Type 0
-gate_runs_out first events e client host = StopsAt first (gate_events events) (gate_event e) client host
+gate_runs_out first events e client host = IsSomeAnd (gate_event e) (λ it. GateStops first (gate_events events) it client host)

@@ -1,6 +1,6 @@
 -- What the events of a modelled device send that is lent to a guest, and which they refuse: the guest is the client, and
 -- what is done with the device's host goes by the events.
-use Rattle.std.specs.Prelude.{ℕ, ◌||◌, Bool, true, false, if◌then◌else◌, List, [], ◌∷◌, ◌++◌, None}
+use Rattle.std.specs.Prelude.{ℕ, Bool, true, false, if◌then◌else◌, List, [], ◌∷◌, ◌++◌, None}
 use Rattle.std.specs.List.{flat_map, list_any}
 use Rattle.usb_base.specs.declared.side.Side.TheVariants.{Client}
 use Rattle.usb_base.specs.declared.refusal.Refusal.{Refusal}
@@ -9,7 +9,7 @@ use Rattle.redir_host.specs.declared.note.HostNote.{HostNote}
 use Rattle.redir_host.specs.declared.note.HostNote.TheVariants as note
 use Rattle.redir_host.specs.step.Acts.{Act, Piece, Perform, Offer}
 use Rattle.redir_host.specs.write.Output.{host_out, act_notes}
-use Rattle.bridge_run.specs.Events.{LinkEvent, ClientComes, ClientPiece, ClientQuiet, ClientEnd, HostPiece, HostEnd}
+use Rattle.bridge_run.specs.Events.{LinkEvent, ClientComes, ClientPiece, ClientQuiet}
 use Rattle.bridge_run.specs.Prescribed.{Prescribed}
 
 -- ---- what is done with the device in a round
@@ -46,12 +46,9 @@ behind_piece notes acts = if list_any is_refusal notes then acts else used acts
 
 -- the acts behind an event
 abbrev pub acts_behind : {S : Type 0} → Meaning S → S → List Act → LinkEvent → List Act
-acts_behind m s acts ClientComes = acts
 acts_behind m s acts (ClientPiece b) = behind_piece (act_notes m s acts (Piece b)) (Piece b ∷ acts)
 acts_behind m s acts ClientQuiet = used acts
-acts_behind m s acts ClientEnd = acts
-acts_behind m s acts (HostPiece b) = acts
-acts_behind m s acts HostEnd = acts
+acts_behind m s acts e = acts
 
 -- all acts of these events, the latest first
 abbrev pub acts_of : {S : Type 0} → Meaning S → S → List LinkEvent → List Act
@@ -62,27 +59,18 @@ acts_of m s (e ∷ events) = acts_behind m s (acts_of m s events) e
 
 abbrev pub is_coming : LinkEvent → Bool
 is_coming ClientComes = true
-is_coming (ClientPiece b) = false
-is_coming ClientQuiet = false
-is_coming ClientEnd = false
-is_coming (HostPiece b) = false
-is_coming HostEnd = false
+is_coming e = false
 
 abbrev pub has_come : List LinkEvent → Bool
-has_come [] = false
-has_come (e ∷ events) = is_coming e || has_come events
+has_come events = list_any is_coming events
 
 -- once the guest has come, all that the host has sent, from its hello on
 abbrev pub lent_bytes : {S : Type 0} → Meaning S → S → List LinkEvent → List ℕ
 lent_bytes m s events = if has_come events then host_out m s (acts_of m s events) else []
 
 abbrev pub refused_by : {S : Type 0} → Meaning S → S → List Act → LinkEvent → List Refusal
-refused_by m s acts ClientComes = []
 refused_by m s acts (ClientPiece b) = flat_map refusal_in (act_notes m s acts (Piece b))
-refused_by m s acts ClientQuiet = []
-refused_by m s acts ClientEnd = []
-refused_by m s acts (HostPiece b) = []
-refused_by m s acts HostEnd = []
+refused_by m s acts e = []
 
 abbrev pub lent_refusals : {S : Type 0} → Meaning S → S → List LinkEvent → List Refusal
 lent_refusals m s [] = []

@@ -1,11 +1,11 @@
 -- What serving has done, by the log of the doors' calls: which events came, that what was written is what they send,
 -- and why it ended. It holds over any doors and any sink, since it speaks of nothing but what their calls answered.
-use Rattle.std.specs.Prelude.{◌≡◌, ◌⊎◌, ◌<◌, ◌≤◌, ℕ, ◌&&◌, not, Bool, true, false, if◌then◌else◌, List, [], ◌∷◌, ◌++◌, take, Option, Some, None, is_some, Result, Ok, Err}
+use Rattle.std.specs.Prelude.{◌≡◌, ◌⊎◌, ◌<◌, ◌≤◌, ℕ, ◌&&◌, not, Bool, true, false, if◌then◌else◌, List, [], ◌∷◌, ◌++◌, take, Option, Some, None, is_some, IsSomeAnd, Result, Ok}
+use Rattle.std.specs.List.{cons_option}
 use Rattle.usb_base.specs.declared.side.Side.{Side}
 use Rattle.usb_base.specs.declared.side.Side.TheVariants.{Client, Host}
 use Rattle.gate_outside.specs.declared.fault.Failed.{Failed as Fault}
-use Rattle.gate_outside.specs.declared.turn.Polled.{Polled}
-use Rattle.gate_outside.specs.declared.turn.Polled.TheVariants.{Took, NotYet, Ended, Failed}
+use Rattle.gate_outside.specs.declared.turn.Polled.TheVariants.{Took, NotYet, Ended}
 use Rattle.gate_outside.specs.Calls.{Call, Dial, Listen, Accept, Poll, Write, Close, Called, went}
 use Rattle.gate_outside.specs.Moved.{Moves}
 use Rattle.bridge_run.specs.Events.{LinkEvent, ClientComes, ClientQuiet, ClientEnd}
@@ -19,35 +19,18 @@ use Rattle.bridge_run.specs.Asks.{asks_of, taken, has_just_come, quiet_rounds, i
 
 -- ---- which events came, the latest first
 
-abbrev pub behind_accept : Result Bool Fault → List LinkEvent → List LinkEvent
-behind_accept (Ok true) events = ClientComes ∷ events
-behind_accept (Ok false) events = events
-behind_accept (Err _) events = events
-
--- a client that has nothing is an event, too
-abbrev pub behind_rest : Side → List LinkEvent → List LinkEvent
-behind_rest Client events = ClientQuiet ∷ events
-behind_rest Host events = events
-
-abbrev pub behind_poll : Side → Polled → List ℕ → List LinkEvent → List LinkEvent
-behind_poll side (Took n) buf events = piece side (take n buf) ∷ events
-behind_poll side NotYet buf events = behind_rest side events
-behind_poll side Ended buf events = end_of side ∷ events
-behind_poll side Failed buf events = events
+-- the event that a call's answer is: a client that has nothing is one, too
+abbrev pub event_in : Call → Option LinkEvent
+event_in (Accept (Ok true)) = Some ClientComes
+event_in (Poll side (Took n) buf) = Some (piece side (take n buf))
+event_in (Poll side Ended buf) = Some (end_of side)
+event_in (Poll Client NotYet buf) = Some ClientQuiet
+event_in call = None
 
 -- a client whose link is closed has its end next, where that isn't what closed it
-abbrev pub behind_close : Side → List LinkEvent → List LinkEvent
-behind_close Client [] = []
-behind_close Client (e ∷ events) = if ends_next e true then ClientEnd ∷ e ∷ events else e ∷ events
-behind_close Host events = events
-
 abbrev pub behind_call : Call → List LinkEvent → List LinkEvent
-behind_call (Dial addr answer) events = events
-behind_call (Listen addr answer) events = events
-behind_call (Accept answer) events = behind_accept answer events
-behind_call (Poll side polled buf) events = behind_poll side polled buf events
-behind_call (Write side bytes answer) events = events
-behind_call (Close side) events = behind_close side events
+behind_call (Close Client) (e ∷ events) = if ends_next e true then ClientEnd ∷ e ∷ events else e ∷ events
+behind_call call events = cons_option (event_in call) events
 
 abbrev pub events_of : List Call → List LinkEvent
 events_of [] = []
@@ -64,10 +47,6 @@ pub record Terms : Type 0 where
   pub taped : Bool
   pub idle : ℕ
   pub budget : ℕ
-
-abbrev pub IsAddress : Option (List ℕ) → List ℕ → Type 0
-IsAddress None addr = ⊥
-IsAddress (Some host) addr = addr ≡ host
 
 -- nothing but the dialling of the host, where there is one
 abbrev pub IsDialled : Option (List ℕ) → List Call → Type 0
@@ -124,12 +103,11 @@ IsTurnOf Host terms p calls = is_behind_client (asks_of calls) ≡ true
 -- The host is dialled first, and once, and then the door is made, once. Nobody is asked for anything before all is
 -- written, nor once it is to end, and both sides are asked in turn.
 abbrev pub AsksSettled : Terms → Prescribed → Call → List Call → Type 0
-AsksSettled terms p (Dial addr answer) calls = IsAddress terms.host addr × (calls ≡ [])
+AsksSettled terms p (Dial addr answer) calls = IsSomeAnd terms.host (λ host. addr ≡ host) × (calls ≡ [])
 AsksSettled terms p (Listen addr answer) calls = (addr ≡ terms.door) × IsDialled terms.host calls
 AsksSettled terms p (Accept answer) calls = MayAsk Client terms p calls × BeginsRound terms p calls
 AsksSettled terms p (Poll side polled buf) calls = MayAsk side terms p calls × IsTurnOf side terms p calls
-AsksSettled terms p (Write side bytes answer) calls = Unit {0}
-AsksSettled terms p (Close side) calls = Unit {0}
+AsksSettled terms p call calls = Unit {0}
 
 abbrev pub Settled : Terms → Prescribed → List Call → Type 0
 Settled terms p [] = Unit {0}
@@ -171,43 +149,19 @@ WroteBefore runs_out tells terms p [] calls = (calls ≡ []) × tells []
 WroteBefore runs_out tells terms p (e ∷ events) calls = WroteSent runs_out tells terms p e events calls
 
 abbrev pub HasWritten : ServeEnd → (List LinkEvent → LinkEvent → List ℕ → List ℕ → Type 0) → (List ℕ → Type 0) → Terms → Prescribed → List LinkEvent → List Call → Type 0
-HasWritten (end.Ended refused) runs_out tells terms p events calls = Wrote tells terms p events calls
-HasWritten end.Idle runs_out tells terms p events calls = Wrote tells terms p events calls
-HasWritten end.Spent runs_out tells terms p events calls = Wrote tells terms p events calls
 HasWritten (end.LinkFault side) runs_out tells terms p events calls = WroteInPart tells terms p events calls
 HasWritten end.WriteFault runs_out tells terms p events calls = WroteInPart tells terms p events calls
 HasWritten end.Memory runs_out tells terms p events calls = WroteBefore runs_out tells terms p events calls
-
--- a client came
-abbrev pub Came : Result Bool Fault → Type 0
-Came (Ok true) = Unit {0}
-Came (Ok false) = ⊥
-Came (Err _) = ⊥
-
-abbrev pub RestBrings : Side → Type 0
-RestBrings Client = Unit {0}
-RestBrings Host = ⊥
-
-abbrev pub PollBrings : Side → Polled → Type 0
-PollBrings side (Took n) = Unit {0}
-PollBrings side NotYet = RestBrings side
-PollBrings side Ended = Unit {0}
-PollBrings side Failed = ⊥
-
-abbrev pub CloseBrings : Side → Type 0 → Type 0
-CloseBrings Client before = Unit {0}
-CloseBrings Host before = before
+HasWritten e runs_out tells terms p events calls = Wrote tells terms p events calls
 
 -- behind the answer that made the latest event, or the closing of a client's link, nothing was called but writes, and the
 -- closing of the host's link
 abbrev pub JustCame : List Call → Type 0
 JustCame [] = ⊥
-JustCame (Dial addr answer ∷ calls) = ⊥
-JustCame (Listen addr answer ∷ calls) = ⊥
-JustCame (Accept answer ∷ calls) = Came answer
-JustCame (Poll side polled buf ∷ calls) = PollBrings side polled
 JustCame (Write side bytes answer ∷ calls) = JustCame calls
-JustCame (Close side ∷ calls) = CloseBrings side (JustCame calls)
+JustCame (Close Host ∷ calls) = JustCame calls
+JustCame (Close Client ∷ calls) = Unit {0}
+JustCame (call ∷ calls) = IsSomeAnd (event_in call) (λ e. Unit {0})
 
 -- a round is over that brought nothing, all is written to the links, and the lines that wait are due on the tape
 pub record IsAtRest (terms : Terms) (p : Prescribed) (calls : List Call) : Type 0 where

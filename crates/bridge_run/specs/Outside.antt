@@ -7,7 +7,7 @@ use Rattle.gate_outside.specs.Faults.{Rose}
 use Rattle.gate_outside.specs.Link.{Link, Door}
 use Rattle.session_tape.specs.Tapes.{Counts, OneFault}
 use Rattle.bridge_run.specs.declared.serve_end.ServeEnd.{ServeEnd}
-use Rattle.bridge_run.specs.declared.serve_end.ServeEnd.TheVariants.{Ended, LinkFault, WriteFault, Idle, Spent, Memory}
+use Rattle.bridge_run.specs.declared.serve_end.ServeEnd.TheVariants.{Ended, LinkFault, WriteFault, Idle}
 use Rattle.bridge_run.specs.Events.{LinkEvent}
 use Rattle.bridge_run.specs.Recorded.{has_any, event_line}
 use Rattle.bridge_run.specs.Course.{Course}
@@ -75,10 +75,7 @@ abbrev pub HasCause : ServeEnd → Outside → Outside → Faults → Faults →
 HasCause (LinkFault Client) old new sink_old sink_new = ClientFault old new sink_old sink_new
 HasCause (LinkFault Host) old new sink_old sink_new = HostFault old new sink_old sink_new
 HasCause WriteFault old new sink_old sink_new = SinkFault old new sink_old sink_new
-HasCause (Ended refused) old new sink_old sink_new = NoFault old new sink_old sink_new
-HasCause Idle old new sink_old sink_new = NoFault old new sink_old sink_new
-HasCause Spent old new sink_old sink_new = NoFault old new sink_old sink_new
-HasCause Memory old new sink_old sink_new = NoFault old new sink_old sink_new
+HasCause e old new sink_old sink_new = NoFault old new sink_old sink_new
 
 -- ---- causes, by links and idle answers
 
@@ -99,10 +96,7 @@ pub record IsDown (w : Outside) : Type 0 where
 abbrev pub HasReason : ServeEnd → ℕ → Outside → Outside → Type 0
 HasReason (Ended refused) idle old new = IsDown new
 HasReason Idle idle old new = WasIdle idle old new
-HasReason Spent idle old new = Unit {0}
-HasReason (LinkFault side) idle old new = Unit {0}
-HasReason WriteFault idle old new = Unit {0}
-HasReason Memory idle old new = Unit {0}
+HasReason e idle old new = Unit {0}
 
 -- ---- what is told
 

@@ -20,9 +20,8 @@ gained all events e = drop (length (all events)) (all (e ∷ events))
 
 abbrev pub is_of : Side → Side → Bool
 is_of Client Client = true
-is_of Client Host = false
-is_of Host Client = false
 is_of Host Host = true
+is_of side other = false
 
 -- a side is among those that are refused
 abbrev pub refuses : Side → List Refusal → Bool

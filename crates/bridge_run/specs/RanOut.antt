@@ -1,7 +1,7 @@
 -- Where memory ran out within an event, and what of the event had been sent to each side by then. What is served says it of
 -- the event's items; the loop wants memory too, for the lines of refusals and for those of a recording.
 use Rattle.std.specs.Prelude.{◌≡◌, ◌⊎◌, ℕ, ◌||◌, Bool, true, false, List, []}
-use Rattle.bridge_run.specs.Events.{LinkEvent, ClientComes, ClientPiece, ClientQuiet, ClientEnd, HostPiece, HostEnd}
+use Rattle.bridge_run.specs.Events.{LinkEvent, ClientComes, ClientQuiet}
 use Rattle.bridge_run.specs.Prescribed.{Prescribed, gained}
 use Rattle.bridge_run.specs.Recorded.{has_any}
 
@@ -14,11 +14,8 @@ pub record Untold (p : Prescribed) (events : List LinkEvent) (e : LinkEvent) (cl
 -- the event has a line on a tape
 abbrev pub is_recorded : LinkEvent → Bool
 is_recorded ClientComes = false
-is_recorded (ClientPiece b) = true
 is_recorded ClientQuiet = false
-is_recorded ClientEnd = true
-is_recorded (HostPiece b) = true
-is_recorded HostEnd = true
+is_recorded e = true
 
 -- a tape is made, and the event's lines couldn't be put to those that wait for it: nothing was sent
 pub record Unrecorded (taped : Bool) (p : Prescribed) (events : List LinkEvent) (e : LinkEvent) (client host : List ℕ) : Type 0 where

@@ -4,16 +4,15 @@ use Rattle.std.specs.List.{flat_map}
 use Rattle.usb_base.specs.declared.side.Side.TheVariants.{Client, Host}
 use Rattle.usb_base.specs.declared.refusal.Refusal.{Refusal}
 use Rattle.session_tape.specs.Lines.{piece_line, end_line, refusal_comment}
-use Rattle.bridge_run.specs.Events.{LinkEvent, ClientComes, ClientPiece, ClientQuiet, ClientEnd, HostPiece, HostEnd}
+use Rattle.bridge_run.specs.Events.{LinkEvent, ClientPiece, ClientEnd, HostPiece, HostEnd}
 
 -- a client that comes, or is quiet, has no line
 abbrev pub event_line : LinkEvent → List ℕ
-event_line ClientComes = []
 event_line (ClientPiece b) = piece_line Client b
-event_line ClientQuiet = []
 event_line ClientEnd = end_line Client
 event_line (HostPiece b) = piece_line Host b
 event_line HostEnd = end_line Host
+event_line e = []
 
 abbrev pub lines_of : LinkEvent → List Refusal → List ℕ
 lines_of e refusals = event_line e ++ flat_map refusal_comment refusals

@@ -2,7 +2,7 @@
 -- memory may run out within an event.
 use Rattle.std.specs.Prelude.{◌≡◌, ℕ, false, List, []}
 use Rattle.bridge_run.specs.declared.serve_end.ServeEnd.{ServeEnd}
-use Rattle.bridge_run.specs.declared.serve_end.ServeEnd.TheVariants.{Ended, LinkFault, WriteFault, Idle, Spent, Memory}
+use Rattle.bridge_run.specs.declared.serve_end.ServeEnd.TheVariants.{LinkFault, WriteFault, Memory}
 use Rattle.bridge_run.specs.Events.{LinkEvent}
 use Rattle.bridge_run.specs.Prescribed.{Prescribed}
 use Rattle.bridge_run.specs.RanOut.{RanOutWithin, Never}
@@ -26,10 +26,7 @@ pub record EndsSo (s : Setting) (from : Outcome) (e : ServeEnd) (w : Outside) (o
 abbrev pub MayRunOut : ServeEnd → (List LinkEvent → LinkEvent → List ℕ → List ℕ → Type 0) → Prescribed → List LinkEvent → LinkEvent → List ℕ → List ℕ → Type 0
 MayRunOut Memory runs_out p = RanOutWithin runs_out p
 MayRunOut (LinkFault side) runs_out p = RanOutWithin runs_out p
-MayRunOut WriteFault runs_out p = Never
-MayRunOut (Ended refused) runs_out p = Never
-MayRunOut Idle runs_out p = Never
-MayRunOut Spent runs_out p = Never
+MayRunOut e runs_out p = Never
 
 -- they have come to a call that was cut
 pub record CutShort (e : ServeEnd) (runs_out : List LinkEvent → LinkEvent → List ℕ → List ℕ → Type 0) (s : Setting) (from : Outcome) (w : Outside) (out : Written) : Type 0 where
@@ -39,21 +36,17 @@ pub record CutShort (e : ServeEnd) (runs_out : List LinkEvent → LinkEvent → 
   pub cut : Cut (MayRunOut e runs_out s.served) w out course (course_of (call s next course))
 
 abbrev pub Leaves : ServeEnd → (List LinkEvent → LinkEvent → List ℕ → List ℕ → Type 0) → Setting → Outcome → Outside → Written → Type 0
-Leaves (Ended refused) runs_out s from w out = EndsSo s from (Ended refused) w out
-Leaves Idle runs_out s from w out = EndsSo s from Idle w out
-Leaves Spent runs_out s from w out = EndsSo s from Spent w out
 Leaves (LinkFault side) runs_out s from w out = CutShort (LinkFault side) runs_out s from w out
 Leaves WriteFault runs_out s from w out = CutShort WriteFault runs_out s from w out
 Leaves Memory runs_out s from w out = CutShort Memory runs_out s from w out
+Leaves e runs_out s from w out = EndsSo s from e w out
 
 -- at an end that is no fault no line waits to be written to the tape
 abbrev pub NoneWaits : ServeEnd → Course → Type 0
-NoneWaits (Ended refused) c = c.waiting ≡ []
-NoneWaits Idle c = c.waiting ≡ []
-NoneWaits Spent c = c.waiting ≡ []
 NoneWaits (LinkFault side) c = Unit {0}
 NoneWaits WriteFault c = Unit {0}
 NoneWaits Memory c = Unit {0}
+NoneWaits e c = c.waiting ≡ []
 
 -- nothing has happened yet
 pub record NothingYet (idle budget : ℕ) (c : Course) : Type 0 where

@@ -4,26 +4,19 @@ use Rattle.std.specs.Prelude.{ℕ, ◌&&◌, not, Bool, true, false, if◌then�
 use Rattle.std.specs.List.{flat_map}
 use Rattle.usb_base.specs.declared.side.Side.TheVariants.{Host}
 use Rattle.usb_base.specs.Refusal.{refusal_line}
-use Rattle.bridge_run.specs.Events.{LinkEvent, ClientComes, ClientPiece, ClientQuiet, ClientEnd, HostPiece, HostEnd}
+use Rattle.bridge_run.specs.Events.{LinkEvent, ClientComes, ClientEnd, HostEnd}
 use Rattle.bridge_run.specs.Prescribed.{Prescribed, gained, refuses, drops}
 
 -- as an event is taken, by whether the link was up before: a client's link comes with the client, and a side has its end
 -- where its link is down
 abbrev pub client_at : LinkEvent → Bool → Bool
 client_at ClientComes up = true
-client_at (ClientPiece b) up = up
-client_at ClientQuiet up = up
 client_at ClientEnd up = false
-client_at (HostPiece b) up = up
-client_at HostEnd up = up
+client_at e up = up
 
 abbrev pub host_at : LinkEvent → Bool → Bool
-host_at ClientComes up = up
-host_at (ClientPiece b) up = up
-host_at ClientQuiet up = up
-host_at ClientEnd up = up
-host_at (HostPiece b) up = up
 host_at HostEnd up = false
+host_at e up = up
 
 -- behind an event a side that it refuses has its link closed, and a client that it lets go
 abbrev pub client_behind : Prescribed → List LinkEvent → Bool

@@ -1,2 +1,3 @@
+pub mod Moving
 mod Written
 mod Reading

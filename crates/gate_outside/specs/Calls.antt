@@ -28,15 +28,9 @@ front_of (Err _) piece = []
 
 -- what a call wrote to a side's link
 abbrev pub written_by : Side → Call → List ℕ
-written_by side (Dial addr answer) = []
-written_by side (Listen addr answer) = []
-written_by side (Accept answer) = []
-written_by side (Poll of polled buf) = []
 written_by Client (Write Client piece answer) = front_of answer piece
-written_by Client (Write Host piece answer) = []
-written_by Host (Write Client piece answer) = []
 written_by Host (Write Host piece answer) = front_of answer piece
-written_by side (Close of) = []
+written_by side call = []
 
 -- all that these calls wrote to a side's link, in order
 abbrev pub went : Side → List Call → List ℕ

@@ -7,11 +7,8 @@ use Rattle.gate_outside.specs.declared.turn.Polled.TheVariants.{Took, NotYet, En
 
 -- the turns from the first on that is no empty piece
 abbrev pub pending : List Turn → List Turn
-pending [] = []
 pending (Piece [] ∷ turns) = pending turns
-pending (Piece (b ∷ bs) ∷ turns) = Piece (b ∷ bs) ∷ turns
-pending (Wait ∷ turns) = Wait ∷ turns
-pending (Fail ∷ turns) = Fail ∷ turns
+pending turns = turns
 
 -- what a poll with so much room answers at pending turns
 abbrev pub answer : ℕ → List Turn → Polled
@@ -22,21 +19,16 @@ answer room (Fail ∷ turns) = Failed
 
 -- the bytes that it gives: as much of a piece as there is room for
 abbrev pub given : ℕ → List Turn → List ℕ
-given room [] = []
 given room (Piece piece ∷ turns) = take room piece
-given room (Wait ∷ turns) = []
-given room (Fail ∷ turns) = []
+given room turns = []
 
 -- the turns after it: what is left of a piece stays, even if that is none
 abbrev pub after : ℕ → List Turn → List Turn
 after room [] = []
 after room (Piece piece ∷ turns) = Piece (drop room piece) ∷ turns
-after room (Wait ∷ turns) = turns
-after room (Fail ∷ turns) = turns
+after room (turn ∷ turns) = turns
 
 -- how many bytes a poll gave
 abbrev pub taken : Polled → ℕ
 taken (Took n) = n
-taken NotYet = 0
-taken Ended = 0
-taken Failed = 0
+taken polled = 0

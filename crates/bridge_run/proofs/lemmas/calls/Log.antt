@@ -4,7 +4,7 @@ use Rattle.std.specs.Result.{IsErrAnd}
 use Rattle.usb_base.specs.declared.side.Side.{Side}
 use Rattle.usb_base.specs.declared.side.Side.TheVariants.{Client, Host}
 use Rattle.usb_base.specs.declared.refusal.Refusal.{Refusal}
-use Rattle.gate_outside.specs.Calls.{Call, Called, went}
+use Rattle.gate_outside.specs.Calls.{Call, Close, Called, went}
 use Rattle.gate_history.specs.state.Sides.{or_else}
 use Rattle.bridge_run.specs.Events.{LinkEvent, ClientComes, ClientPiece, ClientQuiet, ClientEnd, HostPiece, HostEnd}
 use Rattle.bridge_run.specs.declared.rounds.Rounds.{Rounds}
@@ -15,7 +15,7 @@ use Rattle.bridge_run.specs.Prescribed.{Prescribed, gained, refuses, first_of}
 use Rattle.bridge_run.specs.Calls.{ends_next}
 use Rattle.bridge_run.specs.Ups.{client_at, client_behind, host_at, host_since, to_clients, sent_to_host, told_of}
 use Rattle.bridge_run.specs.Asks.{Ask, asks_of, taken, last_fault}
-use Rattle.bridge_run.specs.Log.{Terms, events_of, behind_close, IsWritten, IsFront, IsWrittenInPart, InPart, is_over, Settled, JustCame, WroteInPart, HasEnded, Logged}
+use Rattle.bridge_run.specs.Log.{Terms, events_of, behind_call, IsWritten, IsFront, IsWrittenInPart, InPart, is_over, Settled, JustCame, WroteInPart, HasEnded, Logged}
 use Rattle.bridge_run.specs.inner.Follows.{Prepared}
 use Rattle.bridge_run.specs.inner.Keeping.{refusing, Settles, is_over as none_up}
 use Rattle.bridge_run.specs.inner.Logging.{IsAt, IsTaking, HasTaken, IsBehind, PutLogs, HappenLogs, WroteMore, all_if, FailedBehind, closing}
@@ -119,7 +119,7 @@ put-behind {D = D} gives stands tells terms p asks e events k begun now calls re
     written = sent-closing refused Host terms p (closing true Client calls) (e ∷ events) (sent-closing true Client terms p calls (e ∷ events) h.written)
 
     behind : events_of all ≡ cond (ends_next e true) (ClientEnd ∷ e ∷ events) (e ∷ events)
-    behind = events-closing refused (closing true Client calls) ∙ ap (behind_close Client) h.events-are
+    behind = events-closing refused (closing true Client calls) ∙ ap (behind_call (Close Client)) h.events-are
 
     just : JustCame all
     just = just-host refused (closing true Client calls) tt

@@ -9,7 +9,7 @@ use Rattle.bridge_run.specs.Events.{LinkEvent, ClientComes, ClientPiece, ClientQ
 use Rattle.bridge_run.specs.Prescribed.{Prescribed, gained}
 use Rattle.bridge_run.specs.Calls.{piece, end_of, ends_next}
 use Rattle.bridge_run.specs.Ups.{client_at, client_behind, to_clients}
-use Rattle.bridge_run.specs.Log.{Terms, events_of, behind_close, IsWritten, Settled}
+use Rattle.bridge_run.specs.Log.{Terms, events_of, behind_call, IsWritten, Settled}
 use Rattle.bridge_run.specs.Clients.{Shares, joined_list, joined, with_event, got_by, sent_to_each}
 
 more-joined : (earlier : List (List ℕ)) (latest bytes all : List ℕ) → joined_list earlier ++ latest ≡ all → joined_list earlier ++ (latest ++ bytes) ≡ all ++ bytes
@@ -63,7 +63,7 @@ end-if : (b : Bool) (p : Prescribed) (e : LinkEvent) (events : List LinkEvent) �
 end-if true p e events = refl
 end-if false p e events = refl
 
-close-earlier : (p : Prescribed) (events : List LinkEvent) → (sent_to_each p events).earlier ≡ (sent_to_each p (behind_close Client events)).earlier
+close-earlier : (p : Prescribed) (events : List LinkEvent) → (sent_to_each p events).earlier ≡ (sent_to_each p (behind_call (Close Client) events)).earlier
 close-earlier p [] = refl
 close-earlier p (e ∷ events) = end-if (ends_next e true) p e events
 

@@ -1,11 +1,11 @@
 -- What a sink was told, piece by piece.
-use Rattle.std.proofs.Common.{◌≡◌, ℕ, List, [], ◌∷◌, ◌++◌, Result, refl, sym, ap, ◌∙◌, subst, append-nil, append_assoc}
+use Rattle.std.proofs.Common.{◌≡◌, ℕ, List, [], ◌∷◌, ◌++◌, Result, sym, ap, ◌∙◌, subst, append-nil, append_assoc}
 use Rattle.std.specs.List.{flat_map}
 use Rattle.usb_base.specs.declared.refusal.Refusal.{Refusal}
 use Rattle.usb_base.specs.Refusal.{refusal_line}
 use Rattle.gate_outside.specs.declared.fault.Failed.{Failed}
-use Rattle.gate_outside.specs.Calls.{Called, front_of}
-use Rattle.gate_outside.specs.Moved.{Move, moved, Moves, MovesFront}
+use Rattle.gate_outside.specs.Moved.{Moves, MovesFront}
+use Rattle.gate_outside.proofs.Moving.{moves-none, moves-append}
 use Rattle.bridge_run.specs.Events.{LinkEvent}
 use Rattle.bridge_run.specs.declared.sent.Sent.{Sent}
 use Rattle.bridge_run.specs.Prescribed.{Prescribed, gained}
@@ -13,26 +13,13 @@ use Rattle.bridge_run.specs.Ups.{told_of}
 use Rattle.bridge_run.specs.Log.{Told, InPart}
 use Rattle.bridge_run.specs.inner.Follows.{Prepared}
 
--- calls behind other calls
-called-append : {C D : Type 0} (gives : D → C → D → Type 0) (later earlier : List C) (old mid new : D) → Called gives earlier old mid → Called gives later mid new → Called gives (later ++ earlier) old new
-called-append {D = D} gives [] earlier old mid new before behind = subst (λ (d : D). Called gives earlier old d) (sym behind) before
-called-append gives (call ∷ later) earlier old mid new before behind = (behind.0, (called-append gives later earlier old mid behind.0 before behind.1.0, behind.1.1))
-
-moved-append : (later earlier : List Move) → moved (later ++ earlier) ≡ moved earlier ++ moved later
-moved-append [] earlier = sym (append-nil (moved earlier))
-moved-append (move ∷ later) earlier = ap (λ (l : List ℕ). l ++ front_of move.answer move.bytes) (moved-append later earlier) ∙ append_assoc (moved earlier) (moved later) (front_of move.answer move.bytes)
-
 -- nothing was told
 pub told-none : {S : Type 0} (gives : S → List ℕ → Result ℕ Failed → S → Type 0) (now : S) → Told gives now now []
-told-none gives now = record { moves = []; called = refl; all = refl }
+told-none gives now = moves-none gives now
 
 -- lines were told, and then more
 pub told-more : {S : Type 0} (gives : S → List ℕ → Result ℕ Failed → S → Type 0) (bytes more : List ℕ) (old mid new : S) → Told gives old mid bytes → Told gives mid new more → Told gives old new (bytes ++ more)
-told-more {S = S} gives bytes more old mid new before behind = record {
-  moves = behind.moves ++ before.moves;
-  called = called-append (λ (s : S) (move : Move) (t : S). gives s move.bytes move.answer t) behind.moves before.moves old mid new before.called behind.called;
-  all = moved-append behind.moves before.moves ∙ ap (λ (l : List ℕ). l ++ moved behind.moves) before.all ∙ ap (λ (l : List ℕ). bytes ++ l) behind.all;
-}
+told-more gives bytes more old mid new before behind = moves-append gives bytes more old mid new before behind
 
 -- the lines of an event
 lines-of : (p : Prescribed) (events : List LinkEvent) (e : LinkEvent) (sent : Sent) (lines : List ℕ) → Prepared p events e sent lines → lines ≡ flat_map refusal_line (gained p.refusals events e)

@@ -1,6 +1,6 @@
 -- What an event of a gate sends, by what its gate has gained.
 use Rattle.std.proofs.Common.{◌≡◌, ℕ, ◌||◌, Bool, List, ◌∷◌, ◌++◌, Option, Some, sym, ap, ◌∙◌}
-use Rattle.std.specs.List.{flat_map}
+use Rattle.std.specs.List.{cons_option, flat_map}
 use Rattle.std.proofs.lemmas.Grind.{flat_map-append}
 use Rattle.usb_base.specs.declared.refusal.Refusal.{Refusal}
 use Rattle.gate_history.specs.declared.note.Note.{Note}
@@ -11,7 +11,7 @@ use Rattle.gate_core.specs.step.Stands.{Takes}
 use Rattle.bridge_run.specs.declared.after_loss.AfterLoss.{AfterLoss}
 use Rattle.bridge_run.specs.declared.sent.Sent.{Sent}
 use Rattle.bridge_run.specs.Events.{LinkEvent}
-use Rattle.bridge_run.specs.Gate.{gate_event, gate_events, gate_notes, gate_sends, lets_go, put_on, refusal_in}
+use Rattle.bridge_run.specs.Gate.{gate_event, gate_events, gate_notes, gate_sends, lets_go, refusal_in}
 use Rattle.bridge_run.specs.Prescribed.{gained}
 use Rattle.bridge_run.specs.inner.Sends.{Sends}
 use Rattle.bridge_run.proofs.lemmas.events.Acts.{gained-is}
@@ -25,7 +25,7 @@ pub gate-sends : (setting was : AfterLoss) (first : ℕ) (past : List LinkEvent)
     → Sends (gate_sends setting first) past e old (record { to_client = client; to_host = host; refusals = refusals; lets_go = old.lets_go || gone })
 gate-sends setting was first past e ge kept old client host refusals gone notes is t pushed goes same =
     let p = gate_sends setting first in
-    let came : gate_events (e ∷ past) ≡ ge ∷ gate_events past = ap (λ (o : Option GateEvent). put_on o (gate_events past)) is in
+    let came : gate_events (e ∷ past) ≡ ge ∷ gate_events past = ap (λ (o : Option GateEvent). cons_option o (gate_events past)) is in
     let told : gate_notes first (e ∷ past) ≡ gate_notes first past ++ notes = ap (told_notes first) came ∙ t.told in
     let told_is : gained (gate_notes first) past e ≡ notes = gained-is (gate_notes first past) notes (gate_notes first (e ∷ past)) told in
     let refused : p.refusals (e ∷ past) ≡ p.refusals past ++ flat_map refusal_in notes = ap (flat_map refusal_in) told ∙ flat_map-append refusal_in (gate_notes first past) notes in

@@ -1,6 +1,7 @@
 -- Where memory runs out as a gate takes an event, and what it had sent by then.
 use Rattle.std.proofs.Common.{◌≡◌, ◌⊎◌, ℕ, suc, Bool, true, false, cond, List, [], ◌∷◌, ◌++◌, length, Option, Some, refl, sym, ap, ◌∙◌, subst, inl, inr, arith, append-nil, append_assoc}
-use Rattle.std.specs.List.{flat_map}
+use Rattle.std.specs.List.{cons_option, flat_map}
+use Rattle.std.specs.Prelude.{IsSomeAnd}
 use Rattle.std.proofs.lemmas.Grind.{flat_map-append}
 use Rattle.usb_base.specs.declared.refusal.Refusal.{Refusal}
 use Rattle.gate_history.specs.step.Events.{Event as GateEvent}
@@ -21,8 +22,8 @@ use Rattle.gate_core.specs.step.Stands.{Stops, Takes}
 use Rattle.bridge_run.specs.declared.after_loss.AfterLoss.{AfterLoss}
 use Rattle.bridge_run.specs.declared.sent.Sent.{Sent}
 use Rattle.bridge_run.specs.Events.{LinkEvent}
-use Rattle.bridge_run.specs.Gate.{gate_event, gate_events, gate_notes, gate_sends, put_on, refusal_in}
-use Rattle.bridge_run.specs.GateStops.{GateStops, StopsAt, gate_runs_out}
+use Rattle.bridge_run.specs.Gate.{gate_event, gate_events, gate_notes, gate_sends, refusal_in}
+use Rattle.bridge_run.specs.GateStops.{GateStops, gate_runs_out}
 use Rattle.bridge_run.specs.Prescribed.{gained}
 use Rattle.bridge_run.specs.Recorded.{has_any}
 use Rattle.bridge_run.specs.Log.{IsFront}
@@ -80,13 +81,13 @@ wanted-at first events e seen taken later (inr none) (inl held) = inl (none.1, h
 wanted-at first events e seen taken later s (inr wants) = inr wants
 
 stops-at : (first : ℕ) (events : List LinkEvent) (e : LinkEvent) (ge : GateEvent) (client host : List ℕ) → gate_event e ≡ Some ge → GateStops first (gate_events events) ge client host → gate_runs_out first events e client host
-stops-at first events e ge client host is x = subst (λ (o : Option GateEvent). StopsAt first (gate_events events) o client host) (sym is) x
+stops-at first events e ge client host is x = subst (λ (o : Option GateEvent). IsSomeAnd o (λ it. GateStops first (gate_events events) it client host)) (sym is) x
 
 pub gate-stops : (setting : AfterLoss) (first : ℕ) (events : List LinkEvent) (e : LinkEvent) (ge : GateEvent) (kept : GateKept) (old new : Sent) → gate_event e ≡ Some ge
     → Stops first kept (gate_events events) ge old.to_client new.to_client old.to_host new.to_host → SendsPart (gate_runs_out first) (gate_sends setting first) events e old new
 gate-stops setting first events e ge kept old new is x =
     let before = arrivals (gate_events events) in
-    let came : gate_events (e ∷ events) ≡ ge ∷ gate_events events = ap (λ (o : Option GateEvent). put_on o (gate_events events)) is in
+    let came : gate_events (e ∷ events) ≡ ge ∷ gate_events events = ap (λ (o : Option GateEvent). cons_option o (gate_events events)) is in
     let all : arrivals (gate_events (e ∷ events)) ≡ onto (x.taken ++ x.later) before = ap arrivals came ∙ ap (λ (xs : List Item). onto xs before) x.parts in
     let client = client-more first x.taken x.later before in
     let host = host-more first x.taken x.later before in
@@ -114,7 +115,7 @@ pub gate-untold : (setting : AfterLoss) (first : ℕ) (past : List LinkEvent) (e
     → Takes first kept (gate_events past) ge old.to_client new.to_client old.to_host new.to_host notes → has_any (flat_map refusal_in notes) ≡ true → SendsPart (gate_runs_out first) (gate_sends setting first) past e old new
 gate-untold setting first past e ge kept old new notes is t some =
     let p = gate_sends setting first in
-    let came : gate_events (e ∷ past) ≡ ge ∷ gate_events past = ap (λ (o : Option GateEvent). put_on o (gate_events past)) is in
+    let came : gate_events (e ∷ past) ≡ ge ∷ gate_events past = ap (λ (o : Option GateEvent). cons_option o (gate_events past)) is in
     let told : gate_notes first (e ∷ past) ≡ gate_notes first past ++ notes = ap (told_notes first) came ∙ t.told in
     let refused : p.refusals (e ∷ past) ≡ p.refusals past ++ flat_map refusal_in notes = ap (flat_map refusal_in) told ∙ flat_map-append refusal_in (gate_notes first past) notes in
     record {

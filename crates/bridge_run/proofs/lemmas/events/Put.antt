@@ -270,41 +270,31 @@ host-before p c e l s = (inl s.turns-is, between-none c.to_host l.written (put p
 pub told-before : (p : Prescribed) (c : Course) (e : LinkEvent) (out : Written) → IsTold out c.told → IsToldBetween c.told out (put p e c).told
 told-before p c e out s = if-told out.begun (λ (is : out.told ≡ Some c.told). between-none c.told out.told (put p e c).told _ is refl) s
 
+-- nothing of it is written to the links yet
+put-cut : {ran_out : List LinkEvent → LinkEvent → List ℕ → List ℕ → Type 0} → (p : Prescribed) (c : Course) (e : LinkEvent) (w : Outside) (out out' : Written) → Tells w out c → IsToldBetween c.told out' (put p e c).told
+    → IfSome out'.tape (λ held. HasLines ran_out w out' c (put p e c) held) → Cut ran_out w out' c (put p e c)
+put-cut p c e w out out' t told tape =
+    let client = client-before p c e w.client t.client in
+    let host = host-before p c e w.host t.host in
+    record { client = client.0; host = host.0; clients = inl t.clients; to_client = client.1; to_host = host.1; told = told; tape = tape }
+
 -- while its lines are recorded
 pub put-in_entry : {ran_out : List LinkEvent → LinkEvent → List ℕ → List ℕ → Type 0} → (p : Prescribed) (c : Course) (e : LinkEvent) (sent : Sent) (lines : List ℕ) (due : Bool) (w : Outside) (out out' : Written) (waiting : List ℕ) → Prepared p c.events e sent lines → Tells w out c → IsTold out' c.told → due ≡ sends_now p e c
     → waiting ≡ out.waiting → GrowsInPart out.tape out'.tape (written_if (due || is_full (waiting ++ lines_of e sent.refusals)) (waiting ++ lines_of e sent.refusals)) → Cut ran_out w out' c (put p e c)
 put-in_entry {ran_out = ran_out} p c e sent lines due w out out' waiting prepared t told due-is same grows =
-    let client = client-before p c e w.client t.client in
-    let host = host-before p c e w.host t.host in
     let all : (put p e c).recorded ≡ c.recorded ++ written_if (due || is_full (c.waiting ++ lines_of e sent.refusals)) (c.waiting ++ lines_of e sent.refusals) =
     ap (λ (rs : List Refusal). c.recorded ++ written_if (sends_now p e c || is_full (c.waiting ++ lines_of e rs)) (c.waiting ++ lines_of e rs)) (sym prepared.refusals)
     ∙ ap (λ (d : Bool). c.recorded ++ written_if (d || is_full (c.waiting ++ lines_of e sent.refusals)) (c.waiting ++ lines_of e sent.refusals)) (sym due-is) in
-    record {
-      client = client.0;
-      host = host.0;
-      clients = inl t.clients;
-      to_client = client.1;
-      to_host = host.1;
-      told = told-before p c e out' told;
-      tape = written-front ran_out (λ (l : List ℕ). written_if (due || is_full (l ++ lines_of e sent.refusals)) (l ++ lines_of e sent.refusals)) w out' c (put p e c) out.tape out'.tape out.waiting
-          (subst (λ (l : List ℕ). GrowsInPart out.tape out'.tape (written_if (due || is_full (l ++ lines_of e sent.refusals)) (l ++ lines_of e sent.refusals))) same grows) t.tape all t.client.written-is t.host.written-is told;
-    }
+    put-cut p c e w out out' t (told-before p c e out' told)
+    (written-front ran_out (λ (l : List ℕ). written_if (due || is_full (l ++ lines_of e sent.refusals)) (l ++ lines_of e sent.refusals)) w out' c (put p e c) out.tape out'.tape out.waiting
+    (subst (λ (l : List ℕ). GrowsInPart out.tape out'.tape (written_if (due || is_full (l ++ lines_of e sent.refusals)) (l ++ lines_of e sent.refusals))) same grows) t.tape all t.client.written-is t.host.written-is told)
 
 -- before anything is written
 pub put-before : {ran_out : List LinkEvent → LinkEvent → List ℕ → List ℕ → Type 0} → (p : Prescribed) (c : Course) (e : LinkEvent) (w : Outside) (out : Written) → Tells w out c → Cut ran_out w out c (put p e c)
 put-before {ran_out = ran_out} p c e w out t =
-    let client = client-before p c e w.client t.client in
-    let host = host-before p c e w.host t.host in
-    record {
-      client = client.0;
-      host = host.0;
-      clients = inl t.clients;
-      to_client = client.1;
-      to_host = host.1;
-      told = told-before p c e out t.told;
-      tape = subst (λ (known : Option (List ℕ)). IfSome known (λ held. HasLines ran_out w out c (put p e c) held)) (none-recorded out.tape)
-          (recorded-front ran_out _ w out c (put p e c) [] _ refl t.client.written-is t.host.written-is t.told out.tape t.tape);
-    }
+    put-cut p c e w out out t (told-before p c e out t.told)
+    (subst (λ (known : Option (List ℕ)). IfSome known (λ held. HasLines ran_out w out c (put p e c) held)) (none-recorded out.tape)
+    (recorded-front ran_out _ w out c (put p e c) [] _ refl t.client.written-is t.host.written-is t.told out.tape t.tape))
 
 -- within what goes to the client
 pub put-in_client : {ran_out : List LinkEvent → LinkEvent → List ℕ → List ℕ → Type 0} → (p : Prescribed) (c : Course) (e : LinkEvent) (sent : Sent) (lines : List ℕ) (due : Bool) (w w' : Outside) (out out' : Written) (up : Bool) → Prepared p c.events e sent lines → Tells w out c → IsTold out' c.told → IsRecorded p c e sent due out out'
