@@ -13,7 +13,7 @@ use Rattle.bridge_run.specs.declared.serve_end.ServeEnd.{ServeEnd}
 use Rattle.bridge_run.specs.declared.serve_end.ServeEnd.TheVariants as end
 use Rattle.bridge_run.specs.Prescribed.{Prescribed, first_of}
 use Rattle.bridge_run.specs.Calls.{piece, end_of, ends_next}
-use Rattle.bridge_run.specs.Ups.{client_at, host_at, client_behind, host_since, to_clients, sent_to_host, told_of}
+use Rattle.bridge_run.specs.Ups.{client_at, host_at, client_behind, host_since, to_clients, sent_to_host, told_of, up_by}
 use Rattle.bridge_run.specs.RanOut.{RanOut}
 use Rattle.bridge_run.specs.Asks.{asks_of, taken, has_just_come, quiet_rounds, is_behind_host, is_behind_client, last_fault}
 
@@ -70,6 +70,11 @@ pub record IsWrittenInPart (terms : Terms) (p : Prescribed) (events : List LinkE
 
 -- ---- what may come
 
+-- behind these events the side's link is up
+abbrev pub is_up : Side → Terms → Prescribed → List LinkEvent → Bool
+is_up Client terms p events = client_behind p events
+is_up Host terms p events = host_since (is_some terms.host) p events
+
 -- somebody has come, and no link is up any more
 abbrev pub is_over : Terms → Prescribed → List LinkEvent → Bool
 is_over terms p [] = false
@@ -85,11 +90,13 @@ abbrev pub MayBegin : Side → Terms → List Call → Type 0
 MayBegin Client terms calls = quiet_rounds (asks_of calls) < terms.idle
 MayBegin Host terms calls = Unit {0}
 
--- more may come from this side, and all is written that is sent for what came before
+-- more may come from this side, all is written that is sent for what came before, and each link is closed that is to be,
+-- and no other
 pub record MayAsk (side : Side) (terms : Terms) (p : Prescribed) (calls : List Call) : Type 0 where
   pub written : IsWritten terms p (events_of calls) calls
   pub goes_on : GoesOn terms p calls
   pub round : MayBegin side terms calls
+  pub links : (of : Side) → up_by of calls ≡ is_up of terms p (events_of calls)
 
 -- behind the one before it: the host was polled in that, where its link is up
 abbrev pub BeginsRound : Terms → Prescribed → List Call → Type 0
@@ -101,12 +108,14 @@ IsTurnOf Client terms p calls = (has_just_come (asks_of calls) ≡ true) ⊎ Beg
 IsTurnOf Host terms p calls = is_behind_client (asks_of calls) ≡ true
 
 -- The host is dialled first, and once, and then the door is made, once. Nobody is asked for anything before all is
--- written, nor once it is to end, and both sides are asked in turn.
+-- written, nor once it is to end, and both sides are asked in turn: for a client where none is there, and a side whose link
+-- is up. A link is closed only behind an event that takes it down.
 abbrev pub AsksSettled : Terms → Prescribed → Call → List Call → Type 0
 AsksSettled terms p (Dial addr answer) calls = IsSomeAnd terms.host (λ host. addr ≡ host) × (calls ≡ [])
 AsksSettled terms p (Listen addr answer) calls = (addr ≡ terms.door) × IsDialled terms.host calls
-AsksSettled terms p (Accept answer) calls = MayAsk Client terms p calls × BeginsRound terms p calls
-AsksSettled terms p (Poll side polled buf) calls = MayAsk side terms p calls × IsTurnOf side terms p calls
+AsksSettled terms p (Accept answer) calls = MayAsk Client terms p calls × BeginsRound terms p calls × (is_up Client terms p (events_of calls) ≡ false)
+AsksSettled terms p (Poll side polled buf) calls = MayAsk side terms p calls × IsTurnOf side terms p calls × (is_up side terms p (events_of calls) ≡ true)
+AsksSettled terms p (Close side) calls = is_up side terms p (events_of calls) ≡ false
 AsksSettled terms p call calls = Unit {0}
 
 abbrev pub Settled : Terms → Prescribed → List Call → Type 0

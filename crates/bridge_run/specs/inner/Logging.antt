@@ -10,9 +10,9 @@ use Rattle.bridge_run.specs.declared.serve_end.ServeEnd.TheVariants.{Ended, Link
 use Rattle.bridge_run.specs.declared.rounds.Rounds.{Rounds}
 use Rattle.bridge_run.specs.Prescribed.{Prescribed, first_of}
 use Rattle.bridge_run.specs.Calls.{ends_next}
-use Rattle.bridge_run.specs.Ups.{client_at, client_behind, host_at, host_since, told_of}
+use Rattle.bridge_run.specs.Ups.{client_at, client_behind, host_at, host_since, told_of, up_by}
 use Rattle.bridge_run.specs.Asks.{Ask, asks_of, taken, has_just_come, quiet_rounds, is_behind_host, is_behind_client, last_fault}
-use Rattle.bridge_run.specs.Log.{Terms, events_of, IsWritten, IsWrittenInPart, GoesOn, is_over, Settled, JustCame, Logged}
+use Rattle.bridge_run.specs.Log.{Terms, events_of, IsWritten, IsWrittenInPart, is_up, GoesOn, is_over, Settled, JustCame, Logged}
 use Rattle.bridge_run.specs.inner.Keeping.{one_if, is_over as none_up}
 
 -- what is served stands for the events that came, and all is written that they send
@@ -27,7 +27,13 @@ pub record IsAt {D : Type 0} (gives : D → Call → D → Type 0) (stands : Lis
   pub left : k.left ≡ terms.budget - taken asks
   pub client_up : k.client_up ≡ client_behind p (events_of calls)
   pub host_up : k.host_up ≡ host_since (is_some terms.host) p (events_of calls)
+  pub links : (of : Side) → up_by of calls ≡ is_up of terms p (events_of calls)
   pub refused : k.refused ≡ first_of (p.refusals (events_of calls))
+
+-- as an event is taken behind these the side's link is up
+abbrev pub up_at : Side → Terms → Prescribed → LinkEvent → List LinkEvent → Bool
+up_at Client terms p e events = client_at e (client_behind p events)
+up_at Host terms p e events = host_at e (host_since (is_some terms.host) p events)
 
 -- the latest event is still to be taken
 pub record IsTaking {D : Type 0} (gives : D → Call → D → Type 0) (stands : List LinkEvent → Type 0) (tells : List ℕ → Type 0) (terms : Terms) (p : Prescribed) (asks : List Ask) (e : LinkEvent) (k : Rounds) (begun now : D) : Type 0 where
@@ -44,6 +50,7 @@ pub record IsTaking {D : Type 0} (gives : D → Call → D → Type 0) (stands :
   pub left : k.left ≡ terms.budget - taken asks
   pub client_up : k.client_up ≡ client_at e (client_behind p events)
   pub host_up : k.host_up ≡ host_at e (host_since (is_some terms.host) p events)
+  pub links : (of : Side) → up_by of calls ≡ up_at of terms p e events
   pub refused : k.refused ≡ first_of (p.refusals events)
 
 -- the latest event was taken
@@ -145,6 +152,7 @@ pub record WroteMore {D : Type 0} (gives : D → Call → D → Type 0) (side : 
   pub asks-are : asks_of behind ≡ asks_of calls
   pub events-are : events_of behind ≡ events_of calls
   pub just_came : JustCame calls → JustCame behind
+  pub links : (of : Side) → up_by of behind ≡ up_by of calls
   pub side-is : went side behind ≡ went side calls ++ bytes
   pub other-is : went (other side) behind ≡ went (other side) calls
 
@@ -178,6 +186,7 @@ pub record HasOpened {D : Type 0} (gives : D → Call → D → Type 0) (terms :
   pub settled : Settled terms p calls
   pub asked : asks_of calls ≡ []
   pub none : events_of calls ≡ []
+  pub links : (of : Side) → up_by of calls ≡ is_up of terms p []
   pub written : IsWritten terms p [] calls
 
 -- a call failed before that

@@ -11,17 +11,17 @@ use Rattle.bridge_run.specs.declared.rounds.Rounds.{Rounds}
 use Rattle.bridge_run.specs.declared.sent.Sent.{Sent}
 use Rattle.bridge_run.specs.declared.serve_end.ServeEnd.{ServeEnd}
 use Rattle.bridge_run.specs.declared.serve_end.ServeEnd.TheVariants as end
-use Rattle.bridge_run.specs.Prescribed.{Prescribed, gained, refuses, first_of}
+use Rattle.bridge_run.specs.Prescribed.{Prescribed, gained, refuses, drops, first_of}
 use Rattle.bridge_run.specs.Calls.{ends_next}
-use Rattle.bridge_run.specs.Ups.{client_at, client_behind, host_at, host_since, to_clients, sent_to_host, told_of}
+use Rattle.bridge_run.specs.Ups.{client_at, client_behind, host_at, host_since, to_clients, sent_to_host, told_of, up_by}
 use Rattle.bridge_run.specs.Asks.{Ask, asks_of, taken, last_fault}
-use Rattle.bridge_run.specs.Log.{Terms, events_of, behind_call, IsWritten, IsFront, IsWrittenInPart, InPart, is_over, Settled, JustCame, WroteInPart, HasEnded, Logged}
+use Rattle.bridge_run.specs.Log.{Terms, events_of, behind_call, IsWritten, IsFront, IsWrittenInPart, InPart, is_up, is_over, Settled, JustCame, WroteInPart, HasEnded, Logged}
 use Rattle.bridge_run.specs.inner.Follows.{Prepared}
 use Rattle.bridge_run.specs.inner.Keeping.{refusing, Settles, is_over as none_up}
-use Rattle.bridge_run.specs.inner.Logging.{IsAt, IsTaking, HasTaken, IsBehind, PutLogs, HappenLogs, WroteMore, all_if, FailedBehind, closing}
+use Rattle.bridge_run.specs.inner.Logging.{IsAt, up_at, IsTaking, HasTaken, IsBehind, PutLogs, HappenLogs, WroteMore, all_if, FailedBehind, closing}
 use Rattle.bridge_run.proofs.lemmas.calls.Sink.{told-all, part-more}
 use Rattle.bridge_run.proofs.lemmas.events.Put.{dropped-is, first_of-append}
-use Rattle.bridge_run.proofs.lemmas.calls.Writing.{went-closing, settled-closing, events-closing, asks-closing, just-host}
+use Rattle.bridge_run.proofs.lemmas.calls.Writing.{went-closing, settled-closing, client-closing, host-closing, events-closing, asks-closing, just-host}
 
 -- ---- an event is taken
 
@@ -31,6 +31,7 @@ pub record HasSent (terms : Terms) (p : Prescribed) (asks : List Ask) (calls : L
   pub settled : Settled terms p calls
   pub events-are : events_of calls ≡ e ∷ events
   pub just_came : JustCame calls
+  pub links : (of : Side) → up_by of calls ≡ up_at of terms p e events
   pub written : IsWritten terms p (e ∷ events) calls
 
 sent-closing : (r : Bool) (of : Side) (terms : Terms) (p : Prescribed) (calls : List Call) (events : List LinkEvent) → IsWritten terms p events calls → IsWritten terms p events (closing r of calls)
@@ -45,6 +46,7 @@ has-sent gives stands tells terms p asks e k k1 sent lines begun d0 d1 d2 t prep
   settled = w2.settled terms p (w1.settled terms p t.settled);
   events-are = w2.events-are ∙ w1.events-are ∙ t.events-are;
   just_came = w2.just_came (w1.just_came t.just_came);
+  links = λ of. w2.links of ∙ w1.links of ∙ t.links of;
   written = record {
     client = w2.other-is ∙ w1.side-is ∙ ap (λ (l : List ℕ). l ++ all_if k1.client_up sent.to_client) t.written.client
         ∙ ap (λ (u : Bool). to_clients p t.events ++ all_if u sent.to_client) (ap (λ (q : Rounds). q.client_up) same ∙ t.client_up)
@@ -78,8 +80,8 @@ pub record TakenBy (stands : List LinkEvent → Type 0) (tells : List ℕ → Ty
 
 -- an event was taken, by these calls
 has-taken : {D : Type 0} → (gives : D → Call → D → Type 0) (stands : List LinkEvent → Type 0) (tells : List ℕ → Type 0) (terms : Terms) (p : Prescribed) (asks : List Ask) (k : Rounds) (begun now : D) (calls : List Call) (e : LinkEvent) (events : List LinkEvent) → events_of calls ≡ e ∷ events
-    → JustCame calls → Called gives calls begun now → Settled terms p calls → asks_of calls ≡ asks → IsWritten terms p (e ∷ events) calls → TakenBy stands tells terms p asks k (e ∷ events) → HasTaken gives stands tells terms p asks k begun now
-has-taken gives stands tells terms p asks k begun now calls e events is just called settled asked w t = record {
+    → JustCame calls → Called gives calls begun now → Settled terms p calls → asks_of calls ≡ asks → ((of : Side) → up_by of calls ≡ is_up of terms p (e ∷ events)) → IsWritten terms p (e ∷ events) calls → TakenBy stands tells terms p asks k (e ∷ events) → HasTaken gives stands tells terms p asks k begun now
+has-taken gives stands tells terms p asks k begun now calls e events is just called settled asked links w t = record {
   at = record {
     calls = calls;
     called = called;
@@ -91,26 +93,54 @@ has-taken gives stands tells terms p asks k begun now calls e events is just cal
     left = t.left;
     client_up = t.client_up ∙ ap (client_behind p) (sym is);
     host_up = t.host_up ∙ ap (host_since (is_some terms.host) p) (sym is);
+    links = λ of. links of ∙ ap (is_up of terms p) (sym is);
     refused = t.refused ∙ ap (λ (es : List LinkEvent). first_of (p.refusals es)) (sym is);
   };
   just_came = just;
   over = over-of terms p e events (events_of calls) k is t.client_up t.host_up;
 }
 
+and-none : (u : Bool) → (u && not true) ≡ false
+and-none true = refl
+and-none false = refl
+
+host-down : (terms : Terms) (p : Prescribed) (e : LinkEvent) (events : List LinkEvent) (refused : Bool) → refused ≡ refuses Host (gained p.refusals events e) → refused ≡ true → is_up Host terms p (e ∷ events) ≡ false
+host-down terms p e events refused is down = ap (λ (r : Bool). host_at e (host_since (is_some terms.host) p events) && not r) (sym is ∙ down) ∙ and-none (host_at e (host_since (is_some terms.host) p events))
+
+-- which links are up behind the closing of those that the event takes down
+links-behind : (terms : Terms) (p : Prescribed) (e : LinkEvent) (events : List LinkEvent) (calls : List Call) (refused dropped : Bool) (of : Side) → dropped ≡ drops p events e → refused ≡ refuses Host (gained p.refusals events e) → up_by of calls ≡ up_at of terms p e events
+    → up_by of (closing refused Host (closing dropped Client calls)) ≡ is_up of terms p (e ∷ events)
+links-behind terms p e events calls refused dropped Client drop refuse is = client-closing refused dropped calls ∙ ap (λ (u : Bool). u && not dropped) is ∙ ap (λ (d : Bool). client_at e (client_behind p events) && not d) drop
+links-behind terms p e events calls refused dropped Host drop refuse is = host-closing refused dropped calls ∙ ap (λ (u : Bool). u && not refused) is ∙ ap (λ (r : Bool). host_at e (host_since (is_some terms.host) p events) && not r) refuse
+
+-- behind the end of the client the host's link is as before
+host-behind-end : (u : Bool) (terms : Terms) (p : Prescribed) (es : List LinkEvent) → u ≡ false → (u && not (refuses Host (gained p.refusals es ClientEnd))) ≡ false
+host-behind-end u terms p es down = ap (λ (v : Bool). v && not (refuses Host (gained p.refusals es ClientEnd))) down
+
+-- the host's link is down behind what closes the client's, too
+host-closed : (terms : Terms) (p : Prescribed) (e : LinkEvent) (events : List LinkEvent) → is_up Host terms p (e ∷ events) ≡ false → is_up Host terms p (behind_call (Close Client) (e ∷ events)) ≡ false
+host-closed terms p e events down = go (ends_next e true)
+  where
+    go : (b : Bool) → is_up Host terms p (cond b (ClientEnd ∷ e ∷ events) (e ∷ events)) ≡ false
+    go true = host-behind-end (is_up Host terms p (e ∷ events)) terms p (e ∷ events) down
+    go false = down
+
 put-behind : {D : Type 0} → (gives : D → Call → D → Type 0) (stands : List LinkEvent → Type 0) (tells : List ℕ → Type 0) (terms : Terms) (p : Prescribed) (asks : List Ask) (e : LinkEvent) (events : List LinkEvent) (k : Rounds) (begun now : D) (calls : List Call) (refused dropped : Bool)
     → HasSent terms p asks calls e events → Called gives (closing refused Host (closing dropped Client calls)) begun now → TakenBy stands tells terms p asks k (e ∷ events)
-    → (dropped ≡ true → k.client_up ≡ false) → IsBehind (ends_next e dropped) gives stands tells terms p asks k begun now
-put-behind gives stands tells terms p asks e events k begun now calls refused false h called t down =
+    → (dropped ≡ true → k.client_up ≡ false) → dropped ≡ drops p events e → refused ≡ refuses Host (gained p.refusals events e) → IsBehind (ends_next e dropped) gives stands tells terms p asks k begun now
+put-behind gives stands tells terms p asks e events k begun now calls refused false h called t down drop refuse =
     subst (λ (b : Bool). IsBehind b gives stands tells terms p asks k begun now) (sym (ends-none e))
-    (has-taken gives stands tells terms p asks k begun now (closing refused Host calls) e events (events-closing refused calls ∙ h.events-are) (just-host refused calls h.just_came) called (settled-closing refused Host terms p calls h.settled) (asks-closing refused Host calls ∙ h.asks-are)
+    (has-taken gives stands tells terms p asks k begun now (closing refused Host calls) e events (events-closing refused calls ∙ h.events-are) (just-host refused calls h.just_came) called (settled-closing refused Host terms p calls (λ r. ap (is_up Host terms p) h.events-are ∙ host-down terms p e events refused refuse r) h.settled) (asks-closing refused Host calls ∙ h.asks-are)
+    (λ of. links-behind terms p e events calls refused false of drop refuse (h.links of))
     (sent-closing refused Host terms p calls (e ∷ events) h.written) t)
-put-behind {D = D} gives stands tells terms p asks e events k begun now calls refused true h called t down = go (ends_next e true) refl
+put-behind {D = D} gives stands tells terms p asks e events k begun now calls refused true h called t down drop refuse = go (ends_next e true) refl
   where
     all : List Call
     all = closing refused Host (closing true Client calls)
 
     settled : Settled terms p all
-    settled = settled-closing refused Host terms p (closing true Client calls) (settled-closing true Client terms p calls h.settled)
+    settled = settled-closing refused Host terms p (closing true Client calls) (λ r. ap (λ (es : List LinkEvent). is_up Host terms p (behind_call (Close Client) es)) h.events-are ∙ host-closed terms p e events (host-down terms p e events refused refuse r))
+        (settled-closing true Client terms p calls (λ r. ap (client_behind p) h.events-are ∙ sym t.client_up ∙ down refl) h.settled)
 
     asked : asks_of all ≡ asks
     asked = asks-closing refused Host (closing true Client calls) ∙ h.asks-are
@@ -123,6 +153,13 @@ put-behind {D = D} gives stands tells terms p asks e events k begun now calls re
 
     just : JustCame all
     just = just-host refused (closing true Client calls) tt
+
+    links : (of : Side) → up_by of all ≡ is_up of terms p (e ∷ events)
+    links of = links-behind terms p e events calls refused true of drop refuse (h.links of)
+
+    ended : (of : Side) → up_by of all ≡ up_at of terms p ClientEnd (e ∷ events)
+    ended Client = client-closing refused true calls ∙ and-none (up_by Client calls)
+    ended Host = links Host
 
     go : (b : Bool) → ends_next e true ≡ b → IsBehind (ends_next e true) gives stands tells terms p asks k begun now
     go true is = subst (λ (b : Bool). IsBehind b gives stands tells terms p asks k begun now) (sym is) (record {
@@ -139,10 +176,11 @@ put-behind {D = D} gives stands tells terms p asks e events k begun now calls re
       left = t.left;
       client_up = down refl;
       host_up = t.host_up;
+      links = ended;
       refused = t.refused;
     })
     go false is = subst (λ (b : Bool). IsBehind b gives stands tells terms p asks k begun now) (sym is)
-        (has-taken gives stands tells terms p asks k begun now all e events (behind ∙ ap (λ (b : Bool). cond b (ClientEnd ∷ e ∷ events) (e ∷ events)) is) just called settled asked written t)
+        (has-taken gives stands tells terms p asks k begun now all e events (behind ∙ ap (λ (b : Bool). cond b (ClientEnd ∷ e ∷ events) (e ∷ events)) is) just called settled asked links written t)
 
 -- the links that are up behind it
 client-kept : (p : Prescribed) (e : LinkEvent) (events : List LinkEvent) (k k' : Rounds) (sent : Sent) (lines : List ℕ) → Prepared p events e sent lines → k' ≡ refusing sent.refusals sent.lets_go k
@@ -154,10 +192,6 @@ host-kept : (terms : Terms) (p : Prescribed) (e : LinkEvent) (events : List Link
     → k.host_up ≡ host_at e (host_since (is_some terms.host) p events) → k'.host_up ≡ host_since (is_some terms.host) p (e ∷ events)
 host-kept terms p e events k k' sent lines prepared kept up =
     ap (λ (q : Rounds). q.host_up) kept ∙ ap (λ (u : Bool). u && not (refuses Host sent.refusals)) up ∙ ap (λ (rs : List Refusal). host_at e (host_since (is_some terms.host) p events) && not (refuses Host rs)) prepared.refusals
-
-and-none : (u : Bool) → (u && not true) ≡ false
-and-none true = refl
-and-none false = refl
 
 dropped-down : (k k' : Rounds) (sent : Sent) (dropped : Bool) → k' ≡ refusing sent.refusals sent.lets_go k → dropped ≡ (refuses Client sent.refusals || sent.lets_go) → dropped ≡ true → k'.client_up ≡ false
 dropped-down k k' sent dropped kept is down = ap (λ (q : Rounds). q.client_up) kept ∙ ap (λ (d : Bool). k.client_up && not d) (sym is ∙ down) ∙ and-none k.client_up
@@ -172,9 +206,9 @@ refused-kept p e events k k' sent lines prepared kept is =
 -- all is sent, each side that is refused is closed, and a client that is let go
 pub behind-sent : {D : Type 0} → (gives : D → Call → D → Type 0) (stands stands' : List LinkEvent → Type 0) (before tells : List ℕ → Type 0) (terms : Terms) (p : Prescribed) (asks : List Ask) (e : LinkEvent) (k k1 k2 : Rounds) (sent : Sent) (lines : List ℕ) (begun d0 d1 d2 now : D) (dropped refused : Bool)
     → (t : IsTaking gives stands before terms p asks e k begun d0) → Prepared p t.events e sent lines → k1 ≡ k → (w1 : WroteMore gives Client (all_if k1.client_up sent.to_client) t.calls begun d1) → (w2 : WroteMore gives Host (all_if k1.host_up sent.to_host) w1.behind begun d2)
-    → Called gives (closing refused Host (closing dropped Client w2.behind)) begun now → k2 ≡ refusing sent.refusals sent.lets_go k1 → dropped ≡ (refuses Client sent.refusals || sent.lets_go) → stands' (e ∷ t.events) → tells (told_of p (e ∷ t.events))
+    → Called gives (closing refused Host (closing dropped Client w2.behind)) begun now → k2 ≡ refusing sent.refusals sent.lets_go k1 → dropped ≡ (refuses Client sent.refusals || sent.lets_go) → refused ≡ refuses Host sent.refusals → stands' (e ∷ t.events) → tells (told_of p (e ∷ t.events))
     → IsBehind (ends_next e dropped) gives stands' tells terms p asks k2 begun now
-behind-sent gives stands stands' before tells terms p asks e k k1 k2 sent lines begun d0 d1 d2 now dropped refused t prepared same w1 w2 called new drops now_stands told =
+behind-sent gives stands stands' before tells terms p asks e k k1 k2 sent lines begun d0 d1 d2 now dropped refused t prepared same w1 w2 called new drop refuse now_stands told =
     let kept = new ∙ ap (refusing sent.refusals sent.lets_go) same in
     put-behind gives stands' tells terms p asks e t.events k2 begun now w2.behind refused dropped (has-sent gives stands before terms p asks e k k1 sent lines begun d0 d1 d2 t prepared same w1 w2) called
     (record {
@@ -185,7 +219,7 @@ behind-sent gives stands stands' before tells terms p asks e k k1 k2 sent lines 
       host_up = host-kept terms p e t.events k k2 sent lines prepared kept t.host_up;
       refused = refused-kept p e t.events k k2 sent lines prepared kept t.refused;
     })
-    (dropped-down k k2 sent dropped kept drops)
+    (dropped-down k k2 sent dropped kept drop) (drop ∙ dropped-is p t.events e sent lines prepared) (refuse ∙ ap (refuses Host) prepared.refusals)
 
 -- ---- in part
 

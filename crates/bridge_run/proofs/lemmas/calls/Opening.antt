@@ -1,6 +1,7 @@
 -- A session's log, as it begins.
 use Rattle.std.proofs.Common.{◌≡◌, ℕ, ◌+◌, ◌-◌, ◌<◌, ◌≤◌, Bool, true, false, List, [], ◌∷◌, ◌++◌, Some, None, is_some, Result, Ok, Err, refl, sym, ap, ◌∙◌, subst, arith, append-nil}
 use Rattle.std.specs.Result.{IsErrAnd}
+use Rattle.usb_base.specs.declared.side.Side.{Side}
 use Rattle.usb_base.specs.declared.side.Side.TheVariants.{Client, Host}
 use Rattle.gate_outside.specs.declared.fault.Failed.{Failed as Fault}
 use Rattle.gate_outside.specs.Calls.{Call, Dial, Listen, Called, went}
@@ -9,9 +10,9 @@ use Rattle.bridge_run.specs.declared.rounds.Rounds.{Rounds}
 use Rattle.bridge_run.specs.declared.serve_end.ServeEnd.{ServeEnd}
 use Rattle.bridge_run.specs.declared.serve_end.ServeEnd.TheVariants as end
 use Rattle.bridge_run.specs.Prescribed.{Prescribed, first_of}
-use Rattle.bridge_run.specs.Ups.{client_behind, host_since, told_of}
+use Rattle.bridge_run.specs.Ups.{client_behind, host_since, told_of, up_by}
 use Rattle.bridge_run.specs.Asks.{Ask, asks_of, taken}
-use Rattle.bridge_run.specs.Log.{Terms, events_of, IsWritten, is_over, Settled, WroteInPart, Logged}
+use Rattle.bridge_run.specs.Log.{Terms, events_of, IsWritten, is_up, is_over, Settled, WroteInPart, Logged}
 use Rattle.bridge_run.specs.inner.Keeping.{begun as fresh}
 use Rattle.bridge_run.specs.inner.Logging.{RoundBegins, IsAsking, WroteMore, FailedBehind, HasOpened, OpenFailed, OpenLogs}
 use Rattle.bridge_run.proofs.lemmas.calls.Sink.{told-all}
@@ -35,6 +36,16 @@ asked host door answer = Listen door answer ∷ Dial host (Ok tt) ∷ []
 
 asked-settled : (host door : List ℕ) (taped : Bool) (idle budget : ℕ) (p : Prescribed) (answer : Result (Unit {0}) Fault) → Settled (with_host host door taped idle budget) p (asked host door answer)
 asked-settled host door taped idle budget p answer = ((tt, (refl, refl)), (refl, refl))
+
+-- the host's link is up then, and no client's is
+asked-links : (of : Side) (host door : List ℕ) (taped : Bool) (idle budget : ℕ) (p : Prescribed) → up_by of (asked host door (Ok tt)) ≡ is_up of (with_host host door taped idle budget) p []
+asked-links Client host door taped idle budget p = refl
+asked-links Host host door taped idle budget p = refl
+
+-- with no host none is
+door-links : (of : Side) (door : List ℕ) (answer : Result (Unit {0}) Fault) (idle budget : ℕ) (p : Prescribed) → up_by of (Listen door answer ∷ []) ≡ is_up of (no_host door idle budget) p []
+door-links Client door answer idle budget p = refl
+door-links Host door answer idle budget p = refl
 
 pub was-asked : {D : Type 0} → (gives : D → Call → D → Type 0) (host door : List ℕ) (answer : Result (Unit {0}) Fault) (begun mid now : D) → gives begun (Dial host (Ok tt)) mid → gives mid (Listen door answer) now
     → Called gives (asked host door answer) begun now
@@ -73,6 +84,7 @@ hello-sent gives p host door taped idle budget hello begun now is w = record {
   settled = w.settled (with_host host door taped idle budget) p (asked-settled host door taped idle budget p (Ok tt));
   asked = w.asks-are;
   none = w.events-are;
+  links = λ of. w.links of ∙ asked-links of host door taped idle budget p;
   written = record { client = w.other-is; host = w.side-is ∙ is };
 }
 
@@ -108,8 +120,8 @@ same-waits idle waits is = omega arith
 
 -- nothing has come
 begun-asking : {D : Type 0} → (gives : D → Call → D → Type 0) (stands : List LinkEvent → Type 0) (tells : List ℕ → Type 0) (terms : Terms) (p : Prescribed) (up : Bool) (k : Rounds) (begun now : D) (calls : List Call) → Called gives calls begun now → Settled terms p calls → asks_of calls ≡ [] → events_of calls ≡ []
-    → IsWritten terms p [] calls → stands [] → tells [] → p.refusals [] ≡ [] → up ≡ is_some terms.host → 0 < terms.idle → 0 < terms.budget → k ≡ fresh up terms.idle terms.budget → IsAsking RoundBegins gives stands tells terms p k begun now
-begun-asking gives stands tells terms p up k begun now calls called settled asks none w st told refusals host idle budget kept = record {
+    → ((of : Side) → up_by of calls ≡ is_up of terms p []) → IsWritten terms p [] calls → stands [] → tells [] → p.refusals [] ≡ [] → up ≡ is_some terms.host → 0 < terms.idle → 0 < terms.budget → k ≡ fresh up terms.idle terms.budget → IsAsking RoundBegins gives stands tells terms p k begun now
+begun-asking gives stands tells terms p up k begun now calls called settled asks none links w st told refusals host idle budget kept = record {
   asks = [];
   on = record {
     at = record {
@@ -123,6 +135,7 @@ begun-asking gives stands tells terms p up k begun now calls called settled asks
       left = all-left terms.budget k.left (ap (λ (q : Rounds). q.left) kept);
       client_up = ap (λ (q : Rounds). q.client_up) kept ∙ ap (client_behind p) (sym none);
       host_up = ap (λ (q : Rounds). q.host_up) kept ∙ host ∙ ap (host_since (is_some terms.host) p) (sym none);
+      links = λ of. links of ∙ ap (is_up of terms p) (sym none);
       refused = ap (λ (q : Rounds). q.refused) kept ∙ ap first_of (sym refusals) ∙ ap (λ (es : List LinkEvent). first_of (p.refusals es)) (sym none);
     };
     goes_on = record { links = ap (is_over terms p) none; left = subst (λ (l : List Ask). taken l < terms.budget) (sym asks) budget };
@@ -135,7 +148,7 @@ begun-asking gives stands tells terms p up k begun now calls called settled asks
 pub opened-at : {D : Type 0} → (gives : D → Call → D → Type 0) (stands : List LinkEvent → Type 0) (tells : List ℕ → Type 0) (host door : List ℕ) (taped : Bool) (idle budget : ℕ) (p : Prescribed) (k : Rounds) (begun now : D) → HasOpened gives (with_host host door taped idle budget) p begun now → stands [] → tells []
     → p.refusals [] ≡ [] → 0 < idle → 0 < budget → k ≡ fresh true idle budget → IsAsking RoundBegins gives stands tells (with_host host door taped idle budget) p k begun now
 opened-at gives stands tells host door taped idle budget p k begun now o st told refusals some much kept =
-    begun-asking gives stands tells (with_host host door taped idle budget) p true k begun now o.calls o.called o.settled o.asked o.none o.written st told refusals refl some much kept
+    begun-asking gives stands tells (with_host host door taped idle budget) p true k begun now o.calls o.called o.settled o.asked o.none o.links o.written st told refusals refl some much kept
 
 -- with no host the door is made, and that is all
 pub door-failed : {D : Type 0} → (gives : D → Call → D → Type 0) (runs_out : List LinkEvent → LinkEvent → List ℕ → List ℕ → Type 0) (tells : List ℕ → Type 0) (p : Prescribed) (door : List ℕ) (idle budget : ℕ) (failed : Fault) (begun now : D) → gives begun (Listen door (Err failed)) now → tells []
@@ -151,4 +164,4 @@ door-failed gives runs_out tells p door idle budget failed begun now g none = re
 pub door-at : {D : Type 0} → (gives : D → Call → D → Type 0) (stands : List LinkEvent → Type 0) (tells : List ℕ → Type 0) (p : Prescribed) (k : Rounds) (idle budget : ℕ) (door : List ℕ) (answer : Result (Unit {0}) Fault) (begun now : D) → gives begun (Listen door answer) now → stands [] → tells []
     → p.refusals [] ≡ [] → 0 < idle → 0 < budget → k ≡ fresh false idle budget → IsAsking RoundBegins gives stands tells (no_host door idle budget) p k begun now
 door-at gives stands tells p k idle budget door answer begun now g st told refusals some much kept =
-    begun-asking gives stands tells (no_host door idle budget) p false k begun now (Listen door answer ∷ []) (begun, (refl, g)) (tt, (refl, refl)) refl refl (record { client = refl; host = refl }) st told refusals refl some much kept
+    begun-asking gives stands tells (no_host door idle budget) p false k begun now (Listen door answer ∷ []) (begun, (refl, g)) (tt, (refl, refl)) refl refl (λ of. door-links of door answer idle budget p) (record { client = refl; host = refl }) st told refusals refl some much kept

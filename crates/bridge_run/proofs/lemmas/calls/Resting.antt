@@ -29,6 +29,7 @@ at-kept gives stands tells terms p asks k k' begun now left client host refused 
     left = left ∙ a.at.left;
     client_up = client ∙ a.at.client_up;
     host_up = host ∙ a.at.host_up;
+    links = a.at.links;
     refused = refused ∙ a.at.refused;
   };
   goes_on = a.goes_on;

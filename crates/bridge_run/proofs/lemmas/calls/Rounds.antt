@@ -14,11 +14,11 @@ use Rattle.bridge_run.specs.declared.serve_end.ServeEnd.{ServeEnd}
 use Rattle.bridge_run.specs.declared.serve_end.ServeEnd.TheVariants as end
 use Rattle.bridge_run.specs.Prescribed.{Prescribed, first_of}
 use Rattle.bridge_run.specs.Calls.{piece, end_of}
-use Rattle.bridge_run.specs.Ups.{client_at, client_behind, host_at, host_since, told_of}
+use Rattle.bridge_run.specs.Ups.{client_at, client_behind, host_at, host_since, told_of, up_by}
 use Rattle.bridge_run.specs.Asks.{Ask, ForClient, OfSide, asks_of, taken, taken_by, has_just_come, quiet_rounds, is_behind_host, is_behind_client}
-use Rattle.bridge_run.specs.Log.{Terms, events_of, IsWritten, is_over, AsksSettled, JustCame, MayBegin, MayAsk, BeginsRound, IsTurnOf, Logged}
+use Rattle.bridge_run.specs.Log.{Terms, events_of, IsWritten, is_up, is_over, AsksSettled, JustCame, MayBegin, MayAsk, BeginsRound, IsTurnOf, Logged}
 use Rattle.bridge_run.specs.inner.Keeping.{up_of, with_up, chances_of, Wears, one_if}
-use Rattle.bridge_run.specs.inner.Logging.{IsAt, IsOn, IsTaking, HappenLogs, IsResting, RoundBegins, DoorAsked, IsPatient, HasWaited, Waits, DoorTurn, HasTurn, stage_of, stage_behind, IsAsking, Logs}
+use Rattle.bridge_run.specs.inner.Logging.{IsAt, up_at, IsOn, IsTaking, HappenLogs, IsResting, RoundBegins, DoorAsked, IsPatient, HasWaited, Waits, DoorTurn, HasTurn, stage_of, stage_behind, IsAsking, Logs}
 use Rattle.bridge_run.proofs.lemmas.calls.Log.{failed-logs}
 use Rattle.bridge_run.proofs.lemmas.calls.Resting.{begins-of}
 
@@ -58,14 +58,19 @@ turn-of Client terms p k asks calls host is turn up = go (subst (λ (b : Bool). 
     go (inr behind) = inr (begins-of terms p k asks calls host is behind)
 turn-of Host terms p k asks calls host is turn up = ap is_behind_client is ∙ turn
 
+-- a side is up as is kept
+kept-up : {D : Type 0} → (side : Side) (gives : D → Call → D → Type 0) (stands : List LinkEvent → Type 0) (tells : List ℕ → Type 0) (terms : Terms) (p : Prescribed) (asks : List Ask) (k : Rounds) (begun now : D) → (at : IsAt gives stands tells terms p asks k begun now) → is_up side terms p (events_of at.calls) ≡ up_of side k
+kept-up Client gives stands tells terms p asks k begun now at = sym at.client_up
+kept-up Host gives stands tells terms p asks k begun now at = sym at.host_up
+
 -- a side is polled
 pub may-poll : {D : Type 0} → (side : Side) (gives : D → Call → D → Type 0) (stands : List LinkEvent → Type 0) (tells : List ℕ → Type 0) (terms : Terms) (p : Prescribed) (k : Rounds) (begun now : D) → up_of side k ≡ true
-    → (a : IsAsking (stage_of side) gives stands tells terms p k begun now) → MayAsk side terms p a.on.at.calls × IsTurnOf side terms p a.on.at.calls
-may-poll side gives stands tells terms p k begun now up a = (record { written = a.on.at.written; goes_on = a.on.goes_on; round = may-begin side terms k a.asks a.on.at.calls a.on.at.asks-are a.patient a.waited up }, turn-of side terms p k a.asks a.on.at.calls a.on.at.host_up a.on.at.asks-are a.turn up)
+    → (a : IsAsking (stage_of side) gives stands tells terms p k begun now) → MayAsk side terms p a.on.at.calls × IsTurnOf side terms p a.on.at.calls × (is_up side terms p (events_of a.on.at.calls) ≡ true)
+may-poll side gives stands tells terms p k begun now up a = (record { written = a.on.at.written; goes_on = a.on.goes_on; round = may-begin side terms k a.asks a.on.at.calls a.on.at.asks-are a.patient a.waited up; links = a.on.at.links }, turn-of side terms p k a.asks a.on.at.calls a.on.at.host_up a.on.at.asks-are a.turn up, kept-up side gives stands tells terms p a.asks k begun now a.on.at ∙ up)
 
-pub may-accept : {D : Type 0} → (gives : D → Call → D → Type 0) (stands : List LinkEvent → Type 0) (tells : List ℕ → Type 0) (terms : Terms) (p : Prescribed) (k : Rounds) (begun now : D) → (a : IsAsking RoundBegins gives stands tells terms p k begun now) → MayAsk Client terms p a.on.at.calls × BeginsRound terms p a.on.at.calls
-may-accept gives stands tells terms p k begun now a =
-    (record { written = a.on.at.written; goes_on = a.on.goes_on; round = subst (λ (l : List Ask). quiet_rounds l < terms.idle) (sym a.on.at.asks-are) (door-begins terms k a.asks a.patient a.waited) }, begins-of terms p k a.asks a.on.at.calls a.on.at.host_up a.on.at.asks-are a.turn)
+pub may-accept : {D : Type 0} → (gives : D → Call → D → Type 0) (stands : List LinkEvent → Type 0) (tells : List ℕ → Type 0) (terms : Terms) (p : Prescribed) (k : Rounds) (begun now : D) → k.client_up ≡ false → (a : IsAsking RoundBegins gives stands tells terms p k begun now) → MayAsk Client terms p a.on.at.calls × BeginsRound terms p a.on.at.calls × (is_up Client terms p (events_of a.on.at.calls) ≡ false)
+may-accept gives stands tells terms p k begun now down a =
+    (record { written = a.on.at.written; goes_on = a.on.goes_on; round = subst (λ (l : List Ask). quiet_rounds l < terms.idle) (sym a.on.at.asks-are) (door-begins terms k a.asks a.patient a.waited); links = a.on.at.links }, begins-of terms p k a.asks a.on.at.calls a.on.at.host_up a.on.at.asks-are a.turn, sym a.on.at.client_up ∙ down)
 
 -- ---- what the doors answered
 
@@ -99,9 +104,9 @@ some-left b t n none is = omega arith
 -- a call whose answer is an event, which is still to be taken
 brings-taking : {D : Type 0} → (gives : D → Call → D → Type 0) (stands : List LinkEvent → Type 0) (tells : List ℕ → Type 0) (terms : Terms) (p : Prescribed) (asks : List Ask) (ask : Ask) (call : Call) (e : LinkEvent) (k k' : Rounds) (begun d0 d1 : D) → (at : IsAt gives stands tells terms p asks k begun d0) → gives d0 call d1
     → AsksSettled terms p call at.calls → asks_of (call ∷ at.calls) ≡ ask ∷ asks_of at.calls → events_of (call ∷ at.calls) ≡ e ∷ events_of at.calls → JustCame (call ∷ at.calls) → IsWritten terms p (events_of at.calls) (call ∷ at.calls)
-    → k'.left ≡ terms.budget - taken (ask ∷ asks) → k'.client_up ≡ client_at e (client_behind p (events_of at.calls)) → k'.host_up ≡ host_at e (host_since (is_some terms.host) p (events_of at.calls)) → k'.refused ≡ k.refused
+    → k'.left ≡ terms.budget - taken (ask ∷ asks) → k'.client_up ≡ client_at e (client_behind p (events_of at.calls)) → k'.host_up ≡ host_at e (host_since (is_some terms.host) p (events_of at.calls)) → ((of : Side) → up_by of (call ∷ at.calls) ≡ up_at of terms p e (events_of at.calls)) → k'.refused ≡ k.refused
     → IsTaking gives stands tells terms p (ask ∷ asks) e k' begun d1
-brings-taking gives stands tells terms p asks ask call e k k' begun d0 d1 at g may asked brings came written left client host refused = record {
+brings-taking gives stands tells terms p asks ask call e k k' begun d0 d1 at g may asked brings came written left client host links refused = record {
   calls = call ∷ at.calls;
   called = (d0, (at.called, g));
   settled = (at.settled, may);
@@ -115,14 +120,15 @@ brings-taking gives stands tells terms p asks ask call e k k' begun d0 d1 at g m
   left = left;
   client_up = client;
   host_up = host;
+  links = links;
   refused = refused ∙ at.refused;
 }
 
 -- a call whose answer is no event, and brings nothing
 quiet-on : {D : Type 0} → (gives : D → Call → D → Type 0) (stands : List LinkEvent → Type 0) (tells : List ℕ → Type 0) (terms : Terms) (p : Prescribed) (asks : List Ask) (ask : Ask) (call : Call) (k : Rounds) (begun d0 d1 : D) → (on : IsOn gives stands tells terms p asks k begun d0) → gives d0 call d1
-    → AsksSettled terms p call on.at.calls → written_by Client call ≡ [] → written_by Host call ≡ [] → asks_of (call ∷ on.at.calls) ≡ ask ∷ asks_of on.at.calls → events_of (call ∷ on.at.calls) ≡ events_of on.at.calls → taken_by ask ≡ 0
+    → AsksSettled terms p call on.at.calls → written_by Client call ≡ [] → written_by Host call ≡ [] → asks_of (call ∷ on.at.calls) ≡ ask ∷ asks_of on.at.calls → events_of (call ∷ on.at.calls) ≡ events_of on.at.calls → ((of : Side) → up_by of (call ∷ on.at.calls) ≡ up_by of on.at.calls) → taken_by ask ≡ 0
     → IsOn gives stands tells terms p (ask ∷ asks) k begun d1
-quiet-on gives stands tells terms p asks ask call k begun d0 d1 on g may client host asked same none =
+quiet-on gives stands tells terms p asks ask call k begun d0 d1 on g may client host asked same links none =
     let at = on.at in
     let same' = sym same in
     record {
@@ -137,6 +143,7 @@ quiet-on gives stands tells terms p asks ask call k begun d0 d1 on g may client 
         left = all-left terms.budget (taken asks) (taken_by ask) k.left none at.left;
         client_up = at.client_up ∙ ap (client_behind p) same';
         host_up = at.host_up ∙ ap (host_since (is_some terms.host) p) same';
+        links = λ of. links of ∙ at.links of ∙ ap (is_up of terms p) same';
         refused = at.refused ∙ ap (λ (events : List LinkEvent). first_of (p.refusals events)) same';
       };
       goes_on = record {
@@ -144,6 +151,37 @@ quiet-on gives stands tells terms p asks ask call k begun d0 d1 on g may client 
         left = subst (λ (l : List Ask). taken l < terms.budget) (sym asked) (some-left terms.budget (taken (asks_of at.calls)) (taken_by ask) none on.goes_on.left);
       };
     }
+
+-- a poll that isn't the end of its side leaves the links, and so does a door with nobody at it
+piece-links : (side of : Side) (n : ℕ) (buf : List ℕ) (terms : Terms) (p : Prescribed) (calls : List Call) → up_by of calls ≡ is_up of terms p (events_of calls) → up_by of (Poll side (Took n) buf ∷ calls) ≡ up_at of terms p (piece side (take n buf)) (events_of calls)
+piece-links Client Client n buf terms p calls is = is
+piece-links Client Host n buf terms p calls is = is
+piece-links Host Client n buf terms p calls is = is
+piece-links Host Host n buf terms p calls is = is
+
+rest-links : (side of : Side) (buf : List ℕ) (calls : List Call) → up_by of (Poll side NotYet buf ∷ calls) ≡ up_by of calls
+rest-links Client Client buf calls = refl
+rest-links Client Host buf calls = refl
+rest-links Host Client buf calls = refl
+rest-links Host Host buf calls = refl
+
+nobody-links : (of : Side) (calls : List Call) → up_by of (Accept (Ok false) ∷ calls) ≡ up_by of calls
+nobody-links Client calls = refl
+nobody-links Host calls = refl
+
+quiet-links : (of : Side) (buf : List ℕ) (terms : Terms) (p : Prescribed) (calls : List Call) → up_by of calls ≡ is_up of terms p (events_of calls) → up_by of (Poll Client NotYet buf ∷ calls) ≡ up_at of terms p ClientQuiet (events_of calls)
+quiet-links Client buf terms p calls is = is
+quiet-links Host buf terms p calls is = is
+
+end-links : (side of : Side) (buf : List ℕ) (terms : Terms) (p : Prescribed) (calls : List Call) → up_by of calls ≡ is_up of terms p (events_of calls) → up_by of (Poll side Ended buf ∷ calls) ≡ up_at of terms p (end_of side) (events_of calls)
+end-links Client Client buf terms p calls is = refl
+end-links Client Host buf terms p calls is = is
+end-links Host Client buf terms p calls is = is
+end-links Host Host buf terms p calls is = refl
+
+client-links : (of : Side) (terms : Terms) (p : Prescribed) (calls : List Call) → up_by of calls ≡ is_up of terms p (events_of calls) → up_by of (Accept (Ok true) ∷ calls) ≡ up_at of terms p ClientComes (events_of calls)
+client-links Client terms p calls is = refl
+client-links Host terms p calls is = is
 
 pub took-taking : {D : Type 0} → (gives : D → Call → D → Type 0) (stands : List LinkEvent → Type 0) (tells : List ℕ → Type 0) (terms : Terms) (p : Prescribed) (side : Side) (n : ℕ) (buf : List ℕ) (k k' : Rounds) (begun d0 d1 : D) → (a : IsAsking (stage_of side) gives stands tells terms p k begun d0)
     → up_of side k ≡ true → gives d0 (Poll side (Took n) buf) d1 → k' ≡ record k { busy = true; left = k.left - n } → IsTaking gives stands tells terms p (OfSide side (Took n) ∷ a.asks) (piece side (take n buf)) k' begun d1
@@ -154,6 +192,7 @@ took-taking gives stands tells terms p side n buf k k' begun d0 d1 a up g kept =
     (quiet-written terms p events at.calls (Poll side (Took n) buf) refl refl at.written) (ap (λ (q : Rounds). q.left) kept ∙ less-left terms.budget (taken a.asks) n k.left at.left)
     (ap (λ (q : Rounds). q.client_up) kept ∙ at.client_up ∙ sym (client-in side (take n buf) (client_behind p events)))
     (ap (λ (q : Rounds). q.host_up) kept ∙ at.host_up ∙ sym (host-in side (take n buf) (host_since (is_some terms.host) p events)))
+    (λ of. piece-links side of n buf terms p at.calls (at.links of))
     (ap (λ (q : Rounds). q.refused) kept)
 
 pub rest-resting : {D : Type 0} → (gives : D → Call → D → Type 0) (stands : List LinkEvent → Type 0) (tells : List ℕ → Type 0) (terms : Terms) (p : Prescribed) (side : Side) (buf : List ℕ) (k : Rounds) (begun d0 d1 : D) → (a : IsAsking (stage_of side) gives stands tells terms p k begun d0)
@@ -161,9 +200,9 @@ pub rest-resting : {D : Type 0} → (gives : D → Call → D → Type 0) (stand
 rest-resting gives stands tells terms p Client buf k begun d0 d1 a up g =
     let at = a.on.at in
     brings-taking gives stands tells terms p a.asks (OfSide Client NotYet) (Poll Client NotYet buf) ClientQuiet k k begun d0 d1 at g (may-poll Client gives stands tells terms p k begun d0 up a) refl refl tt
-    (quiet-written terms p (events_of at.calls) at.calls (Poll Client NotYet buf) refl refl at.written) (same-left terms.budget (taken a.asks) k.left at.left) at.client_up at.host_up refl
+    (quiet-written terms p (events_of at.calls) at.calls (Poll Client NotYet buf) refl refl at.written) (same-left terms.budget (taken a.asks) k.left at.left) at.client_up at.host_up (λ of. quiet-links of buf terms p at.calls (at.links of)) refl
 rest-resting gives stands tells terms p Host buf k begun d0 d1 a up g =
-    quiet-on gives stands tells terms p a.asks (OfSide Host NotYet) (Poll Host NotYet buf) k begun d0 d1 a.on g (may-poll Host gives stands tells terms p k begun d0 up a) refl refl refl refl refl
+    quiet-on gives stands tells terms p a.asks (OfSide Host NotYet) (Poll Host NotYet buf) k begun d0 d1 a.on g (may-poll Host gives stands tells terms p k begun d0 up a) refl refl refl refl (λ of. rest-links Host of buf a.on.at.calls) refl
 
 -- a side's end takes its link down, and leaves the other's, what may still come, and the first refusal
 down-left : (side : Side) (k k' : Rounds) → k' ≡ record (with_up side k) { busy = true } → k'.left ≡ k.left
@@ -189,7 +228,7 @@ end-taking gives stands tells terms p side buf k k' begun d0 d1 a up g kept =
     let events = events_of at.calls in
     brings-taking gives stands tells terms p a.asks (OfSide side Ended) (Poll side Ended buf) (end_of side) k k' begun d0 d1 at g (may-poll side gives stands tells terms p k begun d0 up a) refl refl tt
     (quiet-written terms p events at.calls (Poll side Ended buf) refl refl at.written) (down-left side k k' kept ∙ same-left terms.budget (taken a.asks) k.left at.left)
-    (down-client side k k' (client_behind p events) kept at.client_up) (down-host side k k' (host_since (is_some terms.host) p events) kept at.host_up) (down-refused side k k' kept)
+    (down-client side k k' (client_behind p events) kept at.client_up) (down-host side k k' (host_since (is_some terms.host) p events) kept at.host_up) (λ of. end-links side of buf terms p at.calls (at.links of)) (down-refused side k k' kept)
 
 pub poll-failed : {D : Type 0} → (gives : D → Call → D → Type 0) (stands : List LinkEvent → Type 0) (runs_out : List LinkEvent → LinkEvent → List ℕ → List ℕ → Type 0) (tells : List ℕ → Type 0) (terms : Terms) (p : Prescribed) (side : Side) (buf : List ℕ) (k : Rounds) (begun d0 d1 : D) → IsAsking (stage_of side) gives stands tells terms p k begun d0
     → up_of side k ≡ true → gives d0 (Poll side Failed buf) d1 → Logged (end.LinkFault side) gives runs_out tells terms p begun d1
@@ -197,13 +236,13 @@ poll-failed gives stands runs_out tells terms p side buf k begun d0 d1 a up g =
     failed-logs gives stands runs_out tells terms p a.asks side (Poll side Failed buf) k begun d0 d1 a.on.at (d0, (a.on.at.called, g)) (a.on.at.settled, may-poll side gives stands tells terms p k begun d0 up a) refl
     (quiet-written terms p (events_of a.on.at.calls) a.on.at.calls (Poll side Failed buf) refl refl a.on.at.written) refl
 
-pub came-taking : {D : Type 0} → (gives : D → Call → D → Type 0) (stands : List LinkEvent → Type 0) (tells : List ℕ → Type 0) (terms : Terms) (p : Prescribed) (k k' : Rounds) (begun d0 d1 : D) → (a : IsAsking RoundBegins gives stands tells terms p k begun d0) → gives d0 (Accept (Ok true)) d1
+pub came-taking : {D : Type 0} → (gives : D → Call → D → Type 0) (stands : List LinkEvent → Type 0) (tells : List ℕ → Type 0) (terms : Terms) (p : Prescribed) (k k' : Rounds) (begun d0 d1 : D) → k.client_up ≡ false → (a : IsAsking RoundBegins gives stands tells terms p k begun d0) → gives d0 (Accept (Ok true)) d1
     → k' ≡ record k { client_up = true; busy = true; left = k.left - 1 } → IsTaking gives stands tells terms p (ForClient (Ok true) ∷ a.asks) ClientComes k' begun d1
-came-taking gives stands tells terms p k k' begun d0 d1 a g kept =
+came-taking gives stands tells terms p k k' begun d0 d1 down a g kept =
     let at = a.on.at in
-    brings-taking gives stands tells terms p a.asks (ForClient (Ok true)) (Accept (Ok true)) ClientComes k k' begun d0 d1 at g (may-accept gives stands tells terms p k begun d0 a) refl refl tt
+    brings-taking gives stands tells terms p a.asks (ForClient (Ok true)) (Accept (Ok true)) ClientComes k k' begun d0 d1 at g (may-accept gives stands tells terms p k begun d0 down a) refl refl tt
     (quiet-written terms p (events_of at.calls) at.calls (Accept (Ok true)) refl refl at.written) (ap (λ (q : Rounds). q.left) kept ∙ less-left terms.budget (taken a.asks) 1 k.left at.left)
-    (ap (λ (q : Rounds). q.client_up) kept) (ap (λ (q : Rounds). q.host_up) kept ∙ at.host_up) (ap (λ (q : Rounds). q.refused) kept)
+    (ap (λ (q : Rounds). q.client_up) kept) (ap (λ (q : Rounds). q.host_up) kept ∙ at.host_up) (λ of. client-links of terms p at.calls (at.links of)) (ap (λ (q : Rounds). q.refused) kept)
 
 asked-more : (w q i o : ℕ) → w + q ≡ i + 0 → o ≡ 1 → w + (q + 1) ≡ i + o
 asked-more w q i o is one = omega arith
@@ -212,7 +251,7 @@ pub nobody-at : {D : Type 0} → (gives : D → Call → D → Type 0) (stands :
     → IsAsking DoorAsked gives stands tells terms p k begun d1
 nobody-at gives stands tells terms p k begun d0 d1 a down g = record {
   asks = ForClient (Ok false) ∷ a.asks;
-  on = quiet-on gives stands tells terms p a.asks (ForClient (Ok false)) (Accept (Ok false)) k begun d0 d1 a.on g (may-accept gives stands tells terms p k begun d0 a) refl refl refl refl refl;
+  on = quiet-on gives stands tells terms p a.asks (ForClient (Ok false)) (Accept (Ok false)) k begun d0 d1 a.on g (may-accept gives stands tells terms p k begun d0 down a) refl refl refl refl (λ of. nobody-links of a.on.at.calls) refl;
   patient = a.patient;
   waited = record {
     came = λ up. absurd (false≢true (sym down ∙ up));
@@ -222,10 +261,10 @@ nobody-at gives stands tells terms p k begun d0 d1 a down g = record {
   turn = subst (λ (b : Bool). DoorTurn b k (ForClient (Ok false) ∷ a.asks)) (sym down) refl;
 }
 
-pub accept-failed : {D : Type 0} → (gives : D → Call → D → Type 0) (stands : List LinkEvent → Type 0) (runs_out : List LinkEvent → LinkEvent → List ℕ → List ℕ → Type 0) (tells : List ℕ → Type 0) (terms : Terms) (p : Prescribed) (failed : Fault) (k : Rounds) (begun d0 d1 : D) → IsAsking RoundBegins gives stands tells terms p k begun d0
+pub accept-failed : {D : Type 0} → (gives : D → Call → D → Type 0) (stands : List LinkEvent → Type 0) (runs_out : List LinkEvent → LinkEvent → List ℕ → List ℕ → Type 0) (tells : List ℕ → Type 0) (terms : Terms) (p : Prescribed) (failed : Fault) (k : Rounds) (begun d0 d1 : D) → k.client_up ≡ false → IsAsking RoundBegins gives stands tells terms p k begun d0
     → gives d0 (Accept (Err failed)) d1 → Logged (end.LinkFault Client) gives runs_out tells terms p begun d1
-accept-failed gives stands runs_out tells terms p failed k begun d0 d1 a g =
-    failed-logs gives stands runs_out tells terms p a.asks Client (Accept (Err failed)) k begun d0 d1 a.on.at (d0, (a.on.at.called, g)) (a.on.at.settled, may-accept gives stands tells terms p k begun d0 a) refl
+accept-failed gives stands runs_out tells terms p failed k begun d0 d1 down a g =
+    failed-logs gives stands runs_out tells terms p a.asks Client (Accept (Err failed)) k begun d0 d1 a.on.at (d0, (a.on.at.called, g)) (a.on.at.settled, may-accept gives stands tells terms p k begun d0 down a) refl
     (quiet-written terms p (events_of a.on.at.calls) a.on.at.calls (Accept (Err failed)) refl refl a.on.at.written) refl
 
 -- ---- behind an answer

@@ -1,5 +1,5 @@
 -- A session's log, as bytes are written to a link, and links are closed.
-use Rattle.std.proofs.Common.{◌≡◌, ℕ, Bool, true, false, List, [], ◌∷◌, ◌++◌, Result, Err, refl, sym, ap, ◌∙◌, append-nil, append_assoc}
+use Rattle.std.proofs.Common.{◌≡◌, ℕ, ◌&&◌, not, Bool, true, false, List, [], ◌∷◌, ◌++◌, Result, Err, refl, sym, ap, ◌∙◌, append-nil, append_assoc}
 use Rattle.usb_base.specs.declared.side.Side.{Side}
 use Rattle.usb_base.specs.declared.side.Side.TheVariants.{Client, Host}
 use Rattle.gate_outside.specs.declared.fault.Failed.{Failed as Fault}
@@ -7,7 +7,8 @@ use Rattle.gate_outside.specs.Link.{other}
 use Rattle.gate_outside.specs.Calls.{Call, Write, Close, Called, front_of, went}
 use Rattle.bridge_run.specs.Prescribed.{Prescribed}
 use Rattle.bridge_run.specs.Asks.{asks_of}
-use Rattle.bridge_run.specs.Log.{Terms, events_of, Settled, JustCame}
+use Rattle.bridge_run.specs.Ups.{up_by}
+use Rattle.bridge_run.specs.Log.{Terms, events_of, is_up, Settled, JustCame}
 use Rattle.bridge_run.specs.inner.Logging.{WroteMore, FailedBehind, closing}
 
 -- ---- writes to a link
@@ -20,6 +21,7 @@ wrote-none gives side calls begun now called = record {
   asks-are = refl;
   events-are = refl;
   just_came = λ j. j;
+  links = λ of. refl;
   side-is = sym (append-nil (went side calls));
   other-is = refl;
 }
@@ -42,6 +44,7 @@ wrote-call gives side bytes sent answer calls begun mid now w g = record {
   asks-are = w.asks-are;
   events-are = w.events-are;
   just_came = w.just_came;
+  links = w.links;
   side-is = went-side side sent answer w.behind ∙ ap (λ (l : List ℕ). l ++ front_of answer sent) w.side-is ∙ append_assoc (went side calls) bytes (front_of answer sent);
   other-is = went-other side sent answer w.behind ∙ w.other-is;
 }
@@ -61,6 +64,7 @@ failed-behind gives side up bytes front back sent failed calls begun mid now is 
     asks-are = w.asks-are;
     events-are = w.events-are;
     just_came = w.just_came;
+    links = w.links;
     side-is = went-side side sent (Err failed) w.behind ∙ append-nil (went side w.behind) ∙ w.side-is;
     other-is = went-other side sent (Err failed) w.behind ∙ w.other-is;
   };
@@ -74,9 +78,30 @@ went-closing true of Client calls = append-nil (went Client calls)
 went-closing true of Host calls = append-nil (went Host calls)
 went-closing false of side calls = refl
 
-pub settled-closing : (r : Bool) (of : Side) (terms : Terms) (p : Prescribed) (calls : List Call) → Settled terms p calls → Settled terms p (closing r of calls)
-settled-closing true of terms p calls s = (s, tt)
-settled-closing false of terms p calls s = s
+pub settled-closing : (r : Bool) (of : Side) (terms : Terms) (p : Prescribed) (calls : List Call) → (r ≡ true → is_up of terms p (events_of calls) ≡ false) → Settled terms p calls → Settled terms p (closing r of calls)
+settled-closing true of terms p calls down s = (s, down refl)
+settled-closing false of terms p calls down s = s
+
+-- which links are up behind that
+and-none : (u : Bool) → false ≡ (u && not true)
+and-none true = refl
+and-none false = refl
+
+and-kept : (u : Bool) → u ≡ (u && not false)
+and-kept true = refl
+and-kept false = refl
+
+pub client-closing : (refused dropped : Bool) (calls : List Call) → up_by Client (closing refused Host (closing dropped Client calls)) ≡ (up_by Client calls && not dropped)
+client-closing true true calls = and-none (up_by Client calls)
+client-closing false true calls = and-none (up_by Client calls)
+client-closing true false calls = and-kept (up_by Client calls)
+client-closing false false calls = and-kept (up_by Client calls)
+
+pub host-closing : (refused dropped : Bool) (calls : List Call) → up_by Host (closing refused Host (closing dropped Client calls)) ≡ (up_by Host calls && not refused)
+host-closing true true calls = and-none (up_by Host calls)
+host-closing true false calls = and-none (up_by Host calls)
+host-closing false true calls = and-kept (up_by Host calls)
+host-closing false false calls = and-kept (up_by Host calls)
 
 pub events-closing : (r : Bool) (calls : List Call) → events_of (closing r Host calls) ≡ events_of calls
 events-closing true calls = refl

@@ -75,7 +75,7 @@ returns-in-Ok-true-clause-log g c = λ first terms begun begun_out taped a.
     let k = c.args.self.now.rounds in
     let answered = subst (λ (b : Bool). gives c.args.doors.now (Accept (Ok b)) c.accept.new.self) c.in-Ok-true.field-0-test c.in-Ok-true.ensures.gives in
     let h = c.happen.ensures.log first terms (ForClient (Ok true) ∷ a.asks) begun begun_out taped
-    (came-taking gives (g.C.Served.stands first c.args.self.now.core) (Told g.K.Sink.write_gives begun_out c.args.out.now) terms p k c.come.new.self begun c.args.doors.now c.accept.new.self a answered c.come.ensures) in
+    (came-taking gives (g.C.Served.stands first c.args.self.now.core) (Told g.K.Sink.write_gives begun_out c.args.out.now) terms p k c.come.new.self begun c.args.doors.now c.accept.new.self c.if-self.false a answered c.come.ensures) in
     client-logs c.happen.result gives (g.C.Served.stands first c.happen.new.self.core) (g.C.Served.runs_out first) (Told g.K.Sink.write_gives begun_out c.happen.new.out) terms p a.asks k c.come.new.self c.happen.new.self.rounds begun c.happen.new.doors h a.patient
     (ap (λ (q : Rounds). q.busy) c.come.ensures) (ap (λ (q : Rounds). q.idle) c.come.ensures) (ap (λ (q : Rounds). q.waits) c.come.ensures) c.happen.ensures.wears
 
@@ -87,4 +87,4 @@ returns-in-Ok-false-clause-log g c = λ first terms begun begun_out taped a.
 
 pub returns-in-Err-clause-log : goal.returns-in-Err-clause-log
 returns-in-Err-clause-log g c = λ first terms begun begun_out taped a.
-    accept-failed g.D.Doors.call_gives (g.C.Served.stands first c.args.self.now.core) (g.C.Served.runs_out first) (Told g.K.Sink.write_gives begun_out c.args.out.now) terms (g.C.Served.sends first) _ c.args.self.now.rounds begun c.args.doors.now c.accept.new.self a c.in-Err.ensures.gives
+    accept-failed g.D.Doors.call_gives (g.C.Served.stands first c.args.self.now.core) (g.C.Served.runs_out first) (Told g.K.Sink.write_gives begun_out c.args.out.now) terms (g.C.Served.sends first) _ c.args.self.now.rounds begun c.args.doors.now c.accept.new.self c.if-self.false a c.in-Err.ensures.gives

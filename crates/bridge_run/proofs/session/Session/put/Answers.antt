@@ -170,7 +170,7 @@ returns-in-Err-write_all-clause-log g c = λ first terms asks begun begun_out ta
     let w2 = subst (λ (b : List ℕ). WroteMore gives Host (all_if k1.host_up b) w1.behind begun c.write_link-2.new.doors) c.as_slice-2.ensures (c.in_ok-write_link-2.ensures.log begun w1.behind w1.called) in
     behind-part gives (g.C.Served.stands first c.prepare.new.self.core) (g.C.Served.runs_out first) (Told writes begun_out c.write_all.new.sink) terms p asks c.refuse.new.self (ends_next e c.drops_client-dropped.result) begun c.close_link-2.new.doors
     (behind-sent gives (g.C.Served.stands first c.args.self.now.core) (g.C.Served.stands first c.prepare.new.self.core) (Told writes begun_out c.args.out.now) (InPart (Told writes begun_out c.write_all.new.sink)) terms p asks e c.args.self.now.rounds k1 c.refuse.new.self c.prepare.new.self.sent c.prepare.new.self.lines begun c.args.doors.now c.write_link.new.doors c.write_link-2.new.doors c.close_link-2.new.doors c.drops_client-dropped.result c.refuses.result
-    t prepared c.prepare.ensures.rounds w1 w2 (c.close_link-2.ensures.log begun (closing c.drops_client-dropped.result Client w2.behind) (c.close_link.ensures.log begun w2.behind w2.called)) c.refuse.ensures c.drops_client-dropped.ensures (c.in_default.ensures.stands first t.events t.stands_for)
+    t prepared c.prepare.ensures.rounds w1 w2 (c.close_link-2.ensures.log begun (closing c.drops_client-dropped.result Client w2.behind) (c.close_link.ensures.log begun w2.behind w2.called)) c.refuse.ensures c.drops_client-dropped.ensures c.refuses.ensures (c.in_default.ensures.stands first t.events t.stands_for)
     (told-front writes p t.events e c.prepare.new.self.sent c.prepare.new.self.lines c.as_slice-3.result.now begun_out c.args.out.now c.write_all.new.sink prepared c.as_slice-3.ensures t.told c.in-Err-write_all.ensures.writes_front))
 
 pub returns-in-Ok-clause-log : goal.returns-in-Ok-clause-log
@@ -184,5 +184,5 @@ returns-in-Ok-clause-log g c = λ first terms asks begun begun_out taped t.
     let w1 = subst (λ (b : List ℕ). WroteMore gives Client (all_if k1.client_up b) t.calls begun c.write_link.new.doors) c.as_slice.ensures (c.in_ok-write_link.ensures.log begun t.calls t.called) in
     let w2 = subst (λ (b : List ℕ). WroteMore gives Host (all_if k1.host_up b) w1.behind begun c.write_link-2.new.doors) c.as_slice-2.ensures (c.in_ok-write_link-2.ensures.log begun w1.behind w1.called) in
     behind-sent gives (g.C.Served.stands first c.args.self.now.core) (g.C.Served.stands first c.prepare.new.self.core) (Told writes begun_out c.args.out.now) (Told writes begun_out c.write_all.new.sink) terms p asks e c.args.self.now.rounds k1 c.refuse.new.self c.prepare.new.self.sent c.prepare.new.self.lines begun c.args.doors.now c.write_link.new.doors c.write_link-2.new.doors c.close_link-2.new.doors c.drops_client-dropped.result c.refuses.result
-    t prepared c.prepare.ensures.rounds w1 w2 (c.close_link-2.ensures.log begun (closing c.drops_client-dropped.result Client w2.behind) (c.close_link.ensures.log begun w2.behind w2.called)) c.refuse.ensures c.drops_client-dropped.ensures (c.in_default.ensures.stands first t.events t.stands_for)
+    t prepared c.prepare.ensures.rounds w1 w2 (c.close_link-2.ensures.log begun (closing c.drops_client-dropped.result Client w2.behind) (c.close_link.ensures.log begun w2.behind w2.called)) c.refuse.ensures c.drops_client-dropped.ensures c.refuses.ensures (c.in_default.ensures.stands first t.events t.stands_for)
     (told-event writes p t.events e c.prepare.new.self.sent c.prepare.new.self.lines c.as_slice-3.result.now begun_out c.args.out.now c.write_all.new.sink prepared c.as_slice-3.ensures t.told c.in-Ok.ensures.writes)
