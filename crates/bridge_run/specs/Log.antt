@@ -36,6 +36,16 @@ abbrev pub events_of : List Call → List LinkEvent
 events_of [] = []
 events_of (call ∷ calls) = behind_call call (events_of calls)
 
+-- those before the latest question
+abbrev pub events_before : List Call → List LinkEvent
+events_before [] = []
+events_before (Dial addr answer ∷ calls) = events_before calls
+events_before (Listen addr answer ∷ calls) = events_before calls
+events_before (Accept answer ∷ calls) = events_of calls
+events_before (Poll side polled buf ∷ calls) = events_of calls
+events_before (Write side bytes answer ∷ calls) = events_before calls
+events_before (Close side ∷ calls) = events_before calls
+
 -- ---- what was asked of it
 
 -- the address of the host, where one is dialled, and that of the door; whether there is a tape, on which the events are
@@ -133,14 +143,14 @@ pub record Wrote (tells : List ℕ → Type 0) (terms : Terms) (p : Prescribed) 
   pub links : IsWritten terms p events calls
   pub told : tells (told_of p events)
 
--- a front of these bytes
-abbrev pub InPart : (List ℕ → Type 0) → List ℕ → Type 0
-InPart tells bytes = (front : List ℕ) × (IsFront front bytes × tells front)
+-- a front of the second bytes, and no less than the first
+abbrev pub InPart : (List ℕ → Type 0) → List ℕ → List ℕ → Type 0
+InPart tells least most = (front : List ℕ) × (IsFront least front × IsFront front most × tells front)
 
--- a call failed: what the last event sends, and its lines, may be written in part
+-- a call failed: what the last answer brings, and its lines, may be written in part, and those before it are told
 pub record WroteInPart (tells : List ℕ → Type 0) (terms : Terms) (p : Prescribed) (events : List LinkEvent) (calls : List Call) : Type 0 where
   pub links : IsWrittenInPart terms p events calls
-  pub told : InPart tells (told_of p events)
+  pub told : InPart tells (told_of p (events_before calls)) (told_of p events)
 
 -- all that the events before the latest send, and of that what it had sent before memory ran out, to each side whose link
 -- was up; and no line for it

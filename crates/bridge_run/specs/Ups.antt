@@ -1,16 +1,16 @@
 -- Which links are up, and what is written to them and told of refusals: behind events, the latest first, and as the
 -- next event is taken. Which links are up behind calls of the doors.
-use Rattle.std.specs.Prelude.{ℕ, ◌&&◌, not, Bool, true, false, if◌then◌else◌, List, [], ◌∷◌, ◌++◌, Result, Ok, Err}
+use Rattle.std.specs.Prelude.{ℕ, ◌&&◌, ◌||◌, not, Bool, true, false, if◌then◌else◌, List, [], ◌∷◌, ◌++◌, is_ok}
 use Rattle.std.specs.List.{flat_map}
 use Rattle.usb_base.specs.declared.side.Side.{Side}
 use Rattle.usb_base.specs.declared.side.Side.TheVariants.{Client, Host}
 use Rattle.usb_base.specs.Refusal.{refusal_line}
-use Rattle.gate_outside.specs.declared.fault.Failed.{Failed as Fault}
 use Rattle.gate_outside.specs.declared.turn.Polled.{Polled}
 use Rattle.gate_outside.specs.declared.turn.Polled.TheVariants.{Took, NotYet, Ended, Failed}
 use Rattle.gate_outside.specs.Calls.{Call, Dial, Listen, Accept, Poll, Write, Close}
 use Rattle.bridge_run.specs.Events.{LinkEvent, ClientComes, ClientEnd, HostEnd}
 use Rattle.bridge_run.specs.Prescribed.{Prescribed, gained, is_of, refuses, drops}
+use Rattle.bridge_run.specs.Asks.{is_client}
 
 -- as an event is taken, by whether the link was up before: a client's link comes with the client, and a side has its end
 -- where its link is down
@@ -50,15 +50,6 @@ told_of p (e ∷ events) = told_of p events ++ flat_map refusal_line (gained p.r
 
 -- ---- by the calls
 
-abbrev pub dialled : {T : Type 0} → Result T Fault → Bool → Bool
-dialled (Ok _) up = true
-dialled (Err _) up = up
-
-abbrev pub came : Result Bool Fault → Bool → Bool
-came (Ok true) up = true
-came (Ok false) up = up
-came (Err _) up = up
-
 abbrev pub polled_to : Polled → Bool → Bool
 polled_to (Took n) up = up
 polled_to NotYet up = up
@@ -67,9 +58,9 @@ polled_to Failed up = up
 
 -- a link comes up by the host that was dialled, or the client that has come, and goes down by its end, or by its closing
 abbrev pub up_behind : Side → Call → Bool → Bool
-up_behind side (Dial addr answer) up = if is_of Host side then dialled answer up else up
+up_behind side (Dial addr answer) up = (is_of Host side && is_ok answer) || up
 up_behind side (Listen addr answer) up = up
-up_behind side (Accept answer) up = if is_of Client side then came answer up else up
+up_behind side (Accept answer) up = (is_of Client side && is_client answer) || up
 up_behind side (Poll of polled buf) up = if is_of of side then polled_to polled up else up
 up_behind side (Write of bytes answer) up = up
 up_behind side (Close of) up = if is_of of side then false else up

@@ -12,7 +12,7 @@ use Rattle.bridge_run.specs.Prescribed.{Prescribed, first_of}
 use Rattle.bridge_run.specs.Calls.{ends_next}
 use Rattle.bridge_run.specs.Ups.{client_at, client_behind, host_at, host_since, told_of, up_by}
 use Rattle.bridge_run.specs.Asks.{Ask, asks_of, taken, has_just_come, quiet_rounds, is_behind_host, is_behind_client, last_fault}
-use Rattle.bridge_run.specs.Log.{Terms, events_of, IsWritten, IsWrittenInPart, is_up, GoesOn, is_over, Settled, JustCame, Logged}
+use Rattle.bridge_run.specs.Log.{Terms, events_of, events_before, IsFront, IsWritten, IsWrittenInPart, is_up, GoesOn, is_over, Settled, JustCame, Logged}
 use Rattle.bridge_run.specs.inner.Keeping.{one_if, is_over as none_up}
 
 -- what is served stands for the events that came, and all is written that they send
@@ -24,6 +24,7 @@ pub record IsAt {D : Type 0} (gives : D → Call → D → Type 0) (stands : Lis
   pub stands_for : stands (events_of calls)
   pub written : IsWritten terms p (events_of calls) calls
   pub told : tells (told_of p (events_of calls))
+  pub told_before : IsFront (told_of p (events_before calls)) (told_of p (events_of calls))
   pub left : k.left ≡ terms.budget - taken asks
   pub client_up : k.client_up ≡ client_behind p (events_of calls)
   pub host_up : k.host_up ≡ host_since (is_some terms.host) p (events_of calls)
@@ -47,6 +48,7 @@ pub record IsTaking {D : Type 0} (gives : D → Call → D → Type 0) (stands :
   pub stands_for : stands events
   pub written : IsWritten terms p events calls
   pub told : tells (told_of p events)
+  pub told_before : IsFront (told_of p (events_before calls)) (told_of p events)
   pub left : k.left ≡ terms.budget - taken asks
   pub client_up : k.client_up ≡ client_at e (client_behind p events)
   pub host_up : k.host_up ≡ host_at e (host_since (is_some terms.host) p events)
@@ -151,6 +153,7 @@ pub record WroteMore {D : Type 0} (gives : D → Call → D → Type 0) (side : 
   pub settled : (terms : Terms) (p : Prescribed) → Settled terms p calls → Settled terms p behind
   pub asks-are : asks_of behind ≡ asks_of calls
   pub events-are : events_of behind ≡ events_of calls
+  pub before-are : events_before behind ≡ events_before calls
   pub just_came : JustCame calls → JustCame behind
   pub links : (of : Side) → up_by of behind ≡ up_by of calls
   pub side-is : went side behind ≡ went side calls ++ bytes
@@ -186,6 +189,7 @@ pub record HasOpened {D : Type 0} (gives : D → Call → D → Type 0) (terms :
   pub settled : Settled terms p calls
   pub asked : asks_of calls ≡ []
   pub none : events_of calls ≡ []
+  pub none_before : events_before calls ≡ []
   pub links : (of : Side) → up_by of calls ≡ is_up of terms p []
   pub written : IsWritten terms p [] calls
 
@@ -195,6 +199,7 @@ pub record OpenFailed {D : Type 0} (side : Side) (gives : D → Call → D → T
   pub called : Called gives calls begun now
   pub settled : Settled terms p calls
   pub none : events_of calls ≡ []
+  pub none_before : events_before calls ≡ []
   pub written : IsWrittenInPart terms p [] calls
   pub failed : last_fault calls ≡ Some side
 

@@ -9,10 +9,10 @@ use Rattle.bridge_run.specs.declared.serve_end.ServeEnd.TheVariants.{Ended, Link
 use Rattle.bridge_run.specs.declared.rounds.Rounds.{Rounds}
 use Rattle.bridge_run.specs.Prescribed.{Prescribed}
 use Rattle.bridge_run.specs.Course.{Course}
-use Rattle.bridge_run.specs.Ups.{client_at, client_behind, host_at, host_since, to_clients, sent_to_host}
+use Rattle.bridge_run.specs.Ups.{client_at, client_behind, host_at, host_since, to_clients, sent_to_host, told_of}
 use Rattle.bridge_run.specs.Asks.{last_fault}
 use Rattle.bridge_run.specs.RanOut.{RanOut}
-use Rattle.bridge_run.specs.Log.{Terms, events_of, IsWritten, IsWrittenInPart, Settled, JustCame}
+use Rattle.bridge_run.specs.Log.{Terms, events_of, events_before, IsFront, IsWritten, IsWrittenInPart, Settled, JustCame}
 
 -- what is kept of the links is the course's
 pub record AreUp (k : Rounds) (c : Course) : Type 0 where
@@ -27,6 +27,7 @@ pub record IsStopping {D : Type 0} (gives : D → Call → D → Type 0) (terms 
   pub events-are : events_of calls ≡ e ∷ events
   pub just_came : JustCame calls
   pub written : IsWritten terms p events calls
+  pub told_before : IsFront (told_of p (events_before calls)) (told_of p events)
   pub client_up : k.client_up ≡ client_at e (client_behind p events)
   pub host_up : k.host_up ≡ host_at e (host_since (is_some terms.host) p events)
 
@@ -51,6 +52,7 @@ pub record StopFailed {D : Type 0} (gives : D → Call → D → Type 0) (terms 
   pub events-are : events_of calls ≡ e ∷ events
   pub just_came : JustCame calls
   pub written : IsWrittenInPart terms p (e ∷ events) calls
+  pub told_before : IsFront (told_of p (events_before calls)) (told_of p events)
 
 -- which was that of a link
 pub record StopCut {D : Type 0} (side : Side) (gives : D → Call → D → Type 0) (terms : Terms) (p : Prescribed) (e : LinkEvent) (events : List LinkEvent) (begun now : D) : Type 0 where

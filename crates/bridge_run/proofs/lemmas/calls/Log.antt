@@ -15,13 +15,13 @@ use Rattle.bridge_run.specs.Prescribed.{Prescribed, gained, refuses, drops, firs
 use Rattle.bridge_run.specs.Calls.{ends_next}
 use Rattle.bridge_run.specs.Ups.{client_at, client_behind, host_at, host_since, to_clients, sent_to_host, told_of, up_by}
 use Rattle.bridge_run.specs.Asks.{Ask, asks_of, taken, last_fault}
-use Rattle.bridge_run.specs.Log.{Terms, events_of, behind_call, IsWritten, IsFront, IsWrittenInPart, InPart, is_up, is_over, Settled, JustCame, WroteInPart, HasEnded, Logged}
+use Rattle.bridge_run.specs.Log.{Terms, events_of, events_before, behind_call, IsWritten, IsFront, IsWrittenInPart, InPart, is_up, is_over, Settled, JustCame, WroteInPart, HasEnded, Logged}
 use Rattle.bridge_run.specs.inner.Follows.{Prepared}
 use Rattle.bridge_run.specs.inner.Keeping.{refusing, Settles, is_over as none_up}
 use Rattle.bridge_run.specs.inner.Logging.{IsAt, up_at, IsTaking, HasTaken, IsBehind, PutLogs, HappenLogs, WroteMore, all_if, FailedBehind, closing}
-use Rattle.bridge_run.proofs.lemmas.calls.Sink.{told-all, part-more}
+use Rattle.bridge_run.proofs.lemmas.calls.Sink.{front-more, told-all, part-more, part-least}
 use Rattle.bridge_run.proofs.lemmas.events.Put.{dropped-is, first_of-append}
-use Rattle.bridge_run.proofs.lemmas.calls.Writing.{went-closing, settled-closing, client-closing, host-closing, events-closing, asks-closing, just-host}
+use Rattle.bridge_run.proofs.lemmas.calls.Writing.{went-closing, settled-closing, client-closing, host-closing, events-closing, before-closing, asks-closing, just-host}
 
 -- ---- an event is taken
 
@@ -33,6 +33,11 @@ pub record HasSent (terms : Terms) (p : Prescribed) (asks : List Ask) (calls : L
   pub just_came : JustCame calls
   pub links : (of : Side) → up_by of calls ≡ up_at of terms p e events
   pub written : IsWritten terms p (e ∷ events) calls
+  pub told_before : IsFront (told_of p (events_before calls)) (told_of p events)
+
+-- so it is behind calls that brought nothing more
+pub before-same : (p : Prescribed) (events : List LinkEvent) (calls calls' : List Call) → events_before calls' ≡ events_before calls → IsFront (told_of p (events_before calls)) (told_of p events) → IsFront (told_of p (events_before calls')) (told_of p events)
+before-same p events calls calls' is before = subst (λ (es : List LinkEvent). IsFront (told_of p es) (told_of p events)) (sym is) before
 
 sent-closing : (r : Bool) (of : Side) (terms : Terms) (p : Prescribed) (calls : List Call) (events : List LinkEvent) → IsWritten terms p events calls → IsWritten terms p events (closing r of calls)
 sent-closing r of terms p calls events w = record { client = went-closing r of Client calls ∙ w.client; host = went-closing r of Host calls ∙ w.host }
@@ -47,6 +52,7 @@ has-sent gives stands tells terms p asks e k k1 sent lines begun d0 d1 d2 t prep
   events-are = w2.events-are ∙ w1.events-are ∙ t.events-are;
   just_came = w2.just_came (w1.just_came t.just_came);
   links = λ of. w2.links of ∙ w1.links of ∙ t.links of;
+  told_before = before-same p t.events t.calls w2.behind (w2.before-are ∙ w1.before-are) t.told_before;
   written = record {
     client = w2.other-is ∙ w1.side-is ∙ ap (λ (l : List ℕ). l ++ all_if k1.client_up sent.to_client) t.written.client
         ∙ ap (λ (u : Bool). to_clients p t.events ++ all_if u sent.to_client) (ap (λ (q : Rounds). q.client_up) same ∙ t.client_up)
@@ -80,8 +86,8 @@ pub record TakenBy (stands : List LinkEvent → Type 0) (tells : List ℕ → Ty
 
 -- an event was taken, by these calls
 has-taken : {D : Type 0} → (gives : D → Call → D → Type 0) (stands : List LinkEvent → Type 0) (tells : List ℕ → Type 0) (terms : Terms) (p : Prescribed) (asks : List Ask) (k : Rounds) (begun now : D) (calls : List Call) (e : LinkEvent) (events : List LinkEvent) → events_of calls ≡ e ∷ events
-    → JustCame calls → Called gives calls begun now → Settled terms p calls → asks_of calls ≡ asks → ((of : Side) → up_by of calls ≡ is_up of terms p (e ∷ events)) → IsWritten terms p (e ∷ events) calls → TakenBy stands tells terms p asks k (e ∷ events) → HasTaken gives stands tells terms p asks k begun now
-has-taken gives stands tells terms p asks k begun now calls e events is just called settled asked links w t = record {
+    → JustCame calls → Called gives calls begun now → Settled terms p calls → asks_of calls ≡ asks → ((of : Side) → up_by of calls ≡ is_up of terms p (e ∷ events)) → IsWritten terms p (e ∷ events) calls → IsFront (told_of p (events_before calls)) (told_of p (e ∷ events)) → TakenBy stands tells terms p asks k (e ∷ events) → HasTaken gives stands tells terms p asks k begun now
+has-taken gives stands tells terms p asks k begun now calls e events is just called settled asked links w before t = record {
   at = record {
     calls = calls;
     called = called;
@@ -90,6 +96,7 @@ has-taken gives stands tells terms p asks k begun now calls e events is just cal
     stands_for = subst stands (sym is) t.stands_for;
     written = subst (λ (es : List LinkEvent). IsWritten terms p es calls) (sym is) w;
     told = subst (λ (es : List LinkEvent). tells (told_of p es)) (sym is) t.told;
+    told_before = subst (λ (es : List LinkEvent). IsFront (told_of p (events_before calls)) (told_of p es)) (sym is) before;
     left = t.left;
     client_up = t.client_up ∙ ap (client_behind p) (sym is);
     host_up = t.host_up ∙ ap (host_since (is_some terms.host) p) (sym is);
@@ -125,62 +132,97 @@ host-closed terms p e events down = go (ends_next e true)
     go true = host-behind-end (is_up Host terms p (e ∷ events)) terms p (e ∷ events) down
     go false = down
 
+client-down : (p : Prescribed) (e : LinkEvent) (events : List LinkEvent) (dropped : Bool) → dropped ≡ drops p events e → dropped ≡ true → client_behind p (e ∷ events) ≡ false
+client-down p e events dropped is down = ap (λ (d : Bool). client_at e (client_behind p events) && not d) (sym is ∙ down) ∙ and-none (client_at e (client_behind p events))
+
+-- the calls behind the closing of the links that the event takes down
+abbrev closed-behind : Bool → Bool → List Call → List Call
+closed-behind refused dropped calls = closing refused Host (closing dropped Client calls)
+
+closed-settled : (terms : Terms) (p : Prescribed) (asks : List Ask) (e : LinkEvent) (events : List LinkEvent) (calls : List Call) (refused dropped : Bool) → HasSent terms p asks calls e events → dropped ≡ drops p events e → refused ≡ refuses Host (gained p.refusals events e)
+    → Settled terms p (closed-behind refused dropped calls)
+closed-settled terms p asks e events calls refused false h drop refuse = settled-closing refused Host terms p calls (λ r. ap (is_up Host terms p) h.events-are ∙ host-down terms p e events refused refuse r) h.settled
+closed-settled terms p asks e events calls refused true h drop refuse =
+    settled-closing refused Host terms p (closing true Client calls) (λ r. ap (λ (es : List LinkEvent). is_up Host terms p (behind_call (Close Client) es)) h.events-are ∙ host-closed terms p e events (host-down terms p e events refused refuse r))
+    (settled-closing true Client terms p calls (λ r. ap (client_behind p) h.events-are ∙ client-down p e events true drop refl) h.settled)
+
+closed-events : (refused dropped : Bool) (calls : List Call) (e : LinkEvent) (events : List LinkEvent) → events_of calls ≡ e ∷ events → events_of (closed-behind refused dropped calls) ≡ cond (dropped && ends_next e true) (ClientEnd ∷ e ∷ events) (e ∷ events)
+closed-events refused false calls e events is = events-closing refused calls ∙ is
+closed-events refused true calls e events is = events-closing refused (closing true Client calls) ∙ ap (behind_call (Close Client)) is
+
+closed-just : (refused dropped : Bool) (calls : List Call) → JustCame calls → JustCame (closed-behind refused dropped calls)
+closed-just refused false calls j = just-host refused calls j
+closed-just refused true calls j = just-host refused (closing true Client calls) tt
+
+closed-asks : (refused dropped : Bool) (calls : List Call) → asks_of (closed-behind refused dropped calls) ≡ asks_of calls
+closed-asks refused dropped calls = asks-closing refused Host (closing dropped Client calls) ∙ asks-closing dropped Client calls
+
+closed-before : (refused dropped : Bool) (calls : List Call) → events_before (closed-behind refused dropped calls) ≡ events_before calls
+closed-before refused dropped calls = before-closing refused Host (closing dropped Client calls) ∙ before-closing dropped Client calls
+
+closed-written : (refused dropped : Bool) (terms : Terms) (p : Prescribed) (calls : List Call) (events : List LinkEvent) → IsWritten terms p events calls → IsWritten terms p events (closed-behind refused dropped calls)
+closed-written refused dropped terms p calls events w = sent-closing refused Host terms p (closing dropped Client calls) events (sent-closing dropped Client terms p calls events w)
+
 put-behind : {D : Type 0} → (gives : D → Call → D → Type 0) (stands : List LinkEvent → Type 0) (tells : List ℕ → Type 0) (terms : Terms) (p : Prescribed) (asks : List Ask) (e : LinkEvent) (events : List LinkEvent) (k : Rounds) (begun now : D) (calls : List Call) (refused dropped : Bool)
-    → HasSent terms p asks calls e events → Called gives (closing refused Host (closing dropped Client calls)) begun now → TakenBy stands tells terms p asks k (e ∷ events)
+    → HasSent terms p asks calls e events → Called gives (closed-behind refused dropped calls) begun now → TakenBy stands tells terms p asks k (e ∷ events)
     → (dropped ≡ true → k.client_up ≡ false) → dropped ≡ drops p events e → refused ≡ refuses Host (gained p.refusals events e) → IsBehind (ends_next e dropped) gives stands tells terms p asks k begun now
-put-behind gives stands tells terms p asks e events k begun now calls refused false h called t down drop refuse =
-    subst (λ (b : Bool). IsBehind b gives stands tells terms p asks k begun now) (sym (ends-none e))
-    (has-taken gives stands tells terms p asks k begun now (closing refused Host calls) e events (events-closing refused calls ∙ h.events-are) (just-host refused calls h.just_came) called (settled-closing refused Host terms p calls (λ r. ap (is_up Host terms p) h.events-are ∙ host-down terms p e events refused refuse r) h.settled) (asks-closing refused Host calls ∙ h.asks-are)
-    (λ of. links-behind terms p e events calls refused false of drop refuse (h.links of))
-    (sent-closing refused Host terms p calls (e ∷ events) h.written) t)
-put-behind {D = D} gives stands tells terms p asks e events k begun now calls refused true h called t down drop refuse = go (ends_next e true) refl
+put-behind gives stands tells terms p asks e events k begun now calls refused dropped h called t down drop refuse = go dropped refl
   where
     all : List Call
-    all = closing refused Host (closing true Client calls)
+    all = closed-behind refused dropped calls
 
     settled : Settled terms p all
-    settled = settled-closing refused Host terms p (closing true Client calls) (λ r. ap (λ (es : List LinkEvent). is_up Host terms p (behind_call (Close Client) es)) h.events-are ∙ host-closed terms p e events (host-down terms p e events refused refuse r))
-        (settled-closing true Client terms p calls (λ r. ap (client_behind p) h.events-are ∙ sym t.client_up ∙ down refl) h.settled)
+    settled = closed-settled terms p asks e events calls refused dropped h drop refuse
 
     asked : asks_of all ≡ asks
-    asked = asks-closing refused Host (closing true Client calls) ∙ h.asks-are
+    asked = closed-asks refused dropped calls ∙ h.asks-are
 
     written : IsWritten terms p (e ∷ events) all
-    written = sent-closing refused Host terms p (closing true Client calls) (e ∷ events) (sent-closing true Client terms p calls (e ∷ events) h.written)
+    written = closed-written refused dropped terms p calls (e ∷ events) h.written
 
-    behind : events_of all ≡ cond (ends_next e true) (ClientEnd ∷ e ∷ events) (e ∷ events)
-    behind = events-closing refused (closing true Client calls) ∙ ap (behind_call (Close Client)) h.events-are
+    behind : events_of all ≡ cond (dropped && ends_next e true) (ClientEnd ∷ e ∷ events) (e ∷ events)
+    behind = closed-events refused dropped calls e events h.events-are
 
     just : JustCame all
-    just = just-host refused (closing true Client calls) tt
+    just = closed-just refused dropped calls h.just_came
 
     links : (of : Side) → up_by of all ≡ is_up of terms p (e ∷ events)
-    links of = links-behind terms p e events calls refused true of drop refuse (h.links of)
+    links of = links-behind terms p e events calls refused dropped of drop refuse (h.links of)
 
-    ended : (of : Side) → up_by of all ≡ up_at of terms p ClientEnd (e ∷ events)
-    ended Client = client-closing refused true calls ∙ and-none (up_by Client calls)
-    ended Host = links Host
+    before : IsFront (told_of p (events_before all)) (told_of p (e ∷ events))
+    before = front-more (told_of p (events_before all)) (told_of p events) _ (before-same p events calls all (closed-before refused dropped calls) h.told_before)
 
-    go : (b : Bool) → ends_next e true ≡ b → IsBehind (ends_next e true) gives stands tells terms p asks k begun now
-    go true is = subst (λ (b : Bool). IsBehind b gives stands tells terms p asks k begun now) (sym is) (record {
+    taken : (dropped && ends_next e true) ≡ false → HasTaken gives stands tells terms p asks k begun now
+    taken none = has-taken gives stands tells terms p asks k begun now all e events (behind ∙ ap (λ (b : Bool). cond b (ClientEnd ∷ e ∷ events) (e ∷ events)) none) just called settled asked links written before t
+
+    ended : dropped ≡ true → (of : Side) → up_by of all ≡ up_at of terms p ClientEnd (e ∷ events)
+    ended is Client = client-closing refused dropped calls ∙ ap (λ (d : Bool). up_by Client calls && not d) is ∙ and-none (up_by Client calls)
+    ended is Host = links Host
+
+    ends : dropped ≡ true → (b : Bool) → ends_next e true ≡ b → IsBehind (ends_next e true) gives stands tells terms p asks k begun now
+    ends is true next = subst (λ (b : Bool). IsBehind b gives stands tells terms p asks k begun now) (sym next) (record {
       calls = all;
       called = called;
       settled = settled;
       asks-are = asked;
       events = e ∷ events;
       just_came = just;
-      events-are = behind ∙ ap (λ (b : Bool). cond b (ClientEnd ∷ e ∷ events) (e ∷ events)) is;
+      events-are = behind ∙ ap (λ (b : Bool). cond (b && ends_next e true) (ClientEnd ∷ e ∷ events) (e ∷ events)) is ∙ ap (λ (b : Bool). cond b (ClientEnd ∷ e ∷ events) (e ∷ events)) next;
       stands_for = t.stands_for;
       written = written;
       told = t.told;
+      told_before = before;
       left = t.left;
-      client_up = down refl;
+      client_up = down is;
       host_up = t.host_up;
-      links = ended;
+      links = ended is;
       refused = t.refused;
     })
-    go false is = subst (λ (b : Bool). IsBehind b gives stands tells terms p asks k begun now) (sym is)
-        (has-taken gives stands tells terms p asks k begun now all e events (behind ∙ ap (λ (b : Bool). cond b (ClientEnd ∷ e ∷ events) (e ∷ events)) is) just called settled asked links written t)
+    ends is false next = subst (λ (b : Bool). IsBehind b gives stands tells terms p asks k begun now) (sym next) (taken (ap (λ (b : Bool). b && ends_next e true) is ∙ next))
+
+    go : (d : Bool) → dropped ≡ d → IsBehind (ends_next e dropped) gives stands tells terms p asks k begun now
+    go false is = subst (λ (b : Bool). IsBehind b gives stands tells terms p asks k begun now) (sym (ap (ends_next e) is ∙ ends-none e)) (taken (ap (λ (b : Bool). b && ends_next e true) is))
+    go true is = subst (λ (d : Bool). IsBehind (ends_next e d) gives stands tells terms p asks k begun now) (sym is) (ends is (ends_next e true) refl)
 
 -- the links that are up behind it
 client-kept : (p : Prescribed) (e : LinkEvent) (events : List LinkEvent) (k k' : Rounds) (sent : Sent) (lines : List ℕ) → Prepared p events e sent lines → k' ≡ refusing sent.refusals sent.lets_go k
@@ -206,7 +248,7 @@ refused-kept p e events k k' sent lines prepared kept is =
 -- all is sent, each side that is refused is closed, and a client that is let go
 pub behind-sent : {D : Type 0} → (gives : D → Call → D → Type 0) (stands stands' : List LinkEvent → Type 0) (before tells : List ℕ → Type 0) (terms : Terms) (p : Prescribed) (asks : List Ask) (e : LinkEvent) (k k1 k2 : Rounds) (sent : Sent) (lines : List ℕ) (begun d0 d1 d2 now : D) (dropped refused : Bool)
     → (t : IsTaking gives stands before terms p asks e k begun d0) → Prepared p t.events e sent lines → k1 ≡ k → (w1 : WroteMore gives Client (all_if k1.client_up sent.to_client) t.calls begun d1) → (w2 : WroteMore gives Host (all_if k1.host_up sent.to_host) w1.behind begun d2)
-    → Called gives (closing refused Host (closing dropped Client w2.behind)) begun now → k2 ≡ refusing sent.refusals sent.lets_go k1 → dropped ≡ (refuses Client sent.refusals || sent.lets_go) → refused ≡ refuses Host sent.refusals → stands' (e ∷ t.events) → tells (told_of p (e ∷ t.events))
+    → Called gives (closed-behind refused dropped w2.behind) begun now → k2 ≡ refusing sent.refusals sent.lets_go k1 → dropped ≡ (refuses Client sent.refusals || sent.lets_go) → refused ≡ refuses Host sent.refusals → stands' (e ∷ t.events) → tells (told_of p (e ∷ t.events))
     → IsBehind (ends_next e dropped) gives stands' tells terms p asks k2 begun now
 behind-sent gives stands stands' before tells terms p asks e k k1 k2 sent lines begun d0 d1 d2 now dropped refused t prepared same w1 w2 called new drop refuse now_stands told =
     let kept = new ∙ ap (refusing sent.refusals sent.lets_go) same in
@@ -234,35 +276,31 @@ whole-part terms p events calls w = record { client = front-whole _ _ w.client; 
 
 -- all is written, and the last call failed
 pub failed-logs : {D : Type 0} → (gives : D → Call → D → Type 0) (stands : List LinkEvent → Type 0) (runs_out : List LinkEvent → LinkEvent → List ℕ → List ℕ → Type 0) (tells : List ℕ → Type 0) (terms : Terms) (p : Prescribed) (asks : List Ask) (side : Side) (call : Call) (k : Rounds) (begun d0 d1 : D)
-    → (a : IsAt gives stands tells terms p asks k begun d0) → Called gives (call ∷ a.calls) begun d1 → Settled terms p (call ∷ a.calls) → events_of (call ∷ a.calls) ≡ events_of a.calls → IsWritten terms p (events_of a.calls) (call ∷ a.calls) → last_fault (call ∷ a.calls) ≡ Some side
+    → (a : IsAt gives stands tells terms p asks k begun d0) → Called gives (call ∷ a.calls) begun d1 → Settled terms p (call ∷ a.calls) → events_of (call ∷ a.calls) ≡ events_of a.calls → events_before (call ∷ a.calls) ≡ events_of a.calls → IsWritten terms p (events_of a.calls) (call ∷ a.calls) → last_fault (call ∷ a.calls) ≡ Some side
     → Logged (end.LinkFault side) gives runs_out tells terms p begun d1
-failed-logs gives stands runs_out tells terms p asks side call k begun d0 d1 a called settled same w failed = record {
+failed-logs gives stands runs_out tells terms p asks side call k begun d0 d1 a called settled same before w failed = record {
   calls = call ∷ a.calls;
   called = called;
   settled = settled;
-  written = subst (λ (es : List LinkEvent). WroteInPart tells terms p es (call ∷ a.calls)) (sym same) (record { links = whole-part terms p (events_of a.calls) (call ∷ a.calls) w; told = told-all tells (told_of p (events_of a.calls)) a.told });
+  written = subst (λ (es : List LinkEvent). WroteInPart tells terms p es (call ∷ a.calls)) (sym same) (record { links = whole-part terms p (events_of a.calls) (call ∷ a.calls) w; told = told-all tells (told_of p (events_before (call ∷ a.calls))) (told_of p (events_of a.calls)) (front-whole (told_of p (events_of a.calls)) _ (ap (told_of p) before)) a.told });
   ended = failed;
 }
 
--- all is written, but for lines to the sink or to the tape
-at-fault : {D : Type 0} → (gives : D → Call → D → Type 0) (stands : List LinkEvent → Type 0) (runs_out : List LinkEvent → LinkEvent → List ℕ → List ℕ → Type 0) (tells some : List ℕ → Type 0) (terms : Terms) (p : Prescribed) (asks : List Ask) (k : Rounds) (begun now : D) → ((bytes : List ℕ) → some bytes → InPart tells bytes) → (a : IsAt gives stands some terms p asks k begun now) → HasEnded end.WriteFault terms p a.calls
+-- all is written, but for lines to the tape
+pub lines-fault : {D : Type 0} → (gives : D → Call → D → Type 0) (stands : List LinkEvent → Type 0) (runs_out : List LinkEvent → LinkEvent → List ℕ → List ℕ → Type 0) (tells : List ℕ → Type 0) (terms : Terms) (p : Prescribed) (asks : List Ask) (k : Rounds) (begun now : D) → (a : IsAt gives stands tells terms p asks k begun now) → HasEnded end.WriteFault terms p a.calls
     → Logged end.WriteFault gives runs_out tells terms p begun now
-at-fault gives stands runs_out tells some terms p asks k begun now part a ended = record {
+lines-fault gives stands runs_out tells terms p asks k begun now a ended = record {
   calls = a.calls;
   called = a.called;
   settled = a.settled;
-  written = record { links = whole-part terms p (events_of a.calls) a.calls a.written; told = part (told_of p (events_of a.calls)) a.told };
+  written = record { links = whole-part terms p (events_of a.calls) a.calls a.written; told = told-all tells (told_of p (events_before a.calls)) (told_of p (events_of a.calls)) a.told_before a.told };
   ended = ended;
 }
 
-pub lines-fault : {D : Type 0} → (gives : D → Call → D → Type 0) (stands : List LinkEvent → Type 0) (runs_out : List LinkEvent → LinkEvent → List ℕ → List ℕ → Type 0) (tells : List ℕ → Type 0) (terms : Terms) (p : Prescribed) (asks : List Ask) (k : Rounds) (begun now : D) → (a : IsAt gives stands tells terms p asks k begun now) → HasEnded end.WriteFault terms p a.calls
-    → Logged end.WriteFault gives runs_out tells terms p begun now
-lines-fault gives stands runs_out tells terms p asks k begun now a ended = at-fault gives stands runs_out tells tells terms p asks k begun now (told-all tells) a ended
-
 -- of the last event nothing is sent yet
-pub taking-fault : {D : Type 0} → (gives : D → Call → D → Type 0) (stands : List LinkEvent → Type 0) (runs_out : List LinkEvent → LinkEvent → List ℕ → List ℕ → Type 0) (tells some : List ℕ → Type 0) (terms : Terms) (p : Prescribed) (asks : List Ask) (e : LinkEvent) (k : Rounds) (begun now : D) → ((bytes : List ℕ) → some bytes → InPart tells bytes)
-    → IsTaking gives stands some terms p asks e k begun now → Logged end.WriteFault gives runs_out tells terms p begun now
-taking-fault gives stands runs_out tells some terms p asks e k begun now part t = record {
+pub taking-fault : {D : Type 0} → (gives : D → Call → D → Type 0) (stands : List LinkEvent → Type 0) (runs_out : List LinkEvent → LinkEvent → List ℕ → List ℕ → Type 0) (tells : List ℕ → Type 0) (terms : Terms) (p : Prescribed) (asks : List Ask) (e : LinkEvent) (k : Rounds) (begun now : D)
+    → IsTaking gives stands tells terms p asks e k begun now → Logged end.WriteFault gives runs_out tells terms p begun now
+taking-fault gives stands runs_out tells terms p asks e k begun now t = record {
   calls = t.calls;
   called = t.called;
   settled = t.settled;
@@ -271,16 +309,36 @@ taking-fault gives stands runs_out tells some terms p asks e k begun now part t 
       client = front-of-more (to_clients p t.events) _ (went Client t.calls) t.written.client;
       host = front-of-more (sent_to_host (is_some terms.host) p t.events) _ (went Host t.calls) t.written.host;
     };
-    told = part-more tells (told_of p t.events) _ (part (told_of p t.events) t.told);
+    told = part-more tells (told_of p (events_before t.calls)) (told_of p t.events) _ (told-all tells (told_of p (events_before t.calls)) (told_of p t.events) t.told_before t.told);
   });
   ended = inl t.just_came;
 }
 
--- the links were closed, and a front of the lines was told
-pub behind-part : {D : Type 0} → (gives : D → Call → D → Type 0) (stands : List LinkEvent → Type 0) (runs_out : List LinkEvent → LinkEvent → List ℕ → List ℕ → Type 0) (tells : List ℕ → Type 0) (terms : Terms) (p : Prescribed) (asks : List Ask) (k : Rounds) (b : Bool) (begun now : D) → IsBehind b gives stands (InPart tells) terms p asks k begun now
+-- the links were closed, and a front of the event's lines was told
+closed-part : (terms : Terms) (p : Prescribed) (tells : List ℕ → Type 0) (e : LinkEvent) (events : List LinkEvent) (all : List Call) (b : Bool) → IsWritten terms p (e ∷ events) all → InPart tells (told_of p (events_before all)) (told_of p (e ∷ events))
+    → WroteInPart tells terms p (cond b (ClientEnd ∷ e ∷ events) (e ∷ events)) all
+closed-part terms p tells e events all true w told = record {
+  links = record { client = front-of-more (to_clients p (e ∷ events)) _ (went Client all) w.client; host = front-of-more (sent_to_host (is_some terms.host) p (e ∷ events)) _ (went Host all) w.host };
+  told = part-more tells (told_of p (events_before all)) (told_of p (e ∷ events)) _ told;
+}
+closed-part terms p tells e events all false w told = record { links = whole-part terms p (e ∷ events) all w; told = told }
+
+pub lines-part : {D : Type 0} → (gives : D → Call → D → Type 0) (stands : List LinkEvent → Type 0) (runs_out : List LinkEvent → LinkEvent → List ℕ → List ℕ → Type 0) (before tells : List ℕ → Type 0) (terms : Terms) (p : Prescribed) (asks : List Ask) (e : LinkEvent) (k k1 : Rounds) (sent : Sent) (lines : List ℕ) (begun d0 d1 d2 now : D) (dropped refused : Bool)
+    → (t : IsTaking gives stands before terms p asks e k begun d0) → Prepared p t.events e sent lines → k1 ≡ k → (w1 : WroteMore gives Client (all_if k1.client_up sent.to_client) t.calls begun d1) → (w2 : WroteMore gives Host (all_if k1.host_up sent.to_host) w1.behind begun d2)
+    → Called gives (closed-behind refused dropped w2.behind) begun now → dropped ≡ (refuses Client sent.refusals || sent.lets_go) → refused ≡ refuses Host sent.refusals → InPart tells (told_of p t.events) (told_of p (e ∷ t.events))
     → Logged end.WriteFault gives runs_out tells terms p begun now
-behind-part gives stands runs_out tells terms p asks k true begun now t = taking-fault gives stands runs_out tells (InPart tells) terms p asks ClientEnd k begun now (λ bytes x. x) t
-behind-part gives stands runs_out tells terms p asks k false begun now h = at-fault gives stands runs_out tells (InPart tells) terms p asks k begun now (λ bytes x. x) h.at (inl h.just_came)
+lines-part gives stands runs_out before tells terms p asks e k k1 sent lines begun d0 d1 d2 now dropped refused t prepared same w1 w2 called drop refuse told =
+    let h = has-sent gives stands before terms p asks e k k1 sent lines begun d0 d1 d2 t prepared same w1 w2 in
+    let all = closed-behind refused dropped w2.behind in
+    record {
+      calls = all;
+      called = called;
+      settled = closed-settled terms p asks e t.events w2.behind refused dropped h (drop ∙ dropped-is p t.events e sent lines prepared) (refuse ∙ ap (refuses Host) prepared.refusals);
+      written = subst (λ (es : List LinkEvent). WroteInPart tells terms p es all) (sym (closed-events refused dropped w2.behind e t.events h.events-are))
+          (closed-part terms p tells e t.events all (dropped && ends_next e true) (closed-written refused dropped terms p w2.behind (e ∷ t.events) h.written)
+          (part-least tells (told_of p (events_before all)) (told_of p t.events) (told_of p (e ∷ t.events)) (before-same p t.events w2.behind all (closed-before refused dropped w2.behind) h.told_before) told));
+      ended = inl (closed-just refused dropped w2.behind h.just_came);
+    }
 
 -- a front of what it sends was written to a side that is up
 pub front-in : (all front back more written : List ℕ) → written ≡ all ++ front → more ≡ front ++ back → IsFront written (all ++ more)
@@ -299,7 +357,7 @@ client-part gives stands runs_out tells terms p asks e k k1 sent lines bytes beg
           (ap (λ (u : Bool). cond u (gained p.to_client t.events e) []) (sym (ap (λ (q : Rounds). q.client_up) same ∙ t.client_up) ∙ f.is_up) ∙ sym prepared.client ∙ sym is ∙ f.parts);
       host = front-of-more (sent_to_host (is_some terms.host) p t.events) _ (went Host f.wrote.behind) (f.wrote.other-is ∙ t.written.host);
     };
-    told = part-more tells (told_of p t.events) _ (told-all tells (told_of p t.events) t.told);
+    told = part-more tells (told_of p (events_before f.wrote.behind)) (told_of p t.events) _ (told-all tells (told_of p (events_before f.wrote.behind)) (told_of p t.events) (before-same p t.events t.calls f.wrote.behind f.wrote.before-are t.told_before) t.told);
   });
   ended = f.failed;
 }
@@ -321,7 +379,7 @@ host-part gives stands runs_out tells terms p asks e k k1 sent lines bytes begun
       host = front-in (sent_to_host (is_some terms.host) p t.events) f.front f.back _ (went Host f.wrote.behind) (f.wrote.side-is ∙ ap (λ (l : List ℕ). l ++ f.front) (w1.other-is ∙ t.written.host))
           (ap (λ (u : Bool). cond u (gained p.to_host t.events e) []) (sym (ap (λ (q : Rounds). q.host_up) same ∙ t.host_up) ∙ f.is_up) ∙ sym prepared.host ∙ sym is ∙ f.parts);
     };
-    told = part-more tells (told_of p t.events) _ (told-all tells (told_of p t.events) t.told);
+    told = part-more tells (told_of p (events_before f.wrote.behind)) (told_of p t.events) _ (told-all tells (told_of p (events_before f.wrote.behind)) (told_of p t.events) (before-same p t.events t.calls f.wrote.behind (f.wrote.before-are ∙ w1.before-are) t.told_before) t.told);
   });
   ended = f.failed;
 }

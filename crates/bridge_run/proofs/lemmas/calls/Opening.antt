@@ -12,9 +12,10 @@ use Rattle.bridge_run.specs.declared.serve_end.ServeEnd.TheVariants as end
 use Rattle.bridge_run.specs.Prescribed.{Prescribed, first_of}
 use Rattle.bridge_run.specs.Ups.{client_behind, host_since, told_of, up_by}
 use Rattle.bridge_run.specs.Asks.{Ask, asks_of, taken}
-use Rattle.bridge_run.specs.Log.{Terms, events_of, IsWritten, is_up, is_over, Settled, WroteInPart, Logged}
+use Rattle.bridge_run.specs.Log.{Terms, events_of, events_before, IsWritten, is_up, is_over, Settled, WroteInPart, Logged}
 use Rattle.bridge_run.specs.inner.Keeping.{begun as fresh}
 use Rattle.bridge_run.specs.inner.Logging.{RoundBegins, IsAsking, WroteMore, FailedBehind, HasOpened, OpenFailed, OpenLogs}
+use Rattle.bridge_run.proofs.lemmas.calls.Log.{front-whole}
 use Rattle.bridge_run.proofs.lemmas.calls.Sink.{told-all}
 
 -- whom it dials, its door, whether there is a tape, and how long it goes on
@@ -28,7 +29,7 @@ pub nothing-before : {D : Type 0} → (gives : D → Call → D → Type 0) (run
 nothing-before gives runs_out tells terms p now none = record { calls = []; called = refl; settled = tt; written = (refl, none); ended = tt }
 
 pub dial-failed : {D : Type 0} → (gives : D → Call → D → Type 0) (p : Prescribed) (host door : List ℕ) (taped : Bool) (idle budget : ℕ) (failed : Fault) (begun now : D) → gives begun (Dial host (Err failed)) now → OpenFailed Host gives (with_host host door taped idle budget) p begun now
-dial-failed gives p host door taped idle budget failed begun now g = record { calls = Dial host (Err failed) ∷ []; called = (begun, (refl, g)); settled = (tt, (refl, refl)); none = refl; written = record { client = ([], refl); host = (_, refl) }; failed = refl }
+dial-failed gives p host door taped idle budget failed begun now g = record { calls = Dial host (Err failed) ∷ []; called = (begun, (refl, g)); settled = (tt, (refl, refl)); none = refl; none_before = refl; written = record { client = ([], refl); host = (_, refl) }; failed = refl }
 
 -- the host was dialled, and the door is asked for
 abbrev pub asked : (host door : List ℕ) → Result (Unit {0}) Fault → List Call
@@ -58,6 +59,7 @@ listen-failed gives p host door taped idle budget failed begun mid now g g2 = re
   called = was-asked gives host door (Err failed) begun mid now g g2;
   settled = asked-settled host door taped idle budget p (Err failed);
   none = refl;
+  none_before = refl;
   written = record { client = ([], refl); host = (_, refl) };
   failed = refl;
 }
@@ -69,6 +71,7 @@ hello-failed gives p host door taped idle budget up hello begun now is f = recor
   called = f.wrote.called;
   settled = f.wrote.settled (with_host host door taped idle budget) p (asked-settled host door taped idle budget p (Ok tt));
   none = f.wrote.events-are;
+  none_before = f.wrote.before-are;
   written = record {
     client = ([], sym f.wrote.other-is ∙ sym (append-nil (went Client f.wrote.behind)));
     host = (f.back, sym is ∙ f.parts ∙ ap (λ (l : List ℕ). l ++ f.back) (sym f.wrote.side-is));
@@ -84,6 +87,7 @@ hello-sent gives p host door taped idle budget hello begun now is w = record {
   settled = w.settled (with_host host door taped idle budget) p (asked-settled host door taped idle budget p (Ok tt));
   asked = w.asks-are;
   none = w.events-are;
+  none_before = w.before-are;
   links = λ of. w.links of ∙ asked-links of host door taped idle budget p;
   written = record { client = w.other-is; host = w.side-is ∙ is };
 }
@@ -100,7 +104,7 @@ open-logged (end.LinkFault side) gives runs_out tells terms p begun now none o =
   calls = o.calls;
   called = o.called;
   settled = o.settled;
-  written = subst (λ (es : List LinkEvent). WroteInPart tells terms p es o.calls) (sym o.none) (record { links = o.written; told = told-all tells [] none });
+  written = subst (λ (es : List LinkEvent). WroteInPart tells terms p es o.calls) (sym o.none) (record { links = o.written; told = told-all tells (told_of p (events_before o.calls)) [] (front-whole [] _ (ap (told_of p) o.none_before)) none });
   ended = o.failed;
 }
 open-logged (end.Ended refused) gives runs_out tells terms p begun now none o = absurd o
@@ -119,9 +123,9 @@ same-waits : (idle waits : ℕ) → waits ≡ idle → waits ≤ idle
 same-waits idle waits is = omega arith
 
 -- nothing has come
-begun-asking : {D : Type 0} → (gives : D → Call → D → Type 0) (stands : List LinkEvent → Type 0) (tells : List ℕ → Type 0) (terms : Terms) (p : Prescribed) (up : Bool) (k : Rounds) (begun now : D) (calls : List Call) → Called gives calls begun now → Settled terms p calls → asks_of calls ≡ [] → events_of calls ≡ []
+begun-asking : {D : Type 0} → (gives : D → Call → D → Type 0) (stands : List LinkEvent → Type 0) (tells : List ℕ → Type 0) (terms : Terms) (p : Prescribed) (up : Bool) (k : Rounds) (begun now : D) (calls : List Call) → Called gives calls begun now → Settled terms p calls → asks_of calls ≡ [] → events_of calls ≡ [] → events_before calls ≡ []
     → ((of : Side) → up_by of calls ≡ is_up of terms p []) → IsWritten terms p [] calls → stands [] → tells [] → p.refusals [] ≡ [] → up ≡ is_some terms.host → 0 < terms.idle → 0 < terms.budget → k ≡ fresh up terms.idle terms.budget → IsAsking RoundBegins gives stands tells terms p k begun now
-begun-asking gives stands tells terms p up k begun now calls called settled asks none links w st told refusals host idle budget kept = record {
+begun-asking gives stands tells terms p up k begun now calls called settled asks none before links w st told refusals host idle budget kept = record {
   asks = [];
   on = record {
     at = record {
@@ -132,6 +136,7 @@ begun-asking gives stands tells terms p up k begun now calls called settled asks
       stands_for = subst stands (sym none) st;
       written = subst (λ (es : List LinkEvent). IsWritten terms p es calls) (sym none) w;
       told = subst (λ (es : List LinkEvent). tells (told_of p es)) (sym none) told;
+      told_before = front-whole (told_of p (events_of calls)) _ (ap (told_of p) (before ∙ sym none));
       left = all-left terms.budget k.left (ap (λ (q : Rounds). q.left) kept);
       client_up = ap (λ (q : Rounds). q.client_up) kept ∙ ap (client_behind p) (sym none);
       host_up = ap (λ (q : Rounds). q.host_up) kept ∙ host ∙ ap (host_since (is_some terms.host) p) (sym none);
@@ -148,7 +153,7 @@ begun-asking gives stands tells terms p up k begun now calls called settled asks
 pub opened-at : {D : Type 0} → (gives : D → Call → D → Type 0) (stands : List LinkEvent → Type 0) (tells : List ℕ → Type 0) (host door : List ℕ) (taped : Bool) (idle budget : ℕ) (p : Prescribed) (k : Rounds) (begun now : D) → HasOpened gives (with_host host door taped idle budget) p begun now → stands [] → tells []
     → p.refusals [] ≡ [] → 0 < idle → 0 < budget → k ≡ fresh true idle budget → IsAsking RoundBegins gives stands tells (with_host host door taped idle budget) p k begun now
 opened-at gives stands tells host door taped idle budget p k begun now o st told refusals some much kept =
-    begun-asking gives stands tells (with_host host door taped idle budget) p true k begun now o.calls o.called o.settled o.asked o.none o.links o.written st told refusals refl some much kept
+    begun-asking gives stands tells (with_host host door taped idle budget) p true k begun now o.calls o.called o.settled o.asked o.none o.none_before o.links o.written st told refusals refl some much kept
 
 -- with no host the door is made, and that is all
 pub door-failed : {D : Type 0} → (gives : D → Call → D → Type 0) (runs_out : List LinkEvent → LinkEvent → List ℕ → List ℕ → Type 0) (tells : List ℕ → Type 0) (p : Prescribed) (door : List ℕ) (idle budget : ℕ) (failed : Fault) (begun now : D) → gives begun (Listen door (Err failed)) now → tells []
@@ -157,11 +162,11 @@ door-failed gives runs_out tells p door idle budget failed begun now g none = re
   calls = Listen door (Err failed) ∷ [];
   called = (begun, (refl, g));
   settled = (tt, (refl, refl));
-  written = record { links = record { client = ([], refl); host = ([], refl) }; told = told-all tells [] none };
+  written = record { links = record { client = ([], refl); host = ([], refl) }; told = told-all tells [] [] ([], refl) none };
   ended = refl;
 }
 
 pub door-at : {D : Type 0} → (gives : D → Call → D → Type 0) (stands : List LinkEvent → Type 0) (tells : List ℕ → Type 0) (p : Prescribed) (k : Rounds) (idle budget : ℕ) (door : List ℕ) (answer : Result (Unit {0}) Fault) (begun now : D) → gives begun (Listen door answer) now → stands [] → tells []
     → p.refusals [] ≡ [] → 0 < idle → 0 < budget → k ≡ fresh false idle budget → IsAsking RoundBegins gives stands tells (no_host door idle budget) p k begun now
 door-at gives stands tells p k idle budget door answer begun now g st told refusals some much kept =
-    begun-asking gives stands tells (no_host door idle budget) p false k begun now (Listen door answer ∷ []) (begun, (refl, g)) (tt, (refl, refl)) refl refl (λ of. door-links of door answer idle budget p) (record { client = refl; host = refl }) st told refusals refl some much kept
+    begun-asking gives stands tells (no_host door idle budget) p false k begun now (Listen door answer ∷ []) (begun, (refl, g)) (tt, (refl, refl)) refl refl refl (λ of. door-links of door answer idle budget p) (record { client = refl; host = refl }) st told refusals refl some much kept

@@ -26,6 +26,7 @@ at-kept gives stands tells terms p asks k k' begun now left client host refused 
     stands_for = a.at.stands_for;
     written = a.at.written;
     told = a.at.told;
+    told_before = a.at.told_before;
     left = left ∙ a.at.left;
     client_up = client ∙ a.at.client_up;
     host_up = host ∙ a.at.host_up;

@@ -16,10 +16,10 @@ use Rattle.bridge_run.specs.Prescribed.{Prescribed, first_of}
 use Rattle.bridge_run.specs.Calls.{piece, end_of}
 use Rattle.bridge_run.specs.Ups.{client_at, client_behind, host_at, host_since, told_of, up_by}
 use Rattle.bridge_run.specs.Asks.{Ask, ForClient, OfSide, asks_of, taken, taken_by, has_just_come, quiet_rounds, is_behind_host, is_behind_client}
-use Rattle.bridge_run.specs.Log.{Terms, events_of, IsWritten, is_up, is_over, AsksSettled, JustCame, MayBegin, MayAsk, BeginsRound, IsTurnOf, Logged}
+use Rattle.bridge_run.specs.Log.{Terms, events_of, events_before, IsWritten, is_up, is_over, AsksSettled, JustCame, MayBegin, MayAsk, BeginsRound, IsTurnOf, Logged}
 use Rattle.bridge_run.specs.inner.Keeping.{up_of, with_up, chances_of, Wears, one_if}
 use Rattle.bridge_run.specs.inner.Logging.{IsAt, up_at, IsOn, IsTaking, HappenLogs, IsResting, RoundBegins, DoorAsked, IsPatient, HasWaited, Waits, DoorTurn, HasTurn, stage_of, stage_behind, IsAsking, Logs}
-use Rattle.bridge_run.proofs.lemmas.calls.Log.{failed-logs}
+use Rattle.bridge_run.proofs.lemmas.calls.Log.{front-whole, failed-logs}
 use Rattle.bridge_run.proofs.lemmas.calls.Resting.{begins-of}
 
 -- ---- whom a round asks
@@ -103,10 +103,10 @@ some-left b t n none is = omega arith
 
 -- a call whose answer is an event, which is still to be taken
 brings-taking : {D : Type 0} → (gives : D → Call → D → Type 0) (stands : List LinkEvent → Type 0) (tells : List ℕ → Type 0) (terms : Terms) (p : Prescribed) (asks : List Ask) (ask : Ask) (call : Call) (e : LinkEvent) (k k' : Rounds) (begun d0 d1 : D) → (at : IsAt gives stands tells terms p asks k begun d0) → gives d0 call d1
-    → AsksSettled terms p call at.calls → asks_of (call ∷ at.calls) ≡ ask ∷ asks_of at.calls → events_of (call ∷ at.calls) ≡ e ∷ events_of at.calls → JustCame (call ∷ at.calls) → IsWritten terms p (events_of at.calls) (call ∷ at.calls)
+    → AsksSettled terms p call at.calls → asks_of (call ∷ at.calls) ≡ ask ∷ asks_of at.calls → events_of (call ∷ at.calls) ≡ e ∷ events_of at.calls → events_before (call ∷ at.calls) ≡ events_of at.calls → JustCame (call ∷ at.calls) → IsWritten terms p (events_of at.calls) (call ∷ at.calls)
     → k'.left ≡ terms.budget - taken (ask ∷ asks) → k'.client_up ≡ client_at e (client_behind p (events_of at.calls)) → k'.host_up ≡ host_at e (host_since (is_some terms.host) p (events_of at.calls)) → ((of : Side) → up_by of (call ∷ at.calls) ≡ up_at of terms p e (events_of at.calls)) → k'.refused ≡ k.refused
     → IsTaking gives stands tells terms p (ask ∷ asks) e k' begun d1
-brings-taking gives stands tells terms p asks ask call e k k' begun d0 d1 at g may asked brings came written left client host links refused = record {
+brings-taking gives stands tells terms p asks ask call e k k' begun d0 d1 at g may asked brings before came written left client host links refused = record {
   calls = call ∷ at.calls;
   called = (d0, (at.called, g));
   settled = (at.settled, may);
@@ -117,6 +117,7 @@ brings-taking gives stands tells terms p asks ask call e k k' begun d0 d1 at g m
   stands_for = at.stands_for;
   written = written;
   told = at.told;
+  told_before = front-whole (told_of p (events_of at.calls)) _ (ap (told_of p) before);
   left = left;
   client_up = client;
   host_up = host;
@@ -126,9 +127,9 @@ brings-taking gives stands tells terms p asks ask call e k k' begun d0 d1 at g m
 
 -- a call whose answer is no event, and brings nothing
 quiet-on : {D : Type 0} → (gives : D → Call → D → Type 0) (stands : List LinkEvent → Type 0) (tells : List ℕ → Type 0) (terms : Terms) (p : Prescribed) (asks : List Ask) (ask : Ask) (call : Call) (k : Rounds) (begun d0 d1 : D) → (on : IsOn gives stands tells terms p asks k begun d0) → gives d0 call d1
-    → AsksSettled terms p call on.at.calls → written_by Client call ≡ [] → written_by Host call ≡ [] → asks_of (call ∷ on.at.calls) ≡ ask ∷ asks_of on.at.calls → events_of (call ∷ on.at.calls) ≡ events_of on.at.calls → ((of : Side) → up_by of (call ∷ on.at.calls) ≡ up_by of on.at.calls) → taken_by ask ≡ 0
+    → AsksSettled terms p call on.at.calls → written_by Client call ≡ [] → written_by Host call ≡ [] → asks_of (call ∷ on.at.calls) ≡ ask ∷ asks_of on.at.calls → events_of (call ∷ on.at.calls) ≡ events_of on.at.calls → events_before (call ∷ on.at.calls) ≡ events_of on.at.calls → ((of : Side) → up_by of (call ∷ on.at.calls) ≡ up_by of on.at.calls) → taken_by ask ≡ 0
     → IsOn gives stands tells terms p (ask ∷ asks) k begun d1
-quiet-on gives stands tells terms p asks ask call k begun d0 d1 on g may client host asked same links none =
+quiet-on gives stands tells terms p asks ask call k begun d0 d1 on g may client host asked same before links none =
     let at = on.at in
     let same' = sym same in
     record {
@@ -140,6 +141,7 @@ quiet-on gives stands tells terms p asks ask call k begun d0 d1 on g may client 
         stands_for = subst stands same' at.stands_for;
         written = subst (λ (events : List LinkEvent). IsWritten terms p events (call ∷ at.calls)) same' (quiet-written terms p (events_of at.calls) at.calls call client host at.written);
         told = subst (λ (events : List LinkEvent). tells (told_of p events)) same' at.told;
+        told_before = front-whole (told_of p (events_of (call ∷ at.calls))) _ (ap (told_of p) (before ∙ same'));
         left = all-left terms.budget (taken asks) (taken_by ask) k.left none at.left;
         client_up = at.client_up ∙ ap (client_behind p) same';
         host_up = at.host_up ∙ ap (host_since (is_some terms.host) p) same';
@@ -188,7 +190,7 @@ pub took-taking : {D : Type 0} → (gives : D → Call → D → Type 0) (stands
 took-taking gives stands tells terms p side n buf k k' begun d0 d1 a up g kept =
     let at = a.on.at in
     let events = events_of at.calls in
-    brings-taking gives stands tells terms p a.asks (OfSide side (Took n)) (Poll side (Took n) buf) (piece side (take n buf)) k k' begun d0 d1 at g (may-poll side gives stands tells terms p k begun d0 up a) refl refl tt
+    brings-taking gives stands tells terms p a.asks (OfSide side (Took n)) (Poll side (Took n) buf) (piece side (take n buf)) k k' begun d0 d1 at g (may-poll side gives stands tells terms p k begun d0 up a) refl refl refl tt
     (quiet-written terms p events at.calls (Poll side (Took n) buf) refl refl at.written) (ap (λ (q : Rounds). q.left) kept ∙ less-left terms.budget (taken a.asks) n k.left at.left)
     (ap (λ (q : Rounds). q.client_up) kept ∙ at.client_up ∙ sym (client-in side (take n buf) (client_behind p events)))
     (ap (λ (q : Rounds). q.host_up) kept ∙ at.host_up ∙ sym (host-in side (take n buf) (host_since (is_some terms.host) p events)))
@@ -199,10 +201,10 @@ pub rest-resting : {D : Type 0} → (gives : D → Call → D → Type 0) (stand
     → up_of side k ≡ true → gives d0 (Poll side NotYet buf) d1 → IsResting side gives stands tells terms p (OfSide side NotYet ∷ a.asks) k begun d1
 rest-resting gives stands tells terms p Client buf k begun d0 d1 a up g =
     let at = a.on.at in
-    brings-taking gives stands tells terms p a.asks (OfSide Client NotYet) (Poll Client NotYet buf) ClientQuiet k k begun d0 d1 at g (may-poll Client gives stands tells terms p k begun d0 up a) refl refl tt
+    brings-taking gives stands tells terms p a.asks (OfSide Client NotYet) (Poll Client NotYet buf) ClientQuiet k k begun d0 d1 at g (may-poll Client gives stands tells terms p k begun d0 up a) refl refl refl tt
     (quiet-written terms p (events_of at.calls) at.calls (Poll Client NotYet buf) refl refl at.written) (same-left terms.budget (taken a.asks) k.left at.left) at.client_up at.host_up (λ of. quiet-links of buf terms p at.calls (at.links of)) refl
 rest-resting gives stands tells terms p Host buf k begun d0 d1 a up g =
-    quiet-on gives stands tells terms p a.asks (OfSide Host NotYet) (Poll Host NotYet buf) k begun d0 d1 a.on g (may-poll Host gives stands tells terms p k begun d0 up a) refl refl refl refl (λ of. rest-links Host of buf a.on.at.calls) refl
+    quiet-on gives stands tells terms p a.asks (OfSide Host NotYet) (Poll Host NotYet buf) k begun d0 d1 a.on g (may-poll Host gives stands tells terms p k begun d0 up a) refl refl refl refl refl (λ of. rest-links Host of buf a.on.at.calls) refl
 
 -- a side's end takes its link down, and leaves the other's, what may still come, and the first refusal
 down-left : (side : Side) (k k' : Rounds) → k' ≡ record (with_up side k) { busy = true } → k'.left ≡ k.left
@@ -226,21 +228,21 @@ pub end-taking : {D : Type 0} → (gives : D → Call → D → Type 0) (stands 
 end-taking gives stands tells terms p side buf k k' begun d0 d1 a up g kept =
     let at = a.on.at in
     let events = events_of at.calls in
-    brings-taking gives stands tells terms p a.asks (OfSide side Ended) (Poll side Ended buf) (end_of side) k k' begun d0 d1 at g (may-poll side gives stands tells terms p k begun d0 up a) refl refl tt
+    brings-taking gives stands tells terms p a.asks (OfSide side Ended) (Poll side Ended buf) (end_of side) k k' begun d0 d1 at g (may-poll side gives stands tells terms p k begun d0 up a) refl refl refl tt
     (quiet-written terms p events at.calls (Poll side Ended buf) refl refl at.written) (down-left side k k' kept ∙ same-left terms.budget (taken a.asks) k.left at.left)
     (down-client side k k' (client_behind p events) kept at.client_up) (down-host side k k' (host_since (is_some terms.host) p events) kept at.host_up) (λ of. end-links side of buf terms p at.calls (at.links of)) (down-refused side k k' kept)
 
 pub poll-failed : {D : Type 0} → (gives : D → Call → D → Type 0) (stands : List LinkEvent → Type 0) (runs_out : List LinkEvent → LinkEvent → List ℕ → List ℕ → Type 0) (tells : List ℕ → Type 0) (terms : Terms) (p : Prescribed) (side : Side) (buf : List ℕ) (k : Rounds) (begun d0 d1 : D) → IsAsking (stage_of side) gives stands tells terms p k begun d0
     → up_of side k ≡ true → gives d0 (Poll side Failed buf) d1 → Logged (end.LinkFault side) gives runs_out tells terms p begun d1
 poll-failed gives stands runs_out tells terms p side buf k begun d0 d1 a up g =
-    failed-logs gives stands runs_out tells terms p a.asks side (Poll side Failed buf) k begun d0 d1 a.on.at (d0, (a.on.at.called, g)) (a.on.at.settled, may-poll side gives stands tells terms p k begun d0 up a) refl
+    failed-logs gives stands runs_out tells terms p a.asks side (Poll side Failed buf) k begun d0 d1 a.on.at (d0, (a.on.at.called, g)) (a.on.at.settled, may-poll side gives stands tells terms p k begun d0 up a) refl refl
     (quiet-written terms p (events_of a.on.at.calls) a.on.at.calls (Poll side Failed buf) refl refl a.on.at.written) refl
 
 pub came-taking : {D : Type 0} → (gives : D → Call → D → Type 0) (stands : List LinkEvent → Type 0) (tells : List ℕ → Type 0) (terms : Terms) (p : Prescribed) (k k' : Rounds) (begun d0 d1 : D) → k.client_up ≡ false → (a : IsAsking RoundBegins gives stands tells terms p k begun d0) → gives d0 (Accept (Ok true)) d1
     → k' ≡ record k { client_up = true; busy = true; left = k.left - 1 } → IsTaking gives stands tells terms p (ForClient (Ok true) ∷ a.asks) ClientComes k' begun d1
 came-taking gives stands tells terms p k k' begun d0 d1 down a g kept =
     let at = a.on.at in
-    brings-taking gives stands tells terms p a.asks (ForClient (Ok true)) (Accept (Ok true)) ClientComes k k' begun d0 d1 at g (may-accept gives stands tells terms p k begun d0 down a) refl refl tt
+    brings-taking gives stands tells terms p a.asks (ForClient (Ok true)) (Accept (Ok true)) ClientComes k k' begun d0 d1 at g (may-accept gives stands tells terms p k begun d0 down a) refl refl refl tt
     (quiet-written terms p (events_of at.calls) at.calls (Accept (Ok true)) refl refl at.written) (ap (λ (q : Rounds). q.left) kept ∙ less-left terms.budget (taken a.asks) 1 k.left at.left)
     (ap (λ (q : Rounds). q.client_up) kept) (ap (λ (q : Rounds). q.host_up) kept ∙ at.host_up) (λ of. client-links of terms p at.calls (at.links of)) (ap (λ (q : Rounds). q.refused) kept)
 
@@ -251,7 +253,7 @@ pub nobody-at : {D : Type 0} → (gives : D → Call → D → Type 0) (stands :
     → IsAsking DoorAsked gives stands tells terms p k begun d1
 nobody-at gives stands tells terms p k begun d0 d1 a down g = record {
   asks = ForClient (Ok false) ∷ a.asks;
-  on = quiet-on gives stands tells terms p a.asks (ForClient (Ok false)) (Accept (Ok false)) k begun d0 d1 a.on g (may-accept gives stands tells terms p k begun d0 down a) refl refl refl refl (λ of. nobody-links of a.on.at.calls) refl;
+  on = quiet-on gives stands tells terms p a.asks (ForClient (Ok false)) (Accept (Ok false)) k begun d0 d1 a.on g (may-accept gives stands tells terms p k begun d0 down a) refl refl refl refl refl (λ of. nobody-links of a.on.at.calls) refl;
   patient = a.patient;
   waited = record {
     came = λ up. absurd (false≢true (sym down ∙ up));
@@ -264,7 +266,7 @@ nobody-at gives stands tells terms p k begun d0 d1 a down g = record {
 pub accept-failed : {D : Type 0} → (gives : D → Call → D → Type 0) (stands : List LinkEvent → Type 0) (runs_out : List LinkEvent → LinkEvent → List ℕ → List ℕ → Type 0) (tells : List ℕ → Type 0) (terms : Terms) (p : Prescribed) (failed : Fault) (k : Rounds) (begun d0 d1 : D) → k.client_up ≡ false → IsAsking RoundBegins gives stands tells terms p k begun d0
     → gives d0 (Accept (Err failed)) d1 → Logged (end.LinkFault Client) gives runs_out tells terms p begun d1
 accept-failed gives stands runs_out tells terms p failed k begun d0 d1 down a g =
-    failed-logs gives stands runs_out tells terms p a.asks Client (Accept (Err failed)) k begun d0 d1 a.on.at (d0, (a.on.at.called, g)) (a.on.at.settled, may-accept gives stands tells terms p k begun d0 down a) refl
+    failed-logs gives stands runs_out tells terms p a.asks Client (Accept (Err failed)) k begun d0 d1 a.on.at (d0, (a.on.at.called, g)) (a.on.at.settled, may-accept gives stands tells terms p k begun d0 down a) refl refl
     (quiet-written terms p (events_of a.on.at.calls) a.on.at.calls (Accept (Err failed)) refl refl a.on.at.written) refl
 
 -- ---- behind an answer

@@ -10,7 +10,7 @@ use Rattle.bridge_run.specs.Events.{LinkEvent}
 use Rattle.bridge_run.specs.declared.sent.Sent.{Sent}
 use Rattle.bridge_run.specs.Prescribed.{Prescribed, gained}
 use Rattle.bridge_run.specs.Ups.{told_of}
-use Rattle.bridge_run.specs.Log.{Told, InPart}
+use Rattle.bridge_run.specs.Log.{Told, IsFront, InPart}
 use Rattle.bridge_run.specs.inner.Follows.{Prepared}
 
 -- nothing was told
@@ -33,10 +33,11 @@ told-event gives p events e sent lines given old mid new prepared is before m =
 
 -- a front of them was
 pub told-front : {S : Type 0} (gives : S → List ℕ → Result ℕ Failed → S → Type 0) (p : Prescribed) (events : List LinkEvent) (e : LinkEvent) (sent : Sent) (lines given : List ℕ) (old mid new : S) → Prepared p events e sent lines → given ≡ lines
-    → Told gives old mid (told_of p events) → MovesFront gives given mid new → InPart (Told gives old new) (told_of p (e ∷ events))
+    → Told gives old mid (told_of p events) → MovesFront gives given mid new → InPart (Told gives old new) (told_of p events) (told_of p (e ∷ events))
 told-front gives p events e sent lines given old mid new prepared is before f = (
   told_of p events ++ f.front,
   (
+    (f.front, refl),
     (f.back, ap (λ (l : List ℕ). told_of p events ++ l) (sym (lines-of p events e sent lines prepared) ∙ sym is ∙ f.parts) ∙ sym (append_assoc (told_of p events) f.front f.back)),
     told-more gives (told_of p events) f.front old mid new before f.moves,
   ),
@@ -44,10 +45,21 @@ told-front gives p events e sent lines given old mid new prepared is before f = 
 
 -- ---- in part
 
+-- a front of a part is one of the whole
+pub front-more : (front bytes more : List ℕ) → IsFront front bytes → IsFront front (bytes ++ more)
+front-more front bytes more f = (f.0 ++ more, ap (λ (l : List ℕ). l ++ more) f.1 ∙ append_assoc front f.0 more)
+
+front-of-front : (a b c : List ℕ) → IsFront a b → IsFront b c → IsFront a c
+front-of-front a b c f h = (f.0 ++ h.0, h.1 ∙ ap (λ (l : List ℕ). l ++ h.0) f.1 ∙ append_assoc a f.0 h.0)
+
 -- all of the lines
-pub told-all : (tells : List ℕ → Type 0) (bytes : List ℕ) → tells bytes → InPart tells bytes
-told-all tells bytes t = (bytes, (([], sym (append-nil bytes)), t))
+pub told-all : (tells : List ℕ → Type 0) (least bytes : List ℕ) → IsFront least bytes → tells bytes → InPart tells least bytes
+told-all tells least bytes few t = (bytes, (few, ([], sym (append-nil bytes)), t))
 
 -- and more are due
-pub part-more : (tells : List ℕ → Type 0) (bytes more : List ℕ) → InPart tells bytes → InPart tells (bytes ++ more)
-part-more tells bytes more t = (t.0, ((t.1.0.0 ++ more, ap (λ (l : List ℕ). l ++ more) t.1.0.1 ∙ append_assoc t.0 t.1.0.0 more), t.1.1))
+pub part-more : (tells : List ℕ → Type 0) (least bytes more : List ℕ) → InPart tells least bytes → InPart tells least (bytes ++ more)
+part-more tells least bytes more t = (t.0, (t.1.0, front-more t.0 bytes more t.1.1, t.1.2))
+
+-- fewer are there at least
+pub part-least : (tells : List ℕ → Type 0) (fewer least bytes : List ℕ) → IsFront fewer least → InPart tells least bytes → InPart tells fewer bytes
+part-least tells fewer least bytes few t = (t.0, (front-of-front fewer least t.0 few t.1.0, t.1.1, t.1.2))

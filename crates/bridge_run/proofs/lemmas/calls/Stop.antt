@@ -15,13 +15,13 @@ use Rattle.bridge_run.specs.Recorded.{has_any}
 use Rattle.bridge_run.specs.Ups.{client_at, client_behind, host_at, host_since, to_clients, sent_to_host, told_of}
 use Rattle.bridge_run.specs.Asks.{Ask}
 use Rattle.bridge_run.specs.RanOut.{Untold, is_recorded, RanOut}
-use Rattle.bridge_run.specs.Log.{Terms, IsFront, JustCame, CameOrNone, WroteInPart, WroteBefore, Logged}
+use Rattle.bridge_run.specs.Log.{Terms, events_before, IsFront, JustCame, CameOrNone, WroteInPart, WroteBefore, Logged}
 use Rattle.bridge_run.specs.inner.Follows.{Prepared}
 use Rattle.bridge_run.specs.inner.Logging.{IsTaking, WroteMore, all_if, FailedBehind}
 use Rattle.bridge_run.specs.inner.Recording.{TapeFaults}
 use Rattle.bridge_run.specs.inner.Sends.{IsPart}
 use Rattle.bridge_run.specs.inner.Stopping.{IsStopping, HasStopped, StopFailed, StopLogs}
-use Rattle.bridge_run.proofs.lemmas.calls.Log.{taking-fault, front-whole, front-of-more, front-in}
+use Rattle.bridge_run.proofs.lemmas.calls.Log.{before-same, taking-fault, front-whole, front-of-more, front-in}
 use Rattle.bridge_run.proofs.lemmas.calls.Sink.{told-all, part-more}
 
 has-none : (xs : List ℕ) → has_any xs ≡ false → xs ≡ []
@@ -59,6 +59,7 @@ stopping gives stands tells terms p asks e k k1 begun now same t = record {
   events-are = t.events-are;
   just_came = t.just_came;
   written = t.written;
+  told_before = t.told_before;
   client_up = ap (λ (q : Rounds). q.client_up) same ∙ t.client_up;
   host_up = ap (λ (q : Rounds). q.host_up) same ∙ t.host_up;
 }
@@ -97,6 +98,7 @@ stop-failed gives terms p e events k begun now s = record {
     client = front-of-more (to_clients p events) _ (went Client s.calls) s.written.client;
     host = front-of-more (sent_to_host (is_some terms.host) p events) _ (went Host s.calls) s.written.host;
   };
+  told_before = s.told_before;
 }
 
 pub stop-tape : {D : Type 0} → (x : ServeEnd) (old new : Counts) (gives : D → Call → D → Type 0) (runs_out : List LinkEvent → LinkEvent → List ℕ → List ℕ → Type 0) (terms : Terms) (p : Prescribed) (e : LinkEvent) (events : List LinkEvent) (k : Rounds) (made : Bool) (refusals : List Refusal) (begun now : D)
@@ -137,6 +139,7 @@ stop-client gives runs_out terms p e events k client host bytes begun d0 d1 part
           (ap (λ (u : Bool). cond u (gained p.to_client events e) []) (sym s.client_up ∙ f.is_up) ∙ part.to_client.1 ∙ ap (λ (l : List ℕ). l ++ part.to_client.0) (sym is ∙ f.parts) ∙ append_assoc f.front f.back part.to_client.0);
       host = front-of-more (sent_to_host (is_some terms.host) p events) _ (went Host f.wrote.behind) (f.wrote.other-is ∙ s.written.host);
     };
+    told_before = before-same p events s.calls f.wrote.behind f.wrote.before-are s.told_before;
   };
   failed = f.failed;
 }
@@ -165,6 +168,7 @@ stop-host gives runs_out terms p e events k client host bytes1 bytes2 begun d0 d
       host = front-in (sent_to_host (is_some terms.host) p events) f.front (f.back ++ part.to_host.0) _ (went Host f.wrote.behind) (f.wrote.side-is ∙ ap (λ (l : List ℕ). l ++ f.front) (w1.other-is ∙ s.written.host))
           (ap (λ (u : Bool). cond u (gained p.to_host events e) []) (sym s.host_up ∙ f.is_up) ∙ part.to_host.1 ∙ ap (λ (l : List ℕ). l ++ part.to_host.0) (sym is2 ∙ f.parts) ∙ append_assoc f.front f.back part.to_host.0);
     };
+    told_before = before-same p events s.calls f.wrote.behind (f.wrote.before-are ∙ w1.before-are) s.told_before;
   };
   failed = f.failed;
 }
@@ -209,14 +213,14 @@ stop-logs end.WriteFault gives runs_out tells terms p e events begun now told s 
   calls = s.calls;
   called = s.called;
   settled = s.settled;
-  written = subst (λ (es : List LinkEvent). WroteInPart tells terms p es s.calls) (sym s.events-are) (record { links = s.written; told = part-more tells (told_of p events) _ (told-all tells (told_of p events) told) });
+  written = subst (λ (es : List LinkEvent). WroteInPart tells terms p es s.calls) (sym s.events-are) (record { links = s.written; told = part-more tells (told_of p (events_before s.calls)) (told_of p events) _ (told-all tells (told_of p (events_before s.calls)) (told_of p events) s.told_before told) });
   ended = inl s.just_came;
 }
 stop-logs (end.LinkFault side) gives runs_out tells terms p e events begun now told s = record {
   calls = s.part.calls;
   called = s.part.called;
   settled = s.part.settled;
-  written = subst (λ (es : List LinkEvent). WroteInPart tells terms p es s.part.calls) (sym s.part.events-are) (record { links = s.part.written; told = part-more tells (told_of p events) _ (told-all tells (told_of p events) told) });
+  written = subst (λ (es : List LinkEvent). WroteInPart tells terms p es s.part.calls) (sym s.part.events-are) (record { links = s.part.written; told = part-more tells (told_of p (events_before s.part.calls)) (told_of p events) _ (told-all tells (told_of p (events_before s.part.calls)) (told_of p events) s.part.told_before told) });
   ended = s.failed;
 }
 
@@ -228,7 +232,7 @@ tape-logs (end.Ended refused) old new gives stands runs_out tells terms p asks e
 tape-logs end.Idle old new gives stands runs_out tells terms p asks e k sent lines made begun now is wants taped t prepared = absurd is
 tape-logs end.Spent old new gives stands runs_out tells terms p asks e k sent lines made begun now is wants taped t prepared = absurd is
 tape-logs (end.LinkFault side) old new gives stands runs_out tells terms p asks e k sent lines made begun now is wants taped t prepared = absurd is
-tape-logs end.WriteFault old new gives stands runs_out tells terms p asks e k sent lines made begun now is wants taped t prepared = taking-fault gives stands runs_out tells tells terms p asks e k begun now (told-all tells) t
+tape-logs end.WriteFault old new gives stands runs_out tells terms p asks e k sent lines made begun now is wants taped t prepared = taking-fault gives stands runs_out tells terms p asks e k begun now t
 tape-logs end.Memory old new gives stands runs_out tells terms p asks e k sent lines made begun now is wants taped t prepared =
     stop-logs end.Memory gives runs_out tells terms p e t.events begun now t.told
     (none-written gives runs_out terms p e t.events k [] [] begun now refl refl

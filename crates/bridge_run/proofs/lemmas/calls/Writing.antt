@@ -8,7 +8,7 @@ use Rattle.gate_outside.specs.Calls.{Call, Write, Close, Called, front_of, went}
 use Rattle.bridge_run.specs.Prescribed.{Prescribed}
 use Rattle.bridge_run.specs.Asks.{asks_of}
 use Rattle.bridge_run.specs.Ups.{up_by}
-use Rattle.bridge_run.specs.Log.{Terms, events_of, is_up, Settled, JustCame}
+use Rattle.bridge_run.specs.Log.{Terms, events_of, events_before, is_up, Settled, JustCame}
 use Rattle.bridge_run.specs.inner.Logging.{WroteMore, FailedBehind, closing}
 
 -- ---- writes to a link
@@ -20,6 +20,7 @@ wrote-none gives side calls begun now called = record {
   settled = λ terms p settled. settled;
   asks-are = refl;
   events-are = refl;
+  before-are = refl;
   just_came = λ j. j;
   links = λ of. refl;
   side-is = sym (append-nil (went side calls));
@@ -43,6 +44,7 @@ wrote-call gives side bytes sent answer calls begun mid now w g = record {
   settled = λ terms p settled. (w.settled terms p settled, tt);
   asks-are = w.asks-are;
   events-are = w.events-are;
+  before-are = w.before-are;
   just_came = w.just_came;
   links = w.links;
   side-is = went-side side sent answer w.behind ∙ ap (λ (l : List ℕ). l ++ front_of answer sent) w.side-is ∙ append_assoc (went side calls) bytes (front_of answer sent);
@@ -63,6 +65,7 @@ failed-behind gives side up bytes front back sent failed calls begun mid now is 
     settled = λ terms p settled. (w.settled terms p settled, tt);
     asks-are = w.asks-are;
     events-are = w.events-are;
+    before-are = w.before-are;
     just_came = w.just_came;
     links = w.links;
     side-is = went-side side sent (Err failed) w.behind ∙ append-nil (went side w.behind) ∙ w.side-is;
@@ -106,6 +109,10 @@ host-closing false false calls = and-kept (up_by Host calls)
 pub events-closing : (r : Bool) (calls : List Call) → events_of (closing r Host calls) ≡ events_of calls
 events-closing true calls = refl
 events-closing false calls = refl
+
+pub before-closing : (r : Bool) (of : Side) (calls : List Call) → events_before (closing r of calls) ≡ events_before calls
+before-closing true of calls = refl
+before-closing false of calls = refl
 
 pub asks-closing : (r : Bool) (of : Side) (calls : List Call) → asks_of (closing r of calls) ≡ asks_of calls
 asks-closing true of calls = refl

@@ -9,15 +9,14 @@ use Rattle.bridge_run.specs.declared.rounds.Rounds.{Rounds}
 use Rattle.bridge_run.specs.Prescribed.{refuses}
 use Rattle.bridge_run.specs.Outside.{outside, Tells, gathering, faults}
 use Rattle.bridge_run.specs.declared.serve_end.ServeEnd.{ServeEnd}
-use Rattle.bridge_run.specs.Log.{Logged, Told, InPart}
+use Rattle.bridge_run.specs.Log.{Logged, Told}
 use Rattle.bridge_run.proofs.lemmas.calls.Course.{err-faults}
 use Rattle.bridge_run.specs.inner.Links.{wrote_if, WritesFront}
 use Rattle.bridge_run.specs.inner.Keeping.{refusing}
 use Rattle.bridge_run.proofs.lemmas.events.Put.{due-now, recorded-by, tape-faults, cut-puts, dropped-is, sides-put, put-follows, put-in_entry, put-in_client, put-in_host, put-in_lines, tells-more, tells-front, refusing-none}
-use Rattle.bridge_run.specs.Calls.{ends_next}
 use Rattle.bridge_run.specs.inner.Logging.{WroteMore, all_if, closing}
 use Rattle.bridge_run.proofs.lemmas.calls.Sink.{told-event, told-front}
-use Rattle.bridge_run.proofs.lemmas.calls.Log.{behind-sent, client-part, host-part, behind-part, put-err}
+use Rattle.bridge_run.proofs.lemmas.calls.Log.{behind-sent, client-part, host-part, lines-part, put-err}
 use Rattle.bridge_run.proofs.lemmas.calls.Stop.{stopping, stop-logs, tape-logs}
 use Rattle.bridge_run.proofs.session.Session.put.Goals as goal
 
@@ -168,10 +167,9 @@ returns-in-Err-write_all-clause-log g c = λ first terms asks begun begun_out ta
     let prepared = c.in_default.ensures.prepared first t.events t.stands_for in
     let w1 = subst (λ (b : List ℕ). WroteMore gives Client (all_if k1.client_up b) t.calls begun c.write_link.new.doors) c.as_slice.ensures (c.in_ok-write_link.ensures.log begun t.calls t.called) in
     let w2 = subst (λ (b : List ℕ). WroteMore gives Host (all_if k1.host_up b) w1.behind begun c.write_link-2.new.doors) c.as_slice-2.ensures (c.in_ok-write_link-2.ensures.log begun w1.behind w1.called) in
-    behind-part gives (g.C.Served.stands first c.prepare.new.self.core) (g.C.Served.runs_out first) (Told writes begun_out c.write_all.new.sink) terms p asks c.refuse.new.self (ends_next e c.drops_client-dropped.result) begun c.close_link-2.new.doors
-    (behind-sent gives (g.C.Served.stands first c.args.self.now.core) (g.C.Served.stands first c.prepare.new.self.core) (Told writes begun_out c.args.out.now) (InPart (Told writes begun_out c.write_all.new.sink)) terms p asks e c.args.self.now.rounds k1 c.refuse.new.self c.prepare.new.self.sent c.prepare.new.self.lines begun c.args.doors.now c.write_link.new.doors c.write_link-2.new.doors c.close_link-2.new.doors c.drops_client-dropped.result c.refuses.result
-    t prepared c.prepare.ensures.rounds w1 w2 (c.close_link-2.ensures.log begun (closing c.drops_client-dropped.result Client w2.behind) (c.close_link.ensures.log begun w2.behind w2.called)) c.refuse.ensures c.drops_client-dropped.ensures c.refuses.ensures (c.in_default.ensures.stands first t.events t.stands_for)
-    (told-front writes p t.events e c.prepare.new.self.sent c.prepare.new.self.lines c.as_slice-3.result.now begun_out c.args.out.now c.write_all.new.sink prepared c.as_slice-3.ensures t.told c.in-Err-write_all.ensures.writes_front))
+    lines-part gives (g.C.Served.stands first c.args.self.now.core) (g.C.Served.runs_out first) (Told writes begun_out c.args.out.now) (Told writes begun_out c.write_all.new.sink) terms p asks e c.args.self.now.rounds k1 c.prepare.new.self.sent c.prepare.new.self.lines begun c.args.doors.now c.write_link.new.doors c.write_link-2.new.doors c.close_link-2.new.doors c.drops_client-dropped.result c.refuses.result
+    t prepared c.prepare.ensures.rounds w1 w2 (c.close_link-2.ensures.log begun (closing c.drops_client-dropped.result Client w2.behind) (c.close_link.ensures.log begun w2.behind w2.called)) c.drops_client-dropped.ensures c.refuses.ensures
+    (told-front writes p t.events e c.prepare.new.self.sent c.prepare.new.self.lines c.as_slice-3.result.now begun_out c.args.out.now c.write_all.new.sink prepared c.as_slice-3.ensures t.told c.in-Err-write_all.ensures.writes_front)
 
 pub returns-in-Ok-clause-log : goal.returns-in-Ok-clause-log
 returns-in-Ok-clause-log g c = λ first terms asks begun begun_out taped t.
