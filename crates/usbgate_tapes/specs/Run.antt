@@ -2,7 +2,7 @@
 use Rattle.std.specs.Prelude.{◌≡◌, ◌⊎◌, ◌≤◌, ℕ, ◌+◌, List, [], ◌∷◌, ◌++◌, length, Option, Some}
 use Rattle.usbgate_tapes.specs.declared.status.Status.{Status}
 use Rattle.usbgate_tapes.specs.declared.status.Status.TheVariants.{Done, Usage, Refused, ReadFault, WriteFault, LinkFault, OutOfMemory, BadTape, Idle, Spent}
-use Rattle.usbgate_tapes.specs.tape.Tape.{LF}
+use Rattle.packet_show.specs.Line.{LF}
 use Rattle.usbgate_tapes.specs.tape.TapeCommand.{tape_limit}
 use Rattle.usbgate_tapes.specs.Prescribed.{Prescribed}
 
@@ -46,9 +46,6 @@ pub record WrittenWhole (status : Status) (p : Prescribed) (tape text : List ℕ
 
 -- what of this tape remains, and what the sink then has that had this text
 abbrev pub LeavesTold : Status → Prescribed → List ℕ → List ℕ → Option (List ℕ) → Option (List ℕ) → Type 0
-LeavesTold Done p tape text remaining contents = (remaining ≡ Some (p.rest tape)) × WrittenWhole Done p tape text contents
-LeavesTold Refused p tape text remaining contents = (remaining ≡ Some (p.rest tape)) × WrittenWhole Refused p tape text contents
-LeavesTold Usage p tape text remaining contents = (remaining ≡ Some (p.rest tape)) × WrittenWhole Usage p tape text contents
 LeavesTold (BadTape n) p tape text remaining contents = WrittenWhole (BadTape n) p tape text contents
 LeavesTold ReadFault p tape text remaining contents = ReadInPart p tape text remaining contents
 LeavesTold WriteFault p tape text remaining contents = WrittenInPart p tape text contents
@@ -56,6 +53,7 @@ LeavesTold OutOfMemory p tape text remaining contents = WrittenInPart p tape tex
 LeavesTold (LinkFault side) p tape text remaining contents = ⊥
 LeavesTold Idle p tape text remaining contents = ⊥
 LeavesTold Spent p tape text remaining contents = ⊥
+LeavesTold status p tape text remaining contents = (remaining ≡ Some (p.rest tape)) × WrittenWhole status p tape text contents
 
 -- over a tape and a sink that tell their bytes
 abbrev pub LeavesWhereTold : Status → Prescribed → Option (List ℕ) → Option (List ℕ) → Option (List ℕ) → Option (List ℕ) → Type 0
@@ -64,16 +62,10 @@ LeavesWhereTold status p remaining_old remaining_new contents_old contents_new =
 
 -- how a command can end that opens no link
 abbrev pub OpensNoLink : Status → Type 0
-OpensNoLink Done = Unit {0}
-OpensNoLink Usage = Unit {0}
-OpensNoLink Refused = Unit {0}
-OpensNoLink ReadFault = Unit {0}
-OpensNoLink WriteFault = Unit {0}
 OpensNoLink (LinkFault side) = ⊥
-OpensNoLink OutOfMemory = Unit {0}
-OpensNoLink (BadTape number) = Unit {0}
 OpensNoLink Idle = ⊥
 OpensNoLink Spent = ⊥
+OpensNoLink status = Unit {0}
 
 -- how a run can end whose words are no command
 abbrev pub IsOfNoCommand : Status → Type 0
@@ -88,10 +80,4 @@ abbrev pub ComesToEnd : Status → Type 0 → Type 0
 ComesToEnd Done A = A
 ComesToEnd Refused A = A
 ComesToEnd (BadTape number) A = A
-ComesToEnd Usage A = Unit {0}
-ComesToEnd ReadFault A = Unit {0}
-ComesToEnd WriteFault A = Unit {0}
-ComesToEnd (LinkFault side) A = Unit {0}
-ComesToEnd OutOfMemory A = Unit {0}
-ComesToEnd Idle A = Unit {0}
-ComesToEnd Spent A = Unit {0}
+ComesToEnd status A = Unit {0}

@@ -76,12 +76,9 @@ show_side shown = record {
 abbrev pub asked_line : ℕ → ClientPacket → List ℕ
 asked_line place (Op (op.ReqDevlist status)) = client_line place (op.ReqDevlist status)
 asked_line place (Op (op.ReqImport status busid)) = client_line place (op.ReqImport status busid)
-asked_line place (Op (op.RepDevlist status devices)) = []
-asked_line place (Op (op.RepImport status device)) = []
 asked_line place (Urb (urb.Submit submit)) = urb_line place (urb.Submit submit)
 asked_line place (Urb (urb.Unlink unlink)) = urb_line place (urb.Unlink unlink)
-asked_line place (Urb (urb.RetSubmit ret)) = []
-asked_line place (Urb (urb.RetUnlink ret)) = []
+asked_line place packet = []
 
 abbrev pub told_line : ℕ → Header × RedirPacket → List ℕ
 told_line place packet = redir_line place packet.0 packet.1

@@ -16,10 +16,7 @@ use Rattle.gate_history.specs.write.All.{all_of}
 use Rattle.gate_history.specs.write.Bytes.{out_client, out_host}
 use Rattle.direct_run.specs.declared.told.Told.{Told}
 use Rattle.direct_run.specs.Lines.{item_line}
-use Rattle.usbgate_tapes.specs.tape.Tape.{LF}
-
-abbrev pub SPACE : ℕ
-SPACE = 32
+use Rattle.packet_show.specs.Line.{LF, SPACE}
 
 -- a letter, the bytes in lower-case hexadecimal and LF; nothing where there are no bytes
 abbrev pub bytes_line : ℕ → List ℕ → List ℕ

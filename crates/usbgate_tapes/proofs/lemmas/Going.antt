@@ -18,7 +18,8 @@ use Rattle.usbgate_tapes.specs.Run.{ReadInPart, WrittenInPart, WrittenWhole, Lea
 use Rattle.usbgate_tapes.specs.Wants.{ReadWants}
 use Rattle.usbgate_tapes.specs.inner.tape.TapeReader.{IsKept, Stage, Closes, Runs, end_text}
 use Rattle.usbgate_tapes.proofs.lemmas.tape.Stages.{text_begins}
-use Rattle.usbgate_tapes.proofs.lemmas.Moving.{moves-none, moves-append, at_end}
+use Rattle.gate_outside.proofs.Moving.{moves-none, moves-append}
+use Rattle.usbgate_tapes.proofs.lemmas.Moving.{at_end}
 use Rattle.usbgate_tapes.proofs.lemmas.Unread.{leaves-none, write-memory}
 use Rattle.usbgate_tapes.proofs.lemmas.tape.Wanting.{whole-read}
 use Rattle.usbgate_tapes.proofs.lemmas.Told.{remaining_told, at_end_told, leaves-told}

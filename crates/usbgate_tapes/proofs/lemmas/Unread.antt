@@ -12,7 +12,7 @@ use Rattle.usbgate_tapes.specs.Run.{LeavesTold, LeavesWhereTold}
 use Rattle.usbgate_tapes.specs.Text.{usage_line}
 use Rattle.usbgate_tapes.specs.Prescribed.{Prescribed, untaped, printed, usage}
 use Rattle.usbgate_tapes.specs.Logs.{RunLeaves, RunWrites}
-use Rattle.usbgate_tapes.proofs.lemmas.Moving.{moves-none}
+use Rattle.gate_outside.proofs.Moving.{moves-none}
 use Rattle.usbgate_tapes.proofs.lemmas.Told.{leaves-told}
 
 pub write-memory : {A : Type 0} → WriteFault ≡ OutOfMemory → A

@@ -1,6 +1,12 @@
--- The modelled devices, by their names.
+-- The modelled devices: by their names, and each as it is plugged in.
 use Rattle.std.specs.Prelude.{ℕ, if◌then◌else◌, List, codes, Option, Some, None}
 use Rattle.std.specs.Str.{bytes_eq}
+use Rattle.model_device.specs.Meaning.{Meaning}
+use Rattle.model_device.specs.Device.{first_state, meaning_of}
+use Rattle.model_device.specs.Keyboard.{keyboard}
+use Rattle.model_device.specs.Loopback.{loopback}
+use Rattle.model_device.specs.Tone.{tone}
+use Rattle.disk_gadget.specs.DiskStep.{disk, first_disk}
 use Rattle.usbgate_tapes.specs.declared.model.device.Device.{Device}
 use Rattle.usbgate_tapes.specs.declared.model.device.Device.TheVariants.{Keyboard, Loopback, Tone, Disk}
 
@@ -11,3 +17,10 @@ device_of text =
     else if bytes_eq text (codes "tone") then Some Tone
     else if bytes_eq text (codes "disk") then Some Disk
     else None
+
+-- what f says of a device: of what it means, and of its state as it is plugged in
+abbrev pub as_plugged {ℓ} : {R : Type ℓ} → ((S : Type 0) → Meaning S → S → R) → Device → R
+as_plugged f Keyboard = f _ (meaning_of keyboard) (first_state keyboard)
+as_plugged f Loopback = f _ (meaning_of loopback) (first_state loopback)
+as_plugged f Tone = f _ (meaning_of tone) (first_state tone)
+as_plugged f Disk = f _ disk (first_disk 64)

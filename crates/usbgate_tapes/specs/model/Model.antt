@@ -7,47 +7,32 @@ use Rattle.packet_show.specs.declared.tape.TapeLine.TheVariants as line
 use Rattle.packet_show.specs.Tape.{tape_line}
 use Rattle.gate_history.specs.write.All.{counts_of}
 use Rattle.gate_history.specs.step.History.{history}
-use Rattle.model_device.specs.Device.{first_state, meaning_of}
-use Rattle.model_device.specs.Keyboard.{keyboard}
-use Rattle.model_device.specs.Loopback.{loopback}
 use Rattle.model_device.specs.Meaning.{Meaning}
-use Rattle.model_device.specs.Tone.{tone}
-use Rattle.disk_gadget.specs.DiskStep.{disk, first_disk}
 use Rattle.direct_run.specs.Steps.{Step, Client, ClientEnd, ToHost, ToGate, Perform, Offer, Unplug}
 use Rattle.direct_run.specs.Trace.{told_first, told_by}
 use Rattle.direct_run.specs.World.{first_id, course}
 use Rattle.usbgate_tapes.specs.declared.model.device.Device.{Device}
-use Rattle.usbgate_tapes.specs.declared.model.device.Device.TheVariants.{Keyboard, Loopback, Tone, Disk}
 use Rattle.usbgate_tapes.specs.Replay.{has_refusal}
+use Rattle.usbgate_tapes.specs.model.Device.{as_plugged}
 use Rattle.usbgate_tapes.specs.tape.TapeCommand.{TapeCommand}
 use Rattle.usbgate_tapes.specs.Text.{told_text, counts_line}
 
 -- the step that a line says, or none; such a tape has no lines of a host's own bytes
 abbrev pub step_said : TapeLine → Option Step
-step_said line.Skip = None
 step_said (line.Client piece) = Some (Client piece)
 step_said line.ClientEnd = Some ClientEnd
-step_said (line.Host piece) = None
-step_said line.HostEnd = None
 step_said (line.ToHost n) = Some (ToHost n)
 step_said (line.ToGate n) = Some (ToGate n)
 step_said (line.Perform ep) = Some (Perform ep)
 step_said (line.Offer ep) = Some (Offer ep)
 step_said line.Unplug = Some Unplug
+step_said said = None
 
 -- the line says something
 abbrev pub is_said : Option TapeLine → Bool
 is_said None = false
 is_said (Some line.Skip) = false
-is_said (Some (line.Client piece)) = true
-is_said (Some line.ClientEnd) = true
-is_said (Some (line.Host piece)) = true
-is_said (Some line.HostEnd) = true
-is_said (Some (line.ToHost n)) = true
-is_said (Some (line.ToGate n)) = true
-is_said (Some (line.Perform ep)) = true
-is_said (Some (line.Offer ep)) = true
-is_said (Some line.Unplug) = true
+is_said said = true
 
 -- a line that says nothing adds nothing
 abbrev pub on_step : {S : Type 0} → Meaning S → S → List Step → Option Step → List ℕ × List Step
@@ -70,7 +55,4 @@ model m s = record {
 }
 
 abbrev pub model_of : Device → TapeCommand (List Step)
-model_of Keyboard = model (meaning_of keyboard) (first_state keyboard)
-model_of Loopback = model (meaning_of loopback) (first_state loopback)
-model_of Tone = model (meaning_of tone) (first_state tone)
-model_of Disk = model disk (first_disk 64)
+model_of device = as_plugged (λ S m s. model m s) device

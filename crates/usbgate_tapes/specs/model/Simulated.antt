@@ -2,17 +2,14 @@
 use Rattle.std.specs.Prelude.{◌≡◌, ℕ, List, Option, Some, Result}
 use Rattle.gate_outside.specs.declared.fault.Failed.{Failed}
 use Rattle.model_device.specs.Device.{first_state, meaning_of}
-use Rattle.model_device.specs.Keyboard.{keyboard}
 use Rattle.model_device.specs.Loopback.{loopback}
 use Rattle.model_device.specs.Meaning.{Meaning}
-use Rattle.model_device.specs.Tone.{tone}
-use Rattle.disk_gadget.specs.DiskStep.{disk, first_disk}
 use Rattle.direct_run.specs.Steps.{Step}
 use Rattle.direct_proof.specs.Simulates.{Simulates}
 use Rattle.usbgate_tapes.specs.declared.model.device.Device.{Device}
-use Rattle.usbgate_tapes.specs.declared.model.device.Device.TheVariants.{Keyboard, Loopback, Tone, Disk}
 use Rattle.usbgate_tapes.specs.declared.status.Status.{Status}
 use Rattle.usbgate_tapes.specs.Logs.{HoldsOfRead}
+use Rattle.usbgate_tapes.specs.model.Device.{as_plugged}
 use Rattle.usbgate_tapes.specs.model.Made.{made}
 use Rattle.usbgate_tapes.specs.model.Model.{model}
 use Rattle.usbgate_tapes.specs.Run.{ComesToEnd}
@@ -31,10 +28,7 @@ pub record AreSimulated {S T : Type 0} (read_gives : T → List ℕ → Result �
 
 -- of each device, as it is plugged in
 abbrev pub RunSimulates : {T : Type 0} → (T → List ℕ → Result ℕ Failed → T → Type 0) → (T → Option (List ℕ)) → Status → Device → T → T → Type 0
-RunSimulates read_gives remaining status Keyboard old new = AreSimulated read_gives remaining status (meaning_of keyboard) (first_state keyboard) old new
-RunSimulates read_gives remaining status Loopback old new = AreSimulated read_gives remaining status (meaning_of loopback) (first_state loopback) old new
-RunSimulates read_gives remaining status Tone old new = AreSimulated read_gives remaining status (meaning_of tone) (first_state tone) old new
-RunSimulates read_gives remaining status Disk old new = AreSimulated read_gives remaining status disk (first_disk 64) old new
+RunSimulates read_gives remaining status device old new = as_plugged (λ S m s. AreSimulated read_gives remaining status m s old new) device
 
 -- of the loop, by the steps of the tape that a number stands for
 abbrev pub MadeSimulates : ℕ → Type 0

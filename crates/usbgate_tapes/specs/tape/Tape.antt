@@ -1,14 +1,12 @@
 -- A replay tape: the lines of a text, and the event that each says.
 use Rattle.std.specs.Prelude.{ℕ, ◌==◌, Bool, true, false, not, if◌then◌else◌, List, [], ◌∷◌, Option, Some, None, is_some}
 use Rattle.std.specs.Io.BufRead.{strip_last}
+use Rattle.packet_show.specs.Line.{LF}
 use Rattle.packet_show.specs.declared.tape.TapeLine.{TapeLine}
 use Rattle.packet_show.specs.declared.tape.TapeLine.TheVariants as line
 use Rattle.gate_history.specs.step.Events.{Event, ClientPiece, ClientEnd, HostPiece, HostEnd}
 
 -- ---- lines
-
-abbrev pub LF : ℕ
-LF = 10
 
 -- one byte more in front of the first line
 abbrev pub before_first : ℕ → List (List ℕ) → List (List ℕ)
@@ -28,16 +26,11 @@ content line = strip_last LF line
 
 -- the event that a line says, or none; lines for a modelled host say none here
 abbrev pub event_said : TapeLine → Option Event
-event_said line.Skip = None
 event_said (line.Client piece) = Some (ClientPiece piece)
 event_said line.ClientEnd = Some ClientEnd
 event_said (line.Host piece) = Some (HostPiece piece)
 event_said line.HostEnd = Some HostEnd
-event_said (line.ToHost n) = None
-event_said (line.ToGate n) = None
-event_said (line.Perform ep) = None
-event_said (line.Offer ep) = None
-event_said line.Unplug = None
+event_said said = None
 
 -- an event stands on the line
 abbrev pub is_event : Option TapeLine → Bool
@@ -47,13 +40,10 @@ is_event (Some line) = is_some (event_said line)
 -- nothing of the host comes after its end; after a client's comes the next client
 abbrev pub host_ended : List Event → Bool
 host_ended [] = false
-host_ended (ClientPiece b ∷ events) = host_ended events
-host_ended (ClientEnd ∷ events) = host_ended events
-host_ended (HostPiece b ∷ events) = host_ended events
 host_ended (HostEnd ∷ events) = true
+host_ended (e ∷ events) = host_ended events
 
 abbrev pub may_happen : List Event → Event → Bool
-may_happen events (ClientPiece b) = true
-may_happen events ClientEnd = true
 may_happen events (HostPiece b) = not (host_ended events)
 may_happen events HostEnd = not (host_ended events)
+may_happen events e = true
