@@ -1,10 +1,11 @@
 -- What a device with one configuration and one interface answers on endpoint 0, and what it changes (USB 2.0, 9.4; the
 -- port reset is that of 11.24.2.13, and resets the device itself).
-use Rattle.std.specs.Prelude.{ℕ, ◌%◌, ◌==◌, ◌&&◌, nat_lt, min, Bool, true, false, List, [], ◌∷◌, length, take, Option, Some, None, is_some, if◌then◌else◌}
+use Rattle.std.specs.Prelude.{ℕ, ◌%◌, ◌==◌, ◌&&◌, nat_lt, min, Bool, true, false, List, [], ◌∷◌, length, take, Option, Some, None, is_some, unwrap_or, if◌then◌else◌}
 use Rattle.usb_base.specs.Endpoint.{endpoint_index, row_of}
 use Rattle.usb_base.specs.declared.endpoint.EpKind.{EpKind}
-use Rattle.usb_base.specs.declared.endpoint.EpKind.TheVariants.{Control, Iso, Bulk, Interrupt, Invalid}
+use Rattle.usb_base.specs.declared.endpoint.EpKind.TheVariants.{Invalid}
 use Rattle.usb_base.specs.declared.setup.Setup.{Setup}
+use Rattle.usb_base.specs.declared.status.UsbStatus.{UsbStatus}
 use Rattle.usb_base.specs.declared.status.UsbStatus.TheVariants.{Success, Stall}
 use Rattle.usb_base.specs.declared.transfer.Transfer.{Transfer}
 use Rattle.usb_base.specs.declared.transfer.Outcome.{Outcome}
@@ -33,11 +34,8 @@ descriptor_of set value =
     else None
 
 abbrev pub is_valid : EpKind → Bool
-is_valid Control = true
-is_valid Iso = true
-is_valid Bulk = true
-is_valid Interrupt = true
 is_valid Invalid = false
+is_valid _ = true
 
 -- wIndex is the address of an endpoint that the device has
 abbrev pub is_endpoint : List Part → DevState → ℕ → Bool
@@ -73,8 +71,12 @@ changed_by parts s r ResetPort = if r.length == 0 then Some unconfigured else No
 
 -- ---- the answer
 
+-- it ended with this status, and moved nothing
+abbrev pub ended : UsbStatus → Outcome
+ended status = record { status = status; done = 0; body = [] }
+
 abbrev pub stall : Outcome
-stall = record { status = Stall; done = 0; body = [] }
+stall = ended Stall
 
 abbrev pub success : List ℕ → Outcome
 success body = record { status = Success; done = length body; body = body }
@@ -88,19 +90,14 @@ abbrev pub write_outcome : Option DevState → Outcome
 write_outcome None = stall
 write_outcome (Some s) = success []
 
-abbrev pub state_or : DevState → Option DevState → DevState
-state_or s None = s
-state_or s (Some new) = new
-
 abbrev pub outcome_by : DescriptorSet → List Part → DevState → Setup → ℕ → Option Request → Outcome
 outcome_by set parts s r wanted None = stall
 outcome_by set parts s r wanted (Some (Read read)) = read_outcome r.length wanted (given_by set parts s r read)
 outcome_by set parts s r wanted (Some (Write write)) = write_outcome (changed_by parts s r write)
 
 abbrev pub state_by : List Part → DevState → Setup → Option Request → DevState
-state_by parts s r None = s
-state_by parts s r (Some (Read read)) = s
-state_by parts s r (Some (Write write)) = state_or s (changed_by parts s r write)
+state_by parts s r (Some (Write write)) = unwrap_or (changed_by parts s r write) s
+state_by parts s r _ = s
 
 -- of a transfer with this setup; without one, which isn't a transfer of endpoint 0, nothing is answered but a stall
 abbrev pub outcome_with : DescriptorSet → List Part → DevState → ℕ → Option Setup → Outcome

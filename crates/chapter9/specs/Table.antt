@@ -1,12 +1,12 @@
 -- The endpoints of a device in a state, and the class of its interface.
 use Rattle.std.specs.Prelude.{ℕ, ◌%◌, ◌==◌, List, [], ◌∷◌, ◌++◌, Option, Some, None, if◌then◌else◌, slice_set}
+use Rattle.std.specs.Option.{option_or}
 use Rattle.usb_base.specs.Endpoint.{endpoint_index, no_endpoints}
 use Rattle.usb_base.specs.declared.endpoint.EpRow.{EpRow}
 use Rattle.usb_base.specs.declared.endpoint.EpTable.{EpTable}
-use Rattle.usb_base.specs.declared.endpoint.EpKind.{EpKind}
 use Rattle.usb_base.specs.declared.endpoint.EpKind.TheVariants.{Control}
 use Rattle.chapter9.specs.declared.part.Part.{Part}
-use Rattle.chapter9.specs.declared.part.Part.TheVariants.{Config, Interface, Endpoint, Other}
+use Rattle.chapter9.specs.declared.part.Part.TheVariants.{Interface, Endpoint}
 use Rattle.chapter9.specs.declared.state.DevState.{DevState}
 use Rattle.chapter9.specs.declared.table.InterfaceClass.{InterfaceClass}
 use Rattle.chapter9.specs.State.{is_configured}
@@ -27,26 +27,18 @@ pub record Placed : Type 0 where
 -- the wanted one: an interface descriptor says, the others leave it
 abbrev pub interface_after : ℕ → Option ℕ → Part → Option ℕ
 interface_after alt before (Interface number other class subclass protocol) = if other == alt then Some number else None
-interface_after alt before (Config value interfaces) = before
-interface_after alt before (Endpoint ep kind max_packet interval) = before
-interface_after alt before (Other kind) = before
-
-abbrev pub placed_by : Option ℕ → ℕ → EpKind → ℕ → ℕ → List Placed
-placed_by (Some number) ep kind max_packet interval = record { ep = ep; row = record { kind = kind; interval = interval; interface = number; max_packet = max_packet } } ∷ []
-placed_by None ep kind max_packet interval = []
+interface_after alt before _ = before
 
 -- the endpoint that this descriptor adds to that setting, if it is one
-abbrev pub placed : Option ℕ → Part → List Placed
-placed before (Endpoint ep kind max_packet interval) = placed_by before ep kind max_packet interval
-placed before (Config value interfaces) = []
-placed before (Interface number alt class subclass protocol) = []
-placed before (Other kind) = []
+abbrev pub placed : Part → Option ℕ → List Placed
+placed (Endpoint ep kind max_packet interval) (Some number) = record { ep = ep; row = record { kind = kind; interval = interval; interface = number; max_packet = max_packet } } ∷ []
+placed _ _ = []
 
 -- the endpoints that stand after an interface descriptor with this alternate setting, up to the next interface
 -- descriptor
 abbrev pub endpoints_after : ℕ → Option ℕ → List Part → List Placed
 endpoints_after alt before [] = []
-endpoints_after alt before (part ∷ parts) = placed before part ++ endpoints_after alt (interface_after alt before part) parts
+endpoints_after alt before (part ∷ parts) = placed part before ++ endpoints_after alt (interface_after alt before part) parts
 
 abbrev pub endpoints_of : ℕ → List Part → List Placed
 endpoints_of alt parts = endpoints_after alt None parts
@@ -56,16 +48,9 @@ abbrev pub with_rows : List EpRow → List Placed → List EpRow
 with_rows rows [] = rows
 with_rows rows (p ∷ ps) = with_rows (with_row p.ep p.row rows) ps
 
--- the two sides of endpoint 0
-abbrev pub control_out : ℕ
-control_out = 0
-
-abbrev pub control_in : ℕ
-control_in = 16
-
--- endpoint 0 alone
+-- the two sides of endpoint 0 alone
 abbrev pub control_rows : List EpRow
-control_rows = slice_set (slice_set no_endpoints.rows control_out control_row) control_in control_row
+control_rows = slice_set (slice_set no_endpoints.rows 0 control_row) 16 control_row
 
 abbrev pub table_of : List Part → DevState → EpTable
 table_of parts s = record { rows = if is_configured s then with_rows control_rows (endpoints_of s.alt parts) else control_rows }
@@ -74,15 +59,9 @@ table_of parts s = record { rows = if is_configured s then with_rows control_row
 
 abbrev pub class_at : ℕ → Part → Option InterfaceClass
 class_at alt (Interface number other class subclass protocol) = if other == alt then Some (record { class = class; subclass = subclass; protocol = protocol }) else None
-class_at alt (Config value interfaces) = None
-class_at alt (Endpoint ep kind max_packet interval) = None
-class_at alt (Other kind) = None
-
-abbrev pub first_of : Option InterfaceClass → Option InterfaceClass → Option InterfaceClass
-first_of (Some class) others = Some class
-first_of None others = others
+class_at alt _ = None
 
 -- the class of the first interface descriptor with this alternate setting
 abbrev pub class_of : ℕ → List Part → Option InterfaceClass
 class_of alt [] = None
-class_of alt (part ∷ parts) = first_of (class_at alt part) (class_of alt parts)
+class_of alt (part ∷ parts) = option_or (class_at alt part) (class_of alt parts)

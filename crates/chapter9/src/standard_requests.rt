@@ -1,8 +1,8 @@
 //! What a device answers to a request on endpoint 0, and what the request changes.
 
-ghost use Rattle.std.specs.Prelude.{◌≡◌, ◌<◌, ◌==◌, ◌&&◌, [], IsSome, OnOk, OnErr, IfOk, Some, None, is_some, option_copied, length, take, if◌then◌else◌};
+ghost use Rattle.std.specs.Prelude.{◌≡◌, ◌<◌, ◌==◌, ◌&&◌, [], IsSome, OnOk, OnErr, IfOk, Some, None, is_some, unwrap_or, option_copied, length, take, if◌then◌else◌};
 ghost use Rattle.chapter9.specs.State.{is_configured};
-ghost use Rattle.chapter9.specs.Standard.{changed_by, descriptor_of, given_by, halted, is_endpoint, is_setting, outcome_of, read_outcome, stall, state_after, state_or, success};
+ghost use Rattle.chapter9.specs.Standard.{changed_by, descriptor_of, given_by, halted, is_endpoint, is_setting, outcome_of, read_outcome, stall, state_after, success};
 
 use crate::part::Parts;
 use crate::requests::{ControlRead, ControlWrite, Request, request_of};
@@ -104,7 +104,7 @@ fn answer(
 // Carries out a request without data, and says whether it was one that can be.
 fn change(parts: &Parts, state: &mut DevState, setup: &Setup, write: ControlWrite) -> bool
     ensures result { result ≡ is_some (changed_by parts.now state.old setup.now write) }
-    ensures state { state.new ≡ state_or state.old (changed_by parts.now state.old setup.now write) }
+    ensures state { state.new ≡ unwrap_or (changed_by parts.now state.old setup.now write) state.old }
 {
     match write {
         ControlWrite::ClearHalt => match endpoint_of(parts, state, setup.index) {

@@ -50,7 +50,7 @@ fn add_setting(table: &mut EpTable, parts: &Parts, alt: u8)
 
 // Adds the endpoint of a descriptor that stands behind one of this interface, if it is one.
 fn add_endpoint(table: &mut EpTable, interface: Option<u8>, part: &Part)
-    ensures { table.new.rows ≡ with_rows table.old.rows (placed interface part.now) }
+    ensures { table.new.rows ≡ with_rows table.old.rows (placed part.now interface) }
 {
     let Some(interface) = interface else {
         return;

@@ -20,6 +20,5 @@ abbrev pub put : ℕ → List ℕ → List ℕ → List ℕ
 put at bytes blocks = take at blocks ++ (bytes ++ drop (at + length bytes) blocks)
 
 abbrev pub blocks_after : List ℕ → Option Access → List ℕ
-blocks_after blocks None = blocks
-blocks_after blocks (Some (ReadOf block count)) = blocks
 blocks_after blocks (Some (WriteOf block bytes)) = put (block_size * block) bytes blocks
+blocks_after blocks _ = blocks

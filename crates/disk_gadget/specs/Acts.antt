@@ -61,12 +61,9 @@ command_act blocks sense len bytes Unknown = failed InvalidCommand
 -- a command's data go the other way than a wrapper's
 abbrev pub goes_against : Bool → Command → Bool
 goes_against is_in TestUnitReady = false
-goes_against is_in (RequestSense most) = not is_in
-goes_against is_in (Inquiry vital most) = not is_in
-goes_against is_in ReadCapacity = not is_in
-goes_against is_in (Read e) = not is_in
 goes_against is_in (Write e) = is_in
 goes_against is_in Unknown = false
+goes_against is_in _ = not is_in
 
 -- and the wrapper moves some (Bulk-Only Transport, 6.7, cases 8 and 10)
 abbrev pub is_crossed : Wrapper → Bool

@@ -7,7 +7,7 @@ use Rattle.chapter9.specs.Standard.{stall, success}
 use Rattle.disk_gadget.specs.declared.wrapper.Wrapper.{Wrapper}
 use Rattle.disk_gadget.specs.declared.report.Report.{Report}
 use Rattle.disk_gadget.specs.declared.report.Status.{Status}
-use Rattle.disk_gadget.specs.declared.report.Status.TheVariants.{Passed, Failed, PhaseError}
+use Rattle.disk_gadget.specs.declared.report.Status.TheVariants.{Passed}
 use Rattle.disk_gadget.specs.declared.sense.Sense.{Sense}
 use Rattle.disk_gadget.specs.declared.stage.Answer.{Answer}
 use Rattle.disk_gadget.specs.declared.stage.Answer.TheVariants.{Text, Blocks}
@@ -35,9 +35,13 @@ pub record Turn : Type 0 where
 abbrev pub taken : List ℕ → Reply
 taken body = Plain (record { status = Success; done = length body; body = [] })
 
+-- nothing is halted, read or written
+abbrev pub turn_to : Course → Reply → Turn
+turn_to course reply = record { course = course; halts = false; reply = reply; access = None }
+
 -- nothing changes but the stall
 abbrev pub refused : Course → Turn
-refused c = record { course = c; halts = false; reply = Plain stall; access = None }
+refused c = turn_to c (Plain stall)
 
 -- ---- answers
 
@@ -62,8 +66,7 @@ given_of n (Blocks block given left) = OfBlocks block given n
 -- what didn't come, or wasn't used
 abbrev pub residue_of : Status → ℕ → ℕ
 residue_of Passed len = 0
-residue_of Failed len = len
-residue_of PhaseError len = len
+residue_of _ len = len
 
 abbrev pub report_of : Wrapper → Status → Report
 report_of w status = record { tag = w.tag; residue = residue_of status w.length; status = status }
@@ -72,29 +75,20 @@ report_of w status = record { tag = w.tag; residue = residue_of status w.length;
 abbrev pub acted : ℕ → Option Sense → Wrapper → List ℕ → List ℕ → Turn
 acted blocks sense w bytes body =
     let act = act_of blocks sense w bytes in
-    record {
-      course = record { stage = Reports (report_of w act.status); sense = act.sense };
-      halts = false;
-      reply = taken body;
-      access = act.access;
-    }
+    record (turn_to (record { stage = Reports (report_of w act.status); sense = act.sense }) (taken body)) { access = act.access }
 
 -- its answer is cut to its length, none of which is given yet
 abbrev pub answering : ℕ → Option Sense → Wrapper → List ℕ → Turn
 answering blocks sense w body =
     let act = act_of blocks sense w [] in
-    record {
-      course = record { stage = Gives (cut_answer w.length act.answer) (record { tag = w.tag; residue = w.length; status = act.status }); sense = act.sense };
-      halts = false;
-      reply = taken body;
-      access = act.access;
-    }
+    let report : Report = record { tag = w.tag; residue = w.length; status = act.status } in
+    record (turn_to (record { stage = Gives (cut_answer w.length act.answer) report; sense = act.sense }) (taken body)) { access = act.access }
 
 abbrev pub gathering : Option Sense → Wrapper → List ℕ → List ℕ → Turn
-gathering sense w bytes body = record { course = record { stage = Gathers w bytes; sense = sense }; halts = false; reply = taken body; access = None }
+gathering sense w bytes body = turn_to (record { stage = Gathers w bytes; sense = sense }) (taken body)
 
 abbrev pub begun : ℕ → Option Sense → List ℕ → Option Wrapper → Turn
-begun blocks sense body None = record { course = record { stage = Waits; sense = sense }; halts = true; reply = Plain stall; access = None }
+begun blocks sense body None = record (refused (record { stage = Waits; sense = sense })) { halts = true }
 begun blocks sense body (Some w) =
     if w.length == 0 then acted blocks sense w [] body
     else if w.is_in then answering blocks sense w body
@@ -111,8 +105,7 @@ gathered blocks sense w bytes body =
 abbrev pub taken_by : ℕ → Option Sense → List ℕ → Stage → Option Turn
 taken_by blocks sense body Waits = Some (begun blocks sense body (wrapper_of body))
 taken_by blocks sense body (Gathers w bytes) = Some (gathered blocks sense w bytes body)
-taken_by blocks sense body (Gives answer report) = None
-taken_by blocks sense body (Reports report) = None
+taken_by blocks sense body _ = None
 
 -- ---- a transfer from the device
 
@@ -126,16 +119,15 @@ after_giving wanted n answer r = if nat_lt n wanted || r.residue - n == 0 then R
 abbrev pub gave : Option Sense → ℕ → Answer → Report → Turn
 gave sense wanted answer r =
     let n = min wanted (left_of answer) in
-    record { course = record { stage = after_giving wanted n answer r; sense = sense }; halts = false; reply = given_of n answer; access = None }
+    turn_to (record { stage = after_giving wanted n answer r; sense = sense }) (given_of n answer)
 
 -- a status isn't cut
 abbrev pub reported : Option Sense → ℕ → Report → Turn
 reported sense wanted r =
     if nat_lt wanted 13 then refused (record { stage = Reports r; sense = sense })
-    else record { course = record { stage = Waits; sense = sense }; halts = false; reply = Plain (success (status_bytes r)); access = None }
+    else turn_to (record { stage = Waits; sense = sense }) (Plain (success (status_bytes r)))
 
 abbrev pub given_by : Option Sense → ℕ → Stage → Option Turn
-given_by sense wanted Waits = None
-given_by sense wanted (Gathers w bytes) = None
 given_by sense wanted (Gives answer r) = Some (gave sense wanted answer r)
 given_by sense wanted (Reports r) = Some (reported sense wanted r)
+given_by sense wanted _ = None

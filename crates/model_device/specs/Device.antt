@@ -1,13 +1,14 @@
 -- A device that answers endpoint 0 by its descriptors, and its other endpoints in a way of its own.
-use Rattle.std.specs.Prelude.{ℕ, ◌&&◌, not, Bool, true, false, List, [], ◌∷◌, replicate, slice_set, Option, Some, None, if◌then◌else◌}
+use Rattle.std.specs.Prelude.{ℕ, ◌+◌, ◌*◌, ◌&&◌, not, Bool, true, false, List, [], ◌∷◌, length, replicate, slice_set, Option, Some, None, if◌then◌else◌}
 use Rattle.std.specs.Int.{w16}
+use Rattle.std.specs.List.{flat_map}
 use Rattle.usb_base.specs.Endpoint.{row_of}
 use Rattle.usb_base.specs.Number.{byte_at, le_at}
 use Rattle.usb_base.specs.Speed.{redir_speed}
 use Rattle.usb_base.specs.declared.speed.Speed.{Speed}
 use Rattle.usb_base.specs.declared.setup.Setup.{Setup}
 use Rattle.usb_base.specs.declared.status.UsbStatus.{UsbStatus}
-use Rattle.usb_base.specs.declared.status.UsbStatus.TheVariants.{Success, Cancelled, Inval, IoError, Stall, Timeout, Babble, Other}
+use Rattle.usb_base.specs.declared.status.UsbStatus.TheVariants.{Success}
 use Rattle.usb_base.specs.declared.transfer.Transfer.{Transfer}
 use Rattle.usb_base.specs.declared.transfer.Outcome.{Outcome}
 use Rattle.usb_base.specs.declared.transfer.StreamPacket.{StreamPacket}
@@ -54,6 +55,17 @@ device_bytes product =
     -- iManufacturer, iProduct, iSerialNumber, bNumConfigurations
     0x00 ∷ 0x01 ∷ 0x00 ∷ 0x01 ∷ []
 
+-- the descriptors of a product with this number and name, and these descriptors of its interface (USB 2.0, tables 9-8,
+-- 9-10 and 9-16)
+abbrev pub set_of : ℕ → List ℕ → List ℕ → DescriptorSet
+set_of product name interface = record {
+  device = device_bytes product;
+  -- configuration 1 with one interface, bus-powered, 100 mA
+  config = 0x09 ∷ 0x02 ∷ (9 + length interface) ∷ 0x00 ∷ 0x01 ∷ 0x01 ∷ 0x00 ∷ 0x80 ∷ 0x32 ∷ interface;
+  -- string 1, of characters of two bytes
+  name = (2 + 2 * length name) ∷ 0x03 ∷ flat_map (λ letter. letter ∷ 0x00 ∷ []) name;
+}
+
 -- the fields of its device descriptor (USB 2.0, table 9-8), and its speed
 abbrev pub identity_of : Speed → DescriptorSet → Connect
 identity_of speed set = record {
@@ -69,25 +81,22 @@ identity_of speed set = record {
 abbrev pub no_bytes : List ℕ
 no_bytes = replicate 32 0
 
+abbrev pub no_interface : InterfaceInfo
+no_interface = record { count = 0; interface = no_bytes; class = no_bytes; subclass = no_bytes; protocol = no_bytes }
+
 -- one interface, whose number is 0, of this class
 abbrev pub one_interface : Option InterfaceClass → InterfaceInfo
-one_interface None = record { count = 1; interface = no_bytes; class = no_bytes; subclass = no_bytes; protocol = no_bytes }
+one_interface None = record no_interface { count = 1 }
 one_interface (Some c) = record { count = 1; interface = no_bytes; class = slice_set no_bytes 0 c.class; subclass = slice_set no_bytes 0 c.subclass; protocol = slice_set no_bytes 0 c.protocol }
 
 abbrev pub interfaces_of : List Part → DevState → InterfaceInfo
-interfaces_of parts s = if is_configured s then one_interface (class_of s.alt parts) else record { count = 0; interface = no_bytes; class = no_bytes; subclass = no_bytes; protocol = no_bytes }
+interfaces_of parts s = if is_configured s then one_interface (class_of s.alt parts) else no_interface
 
 -- ---- what it does
 
 abbrev pub is_success : UsbStatus → Bool
 is_success Success = true
-is_success Cancelled = false
-is_success Inval = false
-is_success IoError = false
-is_success Stall = false
-is_success Timeout = false
-is_success Babble = false
-is_success (Other byte) = false
+is_success _ = false
 
 -- the endpoint is there and isn't halted
 abbrev pub is_running : List Part → DevState → ℕ → Bool

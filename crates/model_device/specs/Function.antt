@@ -3,10 +3,10 @@ use Rattle.std.specs.Prelude.{◌≡◌, ℕ, ◌≤◌, ◌||◌, not, Bool, tr
 use Rattle.std.specs.List.{list_all}
 use Rattle.usb_base.specs.Endpoint.{is_in_endpoint}
 use Rattle.usb_base.specs.declared.endpoint.EpKind.{EpKind}
-use Rattle.usb_base.specs.declared.endpoint.EpKind.TheVariants.{Control, Iso, Bulk, Interrupt, Invalid}
+use Rattle.usb_base.specs.declared.endpoint.EpKind.TheVariants.{Iso}
 use Rattle.usb_base.specs.declared.transfer.Transfer.{Transfer}
 use Rattle.chapter9.specs.declared.part.Part.{Part}
-use Rattle.chapter9.specs.declared.part.Part.TheVariants.{Config, Interface, Endpoint, Other}
+use Rattle.chapter9.specs.declared.part.Part.TheVariants.{Endpoint}
 use Rattle.chapter9.specs.Descriptors.{wrong_place}
 use Rattle.model_device.specs.Transfer.{IsTransfer, IsOutcome}
 use Rattle.model_device.specs.Gadget.{IsNamed}
@@ -14,10 +14,7 @@ use Rattle.model_device.specs.Device.{Device, device_parts}
 
 abbrev pub is_iso : EpKind → Bool
 is_iso Iso = true
-is_iso Control = false
-is_iso Bulk = false
-is_iso Interrupt = false
-is_iso Invalid = false
+is_iso _ = false
 
 -- an endpoint from the device, or one that isn't isochronous
 abbrev pub is_fine : ℕ → EpKind → Bool
@@ -25,9 +22,7 @@ is_fine ep kind = is_in_endpoint ep || not (is_iso kind)
 
 abbrev pub is_fine_part : Part → Bool
 is_fine_part (Endpoint ep kind max_packet interval) = is_fine ep kind
-is_fine_part (Config value interfaces) = true
-is_fine_part (Interface number alt class subclass protocol) = true
-is_fine_part (Other kind) = true
+is_fine_part _ = true
 
 abbrev pub no_iso_out : List Part → Bool
 no_iso_out parts = list_all is_fine_part parts

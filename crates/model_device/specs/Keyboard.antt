@@ -1,24 +1,10 @@
 -- The keyboard: an interrupt IN endpoint, on which each offer is a boot keyboard's report (device class definition for
 -- human interface devices 1.11, appendix B.1) of one key, the keys in turn from A.
-use Rattle.std.specs.Prelude.{ℕ, ◌+◌, ◌%◌, ◌==◌, List, [], ◌∷◌, Some, None, if◌then◌else◌}
+use Rattle.std.specs.Prelude.{ℕ, ◌+◌, ◌%◌, ◌==◌, List, [], ◌∷◌, Some, None, codes, if◌then◌else◌}
 use Rattle.usb_base.specs.declared.speed.Speed.TheVariants.{Full}
 use Rattle.usb_base.specs.declared.status.UsbStatus.TheVariants.{Success}
-use Rattle.chapter9.specs.declared.standard_requests.DescriptorSet.{DescriptorSet}
 use Rattle.chapter9.specs.Standard.{stall}
-use Rattle.model_device.specs.Device.{Device, device_bytes}
-
-abbrev pub keyboard_set : DescriptorSet
-keyboard_set = record {
-  device = device_bytes 1;
-  config =
-      -- configuration 1 of 25 bytes with one interface, bus-powered, 100 mA
-      0x09 ∷ 0x02 ∷ 0x19 ∷ 0x00 ∷ 0x01 ∷ 0x01 ∷ 0x00 ∷ 0x80 ∷ 0x32 ∷
-      -- interface 0 with one endpoint, of the vendor's class
-      0x09 ∷ 0x04 ∷ 0x00 ∷ 0x00 ∷ 0x01 ∷ 0xFF ∷ 0x00 ∷ 0x00 ∷ 0x00 ∷
-      -- IN endpoint 1: interrupt, packets of 8 bytes, every 10 frames
-      0x07 ∷ 0x05 ∷ 0x81 ∷ 0x03 ∷ 0x08 ∷ 0x00 ∷ 0x0A ∷ [];
-  name = 0x12 ∷ 0x03 ∷ 0x6B ∷ 0x00 ∷ 0x65 ∷ 0x00 ∷ 0x79 ∷ 0x00 ∷ 0x62 ∷ 0x00 ∷ 0x6F ∷ 0x00 ∷ 0x61 ∷ 0x00 ∷ 0x72 ∷ 0x00 ∷ 0x64 ∷ 0x00 ∷ [];
-}
+use Rattle.model_device.specs.Device.{Device, set_of}
 
 -- no modifier, and the one key; 4 is A
 abbrev pub report : ℕ → List ℕ
@@ -27,7 +13,12 @@ report key = 0 ∷ 0 ∷ (4 + key) ∷ 0 ∷ 0 ∷ 0 ∷ 0 ∷ 0 ∷ []
 -- what is kept is the number of offers since the last change, modulo 26
 unfoldable pub keyboard : Device ℕ
 keyboard = record {
-  set = keyboard_set;
+  set =
+      set_of 1 (codes "keyboard")
+      -- interface 0 with one endpoint, of the vendor's class
+      (0x09 ∷ 0x04 ∷ 0x00 ∷ 0x00 ∷ 0x01 ∷ 0xFF ∷ 0x00 ∷ 0x00 ∷ 0x00 ∷
+      -- IN endpoint 1: interrupt, packets of 8 bytes, every 10 frames
+      0x07 ∷ 0x05 ∷ 0x81 ∷ 0x03 ∷ 0x08 ∷ 0x00 ∷ 0x0A ∷ []);
   speed = Full;
   first = 0;
   transfer = λ key t. Some (key, stall);

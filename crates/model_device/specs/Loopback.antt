@@ -1,27 +1,11 @@
 -- The loop: a bulk endpoint each way, which gives back what came, in order.
-use Rattle.std.specs.Prelude.{ℕ, ◌+◌, ◌==◌, nat_lt, ◌&&◌, not, List, [], ◌∷◌, ◌++◌, length, take, drop, Option, Some, None, if◌then◌else◌}
+use Rattle.std.specs.Prelude.{ℕ, ◌+◌, ◌==◌, nat_lt, ◌&&◌, not, List, [], ◌∷◌, ◌++◌, length, take, drop, codes, Option, Some, None, if◌then◌else◌}
 use Rattle.usb_base.specs.Endpoint.{is_in_endpoint}
 use Rattle.usb_base.specs.declared.speed.Speed.TheVariants.{High}
 use Rattle.usb_base.specs.declared.status.UsbStatus.TheVariants.{Success}
 use Rattle.usb_base.specs.declared.transfer.Outcome.{Outcome}
-use Rattle.chapter9.specs.declared.standard_requests.DescriptorSet.{DescriptorSet}
 use Rattle.chapter9.specs.Standard.{stall, success}
-use Rattle.model_device.specs.Device.{Device, device_bytes}
-
-abbrev pub loop_set : DescriptorSet
-loop_set = record {
-  device = device_bytes 2;
-  config =
-      -- configuration 1 of 32 bytes with one interface, bus-powered, 100 mA
-      0x09 ∷ 0x02 ∷ 0x20 ∷ 0x00 ∷ 0x01 ∷ 0x01 ∷ 0x00 ∷ 0x80 ∷ 0x32 ∷
-      -- interface 0 with two endpoints, of the vendor's class
-      0x09 ∷ 0x04 ∷ 0x00 ∷ 0x00 ∷ 0x02 ∷ 0xFF ∷ 0x00 ∷ 0x00 ∷ 0x00 ∷
-      -- OUT endpoint 1: bulk, packets of 512 bytes
-      0x07 ∷ 0x05 ∷ 0x01 ∷ 0x02 ∷ 0x00 ∷ 0x02 ∷ 0x00 ∷
-      -- IN endpoint 1: bulk, packets of 512 bytes
-      0x07 ∷ 0x05 ∷ 0x81 ∷ 0x02 ∷ 0x00 ∷ 0x02 ∷ 0x00 ∷ [];
-  name = 0x0A ∷ 0x03 ∷ 0x6C ∷ 0x00 ∷ 0x6F ∷ 0x00 ∷ 0x6F ∷ 0x00 ∷ 0x70 ∷ 0x00 ∷ [];
-}
+use Rattle.model_device.specs.Device.{Device, set_of}
 
 -- how many bytes it holds at most
 abbrev pub limit : ℕ
@@ -41,7 +25,14 @@ given_back held wanted = if length held == 0 && not (wanted == 0) then None else
 -- what is kept are the bytes that came and weren't given back
 unfoldable pub loopback : Device (List ℕ)
 loopback = record {
-  set = loop_set;
+  set =
+      set_of 2 (codes "loop")
+      -- interface 0 with two endpoints, of the vendor's class
+      (0x09 ∷ 0x04 ∷ 0x00 ∷ 0x00 ∷ 0x02 ∷ 0xFF ∷ 0x00 ∷ 0x00 ∷ 0x00 ∷
+      -- OUT endpoint 1: bulk, packets of 512 bytes
+      0x07 ∷ 0x05 ∷ 0x01 ∷ 0x02 ∷ 0x00 ∷ 0x02 ∷ 0x00 ∷
+      -- IN endpoint 1: bulk, packets of 512 bytes
+      0x07 ∷ 0x05 ∷ 0x81 ∷ 0x02 ∷ 0x00 ∷ 0x02 ∷ 0x00 ∷ []);
   speed = High;
   first = [];
   transfer = λ held t. if is_in_endpoint t.ep then given_back held t.wanted else taken_in held t.body;

@@ -5,7 +5,8 @@ use Rattle.usb_base.specs.declared.setup.Setup.{Setup}
 use Rattle.usb_base.specs.declared.transfer.Transfer.{Transfer}
 use Rattle.usb_base.specs.declared.transfer.Outcome.{Outcome}
 use Rattle.control_route.specs.declared.route.Route.{Route}
-use Rattle.control_route.specs.declared.route.Route.TheVariants.{Local, SetConfig, GetConfig, SetAlt, GetAlt, Reset, Plain, Bad}
+use Rattle.control_route.specs.declared.route.Route.TheVariants.{SetConfig, GetConfig, SetAlt, GetAlt, Reset}
+use Rattle.chapter9.specs.Standard.{ended}
 use Rattle.model_device.specs.Transfer.{IsTransfer, is_in_setup}
 use Rattle.model_device.specs.Device.{is_success}
 
@@ -18,9 +19,7 @@ setup_of GetConfig = Some (record { kind = 0x80; request = 8; value = 0; index =
 setup_of (SetAlt interface alt) = Some (record { kind = 0x01; request = 11; value = alt; index = interface; length = 0 })
 setup_of (GetAlt interface) = Some (record { kind = 0x81; request = 10; value = 0; index = interface; length = 1 })
 setup_of Reset = Some (record { kind = 0x23; request = 3; value = 4; index = 0; length = 0 })
-setup_of Local = None
-setup_of Plain = None
-setup_of Bad = None
+setup_of _ = None
 
 -- a transfer of endpoint 0, whose direction is its setup's
 abbrev pub control_transfer : Setup → ℕ → List ℕ → Transfer
@@ -51,21 +50,16 @@ AsksTransfer = (route : Route) (r : Setup) (number : ℕ) (is_in : Bool) (wanted
 
 -- ---- what is seen
 
-abbrev pub status_alone : Outcome → Outcome
-status_alone o = record { status = o.status; done = 0; body = [] }
-
 -- one byte, cut to the wLength that the client asked with
 abbrev pub byte_seen : ℕ → ℕ → Outcome → Outcome
-byte_seen len byte o = if is_success o.status then record { status = o.status; done = length (take len (byte ∷ [])); body = take len (byte ∷ []) } else status_alone o
+byte_seen len byte o = if is_success o.status then record { status = o.status; done = length (take len (byte ∷ [])); body = take len (byte ∷ []) } else ended o.status
 
 -- the outcome of a transfer with this route and setup, after which the device has this configuration; the byte of an
 -- alternate setting is the first one that came, or 0
 abbrev pub routed_outcome : Route → Setup → ℕ → Outcome → Outcome
-routed_outcome (SetConfig value) r configuration o = status_alone o
-routed_outcome (SetAlt interface alt) r configuration o = status_alone o
-routed_outcome Reset r configuration o = status_alone o
+routed_outcome (SetConfig value) r configuration o = ended o.status
+routed_outcome (SetAlt interface alt) r configuration o = ended o.status
+routed_outcome Reset r configuration o = ended o.status
 routed_outcome GetConfig r configuration o = byte_seen r.length configuration o
 routed_outcome (GetAlt interface) r configuration o = byte_seen r.length (slice_index o.body 0) o
-routed_outcome Local r configuration o = o
-routed_outcome Plain r configuration o = o
-routed_outcome Bad r configuration o = o
+routed_outcome _ r configuration o = o

@@ -1,25 +1,9 @@
 -- The tone: an isochronous IN endpoint in alternate setting 1, on which each offer is a packet of one byte repeated.
-use Rattle.std.specs.Prelude.{ℕ, ◌+◌, ◌%◌, ◌==◌, List, [], ◌∷◌, replicate, Some, None, if◌then◌else◌}
+use Rattle.std.specs.Prelude.{ℕ, ◌+◌, ◌%◌, ◌==◌, List, [], ◌∷◌, replicate, codes, Some, None, if◌then◌else◌}
 use Rattle.usb_base.specs.declared.speed.Speed.TheVariants.{Full}
 use Rattle.usb_base.specs.declared.status.UsbStatus.TheVariants.{Success}
-use Rattle.chapter9.specs.declared.standard_requests.DescriptorSet.{DescriptorSet}
 use Rattle.chapter9.specs.Standard.{stall}
-use Rattle.model_device.specs.Device.{Device, device_bytes}
-
-abbrev pub tone_set : DescriptorSet
-tone_set = record {
-  device = device_bytes 3;
-  config =
-      -- configuration 1 of 34 bytes with one interface, bus-powered, 100 mA
-      0x09 ∷ 0x02 ∷ 0x22 ∷ 0x00 ∷ 0x01 ∷ 0x01 ∷ 0x00 ∷ 0x80 ∷ 0x32 ∷
-      -- interface 0 without endpoints, of the vendor's class
-      0x09 ∷ 0x04 ∷ 0x00 ∷ 0x00 ∷ 0x00 ∷ 0xFF ∷ 0x00 ∷ 0x00 ∷ 0x00 ∷
-      -- its alternate setting 1 with one endpoint
-      0x09 ∷ 0x04 ∷ 0x00 ∷ 0x01 ∷ 0x01 ∷ 0xFF ∷ 0x00 ∷ 0x00 ∷ 0x00 ∷
-      -- IN endpoint 1: isochronous, packets of 192 bytes, every frame
-      0x07 ∷ 0x05 ∷ 0x81 ∷ 0x01 ∷ 0xC0 ∷ 0x00 ∷ 0x01 ∷ [];
-  name = 0x0A ∷ 0x03 ∷ 0x74 ∷ 0x00 ∷ 0x6F ∷ 0x00 ∷ 0x6E ∷ 0x00 ∷ 0x65 ∷ 0x00 ∷ [];
-}
+use Rattle.model_device.specs.Device.{Device, set_of}
 
 -- a packet of 192 samples
 unfoldable pub samples : ℕ → List ℕ
@@ -28,7 +12,14 @@ samples sample = replicate 192 sample
 -- what is kept is the number of offers since the last change, modulo 256
 unfoldable pub tone : Device ℕ
 tone = record {
-  set = tone_set;
+  set =
+      set_of 3 (codes "tone")
+      -- interface 0 without endpoints, of the vendor's class
+      (0x09 ∷ 0x04 ∷ 0x00 ∷ 0x00 ∷ 0x00 ∷ 0xFF ∷ 0x00 ∷ 0x00 ∷ 0x00 ∷
+      -- its alternate setting 1 with one endpoint
+      0x09 ∷ 0x04 ∷ 0x00 ∷ 0x01 ∷ 0x01 ∷ 0xFF ∷ 0x00 ∷ 0x00 ∷ 0x00 ∷
+      -- IN endpoint 1: isochronous, packets of 192 bytes, every frame
+      0x07 ∷ 0x05 ∷ 0x81 ∷ 0x01 ∷ 0xC0 ∷ 0x00 ∷ 0x01 ∷ []);
   speed = Full;
   first = 0;
   transfer = λ sample t. Some (sample, stall);

@@ -1,6 +1,6 @@
 -- What a setup is, told by the request that it asks; and which requests are changes.
 use Rattle.std.proofs.Common.{◌≡◌, ℕ, ◌<◌, ◌≤◌, Bool, true, false, cond, List, Option, Some, None, refl, sym, ap, ◌∙◌, subst, arith}
-use Rattle.std.specs.Prelude.{◌==◌, ◌&&◌, nat_lt, not}
+use Rattle.std.specs.Prelude.{◌==◌, ◌&&◌, nat_lt, not, unwrap_or}
 use Rattle.std.proofs.lemmas.Bool.{and_parts, eqb-true, ltb-true, lt-ltb, le-ltb, false≢true}
 use Rattle.usb_base.specs.declared.setup.Setup.{Setup}
 use Rattle.control_route.specs.Routes.{route_of}
@@ -15,7 +15,7 @@ use Rattle.chapter9.specs.declared.requests.Request.{Request}
 use Rattle.chapter9.specs.declared.requests.Request.TheVariants.{Read, Write}
 use Rattle.chapter9.specs.Requests.{is_request, request_of}
 use Rattle.chapter9.specs.State.{is_configured, unconfigured}
-use Rattle.chapter9.specs.Standard.{changed_by, halted, is_endpoint, is_setting, state_by, state_or}
+use Rattle.chapter9.specs.Standard.{changed_by, halted, is_endpoint, is_setting, state_by}
 use Rattle.model_device.specs.Transfer.{is_in_setup}
 use Rattle.model_device.specs.Gadget.{is_get_configuration, is_port_reset}
 
@@ -140,14 +140,14 @@ stays : (s : DevState) → SameSetting s s
 stays s = record { configuration = refl; alt = refl }
 
 -- where a test holds only for a change, nothing is set otherwise
-set_only : (s new : DevState) (t : Bool) → (t ≡ true → ⊥) → SameSetting s (state_or s (cond t (Some new) None))
+set_only : (s new : DevState) (t : Bool) → (t ≡ true → ⊥) → SameSetting s (unwrap_or (cond t (Some new) None) s)
 set_only s new true h = absurd (h refl)
 set_only s new false h = stays s
 
 not_both : (b : Bool) → b ≡ false → b ≡ true → ⊥
 not_both b f t = false≢true (sym f ∙ t)
 
-halt_stays : (s : DevState) (ep : ℕ) (t : Bool) (new : DevState) → SameSetting s new → SameSetting s (state_or s (cond t (Some new) None))
+halt_stays : (s : DevState) (ep : ℕ) (t : Bool) (new : DevState) → SameSetting s new → SameSetting s (unwrap_or (cond t (Some new) None) s)
 halt_stays s ep true new h = h
 halt_stays s ep false new h = stays s
 
@@ -155,7 +155,7 @@ halted_stays : (s : DevState) (t : Bool) (new : DevState) → SameSetting s new 
 halted_stays s true new h = stays s
 halted_stays s false new h = h
 
-written : (parts : List Part) (s : DevState) (r : Setup) (write : ControlWrite) → request_of r ≡ Some (Write write) → is_change (route_of r) ≡ false → SameSetting s (state_or s (changed_by parts s r write))
+written : (parts : List Part) (s : DevState) (r : Setup) (write : ControlWrite) → request_of r ≡ Some (Write write) → is_change (route_of r) ≡ false → SameSetting s (unwrap_or (changed_by parts s r write) s)
 written parts s r ClearHalt h c = halt_stays s r.index (is_endpoint parts s r.index) _ (record { configuration = refl; alt = refl })
 written parts s r SetHalt h c = halt_stays s r.index (is_endpoint parts s r.index) (halted s r.index) (halted_stays s _ _ (record { configuration = refl; alt = refl }))
 written parts s r SetAddress h c = halt_stays s r.index (r.length == 0) s (stays s)

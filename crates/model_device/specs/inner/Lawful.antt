@@ -1,6 +1,6 @@
 -- Every device that answers endpoint 0 by its descriptors is one, if its own answers are.
 use Rattle.std.proofs.Common.{◌≡◌, ◌≢◌, ℕ, ◌≤◌, Bool, true, false, cond, List, [], ◌∷◌, length, take, min, Option, Some, None, refl, sym, ap, ◌∙◌, arith}
-use Rattle.std.specs.Prelude.{◌&&◌, is_some, IsSome, IfSome}
+use Rattle.std.specs.Prelude.{◌&&◌, is_some, unwrap_or, IsSome, IfSome}
 use Rattle.std.proofs.lemmas.Bool.{and_right, false≢true, cond_both}
 use Rattle.std.proofs.lemmas.List.{length-take}
 use Rattle.usb_base.specs.Endpoint.{is_in_endpoint}
@@ -20,7 +20,7 @@ use Rattle.chapter9.specs.declared.requests.Request.TheVariants.{Read, Write}
 use Rattle.chapter9.specs.Requests.{request_of}
 use Rattle.chapter9.specs.State.{is_configured}
 use Rattle.chapter9.specs.Table.{class_of, table_of}
-use Rattle.chapter9.specs.Standard.{changed_by, given_by, outcome_by, read_outcome, stall, state_by, state_or, success, write_outcome}
+use Rattle.chapter9.specs.Standard.{changed_by, given_by, outcome_by, read_outcome, stall, state_by, success, write_outcome}
 use Rattle.model_device.specs.Transfer.{IsTransfer, IsOutcome, is_in_setup, setup_changes}
 use Rattle.model_device.specs.Gadget.{IsGadget, IsNamed, SameFacts, is_get_configuration, is_port_reset}
 use Rattle.model_device.specs.Function.{IsFunction}
@@ -67,7 +67,7 @@ request_outcome set parts s r t (Some (Write write)) e h = write_is_outcome t (c
 
 -- ---- a request that isn't carried out
 
-refused_write : (s : DevState) (new : Option DevState) → (write_outcome new).status ≢ Success → state_or s new ≡ s
+refused_write : (s : DevState) (new : Option DevState) → (write_outcome new).status ≢ Success → unwrap_or new s ≡ s
 refused_write s None h = refl
 refused_write s (Some new) h = absurd (h refl)
 
