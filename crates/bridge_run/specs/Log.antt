@@ -162,15 +162,12 @@ pub record WroteSent (runs_out : List LinkEvent → LinkEvent → List ℕ → L
   pub host : went Host calls ≡ sent_to_host (is_some terms.host) p events ++ (if host_at e (host_since (is_some terms.host) p events) then to_host else [])
   pub told : tells (told_of p events)
 
--- memory ran out before all, or as the latest event was taken
-abbrev pub WroteBefore : (List LinkEvent → LinkEvent → List ℕ → List ℕ → Type 0) → (List ℕ → Type 0) → Terms → Prescribed → List LinkEvent → List Call → Type 0
-WroteBefore runs_out tells terms p [] calls = (calls ≡ []) × tells []
-WroteBefore runs_out tells terms p (e ∷ events) calls = WroteSent runs_out tells terms p e events calls
-
+-- where memory ran out, that was before all, or as the latest event was taken
 abbrev pub HasWritten : ServeEnd → (List LinkEvent → LinkEvent → List ℕ → List ℕ → Type 0) → (List ℕ → Type 0) → Terms → Prescribed → List LinkEvent → List Call → Type 0
 HasWritten (end.LinkFault side) runs_out tells terms p events calls = WroteInPart tells terms p events calls
 HasWritten end.WriteFault runs_out tells terms p events calls = WroteInPart tells terms p events calls
-HasWritten end.Memory runs_out tells terms p events calls = WroteBefore runs_out tells terms p events calls
+HasWritten end.Memory runs_out tells terms p [] calls = (calls ≡ []) × tells []
+HasWritten end.Memory runs_out tells terms p (e ∷ events) calls = WroteSent runs_out tells terms p e events calls
 HasWritten e runs_out tells terms p events calls = Wrote tells terms p events calls
 
 -- behind the answer that made the latest event, or the closing of a client's link, nothing was called but writes, and the
@@ -190,22 +187,18 @@ pub record IsAtRest (terms : Terms) (p : Prescribed) (calls : List Call) : Type 
   pub quiet : 0 < quiet_rounds (asks_of calls)
   pub is_taped : terms.taped ≡ true
 
--- before all, or behind the event that it was wanted for
-abbrev pub CameOrNone : List Call → Type 0
-CameOrNone [] = Unit {0}
-CameOrNone (call ∷ calls) = JustCame (call ∷ calls)
-
 -- Why it ended. No link is up any more, and this is the first refusal; so many rounds in a row have brought nothing, no
 -- more and no fewer, in each of which both sides were asked; as much has come as may; or the last call failed, which was
 -- of this side. A sink or a tape fails, and memory runs out, behind the event that something is written for, or that is
--- taken; a tape fails too where lines are due behind a quiet round.
+-- taken; a tape fails too where lines are due behind a quiet round, and memory runs out before all, too.
 abbrev pub HasEnded : ServeEnd → Terms → Prescribed → List Call → Type 0
 HasEnded (end.Ended refused) terms p calls = (is_over terms p (events_of calls) ≡ true) × (refused ≡ first_of (p.refusals (events_of calls)))
 HasEnded end.Idle terms p calls = GoesOn terms p calls × (quiet_rounds (asks_of calls) ≡ terms.idle) × BeginsRound terms p calls
 HasEnded end.Spent terms p calls = (is_over terms p (events_of calls) ≡ false) × (terms.budget ≤ taken (asks_of calls))
 HasEnded (end.LinkFault side) terms p calls = last_fault calls ≡ Some side
 HasEnded end.WriteFault terms p calls = JustCame calls ⊎ IsAtRest terms p calls
-HasEnded end.Memory terms p calls = CameOrNone calls
+HasEnded end.Memory terms p [] = Unit {0}
+HasEnded end.Memory terms p calls = JustCame calls
 
 -- the calls that were made, one after the other, what they wrote and what the sink was told, and why it ended
 pub record Logged {D : Type 0} (e : ServeEnd) (gives : D → Call → D → Type 0) (runs_out : List LinkEvent → LinkEvent → List ℕ → List ℕ → Type 0) (tells : List ℕ → Type 0) (terms : Terms) (p : Prescribed) (old new : D) : Type 0 where

@@ -15,7 +15,7 @@ use Rattle.bridge_run.specs.Recorded.{has_any}
 use Rattle.bridge_run.specs.Ups.{client_at, client_behind, host_at, host_since, to_clients, sent_to_host, told_of}
 use Rattle.bridge_run.specs.Asks.{Ask}
 use Rattle.bridge_run.specs.RanOut.{Untold, is_recorded, RanOut}
-use Rattle.bridge_run.specs.Log.{Terms, events_before, IsFront, JustCame, CameOrNone, WroteInPart, WroteBefore, Logged}
+use Rattle.bridge_run.specs.Log.{Terms, events_before, IsFront, JustCame, WroteInPart, HasWritten, HasEnded, Logged}
 use Rattle.bridge_run.specs.inner.Follows.{Prepared}
 use Rattle.bridge_run.specs.inner.Logging.{IsTaking, WroteMore, all_if, FailedBehind}
 use Rattle.bridge_run.specs.inner.Recording.{TapeFaults}
@@ -193,9 +193,9 @@ stop-all gives runs_out terms p e events k client host bytes1 bytes2 begun d0 d1
 
 -- ---- the end
 
-came-or-none : (calls : List Call) → JustCame calls → CameOrNone calls
-came-or-none [] j = tt
-came-or-none (call ∷ calls) j = j
+came-or-none : (terms : Terms) (p : Prescribed) (calls : List Call) → JustCame calls → HasEnded end.Memory terms p calls
+came-or-none terms p [] j = tt
+came-or-none terms p (call ∷ calls) j = j
 
 pub stop-logs : {D : Type 0} → (x : ServeEnd) (gives : D → Call → D → Type 0) (runs_out : List LinkEvent → LinkEvent → List ℕ → List ℕ → Type 0) (tells : List ℕ → Type 0) (terms : Terms) (p : Prescribed) (e : LinkEvent) (events : List LinkEvent) (begun now : D) → tells (told_of p events)
     → StopLogs x gives runs_out terms p e events begun now → Logged x gives runs_out tells terms p begun now
@@ -206,8 +206,8 @@ stop-logs end.Memory gives runs_out tells terms p e events begun now told s = re
   calls = s.calls;
   called = s.called;
   settled = s.settled;
-  written = subst (λ (es : List LinkEvent). WroteBefore runs_out tells terms p es s.calls) (sym s.events-are) (record { to_client = s.to_client; to_host = s.to_host; ran_out = s.ran_out; client = s.client; host = s.host; told = told });
-  ended = came-or-none s.calls s.just_came;
+  written = subst (λ (es : List LinkEvent). HasWritten end.Memory runs_out tells terms p es s.calls) (sym s.events-are) (record { to_client = s.to_client; to_host = s.to_host; ran_out = s.ran_out; client = s.client; host = s.host; told = told });
+  ended = came-or-none terms p s.calls s.just_came;
 }
 stop-logs end.WriteFault gives runs_out tells terms p e events begun now told s = record {
   calls = s.calls;

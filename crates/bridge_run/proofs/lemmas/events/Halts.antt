@@ -22,6 +22,7 @@ use Rattle.bridge_run.specs.Recorded.{has_any}
 use Rattle.bridge_run.specs.Lent.{each, used, out_addresses, in_addresses, refusal_in, is_refusal, behind_piece, acts_behind, acts_of, is_coming, has_come, lent_bytes, refused_by, lent_refusals, lent_sends}
 use Rattle.bridge_run.specs.LentStops.{ActsStop, LentStops}
 use Rattle.bridge_run.specs.Log.{IsFront}
+use Rattle.bridge_run.specs.RanOut.{RanOutWithin}
 use Rattle.bridge_run.specs.inner.Sends.{SendsPart}
 use Rattle.bridge_run.specs.inner.Lending.{Acts, StopsIn, Halts, IsLent, act_of}
 use Rattle.bridge_run.proofs.lemmas.events.Acts.{Midway, one-act, heard-refused, gained-is, handed-is}
@@ -219,33 +220,24 @@ lent-part m s old mid past e sent sent' lent halts came empty client host = go h
     grown : sent'.to_client ≡ sent.to_client ++ sent'.to_client
     grown = ap (λ (l : List ℕ). l ++ sent'.to_client) (sym empty)
 
+    sends : IsFront sent'.to_client (gained (lent_bytes m s) past e) → RanOutWithin (LentStops m s) (lent_sends m s) past e sent'.to_client [] → SendsPart (LentStops m s) (lent_sends m s) past e sent sent'
+    sends front ran_out = record {
+      client = sent'.to_client;
+      host = [];
+      to_client = grown;
+      to_host = host ∙ sym (append-nil sent.to_host);
+      part = record { to_client = front; to_host = ([], refl); ran_out = ran_out };
+    }
+
     go : Halts m s acts behind (refused_by m s acts e) old.waiting mid.waiting → SendsPart (LentStops m s) (lent_sends m s) past e sent sent'
     go (inl x) =
         let all = stopped-more m s acts behind x.given x.stops in
         let is = handed x.given x.sent in
-        record {
-          client = sent'.to_client;
-          host = [];
-          to_client = grown;
-          to_host = host ∙ sym (append-nil sent.to_host);
-          part = record {
-            to_client = front-if (is_coming e || has_come past) old.waiting x.given all.0 sent'.to_client (gained (lent_bytes m s) past e) is
-                (handed-is (has_come past) (is_coming e) (host_out m s acts) (x.given ++ all.0) (host_out m s behind) old.waiting (old.waiting ++ (x.given ++ all.0)) all.1 lent.waiting refl);
-            to_host = ([], refl);
-            ran_out = inl (record { sent = x.given; stops = x.stops; client-is = client-of (has_come past) (is_coming e) (host_out m s acts) x.given old.waiting sent'.to_client lent.waiting is; host-is = refl });
-          };
-        }
+        sends
+        (front-if (is_coming e || has_come past) old.waiting x.given all.0 sent'.to_client (gained (lent_bytes m s) past e) is
+        (handed-is (has_come past) (is_coming e) (host_out m s acts) (x.given ++ all.0) (host_out m s behind) old.waiting (old.waiting ++ (x.given ++ all.0)) all.1 lent.waiting refl))
+        (inl (record { sent = x.given; stops = x.stops; client-is = client-of (has_come past) (is_coming e) (host_out m s acts) x.given old.waiting sent'.to_client lent.waiting is; host-is = refl }))
     go (inr x) =
         let is = handed x.given x.sent ∙ handed-is (has_come past) (is_coming e) (host_out m s acts) x.given (host_out m s behind) old.waiting (old.waiting ++ x.given) x.sends lent.waiting refl in
         let refused = gained-is (lent_refusals m s past) (refused_by m s acts e) (lent_refusals m s (e ∷ past)) refl in
-        record {
-          client = sent'.to_client;
-          host = [];
-          to_client = grown;
-          to_host = host ∙ sym (append-nil sent.to_host);
-          part = record {
-            to_client = ([], sym is ∙ sym (append-nil sent'.to_client));
-            to_host = ([], refl);
-            ran_out = inr (record { client-is = is; host-is = refl; refuses = ap has_any refused ∙ x.refuses });
-          };
-        }
+        sends ([], sym is ∙ sym (append-nil sent'.to_client)) (inr (record { client-is = is; host-is = refl; refuses = ap has_any refused ∙ x.refuses }))
