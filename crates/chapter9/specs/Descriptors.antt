@@ -35,14 +35,11 @@ abbrev pub is_configuration : List ℕ → Bool
 is_configuration blob = nat_le 9 (length blob) && nat_le 9 (byte_at 0 blob) && nat_le (byte_at 0 blob) (length blob) && byte_at 1 blob == 2 && le_at w16 2 blob == length blob
 
 -- an interface (9.6.5) has 9 bytes or more, an endpoint (9.6.6) 7 or more and an address with bits 4 to 6 clear
-abbrev pub is_right_by : ℕ → List ℕ → Bool
-is_right_by kind bytes =
-    if kind == 4 then nat_le 9 (byte_at 0 bytes)
-    else if kind == 5 then nat_le 7 (byte_at 0 bytes) && nat_lt (byte_at 2 bytes % 128) 16
-    else true
-
 abbrev pub is_right : List ℕ → Bool
-is_right bytes = is_whole bytes && is_right_by (byte_at 1 bytes) bytes
+is_right bytes =
+    is_whole bytes && (if byte_at 1 bytes == 4 then nat_le 9 (byte_at 0 bytes)
+    else if byte_at 1 bytes == 5 then nat_le 7 (byte_at 0 bytes) && nat_lt (byte_at 2 bytes % 128) 16
+    else true)
 
 abbrev pub first_wrong : List Descriptor → Option ℕ
 first_wrong [] = None
@@ -64,11 +61,8 @@ interface_at bytes = Interface (byte_at 2 bytes) (byte_at 3 bytes) (byte_at 5 by
 abbrev pub endpoint_at : List ℕ → Part
 endpoint_at bytes = Endpoint (byte_at 2 bytes) (kind_of_byte (byte_at 3 bytes % 4)) (le_at w16 4 bytes % 2048) (byte_at 6 bytes)
 
-abbrev pub part_by : ℕ → List ℕ → Part
-part_by kind bytes = if kind == 4 then interface_at bytes else if kind == 5 then endpoint_at bytes else Other kind
-
 abbrev pub part_at : List ℕ → Part
-part_at bytes = part_by (byte_at 1 bytes) bytes
+part_at bytes = if byte_at 1 bytes == 4 then interface_at bytes else if byte_at 1 bytes == 5 then endpoint_at bytes else Other (byte_at 1 bytes)
 
 -- the parts of a configuration without a wrong descriptor
 abbrev pub parts_of : List ℕ → List Part

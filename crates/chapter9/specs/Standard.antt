@@ -1,6 +1,7 @@
 -- What a device with one configuration and one interface answers on endpoint 0, and what it changes (USB 2.0, 9.4; the
 -- port reset is that of 11.24.2.13, and resets the device itself).
 use Rattle.std.specs.Prelude.{ℕ, ◌%◌, ◌==◌, ◌&&◌, nat_lt, min, Bool, true, false, List, [], ◌∷◌, length, take, Option, Some, None, is_some, unwrap_or, if◌then◌else◌}
+use Rattle.std.specs.Option.{option_map_or}
 use Rattle.usb_base.specs.Endpoint.{endpoint_index, row_of}
 use Rattle.usb_base.specs.declared.endpoint.EpKind.{EpKind}
 use Rattle.usb_base.specs.declared.endpoint.EpKind.TheVariants.{Invalid}
@@ -100,16 +101,8 @@ state_by parts s r (Some (Write write)) = unwrap_or (changed_by parts s r write)
 state_by parts s r _ = s
 
 -- of a transfer with this setup; without one, which isn't a transfer of endpoint 0, nothing is answered but a stall
-abbrev pub outcome_with : DescriptorSet → List Part → DevState → ℕ → Option Setup → Outcome
-outcome_with set parts s wanted None = stall
-outcome_with set parts s wanted (Some r) = outcome_by set parts s r wanted (request_of r)
-
-abbrev pub state_with : List Part → DevState → Option Setup → DevState
-state_with parts s None = s
-state_with parts s (Some r) = state_by parts s r (request_of r)
-
 abbrev pub outcome_of : DescriptorSet → List Part → DevState → Transfer → Outcome
-outcome_of set parts s t = outcome_with set parts s t.wanted t.setup
+outcome_of set parts s t = option_map_or (λ r. outcome_by set parts s r t.wanted (request_of r)) t.setup stall
 
 abbrev pub state_after : List Part → DevState → Transfer → DevState
-state_after parts s t = state_with parts s t.setup
+state_after parts s t = option_map_or (λ r. state_by parts s r (request_of r)) t.setup s

@@ -40,9 +40,6 @@ abbrev pub endpoints_after : ℕ → Option ℕ → List Part → List Placed
 endpoints_after alt before [] = []
 endpoints_after alt before (part ∷ parts) = placed part before ++ endpoints_after alt (interface_after alt before part) parts
 
-abbrev pub endpoints_of : ℕ → List Part → List Placed
-endpoints_of alt parts = endpoints_after alt None parts
-
 -- each row at its place, so that of two with one address the later counts
 abbrev pub with_rows : List EpRow → List Placed → List EpRow
 with_rows rows [] = rows
@@ -53,7 +50,7 @@ abbrev pub control_rows : List EpRow
 control_rows = slice_set (slice_set no_endpoints.rows 0 control_row) 16 control_row
 
 abbrev pub table_of : List Part → DevState → EpTable
-table_of parts s = record { rows = if is_configured s then with_rows control_rows (endpoints_of s.alt parts) else control_rows }
+table_of parts s = record { rows = if is_configured s then with_rows control_rows (endpoints_after s.alt None parts) else control_rows }
 
 -- ---- the interface
 

@@ -1,7 +1,7 @@
 //! Which endpoints a device has in a state, and of which class its interface is.
 
-ghost use Rattle.std.specs.Prelude.{◌≡◌};
-ghost use Rattle.chapter9.specs.Table.{class_at, class_of, endpoints_of, interface_after, placed, table_of, with_row, with_rows};
+ghost use Rattle.std.specs.Prelude.{◌≡◌, None};
+ghost use Rattle.chapter9.specs.Table.{class_at, class_of, endpoints_after, interface_after, placed, table_of, with_row, with_rows};
 
 use crate::part::{Part, Parts};
 use crate::state::DevState;
@@ -39,7 +39,7 @@ pub fn table_of(parts: &Parts, state: &DevState) -> EpTable
 
 // Adds the endpoints of an alternate setting: those after an interface descriptor with it, up to the next one.
 fn add_setting(table: &mut EpTable, parts: &Parts, alt: u8)
-    ensures { table.new.rows ≡ with_rows table.old.rows (endpoints_of alt parts.now) }
+    ensures { table.new.rows ≡ with_rows table.old.rows (endpoints_after alt None parts.now) }
 {
     let mut interface = None;
     for part in parts.as_slice() {

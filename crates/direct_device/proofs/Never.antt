@@ -1,6 +1,7 @@
 -- None of the four devices ends a transfer as cancelled by itself.
 use Rattle.std.proofs.Common.{◌≡◌, ℕ, ◌+◌, Bool, true, false, cond, List, [], ◌++◌, length, take, drop, Option, Some, None, refl, subst}
 use Rattle.std.specs.Prelude.{◌==◌, ◌&&◌, not, nat_lt, IfSome}
+use Rattle.std.specs.Option.{option_map_or}
 use Rattle.usb_base.specs.Endpoint.{is_in_endpoint}
 use Rattle.usb_base.specs.declared.setup.Setup.{Setup}
 use Rattle.usb_base.specs.declared.status.UsbStatus.TheVariants.{Success}
@@ -12,7 +13,7 @@ use Rattle.chapter9.specs.declared.standard_requests.DescriptorSet.{DescriptorSe
 use Rattle.chapter9.specs.declared.requests.Request.{Request}
 use Rattle.chapter9.specs.declared.requests.Request.TheVariants.{Read, Write}
 use Rattle.chapter9.specs.Requests.{request_of}
-use Rattle.chapter9.specs.Standard.{given_by, changed_by, read_outcome, write_outcome, outcome_by, outcome_with, stall, success}
+use Rattle.chapter9.specs.Standard.{given_by, changed_by, read_outcome, write_outcome, outcome_by, stall, success}
 use Rattle.model_device.specs.Device.{Device, device_parts, is_running, with_kept, perform, perform_by, meaning_of}
 use Rattle.model_device.specs.Keyboard.{keyboard}
 use Rattle.model_device.specs.Loopback.{loopback, limit, taken_in, given_back}
@@ -46,7 +47,7 @@ by-done (Some r) h done e = let same : r.1 ≡ done.1 = cc in subst IsDone same 
 
 -- ---- endpoint 0
 
-control-done : (set : DescriptorSet) (parts : List Part) (s : DevState) (wanted : ℕ) (setup : Option Setup) → IsDone (outcome_with set parts s wanted setup)
+control-done : (set : DescriptorSet) (parts : List Part) (s : DevState) (wanted : ℕ) (setup : Option Setup) → IsDone (option_map_or (λ r. outcome_by set parts s r wanted (request_of r)) setup stall)
 control-done set parts s wanted None = refl
 control-done set parts s wanted (Some r) = go (request_of r)
   where

@@ -1,24 +1,24 @@
 -- Each item of a legal trace keeps what holds.
 use Rattle.std.proofs.Common.{◌≡◌, ℕ, Bool, true, false, cond, not, List, [], ◌∷◌, ◌++◌, length, map, Option, Some, None, is_some, refl, sym, ap, subst, ◌∙◌, arith}
-use Rattle.std.specs.Prelude.{filter}
-use Rattle.std.specs.List.{find}
+use Rattle.std.specs.Prelude.{filter, slice_get, drop, IsSomeAnd, IsSome}
+use Rattle.std.specs.List.{find, list_any}
 use Rattle.std.proofs.lemmas.Bool.{eqb-true}
+use Rattle.usb_base.specs.Status.{is_success}
 use Rattle.usb_base.specs.declared.transfer.Outcome.{Outcome}
 use Rattle.usb_base.specs.declared.transfer.StreamPacket.{StreamPacket}
 use Rattle.stream_buffers.specs.Cuts.{Cut}
 use Rattle.model_device.specs.Meaning.{Meaning}
-use Rattle.model_device.specs.Device.{is_success}
 use Rattle.gate_history.specs.client.Requests.{Request}
 use Rattle.gate_history.specs.write.Errno.{eshutdown}
 use Rattle.gate_history.specs.host.Fillings.{Given}
-use Rattle.gate_history.specs.client.Verdict.{Now, verdict, goes_by_id}
+use Rattle.gate_history.specs.client.Verdict.{Now, verdict, goes_by_id, changes}
 use Rattle.gate_history.specs.client.Submits.{is_waiting}
 use Rattle.gate_history.specs.write.Answers.{is_cancelled}
 use Rattle.gate_history.specs.step.Meaning.{by_stream}
 use Rattle.gate_history.specs.state.Ups.{Up, no_streams, stream_at, stream_of}
-use Rattle.direct_device.specs.Direct.{Live, Waiting, Ran, Direct, no_way, number, is_number, normal_of, seen_of, is_at, without_first, any_changes, change_in, cancelled}
-use Rattle.direct_device.specs.Acting.{Deed, Import, Submit, Unlink, Perform, Cancel, Answer, Offer, Arrive, Gone, ClientGone, act, made_of, is_ended, joins_live, is_taken, asked_back, marked, is_cancelled_by, is_flushed, performed_by, performed_first, cancelled_by, answered_by, filled_by, cut_for, first_ran, rest_ran, without_number, offered_by, arrived_by}
-use Rattle.direct_device.specs.Legal.{CanPerform, CanCancel, CanAnswer, CanAnswerBy, IsRan, IsAllowed}
+use Rattle.direct_device.specs.Direct.{Live, Waiting, Ran, Direct, no_way, number, is_number, normal_of, seen_of, is_at, without_first, change_in, cancelled}
+use Rattle.direct_device.specs.Acting.{Deed, Import, Submit, Unlink, Perform, Cancel, Answer, Offer, Arrive, Gone, ClientGone, act, made_of, is_ended, joins_live, is_taken, asked_back, marked, is_cancelled_by, is_flushed, performed_by, performed_first, cancelled_by, answered_by, filled_by, cut_for, without_number, offered_by, arrived_by}
+use Rattle.direct_device.specs.Legal.{CanAnswerBy, IsAllowed}
 use Rattle.direct_device.specs.Performed.{NeverCancels}
 use Rattle.direct_device.proofs.Counts.{count-map}
 use Rattle.direct_device.proofs.Taken.{not-both, clash, find-passes, count-taken}
@@ -37,7 +37,7 @@ keep-submit m d c r inv ok = record {
 }
   where
     now : d.gone ≡ true → made_of m d r ≡ Now eshutdown
-    now h = ap (λ (b : Bool). by_stream (stream_at d.streams r.transfer.ep) (verdict b (length d.live) (any_changes d.live) (m.table d.gadget) true r)) h ∙ gone-now (stream_at d.streams r.transfer.ep)
+    now h = ap (λ (b : Bool). by_stream (stream_at d.streams r.transfer.ep) (verdict b (length d.live) (list_any (λ (l : Live). changes l.load.verdict) d.live) (m.table d.gadget) true r)) h ∙ gone-now (stream_at d.streams r.transfer.ep)
 
     there : goes_by_id (made_of m d r) ≡ true → d.gone ≡ false
     there goes = go d.gone refl
@@ -70,14 +70,14 @@ keep-perform {S = S} m d c ep n inv ok = go (find (is_at ep) d.queue) refl ok.1
         new : List Ran
         new = map (λ (y : Waiting). cancelled y.load) (filter flushed rest) ++ record { load = q.load; outcome = seen_of q.load (m.configuration out.0) out.1 } ∷ []
 
-    go : (o : Option Waiting) → find (is_at ep) d.queue ≡ o → CanPerform m d n o → Holds m (performed_first m d ep o) (counted c (Perform ep n))
+    go : (o : Option Waiting) → find (is_at ep) d.queue ≡ o → IsSomeAnd o (λ q. (is_number n q.load ≡ true) × IsSome (m.perform d.gadget (normal_of q.load))) → Holds m (performed_first m d ep o) (counted c (Perform ep n))
     go None first can = absurd can
     go (Some q) first can = by q first can.0 (m.perform d.gadget (normal_of q.load)) refl can.1
 
 keep-cancel : {S : Type 0} (m : Meaning S) (d : Direct S) (c : ℕ → ℕ) (n : ℕ) → Holds m d c → IsAllowed m d (Cancel n) → Holds m (act m d (Cancel n)) c
 keep-cancel m d c n inv ok = go (find (is_cancelled_by n) d.queue) refl ok.1
   where
-    go : (o : Option Waiting) → find (is_cancelled_by n) d.queue ≡ o → CanCancel o → Holds m (cancelled_by d n o) c
+    go : (o : Option Waiting) → find (is_cancelled_by n) d.queue ≡ o → IsSomeAnd o (λ q. q.asked ≡ true) → Holds m (cancelled_by d n o) c
     go None first can = absurd can
     go (Some q) first can = record {
       once = λ i k. subst (λ (b : Bool). Once (NeverCancels m) d.live (without_first (is_cancelled_by n) d.queue) (cond b (d.ran ++ cancelled q.load ∷ []) d.ran) c) (sym i) (cancelled-once d.live d.queue d.ran c n q (inv.once i k) first);
@@ -101,8 +101,8 @@ keep-answer m d c n inv ok = go (find (live_number n) d.live) refl ok.1
       lost = λ k. ap (without_number (number l.load)) (inv.lost k);
     }
 
-    ran : (l : Live) → find (live_number n) d.live ≡ Some l → (rs : List Ran) → d.ran ≡ rs → IsRan (number l.load) (first_ran rs) →
-        Inv (NeverCancels m) d.imported d.gone (without_number (number l.load) d.live) d.queue (rest_ran rs) c
+    ran : (l : Live) → find (live_number n) d.live ≡ Some l → (rs : List Ran) → d.ran ≡ rs → IsSomeAnd (slice_get rs 0) (λ r. is_number (number l.load) r.load ≡ true) →
+        Inv (NeverCancels m) d.imported d.gone (without_number (number l.load) d.live) d.queue (drop 1 rs) c
     ran l found [] is can = absurd can
     ran l found (r ∷ rs) is can = record {
       once = λ i k.
@@ -115,11 +115,11 @@ keep-answer m d c n inv ok = go (find (live_number n) d.live) refl ok.1
     }
 
     by : (l : Live) → find (live_number n) d.live ≡ Some l → (b : Bool) → is_waiting l.load.verdict ≡ b → CanAnswerBy d l.load b →
-        Holds m (cond b (filled_by d l.load (cut_for d l.load)) (record d { live = without_number (number l.load) d.live; ran = rest_ran d.ran })) c
+        Holds m (cond b (filled_by d l.load (cut_for d l.load)) (record d { live = without_number (number l.load) d.live; ran = drop 1 d.ran })) c
     by l found true waits can = filled l found waits (cut_for d l.load)
     by l found false waits can = ran l found d.ran refl can
 
-    go : (o : Option Live) → find (live_number n) d.live ≡ o → CanAnswer d o → Holds m (answered_by d o) c
+    go : (o : Option Live) → find (live_number n) d.live ≡ o → IsSomeAnd o (λ l. CanAnswerBy d l.load (is_waiting l.load.verdict)) → Holds m (answered_by d o) c
     go None found can = absurd can
     go (Some l) found can = by l found (is_waiting l.load.verdict) refl can
 

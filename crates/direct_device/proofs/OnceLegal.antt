@@ -1,14 +1,15 @@
 -- What holds along a whole legal trace, and what it says where something is performed, answered or lost.
 use Rattle.std.proofs.Common.{◌≡◌, ℕ, ◌≤◌, Bool, true, false, List, [], ◌∷◌, ◌++◌, Option, Some, None, refl, sym, ap, subst, ◌∙◌, arith}
+use Rattle.std.specs.Prelude.{slice_get, IsSomeAnd, IsSome}
 use Rattle.std.specs.List.{find}
 use Rattle.std.proofs.lemmas.Bool.{eqb-true}
 use Rattle.model_device.specs.Meaning.{Meaning}
 use Rattle.gate_history.proofs.lemmas.Lists.{Each, both, Each-weaker}
 use Rattle.gate_history.specs.client.Verdict.{goes_by_id}
 use Rattle.gate_history.specs.client.Submits.{is_waiting}
-use Rattle.direct_device.specs.Direct.{Live, Waiting, Ran, Direct, first_direct, number, is_number, is_at}
-use Rattle.direct_device.specs.Acting.{Deed, Perform, Answer, Gone, act, first_ran}
-use Rattle.direct_device.specs.Legal.{CanPerform, CanAnswer, CanAnswerBy, IsRan, IsAllowed, AreAllowed, acts}
+use Rattle.direct_device.specs.Direct.{Live, Waiting, Ran, Direct, first_direct, number, is_number, is_at, normal_of}
+use Rattle.direct_device.specs.Acting.{Deed, Perform, Answer, Gone, act}
+use Rattle.direct_device.specs.Legal.{CanAnswerBy, IsAllowed, AreAllowed, acts}
 use Rattle.direct_device.proofs.Counts.{count, any-some, itself, Each-and}
 use Rattle.direct_device.specs.Performed.{times_performed, NeverCancels, FitsPerform}
 use Rattle.direct_device.proofs.Once.{was_performed, counted, counts-on, queued_number, done, by_id, live_number, ran_number, Idle, Once, Holds, found-zero, by-id-number}
@@ -44,25 +45,25 @@ there-of m d c n l inv found = go d.gone refl
     go false e = refl
 
 pub answer-once : {S : Type 0} (m : Meaning S) → NeverCancels m → (d : Direct S) (c : ℕ → ℕ) (n : ℕ) (l : Live) → Holds m d c → find (live_number n) d.live ≡ Some l → is_waiting l.load.verdict ≡ false → IsAllowed m d (Answer n) →
-    c n ≡ was_performed (first_ran d.ran)
-answer-once m never d c n l inv found waits ok = go d.ran refl (subst (CanAnswerBy d l.load) waits (subst (CanAnswer d) found ok.1))
+    c n ≡ was_performed (slice_get d.ran 0)
+answer-once m never d c n l inv found waits ok = go d.ran refl (subst (CanAnswerBy d l.load) waits (subst (λ (o : Option Live). IsSomeAnd o (λ l. CanAnswerBy d l.load (is_waiting l.load.verdict))) found ok.1))
   where
     is : number l.load ≡ n
     is = eqb-true (number l.load) n (find-passes (live_number n) d.live l found)
 
-    go : (rs : List Ran) → d.ran ≡ rs → IsRan (number l.load) (first_ran d.ran) → c n ≡ was_performed (first_ran d.ran)
-    go [] e h = absurd (subst (λ (y : List Ran). IsRan (number l.load) (first_ran y)) e h)
+    go : (rs : List Ran) → d.ran ≡ rs → IsSomeAnd (slice_get d.ran 0) (λ r. is_number (number l.load) r.load ≡ true) → c n ≡ was_performed (slice_get d.ran 0)
+    go [] e h = absurd (subst (λ (y : List Ran). IsSomeAnd (slice_get y 0) (λ r. is_number (number l.load) r.load ≡ true)) e h)
     go (r ∷ rs) e h =
-        let same : number r.load ≡ n = eqb-true (number r.load) (number l.load) (subst (λ (y : List Ran). IsRan (number l.load) (first_ran y)) e h) ∙ is in
+        let same : number r.load ≡ n = eqb-true (number r.load) (number l.load) (subst (λ (y : List Ran). IsSomeAnd (slice_get y 0) (λ r. is_number (number l.load) r.load ≡ true)) e h) ∙ is in
         let o = inv.once ok.0 (there-of m d c n l inv found) in
         let came = subst (Each (λ (y : Ran). c (number y.load) ≡ done y.outcome.status)) e (o.came never) in
-        ap c (sym same) ∙ came.0 ∙ ap (λ (y : List Ran). was_performed (first_ran y)) (sym e)
+        ap c (sym same) ∙ came.0 ∙ ap (λ (y : List Ran). was_performed (slice_get y 0)) (sym e)
 
 -- what is performed wasn't performed before, and in a session it is live
 pub again-once : {S : Type 0} (m : Meaning S) (d : Direct S) (c : ℕ → ℕ) (ep n : ℕ) → Holds m d c → IsAllowed m d (Perform ep n) → FitsPerform d (c n) n
 again-once m d c ep n inv ok = go (find (is_at ep) d.queue) refl ok.1
   where
-    go : (o : Option Waiting) → find (is_at ep) d.queue ≡ o → CanPerform m d n o → FitsPerform d (c n) n
+    go : (o : Option Waiting) → find (is_at ep) d.queue ≡ o → IsSomeAnd o (λ q. (is_number n q.load ≡ true) × IsSome (m.perform d.gadget (normal_of q.load))) → FitsPerform d (c n) n
     go None first can = absurd can
     go (Some q) first can =
         let own = weight-true (queued_number n q) can.0 in

@@ -3,12 +3,13 @@ use Rattle.std.proofs.Common.{◌≡◌, ℕ, ◌+◌, ◌≤◌, ◌==◌, Bool
 use Rattle.std.specs.Prelude.{filter}
 use Rattle.std.specs.List.{find}
 use Rattle.std.proofs.lemmas.Bool.{eqb-true}
+use Rattle.usb_base.specs.Status.{is_success}
 use Rattle.usb_base.specs.declared.transfer.Outcome.{Outcome}
 use Rattle.control_route.specs.declared.route.Route.{Route}
 use Rattle.control_route.specs.declared.route.Route.TheVariants as route
 use Rattle.usb_base.specs.declared.setup.Setup.{Setup}
-use Rattle.model_device.specs.Device.{is_success}
-use Rattle.model_device.specs.Submit.{routed_outcome, byte_seen, status_alone}
+use Rattle.chapter9.specs.Standard.{ended}
+use Rattle.model_device.specs.Submit.{routed_outcome, byte_seen}
 use Rattle.gate_history.proofs.lemmas.Lists.{Each, both, Each-append, Each-filter}
 use Rattle.gate_history.specs.client.Requests.{Request}
 use Rattle.gate_history.specs.client.Verdict.{Verdict, Routed, goes_by_id}
@@ -43,7 +44,7 @@ unlink-once live queue ran c by target o = record {
 
 -- what is seen of an outcome has its status
 byte-status : (len byte : ℕ) (o : Outcome) → (byte_seen len byte o).status ≡ o.status
-byte-status len byte o = elim (is_success o.status) as (λ b. (cond b (record { status = o.status; done = length (take len (byte ∷ [])); body = take len (byte ∷ []) }) (status_alone o)).status ≡ o.status) [ true ↦ refl | false ↦ refl ]
+byte-status len byte o = elim (is_success o.status) as (λ b. (cond b (record { status = o.status; done = length (take len (byte ∷ [])); body = take len (byte ∷ []) }) (ended o.status)).status ≡ o.status) [ true ↦ refl | false ↦ refl ]
 
 route-status : (r : Route) (s : Setup) (configuration : ℕ) (o : Outcome) → (routed_outcome r s configuration o).status ≡ o.status
 route-status route.GetConfig s configuration o = byte-status s.length configuration o

@@ -1,6 +1,6 @@
 -- What the answers of a legal trace say of its performs.
 use Rattle.std.proofs.Common.{◌≡◌, ℕ, ◌&&◌, ◌||◌, Bool, true, false, cond, List, [], ◌∷◌, Option, Some, None, refl, sym, ap, subst, ◌∙◌}
-use Rattle.std.specs.Prelude.{pos}
+use Rattle.std.specs.Prelude.{pos, slice_get}
 use Rattle.std.specs.List.{find, list_any}
 use Rattle.std.proofs.lemmas.Bool.{eqb-true}
 use Rattle.usb_base.specs.declared.status.UsbStatus.{UsbStatus}
@@ -17,7 +17,7 @@ use Rattle.gate_history.specs.host.Fillings.{Given, Transferred, Isochronous}
 use Rattle.gate_history.specs.client.Submits.{is_waiting}
 use Rattle.gate_history.specs.write.Answers.{is_cancelled, is_short, ret_unlink, answers_by, with_outcome, with_given}
 use Rattle.direct_device.specs.Direct.{Load, Live, Ran, Direct, first_direct, as_submission, number, is_number}
-use Rattle.direct_device.specs.Acting.{Deed, Import, Submit, Unlink, Perform, Cancel, Answer, Offer, Arrive, Gone, ClientGone, answers_of, is_taken, is_target, unlink_answers, filled_answers, ran_answers, cut_for, first_ran}
+use Rattle.direct_device.specs.Acting.{Deed, Import, Submit, Unlink, Perform, Cancel, Answer, Offer, Arrive, Gone, ClientGone, answers_of, is_taken, is_target, unlink_answers, filled_answers, ran_answers, cut_for}
 use Rattle.direct_device.specs.Legal.{IsAllowed, acts}
 use Rattle.direct_device.specs.Performed.{times_performed, NeverCancels, is_won, is_good, FitsEnd, Fits, ItemsFit}
 use Rattle.direct_device.proofs.Once.{was_performed, live_number, Idle, Holds, waits-no_id, id-no_wait}
@@ -103,8 +103,8 @@ good-done_by s o (Some own) e = go (is_wire s.verdict && is_cancelled o.status) 
     go false k = good-done s.request o (alone (is_good (with_outcome s.request o)) k)
 
 -- the answers of one that doesn't wait
-own-answers : {S : Type 0} (d : Direct S) (l : Live) → is_waiting l.load.verdict ≡ false → answers_of d (Some l) ≡ ran_answers l (first_ran d.ran)
-own-answers d l waits = ap (λ (b : Bool). cond b (filled_answers l.load (cut_for d l.load)) (ran_answers l (first_ran d.ran))) waits
+own-answers : {S : Type 0} (d : Direct S) (l : Live) → is_waiting l.load.verdict ≡ false → answers_of d (Some l) ≡ ran_answers l (slice_get d.ran 0)
+own-answers d l waits = ap (λ (b : Bool). cond b (filled_answers l.load (cut_for d l.load)) (ran_answers l (slice_get d.ran 0))) waits
 
 won-once : {S : Type 0} (m : Meaning S) → NeverCancels m → (d : Direct S) (c : ℕ → ℕ) (n : ℕ) (l : Live) → Holds m d c → IsAllowed m d (Answer n) → find (live_number n) d.live ≡ Some l → list_any is_won (answers_of d (Some l)) ≡ true → c n ≡ 0
 won-once m never d c n l inv ok found told = go (is_waiting l.load.verdict) refl told
@@ -113,13 +113,13 @@ won-once m never d c n l inv ok found told = go (is_waiting l.load.verdict) refl
     ran None e = refl
     ran (Some r) e = ap (λ (b : Bool). cond b 0 1) (won-cancelled (as_submission l.load) r.outcome l.unlinker e)
 
-    go : (b : Bool) → is_waiting l.load.verdict ≡ b → list_any is_won (cond b (filled_answers l.load (cut_for d l.load)) (ran_answers l (first_ran d.ran))) ≡ true → c n ≡ 0
+    go : (b : Bool) → is_waiting l.load.verdict ≡ b → list_any is_won (cond b (filled_answers l.load (cut_for d l.load)) (ran_answers l (slice_get d.ran 0))) ≡ true → c n ≡ 0
     go true waits e = absurd (clash (list_any is_won (filled_answers l.load (cut_for d l.load))) e (filled-alone l.load (cut_for d l.load)))
-    go false waits e = answer-once m never d c n l inv found waits ok ∙ ran (first_ran d.ran) e
+    go false waits e = answer-once m never d c n l inv found waits ok ∙ ran (slice_get d.ran 0) e
 
 good-once : {S : Type 0} (m : Meaning S) → NeverCancels m → (d : Direct S) (c : ℕ → ℕ) (n : ℕ) (l : Live) → Holds m d c → IsAllowed m d (Answer n) → find (live_number n) d.live ≡ Some l → goes_by_id l.load.verdict ≡ true → list_any is_good (answers_of d (Some l)) ≡ true → c n ≡ 1
 good-once m never d c n l inv ok found goes told =
-    answer-once m never d c n l inv found waits ok ∙ ran (first_ran d.ran) (ap (list_any is_good) (sym (own-answers d l waits)) ∙ told)
+    answer-once m never d c n l inv found waits ok ∙ ran (slice_get d.ran 0) (ap (list_any is_good) (sym (own-answers d l waits)) ∙ told)
   where
     waits : is_waiting l.load.verdict ≡ false
     waits = id-no_wait l.load.verdict goes

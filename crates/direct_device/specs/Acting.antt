@@ -1,6 +1,8 @@
 -- What each item of a trace does to the device attached directly, and what it answers.
-use Rattle.std.specs.Prelude.{ℕ, ◌&&◌, ◌||◌, not, Bool, true, false, if◌then◌else◌, List, [], ◌∷◌, ◌++◌, filter, map, length, Option, Some, None, is_none, pos}
+use Rattle.std.specs.Prelude.{ℕ, ◌&&◌, ◌||◌, not, Bool, true, false, if◌then◌else◌, List, [], ◌∷◌, ◌++◌, filter, map, length, Option, Some, None, is_none, pos, drop, slice_get, option_and_then}
+use Rattle.std.specs.Option.{option_map_or, option_to_list}
 use Rattle.std.specs.List.{find, list_any}
+use Rattle.usb_base.specs.Status.{is_success}
 use Rattle.usb_base.specs.declared.endpoint.EpTable.{EpTable}
 use Rattle.usb_base.specs.declared.transfer.Outcome.{Outcome}
 use Rattle.usb_base.specs.declared.transfer.StreamPacket.{StreamPacket}
@@ -9,10 +11,9 @@ use Rattle.stream_buffers.specs.Held.{is_full}
 use Rattle.stream_buffers.specs.Cuts.{Cut}
 use Rattle.control_route.specs.declared.route.Route.{Route}
 use Rattle.model_device.specs.Meaning.{Meaning}
-use Rattle.model_device.specs.Device.{is_success}
 use Rattle.redir_host.specs.device.Changes.{is_touched}
 use Rattle.gate_history.specs.client.Requests.{Request}
-use Rattle.gate_history.specs.client.Verdict.{Verdict, Now, IsoOut, verdict, is_wire, goes_by_id}
+use Rattle.gate_history.specs.client.Verdict.{Verdict, Now, IsoOut, verdict, is_wire, goes_by_id, changes}
 use Rattle.gate_history.specs.write.Errno.{econnreset}
 use Rattle.gate_history.specs.host.Fillings.{Given, cut_of}
 use Rattle.gate_history.specs.state.Sides.{or_else}
@@ -21,7 +22,7 @@ use Rattle.gate_history.specs.state.Ups.{Up, no_streams, stream_at, stream_of, h
 use Rattle.gate_history.specs.step.Meaning.{by_stream}
 use Rattle.gate_history.specs.write.Answers.{ret_unlink, without_packets, with_given, answers_by, lost_answer}
 use Rattle.gate_history.specs.write.Errno.{eshutdown}
-use Rattle.direct_device.specs.Direct.{Load, Live, Waiting, Ran, Direct, no_way, as_submission, number, is_number, any_changes, normal_of, seen_of, change_in, cancelled, is_at, without_first, way_by, with_way}
+use Rattle.direct_device.specs.Direct.{Load, Live, Waiting, Ran, Direct, no_way, as_submission, number, is_number, normal_of, seen_of, change_in, cancelled, is_at, without_first, way_by, with_way}
 
 -- an item of a trace; of a submit, what it asks
 pub data Deed : Type 0 where
@@ -41,7 +42,7 @@ pub data Deed : Type 0 where
 -- a stream that is up keeps its row
 abbrev pub made_of : {S : Type 0} → Meaning S → Direct S → Request → Verdict
 made_of m d r =
-    let v : Verdict = verdict d.gone (length d.live) (any_changes d.live) (m.table d.gadget) true r in
+    let v : Verdict = verdict d.gone (length d.live) (list_any (λ (l : Live). changes l.load.verdict) d.live) (m.table d.gadget) true r in
     by_stream (stream_at d.streams r.transfer.ep) v
 
 -- those that wait for packets of a stream which the submit ends
@@ -108,8 +109,7 @@ unlink_answers d by target =
 
 -- what a change flushes, by the table before it
 abbrev pub is_flushed : Option Route → Bool → EpTable → Waiting → Bool
-is_flushed None success table q = false
-is_flushed (Some route) success table q = success && is_touched route table (normal_of q.load).ep
+is_flushed change success table q = option_map_or (λ route. success && is_touched route table (normal_of q.load).ep) change false
 
 abbrev pub joins_ran : {S : Type 0} → Direct S → List Ran → List Ran
 joins_ran d more = if d.imported then d.ran ++ more else d.ran
@@ -144,24 +144,12 @@ cancelled_by d n (Some q) = record d {
 
 -- ---- an answer
 
-abbrev pub first_ran : List Ran → Option Ran
-first_ran [] = None
-first_ran (r ∷ rs) = Some r
-
-abbrev pub rest_ran : List Ran → List Ran
-rest_ran [] = []
-rest_ran (r ∷ rs) = rs
-
 abbrev pub without_number : ℕ → List Live → List Live
 without_number n live = filter (λ (l : Live). not (is_number n l.load)) live
 
 -- what its stream gives to a submit that waits for it
-abbrev pub cut_by : Request → Option Up → Option (Cut Given)
-cut_by r None = None
-cut_by r (Some up) = cut_of up.row.max_packet r up.held
-
 abbrev pub cut_for : {S : Type 0} → Direct S → Load → Option (Cut Given)
-cut_for d l = cut_by l.request (stream_at d.streams l.request.transfer.ep)
+cut_for d l = option_and_then (λ (up : Up). cut_of up.row.max_packet l.request up.held) (stream_at d.streams l.request.transfer.ep)
 
 abbrev pub filled_by : {S : Type 0} → Direct S → Load → Option (Cut Given) → Direct S
 filled_by d l None = d
@@ -171,23 +159,21 @@ filled_by d l (Some cut) = record d {
 }
 
 abbrev pub filled_answers : Load → Option (Cut Given) → List UrbPacket
-filled_answers l None = []
-filled_answers l (Some cut) = with_given l.request cut.gives ∷ []
+filled_answers l filled = map (λ cut. with_given l.request cut.gives) (option_to_list filled)
 
 abbrev pub ran_answers : Live → Option Ran → List UrbPacket
-ran_answers l None = []
-ran_answers l (Some r) = answers_by (as_submission l.load) r.outcome l.unlinker
+ran_answers l ran = option_map_or (λ r. answers_by (as_submission l.load) r.outcome l.unlinker) ran []
 
 abbrev pub answered_by : {S : Type 0} → Direct S → Option Live → Direct S
 answered_by d None = d
 answered_by d (Some l) =
     if is_waiting l.load.verdict then filled_by d l.load (cut_for d l.load)
-    else record d { live = without_number (number l.load) d.live; ran = rest_ran d.ran }
+    else record d { live = without_number (number l.load) d.live; ran = drop 1 d.ran }
 
 abbrev pub answers_of : {S : Type 0} → Direct S → Option Live → List UrbPacket
 answers_of d None = []
 answers_of d (Some l) =
-    if is_waiting l.load.verdict then filled_answers l.load (cut_for d l.load) else ran_answers l (first_ran d.ran)
+    if is_waiting l.load.verdict then filled_answers l.load (cut_for d l.load) else ran_answers l (slice_get d.ran 0)
 
 -- ---- streams
 
@@ -202,14 +188,17 @@ abbrev pub received : Up → StreamPacket → List StreamPacket
 received up p = if is_full up.held then up.held else up.held ++ p ∷ []
 
 abbrev pub arrived_by : {S : Type 0} → Direct S → ℕ → Option Up → List StreamPacket → Direct S
-arrived_by d ep None packets = d
-arrived_by d ep (Some up) [] = d
 arrived_by d ep (Some up) (p ∷ packets) = record d {
   streams = hold ep (received up p) d.streams;
   way = with_way ep packets d.way;
 }
+arrived_by d ep _ _ = d
 
 -- ---- all items
+
+-- nothing is asked of it any more, nor held for anyone
+abbrev pub cut_off : {S : Type 0} → Direct S → Direct S
+cut_off d = record d { live = []; streams = no_streams; way = no_way }
 
 abbrev pub act : {S : Type 0} → Meaning S → Direct S → Deed → Direct S
 act m d Import = record d { imported = true }
@@ -220,16 +209,9 @@ act m d (Cancel seqnum) = cancelled_by d seqnum (find (is_cancelled_by seqnum) d
 act m d (Answer seqnum) = answered_by d (find (λ (l : Live). is_number seqnum l.load) d.live)
 act m d (Offer ep) = offered_by d ep (m.offer d.gadget ep)
 act m d (Arrive ep) = arrived_by d ep (stream_of d.streams ep) (d.way ep)
-act m d Gone = record d { live = []; streams = no_streams; way = no_way; gone = true }
+act m d Gone = record (cut_off d) { gone = true }
 act m d ClientGone =
-    if d.imported then record d {
-      live = [];
-      queue = map (λ (q : Waiting). record q { asked = true }) d.queue;
-      ran = [];
-      streams = no_streams;
-      way = no_way;
-      imported = false;
-    }
+    if d.imported then record (cut_off d) { queue = map (λ (q : Waiting). record q { asked = true }) d.queue; ran = []; imported = false }
     else d
 
 abbrev pub answers : {S : Type 0} → Meaning S → Direct S → Deed → List UrbPacket

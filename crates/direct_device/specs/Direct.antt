@@ -1,18 +1,18 @@
 -- The device attached directly: what it keeps, and what is read of that. It has no id, packet, capability or wire.
-use Rattle.std.specs.Prelude.{ℕ, ◌==◌, Bool, false, if◌then◌else◌, List, [], Option, Some, None, unwrap_or}
-use Rattle.std.specs.List.{list_any}
+use Rattle.std.specs.Prelude.{ℕ, ◌==◌, Bool, false, if◌then◌else◌, List, [], Option, Some, None, unwrap_or, is_some}
 use Rattle.usb_base.specs.declared.transfer.Transfer.{Transfer}
 use Rattle.usb_base.specs.declared.transfer.Outcome.{Outcome}
 use Rattle.usb_base.specs.declared.transfer.StreamPacket.{StreamPacket}
 use Rattle.usb_base.specs.declared.status.UsbStatus.TheVariants.{Cancelled}
 use Rattle.control_route.specs.declared.route.Route.{Route}
 use Rattle.control_route.specs.Changes.{is_change}
+use Rattle.chapter9.specs.Standard.{ended}
 use Rattle.model_device.specs.Submit.{routed_outcome}
 use Rattle.redir_host.specs.guest.Asking.{routed}
 pub use Rattle.usb_base.specs.Firsts.{without_first}
 use Rattle.redir_host.specs.state.Queues.{queue_of}
 use Rattle.gate_history.specs.client.Requests.{Request}
-use Rattle.gate_history.specs.client.Verdict.{Verdict, Routed, changes}
+use Rattle.gate_history.specs.client.Verdict.{Verdict, Routed}
 use Rattle.gate_history.specs.step.Marks.{Submission}
 use Rattle.gate_history.specs.write.Packets.{no_setup}
 use Rattle.gate_history.specs.state.Ups.{Up, no_streams, stream_of}
@@ -75,9 +75,6 @@ number l = l.request.number
 abbrev pub is_number : ℕ → Load → Bool
 is_number n l = number l == n
 
-abbrev pub any_changes : List Live → Bool
-any_changes live = list_any (λ (l : Live). changes l.load.verdict) live
-
 -- ---- what is asked of the device, and what is seen of its outcome
 
 -- of a route its setup alone
@@ -102,7 +99,7 @@ change_in _ = None
 
 -- it ended so, and moved nothing
 abbrev pub cancelled : Load → Ran
-cancelled l = record { load = l; outcome = record { status = Cancelled; done = 0; body = [] } }
+cancelled l = record { load = l; outcome = ended Cancelled }
 
 -- ---- queues: endpoint 0 has one for both directions
 
@@ -113,8 +110,7 @@ is_at ep q = queue_of (normal_of q.load).ep == queue_of ep
 
 -- of a stream that is down nothing is on the way
 abbrev pub way_if : Option Up → List StreamPacket → List StreamPacket
-way_if None packets = []
-way_if (Some up) packets = packets
+way_if up packets = if is_some up then packets else []
 
 abbrev pub way_by : List (Option Up) → (ℕ → List StreamPacket) → ℕ → List StreamPacket
 way_by ups way ep = way_if (stream_of ups ep) (way ep)

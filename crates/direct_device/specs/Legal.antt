@@ -1,5 +1,5 @@
 -- Where an item of a trace is allowed to the device attached directly, and what it answers to a whole trace.
-use Rattle.std.specs.Prelude.{◌≡◌, ℕ, Bool, true, false, List, [], ◌∷◌, ◌++◌, map, Option, Some, None, is_some}
+use Rattle.std.specs.Prelude.{◌≡◌, ℕ, Bool, true, List, [], ◌∷◌, ◌++◌, map, Option, Some, slice_get, IsSome, IsSomeAnd, false}
 use Rattle.std.specs.List.{find, list_any, flat_map}
 use Rattle.usb_base.specs.declared.transfer.StreamPacket.{StreamPacket}
 use Rattle.usbip_urb.specs.declared.packet.UrbPacket.{UrbPacket}
@@ -10,50 +10,29 @@ use Rattle.gate_history.specs.state.Ups.{Up, stream_of}
 use Rattle.direct_run.specs.declared.item.Item.{Item}
 use Rattle.direct_run.specs.declared.item.Item.TheVariants as item
 use Rattle.direct_device.specs.Direct.{first_direct, Load, Live, Waiting, Ran, Direct, as_submission, is_number, normal_of, is_at}
-use Rattle.direct_device.specs.Acting.{Deed, Import, Submit, Unlink, Perform, Cancel, Answer, Offer, Arrive, Gone, ClientGone, act, answers, is_cancelled_by, first_ran, cut_for}
+use Rattle.direct_device.specs.Acting.{Deed, Import, Submit, Unlink, Perform, Cancel, Answer, Offer, Arrive, Gone, ClientGone, act, answers, is_cancelled_by, cut_for}
 
 -- ---- one item
 
--- this is the first of its queue, and the device is ready for it
-abbrev pub CanPerform : {S : Type 0} → Meaning S → Direct S → ℕ → Option Waiting → Type 0
-CanPerform m d n None = ⊥
-CanPerform m d n (Some q) = (is_number n q.load ≡ true) × (is_some (m.perform d.gadget (normal_of q.load)) ≡ true)
-
-abbrev pub CanCancel : Option Waiting → Type 0
-CanCancel None = ⊥
-CanCancel (Some q) = q.asked ≡ true
-
 -- of those that wait for a stream it is the earliest, and what is held fills it; of the others it is the first that ran
-abbrev pub IsEarliest : {S : Type 0} → Direct S → Load → Option Live → Type 0
-IsEarliest d l None = ⊥
-IsEarliest d l (Some e) = (is_number l.request.number e.load ≡ true) × (is_some (cut_for d l) ≡ true)
-
-abbrev pub IsRan : ℕ → Option Ran → Type 0
-IsRan n None = ⊥
-IsRan n (Some r) = is_number n r.load ≡ true
-
 abbrev pub CanAnswerBy : {S : Type 0} → Direct S → Load → Bool → Type 0
 CanAnswerBy d l true =
-    IsEarliest d l (find (λ (e : Live). waits_at l.request.transfer.ep (as_submission e.load)) d.live)
-CanAnswerBy d l false = IsRan l.request.number (first_ran d.ran)
-
-abbrev pub CanAnswer : {S : Type 0} → Direct S → Option Live → Type 0
-CanAnswer d None = ⊥
-CanAnswer d (Some l) = CanAnswerBy d l.load (is_waiting l.load.verdict)
+    IsSomeAnd (find (λ (e : Live). waits_at l.request.transfer.ep (as_submission e.load)) d.live) (λ e. (is_number l.request.number e.load ≡ true) × IsSome (cut_for d l))
+CanAnswerBy d l false = IsSomeAnd (slice_get d.ran 0) (λ r. is_number l.request.number r.load ≡ true)
 
 abbrev pub CanArrive : Option Up → List StreamPacket → Type 0
-CanArrive None packets = ⊥
-CanArrive (Some up) [] = ⊥
 CanArrive (Some up) (p ∷ packets) = Unit {0}
+CanArrive _ _ = ⊥
 
+-- what is performed is the first of its queue, and the device is ready for it
 abbrev pub IsAllowed : {S : Type 0} → Meaning S → Direct S → Deed → Type 0
 IsAllowed m d Import = (d.imported ≡ false) × (d.gone ≡ false) × (d.queue ≡ [])
 IsAllowed m d (Submit r) = (d.imported ≡ true) × (list_any (λ (l : Live). is_number r.number l.load) d.live ≡ false)
 IsAllowed m d (Unlink by target) = d.imported ≡ true
-IsAllowed m d (Perform ep n) = (d.gone ≡ false) × CanPerform m d n (find (is_at ep) d.queue)
-IsAllowed m d (Cancel n) = (d.gone ≡ false) × CanCancel (find (is_cancelled_by n) d.queue)
-IsAllowed m d (Answer n) = (d.imported ≡ true) × CanAnswer d (find (λ (l : Live). is_number n l.load) d.live)
-IsAllowed m d (Offer ep) = (d.gone ≡ false) × (is_some (m.offer d.gadget ep) ≡ true)
+IsAllowed m d (Perform ep n) = (d.gone ≡ false) × IsSomeAnd (find (is_at ep) d.queue) (λ q. (is_number n q.load ≡ true) × IsSome (m.perform d.gadget (normal_of q.load)))
+IsAllowed m d (Cancel n) = (d.gone ≡ false) × IsSomeAnd (find (is_cancelled_by n) d.queue) (λ q. q.asked ≡ true)
+IsAllowed m d (Answer n) = (d.imported ≡ true) × IsSomeAnd (find (λ (l : Live). is_number n l.load) d.live) (λ l. CanAnswerBy d l.load (is_waiting l.load.verdict))
+IsAllowed m d (Offer ep) = (d.gone ≡ false) × IsSome (m.offer d.gadget ep)
 IsAllowed m d (Arrive ep) = CanArrive (stream_of d.streams ep) (d.way ep)
 IsAllowed m d Gone = (d.imported ≡ true) × (d.gone ≡ false) × (d.ran ≡ [])
 IsAllowed m d ClientGone = Unit {0}

@@ -1,6 +1,6 @@
 -- Performed at most once: how often a submit has been performed where an item of a legal trace stands, by what the item
 -- answers. A number names the submit of its last item, up to its end.
-use Rattle.std.specs.Prelude.{◌≡◌, ℕ, ◌+◌, ◌==◌, Bool, true, false, if◌then◌else◌, List, [], ◌∷◌, ◌++◌, Option, Some, None, ℤ, pos, negsuc}
+use Rattle.std.specs.Prelude.{◌≡◌, ℕ, ◌+◌, ◌==◌, Bool, true, false, if◌then◌else◌, List, [], ◌∷◌, ◌++◌, Option, Some, ℤ, pos, negsuc, IfSome}
 use Rattle.std.specs.List.{find, list_any, AllByRecursion}
 use Rattle.usb_base.specs.declared.transfer.Transfer.{Transfer}
 use Rattle.usb_base.specs.declared.transfer.Outcome.{Outcome}
@@ -11,7 +11,7 @@ use Rattle.gate_history.specs.write.Errno.{is_zero}
 use Rattle.gate_history.specs.client.Verdict.{goes_by_id}
 use Rattle.gate_history.specs.write.Answers.{is_cancelled}
 use Rattle.direct_device.specs.Direct.{Live, Direct, first_direct, number, is_number}
-use Rattle.direct_device.specs.Acting.{Deed, Import, Submit, Unlink, Perform, Cancel, Answer, Offer, Arrive, Gone, ClientGone, answers}
+use Rattle.direct_device.specs.Acting.{Deed, Submit, Unlink, Perform, Answer, Gone, answers}
 use Rattle.direct_device.specs.Legal.{AreAllowed, acts}
 
 -- ---- performs
@@ -21,14 +21,7 @@ abbrev pub times_performed : ℕ → ℕ → List Deed → ℕ
 times_performed n before [] = before
 times_performed n before (Submit r ∷ xs) = times_performed n (if r.number == n then 0 else before) xs
 times_performed n before (Perform ep k ∷ xs) = times_performed n (if k == n then before + 1 else before) xs
-times_performed n before (Import ∷ xs) = times_performed n before xs
-times_performed n before (Unlink by target ∷ xs) = times_performed n before xs
-times_performed n before (Cancel k ∷ xs) = times_performed n before xs
-times_performed n before (Answer k ∷ xs) = times_performed n before xs
-times_performed n before (Offer ep ∷ xs) = times_performed n before xs
-times_performed n before (Arrive ep ∷ xs) = times_performed n before xs
-times_performed n before (Gone ∷ xs) = times_performed n before xs
-times_performed n before (ClientGone ∷ xs) = times_performed n before xs
+times_performed n before (_ ∷ xs) = times_performed n before xs
 
 -- the device ends no transfer as cancelled by itself
 abbrev pub NeverCancels : {S : Type 0} → Meaning S → Type 0
@@ -60,8 +53,7 @@ pub record FitsAnswers (given : List UrbPacket) (performed : ℕ) (l : Live) : T
   pub good : goes_by_id l.load.verdict ≡ true → list_any is_good given ≡ true → performed ≡ 1
 
 abbrev pub FitsEnd : List UrbPacket → ℕ → Option Live → Type 0
-FitsEnd given performed None = Unit {0}
-FitsEnd given performed (Some l) = FitsAnswers given performed l
+FitsEnd given performed answered = IfSome answered (FitsAnswers given performed)
 
 -- none is performed twice, nor, in a session, after its end
 pub record FitsPerform {S : Type 0} (d : Direct S) (performed n : ℕ) : Type 0 where
@@ -76,12 +68,7 @@ Fits m d performed (Unlink by target) = list_any is_won (answers m d (Unlink by 
 Fits m d performed (Answer n) =
     NeverCancels m → FitsEnd (answers m d (Answer n)) (performed n) (find (λ (l : Live). is_number n l.load) d.live)
 Fits m d performed Gone = AllByRecursion (λ (l : Live). performed (number l.load) ≡ 0) d.live
-Fits m d performed Import = Unit {0}
-Fits m d performed (Submit r) = Unit {0}
-Fits m d performed (Cancel n) = Unit {0}
-Fits m d performed (Offer ep) = Unit {0}
-Fits m d performed (Arrive ep) = Unit {0}
-Fits m d performed ClientGone = Unit {0}
+Fits m d performed _ = Unit {0}
 
 -- each item of a legal trace fits the performs before it
 abbrev pub ItemsFit : {S : Type 0} → Meaning S → Type 0

@@ -1,5 +1,5 @@
 -- The simulation: what a gateway and a modelled device do between two wires of bytes is what the device attached directly does.
-use Rattle.std.specs.Prelude.{◌≡◌, not, Bool, true, false, if◌then◌else◌, List, [], ◌∷◌, ◌++◌, map, Some, None}
+use Rattle.std.specs.Prelude.{◌≡◌, not, Bool, true, false, if◌then◌else◌, List, [], ◌∷◌, ◌++◌, map, Some}
 use Rattle.std.specs.List.{flat_map, list_any}
 use Rattle.usb_base.specs.declared.refusal.Refusal.{Refusal}
 use Rattle.usbip_op.specs.declared.packet.OpPacket.{OpPacket}
@@ -31,10 +31,7 @@ use Rattle.direct_proof.specs.Steps.{AreDirectSteps}
 -- the reply to an import that succeeded
 abbrev pub is_import : OpPacket → Bool
 is_import (op.RepImport status (Some device)) = true
-is_import (op.RepImport status None) = false
-is_import (op.RepDevlist status devices) = false
-is_import (op.ReqDevlist status) = false
-is_import (op.ReqImport status busid) = false
+is_import _ = false
 
 -- the answers that the items behind the last import give; those before it gave `said`
 abbrev pub since_import : {S : Type 0} → Meaning S → Direct S → List UrbPacket → List Deed → List UrbPacket

@@ -7,7 +7,7 @@ use Rattle.redir_data.specs.declared.packet.RedirPacket.{RedirPacket}
 use Rattle.redir_data.specs.declared.packet.RedirPacket.TheVariants.{Plain}
 use Rattle.gate_history.specs.step.Items.{Asked, ClientLeft}
 use Rattle.model_device.specs.Meaning.{Meaning}
-use Rattle.redir_host.specs.device.Facts.{facts_of, connect_packet}
+use Rattle.redir_host.specs.device.Facts.{connect_of, facts_of}
 use Rattle.redir_host.specs.write.Output.{first_packet}
 use Rattle.direct_run.specs.declared.item.Item.TheVariants as item
 use Rattle.direct_run.specs.Clients.{present_outs}
@@ -16,7 +16,7 @@ use Rattle.direct_run.specs.Packets.{both_caps}
 
 -- what the host tells of its device, once it has heard the gateway's hello
 abbrev tells : {S : Type 0} → Meaning S → S → List (ℕ × RedirPacket)
-tells m s = facts_of both_caps m s ++ connect_packet both_caps m ∷ []
+tells m s = facts_of both_caps m s ++ (0, Plain (plain.Connect (connect_of both_caps m.identity))) ∷ []
 
 host-hears : {S : Type 0} (m : Meaning S) (s : S) → (run m s (HostReads ∷ [])).world.to_gate ≡ first_packet ∷ tells m s
 host-hears m s = refl

@@ -2,7 +2,7 @@
 use Rattle.std.specs.Prelude.{List, [], ◌∷◌, ◌++◌}
 use Rattle.usbip_urb.specs.declared.client.ClientPacket.{ClientPacket}
 use Rattle.usbip_urb.specs.ClientPackets.{IsClientPacket}
-use Rattle.gate_history.specs.step.Events.{Event, ClientPiece, ClientEnd, HostPiece, HostEnd}
+use Rattle.gate_history.specs.step.Events.{Event, ClientEnd}
 use Rattle.gate_history.specs.step.Items.{Item, Asked, ClientWrong, ClientLeft}
 use Rattle.gate_history.specs.write.Output.{to_client}
 use Rattle.model_device.specs.Meaning.{Meaning}
@@ -13,10 +13,8 @@ use Rattle.direct_run.specs.Moves.{Move, ByClient, move, run}
 
 abbrev pub present : List Event → List ClientPacket
 present [] = []
-present (ClientPiece b ∷ events) = present events ++ given_of to_client events (ClientPiece b)
 present (ClientEnd ∷ events) = []
-present (HostPiece b ∷ events) = present events ++ given_of to_client events (HostPiece b)
-present (HostEnd ∷ events) = present events ++ given_of to_client events HostEnd
+present (e ∷ events) = present events ++ given_of to_client events e
 
 abbrev pub then_sent : Move → List ClientPacket → List ClientPacket → List ClientPacket
 then_sent (ByClient ClientLeft) before more = []

@@ -1,12 +1,13 @@
 -- What notes tell: items, refusals, and the submits that were accepted.
-use Rattle.std.specs.Prelude.{ℕ, ◌==◌, if◌then◌else◌, List, [], ◌∷◌, find, reverse, Option, Some, None}
+use Rattle.std.specs.Prelude.{ℕ, ◌==◌, if◌then◌else◌, List, [], ◌∷◌, find, reverse}
+use Rattle.std.specs.Option.{option_map_or}
 use Rattle.usb_base.specs.declared.refusal.Refusal.{Refusal}
 use Rattle.gate_history.specs.declared.note.Note.{Note}
 use Rattle.gate_history.specs.declared.note.Note.TheVariants as note
 use Rattle.redir_host.specs.declared.note.HostNote.{HostNote}
 use Rattle.redir_host.specs.declared.note.HostNote.TheVariants as host_note
 use Rattle.redir_host.specs.declared.note.Performed.{Performed}
-use Rattle.redir_host.specs.declared.note.Performed.TheVariants.{Done, NotReady, Unplugged}
+use Rattle.redir_host.specs.declared.note.Performed.TheVariants.{Done}
 use Rattle.redir_host.specs.declared.note.Offered.{Offered}
 use Rattle.redir_host.specs.declared.note.Offered.TheVariants as offered
 use Rattle.direct_run.specs.declared.item.Item.{Item}
@@ -37,13 +38,9 @@ abbrev pub named : Note → List Submitted
 named (note.Submitted seqnum id) = record { seqnum = seqnum; id = id } ∷ []
 named _ = []
 
-abbrev pub number_of : Option Submitted → ℕ
-number_of None = 0
-number_of (Some x) = x.seqnum
-
 -- the number of the last of these that has this id
 abbrev pub number_in : ℕ → List Submitted → ℕ
-number_in id submits = number_of (find (λ x. x.id == id) (reverse submits))
+number_in id submits = option_map_or (λ x. x.seqnum) (find (λ x. x.id == id) (reverse submits)) 0
 
 -- ---- what the host tells
 
@@ -57,8 +54,7 @@ queue_byte ep = if ep == 128 then 0 else ep
 
 abbrev pub performed_item : List Submitted → ℕ → Performed → List Item
 performed_item submits ep (Done id) = item.Perform (queue_byte ep) (number_in id submits) ∷ []
-performed_item submits ep NotReady = []
-performed_item submits ep Unplugged = []
+performed_item submits ep _ = []
 
 abbrev pub offered_item : ℕ → Offered → List Item
 offered_item ep offered.Sent = item.Offer ep ∷ []

@@ -3,13 +3,14 @@ use Rattle.std.proofs.Common.{◌≡◌, ℕ, ◌+◌, ◌-◌, ◌*◌, ◌/◌
 use Rattle.std.specs.Prelude.{◌==◌, ◌&&◌, ◌||◌, nat_lt, not, IfSome}
 use Rattle.std.proofs.lemmas.Bool.{cond_both, and_parts, eqb-true, ltb-true, ltb-false, lt-ltb, le-ltb, cases_lt, false≢true}
 use Rattle.std.proofs.lemmas.List.{length-take, length-drop, length-append, length-replicate, get_or_append_left, get_or-append_right, get_or-take, get_or-drop, get_or-replicate, get_or_past}
+use Rattle.usb_base.specs.Status.{is_success}
 use Rattle.usb_base.specs.Endpoint.{is_in_endpoint}
 use Rattle.usb_base.specs.Number.{part}
 use Rattle.usb_base.specs.declared.setup.Setup.{Setup}
 use Rattle.usb_base.specs.declared.status.UsbStatus.TheVariants.{Success}
 use Rattle.usb_base.specs.declared.transfer.Transfer.{Transfer}
 use Rattle.chapter9.specs.declared.state.DevState.{DevState}
-use Rattle.model_device.specs.Device.{State, control, device_parts, is_running, is_success}
+use Rattle.model_device.specs.Device.{State, control, device_parts, is_running}
 use Rattle.model_device.specs.Meaning.{state_in}
 use Rattle.model_device.specs.Transfer.{asks_change}
 use Rattle.disk_gadget.specs.declared.class_request.ClassRequest.{ClassRequest}

@@ -1,5 +1,5 @@
 -- What a command does, once the host's data are whole, and what it answers.
-use Rattle.std.specs.Prelude.{ℕ, ◌+◌, ◌-◌, ◌*◌, ◌==◌, ◌&&◌, ◌++◌, nat_lt, not, Bool, false, List, [], ◌∷◌, take, Option, Some, None, if◌then◌else◌}
+use Rattle.std.specs.Prelude.{ℕ, ◌+◌, ◌-◌, ◌*◌, ◌==◌, ◌&&◌, ◌++◌, nat_lt, not, Bool, false, List, [], ◌∷◌, take, codes, Option, Some, None, if◌then◌else◌}
 use Rattle.std.specs.Int.{w32}
 use Rattle.usb_base.specs.Number.{be}
 use Rattle.disk_gadget.specs.declared.command.Command.{Command}
@@ -25,13 +25,7 @@ pub record Act : Type 0 where
 -- standard INQUIRY data (SPC-4, 6.4.2): a removable direct-access device; vendor, product, revision
 abbrev pub inquiry_bytes : List ℕ
 inquiry_bytes =
-    0x00 ∷ 0x80 ∷ 0x04 ∷ 0x02 ∷ 0x1F ∷ 0x00 ∷ 0x00 ∷ 0x00 ∷
-    -- USBGATE
-    0x55 ∷ 0x53 ∷ 0x42 ∷ 0x47 ∷ 0x41 ∷ 0x54 ∷ 0x45 ∷ 0x20 ∷
-    -- MODEL DISK
-    0x4D ∷ 0x4F ∷ 0x44 ∷ 0x45 ∷ 0x4C ∷ 0x20 ∷ 0x44 ∷ 0x49 ∷ 0x53 ∷ 0x4B ∷ 0x20 ∷ 0x20 ∷ 0x20 ∷ 0x20 ∷ 0x20 ∷ 0x20 ∷
-    -- 1.0
-    0x31 ∷ 0x2E ∷ 0x30 ∷ 0x20 ∷ []
+    0x00 ∷ 0x80 ∷ 0x04 ∷ 0x02 ∷ 0x1F ∷ 0x00 ∷ 0x00 ∷ 0x00 ∷ codes "USBGATE MODEL DISK      1.0 "
 
 abbrev pub failed : Sense → Act
 failed why = record { status = Failed; answer = Text []; sense = Some why; access = None }

@@ -11,8 +11,9 @@ abbrev pub extent_of : List ℕ → Extent
 extent_of bytes = record { block = be_at w32 2 bytes; count = be_at w16 7 bytes }
 
 -- by its OPERATION CODE; EVPD of INQUIRY is bit 0 of byte 1
-abbrev pub command_by : ℕ → List ℕ → Command
-command_by code bytes =
+abbrev pub command_of : List ℕ → Command
+command_of bytes =
+    let code = byte_at 0 bytes in
     if code == 0x00 then TestUnitReady
     else if code == 0x03 then RequestSense (byte_at 4 bytes)
     else if code == 0x12 then Inquiry (byte_at 1 bytes % 2 == 1) (be_at w16 3 bytes)
@@ -20,6 +21,3 @@ command_by code bytes =
     else if code == 0x28 then Read (extent_of bytes)
     else if code == 0x2A then Write (extent_of bytes)
     else Unknown
-
-abbrev pub command_of : List ℕ → Command
-command_of bytes = command_by (byte_at 0 bytes) bytes

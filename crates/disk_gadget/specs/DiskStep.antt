@@ -1,5 +1,5 @@
 -- What the disk does: a transfer's outcome and the state after it.
-use Rattle.std.specs.Prelude.{ℕ, ◌+◌, ◌*◌, ◌==◌, ◌&&◌, min, List, [], ◌∷◌, take, replicate, Option, Some, None, if◌then◌else◌}
+use Rattle.std.specs.Prelude.{ℕ, ◌+◌, ◌*◌, ◌==◌, ◌&&◌, min, List, [], ◌∷◌, take, replicate, Option, Some, None, option_map, if◌then◌else◌}
 use Rattle.usb_base.specs.Endpoint.{is_in_endpoint}
 use Rattle.usb_base.specs.Number.{part}
 use Rattle.usb_base.specs.declared.setup.Setup.{Setup}
@@ -53,8 +53,7 @@ abbrev pub bulk_turn : ℕ → Course → Transfer → Option Turn
 bulk_turn blocks c t = if is_in_endpoint t.ep then given_by c.sense t.wanted c.stage else taken_by blocks c.sense t.body c.stage
 
 abbrev pub turned : DevState → Option Turn → Option Step
-turned device None = None
-turned device (Some turn) = Some (record { state = record { device = if turn.halts then both_halted device else device; kept = turn.course }; reply = turn.reply; access = turn.access })
+turned device made = option_map (λ turn. record { state = record { device = if turn.halts then both_halted device else device; kept = turn.course }; reply = turn.reply; access = turn.access }) made
 
 abbrev pub step_by : ℕ → State Course → Transfer → Option Setup → Option Step
 step_by blocks s t (Some r) = Some (no_access (setup_done s t r (class_request r)))
@@ -77,8 +76,7 @@ outcome_in blocks (Plain outcome) = outcome
 outcome_in blocks (OfBlocks block given count) = success (part (block_size * block + given) count blocks)
 
 abbrev pub on_blocks : List ℕ → Option Step → Option (DiskState × Outcome)
-on_blocks blocks None = None
-on_blocks blocks (Some s) = Some (record { state = s.state; blocks = blocks_after blocks s.access }, outcome_in blocks s.reply)
+on_blocks blocks done = option_map (λ s. (record { state = s.state; blocks = blocks_after blocks s.access }, outcome_in blocks s.reply)) done
 
 abbrev pub disk_step : DiskState → Transfer → Option (DiskState × Outcome)
 disk_step d t = on_blocks d.blocks (step (count_of d.blocks) d.state t)

@@ -1,5 +1,6 @@
 -- The state that a request of endpoint 0 leaves, by what it came to.
 use Rattle.std.proofs.Common.{◌≡◌, ◌&&◌, Bool, true, if◌then◌else◌, Option, Some, None, is_some, refl, ap, subst, ◌∙◌}
+use Rattle.usb_base.specs.Status.{is_success}
 use Rattle.usb_base.specs.declared.setup.Setup.{Setup}
 use Rattle.usb_base.specs.declared.transfer.Transfer.{Transfer}
 use Rattle.usb_base.specs.declared.transfer.Outcome.{Outcome}
@@ -10,7 +11,7 @@ use Rattle.chapter9.specs.Standard.{outcome_of, state_after}
 use Rattle.model_device.specs.declared.framework.Framework.{Framework}
 use Rattle.model_device.specs.Transfer.{asks_change}
 use Rattle.model_device.specs.Meaning.{state_in}
-use Rattle.model_device.specs.Device.{Device, State, control, device_parts, is_success, perform, perform_by}
+use Rattle.model_device.specs.Device.{Device, State, control, device_parts, perform, perform_by}
 
 performed-by : {X : Type 0} (d : Device X) (s : State X) (t : Transfer) (setup : Option Setup) → is_some setup ≡ true → (control d s t).0 ≡ state_in s (perform_by d s t setup)
 performed-by d s t None is = absurd cc

@@ -1,7 +1,8 @@
 -- A device that answers endpoint 0 by its descriptors, and its other endpoints in a way of its own.
-use Rattle.std.specs.Prelude.{ℕ, ◌+◌, ◌*◌, ◌&&◌, not, Bool, true, false, List, [], ◌∷◌, length, replicate, slice_set, Option, Some, None, if◌then◌else◌}
+use Rattle.std.specs.Prelude.{ℕ, ◌+◌, ◌*◌, ◌&&◌, not, Bool, true, false, List, [], ◌∷◌, length, replicate, slice_set, Option, Some, None, option_map, if◌then◌else◌}
 use Rattle.std.specs.Int.{w16}
 use Rattle.std.specs.List.{flat_map}
+use Rattle.usb_base.specs.Status.{is_success}
 use Rattle.usb_base.specs.Endpoint.{row_of}
 use Rattle.usb_base.specs.Number.{byte_at, le_at}
 use Rattle.usb_base.specs.Speed.{redir_speed}
@@ -94,10 +95,6 @@ interfaces_of parts s = if is_configured s then one_interface (class_of s.alt pa
 
 -- ---- what it does
 
-abbrev pub is_success : UsbStatus → Bool
-is_success Success = true
-is_success _ = false
-
 -- the endpoint is there and isn't halted
 abbrev pub is_running : List Part → DevState → ℕ → Bool
 is_running parts s ep = is_valid (row_of (table_of parts s) ep).kind && not (is_halted s ep)
@@ -107,8 +104,7 @@ abbrev pub kept_after : {X : Type 0} → X → X → Transfer → Outcome → X
 kept_after first kept t o = if asks_change t && is_success o.status then first else kept
 
 abbrev pub with_kept : {X A : Type 0} → DevState → Option (X × A) → Option (State X × A)
-with_kept s None = None
-with_kept s (Some r) = Some (record { device = s; kept = r.0 }, r.1)
+with_kept s made = option_map (λ r. (record { device = s; kept = r.0 }, r.1)) made
 
 abbrev pub control : {X : Type 0} → Device X → State X → Transfer → State X × Outcome
 control d s t = (record { device = state_after (device_parts d) s.device t; kept = kept_after d.first s.kept t (outcome_of d.set (device_parts d) s.device t) }, outcome_of d.set (device_parts d) s.device t)

@@ -5,6 +5,7 @@ pub mod Submit
 pub mod Device
 pub mod Function
 pub mod Inside
+pub mod InTurn
 pub mod Keyboard
 pub mod Loopback
 pub mod Tone

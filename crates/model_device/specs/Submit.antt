@@ -1,14 +1,15 @@
 -- The transfer that a request of a client asks of a device, and what the client sees of its outcome. A route other
 -- than Plain is of a setup that isn't given to the device as it came, but as the route alone has it.
 use Rattle.std.specs.Prelude.{◌≡◌, ◌≢◌, ℕ, ◌+◌, ◌<◌, ◌==◌, Bool, true, false, List, [], ◌∷◌, length, take, Option, Some, None, if◌then◌else◌, slice_index}
+use Rattle.usb_base.specs.Status.{is_success}
 use Rattle.usb_base.specs.declared.setup.Setup.{Setup}
 use Rattle.usb_base.specs.declared.transfer.Transfer.{Transfer}
 use Rattle.usb_base.specs.declared.transfer.Outcome.{Outcome}
+use Rattle.control_route.specs.Changes.{is_change}
 use Rattle.control_route.specs.declared.route.Route.{Route}
 use Rattle.control_route.specs.declared.route.Route.TheVariants.{SetConfig, GetConfig, SetAlt, GetAlt, Reset}
 use Rattle.chapter9.specs.Standard.{ended}
 use Rattle.model_device.specs.Transfer.{IsTransfer, is_in_setup}
-use Rattle.model_device.specs.Device.{is_success}
 
 -- ---- what is asked
 
@@ -57,9 +58,6 @@ byte_seen len byte o = if is_success o.status then record { status = o.status; d
 -- the outcome of a transfer with this route and setup, after which the device has this configuration; the byte of an
 -- alternate setting is the first one that came, or 0
 abbrev pub routed_outcome : Route → Setup → ℕ → Outcome → Outcome
-routed_outcome (SetConfig value) r configuration o = ended o.status
-routed_outcome (SetAlt interface alt) r configuration o = ended o.status
-routed_outcome Reset r configuration o = ended o.status
 routed_outcome GetConfig r configuration o = byte_seen r.length configuration o
 routed_outcome (GetAlt interface) r configuration o = byte_seen r.length (slice_index o.body 0) o
-routed_outcome _ r configuration o = o
+routed_outcome route r configuration o = if is_change route then ended o.status else o

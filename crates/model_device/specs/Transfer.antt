@@ -1,5 +1,6 @@
 -- The transfers that a device is asked for, and what may come of one.
 use Rattle.std.specs.Prelude.{◌≡◌, ℕ, ◌≤◌, ◌%◌, ◌==◌, nat_lt, not, Bool, true, false, [], length, Option, Some, None, is_some, IfSome}
+use Rattle.std.specs.Option.{option_map_or}
 use Rattle.usb_base.specs.Endpoint.{IsEndpoint, is_in_endpoint}
 use Rattle.usb_base.specs.declared.setup.Setup.{Setup}
 use Rattle.usb_base.specs.declared.transfer.Transfer.{Transfer}
@@ -31,9 +32,5 @@ pub record IsOutcome (t : Transfer) (o : Outcome) : Type 0 where
   pub to_device : is_in_endpoint t.ep ≡ false → o.body ≡ []
 
 -- whether it asks for a change: a configuration, an alternate setting, or a reset of the port
-abbrev pub setup_changes : Option Setup → Bool
-setup_changes None = false
-setup_changes (Some r) = is_change (route_of r)
-
 abbrev pub asks_change : Transfer → Bool
-asks_change t = setup_changes t.setup
+asks_change t = option_map_or (λ r. is_change (route_of r)) t.setup false

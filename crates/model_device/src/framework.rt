@@ -1,11 +1,12 @@
 //! What devices have in common that answer endpoint 0 by their descriptors: those, and the answers.
 
 ghost use Rattle.std.specs.Prelude.{◌≡◌, ◌&&◌, IsSome, IfOk, OnOk, OnErr, None};
+ghost use Rattle.usb_base.specs.Status.{is_success};
 ghost use Rattle.chapter9.specs.Descriptors.{wrong_place};
 ghost use Rattle.chapter9.specs.State.{unconfigured};
 ghost use Rattle.chapter9.specs.Standard.{outcome_of, stall, state_after};
 ghost use Rattle.chapter9.specs.Table.{table_of};
-ghost use Rattle.model_device.specs.Device.{device_bytes, identity_of, interfaces_of, is_running, is_success};
+ghost use Rattle.model_device.specs.Device.{device_bytes, identity_of, interfaces_of, is_running};
 ghost use Rattle.model_device.specs.Inside.{HasSet};
 ghost use Rattle.model_device.specs.Transfer.{asks_change};
 

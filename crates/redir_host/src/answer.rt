@@ -3,7 +3,8 @@
 ghost use Rattle.std.specs.Prelude.{◌≡◌, ◌<◌, ◌^◌, ◌++◌, false, OnOk, OnErr};
 ghost use Rattle.redir_wire.specs.Begins.{Begins};
 ghost use Rattle.redir_wire.specs.Header.{IdFits, is_wide};
-ghost use Rattle.redir_host.specs.write.Answers.{alt_in, answer_by, cancelled, ended};
+ghost use Rattle.chapter9.specs.Standard.{ended};
+ghost use Rattle.redir_host.specs.write.Answers.{alt_in, answer_by, cancelled};
 ghost use Rattle.redir_host.specs.step.Machine.{told_bytes};
 ghost use Rattle.redir_host.specs.step.Makes.{AnswerFits, flushed_bytes};
 ghost use Rattle.redir_host.specs.state.Sound.{DoneFits, Each};

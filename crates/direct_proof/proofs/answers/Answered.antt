@@ -1,5 +1,6 @@
 -- The gateway reads an answer: what comes of that is the item A of the device attached directly.
 use Rattle.std.proofs.Common.{◌≡◌, ℕ, ◌==◌, Bool, true, false, cond, List, [], ◌∷◌, ◌++◌, map, filter, Option, Some, None, refl, sym, ap, ◌∙◌, subst, append-nil}
+use Rattle.std.specs.Prelude.{slice_get, IsSomeAnd}
 use Rattle.std.specs.List.{find, flat_map}
 use Rattle.usb_base.specs.declared.transfer.Outcome.{Outcome}
 use Rattle.usbip_urb.specs.declared.client.ClientPacket.TheVariants.{Urb}
@@ -14,8 +15,8 @@ use Rattle.gate_history.specs.write.Answers.{answers_by}
 use Rattle.gate_history.specs.state.Ups.{Up, stream_of}
 use Rattle.direct_run.specs.Moves.{World, GateReads}
 use Rattle.direct_device.specs.Direct.{Load, Live, Ran, Direct, number, is_number, seen_of, as_submission}
-use Rattle.direct_device.specs.Acting.{Deed, Answer, act, answers, without_number, first_ran}
-use Rattle.direct_device.specs.Legal.{IsAllowed, CanAnswer, CanAnswerBy, IsRan}
+use Rattle.direct_device.specs.Acting.{Deed, Answer, act, answers, without_number}
+use Rattle.direct_device.specs.Legal.{IsAllowed, CanAnswerBy}
 use Rattle.direct_proof.specs.Moves.{Made, move, gate_reads, gate_made, quiet}
 use Rattle.direct_proof.specs.Requests.{Coming, ran_of, live_of, load_of}
 use Rattle.direct_proof.specs.Tagged.{Tagged, Answered, on_wire, runs_in}
@@ -72,8 +73,8 @@ reads-answer {S = S} m w j place k c bs p wire open_ imported is found only load
       ∙ ap (λ (x : Made S). view x.world (with_back j bs)) (sym moved);
   allowed = (
     imported,
-    subst (CanAnswer d) (sym here) (subst (CanAnswerBy d (load_of p.submit)) (sym waits-not)
-        (subst (λ (rs : List Ran). IsRan (number (load_of p.submit)) (first_ran rs)) (sym ran-is) (ap (λ (l : Load). number c.load == number l) load-is ∙ itself (number c.load)))),
+    subst (λ (o : Option Live). IsSomeAnd o (λ l. CanAnswerBy d l.load (is_waiting l.load.verdict))) (sym here) (subst (CanAnswerBy d (load_of p.submit)) (sym waits-not)
+        (subst (λ (rs : List Ran). IsSomeAnd (slice_get rs 0) (λ r. is_number (number (load_of p.submit)) r.load ≡ true)) (sym ran-is) (ap (λ (l : Load). number c.load == number l) load-is ∙ itself (number c.load)))),
   );
 }
   where

@@ -1,5 +1,6 @@
 -- An answer that the gateway reads is the first that ran at the device attached directly, and what it sends is the same.
 use Rattle.std.proofs.Common.{◌≡◌, ℕ, ◌==◌, ◌≤◌, not, Bool, true, false, cond, nat_lt, List, [], ◌∷◌, ◌++◌, map, filter, Option, Some, None, is_none, refl, sym, ap, ◌∙◌, arith, append-nil}
+use Rattle.std.specs.Prelude.{slice_get, drop}
 use Rattle.std.specs.List.{find, flat_map}
 use Rattle.usb_base.specs.declared.transfer.Outcome.{Outcome}
 use Rattle.usb_base.specs.declared.refusal.Refusal.{Refusal}
@@ -29,7 +30,7 @@ use Rattle.gate_history.specs.write.Notes.{is_by_answer}
 use Rattle.gate_history.proofs.lemmas.Lists.{every, Each, filter-same, filter-map, flat_map-same, flat_map-filter}
 use Rattle.gate_history.proofs.lemmas.step.NoCancel.{asks-none}
 use Rattle.direct_device.specs.Direct.{Live, Ran, Direct, number, is_number, seen_by, normal_by, as_submission}
-use Rattle.direct_device.specs.Acting.{Answer, act, answers, answered_by, answers_of, ran_answers, filled_by, filled_answers, cut_for, rest_ran, first_ran, without_number}
+use Rattle.direct_device.specs.Acting.{Answer, act, answers, answered_by, answers_of, ran_answers, filled_by, filled_answers, cut_for, without_number}
 use Rattle.direct_proof.specs.Moves.{deeds_of, answer_deeds}
 use Rattle.direct_proof.specs.Requests.{form_by, queued_transfer, live_of, load_of}
 use Rattle.direct_proof.specs.Loads.{FitsVerdict}
@@ -179,8 +180,8 @@ found-same id n (x ∷ xs) h p e = go (pending_has id x) refl e (found-same id n
 pub device-answers : {S : Type 0} (m : Meaning S) (d : Direct S) (n : ℕ) (l : Live) (r : Ran) (rs : List Ran) → find (λ (y : Live). is_number n y.load) d.live ≡ Some l → is_waiting l.load.verdict ≡ false → d.ran ≡ r ∷ rs →
     (act m d (Answer n) ≡ record d { live = without_number (number l.load) d.live; ran = rs }) × (answers m d (Answer n) ≡ answers_by (as_submission l.load) r.outcome l.unlinker)
 device-answers {S = S} m d n l r rs found by_id ran = (
-  ap (answered_by d) found ∙ (λ i. cond (by_id i) (filled_by d l.load (cut_for d l.load)) (record d { live = without_number (number l.load) d.live; ran = rest_ran (ran i) })),
-  ap (answers_of d) found ∙ (λ i. cond (by_id i) (filled_answers l.load (cut_for d l.load)) (ran_answers l (first_ran (ran i)))),
+  ap (answered_by d) found ∙ (λ i. cond (by_id i) (filled_by d l.load (cut_for d l.load)) (record d { live = without_number (number l.load) d.live; ran = drop 1 (ran i) })),
+  ap (answers_of d) found ∙ (λ i. cond (by_id i) (filled_answers l.load (cut_for d l.load)) (ran_answers l (slice_get (ran i) 0))),
 )
 
 -- an answer doesn't read what names a submit

@@ -4,13 +4,13 @@ use Rattle.usb_base.specs.declared.setup.Setup.{Setup}
 use Rattle.usb_base.specs.declared.transfer.Outcome.{Outcome}
 use Rattle.usb_base.specs.declared.status.UsbStatus.{UsbStatus}
 use Rattle.usb_base.specs.declared.status.UsbStatus.TheVariants.{Success, Cancelled, Inval, IoError, Stall, Timeout, Babble, Other}
-use Rattle.usb_base.specs.Status.{status_of, status_byte}
+use Rattle.usb_base.specs.Status.{status_of, status_byte, is_success}
 use Rattle.redir_data.specs.declared.packet.RedirPacket.{RedirPacket}
 use Rattle.control_route.specs.declared.route.Route.{Route}
 use Rattle.control_route.specs.declared.route.Route.TheVariants as route
-use Rattle.model_device.specs.Device.{is_success}
+use Rattle.chapter9.specs.Standard.{ended}
 use Rattle.model_device.specs.Meaning.{Meaning}
-use Rattle.model_device.specs.Submit.{status_alone, byte_seen}
+use Rattle.model_device.specs.Submit.{byte_seen}
 use Rattle.model_device.specs.Gadget.{IsNamed}
 use Rattle.redir_host.specs.declared.host.Host.{Host}
 use Rattle.redir_host.specs.write.Answers.{answer_by, alt_in}
@@ -85,16 +85,16 @@ answer-seen r (Wire InterruptOut) configuration o fits named = record {
 }
 answer-seen r (Routed x) configuration o fits named = go x r.transfer.setup refl fits
   where
-    alone : got (status_of (status_byte o.status)) [] ≡ status_alone o
+    alone : got (status_of (status_byte o.status)) [] ≡ ended o.status
     alone = λ i. record { status = named i; done = 0; body = [] }
 
     -- no byte is seen of a change
-    no-byte : (value : ℕ) (b : Bool) → got (status_of (status_byte o.status)) (cond (b && false) (take r.transfer.wanted (value ∷ [])) []) ≡ status_alone o
+    no-byte : (value : ℕ) (b : Bool) → got (status_of (status_byte o.status)) (cond (b && false) (take r.transfer.wanted (value ∷ [])) []) ≡ ended o.status
     no-byte value true = alone
     no-byte value false = alone
 
     -- one is seen of a get that succeeds
-    one : (n value : ℕ) (b : Bool) → got o.status (cond (b && true) (take n (cond b value 0 ∷ [])) []) ≡ cond b (record { status = o.status; done = length (take n (value ∷ [])); body = take n (value ∷ []) }) (status_alone o)
+    one : (n value : ℕ) (b : Bool) → got o.status (cond (b && true) (take n (cond b value 0 ∷ [])) []) ≡ cond b (record { status = o.status; done = length (take n (value ∷ [])); body = take n (value ∷ []) }) (ended o.status)
     one n value true = refl
     one n value false = refl
 

@@ -1,5 +1,6 @@
 -- A cancel that the host reads: it takes its request off the queue, or comes too late.
 use Rattle.std.proofs.Common.{◌≡◌, ℕ, ◌==◌, ◌||◌, ◌&&◌, Bool, true, false, cond, List, [], ◌∷◌, ◌++◌, map, Some, None, refl, sym, ap, ◌∙◌, subst, arith, append-nil, inl, inr, ◌⊎◌}
+use Rattle.std.specs.Prelude.{Option, IsSomeAnd}
 use Rattle.std.specs.List.{find}
 use Rattle.usb_base.specs.declared.transfer.Outcome.{Outcome}
 use Rattle.usb_base.specs.declared.status.UsbStatus.TheVariants.{Cancelled}
@@ -9,7 +10,7 @@ use Rattle.redir_data.specs.declared.packet.RedirPacket.TheVariants.{Plain}
 use Rattle.model_device.specs.Meaning.{Meaning}
 use Rattle.redir_host.specs.declared.request.Request.{Request as HostRequest}
 use Rattle.redir_host.specs.state.Queues.{is_cancelled_by as is_taken_by, after_cancel, leaves_mark}
-use Rattle.redir_host.specs.write.Answers.{ended}
+use Rattle.chapter9.specs.Standard.{ended}
 use Rattle.redir_host.specs.declared.note.HostNote.TheVariants as host_note
 use Rattle.redir_host.specs.guest.Packets.{cancel_move, packet_move_by}
 use Rattle.redir_host.specs.step.Moves.{quiet as host_quiet}
@@ -18,9 +19,8 @@ use Rattle.gate_history.specs.state.Ups.{stream_of}
 use Rattle.gate_history.specs.client.Verdict.{is_wire}
 use Rattle.direct_run.specs.Noted.{number_in}
 use Rattle.direct_run.specs.Moves.{World, HostReads}
-use Rattle.direct_device.specs.Direct.{Direct, number, without_first}
+use Rattle.direct_device.specs.Direct.{Direct, number, without_first, Waiting}
 use Rattle.direct_device.specs.Acting.{Cancel, is_cancelled_by, cancelled_by, joins_ran}
-use Rattle.direct_device.specs.Legal.{CanCancel}
 use Rattle.direct_proof.specs.Moves.{Made, move, host_reads, host_takes}
 use Rattle.direct_proof.specs.Requests.{Entry, Coming, at_queue, at_device}
 use Rattle.direct_proof.specs.Shared.{Shared, lines, half_line, view}
@@ -62,7 +62,7 @@ keep-cancel {S = S} m w j id ps rel wire first = go w.host.unplugged refl
             way = λ ep. sym (way-answer (stream_of w.gate.streams ep) ep j.back c) i;
           })
           ∙ ap (λ (x : Made S). view x.world later) (sym moved);
-      allowed = (not-gone m w j rel (not-lost m w j rel there), subst CanCancel (sym found.0) (asked t.same_id));
+      allowed = (not-gone m w j rel (not-lost m w j rel there), subst (λ (o : Option Waiting). IsSomeAnd o (λ q. q.asked ≡ true)) (sym found.0) (asked t.same_id));
     })
         (subst (λ (x : Made S). Related m x.world later) (sym moved)
         (subst (λ (l : List (ℕ × RedirPacket)). Related m (taken_world l) later) (ap (λ (l : List (ℕ × RedirPacket)). l ++ on_wire (Answered c) ∷ []) (append-nil w.to_gate))

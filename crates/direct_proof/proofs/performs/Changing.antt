@@ -2,11 +2,11 @@
 use Rattle.std.proofs.Common.{◌≡◌, ℕ, ◌||◌, ◌&&◌, not, Bool, true, false, cond, List, [], ◌∷◌, ◌++◌, map, filter, Option, Some, None, refl, sym, ap, ◌∙◌, subst, arith, append-nil, ◌==◌}
 use Rattle.std.specs.Prelude.{IfSome}
 use Rattle.std.specs.List.{find, list_any}
+use Rattle.usb_base.specs.Status.{is_success}
 use Rattle.usb_base.specs.declared.transfer.Outcome.{Outcome}
 use Rattle.usb_base.specs.declared.endpoint.EpTable.{EpTable}
 use Rattle.control_route.specs.declared.route.Route.{Route}
 use Rattle.control_route.specs.Changes.{is_change as is_route_change}
-use Rattle.model_device.specs.Device.{is_success}
 use Rattle.model_device.specs.Meaning.{Meaning}
 use Rattle.model_device.specs.Gadget.{IsGadget, IsNamed}
 use Rattle.model_device.specs.Transfer.{IsOutcome, is_control}
@@ -54,7 +54,7 @@ use Rattle.direct_proof.proofs.performs.Flushing.{flushes, still_running, change
 use Rattle.direct_proof.proofs.performs.StillRunning.{quits-still, each-still}
 use Rattle.usb_base.specs.declared.status.UsbStatus.TheVariants.{Cancelled}
 use Rattle.redir_host.specs.device.Changes.{is_touched}
-use Rattle.redir_host.specs.write.Answers.{ended}
+use Rattle.chapter9.specs.Standard.{ended}
 use Rattle.gate_history.proofs.lemmas.Lists.{filter-map}
 use Rattle.direct_proof.proofs.shared.WireBack.{packets_in-append, runs_in-append}
 use Rattle.direct_proof.proofs.shared.Traces.{map-append}

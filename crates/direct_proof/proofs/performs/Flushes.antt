@@ -11,7 +11,7 @@ use Rattle.control_route.specs.Changes.{touches}
 use Rattle.control_route.specs.declared.route.Route.TheVariants as route
 use Rattle.model_device.specs.Transfer.{is_control}
 use Rattle.redir_host.specs.device.Changes.{is_touched}
-use Rattle.redir_host.specs.write.Answers.{ended}
+use Rattle.chapter9.specs.Standard.{ended}
 use Rattle.redir_host.specs.state.Sound.{Each}
 use Rattle.gate_history.specs.client.Requests.{Request}
 use Rattle.gate_history.specs.client.Verdict.{Verdict, Wire, Routed, is_wire}

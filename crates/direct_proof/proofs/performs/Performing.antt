@@ -1,6 +1,7 @@
 -- The host performs a request that isn't a change: what the device attached directly does.
 use Rattle.std.proofs.Common.{◌≡◌, ℕ, nat_lt, Bool, true, false, cond, List, [], ◌∷◌, ◌++◌, map, Option, Some, None, refl, sym, ap, ◌∙◌, subst, append-nil}
 use Rattle.std.specs.Prelude.{IfSome}
+use Rattle.std.specs.Option.{option_map_or}
 use Rattle.std.specs.List.{find}
 use Rattle.usb_base.specs.declared.setup.Setup.{Setup}
 use Rattle.usb_base.specs.declared.transfer.Outcome.{Outcome}
@@ -11,7 +12,7 @@ use Rattle.control_route.specs.Routes.{route_of}
 use Rattle.control_route.specs.Changes.{is_change as is_route_change}
 use Rattle.model_device.specs.Meaning.{Meaning}
 use Rattle.model_device.specs.Gadget.{IsGadget, SameFacts, IsNamed}
-use Rattle.model_device.specs.Transfer.{IsOutcome, asks_change, setup_changes}
+use Rattle.model_device.specs.Transfer.{IsOutcome, asks_change}
 use Rattle.redir_host.specs.guest.Asking.{routed}
 use Rattle.redir_host.specs.declared.request.Request.{Request as HostRequest}
 use Rattle.usb_base.specs.Firsts.{without_first}
@@ -48,11 +49,11 @@ get-alt i = elim (nat_lt i 256) as (λ b. is_route_change (cond b (route.GetAlt 
 pub asks-none : (l : Load) → IsLoad l → change_in l.verdict ≡ None → asks_change (normal_of l) ≡ false
 asks-none l is none = go l.verdict is.verdict none
   where
-    by : (pipe : Pipe) (setup : Option Setup) → FitsPipe pipe l.request.transfer setup → setup_changes setup ≡ false
+    by : (pipe : Pipe) (setup : Option Setup) → FitsPipe pipe l.request.transfer setup → option_map_or (λ r. is_route_change (route_of r)) setup false ≡ false
     by Control None f = absurd f
     by Control (Some s) f = ap is_route_change f.1
-    by Bulk setup f = ap setup_changes f.0
-    by InterruptOut setup f = ap setup_changes f.0
+    by Bulk setup f = ap (λ (o : Option Setup). option_map_or (λ r. is_route_change (route_of r)) o false) f.0
+    by InterruptOut setup f = ap (λ (o : Option Setup). option_map_or (λ r. is_route_change (route_of r)) o false) f.0
 
     routed-none : (x : Route) (setup : Option Setup) → FitsRoute x l.request.transfer setup → change_in (Routed x) ≡ None → asks_change (normal_by l.request (Routed x)) ≡ false
     routed-none x None f h = absurd f

@@ -1,10 +1,11 @@
 -- A request that the host performs is the first of its endpoint at the device attached directly, and what comes of it is the same.
 use Rattle.std.proofs.Common.{◌≡◌, ℕ, ◌==◌, not, Bool, true, false, cond, List, [], ◌∷◌, ◌++◌, map, filter, Option, Some, None, is_some, refl, sym, ap, ◌∙◌, subst, arith}
+use Rattle.std.specs.Prelude.{IsSomeAnd, IsSome}
 use Rattle.std.specs.List.{find}
+use Rattle.usb_base.specs.Status.{is_success}
 use Rattle.usb_base.specs.declared.transfer.Outcome.{Outcome}
 use Rattle.control_route.specs.declared.route.Route.{Route}
 use Rattle.control_route.specs.declared.route.Route.TheVariants as route
-use Rattle.model_device.specs.Device.{is_success}
 use Rattle.model_device.specs.Meaning.{Meaning}
 use Rattle.redir_host.specs.declared.host.Host.{Host}
 use Rattle.redir_host.specs.declared.request.Request.{Request as HostRequest}
@@ -17,9 +18,9 @@ use Rattle.gate_history.specs.client.Verdict.{Verdict, Routed}
 use Rattle.gate_history.specs.client.Requests.{Request}
 use Rattle.direct_run.specs.Noted.{queue_byte, number_in}
 use Rattle.direct_run.specs.Moves.{World, Performs}
-use Rattle.direct_device.specs.Direct.{Load, Waiting, Direct, number, normal_of, normal_by, change_in, cancelled, is_at as is_first_at, without_first as without}
+use Rattle.direct_device.specs.Direct.{Load, Waiting, Direct, number, normal_of, normal_by, change_in, cancelled, is_at as is_first_at, without_first as without, is_number}
 use Rattle.direct_device.specs.Acting.{Perform, act, performed_first, performed_by, is_flushed, joins_ran}
-use Rattle.direct_device.specs.Legal.{IsAllowed, CanPerform}
+use Rattle.direct_device.specs.Legal.{IsAllowed}
 use Rattle.direct_proof.specs.Moves.{move, performs}
 use Rattle.direct_proof.specs.Requests.{Entry, Coming, at_queue, at_device, ran_of, queued_transfer}
 use Rattle.direct_proof.specs.Tagged.{Answered, on_wire}
@@ -167,4 +168,4 @@ device-performs {S = S} m w j ep q f done plain ready =
 pub perform-allowed : {S : Type 0} (m : Meaning S) (w : World S) (j : Shared) (ep : ℕ) (q : HostRequest) (f : First (queue_of ep) j.held j.coming q) (done : S × Outcome) →
     j.gone ≡ false → m.perform w.host.gadget (normal_of f.entry.load) ≡ Some done → IsAllowed m (view w j) (Perform (queue_byte ep) (number f.entry.load))
 perform-allowed {S = S} m w j ep q f done there ready =
-    (there, subst (CanPerform m (view w j) (number f.entry.load)) (sym (ap (λ (n : ℕ). find (of_queue n) (map at_device (j.held ++ j.coming))) (same-byte ep) ∙ f.device)) (itself (number f.entry.load), ap is_some ready))
+    (there, subst (λ (o : Option Waiting). IsSomeAnd o (λ q. (is_number (number f.entry.load) q.load ≡ true) × IsSome (m.perform (view w j).gadget (normal_of q.load)))) (sym (ap (λ (n : ℕ). find (of_queue n) (map at_device (j.held ++ j.coming))) (same-byte ep) ∙ f.device)) (itself (number f.entry.load), ap is_some ready))

@@ -1,5 +1,6 @@
 -- A submit that goes to the host by an id and ends no stream, or that is answered at once, keeps what is shared.
 use Rattle.std.proofs.Common.{◌≡◌, ℕ, nat_le, Bool, true, false, cond, List, [], ◌∷◌, length, map, Option, Some, None, is_some, refl, sym, ap, ◌∙◌, subst, inl, inr, ◌⊎◌, ◌+◌, not, ℤ}
+use Rattle.std.specs.List.{list_any}
 use Rattle.usb_base.specs.declared.setup.Setup.{Setup}
 use Rattle.usb_base.specs.Endpoint.{row_of}
 use Rattle.usb_base.specs.declared.side.Side.TheVariants.{Client}
@@ -19,7 +20,7 @@ use Rattle.model_device.specs.Gadget.{IsGadget}
 use Rattle.redir_host.specs.state.Sound.{Each}
 use Rattle.gate_history.specs.client.Requests.{Request, request_of}
 use Rattle.gate_history.specs.step.Items.{Asked}
-use Rattle.gate_history.specs.client.Verdict.{Verdict, Pipe, Now, Wire, Routed, IsoOut, Stream, by_transfer, by_endpoint}
+use Rattle.gate_history.specs.client.Verdict.{Verdict, Pipe, Now, Wire, Routed, IsoOut, Stream, by_transfer, by_endpoint, changes}
 use Rattle.gate_history.specs.write.Errno.{enoent, eshutdown, ebusy}
 use Rattle.gate_history.specs.state.Flight.{wide_bulk}
 use Rattle.gate_history.specs.state.Ups.{Up, is_ended}
@@ -28,7 +29,7 @@ use Rattle.gate_history.specs.state.State.{State, change_waits, next_ids, has_nu
 use Rattle.gate_history.specs.step.Meaning.{verdict_of, mark_of, drawn_by, meaning, refused, accepts}
 use Rattle.gate_history.proofs.lemmas.Lists.{Each as ListEach}
 use Rattle.direct_run.specs.Moves.{World, ByClient}
-use Rattle.direct_device.specs.Direct.{normal_by}
+use Rattle.direct_device.specs.Direct.{normal_by, Live}
 use Rattle.direct_proof.specs.Runs.{IsRun}
 use Rattle.direct_proof.specs.Shared.{view, Shared}
 use Rattle.direct_proof.specs.Moves.{move}
@@ -46,7 +47,6 @@ use Rattle.direct_proof.proofs.shared.New.{IsDrawn}
 use Rattle.gate_history.specs.client.Verdict.{goes_by_id, verdict}
 use Rattle.gate_history.specs.state.Ups.{stream_at}
 use Rattle.gate_history.specs.step.Meaning.{by_stream}
-use Rattle.direct_device.specs.Direct.{any_changes}
 use Rattle.direct_device.specs.Acting.{made_of}
 use Rattle.direct_proof.specs.Requests.{live_of}
 use Rattle.direct_proof.proofs.races.Kinds.{IsRaceVerdict}
@@ -167,7 +167,7 @@ keep-taken {S = S} m laws w j place s rel run read inside new fits = go (verdict
     -- the device attached directly answers it so, too
     same-now : (status : ℤ) → verdict_of st r ≡ Now status → (b : Bool) → st.lost ≡ b → made_of m (view w j) r ≡ Now status
     same-now status e true off =
-        (λ i. by_stream up (verdict ((sym (rel.sides.seen inside) ∙ off) i) (length (map live_of st.live)) (any_changes (map live_of st.live)) (m.table w.host.gadget) true r))
+        (λ i. by_stream up (verdict ((sym (rel.sides.seen inside) ∙ off) i) (length (map live_of st.live)) (list_any (λ (l : Live). changes l.load.verdict) (map live_of st.live)) (m.table w.host.gadget) true r))
         ∙ kept-now up eshutdown
         ∙ (λ i. cond (sym off i) (Now eshutdown) (cond (nat_le MAX_LIVE (length st.live)) (Now ebusy) (by_transfer (change_waits st) st.facts.table (wide_bulk st.agreed) r r.transfer.setup)))
         ∙ e

@@ -5,13 +5,14 @@ use Rattle.usb_base.specs.declared.transfer.Outcome.{Outcome}
 use Rattle.redir_host.specs.state.Sound.{Each}
 use Rattle.gate_history.proofs.lemmas.Lists.{both}
 use Rattle.direct_run.specs.declared.submitted.Submitted.{Submitted}
-use Rattle.direct_run.specs.Noted.{number_in, number_of}
+use Rattle.direct_run.specs.Noted.{number_in}
 use Rattle.direct_device.specs.Direct.{Load, number}
 use Rattle.direct_proof.specs.Requests.{Entry, Coming, Debt}
 use Rattle.direct_proof.specs.Ids.{count, Ids, Agrees}
 use Rattle.direct_proof.proofs.shared.New.{IsNew}
 use Rattle.direct_proof.proofs.lists.Counts.{count-append, count-parts, count-zero, count-both, single, itself, Each-weaker, Each-found}
 use Rattle.std.specs.Prelude.{find, reverse}
+use Rattle.std.specs.Option.{option_map_or}
 
 abbrev weight : Bool → ℕ
 weight b = cond b 1 0
@@ -64,9 +65,9 @@ ran-old ds names es ran ids = names-old (λ (c : Coming). c.id) (λ (c : Coming)
 -- ---- a submit
 
 pub number-last : (id : ℕ) (xs : List Submitted) (x : Submitted) → number_in id (xs ++ x ∷ []) ≡ cond (x.id == id) x.seqnum (number_in id xs)
-number-last id xs x = ap (λ (l : List Submitted). number_of (find (λ (y : Submitted). y.id == id) l)) (reverse-append xs (x ∷ [])) ∙ go (x.id == id)
+number-last id xs x = ap (λ (l : List Submitted). option_map_or (λ y. y.seqnum) (find (λ (y : Submitted). y.id == id) l) 0) (reverse-append xs (x ∷ [])) ∙ go (x.id == id)
   where
-    go : (b : Bool) → number_of (cond b (Some x) (find (λ (y : Submitted). y.id == id) (reverse xs))) ≡ cond b x.seqnum (number_in id xs)
+    go : (b : Bool) → option_map_or (λ y. y.seqnum) (cond b (Some x) (find (λ (y : Submitted). y.id == id) (reverse xs))) 0 ≡ cond b x.seqnum (number_in id xs)
     go true = refl
     go false = refl
 

@@ -7,11 +7,12 @@ use Rattle.gate_core.specs.step.Stands.{Stands as GateStands}
 use Rattle.model_device.specs.Meaning.{Meaning}
 use Rattle.redir_host.specs.step.Acts.{Act}
 use Rattle.redir_host.specs.step.Stands.{Stands as HostStands}
+use Rattle.redir_host.specs.write.Output.{act_bytes}
 use Rattle.direct_run.specs.declared.told.Told.{Told}
 use Rattle.direct_run.specs.Kept.{SystemKept}
 use Rattle.direct_run.specs.World.{first_id}
 use Rattle.direct_run.specs.Noted.{named}
-use Rattle.direct_run.specs.Trace.{given_of, told_of_event, told_of_act, act_items}
+use Rattle.direct_run.specs.Trace.{given_of, nothing_told, told_of_event, act_items}
 
 -- nothing is told
 abbrev pub untold : Told
@@ -26,5 +27,5 @@ pub record DoesEvent {S : Type 0} (old new : SystemKept S) (events : List Event)
 -- the host has done the act, and what it sent is on the wire
 pub record DoesAct {S : Type 0} (m : Meaning S) (s : S) (old new : SystemKept S) (acts : List Act) (a : Act) (told : Told) : Type 0 where
   pub host : HostStands m s new.host (a ∷ acts)
-  pub told-is : told ≡ told_of_act m s acts a (act_items m s acts old.submits a)
+  pub told-is : told ≡ record nothing_told { from_host = act_bytes m s acts a; items = act_items m s acts old.submits a }
   pub new-is : new ≡ record old { host = new.host; to_gate = old.to_gate ++ told.from_host; trace = old.trace ++ told.items }

@@ -1,6 +1,7 @@
 -- The disk is a device.
 use Rattle.std.proofs.Common.{◌≡◌, ◌≢◌, ℕ, Bool, true, false, cond, List, [], ◌∷◌, take, min, Option, Some, None, refl, sym, ap, ◌∙◌, subst, arith}
 use Rattle.std.specs.Prelude.{◌==◌, ◌&&◌, is_some, IsSome, IfSome}
+use Rattle.std.specs.Option.{option_map_or}
 use Rattle.std.proofs.lemmas.Bool.{and_parts, eqb-true, false≢true, cond_both}
 use Rattle.std.proofs.lemmas.List.{length-take}
 use Rattle.usb_base.specs.Endpoint.{is_in_endpoint}
@@ -14,7 +15,7 @@ use Rattle.control_route.specs.Changes.{is_change}
 use Rattle.chapter9.specs.Descriptors.{wrong_place}
 use Rattle.chapter9.specs.Requests.{is_request}
 use Rattle.chapter9.specs.Standard.{stall, success}
-use Rattle.model_device.specs.Transfer.{IsTransfer, IsOutcome, asks_change, is_in_setup, setup_changes}
+use Rattle.model_device.specs.Transfer.{IsTransfer, IsOutcome, asks_change, is_in_setup}
 use Rattle.model_device.specs.Gadget.{IsGadget, IsNamed, SameFacts, is_get_configuration, is_port_reset}
 use Rattle.model_device.specs.Device.{State, device_parts, is_running, meaning_of, perform}
 use Rattle.model_device.specs.inner.Lawful.{lawful, stall_outcome}
@@ -137,7 +138,7 @@ refuses_at d t r None it e c h q =
     (λ done k f i. record { state = k f i; blocks = d.blocks }) (base.refuses d.state t it h)
 refuses_at d t r (Some x) it e c h q = absurd (false≢true (sym (class_keeps r x c) ∙ q))
 
-refuses_by : (d : DiskState) (t : Transfer) (o : Option Setup) → IsTransfer t → t.setup ≡ o → asks_change t ≡ true → setup_changes o ≡ true → IfSome (disk_step d t) (λ done. done.1.status ≢ Success → done.0 ≡ d)
+refuses_by : (d : DiskState) (t : Transfer) (o : Option Setup) → IsTransfer t → t.setup ≡ o → asks_change t ≡ true → option_map_or (λ r. is_change (route_of r)) o false ≡ true → IfSome (disk_step d t) (λ done. done.1.status ≢ Success → done.0 ≡ d)
 refuses_by d t None it e h q = absurd (false≢true q)
 refuses_by d t (Some r) it e h q = refuses_at d t r (class_request r) it e refl h q
 

@@ -1,8 +1,10 @@
 -- Every device that answers endpoint 0 by its descriptors is one, if its own answers are.
 use Rattle.std.proofs.Common.{◌≡◌, ◌≢◌, ℕ, ◌≤◌, Bool, true, false, cond, List, [], ◌∷◌, length, take, min, Option, Some, None, refl, sym, ap, ◌∙◌, arith}
 use Rattle.std.specs.Prelude.{◌&&◌, is_some, unwrap_or, IsSome, IfSome}
+use Rattle.std.specs.Option.{option_map_or}
 use Rattle.std.proofs.lemmas.Bool.{and_right, false≢true, cond_both}
 use Rattle.std.proofs.lemmas.List.{length-take}
+use Rattle.usb_base.specs.Status.{is_success}
 use Rattle.usb_base.specs.Endpoint.{is_in_endpoint}
 use Rattle.usb_base.specs.declared.setup.Setup.{Setup}
 use Rattle.usb_base.specs.declared.status.UsbStatus.{UsbStatus}
@@ -21,10 +23,10 @@ use Rattle.chapter9.specs.Requests.{request_of}
 use Rattle.chapter9.specs.State.{is_configured}
 use Rattle.chapter9.specs.Table.{class_of, table_of}
 use Rattle.chapter9.specs.Standard.{changed_by, given_by, outcome_by, read_outcome, stall, state_by, success, write_outcome}
-use Rattle.model_device.specs.Transfer.{IsTransfer, IsOutcome, is_in_setup, setup_changes}
+use Rattle.model_device.specs.Transfer.{IsTransfer, IsOutcome, is_in_setup}
 use Rattle.model_device.specs.Gadget.{IsGadget, IsNamed, SameFacts, is_get_configuration, is_port_reset}
 use Rattle.model_device.specs.Function.{IsFunction}
-use Rattle.model_device.specs.Device.{Device, State, device_parts, interfaces_of, is_running, is_success, meaning_of, offer, one_interface, perform, perform_by, with_kept}
+use Rattle.model_device.specs.Device.{Device, State, device_parts, interfaces_of, is_running, meaning_of, offer, one_interface, perform, perform_by, with_kept}
 use Rattle.model_device.specs.inner.Asked.{SameSetting, get_configuration_asked, port_reset_asked, read_from_device, setting_kept}
 use Rattle.model_device.specs.inner.Tables.{table_fine}
 
@@ -102,7 +104,7 @@ resets_by d s t r e q = let asks = port_reset_asked r q in rw (performed d s t r
 tells_by : {X : Type 0} (d : Device X) (s : State X) (t : Transfer) (r : Setup) → t.setup ≡ Some r → is_get_configuration r ≡ true → perform d s t ≡ Some (s, success (take (min t.wanted r.length) (s.device.configuration ∷ [])))
 tells_by d s t r e q = let asks = get_configuration_asked r q in performed d s t r e ∙ rw (asks.0, asks.1) refl
 
-keeps_by : {X : Type 0} (d : Device X) (s : State X) (t : Transfer) (o : Option Setup) → t.setup ≡ o → setup_changes o ≡ false → IfSome (perform d s t) (λ done. SameFacts (meaning_of d) s done.0)
+keeps_by : {X : Type 0} (d : Device X) (s : State X) (t : Transfer) (o : Option Setup) → t.setup ≡ o → option_map_or (λ r. is_change (route_of r)) o false ≡ false → IfSome (perform d s t) (λ done. SameFacts (meaning_of d) s done.0)
 keeps_by d s t None e c =
     rw (not_ready d s t e)
     (cond_both (is_running (device_parts d) s.device t.ep) (with_kept s.device (d.transfer s.kept t)) (Some (s, stall)) (λ o. IfSome o (λ done. SameFacts (meaning_of d) s done.0))
@@ -124,7 +126,7 @@ not_success Timeout h = refl
 not_success Babble h = refl
 not_success (Other byte) h = refl
 
-refuses_by : {X : Type 0} (d : Device X) (s : State X) (t : Transfer) (o : Option Setup) → t.setup ≡ o → setup_changes o ≡ true → IfSome (perform d s t) (λ done. done.1.status ≢ Success → done.0 ≡ s)
+refuses_by : {X : Type 0} (d : Device X) (s : State X) (t : Transfer) (o : Option Setup) → t.setup ≡ o → option_map_or (λ r. is_change (route_of r)) o false ≡ true → IfSome (perform d s t) (λ done. done.1.status ≢ Success → done.0 ≡ s)
 refuses_by d s t None e c = absurd (false≢true c)
 refuses_by d s t (Some r) e c =
     rw (performed d s t r e) (λ h.

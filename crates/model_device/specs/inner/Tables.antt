@@ -12,7 +12,7 @@ use Rattle.chapter9.specs.declared.part.Part.{Part}
 use Rattle.chapter9.specs.declared.part.Part.TheVariants.{Config, Interface, Endpoint, Other}
 use Rattle.chapter9.specs.declared.state.DevState.{DevState}
 use Rattle.chapter9.specs.State.{is_configured}
-use Rattle.chapter9.specs.Table.{Placed, control_row, control_rows, endpoints_after, endpoints_of, interface_after, placed, table_of, with_row, with_rows}
+use Rattle.chapter9.specs.Table.{Placed, control_row, control_rows, endpoints_after, interface_after, placed, table_of, with_row, with_rows}
 use Rattle.model_device.specs.Function.{is_fine, is_fine_part, is_iso, no_iso_out}
 
 -- rows of which none below 16 is isochronous
@@ -81,4 +81,4 @@ control_fine = set_fine (set no_endpoints.rows 0 control_row) 16 control_row (λ
 
 pub table_fine : (parts : List Part) (s : DevState) → no_iso_out parts ≡ true → (i : ℕ) → i < 16 → (get_or (table_of parts s).rows i no_endpoint).kind ≢ Iso
 table_fine parts s f =
-    cond_both (is_configured s) (with_rows control_rows (endpoints_of s.alt parts)) control_rows Fine (λ e. with_rows_fine control_rows (endpoints_of s.alt parts) (endpoints_fine s.alt None parts f) control_fine) (λ e. control_fine)
+    cond_both (is_configured s) (with_rows control_rows (endpoints_after s.alt None parts)) control_rows Fine (λ e. with_rows_fine control_rows (endpoints_after s.alt None parts) (endpoints_fine s.alt None parts f) control_fine) (λ e. control_fine)

@@ -6,12 +6,14 @@ use Rattle.std.proofs.lemmas.List.{length-take, length-replicate}
 use Rattle.usb_base.specs.Endpoint.{is_in_endpoint}
 use Rattle.usb_base.specs.Number.{le_at}
 use Rattle.usb_base.specs.declared.transfer.Transfer.{Transfer}
-use Rattle.chapter9.specs.Descriptors.{wrong_place}
+use Rattle.chapter9.specs.Descriptors.{parts_of, wrong_place}
+use Rattle.chapter9.specs.declared.standard_requests.DescriptorSet.{DescriptorSet}
 use Rattle.model_device.specs.Transfer.{IsTransfer, IsOutcome}
 use Rattle.model_device.specs.Gadget.{IsNamed}
 use Rattle.model_device.specs.Device.{device_parts}
 use Rattle.model_device.specs.Function.{IsFunction, no_iso_out}
-use Rattle.model_device.specs.Keyboard.{keyboard}
+use Rattle.model_device.specs.InTurn.{in_turn}
+use Rattle.model_device.specs.Keyboard.{keyboard, report}
 use Rattle.model_device.specs.Loopback.{given_back, limit, loopback, taken_in}
 use Rattle.model_device.specs.Tone.{samples, tone}
 use Rattle.model_device.specs.inner.Lawful.{stall_outcome}
@@ -44,15 +46,17 @@ tone_endpoints : no_iso_out (device_parts tone) ≡ true
 unfolding tone
 tone_endpoints = refl
 
--- ---- packets
+-- ---- what only sends, where its packets are short
 
-keyboard_packets : (key ep : ℕ) → IfSome (keyboard.packet key ep) (λ sent. length sent.1.body ≤ 65535)
-unfolding keyboard
-keyboard_packets key ep = cond_both (ep == 0x81) _ None (λ o. IfSome o (λ sent. length sent.1.body ≤ 65535)) (λ e. omega arith) (λ e. tt)
-
-tone_packets : (sample ep : ℕ) → IfSome (tone.packet sample ep) (λ sent. length sent.1.body ≤ 65535)
-unfolding tone samples
-tone_packets sample ep = cond_both (ep == 0x81) _ None (λ o. IfSome o (λ sent. length sent.1.body ≤ 65535)) (λ e. omega (arith, length-replicate 192 sample)) (λ e. tt)
+in_turn_lawful : (count : ℕ) (body_of : ℕ → List ℕ) (set : DescriptorSet) → wrong_place set.config ≡ None → no_iso_out (parts_of set.config) ≡ true → ((offers : ℕ) → length (body_of offers) ≤ 65535) → IsFunction (in_turn count body_of set)
+in_turn_lawful count body_of set walks endpoints short = record {
+  configuration = walks;
+  outcomes = λ offers t it e. stall_outcome t;
+  packets = λ offers ep. cond_both (ep == 0x81) _ None (λ o. IfSome o (λ sent. length sent.1.body ≤ 65535)) (λ e. short offers) (λ e. tt);
+  named = λ offers t. refl;
+  packets_named = λ offers ep. cond_both (ep == 0x81) _ None (λ o. IfSome o (λ sent. IsNamed sent.1.status)) (λ e. refl) (λ e. tt);
+  endpoints = endpoints;
+}
 
 -- ---- the loop's outcomes
 
@@ -71,15 +75,7 @@ loop_outcomes : (held : List ℕ) (t : Transfer) → IsTransfer t → IfSome (lo
 unfolding loopback
 loop_outcomes held t it = cond_both (is_in_endpoint t.ep) (given_back held t.wanted) (taken_in held t.body) (λ o. IfSome o (λ done. IsOutcome t done.1)) (given_back_outcome held t) (taken_in_outcome held t it)
 
--- ---- statuses: each packet succeeds, and so does each transfer of the loop or stalls
-
-keyboard_named : (key ep : ℕ) → IfSome (keyboard.packet key ep) (λ sent. IsNamed sent.1.status)
-unfolding keyboard
-keyboard_named key ep = cond_both (ep == 0x81) _ None (λ o. IfSome o (λ sent. IsNamed sent.1.status)) (λ e. refl) (λ e. tt)
-
-tone_named : (sample ep : ℕ) → IfSome (tone.packet sample ep) (λ sent. IsNamed sent.1.status)
-unfolding tone
-tone_named sample ep = cond_both (ep == 0x81) _ None (λ o. IfSome o (λ sent. IsNamed sent.1.status)) (λ e. refl) (λ e. tt)
+-- ---- its statuses: each transfer succeeds or stalls
 
 given_back_named : (held : List ℕ) (wanted : ℕ) → IfSome (given_back held wanted) (λ done. IsNamed done.1.status)
 given_back_named held wanted = cond_both (length held == 0 && not (wanted == 0)) None _ (λ o. IfSome o (λ done. IsNamed done.1.status)) (λ w. tt) (λ w. refl)
@@ -97,12 +93,12 @@ loop_named held t = cond_both (is_in_endpoint t.ep) (given_back held t.wanted) (
 
 pub keyboard_lawful : IsFunction keyboard
 unfolding keyboard
-keyboard_lawful = record { configuration = keyboard_walks; outcomes = λ key t it e. stall_outcome t; packets = keyboard_packets; named = λ key t. refl; packets_named = keyboard_named; endpoints = keyboard_endpoints }
+keyboard_lawful = in_turn_lawful 26 report keyboard.set keyboard_walks keyboard_endpoints (λ key. omega arith)
 
 pub loopback_lawful : IsFunction loopback
 unfolding loopback
 loopback_lawful = record { configuration = loopback_walks; outcomes = λ held t it e. loop_outcomes held t it; packets = λ held ep. tt; named = loop_named; packets_named = λ held ep. tt; endpoints = loop_endpoints }
 
 pub tone_lawful : IsFunction tone
-unfolding tone
-tone_lawful = record { configuration = tone_walks; outcomes = λ sample t it e. stall_outcome t; packets = tone_packets; named = λ sample t. refl; packets_named = tone_named; endpoints = tone_endpoints }
+unfolding tone samples
+tone_lawful = in_turn_lawful 256 samples tone.set tone_walks tone_endpoints (λ sample. omega (arith, length-replicate 192 sample))

@@ -15,17 +15,13 @@ use Rattle.redir_host.specs.declared.request.Request.{Request}
 use Rattle.redir_host.specs.declared.running.Running.{Running}
 use Rattle.redir_host.specs.write.Answers.{cancelled}
 use Rattle.redir_host.specs.device.Facts.{facts_of}
-use Rattle.redir_host.specs.step.Moves.{Move}
+use Rattle.redir_host.specs.step.Moves.{Move, quiet}
 
 -- a control packet is never a change here, whatever its setup
 abbrev pub change_of : Form → Option Route
-change_of (form.Control setup) = None
-change_of (form.Bulk stream) = None
-change_of form.Interrupt = None
 change_of (form.SetConfiguration configuration) = Some (route.SetConfig configuration)
-change_of form.GetConfiguration = None
 change_of (form.SetAlt interface alt) = Some (route.SetAlt interface alt)
-change_of (form.GetAlt interface) = None
+change_of _ = None
 
 abbrev pub is_touched : Route → EpTable → ℕ → Bool
 is_touched r table ep = not (is_control ep) && touches r (row_of table ep).interface
@@ -47,7 +43,7 @@ flushed r table h = record h { queue = filter (stays r table) h.queue; running =
 abbrev pub cleared : {S : Type 0} → Bool → Route → EpTable → Host S → Move S
 cleared success r table h =
     if success then record { host = flushed r table h; sent = map cancelled (filter (touched r table) h.queue); notes = [] }
-    else record { host = h; sent = []; notes = [] }
+    else quiet h
 
 -- and then, also where the device refuses it, the facts are told as they are now
 abbrev pub changed : {S : Type 0} → Meaning S → Route → EpTable → Bool → Host S → Move S

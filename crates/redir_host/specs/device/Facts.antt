@@ -42,6 +42,3 @@ connect_of caps c = if has caps 1 then c else record c { version = 0 }
 -- the endpoints and the interfaces as they are now, with id 0
 abbrev pub facts_of : {S : Type 0} → Caps → Meaning S → S → List (ℕ × RedirPacket)
 facts_of caps m s = (0, Plain (plain.EpInfo (ep_info_of caps (m.table s)))) ∷ (0, Plain (plain.InterfaceInfo (m.interfaces s))) ∷ []
-
-abbrev pub connect_packet : {S : Type 0} → Caps → Meaning S → ℕ × RedirPacket
-connect_packet caps m = (0, Plain (plain.Connect (connect_of caps m.identity)))

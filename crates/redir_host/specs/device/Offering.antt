@@ -1,5 +1,5 @@
 -- What an offer of an endpoint's stream makes, and the end of the device.
-use Rattle.std.specs.Prelude.{ℕ, true, false, if◌then◌else◌, [], ◌∷◌, length, Option, Some, None}
+use Rattle.std.specs.Prelude.{ℕ, true, false, if◌then◌else◌, [], ◌∷◌, length, Option, Some, None, is_some}
 use Rattle.std.specs.List.{find}
 use Rattle.usb_base.specs.Status.{status_byte}
 use Rattle.usb_base.specs.declared.transfer.StreamPacket.{StreamPacket}
@@ -36,13 +36,9 @@ offered_on m h ep (Some s) = offered_by h ep s.kind (m.offer h.gadget ep)
 abbrev pub offer_move : {S : Type 0} → Meaning S → Host S → ℕ → Move S
 offer_move m h ep = if h.unplugged then quiet h else offered_on m h ep (find (runs_at ep) h.running)
 
-abbrev pub told_given : {A : Type 0} → Option A → Offered
-told_given None = Nothing
-told_given (Some sent) = Sent
-
 abbrev pub told_offered_by : {S : Type 0} → Meaning S → Host S → ℕ → Option Running → Offered
 told_offered_by m h ep None = Closed
-told_offered_by m h ep (Some s) = told_given (m.offer h.gadget ep)
+told_offered_by m h ep (Some s) = if is_some (m.offer h.gadget ep) then Sent else Nothing
 
 abbrev pub told_offered : {S : Type 0} → Meaning S → Host S → ℕ → Offered
 told_offered m h ep = if h.unplugged then Unplugged else told_offered_by m h ep (find (runs_at ep) h.running)
@@ -53,8 +49,4 @@ told_offered m h ep = if h.unplugged then Unplugged else told_offered_by m h ep 
 abbrev pub unplug_move : {S : Type 0} → Host S → Move S
 unplug_move h =
     if h.unplugged then quiet h
-    else record {
-      host = record h { queue = []; resets_next = false; running = []; unplugged = true };
-      sent = if h.guest.first then [] else (0, Plain plain.Disconnect) ∷ [];
-      notes = [];
-    }
+    else record (quiet (record h { queue = []; resets_next = false; running = []; unplugged = true })) { sent = if h.guest.first then [] else (0, Plain plain.Disconnect) ∷ [] }

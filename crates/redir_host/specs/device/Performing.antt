@@ -1,11 +1,11 @@
 -- What becomes of an endpoint's first request where the device performs it.
-use Rattle.std.specs.Prelude.{ℕ, Bool, if◌then◌else◌, Option, Some, None}
+use Rattle.std.specs.Prelude.{ℕ, Bool, if◌then◌else◌, Option, Some, None, option_map}
 use Rattle.std.specs.List.{find}
+use Rattle.usb_base.specs.Status.{is_success}
 use Rattle.usb_base.specs.declared.endpoint.EpTable.{EpTable}
 use Rattle.usb_base.specs.declared.transfer.Outcome.{Outcome}
 use Rattle.control_route.specs.declared.route.Route.{Route}
 use Rattle.control_route.specs.declared.route.Route.TheVariants as route
-use Rattle.model_device.specs.Device.{is_success}
 use Rattle.model_device.specs.Meaning.{Meaning}
 use Rattle.redir_host.specs.declared.host.Host.{Host}
 use Rattle.redir_host.specs.declared.note.Performed.{Performed}
@@ -27,24 +27,19 @@ done_by m table h q (Some r) o = then_sends (changed m r table (is_success o.sta
 
 -- none where the device isn't ready for it
 abbrev pub does : {S : Type 0} → Meaning S → Host S → Request → Option Route → Option (S × Outcome) → Option (Move S)
-does m h q r None = None
-does m h q r (Some done) = Some (done_by m (m.table h.gadget) (record h { gadget = done.0 }) q r done.1)
+does m h q r came = option_map (λ done. done_by m (m.table h.gadget) (record h { gadget = done.0 }) q r done.1) came
 
 abbrev pub performs : {S : Type 0} → Meaning S → Host S → Request → Option (Move S)
 performs m h q = does m h q (change_of q.form) (m.perform h.gadget q.transfer)
 
 -- ---- with a reset
 
-abbrev pub follows : {S : Type 0} → Move S → Option (Move S) → Option (Move S)
-follows v None = None
-follows v (Some w) = Some (behind v w)
-
 -- the device is reset, and then it performs the request
 abbrev pub resets : {S : Type 0} → Meaning S → Host S → Request → Option (S × Outcome) → Option (Move S)
 resets m h q None = None
 resets {S = S} m h q (Some done) =
     let v : Move S = changed m route.Reset (m.table h.gadget) (is_success done.1.status) (record h { gadget = done.0 }) in
-    follows v (performs m v.host q)
+    option_map (behind v) (performs m v.host q)
 
 -- the configuration after a reset is its answer, so that a get_configuration is performed by the reset alone
 abbrev pub performs_marked : {S : Type 0} → Meaning S → Host S → Request → Form → Option (Move S)
@@ -57,8 +52,7 @@ abbrev pub performs_any : {S : Type 0} → Meaning S → Host S → Request → 
 performs_any m h q = if q.reset then performs_marked m h q q.form else performs m h q
 
 abbrev pub with_id : {S : Type 0} → Request → Option (Move S) → Option (ℕ × Move S)
-with_id q None = None
-with_id q (Some v) = Some (q.id, v)
+with_id q made = option_map (λ v. (q.id, v)) made
 
 abbrev pub first_performed : {S : Type 0} → Meaning S → Host S → ℕ → Option Request → Option (ℕ × Move S)
 first_performed m h ep None = None

@@ -24,7 +24,7 @@ use Rattle.redir_host.specs.declared.running.Running.{Running}
 use Rattle.redir_host.specs.declared.running.StreamKind.{StreamKind}
 use Rattle.redir_host.specs.declared.running.StreamKind.TheVariants.{Iso, Interrupt}
 use Rattle.redir_host.specs.state.Queues.{is_first_queue, is_cancelled_by, after_cancel, leaves_mark}
-use Rattle.redir_host.specs.device.Facts.{facts_of, connect_packet}
+use Rattle.redir_host.specs.device.Facts.{connect_of, facts_of}
 use Rattle.redir_host.specs.guest.Asking.{asking_of, routed}
 use Rattle.redir_host.specs.write.Answers.{cancelled, refused}
 use Rattle.redir_host.specs.step.Moves.{Move, quiet, replies}
@@ -50,25 +50,16 @@ data_move h id (Asks f t) = joins h id f t
 
 abbrev pub cancel_move : {S : Type 0} → Host S → ℕ → Option Request → Move S
 cancel_move h id None = quiet h
-cancel_move h id (Some q) = record {
-  host = record h { queue = after_cancel id h.queue; resets_next = leaves_mark id h.queue || h.resets_next };
-  sent = cancelled q ∷ [];
-  notes = note.Cancelled id ∷ [];
-}
+cancel_move {S = S} h id (Some q) =
+    let left : Host S = record h { queue = after_cancel id h.queue; resets_next = leaves_mark id h.queue || h.resets_next } in
+    record (replies left (cancelled q)) { notes = note.Cancelled id ∷ [] }
 
 -- ---- streams
 
 abbrev pub is_of : StreamKind → EpKind → Bool
 is_of Iso kind.Iso = true
-is_of Iso kind.Control = false
-is_of Iso kind.Bulk = false
-is_of Iso kind.Interrupt = false
-is_of Iso kind.Invalid = false
 is_of Interrupt kind.Interrupt = true
-is_of Interrupt kind.Control = false
-is_of Interrupt kind.Iso = false
-is_of Interrupt kind.Bulk = false
-is_of Interrupt kind.Invalid = false
+is_of _ _ = false
 
 -- an IN endpoint of the stream's type
 abbrev pub can_start : EpTable → StreamKind → ℕ → Bool
@@ -101,7 +92,7 @@ stop_move h id k ep = replies (record h { running = stopped ep h.running }) (id,
 
 -- the guest is told of the device
 abbrev pub greets : {S : Type 0} → Meaning S → Host S → Move S
-greets m h = record { host = h; sent = facts_of h.guest.caps m h.gadget ++ connect_packet h.guest.caps m ∷ []; notes = [] }
+greets m h = record { host = h; sent = facts_of h.guest.caps m h.gadget ++ (0, Plain (plain.Connect (connect_of h.guest.caps m.identity))) ∷ []; notes = [] }
 
 abbrev pub plain_move : {S : Type 0} → Meaning S → Host S → ℕ → RedirControl → Move S
 plain_move m h id (plain.Hello x) = greets m h

@@ -23,10 +23,7 @@ abbrev pub is_data : Form → Bool
 is_data (form.Control setup) = true
 is_data (form.Bulk stream) = true
 is_data form.Interrupt = true
-is_data (form.SetConfiguration configuration) = false
-is_data form.GetConfiguration = false
-is_data (form.SetAlt interface alt) = false
-is_data (form.GetAlt interface) = false
+is_data _ = false
 
 abbrev pub is_cancelled_by : ℕ → Request → Bool
 is_cancelled_by id q = is_data q.form && (q.id == id)

@@ -30,32 +30,19 @@ CanTell caps id (Carrying d) = carrying.CanWrite id ToGuest caps d
 -- the length field of an answer has room for it
 abbrev pub DoneFits : Form → ℕ → Type 0
 DoneFits (form.Control setup) done = done < 2 ^ 16
-DoneFits (form.Bulk stream) done = Unit {0}
 DoneFits form.Interrupt done = done < 2 ^ 16
-DoneFits (form.SetConfiguration configuration) done = Unit {0}
-DoneFits form.GetConfiguration done = Unit {0}
-DoneFits (form.SetAlt interface alt) done = Unit {0}
-DoneFits (form.GetAlt interface) done = Unit {0}
+DoneFits _ done = Unit {0}
 
 -- and so has that of its packet
 abbrev pub WantedFits : Caps → Form → ℕ → Type 0
-WantedFits caps (form.Control setup) wanted = wanted < 2 ^ 16
 WantedFits caps (form.Bulk stream) wanted = (wanted ≤ 16777216) × BulkLengthFits (has caps 6) wanted
-WantedFits caps form.Interrupt wanted = wanted < 2 ^ 16
-WantedFits caps (form.SetConfiguration configuration) wanted = wanted < 2 ^ 16
-WantedFits caps form.GetConfiguration wanted = wanted < 2 ^ 16
-WantedFits caps (form.SetAlt interface alt) wanted = wanted < 2 ^ 16
-WantedFits caps (form.GetAlt interface) wanted = wanted < 2 ^ 16
+WantedFits caps _ wanted = wanted < 2 ^ 16
 
 -- and so have the fields of its answer that are its own
 abbrev pub FormFits : Form → Type 0
 FormFits (form.Control setup) = (setup.value < 2 ^ 16) × (setup.index < 2 ^ 16)
 FormFits (form.Bulk stream) = stream < 2 ^ 32
-FormFits form.Interrupt = Unit {0}
-FormFits (form.SetConfiguration configuration) = Unit {0}
-FormFits form.GetConfiguration = Unit {0}
-FormFits (form.SetAlt interface alt) = Unit {0}
-FormFits (form.GetAlt interface) = Unit {0}
+FormFits _ = Unit {0}
 
 pub record IsRequest (guest : RedirState) (q : Request) : Type 0 where
   -- a request comes behind the hello

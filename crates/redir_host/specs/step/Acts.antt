@@ -15,6 +15,4 @@ pub data Act : Type 0 where
 abbrev pub guest_bytes : List Act → List ℕ
 guest_bytes [] = []
 guest_bytes (Piece b ∷ acts) = guest_bytes acts ++ b
-guest_bytes (Perform ep ∷ acts) = guest_bytes acts
-guest_bytes (Offer ep ∷ acts) = guest_bytes acts
-guest_bytes (Unplug ∷ acts) = guest_bytes acts
+guest_bytes (_ ∷ acts) = guest_bytes acts

@@ -27,7 +27,8 @@ use Rattle.redir_host.specs.guest.Line.{Placed, Waiting, all_changes, asked_line
 use Rattle.redir_host.specs.state.Queues.{is_at, is_data, queue_of}
 use Rattle.redir_host.specs.step.Items.{Item, Asked, Wrong, Performs, Offers, Unplugs}
 use Rattle.redir_host.specs.step.Machine.{run, all_given}
-use Rattle.redir_host.specs.write.Answers.{answer_by, ended}
+use Rattle.chapter9.specs.Standard.{ended}
+use Rattle.redir_host.specs.write.Answers.{answer_by}
 
 -- ---- the requests
 

@@ -25,6 +25,4 @@ abbrev pub of_guest : List Item → List Item
 of_guest [] = []
 of_guest (Asked id packet ∷ xs) = of_guest xs ++ Asked id packet ∷ []
 of_guest (Wrong place reason ∷ xs) = of_guest xs ++ Wrong place reason ∷ []
-of_guest (Performs ep ∷ xs) = of_guest xs
-of_guest (Offers ep ∷ xs) = of_guest xs
-of_guest (Unplugs ∷ xs) = of_guest xs
+of_guest (_ ∷ xs) = of_guest xs

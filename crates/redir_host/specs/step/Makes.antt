@@ -64,13 +64,8 @@ flushed_bytes caps r table queue = flat_map (told_bytes caps) (map cancelled (fi
 
 -- the answer of a request of this form and endpoint can be written
 abbrev pub LengthFits : Caps → Form → ℕ → Type 0
-LengthFits caps (form.Control setup) done = Unit {0}
 LengthFits caps (form.Bulk stream) done = BulkLengthFits (has caps 6) done
-LengthFits caps form.Interrupt done = Unit {0}
-LengthFits caps (form.SetConfiguration configuration) done = Unit {0}
-LengthFits caps form.GetConfiguration done = Unit {0}
-LengthFits caps (form.SetAlt interface alt) done = Unit {0}
-LengthFits caps (form.GetAlt interface) done = Unit {0}
+LengthFits caps _ done = Unit {0}
 
 pub record AnswerFits (caps : Caps) (f : Form) (ep : ℕ) (o : Outcome) : Type 0 where
   pub done : DoneFits f o.done

@@ -7,8 +7,8 @@ use Rattle.redir_data.specs.declared.packet.RedirPacket.TheVariants.{Plain, Carr
 use Rattle.model_device.specs.Meaning.{Meaning}
 use Rattle.redir_host.specs.declared.host.Host.{Host}
 use Rattle.redir_host.specs.guest.Guest.{guest_split}
-use Rattle.redir_host.specs.step.Acts.{Act, Piece, Perform, Offer, Unplug, guest_bytes}
-use Rattle.redir_host.specs.step.Items.{Item, Asked, Wrong, Performs, Offers, Unplugs}
+use Rattle.redir_host.specs.step.Acts.{Act, Piece, guest_bytes}
+use Rattle.redir_host.specs.step.Items.{Item, Asked}
 use Rattle.redir_host.specs.step.Machine.{move}
 use Rattle.redir_host.specs.step.Moves.{Move}
 
@@ -16,10 +16,7 @@ use Rattle.redir_host.specs.step.Moves.{Move}
 abbrev pub takes_memory : Item → Bool
 takes_memory (Asked id (Plain packet)) = plain_takes_memory packet
 takes_memory (Asked id (Carrying packet)) = has_data packet
-takes_memory (Wrong place reason) = false
-takes_memory (Performs ep) = false
-takes_memory (Offers ep) = false
-takes_memory Unplugs = false
+takes_memory _ = false
 
 -- it sends packets, tells notes, or keeps requests more
 abbrev pub GivesSome : {S : Type 0} → Host S → Move S → Type 0
@@ -36,6 +33,4 @@ FirstWants m h (x ∷ xs) = Wants m h x
 -- behind these acts a piece has bytes, and the guest's stream has met no wrong place
 abbrev pub IsHeld : List Act → Act → Type 0
 IsHeld acts (Piece b) = (0 < length b) × ((guest_split (guest_bytes acts)).wrong ≡ None)
-IsHeld acts (Perform ep) = ⊥
-IsHeld acts (Offer ep) = ⊥
-IsHeld acts Unplug = ⊥
+IsHeld acts _ = ⊥

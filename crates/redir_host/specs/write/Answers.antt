@@ -1,15 +1,14 @@
 -- How requests are answered: by the packet that they came by, with the status, the length and the data of what came
 -- of them, or by the status packet of their kind.
 use Rattle.std.specs.Prelude.{ℕ, [], if◌then◌else◌, slice_index}
-use Rattle.usb_base.specs.Status.{status_byte}
-use Rattle.usb_base.specs.declared.status.UsbStatus.{UsbStatus}
+use Rattle.usb_base.specs.Status.{status_byte, is_success}
 use Rattle.usb_base.specs.declared.status.UsbStatus.TheVariants.{Cancelled, Inval}
 use Rattle.usb_base.specs.declared.transfer.Outcome.{Outcome}
 use Rattle.redir_wire.specs.declared.packet.RedirControl.TheVariants as plain
 use Rattle.redir_data.specs.declared.packet.RedirData.TheVariants as moving
 use Rattle.redir_data.specs.declared.packet.RedirPacket.{RedirPacket}
 use Rattle.redir_data.specs.declared.packet.RedirPacket.TheVariants.{Plain, Carrying}
-use Rattle.model_device.specs.Device.{is_success}
+use Rattle.chapter9.specs.Standard.{ended}
 use Rattle.redir_host.specs.declared.request.Form.{Form}
 use Rattle.redir_host.specs.declared.request.Form.TheVariants as form
 use Rattle.redir_host.specs.declared.request.Request.{Request}
@@ -30,10 +29,6 @@ answer_by configuration (form.GetAlt interface) ep o = Plain (plain.AltStatus (s
 
 abbrev pub answer : ℕ → Request → Outcome → ℕ × RedirPacket
 answer configuration q o = (q.id, answer_by configuration q.form q.transfer.ep o)
-
--- it ended with this status, and moved nothing
-abbrev pub ended : UsbStatus → Outcome
-ended status = record { status = status; done = 0; body = [] }
 
 -- only requests that move data are answered so, and their answers tell no configuration
 abbrev pub cancelled : Request → ℕ × RedirPacket

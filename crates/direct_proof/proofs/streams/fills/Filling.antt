@@ -1,7 +1,7 @@
 -- What is held of a stream fills those that wait for it: at the device attached directly that is one answer after another.
 use Rattle.std.proofs.Common.{◌≡◌, ℕ, ◌<◌, ◌==◌, Bool, true, false, cond, List, [], ◌∷◌, ◌++◌, length, map, Option, Some, None, is_some, refl, sym, ap, ◌∙◌, subst, arith, append-nil, append_assoc}
 use Rattle.std.specs.List.{find}
-use Rattle.std.specs.Prelude.{slice_set}
+use Rattle.std.specs.Prelude.{slice_set, slice_get, drop, option_and_then, IsSomeAnd, IsSome}
 use Rattle.std.proofs.lemmas.List.{get_or-set_same, length-set, set-get_or}
 use Rattle.usb_base.specs.Endpoint.{endpoint_index}
 use Rattle.std.specs.Option.{option_map}
@@ -17,8 +17,8 @@ use Rattle.gate_history.specs.write.Answers.{with_given}
 use Rattle.gate_history.specs.state.Ups.{Up, stream_at, hold}
 use Rattle.redir_host.specs.state.Sound.{Each}
 use Rattle.direct_device.specs.Direct.{Live, Direct, number, is_number, as_submission}
-use Rattle.direct_device.specs.Acting.{Deed, Answer, answers, answered_by, answers_of, filled_by as fills, filled_answers, cut_by, cut_for, without_number, rest_ran, first_ran, ran_answers}
-use Rattle.direct_device.specs.Legal.{CanAnswer, CanAnswerBy, IsEarliest}
+use Rattle.direct_device.specs.Acting.{Deed, Answer, answers, answered_by, answers_of, filled_by as fills, filled_answers, cut_for, without_number, ran_answers}
+use Rattle.direct_device.specs.Legal.{CanAnswerBy}
 use Rattle.direct_proof.proofs.lists.Counts.{itself}
 use Rattle.direct_proof.proofs.streams.Keeping.{Does, does-nothing, does-then}
 use Rattle.direct_proof.proofs.streams.fills.FillLists.{AreApart, set-twice, find-middle, filter-middle, others, apart-middle, each-end, and-parts}
@@ -105,7 +105,7 @@ module _ {S : Type 0} (m : Meaning S) (ep max : ℕ) where
   answers-one d kept l ls held cut imported live apart ahead holds waiting cuts = record {
     same = ap (answered_by d) found ∙ ap (λ (b : Bool). cond b (fills d l.load (cut_for d l.load)) other) is_stream ∙ ap (fills d l.load) cut-is
         ∙ (λ i. record d { live = (ap (without_number n) live ∙ filter-middle (λ y. is_number n y.load) kept l ls differ.0 (itself n) differ.1) i; streams = hold (at i) cut.leaves d.streams });
-    legal = ((imported, subst (CanAnswer d) (sym found) (subst (CanAnswerBy d l.load) (sym is_stream) (subst (IsEarliest d l.load) (sym earliest) (itself n, ap is_some cut-is)))), tt);
+    legal = ((imported, subst (λ (o : Option Live). IsSomeAnd o (λ l. CanAnswerBy d l.load (is_waiting l.load.verdict))) (sym found) (subst (CanAnswerBy d l.load) (sym is_stream) (subst (λ (o : Option Live). IsSomeAnd o (λ e. (is_number l.load.request.number e.load ≡ true) × IsSome (cut_for d l.load))) (sym earliest) (itself n, ap is_some cut-is)))), tt);
     outs-are = ap (map Urb) (sym (append-nil (answers m d (Answer n)) ∙ ap (answers_of d) found ∙ ap (λ (b : Bool). cond b (filled_answers l.load (cut_for d l.load)) more) is_stream ∙ ap (filled_answers l.load) cut-is));
   }
     where
@@ -130,14 +130,17 @@ module _ {S : Type 0} (m : Meaning S) (ep max : ℕ) where
       earliest : find (λ (e : Live). waits_at l.load.request.transfer.ep (as_submission e.load)) d.live ≡ Some l
       earliest = (λ i. find (waits (at i)) (live i)) ∙ find-middle (waits ep) kept l ls ahead waiting
 
+      cut-up : Up → Option (Cut Given)
+      cut-up up = cut_of up.row.max_packet l.load.request up.held
+
       cut-is : cut_for d l.load ≡ Some cut
-      cut-is = ap (λ (k : ℕ). cut_by l.load.request (stream_at d.streams k)) at ∙ ap (cut_by l.load.request) holds.at ∙ (λ i. cut_of (holds.max-is i) l.load.request (holds.held-is i)) ∙ cuts
+      cut-is = ap (λ (k : ℕ). option_and_then cut-up (stream_at d.streams k)) at ∙ ap (option_and_then cut-up) holds.at ∙ (λ i. cut_of (holds.max-is i) l.load.request (holds.held-is i)) ∙ cuts
 
       other : Direct S
-      other = record d { live = without_number (number l.load) d.live; ran = rest_ran d.ran }
+      other = record d { live = without_number (number l.load) d.live; ran = drop 1 d.ran }
 
       more : List UrbPacket
-      more = ran_answers l (first_ran d.ran)
+      more = ran_answers l (slice_get d.ran 0)
 
   pub chain : (kept ls : List Live) (held : List StreamPacket) (d : Direct S) → d.imported ≡ true → d.live ≡ kept ++ ls → AreApart (kept ++ ls) → Each (λ y. waits ep y ≡ false) kept → Holds d.streams ep max held →
       Does m d (filled_deeds (fill_all max ep ls held)) (after_fills d kept (fill_all max ep ls held)) (filled_outs (fill_all max ep ls held))

@@ -1,11 +1,11 @@
 -- The device may send a packet of a stream: what the move makes.
-use Rattle.std.proofs.Common.{◌≡◌, ℕ, true, false, cond, [], ◌∷◌, ◌++◌, Some, None, ◌∙◌, append-nil}
+use Rattle.std.proofs.Common.{◌≡◌, ℕ, true, false, cond, [], ◌∷◌, ◌++◌, Some, None, is_some, ◌∙◌, append-nil}
 use Rattle.std.specs.List.{find}
 use Rattle.usb_base.specs.declared.transfer.StreamPacket.{StreamPacket}
 use Rattle.model_device.specs.Meaning.{Meaning}
 use Rattle.redir_host.specs.declared.running.Running.{Running}
 use Rattle.redir_host.specs.step.Moves.{quiet as host_quiet}
-use Rattle.redir_host.specs.device.Offering.{offered_on, offered_by as host_offers, told_offered_by, told_given, stream_packet}
+use Rattle.redir_host.specs.device.Offering.{offered_on, offered_by as host_offers, told_offered_by, stream_packet}
 use Rattle.redir_host.specs.declared.note.Offered.TheVariants as offered
 use Rattle.redir_host.specs.guest.Packets.{runs_at}
 use Rattle.direct_device.specs.Acting.{Offer}
@@ -21,7 +21,7 @@ pub offer-moved : {S : Type 0} (m : Meaning S) (w : World S) (ep : ℕ) (s : Run
     move m w (Offers ep) ≡ record { world = offered_world w s ep sent; outs = []; deeds = Offer ep ∷ [] }
 offer-moved {S = S} m w ep s sent plugged found ready =
     (λ i. host_made w (cond (plugged i) (host_quiet w.host) (offered_on m w.host ep (found i))) (offered_deed ep (cond (plugged i) offered.Unplugged (told_offered_by m w.host ep (found i)))))
-    ∙ (λ i. host_made w (host_offers w.host ep s.kind (ready i)) (offered_deed ep (told_given (ready i))))
+    ∙ (λ i. host_made w (host_offers w.host ep s.kind (ready i)) (offered_deed ep (cond (is_some (ready i)) offered.Sent offered.Nothing)))
 
 -- nothing was offered
 pub offer-stands : {S : Type 0} (m : Meaning S) (w : World S) (ep : ℕ) → w.host.unplugged ≡ true → move m w (Offers ep) ≡ quiet w
@@ -37,5 +37,5 @@ offer-closed m w ep plugged none =
 pub offer-empty : {S : Type 0} (m : Meaning S) (w : World S) (ep : ℕ) (s : Running) → w.host.unplugged ≡ false → find (runs_at ep) w.host.running ≡ Some s → m.offer w.host.gadget ep ≡ None → move m w (Offers ep) ≡ quiet w
 offer-empty m w ep s plugged found none =
     (λ i. host_made w (cond (plugged i) (host_quiet w.host) (offered_on m w.host ep (found i))) (offered_deed ep (cond (plugged i) offered.Unplugged (told_offered_by m w.host ep (found i)))))
-    ∙ (λ i. host_made w (host_offers w.host ep s.kind (none i)) (offered_deed ep (told_given (none i))))
+    ∙ (λ i. host_made w (host_offers w.host ep s.kind (none i)) (offered_deed ep (cond (is_some (none i)) offered.Sent offered.Nothing)))
     ∙ (λ i. quiet (record w { to_gate = append-nil w.to_gate i }))

@@ -1,14 +1,14 @@
 -- What holds of every move that performs a request or offers a packet: it is shown of a change, of an answer and of a
 -- packet, and of two such moves one behind the other.
 use Rattle.std.proofs.Common.{◌≡◌, ℕ, Bool, true, false, cond, Some, None, refl}
-use Rattle.std.specs.Prelude.{Option, IfSome}
+use Rattle.std.specs.Prelude.{Option, option_map, IfSome}
 use Rattle.std.specs.List.{find}
+use Rattle.usb_base.specs.Status.{is_success}
 use Rattle.usb_base.specs.declared.endpoint.EpTable.{EpTable}
 use Rattle.usb_base.specs.declared.transfer.Outcome.{Outcome}
 use Rattle.usb_base.specs.declared.transfer.StreamPacket.{StreamPacket}
 use Rattle.control_route.specs.declared.route.Route.{Route}
 use Rattle.control_route.specs.declared.route.Route.TheVariants as route
-use Rattle.model_device.specs.Device.{is_success}
 use Rattle.model_device.specs.Meaning.{Meaning}
 use Rattle.redir_host.specs.declared.host.Host.{Host}
 use Rattle.redir_host.specs.declared.request.Form.{Form}
@@ -20,7 +20,7 @@ use Rattle.redir_host.specs.guest.Asking.{routed}
 use Rattle.redir_host.specs.guest.Packets.{runs_at}
 use Rattle.redir_host.specs.device.Changes.{change_of, changed}
 use Rattle.redir_host.specs.device.Offering.{offered_by, offered_on}
-use Rattle.redir_host.specs.device.Performing.{done_by, does, first_performed, follows, perform_move_by, performs, performs_any, performs_marked, resets, with_id}
+use Rattle.redir_host.specs.device.Performing.{done_by, does, first_performed, perform_move_by, performs, performs_any, performs_marked, resets, with_id}
 use Rattle.usb_base.specs.Firsts.{without_first}
 use Rattle.redir_host.specs.state.Queues.{is_at}
 use Rattle.redir_host.specs.step.Moves.{Move, behind, quiet}
@@ -38,7 +38,7 @@ does-kept : {S : Type 0} {m : Meaning S} {R : Request → Type 0} {H : Host S �
 does-kept k h q r None one is = tt
 does-kept {S = S} {m = m} k h q r (Some done) one is = let g : Host S = record h { gadget = done.0 } in k.done (m.table h.gadget) g q r done.1 one (k.gadget h done.0 is)
 
-follows-kept : {S : Type 0} {m : Meaning S} {R : Request → Type 0} {H : Host S → Type 0} {P : Move S → Type 0} → IsKept m R H P → (v : Move S) (o : Option (Move S)) → P v → IfSome o P → IfSome (follows v o) P
+follows-kept : {S : Type 0} {m : Meaning S} {R : Request → Type 0} {H : Host S → Type 0} {P : Move S → Type 0} → IsKept m R H P → (v : Move S) (o : Option (Move S)) → P v → IfSome o P → IfSome (option_map (behind v) o) P
 follows-kept k v None first then = tt
 follows-kept k v (Some w) first then = k.then v w first then
 

@@ -1,9 +1,9 @@
 -- Performs, offers and the end tell nothing beside their answers.
 use Rattle.std.proofs.Common.{◌≡◌, ℕ, Bool, true, false, List, [], ◌++◌, Option, Some, None, refl, ap, ◌∙◌}
+use Rattle.usb_base.specs.Status.{is_success}
 use Rattle.usb_base.specs.declared.endpoint.EpTable.{EpTable}
 use Rattle.usb_base.specs.declared.transfer.Outcome.{Outcome}
 use Rattle.control_route.specs.declared.route.Route.{Route}
-use Rattle.model_device.specs.Device.{is_success}
 use Rattle.model_device.specs.Meaning.{Meaning}
 use Rattle.redir_host.specs.declared.host.Host.{Host}
 use Rattle.redir_host.specs.declared.note.HostNote.{HostNote}

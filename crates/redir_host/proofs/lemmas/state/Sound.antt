@@ -1,13 +1,13 @@
 -- What is known of a host stays known, whatever comes: performs, offers and the end keep it.
 use Rattle.std.proofs.Common.{◌≡◌, ℕ, Bool, true, false, cond, List, [], ◌∷◌, Some, None, refl, sym, subst, ◌∙◌}
-use Rattle.std.specs.Prelude.{Option}
+use Rattle.std.specs.Prelude.{Option, option_map}
 use Rattle.std.specs.List.{find}
+use Rattle.usb_base.specs.Status.{is_success}
 use Rattle.usb_base.specs.declared.endpoint.EpTable.{EpTable}
 use Rattle.usb_base.specs.declared.transfer.Outcome.{Outcome}
 use Rattle.usb_base.specs.declared.transfer.StreamPacket.{StreamPacket}
 use Rattle.control_route.specs.declared.route.Route.{Route}
 use Rattle.control_route.specs.declared.route.Route.TheVariants as route
-use Rattle.model_device.specs.Device.{is_success}
 use Rattle.model_device.specs.Meaning.{Meaning}
 use Rattle.redir_host.specs.declared.host.Host.{Host}
 use Rattle.redir_host.specs.declared.request.Form.{Form}
@@ -17,10 +17,10 @@ use Rattle.redir_host.specs.declared.running.Running.{Running}
 use Rattle.redir_host.specs.declared.running.StreamKind.{StreamKind}
 use Rattle.redir_host.specs.guest.Asking.{routed}
 use Rattle.redir_host.specs.device.Changes.{change_of, changed}
-use Rattle.redir_host.specs.step.Moves.{Move, quiet}
+use Rattle.redir_host.specs.step.Moves.{Move, quiet, behind}
 use Rattle.redir_host.specs.device.Offering.{offer_move, offered_on, offered_by, unplug_move}
 use Rattle.redir_host.specs.guest.Packets.{runs_at}
-use Rattle.redir_host.specs.device.Performing.{done_by, does, performs, follows, resets, performs_marked, performs_any, with_id, first_performed, performed, perform_move, perform_move_by}
+use Rattle.redir_host.specs.device.Performing.{done_by, does, performs, resets, performs_marked, performs_any, with_id, first_performed, performed, perform_move, perform_move_by}
 use Rattle.usb_base.specs.Firsts.{without_first}
 use Rattle.redir_host.specs.state.Queues.{is_at}
 use Rattle.redir_host.specs.state.Sound.{Each, IsRequest, IsSound}
@@ -58,7 +58,7 @@ keeps-does {S = S} m h q r (Some done) sound =
     let k : Keeps g (done_by m (m.table h.gadget) g q r done.1).host = keeps-done m (m.table h.gadget) g q r done.1 (with-gadget h done.0 sound) in
     record { guest = k.guest; sound = k.sound }
 
-keeps-follows : {S : Type 0} (h : Host S) (v : Move S) (o : Option (Move S)) → v.host.guest ≡ h.guest → KeepsIf v.host o → KeepsIf h (follows v o)
+keeps-follows : {S : Type 0} (h : Host S) (v : Move S) (o : Option (Move S)) → v.host.guest ≡ h.guest → KeepsIf v.host o → KeepsIf h (option_map (behind v) o)
 keeps-follows h v None same k = tt
 keeps-follows h v (Some w) same k = record { guest = k.guest ∙ same; sound = k.sound }
 

@@ -1,16 +1,16 @@
 -- What performing a request makes of those that wait, and what it sends as answers.
 use Rattle.std.proofs.Common.{◌≡◌, ℕ, Bool, true, false, cond, not, List, [], ◌∷◌, ◌++◌, filter, map, Some, None, refl, sym, ap, subst, ◌∙◌, append_assoc, append-nil}
-use Rattle.std.specs.Prelude.{Option}
+use Rattle.std.specs.Prelude.{Option, option_map}
 use Rattle.std.specs.List.{find, AllZip}
 use Rattle.std.proofs.lemmas.List.{map-append}
 use Rattle.std.proofs.lemmas.List.Elements.{filter-append}
+use Rattle.usb_base.specs.Status.{is_success}
 use Rattle.usb_base.specs.declared.endpoint.EpTable.{EpTable}
 use Rattle.usb_base.specs.declared.status.UsbStatus.{UsbStatus}
 use Rattle.usb_base.specs.declared.transfer.Outcome.{Outcome}
 use Rattle.redir_data.specs.declared.packet.RedirPacket.{RedirPacket}
 use Rattle.control_route.specs.declared.route.Route.{Route}
 use Rattle.control_route.specs.declared.route.Route.TheVariants as route
-use Rattle.model_device.specs.Device.{is_success}
 use Rattle.model_device.specs.Meaning.{Meaning}
 use Rattle.redir_host.specs.declared.host.Host.{Host}
 use Rattle.redir_host.specs.declared.request.Form.{Form}
@@ -18,13 +18,13 @@ use Rattle.redir_host.specs.declared.request.Form.TheVariants as form
 use Rattle.redir_host.specs.declared.request.Request.{Request}
 use Rattle.redir_host.specs.device.Changes.{change_of, changed, touched, runs_on, stays as stays_on}
 use Rattle.redir_host.specs.device.Facts.{facts_of}
-use Rattle.redir_host.specs.device.Performing.{done_by, does, performs, follows, resets, performs_marked, performs_any, with_id, first_performed, perform_move_by}
+use Rattle.redir_host.specs.device.Performing.{done_by, does, performs, resets, performs_marked, performs_any, with_id, first_performed, perform_move_by}
 use Rattle.redir_host.specs.guest.Asking.{routed}
 use Rattle.redir_host.specs.guest.Line.{Placed, Waiting, waiting_in, without_performed, stays_in, flushed_in, changes_by, changes_of, request_changes, reset_changes, marked_changes, all_changes}
 use Rattle.usb_base.specs.Firsts.{without_first}
 use Rattle.redir_host.specs.state.Queues.{is_at}
 use Rattle.redir_host.specs.step.Answered.{Answered, ByDevice, ByChange, ends, stays, first_such, is_of, is_answer, answer_of, is_flushed, flushed_of, came_of, came_behind, came_marked, outcome_of, by_outcome, by_perform}
-use Rattle.redir_host.specs.step.Moves.{Move}
+use Rattle.redir_host.specs.step.Moves.{Move, behind}
 use Rattle.redir_host.specs.write.Answers.{answer, cancelled}
 use Rattle.redir_host.proofs.lemmas.guest.Lines.{flush-stays, performed-leaves}
 use Rattle.redir_host.proofs.lemmas.guest.Placed.{is_left, placed-left, placed-performed}
@@ -108,7 +108,7 @@ flushed-more (c ∷ cs) ds l =
     ap (λ (ps : List Placed). here ++ ps) (flushed-more cs ds left) ∙ sym (append_assoc here (flushed_of cs left) (flushed_of ds (flushed_in cs left)))
 
 follows-finishes : {S : Type 0} {out : Bool} (v : Move S) (l : List Waiting) (q : Request) (cs ds : List (Route × EpTable)) (o : Option (ℕ × Outcome)) (w : Option (Move S)) → Flushes out l cs v → Finishes out (flushed_in cs l) q ds o w →
-    Finishes out l q (cs ++ ds) o (follows v w)
+    Finishes out l q (cs ++ ds) o (option_map (behind v) w)
 follows-finishes v l q cs ds None None first then = tt
 follows-finishes v l q cs ds None (Some w) first then = absurd then
 follows-finishes v l q cs ds (Some o) None first then = absurd then

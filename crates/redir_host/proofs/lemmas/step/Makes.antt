@@ -1,9 +1,10 @@
 -- What the calls of a host make, put together.
 use Rattle.std.proofs.Common.{◌≡◌, Bor, ℕ, Bool, true, false, List, [], ◌∷◌, ◌++◌, Some, None, length, filter, map, if◌then◌else◌, refl, sym, ap, subst, ◌∙◌, append_assoc, arith, lit<}
-use Rattle.std.specs.Prelude.{Option, Result, Ok, Err, IfOk, IfSome, OnOk}
+use Rattle.std.specs.Prelude.{Option, option_map, Result, Ok, Err, IfOk, IfSome, OnOk}
 use Rattle.std.specs.List.{find, flat_map}
 use Rattle.std.specs.Option.{option_copied}
 use Rattle.std.proofs.lemmas.List.{append-nil}
+use Rattle.usb_base.specs.Status.{is_success}
 use Rattle.usb_base.specs.declared.endpoint.EpTable.{EpTable}
 use Rattle.usb_base.specs.declared.status.UsbStatus.TheVariants.{Cancelled}
 use Rattle.usb_base.specs.declared.transfer.Outcome.{Outcome}
@@ -12,7 +13,6 @@ use Rattle.redir_data.specs.declared.packet.RedirPacket.{RedirPacket}
 use Rattle.redir_data.specs.declared.state.RedirState.{RedirState}
 use Rattle.control_route.specs.declared.route.Route.{Route}
 use Rattle.control_route.specs.declared.route.Route.TheVariants as route
-use Rattle.model_device.specs.Device.{is_success}
 use Rattle.model_device.specs.Gadget.{IsGadget}
 use Rattle.model_device.specs.Meaning.{Meaning, given_in, state_in}
 use Rattle.model_device.specs.Transfer.{IsTransfer, IsOutcome}
@@ -22,13 +22,14 @@ use Rattle.redir_host.specs.declared.note.Performed.TheVariants.{Done, NotReady}
 use Rattle.redir_host.specs.declared.request.Form.{Form}
 use Rattle.redir_host.specs.declared.request.Form.TheVariants as form
 use Rattle.redir_host.specs.declared.request.Request.{Request}
-use Rattle.redir_host.specs.write.Answers.{answer, answer_by, cancelled, ended}
+use Rattle.chapter9.specs.Standard.{ended}
+use Rattle.redir_host.specs.write.Answers.{answer, answer_by, cancelled}
 use Rattle.redir_host.specs.device.Changes.{change_of, cleared, changed, runs_on, stays, touched}
 use Rattle.redir_host.specs.device.Facts.{facts_of}
 use Rattle.redir_host.specs.step.Machine.{told_bytes, bytes_of}
 use Rattle.redir_host.specs.step.Makes.{Makes, Performs, Tells}
 use Rattle.redir_host.specs.step.Moves.{Move, behind, then_sends}
-use Rattle.redir_host.specs.device.Performing.{done_by, does, performs, performs_marked, follows, resets, performed, first_performed, with_id, perform_move, perform_move_by, told_performed, told_performed_by}
+use Rattle.redir_host.specs.device.Performing.{done_by, does, performs, performs_marked, resets, performed, first_performed, with_id, perform_move, perform_move_by, told_performed, told_performed_by}
 use Rattle.usb_base.specs.Firsts.{without_first}
 use Rattle.redir_host.specs.state.Queues.{is_at}
 use Rattle.redir_host.specs.guest.Asking.{routed}
@@ -229,13 +230,13 @@ made_behind v w before new o0 o1 o2 keeps a b =
     }
 
 -- the change of the reset, and then what the device did
-does_behind : {S : Type 0} (m : Meaning S) (v : Move S) (q : Request) (r : Option Route) (o : Option (S × Outcome)) (before new : Host S) (o0 o1 o2 : List ℕ) → Tells v before o0 o1 → PerformsNow (does m v.host q r o) new o1 o2 → PerformsNow (follows v (does m v.host q r o)) new o0 o2
+does_behind : {S : Type 0} (m : Meaning S) (v : Move S) (q : Request) (r : Option Route) (o : Option (S × Outcome)) (before new : Host S) (o0 o1 o2 : List ℕ) → Tells v before o0 o1 → PerformsNow (does m v.host q r o) new o1 o2 → PerformsNow (option_map (behind v) (does m v.host q r o)) new o0 o2
 does_behind m v q r None before new o0 o1 o2 a b = absurd b
 does_behind {S = S} m v q r (Some done) before new o0 o1 o2 a b =
     let g : Host S = record v.host { gadget = done.0 } in
     made_behind v (done_by m (m.table v.host.gadget) g q r done.1) before new o0 o1 o2 (done_guest m (m.table v.host.gadget) g q r done.1) a b
 
-pub now_behind : {S : Type 0} (m : Meaning S) (v : Move S) (q : Request) (before new : Host S) (o0 o1 o2 : List ℕ) → Tells v before o0 o1 → PerformsNow (performs m before q) new o1 o2 → PerformsNow (follows v (performs m v.host q)) new o0 o2
+pub now_behind : {S : Type 0} (m : Meaning S) (v : Move S) (q : Request) (before new : Host S) (o0 o1 o2 : List ℕ) → Tells v before o0 o1 → PerformsNow (performs m before q) new o1 o2 → PerformsNow (option_map (behind v) (performs m v.host q)) new o0 o2
 now_behind {S = S} m v q before new o0 o1 o2 a b =
     let Says : Host S → Type 0 = λ h. PerformsNow (performs m h q) new o1 o2 in
     does_behind m v q (change_of q.form) (m.perform v.host.gadget q.transfer) before new o0 o1 o2 a (subst Says a.makes.host b)

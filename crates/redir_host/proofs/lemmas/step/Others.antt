@@ -2,6 +2,7 @@
 use Rattle.std.proofs.Common.{◌≡◌, ℕ, Bool, true, false, cond, List, [], ◌∷◌, filter, map, Some, None, refl, inl, inr}
 use Rattle.std.specs.Prelude.{Option}
 use Rattle.std.specs.List.{find, AllZip}
+use Rattle.usb_base.specs.Status.{is_success}
 use Rattle.usb_base.specs.declared.endpoint.EpTable.{EpTable}
 use Rattle.usb_base.specs.declared.status.UsbStatus.TheVariants as status
 use Rattle.usb_base.specs.declared.transfer.Outcome.{Outcome}
@@ -12,7 +13,6 @@ use Rattle.redir_data.specs.declared.packet.RedirPacket.{RedirPacket}
 use Rattle.redir_data.specs.declared.packet.RedirPacket.TheVariants.{Plain, Carrying}
 use Rattle.redir_data.specs.Streams.{advanced}
 use Rattle.control_route.specs.declared.route.Route.{Route}
-use Rattle.model_device.specs.Device.{is_success}
 use Rattle.model_device.specs.Meaning.{Meaning}
 use Rattle.redir_host.specs.declared.host.Host.{Host}
 use Rattle.redir_host.specs.declared.request.Asking.{Asking}
@@ -33,7 +33,8 @@ use Rattle.redir_host.specs.step.Answered.{IsKnown, waiting}
 use Rattle.redir_host.specs.step.Items.{Item, Asked, Wrong, Performs, Offers, Unplugs}
 use Rattle.redir_host.specs.step.Machine.{move, run, all_given}
 use Rattle.redir_host.specs.step.Moves.{Move, quiet}
-use Rattle.redir_host.specs.write.Answers.{answer, cancelled, ended}
+use Rattle.chapter9.specs.Standard.{ended}
+use Rattle.redir_host.specs.write.Answers.{answer, cancelled}
 use Rattle.redir_host.proofs.lemmas.state.Each.{each_filtered, each_found, each_joined}
 use Rattle.redir_host.proofs.lemmas.device.Performs.{IsKept, offer-kept, perform-kept}
 use Rattle.redir_host.proofs.lemmas.state.Sound.{each-without, unplugged-by}

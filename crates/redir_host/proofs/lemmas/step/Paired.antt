@@ -19,7 +19,8 @@ use Rattle.redir_host.specs.state.Queues.{after_cancel, is_at, is_cancelled_by, 
 use Rattle.redir_host.specs.state.Sound.{Each}
 use Rattle.redir_host.specs.step.Answered.{ByChange, Became, ends, first_such, is_of, is_answer, is_cancelled, answer_of, is_flushed, told_request, told_placed}
 use Rattle.redir_host.specs.step.Moves.{Move}
-use Rattle.redir_host.specs.write.Answers.{answer, answer_by, cancelled, ended}
+use Rattle.chapter9.specs.Standard.{ended}
+use Rattle.redir_host.specs.write.Answers.{answer, answer_by, cancelled}
 
 -- ---- a request of the queue and one that waits
 

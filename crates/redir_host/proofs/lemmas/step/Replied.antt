@@ -38,7 +38,8 @@ use Rattle.redir_host.specs.step.Answered.{ByCancel, packets, request_in, ends, 
 use Rattle.redir_host.specs.step.Items.{Item, Asked, Wrong, Performs, Offers, Unplugs}
 use Rattle.redir_host.specs.step.Machine.{move, run, all_given}
 use Rattle.redir_host.specs.step.Moves.{quiet}
-use Rattle.redir_host.specs.write.Answers.{answer_by, cancelled, ended}
+use Rattle.chapter9.specs.Standard.{ended}
+use Rattle.redir_host.specs.write.Answers.{answer_by, cancelled}
 use Rattle.redir_host.proofs.lemmas.guest.Lines.{nothing-cancelled, queue-cancelled, queue-joined, queue-reset, reset-cancelled, reset-joined, reset-reset}
 use Rattle.redir_host.proofs.lemmas.guest.Placed.{placed-append, placed-cancelled}
 use Rattle.redir_host.proofs.lemmas.guest.Sound.{started-in}

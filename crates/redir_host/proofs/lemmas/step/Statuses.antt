@@ -4,6 +4,7 @@ use Rattle.std.specs.Prelude.{Option}
 use Rattle.std.specs.List.{find}
 use Rattle.std.proofs.lemmas.List.{map-append}
 use Rattle.std.proofs.lemmas.List.Elements.{filter-append}
+use Rattle.usb_base.specs.Status.{is_success}
 use Rattle.usb_base.specs.declared.endpoint.EpTable.{EpTable}
 use Rattle.usb_base.specs.declared.status.UsbStatus.TheVariants as status
 use Rattle.usb_base.specs.declared.transfer.Outcome.{Outcome}
@@ -14,7 +15,6 @@ use Rattle.redir_data.specs.declared.packet.RedirPacket.{RedirPacket}
 use Rattle.redir_data.specs.declared.packet.RedirPacket.TheVariants.{Plain, Carrying}
 use Rattle.redir_data.specs.Streams.{advanced}
 use Rattle.control_route.specs.declared.route.Route.{Route}
-use Rattle.model_device.specs.Device.{is_success}
 use Rattle.model_device.specs.Meaning.{Meaning}
 use Rattle.redir_host.specs.declared.host.Host.{Host}
 use Rattle.redir_host.specs.declared.request.Asking.{Asking}
@@ -35,7 +35,8 @@ use Rattle.redir_host.specs.step.Answered.{is_gone, is_status, ids_of, statuses_
 use Rattle.redir_host.specs.step.Items.{Item, Asked, Wrong, Performs, Offers, Unplugs}
 use Rattle.redir_host.specs.step.Machine.{move, run, all_given}
 use Rattle.redir_host.specs.step.Moves.{Move, quiet}
-use Rattle.redir_host.specs.write.Answers.{answer, answer_by, cancelled, ended}
+use Rattle.chapter9.specs.Standard.{ended}
+use Rattle.redir_host.specs.write.Answers.{answer, answer_by, cancelled}
 use Rattle.redir_host.proofs.lemmas.device.Performs.{IsKept, offer-kept, perform-kept}
 use Rattle.redir_host.proofs.lemmas.state.Sound.{unplugged-by}
 use Rattle.redir_host.proofs.lemmas.step.Replied.{run-gone}

@@ -1,16 +1,16 @@
 -- Where a request is performed, a packet is offered or the device goes, something is sent; so an act that ends for want
 -- of memory had something to send.
 use Rattle.std.proofs.Common.{◌≡◌, ℕ, ◌<◌, Bool, true, false, cond, List, [], ◌∷◌, ◌++◌, Some, None, length, if◌then◌else◌, refl, sym, ap, subst, ◌∙◌, arith, inr, length-append, append-nil}
-use Rattle.std.specs.Prelude.{Option, Result, Ok, Err, OnOk, OnErr, IsSome, IfSome, IsSomeAnd}
+use Rattle.std.specs.Prelude.{Option, option_map, Result, Ok, Err, OnOk, OnErr, IsSome, IfSome, IsSomeAnd}
 use Rattle.std.specs.List.{find}
 use Rattle.std.proofs.lemmas.Result.{on_err_weaker}
+use Rattle.usb_base.specs.Status.{is_success}
 use Rattle.usb_base.specs.declared.endpoint.EpTable.{EpTable}
 use Rattle.usb_base.specs.declared.transfer.Outcome.{Outcome}
 use Rattle.usb_base.specs.declared.transfer.StreamPacket.{StreamPacket}
 use Rattle.redir_data.specs.declared.state.RedirState.{RedirState}
 use Rattle.control_route.specs.declared.route.Route.{Route}
 use Rattle.control_route.specs.declared.route.Route.TheVariants as route
-use Rattle.model_device.specs.Device.{is_success}
 use Rattle.model_device.specs.Gadget.{IsGadget}
 use Rattle.model_device.specs.Meaning.{Meaning}
 use Rattle.model_device.specs.Transfer.{is_control}
@@ -22,7 +22,7 @@ use Rattle.redir_host.specs.declared.running.Running.{Running}
 use Rattle.redir_host.specs.declared.running.StreamKind.{StreamKind}
 use Rattle.redir_host.specs.device.Changes.{change_of, changed}
 use Rattle.redir_host.specs.device.Offering.{offer_move, offered_by, offered_on, unplug_move}
-use Rattle.redir_host.specs.device.Performing.{does, done_by, first_performed, follows, perform_move, perform_move_by, performed, performs, performs_any, performs_marked, resets, with_id}
+use Rattle.redir_host.specs.device.Performing.{does, done_by, first_performed, perform_move, perform_move_by, performed, performs, performs_any, performs_marked, resets, with_id}
 use Rattle.redir_host.specs.guest.Asking.{routed}
 use Rattle.redir_host.specs.guest.Packets.{runs_at}
 use Rattle.usb_base.specs.Firsts.{without_first}
@@ -32,7 +32,7 @@ use Rattle.redir_host.specs.step.Acts.{Act}
 use Rattle.redir_host.specs.step.History.{brought}
 use Rattle.redir_host.specs.step.Items.{Item}
 use Rattle.redir_host.specs.step.Machine.{move}
-use Rattle.redir_host.specs.step.Moves.{Move, quiet}
+use Rattle.redir_host.specs.step.Moves.{Move, quiet, behind}
 use Rattle.redir_host.specs.step.Stands.{Stops}
 use Rattle.redir_host.specs.step.Wants.{GivesSome}
 use Rattle.redir_host.specs.write.Answers.{answer}
@@ -58,7 +58,7 @@ does-sends {S = S} m h q r (Some done) = let after : Host S = record h { gadget 
 performs-sends : {S : Type 0} (m : Meaning S) (h : Host S) (q : Request) → Sends (performs m h q)
 performs-sends m h q = does-sends m h q (change_of q.form) (m.perform h.gadget q.transfer)
 
-follows-sends : {S : Type 0} (v : Move S) (o : Option (Move S)) → Sends o → Sends (follows v o)
+follows-sends : {S : Type 0} (v : Move S) (o : Option (Move S)) → Sends o → Sends (option_map (behind v) o)
 follows-sends v None sends = tt
 follows-sends v (Some w) sends = behind-some v.sent w.sent sends
 
@@ -111,7 +111,7 @@ some-does : {S : Type 0} (m : Meaning S) (h : Host S) (q : Request) (r : Option 
 some-does m h q r None some = absurd cc
 some-does m h q r (Some done) some = refl
 
-some-behind : {S : Type 0} (v : Move S) (o : Option (Move S)) → IsSome o → IsSome (follows v o)
+some-behind : {S : Type 0} (v : Move S) (o : Option (Move S)) → IsSome o → IsSome (option_map (behind v) o)
 some-behind v None some = absurd cc
 some-behind v (Some w) some = refl
 

@@ -15,7 +15,8 @@ use Rattle.model_device.specs.Transfer.{IsOutcome}
 use Rattle.redir_host.specs.declared.request.Form.{Form}
 use Rattle.redir_host.specs.declared.request.Form.TheVariants as form
 use Rattle.redir_host.specs.declared.request.Request.{Request}
-use Rattle.redir_host.specs.write.Answers.{answer_by, ended}
+use Rattle.chapter9.specs.Standard.{ended}
+use Rattle.redir_host.specs.write.Answers.{answer_by}
 use Rattle.redir_host.specs.step.Makes.{AnswerFits, LengthFits}
 use Rattle.redir_host.specs.state.Sound.{CanTell, DoneFits, WantedFits, IsRequest}
 

@@ -1,10 +1,10 @@
 -- What a host sends can be read by its guest: its answers, its facts, and the packets of its streams.
 use Rattle.std.proofs.Common.{◌≡◌, ℕ, ◌<◌, ◌≤◌, ◌^◌, Bool, true, false, cond, List, [], ◌∷◌, length, filter, map, Some, None, refl, sym, ap, subst, ◌∙◌, arith, lit<}
-use Rattle.std.specs.Prelude.{Option, IfSome}
+use Rattle.std.specs.Prelude.{Option, option_map, IfSome}
 use Rattle.std.specs.List.{find}
 use Rattle.std.proofs.lemmas.Bool.{eqb-true, true≢false}
 use Rattle.usb_base.specs.Endpoint.{is_in_endpoint}
-use Rattle.usb_base.specs.Status.{status_byte}
+use Rattle.usb_base.specs.Status.{status_byte, is_success}
 use Rattle.usb_base.specs.declared.endpoint.EpTable.{EpTable}
 use Rattle.usb_base.specs.declared.status.UsbStatus.TheVariants.{Cancelled}
 use Rattle.usb_base.specs.declared.transfer.Outcome.{Outcome}
@@ -22,7 +22,6 @@ use Rattle.redir_data.specs.Sent.{CanBeRead}
 use Rattle.redir_data.proofs.Sent.{control_sent, data_sent}
 use Rattle.control_route.specs.declared.route.Route.{Route}
 use Rattle.control_route.specs.declared.route.Route.TheVariants as route
-use Rattle.model_device.specs.Device.{is_success}
 use Rattle.model_device.specs.Gadget.{IsGadget}
 use Rattle.model_device.specs.Meaning.{Meaning}
 use Rattle.model_device.specs.Transfer.{IsOutcome}
@@ -33,15 +32,16 @@ use Rattle.redir_host.specs.declared.request.Request.{Request}
 use Rattle.redir_host.specs.declared.running.Running.{Running}
 use Rattle.redir_host.specs.declared.running.StreamKind.{StreamKind}
 use Rattle.redir_host.specs.declared.running.StreamKind.TheVariants.{Iso, Interrupt}
-use Rattle.redir_host.specs.write.Answers.{alt_in, answer, answer_by, cancelled, ended}
+use Rattle.chapter9.specs.Standard.{ended}
+use Rattle.redir_host.specs.write.Answers.{alt_in, answer, answer_by, cancelled}
 use Rattle.redir_host.specs.guest.Asking.{routed}
 use Rattle.redir_host.specs.device.Changes.{change_of, changed, cleared, touched}
 use Rattle.redir_host.specs.device.Facts.{facts_of, ep_info_of}
 use Rattle.redir_host.specs.step.Makes.{AnswerFits}
-use Rattle.redir_host.specs.step.Moves.{Move, quiet}
+use Rattle.redir_host.specs.step.Moves.{Move, quiet, behind}
 use Rattle.redir_host.specs.device.Offering.{stream_packet, offered_by, offered_on, offer_move, unplug_move}
 use Rattle.redir_host.specs.guest.Packets.{runs_at}
-use Rattle.redir_host.specs.device.Performing.{done_by, does, performs, follows, resets, performs_marked, performs_any, with_id, first_performed, perform_move, perform_move_by}
+use Rattle.redir_host.specs.device.Performing.{done_by, does, performs, resets, performs_marked, performs_any, with_id, first_performed, perform_move, perform_move_by}
 use Rattle.usb_base.specs.Firsts.{without_first}
 use Rattle.redir_host.specs.state.Queues.{is_at}
 use Rattle.redir_host.specs.write.Readable.{AreRead, InRange}
@@ -124,7 +124,7 @@ does-read {S = S} m lawful h q r (Some done) sound is came =
 performs-read : {S : Type 0} (m : Meaning S) → IsGadget m → (h : Host S) (q : Request) → IsSound h → IsRequest h.guest q → ReadIf h.guest.caps (performs m h q)
 performs-read m lawful h q sound is = does-read m lawful h q (change_of q.form) (m.perform h.gadget q.transfer) sound is (lawful.outcomes h.gadget q.transfer is.transfer)
 
-follows-read : {S : Type 0} (caps : Caps) (v : Move S) (o : Option (Move S)) → (Each InRange v.sent → Each (CanBeRead ToGuest caps) v.sent) → ReadIf caps o → ReadIf caps (follows v o)
+follows-read : {S : Type 0} (caps : Caps) (v : Move S) (o : Option (Move S)) → (Each InRange v.sent → Each (CanBeRead ToGuest caps) v.sent) → ReadIf caps o → ReadIf caps (option_map (behind v) o)
 follows-read caps v None f g = tt
 follows-read caps v (Some w) f g = λ fit. each_joined (CanBeRead ToGuest caps) v.sent w.sent (f (each_front InRange v.sent w.sent fit)) (g (each_behind InRange v.sent w.sent fit))
 

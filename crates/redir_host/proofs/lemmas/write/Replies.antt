@@ -32,9 +32,9 @@ use Rattle.redir_host.specs.declared.request.Form.TheVariants as form
 use Rattle.redir_host.specs.declared.request.Request.{Request}
 use Rattle.redir_host.specs.declared.running.StreamKind.{StreamKind}
 use Rattle.redir_host.specs.declared.running.StreamKind.TheVariants.{Iso, Interrupt}
-use Rattle.redir_host.specs.write.Answers.{ended}
+use Rattle.chapter9.specs.Standard.{ended}
 use Rattle.redir_host.specs.guest.Asking.{greatest, is_other, asked_if, asking_of}
-use Rattle.redir_host.specs.device.Facts.{connect_of, facts_of, connect_packet}
+use Rattle.redir_host.specs.device.Facts.{connect_of, facts_of}
 use Rattle.redir_host.specs.step.Makes.{IsTaken}
 use Rattle.redir_host.specs.step.Moves.{Move, quiet}
 use Rattle.redir_host.specs.guest.Packets.{can_start, cancel_move, data_move, greets, packet_move, plain_move, start_move, status_of}
@@ -94,7 +94,7 @@ plain-read m h id _ other sound fits = tt
 greeting-read : {S : Type 0} (m : Meaning S) → IsGadget m → (h : Host S) → Each InRange (greets m h).sent → Reads h (greets m h)
 greeting-read m lawful h fit =
     let facts = facts_of h.guest.caps m h.gadget in
-    let last = connect_packet h.guest.caps m ∷ [] in
+    let last : List (ℕ × RedirPacket) = (0, Plain (plain.Connect (connect_of h.guest.caps m.identity))) ∷ [] in
     each_joined (CanBeRead ToGuest h.guest.caps) facts last (facts-read m lawful h.guest.caps h.gadget (each_front InRange facts last fit))
     (control_sent ToGuest h.guest.caps 0 (plain.Connect (connect_of h.guest.caps m.identity)) refl (each_behind InRange facts last fit).0 (connect h.guest.caps m.identity) refl, tt)
 

@@ -1,7 +1,7 @@
 use Rattle.std.proofs.Common.{Ok, Err}
 use Rattle.std.specs.Prelude.{Result, OnOk}
 use Rattle.std.proofs.lemmas.Result.{on_ok_weaker}
-use Rattle.model_device.specs.Device.{is_success}
+use Rattle.usb_base.specs.Status.{is_success}
 use Rattle.redir_host.proofs.lemmas.step.Makes.{tells_changed}
 use Rattle.redir_host.proofs.host.Host.change.Goals as goal
 

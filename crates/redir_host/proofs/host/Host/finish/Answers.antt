@@ -1,8 +1,8 @@
 use Rattle.std.proofs.Common.{refl, sym, subst}
 use Rattle.std.specs.Prelude.{Option, OnOk}
 use Rattle.std.proofs.lemmas.Result.{on_ok_weaker}
+use Rattle.usb_base.specs.Status.{is_success}
 use Rattle.control_route.specs.declared.route.Route.{Route}
-use Rattle.model_device.specs.Device.{is_success}
 use Rattle.redir_host.specs.step.Makes.{Tells}
 use Rattle.redir_host.specs.device.Performing.{done_by}
 use Rattle.redir_host.proofs.lemmas.step.Makes.{tells_answer, tells_change}

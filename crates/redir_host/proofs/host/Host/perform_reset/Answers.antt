@@ -1,8 +1,8 @@
 use Rattle.std.proofs.Common.{Some, refl, rules}
 use Rattle.std.specs.Prelude.{OnOk}
 use Rattle.std.proofs.lemmas.Result.{on_ok_weaker}
+use Rattle.usb_base.specs.Status.{is_success}
 use Rattle.control_route.specs.declared.route.Route.TheVariants as route
-use Rattle.model_device.specs.Device.{is_success}
 use Rattle.redir_host.specs.guest.Asking.{routed}
 use Rattle.redir_host.specs.device.Performing.{does, resets}
 use Rattle.redir_host.specs.device.Resets.{PerformsNow}
