@@ -25,20 +25,8 @@ use Rattle.tape_laws.proofs.Events.{IsPiece, Fits, AllFit}
 -- ---- what holds
 
 -- a course without what rounds count
-pub record Seen : Type 0 where
-  pub events : List LinkEvent
-  pub client_up : Bool
-  pub host_up : Bool
-  pub client : List Turn
-  pub clients : List (List Turn)
-  pub host : List Turn
-  pub to_client : List ℕ
-  pub to_host : List ℕ
-  pub recorded : List ℕ
-  pub waiting : List ℕ
-
-abbrev pub seen : Course → Seen
-seen c = record { events = c.events; client_up = c.client_up; host_up = c.host_up; client = c.client; clients = c.clients; host = c.host; to_client = c.to_client; to_host = c.to_host; recorded = c.recorded; waiting = c.waiting }
+abbrev pub seen : Course → Course
+seen c = record c { busy = false; waits = 0; left = 0; told = [] }
 
 -- the first of the events have their lines behind the first line, and the lines of the later ones wait, which send nothing
 pub record Gathers (p : Prescribed) (first : List ℕ) (events : List LinkEvent) (written waiting : List ℕ) : Type 0 where
@@ -52,7 +40,7 @@ pub record Gathers (p : Prescribed) (first : List ℕ) (events : List LinkEvent)
   pub fit : AllFit taped
 
 -- what it recorded behind the first line and what it wrote are those of its events; these links are up
-pub record Holds (p : Prescribed) (first : List ℕ) (client_up host_up : Bool) (c : Seen) : Type 0 where
+pub record Holds (p : Prescribed) (first : List ℕ) (client_up host_up : Bool) (c : Course) : Type 0 where
   pub client_up-is : c.client_up ≡ client_up
   pub host_up-is : c.host_up ≡ host_up
   pub gathers : Gathers p first c.events c.recorded c.waiting
@@ -270,57 +258,32 @@ take-some (suc n) b bs some none = cc
 piece-is : (b : ℕ) (bs : List ℕ) → AreBytes (b ∷ bs) → IsPiece (take room (b ∷ bs))
 piece-is b bs h = record { some = take-some room b bs (lit< tt); bytes-are = AreBytes-take room (b ∷ bs) h }
 
-with-client : (p : Prescribed) (first : List ℕ) (up host_up : Bool) (c : Course) (turns : List Turn) → SendBytes turns → Holds p first up host_up (seen c) → Holds p first up host_up (seen (record c { client = turns }))
-with-client p first up host_up c turns bytes h = record {
-  client_up-is = h.client_up-is;
-  host_up-is = h.host_up-is;
+-- with other turns of those that are there, and other links
+with-links : (p : Prescribed) (first : List ℕ) {up host_up up' host_up' : Bool} (c : Course) (client host : List Turn) (client_link host_link : Bool) → client_link ≡ up' → host_link ≡ host_up' → SendBytes client → SendBytes host → Holds p first up host_up (seen c)
+    → Holds p first up' host_up' (seen (record c { client_up = client_link; host_up = host_link; client = client; host = host }))
+with-links p first c client host client_link host_link up-is host_up-is client-sends host-sends h = record {
+  client_up-is = up-is;
+  host_up-is = host_up-is;
   gathers = h.gathers;
   to_client-is = h.to_client-is;
   to_host-is = h.to_host-is;
   fit = h.fit;
-  client = bytes;
+  client = client-sends;
   clients = h.clients;
-  host = h.host;
+  host = host-sends;
 }
+
+with-client : (p : Prescribed) (first : List ℕ) (up host_up : Bool) (c : Course) (turns : List Turn) → SendBytes turns → Holds p first up host_up (seen c) → Holds p first up host_up (seen (record c { client = turns }))
+with-client p first up host_up c turns bytes h = with-links p first c turns c.host c.client_up c.host_up h.client_up-is h.host_up-is bytes h.host h
 
 with-host : (p : Prescribed) (first : List ℕ) (up host_up : Bool) (c : Course) (turns : List Turn) → SendBytes turns → Holds p first up host_up (seen c) → Holds p first up host_up (seen (record c { host = turns }))
-with-host p first up host_up c turns bytes h = record {
-  client_up-is = h.client_up-is;
-  host_up-is = h.host_up-is;
-  gathers = h.gathers;
-  to_client-is = h.to_client-is;
-  to_host-is = h.to_host-is;
-  fit = h.fit;
-  client = h.client;
-  clients = h.clients;
-  host = bytes;
-}
+with-host p first up host_up c turns bytes h = with-links p first c c.client turns c.client_up c.host_up h.client_up-is h.host_up-is h.client bytes h
 
 without-client : (p : Prescribed) (first : List ℕ) (up host_up : Bool) (c : Course) → Holds p first up host_up (seen c) → Holds p first false host_up (seen (record c { client_up = false }))
-without-client p first up host_up c h = record {
-  client_up-is = refl;
-  host_up-is = h.host_up-is;
-  gathers = h.gathers;
-  to_client-is = h.to_client-is;
-  to_host-is = h.to_host-is;
-  fit = h.fit;
-  client = h.client;
-  clients = h.clients;
-  host = h.host;
-}
+without-client p first up host_up c h = with-links p first c c.client c.host false c.host_up refl h.host_up-is h.client h.host h
 
 without-host : (p : Prescribed) (first : List ℕ) (up host_up : Bool) (c : Course) → Holds p first up host_up (seen c) → Holds p first up false (seen (record c { host_up = false }))
-without-host p first up host_up c h = record {
-  client_up-is = h.client_up-is;
-  host_up-is = refl;
-  gathers = h.gathers;
-  to_client-is = h.to_client-is;
-  to_host-is = h.to_host-is;
-  fit = h.fit;
-  client = h.client;
-  clients = h.clients;
-  host = h.host;
-}
+without-host p first up host_up c h = with-links p first c c.client c.host c.client_up false h.client_up-is refl h.client h.host h
 
 client-heard : (p : Prescribed) (first : List ℕ) (turns : List Turn) (c : Course) → BeginsFull turns → SendBytes turns → Stands p first c
     → Comes p first (heard Client AtHost (answer room turns) (given room turns) (record c { client = after room turns }))

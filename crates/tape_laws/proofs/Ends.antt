@@ -126,12 +126,6 @@ making-facts asked d h = record {
   host-is = ap (to_host (served asked)) h.events-are ∙ sym (ap (λ (l : List ℕ). l ++ (served asked).to_host []) h.to_host-is);
 }
 
-at-facts : (asked : ServeSettings) (next : Next) (d : Course) → At (served asked) (first_comment asked.first_id) next d → Facts asked d
-at-facts asked = at-each (served asked) (first_comment asked.first_id) (Facts asked) (making-facts asked) (stands-facts asked)
-
-outcome-facts : (asked : ServeSettings) (o : Outcome) → course.Comes (served asked) (first_comment asked.first_id) o → Facts asked (course_of o)
-outcome-facts asked = outcome-each (served asked) (first_comment asked.first_id) (Facts asked) (making-facts asked) (stands-facts asked)
-
 front-of : (known : Option (List ℕ)) (all written lost : List ℕ) → known ≡ Some written → all ≡ written ++ lost → WroteFront known all
 front-of known all wrote lost is all-is = record { front = wrote; lost = lost; known-is = is; all-is = all-is }
 
@@ -177,12 +171,6 @@ making-whole asked d h = record {
   lost = (served asked).to_host [];
   host-is = ap (to_host (served asked)) h.events-are ∙ sym (ap (λ (l : List ℕ). l ++ (served asked).to_host []) h.to_host-is);
 }
-
-at-whole : (asked : ServeSettings) (next : Next) (d : Course) → At (served asked) (first_comment asked.first_id) next d → Whole asked d
-at-whole asked = at-each (served asked) (first_comment asked.first_id) (Whole asked) (making-whole asked) (stands-whole asked)
-
-outcome-whole : (asked : ServeSettings) (o : Outcome) → course.Comes (served asked) (first_comment asked.first_id) o → Whole asked (course_of o)
-outcome-whole asked = outcome-each (served asked) (first_comment asked.first_id) (Whole asked) (making-whole asked) (stands-whole asked)
 
 -- the events behind a call that was cut have their lines up to somewhere
 part : (asked : ServeSettings) (c before : Course) (next : Next) (new : Outside) (held : List ℕ) → Reaches (setting_of asked) (Goes Making c) (Goes next before) → (taped later : List LinkEvent) (more lost : List ℕ)
@@ -304,12 +292,12 @@ cut-plays asked x c before next new out held reaches cut tape-is room at-next = 
     comes = call-comes (setting_of asked) (first_comment asked.first_id) next before at-next
 
     all : Whole asked behind
-    all = outcome-whole asked (call (setting_of asked) next before) comes
+    all = outcome-each (served asked) (first_comment asked.first_id) (Whole asked) (making-whole asked) (stands-whole asked) (call (setting_of asked) next before) comes
 
     go : HasLines (stopping asked x) new out before behind held → PlaysInPart asked c new held
-    go (inl is) = recorded-all asked x c before next new out held reaches cut is room (outcome-facts asked (call (setting_of asked) next before) comes) all
-    go (inr (inl some)) = recorded-some asked c before next new out held reaches some room (at-facts asked next before at-next) all
-    go (inr (inr line)) = recorded-line asked x c before next new out held reaches cut line room (at-whole asked next before at-next) all
+    go (inl is) = recorded-all asked x c before next new out held reaches cut is room (outcome-each (served asked) (first_comment asked.first_id) (Facts asked) (making-facts asked) (stands-facts asked) (call (setting_of asked) next before) comes) all
+    go (inr (inl some)) = recorded-some asked c before next new out held reaches some room (at-each (served asked) (first_comment asked.first_id) (Facts asked) (making-facts asked) (stands-facts asked) next before at-next) all
+    go (inr (inr line)) = recorded-line asked x c before next new out held reaches cut line room (at-each (served asked) (first_comment asked.first_id) (Whole asked) (making-whole asked) (stands-whole asked) next before at-next) all
 
 -- ---- each end
 

@@ -1,5 +1,5 @@
 -- What serving and lending leave where they were not begun, and whose faults stand.
-use Rattle.std.proofs.Common.{◌≡◌, ◌≢◌, ◌⊎◌, ℕ, Bool, false, cond, inl, inr, List, [], ◌∷◌, ◌++◌, Option, Some, None, IfSome, refl, sym, ap, ◌∙◌, subst}
+use Rattle.std.proofs.Common.{◌≡◌, ◌≢◌, ◌⊎◌, ℕ, ◌-◌, Bool, true, false, cond, inl, inr, List, [], ◌∷◌, ◌++◌, Option, Some, None, IfSome, refl, sym, ap, ◌∙◌, subst}
 use Rattle.std.proofs.lemmas.List.{append-nil}
 use Rattle.usb_base.specs.declared.side.Side.{Side}
 use Rattle.usb_base.specs.declared.side.Side.TheVariants.{Client, Host}
@@ -16,11 +16,11 @@ use Rattle.bridge_run.specs.Outside.{Outside, Written, Faults, outside, written,
 use Rattle.bridge_run.specs.Events.{LinkEvent}
 use Rattle.bridge_run.specs.Serves.{MayRunOut, CutShort}
 use Rattle.usbgate_tapes.specs.declared.status.Status.{Status}
-use Rattle.usbgate_tapes.specs.declared.status.Status.TheVariants.{Done, Usage, Refused, ReadFault, WriteFault, LinkFault, OutOfMemory, BadTape, Idle, Spent}
+use Rattle.usbgate_tapes.specs.declared.status.Status.TheVariants.{Done, Usage, Refused, ReadFault, WriteFault, LinkFault, OutOfMemory, Idle, Spent}
 use Rattle.usbgate_commands.specs.Serving.{ServeSettings}
 use Rattle.usbgate_commands.specs.Lending.{AskedLent}
 use Rattle.usbgate_commands.specs.Recording.{IsUnmade, HasServed}
-use Rattle.usbgate_commands.specs.Serves.{Serves, ServesBy, EndsOf, HasNoTape, IsUnrecorded, IsRecorded, Lends, setting_of, setting_lent, ended_as}
+use Rattle.usbgate_commands.specs.Serves.{Serves, ServesBy, EndsOf, HasNoTape, IsUnrecorded, IsRecorded, device_runs_out, setting_of, setting_lent, ended_as}
 
 -- nothing was written of what was to be put behind it
 unwritten : (known : Option (List ℕ)) (least more : List ℕ) → known ≡ Some least → IsBetween least known (least ++ more)
@@ -79,24 +79,23 @@ unserved asked w f out = unserved-by asked.recording asked w f out
 
 -- nobody is asked for at the door yet
 no-guest : {ran_out : List LinkEvent → LinkEvent → List ℕ → List ℕ → Type 0} → (clients : List (List Turn)) (c : Course) (w : Outside) (begun out : Option (List ℕ)) → Tells w (written begun out None) c → Cut ran_out w (written begun out None) c (course_of (come clients c))
-no-guest [] c w begun out tells = record {
-  client = inl tells.client.turns-is;
-  host = inl tells.host.turns-is;
-  clients = inl tells.clients;
-  to_client = as_it_is w.client.written c.to_client tells.client.written-is;
-  to_host = as_it_is w.host.written c.to_host tells.host.written-is;
-  told = untold-more begun out c.told tells.told;
-  tape = tt;
-}
-no-guest (turns ∷ later) c w begun out tells = record {
-  client = inl tells.client.turns-is;
-  host = inl tells.host.turns-is;
-  clients = inl tells.clients;
-  to_client = as_it_is w.client.written c.to_client tells.client.written-is;
-  to_host = as_it_is w.host.written c.to_host tells.host.written-is;
-  told = untold-more begun out c.told tells.told;
-  tape = tt;
-}
+no-guest {ran_out = ran_out} clients c w begun out tells = go clients
+  where
+    -- whoever comes, nothing is sent or told
+    quiet : (up : Bool) (client : List Turn) (later : List (List Turn)) (busy : Bool) (left : ℕ) → Cut ran_out w (written begun out None) c (record c { client_up = up; client = client; clients = later; busy = busy; left = left })
+    quiet up client later busy left = record {
+      client = inl tells.client.turns-is;
+      host = inl tells.host.turns-is;
+      clients = inl tells.clients;
+      to_client = as_it_is w.client.written c.to_client tells.client.written-is;
+      to_host = as_it_is w.host.written c.to_host tells.host.written-is;
+      told = untold-more begun out c.told tells.told;
+      tape = tt;
+    }
+
+    go : (clients : List (List Turn)) → Cut ran_out w (written begun out None) c (course_of (come clients c))
+    go [] = quiet c.client_up c.client c.clients c.busy c.left
+    go (turns ∷ later) = quiet true turns later true (c.left - 1)
 
 unasked : {runs_out : List LinkEvent → LinkEvent → List ℕ → List ℕ → Type 0} → (s : Setting) (c : Course) (w : Outside) (begun out : Option (List ℕ)) → c.client_up ≡ false → Tells w (written begun out None) c → CutShort end.Memory runs_out s (Goes AtDoor c) w (written begun out None)
 unasked {runs_out = runs_out} s c w begun out down tells = record {
@@ -106,7 +105,7 @@ unasked {runs_out = runs_out} s c w begun out down tells = record {
   cut = subst (λ (d : Course). Cut (MayRunOut end.Memory runs_out s.served) w (written begun out None) c d) (sym (ap (λ (b : Bool). course_of (cond b (Goes AtClient c) (come c.clients c))) down)) (no-guest c.clients c w begun out tells);
 }
 
-pub unlent : (asked : AskedLent) (w : Outside) (count : ℕ) (out : Option (List ℕ)) → Lends OutOfMemory asked w w count count out out
+pub unlent : (asked : AskedLent) (w : Outside) (count : ℕ) (out : Option (List ℕ)) → EndsOf (device_runs_out asked.device) (setting_lent asked) AtDoor OutOfMemory w w (faults count (counts 0 0)) (faults count (counts 0 0)) (written out out None) (written out out None)
 unlent asked w count out = record {
   end = end.Memory;
   status-is = refl;
@@ -211,13 +210,7 @@ unmade-served WriteFault w sink t t' is = record {
   host_stands = λ x. refl;
 }
 unmade-served OutOfMemory w sink t t' is = no-fault OutOfMemory w w (faults sink t) (faults sink t') (λ x. cc) (λ x. cc) (λ x. cc) (λ x. cc) (λ x. cc) (record { client = refl; host = refl; sink = ap (faults sink) is })
-unmade-served Done w sink t t' is = absurd is
-unmade-served Refused w sink t t' is = absurd is
-unmade-served ReadFault w sink t t' is = absurd is
-unmade-served (LinkFault side) w sink t t' is = absurd is
-unmade-served (BadTape n) w sink t t' is = absurd is
-unmade-served Idle w sink t t' is = absurd is
-unmade-served Spent w sink t t' is = absurd is
+unmade-served status w sink t t' is = absurd is
 
 -- a tape that nothing is written to has no fault
 pub no-tape : (status : Status) (old new : Outside) (a b : ℕ) (t : Counts) → HasServed status old new (faults a (counts 0 0)) (faults b (counts 0 0)) → (status ≢ Usage) → HasServed status old new (faults a t) (faults b t)

@@ -1,6 +1,6 @@
 -- How the words are read, by the library of command lines: `COMMAND`, which must be there, `NUMBER`, and options with one
 -- value each, in any order.
-use Rattle.std.specs.Prelude.{true, List, [], ◌∷◌, codes, Option, Some, None}
+use Rattle.std.specs.Prelude.{true, List, [], ◌∷◌, map, fold, codes, Option, Some, None}
 use Rattle.clap.specs.Words.{App, Row, Rule, Text, new_app, new_rule, with_rule, fault_of, matches_of, Kinds}
 
 abbrev pub option_named : Text → Rule
@@ -9,19 +9,12 @@ option_named name = record (new_rule name) { long = Some name }
 abbrev pub program : App
 program = let a = new_app (codes "usbgate") in record a { top = record a.top { no_binary_name = true } }
 
+-- the names of the options
+abbrev pub options : List Text
+options = codes "device" ∷ codes "side" ∷ codes "host" ∷ codes "listen" ∷ codes "idle" ∷ codes "first-id" ∷ codes "after-loss" ∷ codes "record" ∷ []
+
 abbrev pub command_line : App
-command_line =
-    with_rule (with_rule (with_rule (with_rule (with_rule (with_rule (with_rule (with_rule (with_rule (with_rule program
-    (record (new_rule (codes "command")) { required = true }))
-    (new_rule (codes "number")))
-    (option_named (codes "device")))
-    (option_named (codes "side")))
-    (option_named (codes "host")))
-    (option_named (codes "listen")))
-    (option_named (codes "idle")))
-    (option_named (codes "first-id")))
-    (option_named (codes "after-loss")))
-    (option_named (codes "record"))
+command_line = fold with_rule program (record (new_rule (codes "command")) { required = true } ∷ new_rule (codes "number") ∷ map option_named options)
 
 abbrev pub found_by : Kinds → List Row → Option (List Row)
 found_by [] rows = Some rows

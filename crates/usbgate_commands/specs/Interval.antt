@@ -6,7 +6,7 @@ use Rattle.usb_base.specs.declared.endpoint.EpKind.{EpKind}
 use Rattle.usb_base.specs.declared.endpoint.EpKind.TheVariants.{Iso, Interrupt}
 use Rattle.usb_base.specs.Endpoint.{is_in_endpoint}
 use Rattle.chapter9.specs.declared.part.Part.{Part}
-use Rattle.chapter9.specs.declared.part.Part.TheVariants.{Config, Interface, Endpoint, Other}
+use Rattle.chapter9.specs.declared.part.Part.TheVariants.{Endpoint}
 
 -- a unit of time, doubled once less than the interval says, which is from 1 to 16
 abbrev pub doubled : ℕ → ℕ → Option ℕ
@@ -36,9 +36,7 @@ micros _ kind n = in_frames kind n
 -- the interval of a descriptor of an IN endpoint
 abbrev pub part_micros : Speed → Part → Option ℕ
 part_micros speed (Endpoint ep kind max_packet interval) = if is_in_endpoint ep then micros speed kind interval else None
-part_micros speed (Config value interfaces) = None
-part_micros speed (Interface number alt class subclass protocol) = None
-part_micros speed (Other kind) = None
+part_micros speed part = None
 
 abbrev pub shorter : Option ℕ → Option ℕ → Option ℕ
 shorter None b = b

@@ -5,15 +5,17 @@ use Rattle.usb_base.specs.declared.side.Side.{Side}
 use Rattle.gate_outside.specs.Calls.{Call}
 use Rattle.gate_outside.specs.Link.{Link, Door}
 use Rattle.bridge_run.specs.declared.serve_end.ServeEnd.{ServeEnd}
+use Rattle.bridge_run.specs.Course.{AtDoor}
 use Rattle.bridge_run.specs.Events.{LinkEvent}
+use Rattle.session_tape.specs.Tapes.{counts}
 use Rattle.bridge_run.specs.Gate.{gate_sends}
 use Rattle.bridge_run.specs.GateStops.{gate_runs_out}
 use Rattle.bridge_run.specs.Log.{Terms, Logged}
-use Rattle.bridge_run.specs.Outside.{Faults, Written, outside}
+use Rattle.bridge_run.specs.Outside.{Faults, Written, faults, outside, written}
 use Rattle.bridge_run.specs.Prescribed.{Prescribed as Sends}
 use Rattle.usbgate_tapes.specs.declared.status.Status.{Status}
 use Rattle.usbgate_commands.specs.Lending.{AskedLent}
-use Rattle.usbgate_commands.specs.Serves.{budget, device_sends, device_runs_out, ended_as, Serves, Lends}
+use Rattle.usbgate_commands.specs.Serves.{budget, device_sends, device_runs_out, ended_as, setting_lent, EndsOf, Serves}
 use Rattle.usbgate_commands.specs.Serving.{ServeSettings}
 
 pub record HasLog {D : Type 0} (gives : D → Call → D → Type 0) (runs_out : List LinkEvent → LinkEvent → List ℕ → List ℕ → Type 0) (tells : List ℕ → Type 0) (terms : Terms) (p : Sends) (status : Status) (old new : D) : Type 0 where
@@ -33,19 +35,13 @@ pub record IsUnasked {D : Type 0} (tells : List ℕ → Type 0) (asked : ServeSe
   pub doors : new ≡ old
   pub told : tells []
 
-abbrev pub ServesByLog : {D : Type 0} → (D → Call → D → Type 0) → (List ℕ → Type 0) → Status → ServeSettings → D → D → Type 0
-ServesByLog gives tells status asked old new = IsUnasked tells asked old new ⊎ HasLog gives (gate_runs_out asked.first_id) tells (terms_of asked) (gate_sends asked.after_loss asked.first_id) status old new
-
-abbrev pub LendsByLog : {D : Type 0} → (D → Call → D → Type 0) → (List ℕ → Type 0) → Status → AskedLent → D → D → Type 0
-LendsByLog gives tells status asked old new = HasLog gives (device_runs_out asked.device) tells (terms_lent asked) (device_sends asked.device) status old new
-
 -- What a run of `serve` leaves: by the log of the doors' calls, over any doors and any sink; and by their counts of faults
 -- and of idle answers and those of the recording, and where all of these tell their bytes.
 pub record RunServes {D : Type 0} (gives : D → Call → D → Type 0) (link : D → Side → Link) (door : D → Door) (tells : List ℕ → Type 0) (status : Status) (asked : ServeSettings) (old new : D) (faults_old faults_new : Faults) (written_old written_new : Written) : Type 0 where
-  pub by_log : ServesByLog gives tells status asked old new
+  pub by_log : IsUnasked tells asked old new ⊎ HasLog gives (gate_runs_out asked.first_id) tells (terms_of asked) (gate_sends asked.after_loss asked.first_id) status old new
   pub where_told : Serves status asked (outside (link old) (door old)) (outside (link new) (door new)) faults_old faults_new written_old written_new
 
--- the same of a run of `host`, which has no recording
+-- the same of a run of `host`, which has no recording, and asks for the guest first
 pub record RunLends {D : Type 0} (gives : D → Call → D → Type 0) (link : D → Side → Link) (door : D → Door) (tells : List ℕ → Type 0) (status : Status) (asked : AskedLent) (old new : D) (faults_old faults_new : ℕ) (contents_old contents_new : Option (List ℕ)) : Type 0 where
-  pub by_log : LendsByLog gives tells status asked old new
-  pub where_told : Lends status asked (outside (link old) (door old)) (outside (link new) (door new)) faults_old faults_new contents_old contents_new
+  pub by_log : HasLog gives (device_runs_out asked.device) tells (terms_lent asked) (device_sends asked.device) status old new
+  pub where_told : EndsOf (device_runs_out asked.device) (setting_lent asked) AtDoor status (outside (link old) (door old)) (outside (link new) (door new)) (faults faults_old (counts 0 0)) (faults faults_new (counts 0 0)) (written contents_old contents_old None) (written contents_old contents_new None)

@@ -9,7 +9,7 @@ use Rattle.bridge_run.specs.Outside.{Outside, Faults, OneRose}
 use Rattle.usbgate_commands.specs.declared.words.Command.{Command}
 use Rattle.usbgate_commands.specs.declared.words.Command.TheVariants.{Serve}
 use Rattle.usbgate_tapes.specs.declared.status.Status.{Status}
-use Rattle.usbgate_tapes.specs.declared.status.Status.TheVariants.{Done, Usage, Refused, ReadFault, WriteFault, LinkFault, OutOfMemory, BadTape, Idle, Spent}
+use Rattle.usbgate_tapes.specs.declared.status.Status.TheVariants.{Usage, ReadFault, WriteFault, LinkFault, OutOfMemory}
 
 -- a file to record in is asked for
 abbrev pub records : Command → Bool
@@ -21,13 +21,7 @@ abbrev pub IsUnmade : Status → Counts → Counts → Type 0
 IsUnmade Usage old new = WasThere old new
 IsUnmade WriteFault old new = OneFault old new
 IsUnmade OutOfMemory old new = new ≡ old
-IsUnmade Done old new = ⊥
-IsUnmade Refused old new = ⊥
-IsUnmade ReadFault old new = ⊥
-IsUnmade (LinkFault side) old new = ⊥
-IsUnmade (BadTape n) old new = ⊥
-IsUnmade Idle old new = ⊥
-IsUnmade Spent old new = ⊥
+IsUnmade status old new = ⊥
 
 -- such a recording has what it had before, or, where its first line couldn't be written, a front of that
 abbrev pub IsUnbegun : ℕ → Status → Option (List ℕ) → Option (List ℕ) → Type 0

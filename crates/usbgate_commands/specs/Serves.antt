@@ -2,7 +2,7 @@
 use Rattle.std.specs.Prelude.{◌≡◌, ◌⊎◌, ℕ, List, Option, Some, None, IfSome}
 use Rattle.bridge_run.specs.declared.serve_end.ServeEnd.{ServeEnd}
 use Rattle.bridge_run.specs.declared.serve_end.ServeEnd.TheVariants as end
-use Rattle.bridge_run.specs.Course.{Setting, Course, Next, Making, AtDoor}
+use Rattle.bridge_run.specs.Course.{Setting, Course, Next, Making}
 use Rattle.bridge_run.specs.Calls.{Goes}
 use Rattle.bridge_run.specs.Gate.{gate_sends}
 use Rattle.bridge_run.specs.GateStops.{gate_runs_out}
@@ -14,13 +14,8 @@ use Rattle.session_tape.specs.Lines.{first_comment}
 use Rattle.bridge_run.specs.Outside.{Outside, Written, Faults, written, faults, Tells, HasCause, HasReason}
 use Rattle.bridge_run.specs.Prescribed.{Prescribed as Sends}
 use Rattle.bridge_run.specs.Serves.{NothingYet, Leaves}
-use Rattle.model_device.specs.Device.{first_state, meaning_of}
-use Rattle.model_device.specs.Keyboard.{keyboard}
-use Rattle.model_device.specs.Loopback.{loopback}
-use Rattle.model_device.specs.Tone.{tone}
-use Rattle.disk_gadget.specs.DiskStep.{disk, first_disk}
 use Rattle.usbgate_tapes.specs.declared.model.device.Device.{Device}
-use Rattle.usbgate_tapes.specs.declared.model.device.Device.TheVariants.{Keyboard, Loopback, Tone, Disk}
+use Rattle.usbgate_tapes.specs.model.Device.{as_plugged}
 use Rattle.usbgate_tapes.specs.declared.status.Status.{Status}
 use Rattle.usbgate_tapes.specs.declared.status.Status.TheVariants.{Done, Refused, WriteFault, LinkFault, OutOfMemory, Idle, Spent}
 use Rattle.usbgate_commands.specs.Serving.{ServeSettings}
@@ -37,17 +32,11 @@ setting_of asked = record { served = gate_sends asked.after_loss asked.first_id;
 
 -- a modelled device, which begins as it was plugged in
 abbrev pub device_sends : Device → Sends
-device_sends Keyboard = lent_sends (meaning_of keyboard) (first_state keyboard)
-device_sends Loopback = lent_sends (meaning_of loopback) (first_state loopback)
-device_sends Tone = lent_sends (meaning_of tone) (first_state tone)
-device_sends Disk = lent_sends disk (first_disk 64)
+device_sends device = as_plugged (λ S m s. lent_sends m s) device
 
 -- where memory runs out in it
 abbrev pub device_runs_out : Device → List LinkEvent → LinkEvent → List ℕ → List ℕ → Type 0
-device_runs_out Keyboard = LentStops (meaning_of keyboard) (first_state keyboard)
-device_runs_out Loopback = LentStops (meaning_of loopback) (first_state loopback)
-device_runs_out Tone = LentStops (meaning_of tone) (first_state tone)
-device_runs_out Disk = LentStops disk (first_disk 64)
+device_runs_out device = as_plugged (λ S m s. LentStops m s) device
 
 abbrev pub setting_lent : AskedLent → Setting
 setting_lent asked = record { served = device_sends asked.device; idle = asked.idle }
@@ -99,8 +88,3 @@ ServesBy (Some name) asked status old new faults_old faults_new written_old writ
 
 abbrev pub Serves : Status → ServeSettings → (old new : Outside) → (faults_old faults_new : Faults) → (written_old written_new : Written) → Type 0
 Serves status asked old new faults_old faults_new written_old written_new = ServesBy asked.recording asked status old new faults_old faults_new written_old written_new
-
--- the guest is asked for first
-abbrev pub Lends : Status → AskedLent → (old new : Outside) → (faults_old faults_new : ℕ) → (contents_old contents_new : Option (List ℕ)) → Type 0
-Lends status asked old new faults_old faults_new contents_old contents_new =
-    EndsOf (device_runs_out asked.device) (setting_lent asked) AtDoor status old new (faults faults_old (counts 0 0)) (faults faults_new (counts 0 0)) (written contents_old contents_old None) (written contents_old contents_new None)

@@ -1,5 +1,5 @@
 -- What the words ask for.
-use Rattle.std.specs.Prelude.{ℕ, nat_le, ◌≤◌, ◌<◌, ◌^◌, not, Bool, true, if◌then◌else◌, List, [], ◌∷◌, map, codes, find, Option, Some, None, is_some, option_map, option_and_then}
+use Rattle.std.specs.Prelude.{ℕ, nat_le, ◌≤◌, ◌<◌, ◌^◌, not, Bool, true, if◌then◌else◌, List, [], ◌∷◌, map, zip, codes, find, Option, Some, None, is_some, option_map, option_and_then, unwrap_or}
 use Rattle.std.specs.Borrow.{Bor}
 use Rattle.std.specs.List.{list_all}
 use Rattle.std.specs.Str.{bytes_eq}
@@ -15,7 +15,7 @@ use Rattle.usbgate_commands.specs.declared.command_table.Verb.{Verb}
 use Rattle.usbgate_commands.specs.declared.command_table.Verb.TheVariants as verb
 use Rattle.usbgate_commands.specs.declared.command_table.CommandRow.{CommandRow}
 use Rattle.usbgate_commands.specs.declared.command_table.TheConstants.{ROWS}
-use Rattle.usbgate_commands.specs.CommandLine.{found}
+use Rattle.usbgate_commands.specs.CommandLine.{options, found}
 use Rattle.usbgate_tapes.specs.declared.model.device.Device.{Device}
 use Rattle.usbgate_tapes.specs.model.Device.{device_of}
 use Rattle.bridge_run.specs.declared.after_loss.AfterLoss.{AfterLoss}
@@ -38,19 +38,12 @@ admits MustNot given = not given
 abbrev pub given_by : List Found → Text → Option Text
 given_by rows name = first_of name rows
 
+-- what a row says of the number, and of each option in the order of `options`
+abbrev pub needs_of : CommandRow → List Need
+needs_of row = row.number ∷ row.device ∷ row.side ∷ row.host ∷ row.listen ∷ row.idle ∷ row.first_id ∷ row.after_loss ∷ row.recording ∷ []
+
 abbrev pub is_met : CommandRow → (Text → Option Text) → Bool
-is_met row given =
-    list_all (λ (word : Need × Option Text). admits word.0 (is_some word.1))
-    ((row.number, given (codes "number"))
-    ∷ (row.device, given (codes "device"))
-    ∷ (row.side, given (codes "side"))
-    ∷ (row.host, given (codes "host"))
-    ∷ (row.listen, given (codes "listen"))
-    ∷ (row.idle, given (codes "idle"))
-    ∷ (row.first_id, given (codes "first-id"))
-    ∷ (row.after_loss, given (codes "after-loss"))
-    ∷ (row.recording, given (codes "record"))
-    ∷ [])
+is_met row given = list_all (λ (word : Need × Text). admits word.0 (is_some (given word.1))) (zip (needs_of row) (codes "number" ∷ options))
 
 abbrev pub name_of : Verb → Text
 name_of verb.Replay = codes "replay"
@@ -89,12 +82,8 @@ lending_of (Some device) (Some listen) (Some idle) = Some (record { device = dev
 lending_of _ _ _ = None
 
 -- how many rounds a made tape has, 1,000 at most
-abbrev pub few_of : Option ℕ → Option ℕ
-few_of None = None
-few_of (Some n) = if nat_le n 1000 then Some n else None
-
 abbrev pub count_of : Option Text → Option ℕ
-count_of text = few_of (option_and_then number_of text)
+count_of text = option_and_then (λ n. if nat_le n 1000 then Some n else None) (option_and_then number_of text)
 
 abbrev pub asked_by : Verb → (Text → Option Text) → Option Command
 asked_by verb.Replay given = option_map Replay (first_id_of (given (codes "first-id")))
@@ -105,20 +94,11 @@ asked_by verb.Host given = option_map HostLent (lending_of (option_and_then devi
 asked_by verb.Make given = option_map Make (count_of (given (codes "number")))
 asked_by verb.Load given = option_map Load (count_of (given (codes "number")))
 
-abbrev pub by_row : Option CommandRow → (Text → Option Text) → Option Command
-by_row None given = None
-by_row (Some row) given = if is_met row given then asked_by row.verb given else None
-
 abbrev pub command_in : (Text → Option Text) → Option Command
-command_in given = by_row (option_and_then row_named (given (codes "command"))) given
-
-abbrev pub or_unknown : Option Command → Command
-or_unknown None = Unknown
-or_unknown (Some command) = command
+command_in given = option_and_then (λ row. if is_met row given then asked_by row.verb given else None) (option_and_then row_named (given (codes "command")))
 
 abbrev pub command_by : Option (List Found) → Command
-command_by None = Unknown
-command_by (Some rows) = or_unknown (command_in (given_by rows))
+command_by rows = unwrap_or (option_and_then (λ it. command_in (given_by it)) rows) Unknown
 
 abbrev pub command_of : List Text → Command
 command_of words = command_by (found words)
@@ -126,10 +106,8 @@ command_of words = command_by (found words)
 -- its numbers are from 1 to 4294967295, and those of made tapes at most 1,000
 abbrev pub HasNumbers : Command → Type 0
 HasNumbers (Replay first) = (1 ≤ first) × (first < 2 ^ 32)
-HasNumbers (Model device) = Unit {0}
-HasNumbers (Show side) = Unit {0}
 HasNumbers (Serve asked) = (1 ≤ asked.idle) × ((1 ≤ asked.first_id) × (asked.first_id < 2 ^ 32))
 HasNumbers (HostLent asked) = 1 ≤ asked.idle
 HasNumbers (Make count) = count ≤ 1000
 HasNumbers (Load count) = count ≤ 1000
-HasNumbers Unknown = Unit {0}
+HasNumbers command = Unit {0}

@@ -8,8 +8,8 @@ ghost use Rattle.bridge_run.specs.LentStops.{LentStops};
 ghost use Rattle.bridge_run.specs.Log.{Told};
 ghost use Rattle.session_tape.specs.Tapes.{counts};
 ghost use Rattle.bridge_run.specs.Outside.{outside, written, faults};
-ghost use Rattle.usbgate_commands.specs.Logs.{HasLog, LendsByLog, terms_lent};
-ghost use Rattle.usbgate_commands.specs.Serves.{EndsOf, Lends};
+ghost use Rattle.usbgate_commands.specs.Logs.{HasLog, RunLends, terms_lent};
+ghost use Rattle.usbgate_commands.specs.Serves.{EndsOf};
 
 use crate::ended::ended_as;
 use crate::lending::Lending;
@@ -31,8 +31,7 @@ pub fn host<D: Doors, K: Sink>(
     requires client_down { (D.link doors.old Client).up ≡ false }
     requires host_down { (D.link doors.old Host).up ≡ false }
     requires idle { 1 ≤ lending.now.idle }
-    ensures log { LendsByLog D.call_gives (Told K.write_gives out.old out.new) result lending.now doors.old doors.new }
-    ensures lends { Lends result lending.now (outside (D.link doors.old) (D.door doors.old)) (outside (D.link doors.new) (D.door doors.new))
+    ensures lends { RunLends D.call_gives D.link D.door (Told K.write_gives out.old out.new) result lending.now doors.old doors.new
         (K.faults out.old) (K.faults out.new) (K.contents out.old) (K.contents out.new) }
 {
     match lending.device {

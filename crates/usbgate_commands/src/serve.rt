@@ -10,8 +10,8 @@ ghost use Rattle.usbgate_commands.specs.Recording.{IsUnmade, IsUnbegun, HasServe
 ghost use Rattle.bridge_run.specs.Gate.{gate_sends};
 ghost use Rattle.bridge_run.specs.GateStops.{gate_runs_out};
 ghost use Rattle.bridge_run.specs.Log.{Told};
-ghost use Rattle.usbgate_commands.specs.Logs.{HasLog, ServesByLog, terms_of};
-ghost use Rattle.usbgate_commands.specs.Serves.{Serves, EndsOf, setting_of};
+ghost use Rattle.usbgate_commands.specs.Logs.{HasLog, RunServes, terms_of};
+ghost use Rattle.usbgate_commands.specs.Serves.{EndsOf, setting_of};
 
 use crate::ended::ended_as;
 use crate::serving::Serving;
@@ -36,9 +36,8 @@ pub fn serve<D: Doors, K: Sink, T: MakeTape>(
     requires host_down { (D.link doors.old Host).up ≡ false }
     requires idle { 1 ≤ serving.now.idle }
     requires first_id { (1 ≤ serving.now.first_id) × (serving.now.first_id < 2 ^ 32) }
-    ensures serves { Serves result serving.now (outside (D.link doors.old) (D.door doors.old)) (outside (D.link doors.new) (D.door doors.new))
+    ensures serves { RunServes D.call_gives D.link D.door (Told K.write_gives out.old out.new) result serving.now doors.old doors.new
         (faults (K.faults out.old) (T.counts recording.old)) (faults (K.faults out.new) (T.counts recording.new)) (written (K.contents out.old) (K.contents out.old) (T.contents recording.old)) (written (K.contents out.old) (K.contents out.new) (T.contents recording.new)) }
-    ensures log { ServesByLog D.call_gives (Told K.write_gives out.old out.new) result serving.now doors.old doors.new }
     ensures causes { HasServed result (outside (D.link doors.old) (D.door doors.old)) (outside (D.link doors.new) (D.door doors.new))
         (faults (K.faults out.old) (T.counts recording.old)) (faults (K.faults out.new) (T.counts recording.new)) }
     ensures asked { result ≡ Status.Usage → is_some serving.now.recording ≡ true }

@@ -1,8 +1,8 @@
 //! The words behind the program's name.
 
-ghost use Rattle.std.specs.Prelude.{◌≡◌, ◌≤◌, ◌<◌, ◌^◌, ℕ, List, Option, IfOk, IfSome, codes};
+ghost use Rattle.std.specs.Prelude.{◌≡◌, ◌≤◌, ◌<◌, ◌^◌, ℕ, List, Option, IfOk, IfSome, unwrap_or, codes};
 ghost use Rattle.usbgate_commands.specs.declared.command_table.Verb.TheVariants as verb;
-ghost use Rattle.usbgate_commands.specs.Words.{texts, first_id_of, after_loss_of, count_of, asked_by, or_unknown, command_in, command_of, HasNumbers};
+ghost use Rattle.usbgate_commands.specs.Words.{texts, first_id_of, after_loss_of, count_of, asked_by, command_in, command_of, HasNumbers};
 ghost use Rattle.usbgate_commands.specs.inner.Given.{IsGiven};
 
 use crate::command_line::found;
@@ -54,7 +54,7 @@ impl<'a> Command<'a> {
 
     /// The command that these words mean.
     fn meant_by(given: &Given<'a>) -> Command<'a>
-        ensures value { (words : List ℕ → Option (List ℕ)) → IsGiven given.now words → result ≡ or_unknown (command_in words) }
+        ensures value { (words : List ℕ → Option (List ℕ)) → IsGiven given.now words → result ≡ unwrap_or (command_in words) Command.Unknown }
         ensures numbers { HasNumbers result }
     {
         known(given).unwrap_or(Command::Unknown)
