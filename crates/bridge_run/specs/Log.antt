@@ -112,10 +112,10 @@ pub record MayAsk (side : Side) (terms : Terms) (p : Prescribed) (calls : List C
 abbrev pub BeginsRound : Terms → Prescribed → List Call → Type 0
 BeginsRound terms p calls = host_since (is_some terms.host) p (events_of calls) ≡ true → is_behind_host (asks_of calls) ≡ true
 
--- a round polls the client first that is there, or has just come, and then the host
+-- a round polls the client first that is there, or has just come, unless its link was closed at once, and then the host
 abbrev pub IsTurnOf : Side → Terms → Prescribed → List Call → Type 0
 IsTurnOf Client terms p calls = (has_just_come (asks_of calls) ≡ true) ⊎ BeginsRound terms p calls
-IsTurnOf Host terms p calls = is_behind_client (asks_of calls) ≡ true
+IsTurnOf Host terms p calls = (is_behind_client (asks_of calls) ≡ true) × (has_just_come (asks_of calls) ≡ true → is_up Client terms p (events_of calls) ≡ false)
 
 -- The host is dialled first, and once, and then the door is made, once. Nobody is asked for anything before all is
 -- written, nor once it is to end, and both sides are asked in turn: for a client where none is there, and a side whose link

@@ -50,13 +50,17 @@ may-begin Client terms k asks calls is patient w up = subst (λ (l : List Ask). 
 may-begin Host terms k asks calls is patient w up = tt
 
 -- it is the side's turn
-turn-of : (side : Side) (terms : Terms) (p : Prescribed) (k : Rounds) (asks : List Ask) (calls : List Call) → k.host_up ≡ host_since (is_some terms.host) p (events_of calls) → asks_of calls ≡ asks → HasTurn (stage_of side) k asks → up_of side k ≡ true → IsTurnOf side terms p calls
-turn-of Client terms p k asks calls host is turn up = go (subst (λ (b : Bool). DoorTurn b k asks) up turn)
+turn-of : (side : Side) (terms : Terms) (p : Prescribed) (k : Rounds) (asks : List Ask) (calls : List Call) → k.client_up ≡ client_behind p (events_of calls) → k.host_up ≡ host_since (is_some terms.host) p (events_of calls) → asks_of calls ≡ asks → Waits (stage_of side) terms k asks → HasTurn (stage_of side) k asks → up_of side k ≡ true → IsTurnOf side terms p calls
+turn-of Client terms p k asks calls client host is waited turn up = go (subst (λ (b : Bool). DoorTurn b k asks) up turn)
   where
     go : (has_just_come asks ≡ true) ⊎ (k.host_up ≡ true → is_behind_host asks ≡ true) → IsTurnOf Client terms p calls
     go (inl came) = inl (ap has_just_come is ∙ came)
     go (inr behind) = inr (begins-of terms p k asks calls host is behind)
-turn-of Host terms p k asks calls host is turn up = ap is_behind_client is ∙ turn
+turn-of Host terms p k asks calls client host is waited turn up = (ap is_behind_client is ∙ turn, λ just. sym client ∙ gone k.client_up refl (sym (ap has_just_come is) ∙ just))
+  where
+    gone : (b : Bool) → k.client_up ≡ b → has_just_come asks ≡ true → k.client_up ≡ false
+    gone true there just = absurd (false≢true (sym (waited.came there) ∙ just))
+    gone false down just = down
 
 -- a side is up as is kept
 kept-up : {D : Type 0} → (side : Side) (gives : D → Call → D → Type 0) (stands : List LinkEvent → Type 0) (tells : List ℕ → Type 0) (terms : Terms) (p : Prescribed) (asks : List Ask) (k : Rounds) (begun now : D) → (at : IsAt gives stands tells terms p asks k begun now) → is_up side terms p (events_of at.calls) ≡ up_of side k
@@ -66,7 +70,7 @@ kept-up Host gives stands tells terms p asks k begun now at = sym at.host_up
 -- a side is polled
 pub may-poll : {D : Type 0} → (side : Side) (gives : D → Call → D → Type 0) (stands : List LinkEvent → Type 0) (tells : List ℕ → Type 0) (terms : Terms) (p : Prescribed) (k : Rounds) (begun now : D) → up_of side k ≡ true
     → (a : IsAsking (stage_of side) gives stands tells terms p k begun now) → MayAsk side terms p a.on.at.calls × IsTurnOf side terms p a.on.at.calls × (is_up side terms p (events_of a.on.at.calls) ≡ true)
-may-poll side gives stands tells terms p k begun now up a = (record { written = a.on.at.written; goes_on = a.on.goes_on; round = may-begin side terms k a.asks a.on.at.calls a.on.at.asks-are a.patient a.waited up; links = a.on.at.links }, turn-of side terms p k a.asks a.on.at.calls a.on.at.host_up a.on.at.asks-are a.turn up, kept-up side gives stands tells terms p a.asks k begun now a.on.at ∙ up)
+may-poll side gives stands tells terms p k begun now up a = (record { written = a.on.at.written; goes_on = a.on.goes_on; round = may-begin side terms k a.asks a.on.at.calls a.on.at.asks-are a.patient a.waited up; links = a.on.at.links }, turn-of side terms p k a.asks a.on.at.calls a.on.at.client_up a.on.at.host_up a.on.at.asks-are a.waited a.turn up, kept-up side gives stands tells terms p a.asks k begun now a.on.at ∙ up)
 
 pub may-accept : {D : Type 0} → (gives : D → Call → D → Type 0) (stands : List LinkEvent → Type 0) (tells : List ℕ → Type 0) (terms : Terms) (p : Prescribed) (k : Rounds) (begun now : D) → k.client_up ≡ false → (a : IsAsking RoundBegins gives stands tells terms p k begun now) → MayAsk Client terms p a.on.at.calls × BeginsRound terms p a.on.at.calls × (is_up Client terms p (events_of a.on.at.calls) ≡ false)
 may-accept gives stands tells terms p k begun now down a =
