@@ -84,12 +84,10 @@ success body = record { status = Success; done = length body; body = body }
 
 -- what is given is cut to wLength, and to what the transfer wants
 abbrev pub read_outcome : ℕ → ℕ → Option (List ℕ) → Outcome
-read_outcome len wanted None = stall
-read_outcome len wanted (Some bytes) = success (take (min wanted len) bytes)
+read_outcome len wanted given = option_map_or (λ bytes. success (take (min wanted len) bytes)) given stall
 
 abbrev pub write_outcome : Option DevState → Outcome
-write_outcome None = stall
-write_outcome (Some s) = success []
+write_outcome changed = if is_some changed then success [] else stall
 
 abbrev pub outcome_by : DescriptorSet → List Part → DevState → Setup → ℕ → Option Request → Outcome
 outcome_by set parts s r wanted None = stall

@@ -126,9 +126,8 @@ performed_by m d q rest (Some done) =
     }
 
 abbrev pub performed_first : {S : Type 0} → Meaning S → Direct S → ℕ → Option Waiting → Direct S
-performed_first m d ep None = d
-performed_first m d ep (Some q) =
-    performed_by m d q (without_first (is_at ep) d.queue) (m.perform d.gadget (normal_of q.load))
+performed_first m d ep first =
+    option_map_or (λ q. performed_by m d q (without_first (is_at ep) d.queue) (m.perform d.gadget (normal_of q.load))) first d
 
 -- ---- a cancel
 
@@ -171,9 +170,8 @@ answered_by d (Some l) =
     else record d { live = without_number (number l.load) d.live; ran = drop 1 d.ran }
 
 abbrev pub answers_of : {S : Type 0} → Direct S → Option Live → List UrbPacket
-answers_of d None = []
-answers_of d (Some l) =
-    if is_waiting l.load.verdict then filled_answers l.load (cut_for d l.load) else ran_answers l (slice_get d.ran 0)
+answers_of d answered =
+    option_map_or (λ l. if is_waiting l.load.verdict then filled_answers l.load (cut_for d l.load) else ran_answers l (slice_get d.ran 0)) answered []
 
 -- ---- streams
 

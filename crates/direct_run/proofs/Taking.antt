@@ -14,7 +14,7 @@ use Rattle.direct_run.specs.Known.{IsKnown}
 use Rattle.direct_run.specs.declared.step.Step.{Step as RawStep}
 use Rattle.direct_run.specs.Steps.{Step, step_of}
 use Rattle.direct_run.specs.World.{Course, happened, acted, sent_to_host, sent_to_gate, after_step, course}
-use Rattle.direct_run.specs.Trace.{nothing_told, told_of_event, act_items, told_of, told_by}
+use Rattle.direct_run.specs.Trace.{untold, told_of_event, act_items, told_of, told_by}
 use Rattle.direct_run.specs.Stands.{Runs, Stands, Takes}
 use Rattle.direct_run.specs.inner.Doing.{DoesEvent, DoesAct}
 use Rattle.direct_run.proofs.Flown.{flows-step, flows-steps}
@@ -51,7 +51,7 @@ act-takes {S = S} m s old new steps x a told rest h d rest-is fits same same-tol
 }
   where
     told-is : told ≡ told_by m s (course m s steps) x
-    told-is = d.told-is ∙ ap (λ (l : List Submitted). record nothing_told { from_host = act_bytes m s (course m s steps).acts a; items = act_items m s (course m s steps).acts l a }) h.runs.submits ∙ sym same-told
+    told-is = d.told-is ∙ ap (λ (l : List Submitted). record untold { from_host = act_bytes m s (course m s steps).acts a; items = act_items m s (course m s steps).acts l a }) h.runs.submits ∙ sym same-told
 
     flown : Flows m s (acted (course m s steps) a)
     flown =

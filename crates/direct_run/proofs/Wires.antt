@@ -27,9 +27,9 @@ use Rattle.direct_run.specs.declared.told.Told.{Told}
 use Rattle.direct_run.specs.Kept.{SystemKept}
 use Rattle.direct_run.specs.World.{Course, first_id, happened, acted, sent_to_host, sent_to_gate}
 use Rattle.direct_run.specs.Noted.{item_of, refusal_in, named}
-use Rattle.direct_run.specs.Trace.{given_of, trace}
+use Rattle.direct_run.specs.Trace.{given_of, trace, untold}
 use Rattle.direct_run.specs.Stands.{Runs}
-use Rattle.direct_run.specs.inner.Doing.{untold, DoesEvent, DoesAct}
+use Rattle.direct_run.specs.inner.Doing.{DoesEvent, DoesAct}
 
 pub if-ok : {T E : Type 0} (r : Result T E) (P Q : T → Type 0) → ((v : T) → P v → Q v) → IfOk r P → IfOk r Q
 if-ok (Ok v) P Q f h = f v h

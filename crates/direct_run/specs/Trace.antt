@@ -27,15 +27,16 @@ submits_of events = flat_map named (all_of notes_of first_id (history first_id e
 
 -- ---- of a step
 
-abbrev pub nothing_told : Told
-nothing_told = record { to_client = []; to_host = []; from_host = []; items = []; refusals = [] }
+-- nothing is sent, nor told
+abbrev pub untold : Told
+untold = record { to_client = []; to_host = []; from_host = []; items = []; refusals = [] }
 
 -- what an event has the gateway give, behind these events
 abbrev pub given_of : {A : Type 0} → (State → Mark → List A) → List Event → Event → List A
 given_of gives events e = given_by gives (state_of first_id (history first_id events)) (brought events e)
 
 abbrev pub told_of_event : List Event → Event → Told
-told_of_event events e = record nothing_told {
+told_of_event events e = record untold {
   to_client = given_of client_bytes_of events e;
   to_host = given_of host_bytes_of events e;
   items = flat_map item_of (given_of notes_of events e);
@@ -50,7 +51,7 @@ act_items m s acts submits (Offers ep) = offered_item ep (told_offered m (host_o
 act_items m s acts submits Unplugs = []
 
 abbrev pub told_of : {S : Type 0} → Meaning S → S → Course → Act → Told
-told_of m s c a = record nothing_told { from_host = act_bytes m s c.acts a; items = act_items m s c.acts (submits_of c.events) a }
+told_of m s c a = record untold { from_host = act_bytes m s c.acts a; items = act_items m s c.acts (submits_of c.events) a }
 
 abbrev pub told_by : {S : Type 0} → Meaning S → S → Course → Step → Told
 told_by m s c (Client b) = told_of_event c.events (ClientPiece b)
@@ -65,7 +66,7 @@ told_by m s c Unplug = told_of m s c Unplugs
 
 -- the making tells the hellos of both
 abbrev pub told_first : {S : Type 0} → Meaning S → S → Told
-told_first m s = record nothing_told { to_host = sent_to_host nothing_yet; from_host = sent_to_gate m s nothing_yet }
+told_first m s = record untold { to_host = sent_to_host nothing_yet; from_host = sent_to_gate m s nothing_yet }
 
 -- all items of these steps, in the order in which they were told
 abbrev pub trace : {S : Type 0} → Meaning S → S → List Step → List Item

@@ -11,7 +11,8 @@ ghost use Rattle.direct_run.specs.World.{first_id, sent_to_host, sent_to_gate, n
 ghost use Rattle.direct_run.specs.Stands.{Stands, Takes};
 ghost use Rattle.direct_run.specs.inner.Views.{kept_of};
 ghost use Rattle.direct_run.specs.Noted.{item_of, refusal_in, named};
-ghost use Rattle.direct_run.specs.inner.Doing.{untold, DoesEvent, DoesAct};
+ghost use Rattle.direct_run.specs.inner.Doing.{DoesEvent, DoesAct};
+ghost use Rattle.direct_run.specs.Trace.{untold};
 
 use crate::item::Items;
 use crate::notes::{

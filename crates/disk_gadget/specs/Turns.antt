@@ -113,13 +113,11 @@ abbrev pub less : ℕ → Report → Report
 less n r = record r { residue = r.residue - n }
 
 -- the answer ends with a transfer that asked for more than is left, and with the length
-abbrev pub after_giving : ℕ → ℕ → Answer → Report → Stage
-after_giving wanted n answer r = if nat_lt n wanted || r.residue - n == 0 then Reports (less n r) else Gives (rest_of n answer) (less n r)
-
 abbrev pub gave : Option Sense → ℕ → Answer → Report → Turn
 gave sense wanted answer r =
     let n = min wanted (left_of answer) in
-    turn_to (record { stage = after_giving wanted n answer r; sense = sense }) (given_of n answer)
+    let stage : Stage = if nat_lt n wanted || r.residue - n == 0 then Reports (less n r) else Gives (rest_of n answer) (less n r) in
+    turn_to (record { stage = stage; sense = sense }) (given_of n answer)
 
 -- a status isn't cut
 abbrev pub reported : Option Sense → ℕ → Report → Turn

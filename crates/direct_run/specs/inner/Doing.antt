@@ -1,5 +1,5 @@
 -- What an event of the gateway and an act of the host make of a system.
-use Rattle.std.specs.Prelude.{◌≡◌, List, [], ◌∷◌, ◌++◌}
+use Rattle.std.specs.Prelude.{◌≡◌, List, ◌∷◌, ◌++◌}
 use Rattle.std.specs.List.{flat_map}
 use Rattle.gate_history.specs.step.Events.{Event}
 use Rattle.gate_history.specs.write.Notes.{notes_of}
@@ -12,11 +12,7 @@ use Rattle.direct_run.specs.declared.told.Told.{Told}
 use Rattle.direct_run.specs.Kept.{SystemKept}
 use Rattle.direct_run.specs.World.{first_id}
 use Rattle.direct_run.specs.Noted.{named}
-use Rattle.direct_run.specs.Trace.{given_of, nothing_told, told_of_event, act_items}
-
--- nothing is told
-abbrev pub untold : Told
-untold = record { to_client = []; to_host = []; from_host = []; items = []; refusals = [] }
+use Rattle.direct_run.specs.Trace.{given_of, untold, told_of_event, act_items}
 
 -- the gateway has taken the event, and what it sent to the host is on the wire
 pub record DoesEvent {S : Type 0} (old new : SystemKept S) (events : List Event) (e : Event) (told : Told) : Type 0 where
@@ -27,5 +23,5 @@ pub record DoesEvent {S : Type 0} (old new : SystemKept S) (events : List Event)
 -- the host has done the act, and what it sent is on the wire
 pub record DoesAct {S : Type 0} (m : Meaning S) (s : S) (old new : SystemKept S) (acts : List Act) (a : Act) (told : Told) : Type 0 where
   pub host : HostStands m s new.host (a ∷ acts)
-  pub told-is : told ≡ record nothing_told { from_host = act_bytes m s acts a; items = act_items m s acts old.submits a }
+  pub told-is : told ≡ record untold { from_host = act_bytes m s acts a; items = act_items m s acts old.submits a }
   pub new-is : new ≡ record old { host = new.host; to_gate = old.to_gate ++ told.from_host; trace = old.trace ++ told.items }

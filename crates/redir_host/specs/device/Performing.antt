@@ -1,6 +1,7 @@
 -- What becomes of an endpoint's first request where the device performs it.
-use Rattle.std.specs.Prelude.{ℕ, Bool, if◌then◌else◌, Option, Some, None, option_map}
+use Rattle.std.specs.Prelude.{ℕ, Bool, if◌then◌else◌, Option, Some, None, option_map, option_and_then}
 use Rattle.std.specs.List.{find}
+use Rattle.std.specs.Option.{option_map_or}
 use Rattle.usb_base.specs.Status.{is_success}
 use Rattle.usb_base.specs.declared.endpoint.EpTable.{EpTable}
 use Rattle.usb_base.specs.declared.transfer.Outcome.{Outcome}
@@ -55,16 +56,14 @@ abbrev pub with_id : {S : Type 0} → Request → Option (Move S) → Option (�
 with_id q made = option_map (λ v. (q.id, v)) made
 
 abbrev pub first_performed : {S : Type 0} → Meaning S → Host S → ℕ → Option Request → Option (ℕ × Move S)
-first_performed m h ep None = None
-first_performed m h ep (Some q) = with_id q (performs_any m (record h { queue = without_first (is_at ep) h.queue }) q)
+first_performed m h ep first = option_and_then (λ q. with_id q (performs_any m (record h { queue = without_first (is_at ep) h.queue }) q)) first
 
 -- the id of the request that is performed, and what that makes
 abbrev pub performed : {S : Type 0} → Meaning S → Host S → ℕ → Option (ℕ × Move S)
 performed m h ep = if h.unplugged then None else first_performed m h ep (find (is_at ep) h.queue)
 
 abbrev pub perform_move_by : {S : Type 0} → Host S → Option (ℕ × Move S) → Move S
-perform_move_by h None = quiet h
-perform_move_by h (Some r) = r.1
+perform_move_by h made = option_map_or (λ r. r.1) made (quiet h)
 
 abbrev pub perform_move : {S : Type 0} → Meaning S → Host S → ℕ → Move S
 perform_move m h ep = perform_move_by h (performed m h ep)

@@ -1,6 +1,6 @@
 -- What memory is wanted for: to hold a piece of the guest's bytes, to read a packet, and for what an item sends, tells and
 -- keeps. An act ends for want of it only where there is something of these.
-use Rattle.std.specs.Prelude.{◌≡◌, ◌⊎◌, ◌<◌, ◌+◌, ◌-◌, Bool, true, false, List, [], ◌∷◌, length, None}
+use Rattle.std.specs.Prelude.{◌≡◌, ◌⊎◌, ◌<◌, ◌+◌, ◌-◌, Bool, true, false, List, length, None, slice_get, IsSomeAnd}
 use Rattle.redir_wire.specs.Plain.{takes_memory as plain_takes_memory}
 use Rattle.redir_data.specs.Carrying.{has_data}
 use Rattle.redir_data.specs.declared.packet.RedirPacket.TheVariants.{Plain, Carrying}
@@ -27,8 +27,7 @@ Wants m h x = (takes_memory x ≡ true) ⊎ GivesSome h (move m h x)
 
 -- so does the first of these
 abbrev pub FirstWants : {S : Type 0} → Meaning S → Host S → List Item → Type 0
-FirstWants m h [] = ⊥
-FirstWants m h (x ∷ xs) = Wants m h x
+FirstWants m h xs = IsSomeAnd (slice_get xs 0) (Wants m h)
 
 -- behind these acts a piece has bytes, and the guest's stream has met no wrong place
 abbrev pub IsHeld : List Act → Act → Type 0

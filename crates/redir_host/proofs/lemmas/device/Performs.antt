@@ -34,6 +34,18 @@ pub record IsKept {S : Type 0} (m : Meaning S) (OfRequest : Request → Type 0) 
   pub done : (table : EpTable) (h : Host S) (q : Request) (r : Option Route) (o : Outcome) → OfRequest q → OfHost h → Has (done_by m table h q r o)
   pub then : (v w : Move S) → Has v → Has w → Has (behind v w)
 
+-- where each of these moves has it, whatever the request and the host
+pub always-kept : {S : Type 0} {m : Meaning S} {P : Move S → Type 0} → ((h : Host S) → P (quiet h)) → ((r : Route) (table : EpTable) (b : Bool) (h : Host S) → P (changed m r table b h))
+    → ((table : EpTable) (h : Host S) (q : Request) (r : Option Route) (o : Outcome) → P (done_by m table h q r o)) → ((v w : Move S) → P v → P w → P (behind v w)) → IsKept m (λ q. Unit {0}) (λ h. Unit {0}) P
+always-kept none change done then = record {
+  none = none;
+  gadget = λ h s is. tt;
+  first = λ h ep q found is. (tt, tt);
+  change = λ r table b h is. (change r table b h, tt);
+  done = λ table h q r o one is. done table h q r o;
+  then = then;
+}
+
 does-kept : {S : Type 0} {m : Meaning S} {R : Request → Type 0} {H : Host S → Type 0} {P : Move S → Type 0} → IsKept m R H P → (h : Host S) (q : Request) (r : Option Route) (o : Option (S × Outcome)) → R q → H h → IfSome (does m h q r o) P
 does-kept k h q r None one is = tt
 does-kept {S = S} {m = m} k h q r (Some done) one is = let g : Host S = record h { gadget = done.0 } in k.done (m.table h.gadget) g q r done.1 one (k.gadget h done.0 is)
