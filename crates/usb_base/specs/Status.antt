@@ -1,18 +1,11 @@
 -- How a transfer ended: usbredir's bytes, and the error numbers of Linux that USB/IP has.
-use Rattle.std.specs.Prelude.{ℕ, ◌==◌, Bool, true, false, if◌then◌else◌, ℤ, pos, negsuc}
+use Rattle.std.specs.Prelude.{ℕ, Bool, true, false, [], ◌∷◌, get_or, ℤ, pos, negsuc}
 use Rattle.usb_base.specs.declared.status.UsbStatus.{UsbStatus}
 use Rattle.usb_base.specs.declared.status.UsbStatus.TheVariants.{Success, Cancelled, Inval, IoError, Stall, Timeout, Babble, Other}
 
+-- the statuses that have a name, by their bytes from 0 on
 abbrev pub status_of : ℕ → UsbStatus
-status_of byte =
-    if byte == 0 then Success
-    else if byte == 1 then Cancelled
-    else if byte == 2 then Inval
-    else if byte == 3 then IoError
-    else if byte == 4 then Stall
-    else if byte == 5 then Timeout
-    else if byte == 6 then Babble
-    else Other byte
+status_of byte = get_or (Success ∷ Cancelled ∷ Inval ∷ IoError ∷ Stall ∷ Timeout ∷ Babble ∷ []) byte (Other byte)
 
 abbrev pub status_byte : UsbStatus → ℕ
 status_byte Success = 0
@@ -33,8 +26,7 @@ abbrev pub errno_of : UsbStatus → ℤ
 errno_of Success = pos 0
 errno_of Cancelled = negsuc 103
 errno_of Inval = negsuc 21
-errno_of IoError = negsuc 70
 errno_of Stall = negsuc 31
 errno_of Timeout = negsuc 109
 errno_of Babble = negsuc 74
-errno_of (Other byte) = negsuc 70
+errno_of _ = negsuc 70
