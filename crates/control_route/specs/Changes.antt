@@ -12,7 +12,5 @@ is_change _ = false
 
 -- this interface's transfers end: a new configuration and a reset are for all, an alternate setting for its own
 abbrev pub touches : Route → ℕ → Bool
-touches (SetConfig configuration) i = true
 touches (SetAlt interface alt) i = interface == i
-touches Reset i = true
-touches _ i = false
+touches r i = is_change r

@@ -1,7 +1,8 @@
 -- The routes of control transfers: a table by bmRequestType and bRequest (USB 2.0, 9.4, tables 9-3 and 9-4; the
 -- port's reset, 11.24.2.13). The first row that a setup has decides; a setup with none goes to the device as it is.
-use Rattle.std.specs.Prelude.{ℕ, ◌==◌, ◌&&◌, nat_lt, Bool, true, if◌then◌else◌, List, [], ◌∷◌, Option, Some, None}
+use Rattle.std.specs.Prelude.{ℕ, ◌==◌, ◌&&◌, nat_lt, Bool, true, if◌then◌else◌, List, [], ◌∷◌}
 use Rattle.std.specs.List.{find}
+use Rattle.std.specs.Option.{option_map_or}
 use Rattle.usb_base.specs.declared.setup.Setup.{Setup}
 use Rattle.control_route.specs.declared.route.Route.{Route}
 use Rattle.control_route.specs.declared.route.Route.TheVariants.{Local, SetConfig, GetConfig, SetAlt, GetAlt, Reset, Plain, Bad}
@@ -44,9 +45,5 @@ rows =
 abbrev pub is_for : Setup → RouteRow → Bool
 is_for s row = (s.kind == row.request_type) && (s.request == row.request) && row.only s
 
-abbrev pub by_row : Setup → Option RouteRow → Route
-by_row s None = Plain
-by_row s (Some row) = if row.good s then row.route s else Bad
-
 unfoldable pub route_of : Setup → Route
-route_of s = by_row s (find (is_for s) rows)
+route_of s = option_map_or (λ (row : RouteRow). if row.good s then row.route s else Bad) (find (is_for s) rows) Plain

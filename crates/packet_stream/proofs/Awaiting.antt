@@ -3,10 +3,10 @@ use Rattle.std.proofs.Common.{◌≡◌, ℕ, ◌<◌, ◌≤◌, ◌⊎◌, inl
 use Rattle.std.specs.Prelude.{nat_lt, not, ◌&&◌}
 use Rattle.std.proofs.lemmas.Bool.{and_parts, ltb-true, ltb-false, lt-ltb}
 use Rattle.packet_stream.specs.Format.{Check, wrong_at, Format, Found, Whole, Short, reading_by, reading}
-use Rattle.packet_stream.specs.Joined.{guarded, joined, renamed}
+use Rattle.packet_stream.specs.Joined.{guarded, joined}
 use Rattle.packet_stream.specs.Awaited.{IsComplete, Decides, IsAwaited, StaysShort, first_awaited, awaited}
 use Rattle.packet_stream.proofs.Formats.{AreSteady, none_first, none_later, none_from, none_before}
-use Rattle.packet_stream.proofs.Joins.{found_as, reading-left, reading-right, reading-renamed}
+use Rattle.packet_stream.proofs.Joins.{both, found_as, reading-left, reading-right}
 
 -- ---- less than a packet
 
@@ -208,45 +208,44 @@ each_complete test [] b n e h = h
 each_complete test (c ∷ cs) b n e (inl h) = inl (rw e h.0, h.1)
 each_complete test (c ∷ cs) b n e (inr h) = inr (each_complete test cs b n e h)
 
-decides_left : {P Q R : Type 0} (test : List ℕ → Bool) (f : Format P R) (g : Format Q R) (b : List ℕ) (n : ℕ) → test b ≡ true → Decides (joined test f g) b n → Decides f b n
+decides_left : {P Q R : Type 0} (test : List ℕ → Bool) (f : Format P R) (g : Format Q R) (b : List ℕ) (n : ℕ) → test b ≡ true → Decides (both test f g) b n → Decides f b n
 decides_left test f g b n e (inl h) = elim (complete_on test f.checks (guarded (λ x. not (test x)) g.checks) b n h) [
   | inl here ↦ inl here
   | inr there ↦ absurd (none_complete (λ x. not (test x)) g.checks b n (ap not e) there)
 ]
 decides_left test f g b n e (inr h) = inr (rw e at h)
 
-left_decides : {P Q R : Type 0} (test : List ℕ → Bool) (f : Format P R) (g : Format Q R) (b : List ℕ) (n : ℕ) → test b ≡ true → Decides f b n → Decides (joined test f g) b n
+left_decides : {P Q R : Type 0} (test : List ℕ → Bool) (f : Format P R) (g : Format Q R) (b : List ℕ) (n : ℕ) → test b ≡ true → Decides f b n → Decides (both test f g) b n
 left_decides test f g b n e (inl h) = inl (complete_first test f.checks (guarded (λ x. not (test x)) g.checks) b n e h)
 left_decides test f g b n e (inr h) = inr (rw e h)
 
-decides_right : {P Q R : Type 0} (test : List ℕ → Bool) (f : Format P R) (g : Format Q R) (b : List ℕ) (n : ℕ) → test b ≡ false → Decides (joined test f g) b n → Decides g b n
+decides_right : {P Q R : Type 0} (test : List ℕ → Bool) (f : Format P R) (g : Format Q R) (b : List ℕ) (n : ℕ) → test b ≡ false → Decides (both test f g) b n → Decides g b n
 decides_right test f g b n e (inl h) = inl (all_complete (λ x. not (test x)) g.checks b n (complete_off test f.checks (guarded (λ x. not (test x)) g.checks) b n e h))
 decides_right test f g b n e (inr h) = inr (rw e at h)
 
-right_decides : {P Q R : Type 0} (test : List ℕ → Bool) (f : Format P R) (g : Format Q R) (b : List ℕ) (n : ℕ) → test b ≡ false → Decides g b n → Decides (joined test f g) b n
+right_decides : {P Q R : Type 0} (test : List ℕ → Bool) (f : Format P R) (g : Format Q R) (b : List ℕ) (n : ℕ) → test b ≡ false → Decides g b n → Decides (both test f g) b n
 right_decides test f g b n e (inl h) = inl (complete_last test f.checks (guarded (λ x. not (test x)) g.checks) b n (each_complete (λ x. not (test x)) g.checks b n (ap not e) h))
 right_decides test f g b n e (inr h) = inr (rw e h)
 
 -- what the one awaits is awaited of both, where the test holds of it
-pub awaited-left : {P Q R : Type 0} (test : List ℕ → Bool) (f : Format P R) (g : Format Q R) (b : List ℕ) (n : ℕ) → test b ≡ true → IsAwaited f b n → IsAwaited (joined test f g) b n
+pub awaited-left : {P Q R : Type 0} (test : List ℕ → Bool) (f : Format P R) (g : Format Q R) (b : List ℕ) (n : ℕ) → test b ≡ true → IsAwaited f b n → IsAwaited (both test f g) b n
 awaited-left test f g b n e is = record {
   above = is.above;
   holds = left_decides test f g b n e is.holds;
   least = λ m less h. is.least m less (decides_left test f g b m e h);
 }
 
-pub awaited-right : {P Q R : Type 0} (test : List ℕ → Bool) (f : Format P R) (g : Format Q R) (b : List ℕ) (n : ℕ) → test b ≡ false → IsAwaited g b n → IsAwaited (joined test f g) b n
+pub awaited-right : {P Q R : Type 0} (test : List ℕ → Bool) (f : Format P R) (g : Format Q R) (b : List ℕ) (n : ℕ) → test b ≡ false → IsAwaited g b n → IsAwaited (both test f g) b n
 awaited-right test f g b n e is = record {
   above = is.above;
   holds = right_decides test f g b n e is.holds;
   least = λ m less h. is.least m less (decides_right test f g b m e h);
 }
 
-pub stays-left : {P Q R : Type 0} (test : List ℕ → Bool) (f : Format P R) (g : Format Q R) (b : List ℕ) (n : ℕ) → ((more : List ℕ) → test (b ++ more) ≡ true) → StaysShort f b n → StaysShort (joined test f g) b n
-stays-left test f g b n e stays more less = reading-left test f g (b ++ more) (e more) ∙ ap (found_as inl) (stays more less)
+pub stays-left : {P Q X R : Type 0} (test : List ℕ → Bool) (left : P → X) (right : Q → X) (sort : X → P ⊎ Q) (f : Format P R) (g : Format Q R) (b : List ℕ) (n : ℕ) → ((more : List ℕ) → test (b ++ more) ≡ true) → StaysShort f b n →
+    StaysShort (joined test left right sort f g) b n
+stays-left test left right sort f g b n e stays more less = reading-left test left right sort f g (b ++ more) (e more) ∙ ap (found_as left) (stays more less)
 
-pub stays-right : {P Q R : Type 0} (test : List ℕ → Bool) (f : Format P R) (g : Format Q R) (b : List ℕ) (n : ℕ) → ((more : List ℕ) → test (b ++ more) ≡ false) → StaysShort g b n → StaysShort (joined test f g) b n
-stays-right test f g b n e stays more less = reading-right test f g (b ++ more) (e more) ∙ ap (found_as inr) (stays more less)
-
-pub stays-renamed : {P X R : Type 0} (to : P → X) (from : X → P) (f : Format P R) (b : List ℕ) (n : ℕ) → StaysShort f b n → StaysShort (renamed to from f) b n
-stays-renamed to from f b n stays more less = reading-renamed to from f (b ++ more) ∙ ap (found_as to) (stays more less)
+pub stays-right : {P Q X R : Type 0} (test : List ℕ → Bool) (left : P → X) (right : Q → X) (sort : X → P ⊎ Q) (f : Format P R) (g : Format Q R) (b : List ℕ) (n : ℕ) → ((more : List ℕ) → test (b ++ more) ≡ false) → StaysShort g b n →
+    StaysShort (joined test left right sort f g) b n
+stays-right test left right sort f g b n e stays more less = reading-right test left right sort f g (b ++ more) (e more) ∙ ap (found_as right) (stays more less)

@@ -5,7 +5,7 @@ use Rattle.std.proofs.lemmas.Bool.{cases_lt}
 use Rattle.std.proofs.lemmas.List.{append-nil}
 use Rattle.usb_base.specs.Number.{AreBytes}
 use Rattle.packet_stream.specs.Format.{Check, wrong_at, Format, Found, Whole, Short, Wrong, reading_by, reading, StaysWrong, IsSound}
-use Rattle.packet_stream.specs.Joined.{guarded, joined_spelling, JoinedFits, joined, renamed}
+use Rattle.packet_stream.specs.Joined.{guarded, joined_spelling, JoinedFits, joined}
 
 -- no check is made before n bytes are there
 abbrev pub Waits : {R : Type 0} → ℕ → List (Check R) → Type 0
@@ -31,13 +31,20 @@ none_guarded test cs b e = ap (λ ds. wrong_at ds b) (sym (append-nil (guarded t
 all_guarded : {R : Type 0} (test : List ℕ → Bool) (cs : List (Check R)) (b : List ℕ) → test b ≡ true → wrong_at (guarded test cs) b ≡ wrong_at cs b
 all_guarded test cs b e = ap (λ ds. wrong_at ds b) (sym (append-nil (guarded test cs))) ∙ guarded-on test cs [] b e refl
 
--- ---- the joined format
+-- ---- the joined format: as a sum, and by its packets' names
+
+abbrev pub both : {P Q R : Type 0} → (List ℕ → Bool) → Format P R → Format Q R → Format (P ⊎ Q) R
+both test f g = joined test (λ p. inl p) (λ q. inr q) (λ x. x) f g
+
+abbrev pub named : {P Q X : Type 0} → (P → X) → (Q → X) → P ⊎ Q → X
+named left right (inl p) = left p
+named left right (inr q) = right q
 
 -- its checks are those of the one or the other
-pub joined-left : {P Q R : Type 0} (test : List ℕ → Bool) (f : Format P R) (g : Format Q R) (b : List ℕ) → test b ≡ true → wrong_at (joined test f g).checks b ≡ wrong_at f.checks b
+pub joined-left : {P Q R : Type 0} (test : List ℕ → Bool) (f : Format P R) (g : Format Q R) (b : List ℕ) → test b ≡ true → wrong_at (both test f g).checks b ≡ wrong_at f.checks b
 joined-left test f g b e = guarded-on test f.checks (guarded (λ x. not (test x)) g.checks) b e (none_guarded (λ x. not (test x)) g.checks b (ap not e))
 
-pub joined-right : {P Q R : Type 0} (test : List ℕ → Bool) (f : Format P R) (g : Format Q R) (b : List ℕ) → test b ≡ false → wrong_at (joined test f g).checks b ≡ wrong_at g.checks b
+pub joined-right : {P Q R : Type 0} (test : List ℕ → Bool) (f : Format P R) (g : Format Q R) (b : List ℕ) → test b ≡ false → wrong_at (both test f g).checks b ≡ wrong_at g.checks b
 joined-right test f g b e = guarded-off test f.checks (guarded (λ x. not (test x)) g.checks) b e ∙ all_guarded (λ x. not (test x)) g.checks b (ap not e)
 
 -- what is found of the one, as found of both
@@ -55,16 +62,17 @@ reading_as {P = P} {X = X} {R = R} to f b h size packet None = rw (size, packet)
 reading_as to f b h size packet (Some w) = refl
 
 -- reading is reading the one or the other
-pub reading-left : {P Q R : Type 0} (test : List ℕ → Bool) (f : Format P R) (g : Format Q R) (b : List ℕ) → test b ≡ true → reading (joined test f g) b ≡ found_as inl (reading f b)
-reading-left test f g b e =
-    ap (reading_by (joined test f g) b) (joined-left test f g b e) ∙ reading_as inl f b (joined test f g) (rw e refl) (rw e refl) (wrong_at f.checks b)
+pub reading-left : {P Q X R : Type 0} (test : List ℕ → Bool) (left : P → X) (right : Q → X) (sort : X → P ⊎ Q) (f : Format P R) (g : Format Q R) (b : List ℕ) → test b ≡ true →
+    reading (joined test left right sort f g) b ≡ found_as left (reading f b)
+reading-left test left right sort f g b e =
+    let j = joined test left right sort f g in
+    ap (reading_by j b) (joined-left test f g b e) ∙ reading_as left f b j (rw e refl) (rw e refl) (wrong_at f.checks b)
 
-pub reading-right : {P Q R : Type 0} (test : List ℕ → Bool) (f : Format P R) (g : Format Q R) (b : List ℕ) → test b ≡ false → reading (joined test f g) b ≡ found_as inr (reading g b)
-reading-right test f g b e =
-    ap (reading_by (joined test f g) b) (joined-right test f g b e) ∙ reading_as inr g b (joined test f g) (rw e refl) (rw e refl) (wrong_at g.checks b)
-
-pub reading-renamed : {P X R : Type 0} (to : P → X) (from : X → P) (f : Format P R) (b : List ℕ) → reading (renamed to from f) b ≡ found_as to (reading f b)
-reading-renamed to from f b = reading_as to f b (renamed to from f) refl refl (wrong_at f.checks b)
+pub reading-right : {P Q X R : Type 0} (test : List ℕ → Bool) (left : P → X) (right : Q → X) (sort : X → P ⊎ Q) (f : Format P R) (g : Format Q R) (b : List ℕ) → test b ≡ false →
+    reading (joined test left right sort f g) b ≡ found_as right (reading g b)
+reading-right test left right sort f g b e =
+    let j = joined test left right sort f g in
+    ap (reading_by j b) (joined-right test f g b e) ∙ reading_as right g b j (rw e refl) (rw e refl) (wrong_at g.checks b)
 
 -- what joining asks of the test and of both formats: the test sees n bytes, no check is made before they are there, and the
 -- packets of f pass it and those of g don't
@@ -75,12 +83,12 @@ pub record IsJoin {P Q R : Type 0} (n : ℕ) (test : List ℕ → Bool) (f : For
   pub left : (p : P) (more : List ℕ) → f.Fits p → test (f.spelling p ++ more) ≡ true
   pub right : (q : Q) (more : List ℕ) → g.Fits q → test (g.spelling q ++ more) ≡ false
 
-joined_waits : {P Q R : Type 0} (n : ℕ) (test : List ℕ → Bool) (f : Format P R) (g : Format Q R) → IsJoin n test f g → (b : List ℕ) → length b < n → (t : Bool) → test b ≡ t → wrong_at (joined test f g).checks b ≡ None
+joined_waits : {P Q R : Type 0} (n : ℕ) (test : List ℕ → Bool) (f : Format P R) (g : Format Q R) → IsJoin n test f g → (b : List ℕ) → length b < n → (t : Bool) → test b ≡ t → wrong_at (both test f g).checks b ≡ None
 joined_waits n test f g join b less true e = joined-left test f g b e ∙ join.left_waits b less
 joined_waits n test f g join b less false e = joined-right test f g b e ∙ join.right_waits b less
 
 stays_by : {P Q R : Type 0} (n : ℕ) (test : List ℕ → Bool) (f : Format P R) (g : Format Q R) → IsSound f → IsSound g → IsJoin n test f g → (b more : List ℕ) (w : ℕ × R) → n ≤ length b → (t : Bool) → test b ≡ t →
-    wrong_at (joined test f g).checks b ≡ Some w → wrong_at (joined test f g).checks (b ++ more) ≡ Some w
+    wrong_at (both test f g).checks b ≡ Some w → wrong_at (both test f g).checks (b ++ more) ≡ Some w
 stays_by n test f g sf sg join b more w there true e h =
     joined-left test f g (b ++ more) (join.sees b more there ∙ e) ∙ sf.steady b more w (sym (joined-left test f g b e) ∙ h)
 stays_by n test f g sf sg join b more w there false e h =
@@ -90,7 +98,7 @@ abbrev FoundAt : {P R : Type 0} → Format P R → List ℕ → Type 0
 FoundAt f b = (f.spelling (f.packet b) ≡ take (f.size b) b) × f.Fits (f.packet b)
 
 found_by : {P Q R : Type 0} (test : List ℕ → Bool) (f : Format P R) (g : Format Q R) → IsSound f → IsSound g → (b : List ℕ) → AreBytes b → (t : Bool) → test b ≡ t →
-    wrong_at (joined test f g).checks b ≡ None → (joined test f g).size b ≤ length b → FoundAt (joined test f g) b
+    wrong_at (both test f g).checks b ≡ None → (both test f g).size b ≤ length b → FoundAt (both test f g) b
 found_by test f g sf sg b are true e none there = rw e (sf.found b are (sym (joined-left test f g b e) ∙ none) (rw e at there))
 found_by test f g sf sg b are false e none there = rw e (sg.found b are (sym (joined-right test f g b e) ∙ none) (rw e at there))
 
@@ -99,30 +107,29 @@ some_by test f g sf sg b true = sf.some b
 some_by test f g sf sg b false = sg.some b
 
 right_of : {P Q R : Type 0} (n : ℕ) (test : List ℕ → Bool) (f : Format P R) (g : Format Q R) → IsSound f → IsSound g → IsJoin n test f g → (x : P ⊎ Q) (more : List ℕ) → JoinedFits f g x →
-    wrong_at (joined test f g).checks (joined_spelling f g x ++ more) ≡ None
+    wrong_at (both test f g).checks (joined_spelling f g x ++ more) ≡ None
 right_of n test f g sf sg join (inl p) more fits = joined-left test f g (f.spelling p ++ more) (join.left p more fits) ∙ sf.right p more fits
 right_of n test f g sf sg join (inr q) more fits = joined-right test f g (g.spelling q ++ more) (join.right q more fits) ∙ sg.right q more fits
 
 size_of : {P Q R : Type 0} (n : ℕ) (test : List ℕ → Bool) (f : Format P R) (g : Format Q R) → IsSound f → IsSound g → IsJoin n test f g → (x : P ⊎ Q) (more : List ℕ) → JoinedFits f g x →
-    (joined test f g).size (joined_spelling f g x ++ more) ≡ length (joined_spelling f g x)
+    (both test f g).size (joined_spelling f g x ++ more) ≡ length (joined_spelling f g x)
 size_of n test f g sf sg join (inl p) more fits = rw (join.left p more fits) (sf.size p more fits)
 size_of n test f g sf sg join (inr q) more fits = rw (join.right q more fits) (sg.size q more fits)
 
 packet_of : {P Q R : Type 0} (n : ℕ) (test : List ℕ → Bool) (f : Format P R) (g : Format Q R) → IsSound f → IsSound g → IsJoin n test f g → (x : P ⊎ Q) (more : List ℕ) → JoinedFits f g x →
-    (joined test f g).packet (joined_spelling f g x ++ more) ≡ x
+    (both test f g).packet (joined_spelling f g x ++ more) ≡ x
 packet_of {P = P} {Q = Q} n test f g sf sg join (inl p) more fits = rw (join.left p more fits) (ap {B = P ⊎ Q} (λ (y : P). inl y) (sf.packet p more fits))
 packet_of {P = P} {Q = Q} n test f g sf sg join (inr q) more fits = rw (join.right q more fits) (ap {B = P ⊎ Q} (λ (y : Q). inr y) (sg.packet q more fits))
 
-stays : {P Q R : Type 0} (n : ℕ) (test : List ℕ → Bool) (f : Format P R) (g : Format Q R) → IsSound f → IsSound g → IsJoin n test f g → StaysWrong (joined test f g).checks
+stays : {P Q R : Type 0} (n : ℕ) (test : List ℕ → Bool) (f : Format P R) (g : Format Q R) → IsSound f → IsSound g → IsJoin n test f g → StaysWrong (both test f g).checks
 stays n test f g sf sg join b more w e =
     elim (cases_lt (length b) n) [
       | inl less ↦ let none = joined_waits n test f g join b less (test b) refl in absurd cc
       | inr there ↦ stays_by n test f g sf sg join b more w there (test b) refl e
     ]
 
--- the joined format is sound
-pub joined_sound : {P Q R : Type 0} (n : ℕ) (test : List ℕ → Bool) (f : Format P R) (g : Format Q R) → IsSound f → IsSound g → IsJoin n test f g → IsSound (joined test f g)
-joined_sound n test f g sf sg join = record {
+both_sound : {P Q R : Type 0} (n : ℕ) (test : List ℕ → Bool) (f : Format P R) (g : Format Q R) → IsSound f → IsSound g → IsJoin n test f g → IsSound (both test f g)
+both_sound n test f g sf sg join = record {
   found = λ b are none there. found_by test f g sf sg b are (test b) refl none there;
   right = right_of n test f g sf sg join;
   size = size_of n test f g sf sg join;
@@ -131,13 +138,27 @@ joined_sound n test f g sf sg join = record {
   steady = stays n test f g sf sg join;
 }
 
--- a format under other names is sound, where the names are as good
-pub renamed_sound : {P X R : Type 0} (to : P → X) (from : X → P) (f : Format P R) → ((p : P) → from (to p) ≡ p) → ((x : X) → to (from x) ≡ x) → IsSound f → IsSound (renamed to from f)
-renamed_sound {P = P} {X = X} to from f back forth sf = record {
-  found = λ b are none there. let h = sf.found b are none there in (ap f.spelling (back (f.packet b)) ∙ h.0, subst f.Fits (sym (back (f.packet b))) h.1);
-  right = λ x more fits. sf.right (from x) more fits;
-  size = λ x more fits. sf.size (from x) more fits;
-  packet = λ x more fits. ap to (sf.packet (from x) more fits) ∙ forth x;
-  some = sf.some;
-  steady = sf.steady;
-}
+-- the names are as good as the packets
+pub record AreNames {P Q X : Type 0} (left : P → X) (right : Q → X) (sort : X → P ⊎ Q) : Type 0 where
+  pub back : (y : P ⊎ Q) → sort (named left right y) ≡ y
+  pub forth : (x : X) → named left right (sort x) ≡ x
+
+name_by : {P Q X : Type 0} (left : P → X) (right : Q → X) (p : P) (q : Q) (t : Bool) → cond t (left p) (right q) ≡ named left right (cond t (inl p) (inr q))
+name_by left right p q true = refl
+name_by left right p q false = refl
+
+-- the joined format is sound
+pub joined_sound : {P Q X R : Type 0} (n : ℕ) (test : List ℕ → Bool) (left : P → X) (right : Q → X) (sort : X → P ⊎ Q) (f : Format P R) (g : Format Q R) → AreNames left right sort → IsSound f → IsSound g → IsJoin n test f g →
+    IsSound (joined test left right sort f g)
+joined_sound {P = P} {Q = Q} {X = X} n test left right sort f g names sf sg join =
+    let sound = both_sound n test f g sf sg join in
+    let name : (b : List ℕ) → (joined test left right sort f g).packet b ≡ named left right ((both test f g).packet b) = λ b. name_by left right (f.packet b) (g.packet b) (test b) in
+    let sorted : (b : List ℕ) → sort ((joined test left right sort f g).packet b) ≡ (both test f g).packet b = λ b. ap sort (name b) ∙ names.back ((both test f g).packet b) in
+    record {
+      found = λ b are none there. let h = sound.found b are none there in (ap (joined_spelling f g) (sorted b) ∙ h.0, subst (JoinedFits f g) (sym (sorted b)) h.1);
+      right = λ x more fits. sound.right (sort x) more fits;
+      size = λ x more fits. sound.size (sort x) more fits;
+      packet = λ x more fits. name (joined_spelling f g (sort x) ++ more) ∙ ap (named left right) (sound.packet (sort x) more fits) ∙ names.forth x;
+      some = sound.some;
+      steady = sound.steady;
+    }

@@ -12,9 +12,9 @@ pub record Check (R : Type 0) : Type 0 where
   pub passes : List ℕ → Bool
   pub reason : R
 
--- tried in every packet
-abbrev pub always : List ℕ → Bool
-always bytes = true
+-- one that is tried in every packet
+abbrev pub check : {R : Type 0} → ℕ → ℕ → R → (List ℕ → Bool) → Check R
+check place needed reason passes = record { place = place; needed = needed; tried = λ b. true; passes = passes; reason = reason }
 
 -- the first check, in their order, whose bytes are there and whose test fails
 abbrev pub wrong_at : {R : Type 0} → List (Check R) → List ℕ → Option (ℕ × R)

@@ -16,22 +16,12 @@ abbrev pub JoinedFits : {P Q R : Type 0} → Format P R → Format Q R → P ⊎
 JoinedFits f g (inl p) = f.Fits p
 JoinedFits f g (inr q) = g.Fits q
 
--- a packet is one of f where the test holds, and else one of g
-abbrev pub joined : {P Q R : Type 0} → (List ℕ → Bool) → Format P R → Format Q R → Format (P ⊎ Q) R
-joined test f g = record {
+-- a packet is one of f where the test holds, and else one of g: so each is named among both, and `sort` says which it is
+abbrev pub joined : {P Q X R : Type 0} → (List ℕ → Bool) → (P → X) → (Q → X) → (X → P ⊎ Q) → Format P R → Format Q R → Format X R
+joined test left right sort f g = record {
   checks = guarded test f.checks ++ guarded (λ b. not (test b)) g.checks;
   size = λ b. if test b then f.size b else g.size b;
-  packet = λ b. if test b then inl (f.packet b) else inr (g.packet b);
-  spelling = joined_spelling f g;
-  Fits = JoinedFits f g;
-}
-
--- the same packets under other names
-abbrev pub renamed : {P X R : Type 0} → (P → X) → (X → P) → Format P R → Format X R
-renamed to from f = record {
-  checks = f.checks;
-  size = f.size;
-  packet = λ b. to (f.packet b);
-  spelling = λ x. f.spelling (from x);
-  Fits = λ x. f.Fits (from x);
+  packet = λ b. if test b then left (f.packet b) else right (g.packet b);
+  spelling = λ x. joined_spelling f g (sort x);
+  Fits = λ x. JoinedFits f g (sort x);
 }

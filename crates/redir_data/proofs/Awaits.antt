@@ -1,5 +1,5 @@
 -- What a packet of any type awaits is what the one of both formats awaits.
-use Rattle.std.proofs.Common.{◌≡◌, ℕ, ◌+◌, ◌<◌, ◌≤◌, ◌==◌, inl, inr, Bool, true, false, cond, List, ◌++◌, length, None, refl, sym, ap, ◌∙◌, arith}
+use Rattle.std.proofs.Common.{◌≡◌, ℕ, ◌+◌, ◌<◌, ◌≤◌, ◌==◌, Bool, true, false, cond, List, ◌++◌, length, None, refl, sym, ap, ◌∙◌, arith}
 use Rattle.std.specs.Prelude.{nat_lt, not}
 use Rattle.std.specs.Int.{w32}
 use Rattle.std.proofs.lemmas.Bool.{eqb-true, le-ltb, lt-ltb, not_from_false, or_left}
@@ -7,11 +7,10 @@ use Rattle.usb_base.specs.Number.{le_at, byte_at}
 use Rattle.usb_base.specs.declared.reason.Reason.{Reason}
 use Rattle.usb_base.proofs.Numbers.{le_at-append_32}
 use Rattle.packet_stream.specs.Format.{Found, Whole, Short, Wrong, reading}
-use Rattle.packet_stream.specs.Joined.{joined}
 use Rattle.packet_stream.specs.Awaited.{IsAwaited, StaysShort, awaited}
 use Rattle.packet_stream.proofs.Formats.{none_before}
-use Rattle.packet_stream.proofs.Joins.{found_as, reading-left, reading-right, reading-renamed}
-use Rattle.packet_stream.proofs.Awaiting.{IsPatient, short_parts, short_from, awaited_least, stays_short, awaited-left, awaited-right, stays-left, stays-right, stays-renamed}
+use Rattle.packet_stream.proofs.Joins.{found_as, reading-left, reading-right}
+use Rattle.packet_stream.proofs.Awaiting.{IsPatient, short_parts, short_from, awaited_least, stays_short, awaited-left, awaited-right, stays-left, stays-right}
 use Rattle.redir_wire.specs.declared.packet.Caps.{Caps}
 use Rattle.redir_wire.specs.declared.packet.Way.{Way}
 use Rattle.redir_wire.specs.declared.packet.Header.{Header}
@@ -29,7 +28,8 @@ use Rattle.redir_wire.proofs.Awaits.{AreOwn, size_long, packets_patient, plain_p
 use Rattle.redir_data.specs.Spelling.{data_count}
 use Rattle.redir_data.specs.Places.{fixed, told_length}
 use Rattle.redir_data.specs.Carrying.{data_check, transfers, carrying}
-use Rattle.redir_data.specs.Packets.{begins_plain, to_packet, from_packet, redir_packets}
+use Rattle.redir_data.specs.Packets.{begins_plain, from_packet, redir_packets}
+use Rattle.redir_data.specs.sound.Joined.{as_plain, as_carrying}
 use Rattle.redir_data.specs.sound.Carrying.{data_bodies}
 use Rattle.redir_data.specs.sound.Checks.{is_numbered, least_length}
 
@@ -104,11 +104,9 @@ data_waits first caps way x less =
 
 short_by : (first : Bool) (caps : Caps) (way : Way) (x : List ℕ) → length x < 4 → (t : Bool) → begins_plain x ≡ t → reading (redir_packets first caps way) x ≡ Short
 short_by first caps way x less true e =
-    reading-renamed to_packet from_packet (joined begins_plain (plain first caps way) (carrying first caps way)) x
-    ∙ ap (found_as to_packet) (reading-left begins_plain (plain first caps way) (carrying first caps way) x e ∙ ap (found_as inl) (plain_waits first caps way x less))
+    reading-left begins_plain as_plain as_carrying from_packet (plain first caps way) (carrying first caps way) x e ∙ ap (found_as as_plain) (plain_waits first caps way x less)
 short_by first caps way x less false e =
-    reading-renamed to_packet from_packet (joined begins_plain (plain first caps way) (carrying first caps way)) x
-    ∙ ap (found_as to_packet) (reading-right begins_plain (plain first caps way) (carrying first caps way) x e ∙ ap (found_as inr) (data_waits first caps way x less))
+    reading-right begins_plain as_plain as_carrying from_packet (plain first caps way) (carrying first caps way) x e ∙ ap (found_as as_carrying) (data_waits first caps way x less)
 
 pub four_quiet : (first : Bool) (caps : Caps) (way : Way) (b : List ℕ) → StaysShort (redir_packets first caps way) b 4
 four_quiet first caps way b more less = short_by first caps way (b ++ more) less (begins_plain (b ++ more)) refl
@@ -129,28 +127,25 @@ four_awaited first caps way b less = four_by first caps way b less (begins_plain
 sees : (b more : List ℕ) (t : Bool) → 4 ≤ length b → begins_plain b ≡ t → begins_plain (b ++ more) ≡ t
 sees b more t there e = ap is_plain (le_at-append_32 0 b more there) ∙ e
 
-unfound : {P Q R : Type 0} (to : P → Q) (then : Q → R) (found : Found P Reason) → found_as then (found_as to found) ≡ Short → found ≡ Short
-unfound to then (Whole p n) e = absurd cc
-unfound to then Short e = refl
-unfound to then (Wrong place reason) e = absurd cc
+unfound : {P X : Type 0} (to : P → X) (found : Found P Reason) → found_as to found ≡ Short → found ≡ Short
+unfound to (Whole p n) e = absurd cc
+unfound to Short e = refl
+unfound to (Wrong place reason) e = absurd cc
 
 pub plain_short : (first : Bool) (caps : Caps) (way : Way) (b : List ℕ) → begins_plain b ≡ true → reading (redir_packets first caps way) b ≡ Short → reading (plain first caps way) b ≡ Short
 plain_short first caps way b e short =
-    unfound inl to_packet (reading (plain first caps way) b)
-    (sym (reading-renamed to_packet from_packet (joined begins_plain (plain first caps way) (carrying first caps way)) b ∙ ap (found_as to_packet) (reading-left begins_plain (plain first caps way) (carrying first caps way) b e)) ∙ short)
+    unfound as_plain (reading (plain first caps way) b) (sym (reading-left begins_plain as_plain as_carrying from_packet (plain first caps way) (carrying first caps way) b e) ∙ short)
 
 pub data_short : (first : Bool) (caps : Caps) (way : Way) (b : List ℕ) → begins_plain b ≡ false → reading (redir_packets first caps way) b ≡ Short → reading (carrying first caps way) b ≡ Short
 data_short first caps way b e short =
-    unfound inr to_packet (reading (carrying first caps way) b)
-    (sym (reading-renamed to_packet from_packet (joined begins_plain (plain first caps way) (carrying first caps way)) b ∙ ap (found_as to_packet) (reading-right begins_plain (plain first caps way) (carrying first caps way) b e)) ∙ short)
+    unfound as_carrying (reading (carrying first caps way) b) (sym (reading-right begins_plain as_plain as_carrying from_packet (plain first caps way) (carrying first caps way) b e) ∙ short)
 
 pub plain_awaited : (first : Bool) (caps : Caps) (way : Way) (b : List ℕ) (n : ℕ) → begins_plain b ≡ true → IsAwaited (plain first caps way) b n → IsAwaited (redir_packets first caps way) b n
 plain_awaited first caps way b n e is = awaited-left begins_plain (plain first caps way) (carrying first caps way) b n e is
 
 pub plain_quiet : (first : Bool) (caps : Caps) (way : Way) (b : List ℕ) (n : ℕ) → 4 ≤ length b → begins_plain b ≡ true → StaysShort (plain first caps way) b n → StaysShort (redir_packets first caps way) b n
 plain_quiet first caps way b n there e stays =
-    stays-renamed to_packet from_packet (joined begins_plain (plain first caps way) (carrying first caps way)) b n
-    (stays-left begins_plain (plain first caps way) (carrying first caps way) b n (λ more. sees b more true there e) stays)
+    stays-left begins_plain as_plain as_carrying from_packet (plain first caps way) (carrying first caps way) b n (λ more. sees b more true there e) stays
 
 pub data_least : (first : Bool) (caps : Caps) (way : Way) (b : List ℕ) (n : ℕ) → begins_plain b ≡ false → reading (redir_packets first caps way) b ≡ Short → n ≡ awaited (carrying first caps way) b →
     IsAwaited (redir_packets first caps way) b n
@@ -160,5 +155,4 @@ data_least first caps way b n e short is =
 pub data_quiet : (first : Bool) (caps : Caps) (way : Way) (b : List ℕ) (n : ℕ) → 4 ≤ length b → begins_plain b ≡ false → reading (redir_packets first caps way) b ≡ Short → n ≡ awaited (carrying first caps way) b →
     StaysShort (redir_packets first caps way) b n
 data_quiet first caps way b n there e short is =
-    stays-renamed to_packet from_packet (joined begins_plain (plain first caps way) (carrying first caps way)) b n
-    (stays-right begins_plain (plain first caps way) (carrying first caps way) b n (λ more. sees b more false there e) (stays_short (carrying first caps way) (carrying_patient first caps way) b (data_short first caps way b e short) n is))
+    stays-right begins_plain as_plain as_carrying from_packet (plain first caps way) (carrying first caps way) b n (λ more. sees b more false there e) (stays_short (carrying first caps way) (carrying_patient first caps way) b (data_short first caps way b e short) n is)

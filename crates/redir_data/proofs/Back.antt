@@ -13,14 +13,15 @@ use Rattle.redir_wire.specs.declared.kind.DataKind.{DataKind}
 use Rattle.redir_wire.specs.declared.kind.DataKind.TheVariants.{Control}
 use Rattle.redir_wire.specs.declared.kind.Kind.TheVariants.{Plain as PlainKind}
 use Rattle.redir_wire.specs.Table.{data_row, has_wanted, is_left_out}
-use Rattle.redir_wire.specs.Header.{is_wide, head_bytes, is_in_turn, row_says, IdFits}
+use Rattle.redir_wire.specs.Header.{is_wide, head_bytes, row_says, IdFits}
 use Rattle.redir_wire.specs.Spelling as wire
 use Rattle.redir_wire.specs.Written as wire_written
 use Rattle.redir_wire.proofs.Lengths as wire_lengths
 use Rattle.redir_wire.proofs.Numbers.{says}
+use Rattle.redir_wire.proofs.Says.{is_in_turn, header_says}
 use Rattle.redir_data.specs.declared.packet.RedirData.{RedirData}
 use Rattle.redir_data.specs.declared.packet.RedirPacket.TheVariants.{Plain, Carrying}
-use Rattle.redir_data.specs.Spelling.{kind_of, fields, size_of, header_of}
+use Rattle.redir_data.specs.Spelling.{form_of, fields, size_of, header_of}
 use Rattle.redir_data.specs.Packets.{redir_packets}
 use Rattle.redir_data.specs.Written.{CanWrite, packet_bytes}
 use Rattle.redir_data.specs.sound.Fields.{length_fields}
@@ -44,9 +45,9 @@ data_back first caps way bytes h d n are e =
     let whole = read_whole (redir_packets first caps way) (redir_sound first caps way) bytes n (h, Carrying d) are e in
     let is = whole.fits in
     let size : h.length ≡ size_of caps d = is.length_is ∙ length_fields caps d in
-    let later : first ≡ false = first_is first h.kind is.header.in_turn ∙ ap (λ (x : ℕ). x == 0) is.kind ∙ no_hello (kind_of d) in
+    let later : first ≡ false = first_is first h.kind (header_says is.header).in_turn ∙ ap (λ (x : ℕ). x == 0) is.kind ∙ no_hello (form_of d).kind in
     let head : h ≡ header_of h.id caps d = λ i. record { kind = is.kind i; length = size i; id = h.id } in
-    let limit = leb-true h.length 16777280 is.header.in_limit in (
+    let limit = leb-true h.length 16777280 (header_says is.header).in_limit in (
       record {
         id_fits = subst (λ (x : Bool). IdFits (is_wide x caps) h.id) later is.header.id_fits;
         length_fits = is.fits.length_fits;
@@ -64,9 +65,9 @@ control_back first caps way bytes h p n are e =
     let whole = read_whole (redir_packets first caps way) (redir_sound first caps way) bytes n (h, Plain p) are e in
     let is = whole.fits in
     let size : h.length ≡ wire.length_of caps p = is.length_is ∙ wire_lengths.length_fields caps p is.fits.ranges in
-    let turn : first ≡ wire.is_hello p = first_is first h.kind is.header.in_turn ∙ ap (λ (x : ℕ). x == 0) is.kind in
+    let turn : first ≡ wire.is_hello p = first_is first h.kind (header_says is.header).in_turn ∙ ap (λ (x : ℕ). x == 0) is.kind in
     let head : h ≡ wire.header_of h.id caps p = λ i. record { kind = is.kind i; length = size i; id = h.id } in
-    let says_so : row_says (has_wanted caps) h.kind ≡ true = (and_parts (not (is_left_out h.kind)) (row_says (has_wanted caps) h.kind) is.header.agreed).1 in
+    let says_so : row_says (has_wanted caps) h.kind ≡ true = (and_parts (not (is_left_out h.kind)) (row_says (has_wanted caps) h.kind) (header_says is.header).agreed).1 in
     let agreed = sym (says (has_wanted caps) (PlainKind (wire.kind_of p))) ∙ ap (row_says (has_wanted caps)) (sym is.kind) ∙ says_so in (
       record { agreed = agreed; id_fits = subst (λ (x : Bool). IdFits (is_wide x caps) h.id) turn is.header.id_fits; writable = is.fits.writable },
       whole.spelled ∙ (λ i. head_bytes (is_wide (turn i) caps) (head i) ++ wire.fields caps p),

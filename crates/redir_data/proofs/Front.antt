@@ -1,14 +1,13 @@
 -- Reading a packet of any type is reading its header, and then what is behind it.
-use Rattle.std.proofs.Common.{◌≡◌, ℕ, ◌≤◌, Bool, true, false, cond, List, inl, inr, length, drop, Err, refl, sym, ap, subst, ◌∙◌}
+use Rattle.std.proofs.Common.{◌≡◌, ℕ, ◌≤◌, Bool, true, false, cond, List, length, drop, Err, refl, sym, ap, subst, ◌∙◌}
 use Rattle.std.specs.Prelude.{not}
 use Rattle.usb_base.specs.declared.reason.Reason.{Reason}
 use Rattle.packet_stream.specs.Format.{Found, Whole, Short, Wrong, reading}
-use Rattle.packet_stream.specs.Joined.{joined}
 use Rattle.packet_stream.specs.Reads.{WantsMemory, Answers}
 use Rattle.packet_stream.specs.declared.read.ReadError.{ReadError}
 use Rattle.packet_stream.specs.declared.read.ReadError.TheVariants as error
 use Rattle.packet_stream.proofs.Formats.{whole_parts}
-use Rattle.packet_stream.proofs.Joins.{found_as, reading-left, reading-right, reading-renamed}
+use Rattle.packet_stream.proofs.Joins.{found_as, reading-left, reading-right}
 use Rattle.redir_wire.specs.declared.packet.Caps.{Caps}
 use Rattle.redir_wire.specs.declared.packet.Way.{Way}
 use Rattle.redir_wire.specs.declared.packet.Header.{Header}
@@ -24,37 +23,36 @@ use Rattle.redir_data.specs.declared.packet.RedirData.{RedirData}
 use Rattle.redir_data.specs.declared.packet.RedirPacket.{RedirPacket}
 use Rattle.redir_data.specs.declared.packet.RedirPacket.TheVariants.{Plain, Carrying}
 use Rattle.redir_data.specs.Carrying.{transfers, carrying}
-use Rattle.redir_data.specs.Packets.{begins_plain, to_packet, from_packet, redir_packets}
+use Rattle.redir_data.specs.Packets.{begins_plain, from_packet, redir_packets}
 use Rattle.redir_data.specs.inner.Past.{packet_past, past_found}
 use Rattle.redir_data.specs.sound.Carrying.{data_bodies}
+use Rattle.redir_data.specs.sound.Joined.{as_plain, as_carrying}
 
 -- ---- one of the two formats reads
 
-as_plain : (first : Bool) (caps : Caps) (way : Way) (b : List ℕ) (x : Found (Header × RedirControl) Reason) → begins_plain b ≡ true → reading (plain first caps way) b ≡ x →
-    reading (redir_packets first caps way) b ≡ found_as to_packet (found_as inl x)
-as_plain first caps way b x begins e =
-    reading-renamed to_packet from_packet (joined begins_plain (plain first caps way) (carrying first caps way)) b
-    ∙ ap (found_as to_packet) (reading-left begins_plain (plain first caps way) (carrying first caps way) b begins ∙ ap (found_as inl) e)
+if_plain : (first : Bool) (caps : Caps) (way : Way) (b : List ℕ) (x : Found (Header × RedirControl) Reason) → begins_plain b ≡ true → reading (plain first caps way) b ≡ x →
+    reading (redir_packets first caps way) b ≡ found_as as_plain x
+if_plain first caps way b x begins e =
+    reading-left begins_plain as_plain as_carrying from_packet (plain first caps way) (carrying first caps way) b begins ∙ ap (found_as as_plain) e
 
-as_data : (first : Bool) (caps : Caps) (way : Way) (b : List ℕ) (x : Found (Header × RedirData) Reason) → begins_plain b ≡ false → reading (carrying first caps way) b ≡ x →
-    reading (redir_packets first caps way) b ≡ found_as to_packet (found_as inr x)
-as_data first caps way b x begins e =
-    reading-renamed to_packet from_packet (joined begins_plain (plain first caps way) (carrying first caps way)) b
-    ∙ ap (found_as to_packet) (reading-right begins_plain (plain first caps way) (carrying first caps way) b begins ∙ ap (found_as inr) e)
+if_data : (first : Bool) (caps : Caps) (way : Way) (b : List ℕ) (x : Found (Header × RedirData) Reason) → begins_plain b ≡ false → reading (carrying first caps way) b ≡ x →
+    reading (redir_packets first caps way) b ≡ found_as as_carrying x
+if_data first caps way b x begins e =
+    reading-right begins_plain as_plain as_carrying from_packet (plain first caps way) (carrying first caps way) b begins ∙ ap (found_as as_carrying) e
 
 -- ---- without a whole header
 
 short_by : (first : Bool) (caps : Caps) (way : Way) (b : List ℕ) (t : Bool) → begins_plain b ≡ t → reading (headers first caps way) b ≡ Short → reading (redir_packets first caps way) b ≡ Short
-short_by first caps way b true begins e = as_plain first caps way b Short begins (read_short (controls caps) first caps way b (plain_bodies first caps way).steady (λ _. begins) e)
-short_by first caps way b false begins e = as_data first caps way b Short begins (read_short (transfers caps way) first caps way b (data_bodies first caps way).steady (λ _. ap not begins) e)
+short_by first caps way b true begins e = if_plain first caps way b Short begins (read_short (controls caps) first caps way b (plain_bodies first caps way).steady (λ _. begins) e)
+short_by first caps way b false begins e = if_data first caps way b Short begins (read_short (transfers caps way) first caps way b (data_bodies first caps way).steady (λ _. ap not begins) e)
 
 pub short : (first : Bool) (caps : Caps) (way : Way) (b : List ℕ) → reading (headers first caps way) b ≡ Short → reading (redir_packets first caps way) b ≡ Short
 short first caps way b e = short_by first caps way b (begins_plain b) refl e
 
 wrong_by : (first : Bool) (caps : Caps) (way : Way) (b : List ℕ) (place : ℕ) (reason : Reason) (t : Bool) → begins_plain b ≡ t → reading (headers first caps way) b ≡ Wrong place reason →
     reading (redir_packets first caps way) b ≡ Wrong place reason
-wrong_by first caps way b place reason true begins e = as_plain first caps way b (Wrong place reason) begins (read_wrong (controls caps) first caps way b place reason (λ _. begins) e)
-wrong_by first caps way b place reason false begins e = as_data first caps way b (Wrong place reason) begins (read_wrong (transfers caps way) first caps way b place reason (λ _. ap not begins) e)
+wrong_by first caps way b place reason true begins e = if_plain first caps way b (Wrong place reason) begins (read_wrong (controls caps) first caps way b place reason (λ _. begins) e)
+wrong_by first caps way b place reason false begins e = if_data first caps way b (Wrong place reason) begins (read_wrong (transfers caps way) first caps way b place reason (λ _. ap not begins) e)
 
 never_wants : {P : Type 0} (x : Found P Reason) → WantsMemory never x → ⊥
 never_wants (Whole p n) e = absurd cc
@@ -68,12 +66,12 @@ error_same first caps way b takes (error.Memory memory) e = absurd (never_wants 
 
 -- ---- with one
 
-plain_past : (wide : Bool) (h : Header) (x : Found RedirControl Reason) → found_as to_packet (found_as inl (found_past wide h x)) ≡ packet_past Plain (head_size wide) h x
+plain_past : (wide : Bool) (h : Header) (x : Found RedirControl Reason) → found_as as_plain (found_past wide h x) ≡ packet_past Plain (head_size wide) h x
 plain_past wide h (Whole p n) = refl
 plain_past wide h Short = refl
 plain_past wide h (Wrong place reason) = refl
 
-data_past : (wide : Bool) (h : Header) (x : Found RedirData Reason) → found_as to_packet (found_as inr (found_past wide h x)) ≡ packet_past Carrying (head_size wide) h x
+data_past : (wide : Bool) (h : Header) (x : Found RedirData Reason) → found_as as_carrying (found_past wide h x) ≡ packet_past Carrying (head_size wide) h x
 data_past wide h (Whole p n) = refl
 data_past wide h Short = refl
 data_past wide h (Wrong place reason) = refl
@@ -85,7 +83,7 @@ past_by first caps way b there header true begins =
     let h = header_at wide b in
     let x = reading (behind (controls caps) h) (drop (head_size wide) b) in
     let y = reading (behind (transfers caps way) h) (drop (head_size wide) b) in
-    as_plain first caps way b (found_past wide h x) begins (read_past (controls caps) first caps way b there begins header)
+    if_plain first caps way b (found_past wide h x) begins (read_past (controls caps) first caps way b there begins header)
     ∙ plain_past wide h x
     ∙ ap (λ (t : Bool). cond t (packet_past Plain (head_size wide) h x) (packet_past Carrying (head_size wide) h y)) (sym begins)
 past_by first caps way b there header false begins =
@@ -93,7 +91,7 @@ past_by first caps way b there header false begins =
     let h = header_at wide b in
     let x = reading (behind (controls caps) h) (drop (head_size wide) b) in
     let y = reading (behind (transfers caps way) h) (drop (head_size wide) b) in
-    as_data first caps way b (found_past wide h y) begins (read_past (transfers caps way) first caps way b there (ap not begins) header)
+    if_data first caps way b (found_past wide h y) begins (read_past (transfers caps way) first caps way b there (ap not begins) header)
     ∙ data_past wide h y
     ∙ ap (λ (t : Bool). cond t (packet_past Plain (head_size wide) h x) (packet_past Carrying (head_size wide) h y)) (sym begins)
 

@@ -16,10 +16,11 @@ use Rattle.redir_wire.specs.Spelling as wire
 use Rattle.redir_wire.specs.Ranges as wire_ranges
 use Rattle.redir_wire.specs.Written as wire_written
 use Rattle.redir_wire.proofs.Numbers.{says, known, number_fits, agreed_by}
+use Rattle.redir_wire.proofs.Says.{is_header}
 use Rattle.redir_wire.proofs.Plain.{packet_written}
 use Rattle.redir_data.specs.declared.packet.RedirData.{RedirData}
 use Rattle.redir_data.specs.declared.packet.RedirPacket.TheVariants.{Plain, Carrying}
-use Rattle.redir_data.specs.Spelling.{kind_of, size_of, header_of}
+use Rattle.redir_data.specs.Spelling.{form_of, size_of, header_of}
 use Rattle.redir_data.specs.Ranges.{Ranges}
 use Rattle.redir_data.specs.Places.{fixed}
 use Rattle.redir_data.specs.Carrying.{transfers}
@@ -47,10 +48,10 @@ not_first k = refl
 
 pub data_written : (way : Way) (caps : Caps) (id : ℕ) (d : RedirData) → Ranges d → CanWrite id way caps d → IsPacket (transfers caps way) false caps way (header_of id caps d, d)
 data_written way caps id d ranges can =
-    let k = kind_of d in
+    let k = (form_of d).kind in
     let kind = CarryingKind k in
     record {
-      header = record {
+      header = is_header false caps way (header_of id caps d) (record {
         in_turn = not_first k;
         known = known kind;
         agreed = agreed_by caps kind (has_wanted caps) (always_agreed caps k);
@@ -59,7 +60,7 @@ data_written way caps id d ranges can =
         its_length = says (λ r. has_length caps r (size_of caps d)) kind ∙ length_says caps k (size_of caps d) ∙ le-leb (fixed caps k) (size_of caps d) (omega arith);
         kind_fits = number_fits kind;
         id_fits = can.id_fits;
-      };
+      });
       kind = refl;
       length_is = sym (length_fields caps d);
       fits = record { ranges = ranges; length_fits = can.length_fits; data_there = can.data_there };

@@ -13,7 +13,7 @@ use Rattle.redir_wire.specs.Table.{data_row}
 use Rattle.redir_wire.specs.Bodies.{BodyCheck, Bodies, packets}
 use Rattle.redir_wire.specs.Plain.{is_plain}
 use Rattle.redir_data.specs.declared.packet.RedirData.{RedirData}
-use Rattle.redir_data.specs.Spelling.{data_count, body_of, fields, number_of}
+use Rattle.redir_data.specs.Spelling.{data_count, form_of, fields, number_of}
 use Rattle.redir_data.specs.Ranges.{IsData}
 use Rattle.redir_data.specs.Places.{fixed, length_place, told_length, data_at}
 
@@ -42,4 +42,4 @@ carrying first caps way = packets (transfers caps way) first caps way
 
 -- data take memory
 abbrev pub has_data : RedirData → Bool
-has_data d = not (length (body_of d) == 0)
+has_data d = not (length (form_of d).body == 0)

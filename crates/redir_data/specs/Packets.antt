@@ -5,7 +5,7 @@ use Rattle.std.specs.Int.{w32}
 use Rattle.usb_base.specs.declared.reason.Reason.{Reason}
 use Rattle.usb_base.specs.Number.{le_at}
 use Rattle.packet_stream.specs.Format.{Format}
-use Rattle.packet_stream.specs.Joined.{joined, renamed}
+use Rattle.packet_stream.specs.Joined.{joined}
 use Rattle.redir_wire.specs.declared.packet.Caps.{Caps}
 use Rattle.redir_wire.specs.declared.packet.Way.{Way}
 use Rattle.redir_wire.specs.declared.packet.Header.{Header}
@@ -20,17 +20,13 @@ use Rattle.redir_data.specs.Carrying.{carrying, has_data}
 abbrev pub begins_plain : List ℕ → Bool
 begins_plain b = is_plain (le_at w32 0 b)
 
-abbrev pub to_packet : (Header × RedirControl) ⊎ (Header × RedirData) → Header × RedirPacket
-to_packet (inl p) = (p.0, Plain p.1)
-to_packet (inr p) = (p.0, Carrying p.1)
-
 abbrev pub from_packet : Header × RedirPacket → (Header × RedirControl) ⊎ (Header × RedirData)
 from_packet (h, Plain p) = inl (h, p)
 from_packet (h, Carrying p) = inr (h, p)
 
 -- the packets of a stream that goes this way: the hello, where it is still to come, or a later one with the agreed capabilities
 abbrev pub redir_packets : Bool → Caps → Way → Format (Header × RedirPacket) Reason
-redir_packets first caps way = renamed to_packet from_packet (joined begins_plain (plain first caps way) (carrying first caps way))
+redir_packets first caps way = joined begins_plain (λ p. (p.0, Plain p.1)) (λ p. (p.0, Carrying p.1)) from_packet (plain first caps way) (carrying first caps way)
 
 -- only data, and the words of a hello, take memory
 abbrev pub takes_memory : Header × RedirPacket → Bool

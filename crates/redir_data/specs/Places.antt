@@ -26,9 +26,8 @@ bulk_length wide b = if wide then le_at w16 2 b + 65536 * le_at w16 8 b else le_
 
 -- the length that a packet tells
 abbrev pub told_length : Caps → DataKind → List ℕ → ℕ
-told_length caps kinds.Control b = le_at w16 8 b
 told_length caps kinds.Bulk b = bulk_length (has caps 6) b
-told_length caps _ b = le_at w16 2 b
+told_length caps k b = le_at w16 (length_place k) b
 
 -- the fields with this length, and these data
 abbrev pub fields_with : DataKind → List ℕ → ℕ → List ℕ → RedirData

@@ -5,7 +5,7 @@ use Rattle.redir_wire.specs.declared.packet.Way.{Way}
 use Rattle.redir_wire.specs.Capability.{has}
 use Rattle.redir_data.specs.declared.packet.RedirData.{RedirData}
 use Rattle.redir_data.specs.declared.packet.RedirData.TheVariants as moving
-use Rattle.redir_data.specs.Spelling.{endpoint_of, length_of, body_of, data_count}
+use Rattle.redir_data.specs.Spelling.{form_of, data_count}
 
 -- ---- what a sender keeps to, beside the ranges that the types of the code have
 
@@ -20,7 +20,7 @@ LengthFits caps _ = Unit {0}
 
 -- data stand where their way asks for them, as many as the length tells
 abbrev pub HasItsData : Way → RedirData → Type 0
-HasItsData way d = length (body_of d) ≡ data_count way (endpoint_of d) (length_of d)
+HasItsData way d = length (form_of d).body ≡ data_count way (form_of d).endpoint (form_of d).told
 
 -- ---- the ranges of the types
 

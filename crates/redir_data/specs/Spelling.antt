@@ -8,37 +8,26 @@ use Rattle.redir_wire.specs.declared.packet.Header.{Header}
 use Rattle.redir_wire.specs.declared.kind.DataKind.{DataKind}
 use Rattle.redir_wire.specs.declared.kind.DataKind.TheVariants as kinds
 use Rattle.redir_wire.specs.Table.{data_row, has_more, fixed_length}
-use Rattle.redir_wire.specs.Field.{Field, Bytes, Shorts, Longs, Lower, Upper, wire_bytes, if_sent}
+use Rattle.redir_wire.specs.Field.{Field, Bytes, Shorts, Longs, Lower, Upper, wire_bytes}
 use Rattle.redir_data.specs.declared.packet.RedirData.{RedirData}
 use Rattle.redir_data.specs.declared.packet.RedirData.TheVariants as moving
 
-abbrev pub kind_of : RedirData → DataKind
-kind_of (moving.Control endpoint request kind status value index length body) = kinds.Control
-kind_of (moving.Bulk endpoint status length stream body) = kinds.Bulk
-kind_of (moving.Iso endpoint status length body) = kinds.Iso
-kind_of (moving.Interrupt endpoint status length body) = kinds.Interrupt
+-- what each packet has, of whatever type
+pub record DataForm : Type 0 where
+  pub kind : DataKind
+  pub endpoint : ℕ
+  -- how many bytes were asked for or moved
+  pub told : ℕ
+  pub body : List ℕ
+
+abbrev pub form_of : RedirData → DataForm
+form_of (moving.Control endpoint request kind status value index told body) = record { kind = kinds.Control; endpoint = endpoint; told = told; body = body }
+form_of (moving.Bulk endpoint status told stream body) = record { kind = kinds.Bulk; endpoint = endpoint; told = told; body = body }
+form_of (moving.Iso endpoint status told body) = record { kind = kinds.Iso; endpoint = endpoint; told = told; body = body }
+form_of (moving.Interrupt endpoint status told body) = record { kind = kinds.Interrupt; endpoint = endpoint; told = told; body = body }
 
 abbrev pub number_of : RedirData → ℕ
-number_of d = (data_row (kind_of d)).number
-
-abbrev pub endpoint_of : RedirData → ℕ
-endpoint_of (moving.Control endpoint request kind status value index length body) = endpoint
-endpoint_of (moving.Bulk endpoint status length stream body) = endpoint
-endpoint_of (moving.Iso endpoint status length body) = endpoint
-endpoint_of (moving.Interrupt endpoint status length body) = endpoint
-
--- how many bytes were asked for or moved
-abbrev pub length_of : RedirData → ℕ
-length_of (moving.Control endpoint request kind status value index length body) = length
-length_of (moving.Bulk endpoint status length stream body) = length
-length_of (moving.Iso endpoint status length body) = length
-length_of (moving.Interrupt endpoint status length body) = length
-
-abbrev pub body_of : RedirData → List ℕ
-body_of (moving.Control endpoint request kind status value index length body) = body
-body_of (moving.Bulk endpoint status length stream body) = body
-body_of (moving.Iso endpoint status length body) = body
-body_of (moving.Interrupt endpoint status length body) = body
+number_of d = (data_row (form_of d).kind).number
 
 -- ---- where data stand
 
@@ -55,7 +44,7 @@ data_count way endpoint told = if carries way endpoint then told else 0
 
 -- with capability 6 a bulk packet has the upper 16 bits of its length in a field of their own
 abbrev pub bulk : Bool → ℕ → ℕ → ℕ → ℕ → List Field
-bulk more endpoint status told stream = Bytes (endpoint ∷ status ∷ []) ∷ Lower told ∷ Longs (stream ∷ []) ∷ if_sent more (Upper told ∷ [])
+bulk more endpoint status told stream = Bytes (endpoint ∷ status ∷ []) ∷ Lower told ∷ Longs (stream ∷ []) ∷ (if more then Upper told ∷ [] else [])
 
 -- isochronous and interrupt packets
 abbrev pub periodic : ℕ → ℕ → ℕ → List Field
@@ -71,14 +60,14 @@ fixed_of more (moving.Interrupt endpoint status told body) = periodic endpoint s
 -- ---- the bytes
 
 abbrev pub fixed_fields : Caps → RedirData → List ℕ
-fixed_fields caps d = wire_bytes (fixed_of (has_more caps (data_row (kind_of d))) d)
+fixed_fields caps d = wire_bytes (fixed_of (has_more caps (data_row (form_of d).kind)) d)
 
 abbrev pub fields : Caps → RedirData → List ℕ
-fields caps d = fixed_fields caps d ++ body_of d
+fields caps d = fixed_fields caps d ++ (form_of d).body
 
 -- how many bytes follow the header
 abbrev pub size_of : Caps → RedirData → ℕ
-size_of caps d = fixed_length caps (data_row (kind_of d)) + length (body_of d)
+size_of caps d = fixed_length caps (data_row (form_of d).kind) + length (form_of d).body
 
 -- the packet's header with this id
 abbrev pub header_of : ℕ → Caps → RedirData → Header

@@ -2,7 +2,7 @@
 
 ghost use Rattle.std.specs.Prelude.{◌≡◌, ◌↔◌, ◌++◌, IsTrue, flat_map};
 ghost use Rattle.packet_stream.specs.Writes.{AppendsSome};
-ghost use Rattle.redir_data.specs.Spelling.{kind_of, endpoint_of, length_of, body_of, carries, data_count, bulk, periodic, fixed_of};
+ghost use Rattle.redir_data.specs.Spelling.{form_of, carries, data_count, bulk, periodic, fixed_of};
 ghost use Rattle.redir_data.specs.Ranges.{HasItsData};
 ghost use Rattle.redir_data.specs.inner.Past.{with_body};
 
@@ -13,7 +13,7 @@ use usb_base::{Bytes, Memory};
 impl RedirData {
     /// Its type.
     pub fn kind(&self) -> DataKind
-        ensures { result ≡ kind_of self.now }
+        ensures { result ≡ (form_of self.now).kind }
     {
         match self {
             RedirData::Control { .. } => DataKind::Control,
@@ -25,7 +25,7 @@ impl RedirData {
 
     /// The byte of its endpoint's address.
     pub fn endpoint(&self) -> u8
-        ensures { result ≡ endpoint_of self.now }
+        ensures { result ≡ (form_of self.now).endpoint }
     {
         match self {
             RedirData::Control { endpoint, .. }
@@ -37,7 +37,7 @@ impl RedirData {
 
     /// How many bytes were asked for or moved.
     pub fn length(&self) -> u32
-        ensures { result ≡ length_of self.now }
+        ensures { result ≡ (form_of self.now).told }
     {
         match self {
             RedirData::Bulk { length, .. } => *length,
@@ -49,7 +49,7 @@ impl RedirData {
 
     /// Its data.
     pub fn body(&self) -> &Bytes
-        ensures { result.now ≡ body_of self.now }
+        ensures { result.now ≡ (form_of self.now).body }
     {
         match self {
             RedirData::Control { body, .. }
@@ -61,7 +61,7 @@ impl RedirData {
 
     /// Its data alone.
     pub fn into_body(self) -> Bytes
-        ensures { result ≡ body_of self }
+        ensures { result ≡ (form_of self).body }
     {
         match self {
             RedirData::Control { body, .. }

@@ -13,13 +13,13 @@ use Rattle.redir_wire.specs.declared.packet.Caps.{Caps}
 use Rattle.redir_wire.specs.declared.packet.Way.{Way}
 use Rattle.redir_wire.specs.declared.packet.Header.{Header}
 use Rattle.redir_wire.specs.Header.{is_wide, head_size, header_at, is_its_length}
-use Rattle.redir_wire.specs.Bodies.{BodyCheck, Bodies, behind_head, size, packets}
+use Rattle.redir_wire.specs.Bodies.{BodyCheck, Bodies, behind_head, packets}
 use Rattle.redir_wire.specs.Plain.{controls, plain}
 use Rattle.redir_wire.specs.Table.{has_length}
 use Rattle.redir_wire.specs.declared.kind.Kind.TheVariants.{Plain}
 use Rattle.redir_wire.specs.declared.kind.PlainKind.TheVariants as plain_kinds
 use Rattle.redir_wire.proofs.Checks.{passed}
-use Rattle.redir_wire.proofs.Headers.{size_least}
+use Rattle.redir_wire.proofs.Headers.{size, size_least}
 use Rattle.redir_wire.proofs.Numbers.{says}
 use Rattle.redir_wire.proofs.Plain.{plain_bodies}
 use Rattle.redir_wire.proofs.Packets.{AreSteadyBehind, headed, packets_steady}

@@ -11,7 +11,7 @@ use Rattle.redir_wire.specs.declared.kind.PlainKind.{PlainKind}
 use Rattle.redir_wire.specs.Table.{plain_row, plain_numbered, data_numbered, has_length}
 use Rattle.redir_wire.specs.Header.{is_its_length}
 use Rattle.redir_wire.specs.Bodies.{behind}
-use Rattle.redir_wire.specs.Places.{fields_at}
+use Rattle.redir_wire.specs.Table.{fields_at}
 use Rattle.redir_wire.specs.Plain.{controls, count_check, is_plain}
 
 pub behind_wrong : (caps : Caps) (h : Header) (b : List ℕ) → true ≡ (nat_le 4 (length b) && not (count_check.passes h b)) → reading (behind (controls caps) h) b ≡ Wrong 0 Count

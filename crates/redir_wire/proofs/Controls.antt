@@ -1,5 +1,5 @@
 -- The fields of packets that move no data: spelled again where they stand, and read again where they are spelled.
-use Rattle.std.proofs.Common.{◌≡◌, ℕ, zero, suc, ◌+◌, ◌*◌, ◌-◌, ◌%◌, ◌^◌, ◌<◌, ◌≤◌, Bool, true, false, cond, List, [], ◌∷◌, ◌++◌, length, take, drop, refl, sym, ap, ◌∙◌, append_assoc, arith, length-drop, replicate}
+use Rattle.std.proofs.Common.{◌≡◌, ℕ, zero, suc, ◌+◌, ◌*◌, ◌-◌, ◌/◌, ◌%◌, ◌^◌, ◌<◌, ◌≤◌, Bool, true, false, cond, List, [], ◌∷◌, ◌++◌, length, take, drop, refl, sym, ap, ◌∙◌, append_assoc, arith, length-drop, replicate}
 use Rattle.std.specs.Prelude.{nat_le, not, ◌&&◌, ◌||◌, ◌==◌}
 use Rattle.std.specs.Int.{w16, w32}
 use Rattle.std.proofs.lemmas.Bool.{eqb-true}
@@ -19,13 +19,14 @@ use Rattle.redir_wire.specs.declared.kind.PlainKind.{PlainKind}
 use Rattle.redir_wire.specs.declared.kind.PlainKind.TheVariants as plain
 use Rattle.redir_wire.specs.Capability.{has}
 use Rattle.redir_wire.specs.Table.{plain_row, has_length}
-use Rattle.redir_wire.specs.Words.{words, words_of, halves, halves_of}
-use Rattle.redir_wire.specs.Field.{wire_bytes, if_sent}
-use Rattle.redir_wire.specs.Spelling.{kind_of, number_of, connect_fields, interface_fields, endpoint_fields, fields}
+use Rattle.redir_wire.specs.Words.{numbers, numbers_of}
+use Rattle.redir_wire.specs.Field.{wire_bytes}
+use Rattle.redir_wire.specs.Spelling.{kind_of, number_of, fields}
 use Rattle.redir_wire.specs.Ranges.{IsSent, IsWritable, Ranges, HelloRanges, ConnectRanges, InterfaceRanges, EpRanges, IsControl}
-use Rattle.redir_wire.specs.Places.{hello_at, connect_at, interface_info_at, max_packet_at, ep_info_at, word_count, fields_at}
-use Rattle.redir_wire.proofs.Lengths.{length_fields}
-use Rattle.redir_wire.proofs.Words.{zeros_fit, length-words_of, words_spelled, words_ranges, words_again, length-halves_of, halves_spelled, halves_ranges, halves_again}
+use Rattle.redir_wire.specs.Places.{hello_at, connect_at, interface_info_at, ep_info_at}
+use Rattle.redir_wire.specs.Table.{fields_at}
+use Rattle.redir_wire.proofs.Lengths.{connect_fields, interface_fields, endpoint_fields, length_fields}
+use Rattle.redir_wire.proofs.Words.{zeros_fit, length-numbers_of, halves_exact, words_exact, numbers_spelled, numbers_ranges, numbers_again}
 
 -- ---- what stands at its place
 
@@ -74,18 +75,18 @@ interface_ranges b there = record {
 
 ep_spelled : (sent : Bool) (b : List ℕ) → AreBytes b → 96 + cond sent 64 0 ≤ length b → wire_bytes (endpoint_fields sent (ep_info_at sent b)) ≡ take (96 + cond sent 64 0) b
 ep_spelled true b are there =
-    let sizes = halves_spelled 32 (drop 96 b) (AreBytes-drop 96 b are) (omega (arith, length-drop 96 b)) in
+    let sizes = numbers_spelled w16 halves_exact 32 (drop 96 b) (AreBytes-drop 96 b are) (omega (arith, length-drop 96 b)) in
     join 0 32 128 b _ _ refl (join 32 32 96 b _ _ refl (join 64 32 64 b _ _ refl (join 96 64 0 b _ _ sizes refl)))
 ep_spelled false b are there = join 0 32 64 b _ _ refl (join 32 32 32 b _ _ refl (join 64 32 0 b _ _ refl refl))
 
-ep_ranges : (sent : Bool) (b : List ℕ) → AreBytes b → 96 + cond sent 64 0 ≤ length b → EpRanges (ep_info_at sent b) × IsSent sent (replicate 32 0) (max_packet_at sent b)
+ep_ranges : (sent : Bool) (b : List ℕ) → AreBytes b → 96 + cond sent 64 0 ≤ length b → EpRanges (ep_info_at sent b) × IsSent sent (replicate 32 0) (ep_info_at sent b).max_packet
 ep_ranges true b are there = (
   record {
     kinds = length-part 0 32 b (omega arith);
     interval = length-part 32 32 b (omega arith);
     interface = length-part 64 32 b (omega arith);
-    max_packet_count = length-halves_of 32 (drop 96 b);
-    max_packet = halves_ranges 32 (drop 96 b) (AreBytes-drop 96 b are);
+    max_packet_count = length-numbers_of w16 32 (drop 96 b);
+    max_packet = numbers_ranges w16 halves_exact 32 (drop 96 b) (AreBytes-drop 96 b are);
   },
   tt,
 )
@@ -99,6 +100,10 @@ ep_ranges false b are there = (
   },
   refl,
 )
+
+-- how many words a hello of this length has
+abbrev word_count : ℕ → ℕ
+word_count length = (length - 64) / 4
 
 -- the length of a hello
 record HelloLength (n : ℕ) : Type 0 where
@@ -122,12 +127,12 @@ hello_found caps n b are h there =
     let is : 64 + count * 4 ≡ n = omega (arith, h.least, h.whole) in
     record {
       spelled =
-          then 64 (count * 4) b _ _ refl (append-nil (words (words_of count (drop 64 b))) ∙ words_spelled count (drop 64 b) (AreBytes-drop 64 b are) (omega (arith, length-drop 64 b)))
+          then 64 (count * 4) b _ _ refl (append-nil (numbers w32 (numbers_of w32 count (drop 64 b))) ∙ numbers_spelled w32 words_exact count (drop 64 b) (AreBytes-drop 64 b are) (omega (arith, length-drop 64 b)))
           ∙ ap (λ (m : ℕ). take m b) is;
       kind = refl;
       fits = record {
-        ranges = record { version = length-part 0 64 b (omega (arith, h.least)); words = words_ranges count (drop 64 b) (AreBytes-drop 64 b are) };
-        writable = omega (arith, length-words_of count (drop 64 b), h.most);
+        ranges = record { version = length-part 0 64 b (omega (arith, h.least)); words = numbers_ranges w32 words_exact count (drop 64 b) (AreBytes-drop 64 b are) };
+        writable = omega (arith, length-numbers_of w32 count (drop 64 b), h.most);
       };
     }
 
@@ -170,12 +175,12 @@ found_as caps n k b are e there few = record { spelled = of_length n _ b _ e the
 count_of_length : (n : ℕ) → word_count (64 + n * 4) ≡ n
 count_of_length n = omega arith
 
-hello_again : (x : Hello) (more : List ℕ) (n : ℕ) → HelloRanges x → n ≡ 64 + length x.words * 4 → hello_at (word_count n) ((x.version ++ (words x.words ++ [])) ++ more) ≡ x
+hello_again : (x : Hello) (more : List ℕ) (n : ℕ) → HelloRanges x → n ≡ 64 + length x.words * 4 → hello_at (word_count n) ((x.version ++ (numbers w32 x.words ++ [])) ++ more) ≡ x
 hello_again x more n r e =
-    let all = append_assoc x.version (words x.words ++ []) more ∙ ap (λ (l : List ℕ). x.version ++ (l ++ more)) (append-nil (words x.words)) in
-    let version = ap (take 64) all ∙ take_at x.version (words x.words ++ more) 64 r.version in
-    let behind = ap (drop 64) all ∙ drop_at x.version (words x.words ++ more) 64 r.version in
-    let found = (λ i. words_of ((ap word_count e ∙ count_of_length (length x.words)) i) (behind i)) ∙ words_again x.words more r.words in
+    let all = append_assoc x.version (numbers w32 x.words ++ []) more ∙ ap (λ (l : List ℕ). x.version ++ (l ++ more)) (append-nil (numbers w32 x.words)) in
+    let version = ap (take 64) all ∙ take_at x.version (numbers w32 x.words ++ more) 64 r.version in
+    let behind = ap (drop 64) all ∙ drop_at x.version (numbers w32 x.words ++ more) 64 r.version in
+    let found = (λ i. numbers_of w32 ((ap word_count e ∙ count_of_length (length x.words)) i) (behind i)) ∙ numbers_again w32 words_exact x.words more r.words in
     λ i. record { version = version i; words = found i }
 
 version_again : (sent : Bool) (c : Connect) (more : List ℕ) → c.version < 2 ^ 16 → IsSent sent 0 c.version → cond sent (le_at w16 8 (wire_bytes (connect_fields sent c) ++ more)) 0 ≡ c.version
@@ -228,23 +233,23 @@ interface_again x more r few =
     past 32 64 32 x.interface class more r.interface ∙ past 32 32 32 x.class subclass more r.class ∙ past 32 0 32 x.subclass protocol more r.subclass ∙ front x.protocol [] more 32 r.protocol in
     λ i. record { count = count_is i; interface = interface_is i; class = class_is i; subclass = subclass_is i; protocol = protocol_is i }
 
-sizes_again : (x : EpInfo) (more : List ℕ) → EpRanges x → halves_of 32 (drop 96 (wire_bytes (endpoint_fields true x) ++ more)) ≡ x.max_packet
+sizes_again : (x : EpInfo) (more : List ℕ) → EpRanges x → numbers_of w16 32 (drop 96 (wire_bytes (endpoint_fields true x) ++ more)) ≡ x.max_packet
 sizes_again x more r =
-    let sizes = halves x.max_packet ++ [] in
+    let sizes = numbers w16 x.max_packet ++ [] in
     let interface = x.interface ++ sizes in
     let interval = x.interval ++ interface in
     let behind = drop_past 32 64 x.kinds interval more r.kinds ∙ drop_past 32 32 x.interval interface more r.interval ∙ drop_past 32 0 x.interface sizes more r.interface in
-    ap (halves_of 32) (behind ∙ ap (λ (l : List ℕ). l ++ more) (append-nil (halves x.max_packet)))
-    ∙ ap (λ (n : ℕ). halves_of n (halves x.max_packet ++ more)) (sym r.max_packet_count)
-    ∙ halves_again x.max_packet more r.max_packet
+    ap (numbers_of w16 32) (behind ∙ ap (λ (l : List ℕ). l ++ more) (append-nil (numbers w16 x.max_packet)))
+    ∙ ap (λ (n : ℕ). numbers_of w16 n (numbers w16 x.max_packet ++ more)) (sym r.max_packet_count)
+    ∙ numbers_again w16 halves_exact x.max_packet more r.max_packet
 
-max_packet_again : (sent : Bool) (x : EpInfo) (more : List ℕ) → EpRanges x → IsSent sent (replicate 32 0) x.max_packet → max_packet_at sent (wire_bytes (endpoint_fields sent x) ++ more) ≡ x.max_packet
+max_packet_again : (sent : Bool) (x : EpInfo) (more : List ℕ) → EpRanges x → IsSent sent (replicate 32 0) x.max_packet → (ep_info_at sent (wire_bytes (endpoint_fields sent x) ++ more)).max_packet ≡ x.max_packet
 max_packet_again true x more r is = sizes_again x more r
 max_packet_again false x more r is = sym is
 
 ep_again : (sent : Bool) (x : EpInfo) (more : List ℕ) → EpRanges x → IsSent sent (replicate 32 0) x.max_packet → ep_info_at sent (wire_bytes (endpoint_fields sent x) ++ more) ≡ x
 ep_again sent x more r is =
-    let sizes = halves (if_sent sent x.max_packet) ++ [] in
+    let sizes = numbers w16 (cond sent x.max_packet []) ++ [] in
     let interface = x.interface ++ sizes in
     let interval = x.interval ++ interface in
     let kinds_are = front x.kinds interval more 32 r.kinds in

@@ -1,12 +1,13 @@
 -- Headers: spelled again where they stand, read again where they are spelled, and the same whatever comes later.
-use Rattle.std.proofs.Common.{◌≡◌, ℕ, ◌+◌, ◌^◌, ◌<◌, ◌≤◌, Bool, true, false, List, ◌++◌, length, take, drop, refl, ap, arith}
+use Rattle.std.proofs.Common.{◌≡◌, ℕ, ◌+◌, ◌^◌, ◌<◌, ◌≤◌, Bool, true, false, cond, List, ◌++◌, length, take, drop, refl, ap, arith}
+use Rattle.std.specs.Prelude.{nat_lt}
 use Rattle.std.specs.Int.{w32, w64, from_le_bytes}
 use Rattle.std.proofs.lemmas.List.{drop_at}
 use Rattle.std.proofs.lemmas.Nat.{le_bytes_8, from_le_bytes-to_le_bytes_4, from_le_bytes-to_le_bytes_8}
 use Rattle.usb_base.specs.Number.{le, le_at, part, AreBytes}
 use Rattle.usb_base.proofs.Numbers.{then, length-part, AreBytes-part, part-append, le_spelled_32, le_at-append_32, le_at-below_32}
 use Rattle.redir_wire.specs.declared.packet.Header.{Header}
-use Rattle.redir_wire.specs.Header.{head_size, head_bytes, id_at, header_at, IdFits}
+use Rattle.redir_wire.specs.Header.{head_size, head_bytes, id_width, header_at, IdFits}
 
 -- ---- numbers of 64 bits
 
@@ -24,6 +25,10 @@ le_at-below_64 place bytes h = let f = AreBytes-part place 8 bytes h in omega (a
 
 -- ---- headers
 
+-- how many bytes the packet has whose header begins so
+abbrev pub size : Bool → List ℕ → ℕ
+size wide b = cond (nat_lt (length b) 8) (head_size wide) (head_size wide + le_at w32 4 b)
+
 pub size_least : (wide : Bool) → 12 ≤ head_size wide
 size_least true = omega arith
 size_least false = omega arith
@@ -37,7 +42,7 @@ pub head_spelled : (wide : Bool) (b : List ℕ) → AreBytes b → head_size wid
 head_spelled true b are there = then 8 8 b _ _ (then 4 4 b _ _ (le_spelled_32 0 b are (omega arith)) (le_spelled_32 4 b are (omega arith))) (le_spelled_64 8 b are (omega arith))
 head_spelled false b are there = then 8 4 b _ _ (then 4 4 b _ _ (le_spelled_32 0 b are (omega arith)) (le_spelled_32 4 b are (omega arith))) (le_spelled_32 8 b are (omega arith))
 
-pub id_fits : (wide : Bool) (b : List ℕ) → AreBytes b → IdFits wide (id_at wide b)
+pub id_fits : (wide : Bool) (b : List ℕ) → AreBytes b → IdFits wide (le_at (id_width wide) 8 b)
 id_fits true b are = le_at-below_64 8 b are
 id_fits false b are = le_at-below_32 8 b are
 
@@ -51,7 +56,7 @@ unfolding le le_at
 length_there true h more fits = from_le_bytes-to_le_bytes_4 h.length fits
 length_there false h more fits = from_le_bytes-to_le_bytes_4 h.length fits
 
-id_there : (wide : Bool) (h : Header) (more : List ℕ) → IdFits wide h.id → id_at wide (head_bytes wide h ++ more) ≡ h.id
+id_there : (wide : Bool) (h : Header) (more : List ℕ) → IdFits wide h.id → le_at (id_width wide) 8 (head_bytes wide h ++ more) ≡ h.id
 unfolding le le_at
 id_there true h more fits = from_le_bytes-to_le_bytes_8 h.id fits
 id_there false h more fits = from_le_bytes-to_le_bytes_4 h.id fits
@@ -66,7 +71,7 @@ header_there wide h more kind_fits length_fits fits =
 pub behind_there : (wide : Bool) (h : Header) (more : List ℕ) → drop (head_size wide) (head_bytes wide h ++ more) ≡ more
 behind_there wide h more = drop_at (head_bytes wide h) more (head_size wide) (length_head wide h)
 
-id_more : (wide : Bool) (b more : List ℕ) → head_size wide ≤ length b → id_at wide (b ++ more) ≡ id_at wide b
+id_more : (wide : Bool) (b more : List ℕ) → head_size wide ≤ length b → le_at (id_width wide) 8 (b ++ more) ≡ le_at (id_width wide) 8 b
 id_more true b more there = le_at-append_64 8 b more there
 id_more false b more there = le_at-append_32 8 b more there
 

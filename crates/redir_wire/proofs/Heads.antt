@@ -1,8 +1,6 @@
 -- The checks of a header, and that headers are sound.
-use Rattle.std.proofs.Common.{◌≡◌, ℕ, ◌^◌, ◌<◌, ◌≤◌, Bool, true, List, [], ◌++◌, length, take, None, refl, sym, ap, subst, ◌∙◌, arith}
+use Rattle.std.proofs.Common.{◌≡◌, ℕ, ◌≤◌, Bool, List, [], ◌++◌, length, take, None, sym, ap, subst, arith}
 use Rattle.std.specs.Int.{w32}
-use Rattle.std.proofs.lemmas.Bool.{leb-true}
-use Rattle.std.proofs.lemmas.List.{append-nil}
 use Rattle.usb_base.specs.Number.{le_at, AreBytes}
 use Rattle.usb_base.specs.declared.reason.Reason.{Reason}
 use Rattle.usb_base.proofs.Numbers.{le_at-append_32, le_at-below_32}
@@ -11,13 +9,15 @@ use Rattle.packet_stream.proofs.Formats.{AreSteady, stays_wrong, whole_parts}
 use Rattle.redir_wire.specs.declared.packet.Caps.{Caps}
 use Rattle.redir_wire.specs.declared.packet.Way.{Way}
 use Rattle.redir_wire.specs.declared.packet.Header.{Header}
-use Rattle.redir_wire.specs.Header.{is_wide, head_size, head_bytes, header_at, head_checks, IsHeader, headers, is_in_turn, is_known, is_agreed, is_on_its_way, is_in_limit, is_its_length}
-use Rattle.redir_wire.proofs.Checks.{Passed, passed, none_passed}
+use Rattle.redir_wire.specs.Table.{goes}
+use Rattle.redir_wire.specs.Header.{is_wide, head_size, head_bytes, header_at, head_checks, IsHeader, headers, row_says, is_its_length}
+use Rattle.redir_wire.proofs.Checks.{Passed}
 use Rattle.redir_wire.proofs.Headers.{size_least, length_head, head_spelled, id_fits, kind_there, length_there, header_there}
+use Rattle.redir_wire.proofs.Says.{is_in_turn, is_known, is_agreed, is_in_limit, alone, none_alone, passes, header_says, is_header}
 
 -- the checks of a whole header say that it is one
 pub header_passed : (first : Bool) (caps : Caps) (way : Way) (b : List ℕ) → AreBytes b → 8 ≤ length b → Passed (head_checks first caps way) b → IsHeader first caps way (header_at (is_wide first caps) b)
-header_passed first caps way b are there p = record {
+header_passed first caps way b are there p = is_header first caps way (header_at (is_wide first caps) b) (record {
   in_turn = p.0 (omega arith);
   known = p.1.0 (omega arith);
   agreed = p.1.1.0 (omega arith);
@@ -26,21 +26,9 @@ header_passed first caps way b are there p = record {
   its_length = p.1.1.1.1.1.0 (omega arith);
   kind_fits = le_at-below_32 0 b are;
   id_fits = id_fits (is_wide first caps) b are;
-}
+})
 
 -- a header passes its checks wherever its numbers stand
-pub passes : (first : Bool) (caps : Caps) (way : Way) (h : Header) (b : List ℕ) → IsHeader first caps way h → le_at w32 0 b ≡ h.kind → le_at w32 4 b ≡ h.length → Passed (head_checks first caps way) b
-passes first caps way h b is kind size = (
-  λ _. ap (is_in_turn first) kind ∙ is.in_turn,
-  (
-    λ _. ap is_known kind ∙ is.known,
-    (
-      λ _. ap (is_agreed caps) kind ∙ is.agreed,
-      (λ _. ap (is_on_its_way way) kind ∙ is.on_its_way, (λ _. ap is_in_limit size ∙ is.in_limit, (λ _. (λ i. is_its_length caps (kind i) (size i)) ∙ is.its_length, tt))),
-    ),
-  ),
-)
-
 kind_more : (b more : List ℕ) → 4 ≤ length b → le_at w32 0 (b ++ more) ≡ le_at w32 0 b
 kind_more b more there = le_at-append_32 0 b more there
 
@@ -57,7 +45,7 @@ heads_steady first caps way ds n le steady = (
       λ b more there. ap (is_agreed caps) (kind_more b more there),
       (
         omega arith,
-        λ b more there. ap (is_on_its_way way) (kind_more b more there),
+        λ b more there. ap (row_says (goes way)) (kind_more b more there),
         (
           omega arith,
           λ b more there. ap is_in_limit (le_at-append_32 4 b more there),
@@ -68,13 +56,7 @@ heads_steady first caps way ds n le steady = (
   ),
 )
 
-pub limit_below : (n : ℕ) → is_in_limit n ≡ true → n < 2 ^ 32
-limit_below n e = let h = leb-true n 16777280 e in omega arith
-
 -- ---- headers are sound
-
-alone : (cs : List (Check Reason)) (b : List ℕ) → wrong_at cs b ≡ None → Passed cs b
-alone cs b e = (passed cs [] b (ap (λ (ds : List (Check Reason)). wrong_at ds b) (append-nil cs) ∙ e)).0
 
 found : (first : Bool) (caps : Caps) (way : Way) (b : List ℕ) → AreBytes b → wrong_at (head_checks first caps way) b ≡ None → head_size (is_wide first caps) ≤ length b →
     (head_bytes (is_wide first caps) (header_at (is_wide first caps) b) ≡ take (head_size (is_wide first caps)) b) × IsHeader first caps way (header_at (is_wide first caps) b)
@@ -86,15 +68,14 @@ right : (first : Bool) (caps : Caps) (way : Way) (h : Header) (more : List ℕ) 
 right first caps way h more is =
     let wide = is_wide first caps in
     let b = head_bytes wide h ++ more in
-    let p = passes first caps way h b is (kind_there wide h more is.kind_fits) (length_there wide h more (limit_below h.length is.in_limit)) in
-    ap (λ (ds : List (Check Reason)). wrong_at ds b) (sym (append-nil (head_checks first caps way))) ∙ none_passed (head_checks first caps way) [] b p refl
+    none_alone (head_checks first caps way) b (passes first caps way h b (header_says is) (kind_there wide h more is.kind_fits) (length_there wide h more is.length_fits))
 
 pub headers_sound : (first : Bool) (caps : Caps) (way : Way) → IsSound (headers first caps way)
 headers_sound first caps way = record {
   found = found first caps way;
   right = right first caps way;
   size = λ h more is. sym (length_head (is_wide first caps) h);
-  packet = λ h more is. header_there (is_wide first caps) h more is.kind_fits (limit_below h.length is.in_limit) is.id_fits;
+  packet = λ h more is. header_there (is_wide first caps) h more is.kind_fits is.length_fits is.id_fits;
   some = λ b. let least = size_least (is_wide first caps) in omega arith;
   steady = stays_wrong (head_checks first caps way) 0 (heads_steady first caps way [] 0 (omega arith) tt);
 }

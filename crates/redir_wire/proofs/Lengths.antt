@@ -1,19 +1,20 @@
 -- How many bytes a packet's fields have.
 use Rattle.std.proofs.Common.{◌≡◌, ℕ, ◌+◌, ◌*◌, ◌%◌, ◌/◌, Bool, true, false, List, [], ◌∷◌, length, arith, refl, cond, ◌∙◌}
-use Rattle.std.specs.Int.{w16}
+use Rattle.std.specs.Int.{w16, w32}
 use Rattle.std.proofs.lemmas.List.{length-append}
 use Rattle.usb_base.proofs.Numbers.{length-le}
 use Rattle.redir_wire.specs.declared.packet.Caps.{Caps}
 use Rattle.redir_wire.specs.declared.packet.Connect.{Connect}
+use Rattle.redir_wire.specs.declared.packet.InterfaceInfo.{InterfaceInfo}
 use Rattle.redir_wire.specs.declared.packet.EpInfo.{EpInfo}
 use Rattle.redir_wire.specs.declared.packet.RedirControl.{RedirControl}
 use Rattle.redir_wire.specs.declared.packet.RedirControl.TheVariants as controls
 use Rattle.redir_wire.specs.Capability.{has}
 use Rattle.redir_wire.specs.Field.{Field, Bytes, Shorts, Longs, ByteTable, ShortTable, Lower, Upper, field_bytes, wire_bytes}
 use Rattle.redir_wire.specs.Table.{plain_row, has_more}
-use Rattle.redir_wire.specs.Spelling.{kind_of, length_of, connect_fields, endpoint_fields, fields_of, fields}
+use Rattle.redir_wire.specs.Spelling.{kind_of, length_of, fields_of, fields}
 use Rattle.redir_wire.specs.Ranges.{Ranges, EpRanges}
-use Rattle.redir_wire.proofs.Words.{length-words, length-halves}
+use Rattle.redir_wire.proofs.Words.{length-numbers}
 
 -- ---- of any fields
 
@@ -32,10 +33,10 @@ size_of (f ∷ fs) = field_size f + size_of fs
 
 length_field : (f : Field) → length (field_bytes f) ≡ field_size f
 length_field (Bytes ns) = refl
-length_field (Shorts ns) = length-halves ns
-length_field (Longs ns) = length-words ns
+length_field (Shorts ns) = length-numbers w16 ns
+length_field (Longs ns) = length-numbers w32 ns
 length_field (ByteTable ns) = refl
-length_field (ShortTable ns) = length-halves ns
+length_field (ShortTable ns) = length-numbers w16 ns
 length_field (Lower n) = length-le w16 (n % 65536)
 length_field (Upper n) = length-le w16 (n / 65536)
 
@@ -44,6 +45,15 @@ length_wire [] = refl
 length_wire (f ∷ fs) = omega (arith, length-append (field_bytes f) (wire_bytes fs), length_field f, length_wire fs)
 
 -- ---- of a packet
+
+abbrev pub connect_fields : Bool → Connect → List Field
+connect_fields more c = fields_of more (controls.Connect c)
+
+abbrev pub interface_fields : InterfaceInfo → List Field
+interface_fields i = fields_of false (controls.InterfaceInfo i)
+
+abbrev pub endpoint_fields : Bool → EpInfo → List Field
+endpoint_fields more e = fields_of more (controls.EpInfo e)
 
 size_connect : (sent : Bool) (c : Connect) → size_of (connect_fields sent c) ≡ 8 + cond sent 2 0
 size_connect true c = refl

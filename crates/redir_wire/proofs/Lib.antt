@@ -4,6 +4,7 @@ pub mod Behind
 pub mod EpTable
 pub mod Checks
 pub mod Headers
+pub mod Says
 pub mod Heads
 pub mod Packets
 pub mod Past

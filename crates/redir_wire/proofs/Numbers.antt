@@ -11,7 +11,7 @@ use Rattle.redir_wire.specs.declared.kind.Kind.{Kind}
 use Rattle.redir_wire.specs.declared.kind.Kind.TheVariants.{Plain, Carrying}
 use Rattle.redir_wire.specs.declared.kind.TypeRow.{TypeRow}
 use Rattle.redir_wire.specs.Table.{plain_row, data_row, row_of, plain_kinds, data_kinds, plain_numbered, data_numbered, kind_numbered, is_left_out}
-use Rattle.redir_wire.specs.Header.{row_says, is_known}
+use Rattle.redir_wire.specs.Header.{row_says}
 
 -- ---- a number that was found is its type's
 
@@ -61,7 +61,7 @@ or_some : (t : Bool) (o : Option Kind) (k : Kind) → o ≡ Some k → (t || is_
 or_some true o k e = refl
 or_some false o k e = rw e refl
 
-pub known : (k : Kind) → is_known (row_of k).number ≡ true
+pub known : (k : Kind) → (is_left_out (row_of k).number || is_some (kind_numbered (row_of k).number)) ≡ true
 known k = or_some (is_left_out (row_of k).number) (kind_numbered (row_of k).number) k (kind_again k)
 
 not_left_out : (k : Kind) → is_left_out (row_of k).number ≡ false

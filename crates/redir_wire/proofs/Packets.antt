@@ -8,17 +8,19 @@ use Rattle.std.proofs.lemmas.Grind.{common_steps}
 use Rattle.std.proofs.lemmas.List.{length-append, length-take, drop-append-le}
 use Rattle.usb_base.specs.Number.{le_at, AreBytes}
 use Rattle.usb_base.specs.declared.reason.Reason.{Reason}
+use Rattle.usb_base.specs.declared.reason.Reason.TheVariants.{UnknownType}
 use Rattle.usb_base.proofs.Numbers.{AreBytes-drop, then, le_at-append_32}
 use Rattle.packet_stream.specs.Format.{Check, wrong_at, IsSound}
 use Rattle.packet_stream.proofs.Formats.{AreSteady, stays_wrong}
 use Rattle.redir_wire.specs.declared.packet.Caps.{Caps}
 use Rattle.redir_wire.specs.declared.packet.Way.{Way}
 use Rattle.redir_wire.specs.declared.packet.Header.{Header}
-use Rattle.redir_wire.specs.Header.{is_wide, head_size, head_bytes, header_at, head_checks, IsHeader}
-use Rattle.redir_wire.specs.Bodies.{BodyCheck, Bodies, with_header, behind_head, own_check, size, IsPacket, packets}
+use Rattle.redir_wire.specs.Header.{is_wide, head_size, head_bytes, header_at, type_check, head_checks, IsHeader}
+use Rattle.redir_wire.specs.Bodies.{BodyCheck, Bodies, with_header, behind_head, IsPacket, packets}
 use Rattle.redir_wire.proofs.Checks.{passed, none_passed}
-use Rattle.redir_wire.proofs.Heads.{header_passed, passes, heads_steady, limit_below}
-use Rattle.redir_wire.proofs.Headers.{size_least, length_head, head_spelled, kind_there, length_there, header_there, behind_there, header_more}
+use Rattle.redir_wire.proofs.Heads.{header_passed, heads_steady}
+use Rattle.redir_wire.proofs.Says.{is_in_limit, passes, header_says}
+use Rattle.redir_wire.proofs.Headers.{size, size_least, length_head, head_spelled, kind_there, length_there, header_there, behind_there, header_more}
 
 -- ---- what bodies owe
 
@@ -70,7 +72,11 @@ none_of f (Some w) e = absurd cc
 -- ---- what is found
 
 abbrev pub headed : {P : Type 0} → Bodies P → Bool → Caps → Way → List (Check Reason)
-headed f first caps way = own_check f ∷ head_checks first caps way
+headed f first caps way = type_check UnknownType f.owns ∷ head_checks first caps way
+
+-- a length that was checked
+pub limit_there : {P : Type 0} (f : Bodies P) (first : Bool) (caps : Caps) (way : Way) (b : List ℕ) → wrong_at (packets f first caps way).checks b ≡ None → 8 ≤ length b → is_in_limit (le_at w32 4 b) ≡ true
+limit_there f first caps way b right there = (passed (headed f first caps way) (behind_head (is_wide first caps) f.checks) b right).0.1.1.1.1.1.0 there
 
 size_long : (wide : Bool) (b : List ℕ) → size wide b ≤ length b → (head_size wide + le_at w32 4 b ≤ length b) × (size wide b ≡ head_size wide + le_at w32 4 b)
 size_long wide b there = let least = size_least wide in (grind (arith, common_steps), grind (arith, common_steps))
@@ -124,7 +130,7 @@ spelled f first caps way p more is =
     let all = assoc f wide p more in
     let rest = f.spelling p.1 ++ more in
     let kind_fits = is.header.kind_fits in
-    let length_fits = limit_below p.0.length is.header.in_limit in
+    let length_fits = is.header.length_fits in
     record {
       kind = ap (le_at w32 0) all ∙ kind_there wide p.0 rest kind_fits;
       size = ap (le_at w32 4) all ∙ length_there wide p.0 rest length_fits;
@@ -146,7 +152,7 @@ right f first caps way bodies p more is =
     let body = bodies.right p more is in
     let none : wrong_at (behind_head wide f.checks) b ≡ None =
     wrong_behind wide f.checks b long ∙ ap (option_map (past_head wide)) ((λ i. wrong_at (with_header (s.header i) f.checks) (s.behind i)) ∙ body) in
-    none_passed (headed f first caps way) (behind_head wide f.checks) b (λ _. ap f.owns (s.kind ∙ is.kind) ∙ bodies.owned p.1, passes first caps way p.0 b is.header s.kind s.size) none
+    none_passed (headed f first caps way) (behind_head wide f.checks) b (λ _. ap f.owns (s.kind ∙ is.kind) ∙ bodies.owned p.1, passes first caps way p.0 b (header_says is.header) s.kind s.size) none
 
 size_by : (wide : Bool) (n m : ℕ) (b : List ℕ) → 8 ≤ length b → le_at w32 4 b ≡ n → head_size wide + n ≡ m → size wide b ≡ m
 size_by wide n m b long e f = rw (le-ltb (length b) 8 long, e) f

@@ -8,18 +8,19 @@ use Rattle.std.proofs.lemmas.Grind.{common_steps}
 use Rattle.std.proofs.lemmas.List.{length-append, append-nil}
 use Rattle.usb_base.specs.Number.{le_at}
 use Rattle.usb_base.specs.declared.reason.Reason.{Reason}
+use Rattle.usb_base.specs.declared.reason.Reason.TheVariants.{UnknownType}
 use Rattle.packet_stream.specs.Format.{Check, wrong_at, Found, Whole, Short, Wrong, reading_by, reading}
 use Rattle.packet_stream.proofs.Awaiting.{short_parts}
 use Rattle.packet_stream.proofs.Formats.{none_before, wrong_parts, wrong_reading}
 use Rattle.redir_wire.specs.declared.packet.Caps.{Caps}
 use Rattle.redir_wire.specs.declared.packet.Way.{Way}
 use Rattle.redir_wire.specs.declared.packet.Header.{Header}
-use Rattle.redir_wire.specs.Header.{is_wide, head_size, head_bytes, header_at, head_checks, IsHeader, headers}
-use Rattle.redir_wire.specs.Bodies.{Bodies, with_header, behind, behind_head, own_check, size, packets}
+use Rattle.redir_wire.specs.Header.{is_wide, head_size, head_bytes, header_at, type_check, head_checks, IsHeader, headers}
+use Rattle.redir_wire.specs.Bodies.{Bodies, with_header, behind, behind_head, packets}
 use Rattle.redir_wire.specs.Past.{found_past}
 use Rattle.redir_wire.proofs.Checks.{passed, skip, wrong_front}
-use Rattle.redir_wire.proofs.Heads.{passes, limit_below}
-use Rattle.redir_wire.proofs.Headers.{size_least, length_head, kind_there, header_there, behind_there}
+use Rattle.redir_wire.proofs.Says.{passes, header_says}
+use Rattle.redir_wire.proofs.Headers.{size, size_least, length_head, kind_there, header_there, behind_there}
 use Rattle.redir_wire.proofs.Packets.{AreSteadyBehind, headed, past_head, wrong_behind, behind_steady}
 
 -- ---- behind a whole header
@@ -55,13 +56,13 @@ read_past f first caps way b there own header =
     let wide = is_wide first caps in
     let least = size_least wide in
     let w = wrong_at (with_header (header_at wide b) f.checks) (drop (head_size wide) b) in
-    ap (reading_by (packets f first caps way) b) (skip (headed f first caps way) (behind_head wide f.checks) b (λ _. own, passes first caps way (header_at wide b) b header refl refl) ∙ wrong_behind wide f.checks b there)
+    ap (reading_by (packets f first caps way) b) (skip (headed f first caps way) (behind_head wide f.checks) b (λ _. own, passes first caps way (header_at wide b) b (header_says header) refl refl) ∙ wrong_behind wide f.checks b there)
     ∙ past_by f first caps way b (omega arith) there w
 
 -- ---- without a whole header
 
-own_passes : {P : Type 0} (f : Bodies P) (b : List ℕ) (cs : List (Check Reason)) → (4 ≤ length b → f.owns (le_at w32 0 b) ≡ true) → wrong_at (own_check f ∷ cs) b ≡ wrong_at cs b
-own_passes f b cs own = skip (own_check f ∷ []) cs b (own, tt)
+own_passes : {P : Type 0} (f : Bodies P) (b : List ℕ) (cs : List (Check Reason)) → (4 ≤ length b → f.owns (le_at w32 0 b) ≡ true) → wrong_at (type_check UnknownType f.owns ∷ cs) b ≡ wrong_at cs b
+own_passes f b cs own = skip (type_check UnknownType f.owns ∷ []) cs b (own, tt)
 
 pub read_wrong : {P : Type 0} (f : Bodies P) (first : Bool) (caps : Caps) (way : Way) (b : List ℕ) (place : ℕ) (reason : Reason) → (4 ≤ length b → f.owns (le_at w32 0 b) ≡ true) →
     reading (headers first caps way) b ≡ Wrong place reason → reading (packets f first caps way) b ≡ Wrong place reason
@@ -91,8 +92,7 @@ pub read_behind : {P : Type 0} (f : Bodies P) (first : Bool) (caps : Caps) (way 
 read_behind f first caps way h b is own =
     let wide = is_wide first caps in
     let all = head_bytes wide h ++ b in
-    let size_fits = limit_below h.length is.in_limit in
-    let same = header_there wide h b is.kind_fits size_fits is.id_fits in
+    let same = header_there wide h b is.kind_fits is.length_fits is.id_fits in
     let there : head_size wide ≤ length all = omega (arith, length-append (head_bytes wide h) b, length_head wide h) in
     read_past f first caps way all there (ap f.owns (kind_there wide h b is.kind_fits) ∙ own) (subst (IsHeader first caps way) (sym same) is)
     ∙ (λ i. found_past wide (same i) (reading (behind f (same i)) (behind_there wide h b i)))

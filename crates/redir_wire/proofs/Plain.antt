@@ -17,11 +17,14 @@ use Rattle.redir_wire.specs.declared.kind.PlainKind.{PlainKind}
 use Rattle.redir_wire.specs.declared.kind.Kind.TheVariants.{Plain}
 use Rattle.redir_wire.specs.Capability.{has}
 use Rattle.redir_wire.specs.Table.{plain_row, plain_numbered, has_length, has_wanted, goes}
-use Rattle.redir_wire.specs.Header.{check, IsHeader}
+use Rattle.packet_stream.specs.Format.{check}
+use Rattle.redir_wire.specs.Header.{IsHeader}
+use Rattle.redir_wire.proofs.Says.{header_says, is_header}
 use Rattle.redir_wire.specs.Bodies.{with_header, IsPacket}
 use Rattle.redir_wire.specs.Spelling.{kind_of, number_of, fields, length_of, header_of, is_hello}
 use Rattle.redir_wire.specs.Ranges.{Ranges, IsWritable, IsControl}
-use Rattle.redir_wire.specs.Places.{fields_at, control_at}
+use Rattle.redir_wire.specs.Table.{fields_at}
+use Rattle.redir_wire.specs.Plain.{control_at}
 use Rattle.redir_wire.specs.Plain.{is_plain, count_check, plain}
 use Rattle.redir_wire.specs.Plain as wire
 use Rattle.redir_wire.specs.Written.{CanWrite, packet_bytes}
@@ -50,9 +53,9 @@ few_by k n e is = grind (arith, common_steps)
 
 found_with : (first : Bool) (caps : Caps) (way : Way) (h : Header) (b : List ℕ) → AreBytes b → IsHeader first caps way h → is_plain h.kind ≡ true → wrong_at (with_header h (count_check ∷ [])) b ≡ None →
     h.length ≤ length b → (o : Option PlainKind) → plain_numbered h.kind ≡ o → IsFound (wire.controls caps) h b
-found_with first caps way h b are header plain none there None e = absurd (is_numbered caps h plain header.its_length e)
+found_with first caps way h b are header plain none there None e = absurd (is_numbered caps h plain (header_says header).its_length e)
 found_with first caps way h b are header plain none there (Some k) e =
-    let its = sym (length_by caps h k e) ∙ header.its_length in
+    let its = sym (length_by caps h k e) ∙ (header_says header).its_length in
     let few : (plain_row k).number ≡ 4 → 4 ≤ length b → le_at w32 0 b ≤ 32 =
     λ is long. few_by h.kind (le_at w32 0 b) (none_first (check 0 4 count_check.reason (count_check.passes h)) [] b none long) (plain_number h.kind k e ∙ is) in
     found_by caps h b k e (found_as caps h.length k b are its there few)
@@ -114,7 +117,7 @@ pub packet_written : (way : Way) (caps : Caps) (id : ℕ) (p : RedirControl) →
 packet_written way caps id p ranges can goes_so =
     let k = Plain (kind_of p) in
     record {
-      header = record {
+      header = is_header (is_hello p) caps way (header_of id caps p) (record {
         in_turn = in_turn (number_of p == 0);
         known = known k;
         agreed = agreed_by caps k (has_wanted caps) can.agreed;
@@ -123,7 +126,7 @@ packet_written way caps id p ranges can goes_so =
         its_length = says (λ r. has_length caps r (length_of caps p)) k ∙ its_length caps p can.writable;
         kind_fits = number_fits k;
         id_fits = can.id_fits;
-      };
+      });
       kind = refl;
       length_is = sym (length_fields caps p ranges);
       fits = record { ranges = ranges; writable = can.writable };

@@ -1,99 +1,90 @@
--- Words read, spelled again and read again.
-use Rattle.std.proofs.Common.{◌≡◌, ℕ, zero, suc, ◌+◌, ◌*◌, ◌<◌, ◌≤◌, List, [], ◌∷◌, ◌++◌, length, take, drop, set, replicate, refl, sym, ap, ◌∙◌, arith, add-one}
-use Rattle.std.specs.Int.{w16, w32, from_le_bytes}
-use Rattle.std.proofs.lemmas.List.{drop-drop, length-append, length-drop}
+-- Numbers of one width read, spelled again and read again.
+use Rattle.std.proofs.Common.{◌≡◌, ℕ, zero, suc, ◌+◌, ◌*◌, ◌^◌, ◌<◌, ◌≤◌, List, [], ◌∷◌, ◌++◌, length, take, drop, set, replicate, refl, sym, ap, ◌∙◌, append_assoc, arith, add-one}
+use Rattle.std.specs.Int.{Width, w16, w32, byte_len, from_le_bytes}
+use Rattle.std.proofs.lemmas.List.{drop-drop, drop_at, length-append, length-drop}
 use Rattle.std.proofs.lemmas.Grind.{take-set_at}
 use Rattle.std.proofs.lemmas.Nat.{from_le_bytes-to_le_bytes_2, from_le_bytes-to_le_bytes_4}
-use Rattle.usb_base.specs.Number.{le, le_at, AreBytes}
+use Rattle.usb_base.specs.Number.{le, le_at, part, AreBytes}
 use Rattle.usb_base.proofs.Numbers.{AreBytes-drop, then, le_spelled_16, le_spelled_32, length-le, le_at-below_16, le_at-below_32}
-use Rattle.redir_wire.specs.Words.{words, words_of, AreWords, halves, halves_of, AreHalves}
+use Rattle.redir_wire.specs.Words.{numbers, numbers_of, AreNumbers}
 
--- ---- of 32 bits
+-- ---- how many
 
-pub length-words_of : (n : ℕ) (b : List ℕ) → length (words_of n b) ≡ n
-length-words_of zero b = refl
-length-words_of (suc n) b = ap suc (length-words_of n (drop 4 b))
+pub length-numbers_of : (w : Width) (n : ℕ) (b : List ℕ) → length (numbers_of w n b) ≡ n
+unfolding numbers_of
+length-numbers_of w zero b = refl
+length-numbers_of w (suc n) b = ap suc (length-numbers_of w n (drop (byte_len w) b))
 
-pub length-words : (ws : List ℕ) → length (words ws) ≡ length ws * 4
-length-words [] = refl
-length-words (w ∷ ws) = omega (arith, length-append (le w32 w) (words ws), length-le w32 w, length-words ws)
+pub length-numbers : (w : Width) (ns : List ℕ) → length (numbers w ns) ≡ length ns * byte_len w
+length-numbers w [] = omega arith
+length-numbers w (n ∷ ns) = omega (arith, length-append (le w n) (numbers w ns), length-le w n, length-numbers w ns)
 
--- the word after the first n
-le_at-drop : (n : ℕ) (b : List ℕ) → le_at w32 (n * 4) (drop 4 b) ≡ le_at w32 (suc n * 4) b
+-- ---- one after another
+
+-- the number after the first n
+le_at-drop : (w : Width) (n : ℕ) (b : List ℕ) → le_at w (n * byte_len w) (drop (byte_len w) b) ≡ le_at w (suc n * byte_len w) b
 unfolding le_at
-le_at-drop n b = ap (λ (x : List ℕ). from_le_bytes w32 (take 4 x)) (drop-drop (n * 4) 4 b ∙ ap (λ (m : ℕ). drop m b) (omega arith))
+le_at-drop w n b = ap (λ (x : List ℕ). from_le_bytes w (take (byte_len w) x)) (drop-drop (n * byte_len w) (byte_len w) b ∙ ap (λ (m : ℕ). drop m b) (omega arith))
 
-next : (n : ℕ) (b : List ℕ) → words_of (suc n) b ≡ words_of n b ++ le_at w32 (n * 4) b ∷ []
-next zero b = refl
-next (suc n) b = ap (λ (x : List ℕ). le_at w32 0 b ∷ x) (next n (drop 4 b) ∙ ap (λ (w : ℕ). words_of n (drop 4 b) ++ w ∷ []) (le_at-drop n b))
+next : (w : Width) (n : ℕ) (b : List ℕ) → numbers_of w (suc n) b ≡ numbers_of w n b ++ le_at w (n * byte_len w) b ∷ []
+unfolding numbers_of
+next w zero b = let none : 0 ≡ 0 * byte_len w = omega arith in ap (λ (m : ℕ). le_at w m b ∷ []) none
+next w (suc n) b =
+    ap (λ (x : List ℕ). le_at w 0 b ∷ x) (next w n (drop (byte_len w) b) ∙ ap (λ (m : ℕ). numbers_of w n (drop (byte_len w) b) ++ m ∷ []) (le_at-drop w n b))
 
-pub words_of_next : (n : ℕ) (b : List ℕ) → words_of (n + 1) b ≡ words_of n b ++ le_at w32 (n * 4) b ∷ []
-words_of_next n b = ap (λ (m : ℕ). words_of m b) (add-one n) ∙ next n b
+pub next_word : (n : ℕ) (b : List ℕ) → numbers_of w32 (n + 1) b ≡ numbers_of w32 n b ++ le_at w32 (n * 4) b ∷ []
+next_word n b = ap (λ (m : ℕ). numbers_of w32 m b) (add-one n) ∙ next w32 n b
 
-pub words_spelled : (n : ℕ) (b : List ℕ) → AreBytes b → n * 4 ≤ length b → words (words_of n b) ≡ take (n * 4) b
-words_spelled zero b bytes there = refl
-words_spelled (suc n) b bytes there =
-    let left : n * 4 ≤ length (drop 4 b) = omega (arith, length-drop 4 b) in
-    then 4 (n * 4) b _ _ (le_spelled_32 0 b bytes (omega arith)) (words_spelled n (drop 4 b) (AreBytes-drop 4 b bytes) left)
-    ∙ ap (λ (m : ℕ). take m b) (omega arith)
-
-pub words_ranges : (n : ℕ) (b : List ℕ) → AreBytes b → AreWords (words_of n b)
-words_ranges zero b bytes = tt
-words_ranges (suc n) b bytes = (le_at-below_32 0 b bytes, words_ranges n (drop 4 b) (AreBytes-drop 4 b bytes))
-
-pub words_again : (ws : List ℕ) (more : List ℕ) → AreWords ws → words_of (length ws) (words ws ++ more) ≡ ws
-unfolding le le_at
-words_again [] more fits = refl
-words_again (w ∷ ws) more fits = rw (from_le_bytes-to_le_bytes_4 w fits.0, words_again ws more fits.1) refl
-
--- ---- of 16 bits
-
-pub length-halves_of : (n : ℕ) (b : List ℕ) → length (halves_of n b) ≡ n
-unfolding halves_of
-length-halves_of zero b = refl
-length-halves_of (suc n) b = ap suc (length-halves_of n (drop 2 b))
-
-pub length-halves : (hs : List ℕ) → length (halves hs) ≡ length hs * 2
-length-halves [] = refl
-length-halves (h ∷ hs) = omega (arith, length-append (le w16 h) (halves hs), length-le w16 h, length-halves hs)
-
-le_at-drop_2 : (n : ℕ) (b : List ℕ) → le_at w16 (n * 2) (drop 2 b) ≡ le_at w16 (suc n * 2) b
-unfolding le_at
-le_at-drop_2 n b = ap (λ (x : List ℕ). from_le_bytes w16 (take 2 x)) (drop-drop (n * 2) 2 b ∙ ap (λ (m : ℕ). drop m b) (omega arith))
-
--- the half after the first n
-pub halves_of_next : (n : ℕ) (b : List ℕ) → halves_of (suc n) b ≡ halves_of n b ++ le_at w16 (n * 2) b ∷ []
-unfolding halves_of
-halves_of_next zero b = refl
-halves_of_next (suc n) b = ap (λ (x : List ℕ). le_at w16 0 b ∷ x) (halves_of_next n (drop 2 b) ∙ ap (λ (w : ℕ). halves_of n (drop 2 b) ++ w ∷ []) (le_at-drop_2 n b))
-
-pub halves_spelled : (n : ℕ) (b : List ℕ) → AreBytes b → n * 2 ≤ length b → halves (halves_of n b) ≡ take (n * 2) b
-unfolding halves_of
-halves_spelled zero b bytes there = refl
-halves_spelled (suc n) b bytes there =
-    let left : n * 2 ≤ length (drop 2 b) = omega (arith, length-drop 2 b) in
-    then 2 (n * 2) b _ _ (le_spelled_16 0 b bytes (omega arith)) (halves_spelled n (drop 2 b) (AreBytes-drop 2 b bytes) left)
-    ∙ ap (λ (m : ℕ). take m b) (omega arith)
-
-pub halves_ranges : (n : ℕ) (b : List ℕ) → AreBytes b → AreHalves (halves_of n b)
-unfolding halves_of
-halves_ranges zero b bytes = tt
-halves_ranges (suc n) b bytes = (le_at-below_16 0 b bytes, halves_ranges n (drop 2 b) (AreBytes-drop 2 b bytes))
-
-pub halves_again : (hs : List ℕ) (more : List ℕ) → AreHalves hs → halves_of (length hs) (halves hs ++ more) ≡ hs
-unfolding le le_at halves_of
-halves_again [] more fits = refl
-halves_again (h ∷ hs) more fits = rw (from_le_bytes-to_le_bytes_2 h fits.0, halves_again hs more fits.1) refl
-
--- one half after another, stored in an array
-pub next_half : (b hs : List ℕ) (place n half : ℕ) → half ≡ le_at w16 (place + n * 2) b → n < length hs → take n hs ≡ halves_of n (drop place b) →
-    take (n + 1) (set hs n half) ≡ halves_of (n + 1) (drop place b)
+-- one after another, stored in an array
+pub next_half : (b hs : List ℕ) (place n half : ℕ) → half ≡ le_at w16 (place + n * 2) b → n < length hs → take n hs ≡ numbers_of w16 n (drop place b) →
+    take (n + 1) (set hs n half) ≡ numbers_of w16 (n + 1) (drop place b)
 unfolding le_at
 next_half b hs place n half is less told =
     let here : half ≡ le_at w16 (n * 2) (drop place b) =
     is ∙ ap (λ (x : List ℕ). from_le_bytes w16 (take 2 x)) (ap (λ (m : ℕ). drop m b) (omega arith) ∙ sym (drop-drop (n * 2) place b)) in
-    take-set_at hs n (n + 1) half refl less ∙ (λ i. told i ++ here i ∷ []) ∙ sym (halves_of_next n (drop place b)) ∙ ap (λ (m : ℕ). halves_of m (drop place b)) (sym (add-one n))
+    take-set_at hs n (n + 1) half refl less ∙ (λ i. told i ++ here i ∷ []) ∙ sym (next w16 n (drop place b)) ∙ ap (λ (m : ℕ). numbers_of w16 m (drop place b)) (sym (add-one n))
 
-pub zeros_fit : (n : ℕ) → AreHalves (replicate n 0)
+-- ---- spelled again, and read again
+
+-- what is known of the numbers of a width
+pub record AreExact (w : Width) : Type 0 where
+  pub spelled : (b : List ℕ) → AreBytes b → byte_len w ≤ length b → le w (le_at w 0 b) ≡ part 0 (byte_len w) b
+  pub below : (b : List ℕ) → AreBytes b → le_at w 0 b < 256 ^ byte_len w
+  pub again : (n : ℕ) (more : List ℕ) → n < 256 ^ byte_len w → le_at w 0 (le w n ++ more) ≡ n
+
+pub halves_exact : AreExact w16
+unfolding le le_at
+halves_exact = record { spelled = λ b are there. le_spelled_16 0 b are there; below = le_at-below_16 0; again = λ n more fits. from_le_bytes-to_le_bytes_2 n fits }
+
+pub words_exact : AreExact w32
+unfolding le le_at
+words_exact = record { spelled = λ b are there. le_spelled_32 0 b are there; below = le_at-below_32 0; again = λ n more fits. from_le_bytes-to_le_bytes_4 n fits }
+
+pub numbers_spelled : (w : Width) → AreExact w → (n : ℕ) (b : List ℕ) → AreBytes b → n * byte_len w ≤ length b → numbers w (numbers_of w n b) ≡ take (n * byte_len w) b
+unfolding numbers_of
+numbers_spelled w exact zero b bytes there = let none : 0 ≡ 0 * byte_len w = omega arith in ap (λ (m : ℕ). take m b) none
+numbers_spelled w exact (suc n) b bytes there =
+    let k = byte_len w in
+    let left : n * k ≤ length (drop k b) = omega (arith, there, length-drop k b) in
+    then k (n * k) b _ _ (exact.spelled b bytes (omega (arith, there))) (numbers_spelled w exact n (drop k b) (AreBytes-drop k b bytes) left)
+    ∙ ap (λ (m : ℕ). take m b) (omega arith)
+
+pub numbers_ranges : (w : Width) → AreExact w → (n : ℕ) (b : List ℕ) → AreBytes b → AreNumbers w (numbers_of w n b)
+unfolding numbers_of
+numbers_ranges w exact zero b bytes = tt
+numbers_ranges w exact (suc n) b bytes = (exact.below b bytes, numbers_ranges w exact n (drop (byte_len w) b) (AreBytes-drop (byte_len w) b bytes))
+
+pub numbers_again : (w : Width) → AreExact w → (ns more : List ℕ) → AreNumbers w ns → numbers_of w (length ns) (numbers w ns ++ more) ≡ ns
+unfolding numbers_of
+numbers_again w exact [] more fits = refl
+numbers_again w exact (n ∷ ns) more fits =
+    let rest = numbers w ns ++ more in
+    let all = append_assoc (le w n) (numbers w ns) more in
+    let first = ap (le_at w 0) all ∙ exact.again n rest fits.0 in
+    let behind = ap (drop (byte_len w)) all ∙ drop_at (le w n) rest (byte_len w) (length-le w n) in
+    let later = ap (numbers_of w (length ns)) behind ∙ numbers_again w exact ns more fits.1 in
+    λ i. first i ∷ later i
+
+pub zeros_fit : (n : ℕ) → AreNumbers w16 (replicate n 0)
 zeros_fit zero = tt
 zeros_fit (suc n) = (omega arith, zeros_fit n)

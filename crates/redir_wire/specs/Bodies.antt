@@ -4,11 +4,11 @@ use Rattle.std.specs.Int.{w32}
 use Rattle.usb_base.specs.declared.reason.Reason.{Reason}
 use Rattle.usb_base.specs.declared.reason.Reason.TheVariants.{UnknownType}
 use Rattle.usb_base.specs.Number.{le_at}
-use Rattle.packet_stream.specs.Format.{Check, Format}
+use Rattle.packet_stream.specs.Format.{Check, check, Format}
 use Rattle.redir_wire.specs.declared.packet.Caps.{Caps}
 use Rattle.redir_wire.specs.declared.packet.Way.{Way}
 use Rattle.redir_wire.specs.declared.packet.Header.{Header}
-use Rattle.redir_wire.specs.Header.{is_wide, head_size, head_bytes, header_at, head_checks, check, IsHeader}
+use Rattle.redir_wire.specs.Header.{is_wide, head_size, head_bytes, header_at, type_check, head_checks, IsHeader}
 
 -- a check of the bytes behind a header; its place counts from the first of them
 pub record BodyCheck : Type 0 where
@@ -48,13 +48,6 @@ behind_head wide (c ∷ cs) =
     record (check (head_size wide + c.place) (head_size wide + c.needed) c.reason (λ b. c.passes (header_at wide b) (drop (head_size wide) b))) { tried = λ b. c.tried (le_at w32 0 b) }
     ∷ behind_head wide cs
 
--- a packet of another type is none of these
-abbrev pub own_check : {P : Type 0} → Bodies P → Check Reason
-own_check f = check 0 4 UnknownType (λ b. f.owns (le_at w32 0 b))
-
-abbrev pub size : Bool → List ℕ → ℕ
-size wide b = if nat_lt (length b) 8 then head_size wide else head_size wide + le_at w32 4 b
-
 -- the header is the packet's own
 pub record IsPacket {P : Type 0} (f : Bodies P) (first : Bool) (caps : Caps) (way : Way) (p : Header × P) : Type 0 where
   pub header : IsHeader first caps way p.0
@@ -62,10 +55,11 @@ pub record IsPacket {P : Type 0} (f : Bodies P) (first : Bool) (caps : Caps) (wa
   pub length_is : p.0.length ≡ length (f.spelling p.1)
   pub fits : f.Fits p.1
 
+-- a packet of another type is none of these
 abbrev pub packets : {P : Type 0} → Bodies P → Bool → Caps → Way → Format (Header × P) Reason
 packets f first caps way = record {
-  checks = own_check f ∷ head_checks first caps way ++ behind_head (is_wide first caps) f.checks;
-  size = size (is_wide first caps);
+  checks = type_check UnknownType f.owns ∷ head_checks first caps way ++ behind_head (is_wide first caps) f.checks;
+  size = λ b. if nat_lt (length b) 8 then head_size (is_wide first caps) else head_size (is_wide first caps) + le_at w32 4 b;
   packet = λ b. (header_at (is_wide first caps) b, f.fields (header_at (is_wide first caps) b) (drop (head_size (is_wide first caps)) b));
   spelling = λ p. head_bytes (is_wide first caps) p.0 ++ f.spelling p.1;
   Fits = IsPacket f first caps way;

@@ -1,8 +1,8 @@
 -- The kinds of fields that packets have, and their bytes on the wire: numbers little-endian.
-use Rattle.std.specs.Prelude.{ℕ, ◌/◌, ◌%◌, Bool, true, false, List, [], flat_map}
-use Rattle.std.specs.Int.{w16}
+use Rattle.std.specs.Prelude.{ℕ, ◌/◌, ◌%◌, List, flat_map}
+use Rattle.std.specs.Int.{w16, w32}
 use Rattle.usb_base.specs.Number.{le}
-use Rattle.redir_wire.specs.Words.{words, halves}
+use Rattle.redir_wire.specs.Words.{numbers}
 
 pub data Field : Type 0 where
   -- numbers of 8, of 16 or of 32 bits, one behind another
@@ -18,18 +18,13 @@ pub data Field : Type 0 where
 
 abbrev pub field_bytes : Field → List ℕ
 field_bytes (Bytes ns) = ns
-field_bytes (Shorts ns) = halves ns
-field_bytes (Longs ns) = words ns
+field_bytes (Shorts ns) = numbers w16 ns
+field_bytes (Longs ns) = numbers w32 ns
 field_bytes (ByteTable ns) = ns
-field_bytes (ShortTable ns) = halves ns
+field_bytes (ShortTable ns) = numbers w16 ns
 field_bytes (Lower n) = le w16 (n % 65536)
 field_bytes (Upper n) = le w16 (n / 65536)
 
 -- the bytes of fields, one behind another
 abbrev pub wire_bytes : List Field → List ℕ
 wire_bytes fs = flat_map field_bytes fs
-
--- what is there only with a capability
-abbrev pub if_sent : {A : Type 0} → Bool → List A → List A
-if_sent true items = items
-if_sent false items = []

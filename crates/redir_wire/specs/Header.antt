@@ -1,11 +1,11 @@
 -- The header of a packet ("usb_redir_header"), and the checks that it is one.
-use Rattle.std.specs.Prelude.{◌≡◌, ℕ, ◌<◌, ◌^◌, Bool, true, false, ◌==◌, ◌&&◌, ◌||◌, not, if◌then◌else◌, nat_le, List, [], ◌∷◌, ◌++◌, length, is_some}
-use Rattle.std.specs.Int.{w32, w64}
+use Rattle.std.specs.Prelude.{◌≡◌, ℕ, ◌<◌, ◌^◌, Bool, true, false, ◌==◌, ◌&&◌, ◌||◌, not, if◌then◌else◌, nat_le, List, [], ◌∷◌, ◌++◌, length, is_some, None}
+use Rattle.std.specs.Int.{Width, w32, w64}
 use Rattle.std.specs.Option.{option_map_or}
 use Rattle.usb_base.specs.declared.reason.Reason.{Reason}
 use Rattle.usb_base.specs.declared.reason.Reason.TheVariants.{HelloFirst, UnknownType, NotAgreed, WrongWay, BadLength, TooLong26}
 use Rattle.usb_base.specs.Number.{le, le_at}
-use Rattle.packet_stream.specs.Format.{Check, always, Format}
+use Rattle.packet_stream.specs.Format.{Check, check, wrong_at, Format}
 use Rattle.redir_wire.specs.declared.packet.Caps.{Caps}
 use Rattle.redir_wire.specs.declared.packet.Way.{Way}
 use Rattle.redir_wire.specs.declared.packet.Header.{Header}
@@ -22,19 +22,14 @@ is_wide first caps = not first && has caps 5
 abbrev pub head_size : Bool → ℕ
 head_size wide = if wide then 16 else 12
 
-abbrev pub id_bytes : Bool → ℕ → List ℕ
-id_bytes true id = le w64 id
-id_bytes false id = le w32 id
+abbrev pub id_width : Bool → Width
+id_width wide = if wide then w64 else w32
 
 abbrev pub head_bytes : Bool → Header → List ℕ
-head_bytes wide h = le w32 h.kind ++ le w32 h.length ++ id_bytes wide h.id
-
-abbrev pub id_at : Bool → List ℕ → ℕ
-id_at true b = le_at w64 8 b
-id_at false b = le_at w32 8 b
+head_bytes wide h = le w32 h.kind ++ le w32 h.length ++ le (id_width wide) h.id
 
 abbrev pub header_at : Bool → List ℕ → Header
-header_at wide b = record { kind = le_at w32 0 b; length = le_at w32 4 b; id = id_at wide b }
+header_at wide b = record { kind = le_at w32 0 b; length = le_at w32 4 b; id = le_at (id_width wide) 8 b }
 
 abbrev pub IdFits : Bool → ℕ → Type 0
 IdFits true id = id < 2 ^ 64
@@ -46,48 +41,31 @@ IdFits false id = id < 2 ^ 32
 abbrev pub row_says : (TypeRow → Bool) → ℕ → Bool
 row_says test number = option_map_or (λ k. test (row_of k)) (kind_numbered number) false
 
-abbrev pub is_in_turn : Bool → ℕ → Bool
-is_in_turn first number = if first then number == 0 else not (number == 0)
-
-abbrev pub is_known : ℕ → Bool
-is_known number = is_left_out number || is_some (kind_numbered number)
-
-abbrev pub is_agreed : Caps → ℕ → Bool
-is_agreed caps number = not (is_left_out number) && row_says (has_wanted caps) number
-
-abbrev pub is_on_its_way : Way → ℕ → Bool
-is_on_its_way way number = row_says (goes way) number
-
--- a transfer of 16 MiB and the fields of the longest data packet
-abbrev pub is_in_limit : ℕ → Bool
-is_in_limit length = nat_le length 16777280
-
 abbrev pub is_its_length : Caps → ℕ → ℕ → Bool
 is_its_length caps number length = row_says (λ r. has_length caps r length) number
 
-abbrev pub check : ℕ → ℕ → Reason → (List ℕ → Bool) → Check Reason
-check place needed reason passes = record { place = place; needed = needed; tried = always; passes = passes; reason = reason }
+-- a check of the number of the packet's type
+abbrev pub type_check : Reason → (ℕ → Bool) → Check Reason
+type_check reason passes = check 0 4 reason (λ b. passes (le_at w32 0 b))
 
+-- the greatest length is a transfer of 16 MiB and the fields of the longest data packet
 abbrev pub head_checks : Bool → Caps → Way → List (Check Reason)
 head_checks first caps way =
-    check 0 4 HelloFirst (λ b. is_in_turn first (le_at w32 0 b))
-    ∷ check 0 4 UnknownType (λ b. is_known (le_at w32 0 b))
-    ∷ check 0 4 NotAgreed (λ b. is_agreed caps (le_at w32 0 b))
-    ∷ check 0 4 WrongWay (λ b. is_on_its_way way (le_at w32 0 b))
-    ∷ check 4 8 TooLong26 (λ b. is_in_limit (le_at w32 4 b))
+    type_check HelloFirst (λ number. if first then number == 0 else not (number == 0))
+    ∷ type_check UnknownType (λ number. is_left_out number || is_some (kind_numbered number))
+    ∷ type_check NotAgreed (λ number. not (is_left_out number) && row_says (has_wanted caps) number)
+    ∷ type_check WrongWay (row_says (goes way))
+    ∷ check 4 8 TooLong26 (λ b. nat_le (le_at w32 4 b) 16777280)
     ∷ check 4 8 BadLength (λ b. is_its_length caps (le_at w32 0 b) (le_at w32 4 b))
     ∷ []
 
 -- ---- what a header is
 
+-- its bytes pass the checks, and its fields are numbers of their widths
 pub record IsHeader (first : Bool) (caps : Caps) (way : Way) (h : Header) : Type 0 where
-  pub in_turn : is_in_turn first h.kind ≡ true
-  pub known : is_known h.kind ≡ true
-  pub agreed : is_agreed caps h.kind ≡ true
-  pub on_its_way : is_on_its_way way h.kind ≡ true
-  pub in_limit : is_in_limit h.length ≡ true
-  pub its_length : is_its_length caps h.kind h.length ≡ true
+  pub right : wrong_at (head_checks first caps way) (head_bytes (is_wide first caps) h) ≡ None
   pub kind_fits : h.kind < 2 ^ 32
+  pub length_fits : h.length < 2 ^ 32
   pub id_fits : IdFits (is_wide first caps) h.id
 
 -- the headers of a stream, which a packet's bytes begin with

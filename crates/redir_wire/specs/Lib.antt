@@ -1,13 +1,13 @@
 pub mod Capability
+pub mod Words
+pub mod Places
 pub mod Table
 pub mod Bits
-pub mod Words
 pub mod Field
 pub mod Header
 pub mod Bodies
 pub mod Spelling
 pub mod Ranges
-pub mod Places
 pub mod Plain
 pub mod EpTable
 pub mod Begins

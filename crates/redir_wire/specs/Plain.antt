@@ -1,6 +1,7 @@
 -- The packets that move no data of a transfer.
-use Rattle.std.specs.Prelude.{ℕ, ◌==◌, ◌||◌, not, nat_le, nat_lt, Bool, false, [], ◌∷◌, length}
+use Rattle.std.specs.Prelude.{ℕ, List, ◌==◌, ◌||◌, not, nat_le, nat_lt, Bool, false, [], ◌∷◌, length}
 use Rattle.std.specs.Int.{w32}
+use Rattle.std.specs.Option.{option_map_or}
 use Rattle.usb_base.specs.declared.reason.Reason.{Reason}
 use Rattle.usb_base.specs.declared.reason.Reason.TheVariants.{Count}
 use Rattle.usb_base.specs.Number.{le_at}
@@ -9,11 +10,11 @@ use Rattle.redir_wire.specs.declared.packet.Caps.{Caps}
 use Rattle.redir_wire.specs.declared.packet.Way.{Way}
 use Rattle.redir_wire.specs.declared.packet.Header.{Header}
 use Rattle.redir_wire.specs.declared.packet.RedirControl.{RedirControl}
-use Rattle.redir_wire.specs.declared.packet.RedirControl.TheVariants.{Hello}
+use Rattle.redir_wire.specs.declared.packet.RedirControl.TheVariants.{Hello, Disconnect}
 use Rattle.redir_wire.specs.Bodies.{BodyCheck, Bodies, packets}
 use Rattle.redir_wire.specs.Spelling.{fields, number_of}
 use Rattle.redir_wire.specs.Ranges.{IsControl}
-use Rattle.redir_wire.specs.Places.{control_at}
+use Rattle.redir_wire.specs.Table.{fields_at, plain_numbered}
 
 -- the numbers of the types that move no data are below 100
 abbrev pub is_plain : ℕ → Bool
@@ -22,6 +23,10 @@ is_plain number = nat_lt number 100
 -- an interface_info has at most 32 interfaces
 abbrev pub count_check : BodyCheck
 count_check = record { place = 0; needed = 4; tried = λ number. number == 4; passes = λ h b. not (h.kind == 4) || nat_le (le_at w32 0 b) 32; reason = Count }
+
+-- no header that passes its checks has another number than a type's
+abbrev pub control_at : Caps → Header → List ℕ → RedirControl
+control_at caps h b = option_map_or (λ k. fields_at caps h.length k b) (plain_numbered h.kind) Disconnect
 
 abbrev pub controls : Caps → Bodies RedirControl
 controls caps = record {

@@ -1,5 +1,6 @@
 -- Which fields a packet that moves no data may have.
 use Rattle.std.specs.Prelude.{◌≡◌, ◌<◌, ◌≤◌, ◌^◌, Bool, true, false, length, replicate}
+use Rattle.std.specs.Int.{w16, w32}
 use Rattle.redir_wire.specs.declared.packet.Caps.{Caps}
 use Rattle.redir_wire.specs.declared.packet.Hello.{Hello}
 use Rattle.redir_wire.specs.declared.packet.Connect.{Connect}
@@ -8,7 +9,7 @@ use Rattle.redir_wire.specs.declared.packet.EpInfo.{EpInfo}
 use Rattle.redir_wire.specs.declared.packet.RedirControl.{RedirControl}
 use Rattle.redir_wire.specs.declared.packet.RedirControl.TheVariants as controls
 use Rattle.redir_wire.specs.Capability.{has}
-use Rattle.redir_wire.specs.Words.{AreWords, AreHalves}
+use Rattle.redir_wire.specs.Words.{AreNumbers}
 
 -- ---- what a sender keeps to, beside the ranges that the types of the code have
 
@@ -28,7 +29,7 @@ IsWritable caps _ = Unit {0}
 
 pub record HelloRanges (h : Hello) : Type 0 where
   pub version : length h.version ≡ 64
-  pub words : AreWords h.words
+  pub words : AreNumbers w32 h.words
 
 pub record ConnectRanges (c : Connect) : Type 0 where
   pub vendor : c.vendor < 2 ^ 16
@@ -46,7 +47,7 @@ pub record EpRanges (e : EpInfo) : Type 0 where
   pub interval : length e.interval ≡ 32
   pub interface : length e.interface ≡ 32
   pub max_packet_count : length e.max_packet ≡ 32
-  pub max_packet : AreHalves e.max_packet
+  pub max_packet : AreNumbers w16 e.max_packet
 
 abbrev pub Ranges : RedirControl → Type 0
 Ranges (controls.Hello h) = HelloRanges h

@@ -1,34 +1,22 @@
 -- The fields of a packet that moves no data, in wire order ("Control packets").
-use Rattle.std.specs.Prelude.{ℕ, ◌+◌, ◌*◌, ◌==◌, Bool, false, List, [], ◌∷◌, length}
+use Rattle.std.specs.Prelude.{ℕ, ◌+◌, ◌*◌, ◌==◌, Bool, false, if◌then◌else◌, List, [], ◌∷◌, length}
 use Rattle.redir_wire.specs.declared.packet.Caps.{Caps}
-use Rattle.redir_wire.specs.declared.packet.Connect.{Connect}
-use Rattle.redir_wire.specs.declared.packet.InterfaceInfo.{InterfaceInfo}
-use Rattle.redir_wire.specs.declared.packet.EpInfo.{EpInfo}
 use Rattle.redir_wire.specs.declared.packet.Header.{Header}
 use Rattle.redir_wire.specs.declared.packet.RedirControl.{RedirControl}
 use Rattle.redir_wire.specs.declared.packet.RedirControl.TheVariants as controls
 use Rattle.redir_wire.specs.declared.kind.PlainKind.{PlainKind}
 use Rattle.redir_wire.specs.declared.kind.PlainKind.TheVariants as plain
 use Rattle.redir_wire.specs.Table.{plain_row, has_more, fixed_length}
-use Rattle.redir_wire.specs.Field.{Field, Bytes, Shorts, Longs, ByteTable, ShortTable, wire_bytes, if_sent}
-
-abbrev pub connect_fields : Bool → Connect → List Field
-connect_fields more c = Bytes (c.speed ∷ c.class ∷ c.subclass ∷ c.protocol ∷ []) ∷ Shorts (c.vendor ∷ c.product ∷ []) ∷ if_sent more (Shorts (c.version ∷ []) ∷ [])
-
-abbrev pub interface_fields : InterfaceInfo → List Field
-interface_fields i = Longs (i.count ∷ []) ∷ ByteTable i.interface ∷ ByteTable i.class ∷ ByteTable i.subclass ∷ ByteTable i.protocol ∷ []
-
-abbrev pub endpoint_fields : Bool → EpInfo → List Field
-endpoint_fields more e = ByteTable e.kinds ∷ ByteTable e.interval ∷ ByteTable e.interface ∷ ShortTable (if_sent more e.max_packet) ∷ []
+use Rattle.redir_wire.specs.Field.{Field, Bytes, Shorts, Longs, ByteTable, ShortTable, wire_bytes}
 
 -- its type, and what it has behind its header; `more` says that the fields are there that go with a capability
 abbrev pub form_of : Bool → RedirControl → PlainKind × List Field
 form_of more (controls.Hello h) = (plain.Hello, ByteTable h.version ∷ Longs h.words ∷ [])
-form_of more (controls.Connect c) = (plain.Connect, connect_fields more c)
+form_of more (controls.Connect c) = (plain.Connect, Bytes (c.speed ∷ c.class ∷ c.subclass ∷ c.protocol ∷ []) ∷ Shorts (c.vendor ∷ c.product ∷ []) ∷ (if more then Shorts (c.version ∷ []) ∷ [] else []))
 form_of more controls.Disconnect = (plain.Disconnect, [])
 form_of more controls.Reset = (plain.Reset, [])
-form_of more (controls.InterfaceInfo i) = (plain.InterfaceInfo, interface_fields i)
-form_of more (controls.EpInfo e) = (plain.EpInfo, endpoint_fields more e)
+form_of more (controls.InterfaceInfo i) = (plain.InterfaceInfo, Longs (i.count ∷ []) ∷ ByteTable i.interface ∷ ByteTable i.class ∷ ByteTable i.subclass ∷ ByteTable i.protocol ∷ [])
+form_of more (controls.EpInfo e) = (plain.EpInfo, ByteTable e.kinds ∷ ByteTable e.interval ∷ ByteTable e.interface ∷ ShortTable (if more then e.max_packet else []) ∷ [])
 form_of more (controls.SetConfiguration configuration) = (plain.SetConfiguration, Bytes (configuration ∷ []) ∷ [])
 form_of more controls.GetConfiguration = (plain.GetConfiguration, [])
 form_of more (controls.ConfigurationStatus status configuration) = (plain.ConfigurationStatus, Bytes (status ∷ configuration ∷ []) ∷ [])

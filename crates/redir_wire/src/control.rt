@@ -1,8 +1,8 @@
 //! What packets that move no data have in common: their type, their length, and their fields in the order of the wire.
 
-ghost use Rattle.std.specs.Prelude.{◌≡◌, ◌++◌, ◌≤◌, flat_map};
+ghost use Rattle.std.specs.Prelude.{false, ◌≡◌, ◌++◌, ◌≤◌, flat_map};
 ghost use Rattle.packet_stream.specs.Writes.{AppendsSome};
-ghost use Rattle.redir_wire.specs.Spelling.{kind_of, length_of, words_length, connect_fields, interface_fields, endpoint_fields, fields_of};
+ghost use Rattle.redir_wire.specs.Spelling.{kind_of, length_of, words_length, fields_of};
 ghost use Rattle.redir_wire.specs.Ranges.{IsWritable};
 
 use crate::field::FieldWriter;
@@ -119,7 +119,7 @@ fn write_connect<W: FieldWriter>(
     writer: &W,
     out: &mut Bytes,
 ) -> Result<(), Memory>
-    ensures { AppendsSome result out.old out.new (flat_map W.text (connect_fields more connect.now)) }
+    ensures { AppendsSome result out.old out.new (flat_map W.text (fields_of more (RedirControl.Connect connect.now))) }
 {
     let codes = [
         connect.speed,
@@ -140,7 +140,7 @@ fn write_interface_info<W: FieldWriter>(
     writer: &W,
     out: &mut Bytes,
 ) -> Result<(), Memory>
-    ensures { AppendsSome result out.old out.new (flat_map W.text (interface_fields info.now)) }
+    ensures { AppendsSome result out.old out.new (flat_map W.text (fields_of false (RedirControl.InterfaceInfo info.now))) }
 {
     writer.longs(&[info.count], out)?;
     writer.byte_table(&info.interface, out)?;
@@ -156,7 +156,7 @@ fn write_ep_info<W: FieldWriter>(
     writer: &W,
     out: &mut Bytes,
 ) -> Result<(), Memory>
-    ensures { AppendsSome result out.old out.new (flat_map W.text (endpoint_fields more info.now)) }
+    ensures { AppendsSome result out.old out.new (flat_map W.text (fields_of more (RedirControl.EpInfo info.now))) }
 {
     writer.byte_table(&info.kinds, out)?;
     writer.byte_table(&info.interval, out)?;

@@ -2,7 +2,8 @@
 
 ghost use Rattle.std.specs.Prelude.{◌≡◌, ◌++◌, List, ℕ, OnOk, OnErr};
 ghost use Rattle.packet_stream.specs.Writes.{AppendsSome};
-ghost use Rattle.redir_wire.specs.Words.{words as words_bytes, halves as halves_bytes};
+ghost use Rattle.std.specs.Int.{w16, w32};
+ghost use Rattle.redir_wire.specs.Words.{numbers as numbers_bytes};
 ghost use Rattle.redir_wire.specs.Field.{Field, Bytes as ByteFields, Shorts, Longs, ByteTable, ShortTable, Lower, Upper, field_bytes};
 
 use usb_base::{Bytes, Memory, push_le_u16, push_le_u32};
@@ -79,7 +80,7 @@ impl FieldWriter for Wire {
 }
 
 fn push_shorts(numbers: &[u16], out: &mut Bytes) -> Result<(), Memory>
-    ensures { AppendsSome result out.old out.new (halves_bytes numbers.now) }
+    ensures { AppendsSome result out.old out.new (numbers_bytes w16 numbers.now) }
 {
     for number in numbers {
         push_le_u16(out, *number)?;
@@ -88,7 +89,7 @@ fn push_shorts(numbers: &[u16], out: &mut Bytes) -> Result<(), Memory>
 }
 
 fn push_longs(numbers: &[u32], out: &mut Bytes) -> Result<(), Memory>
-    ensures { AppendsSome result out.old out.new (words_bytes numbers.now) }
+    ensures { AppendsSome result out.old out.new (numbers_bytes w32 numbers.now) }
 {
     for number in numbers {
         push_le_u32(out, *number)?;

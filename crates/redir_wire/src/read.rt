@@ -4,8 +4,10 @@ ghost use Rattle.std.specs.Prelude.{◌≡◌, ◌+◌, ◌*◌, ◌≤◌, ◌&
 ghost use Rattle.packet_stream.specs.Format.{reading};
 ghost use Rattle.redir_wire.specs.Table.{plain_row, has_length};
 ghost use Rattle.redir_wire.specs.inner.Sent.{sent_bytes};
-ghost use Rattle.redir_wire.specs.Words.{words_of};
-ghost use Rattle.redir_wire.specs.Places.{hello_at, connect_at, interface_info_at, ep_info_at, fields_at, max_packet_at};
+ghost use Rattle.std.specs.Int.{w16, w32};
+ghost use Rattle.redir_wire.specs.Words.{numbers_of};
+ghost use Rattle.redir_wire.specs.Places.{hello_at, connect_at, interface_info_at, ep_info_at};
+ghost use Rattle.redir_wire.specs.Table.{fields_at};
 ghost use Rattle.redir_wire.specs.Bodies.{behind};
 ghost use Rattle.redir_wire.specs.Plain.{controls, count_check, is_plain, takes_memory};
 ghost use Rattle.redir_wire.specs.Header.{is_its_length};
@@ -55,6 +57,7 @@ fn has_too_many(head: &Header, bytes: &[u8]) -> bool
     head.kind == INTERFACE_INFO && bytes.len() >= 4 && le_u32_at(bytes, 0) > MAX_INTERFACES
 }
 
+#[tactic(auto, unfolding(crate::specs::Words::numbers_of))]
 fn control_at(
     alloc: Global,
     kind: PlainKind,
@@ -127,10 +130,10 @@ fn hello_at(alloc: Global, bytes: &[u8], count: usize) -> Result<Hello, Memory>
     })
 }
 
-#[tactic(auto, using(crate::proofs::Words::words_of_next))]
+#[tactic(auto, using(crate::proofs::Words::next_word), unfolding(crate::specs::Words::numbers_of))]
 fn words_of(alloc: Global, bytes: &[u8], count: usize) -> Result<Words, Memory>
     requires { count * 4 ≤ length bytes.now }
-    ensures ok { IfOk result (λ words. words ≡ words_of count bytes.now) }
+    ensures ok { IfOk result (λ words. words ≡ numbers_of w32 count bytes.now) }
     ensures err { OnErr result (0 < count) }
 {
     let mut words = Words::new(alloc);
@@ -184,7 +187,7 @@ fn ep_info_at(sent: bool, bytes: &[u8]) -> EpInfo
 
 fn max_packet_at(bytes: &[u8]) -> [u16; 32]
     requires { 160 ≤ length bytes.now }
-    ensures { result ≡ max_packet_at true bytes.now }
+    ensures { result ≡ numbers_of w16 32 (drop 96 bytes.now) }
 {
     let mut sizes = [0; 32];
     for i in 0..32 {

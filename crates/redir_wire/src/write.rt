@@ -1,8 +1,9 @@
 //! Writes packets that move no data.
 
 ghost use Rattle.std.specs.Prelude.{◌≡◌, ◌++◌, OnOk, OnErr};
+ghost use Rattle.usb_base.specs.Number.{le};
 ghost use Rattle.packet_stream.specs.Writes.{AppendsSome};
-ghost use Rattle.redir_wire.specs.Header.{head_bytes, id_bytes, IdFits};
+ghost use Rattle.redir_wire.specs.Header.{head_bytes, id_width, IdFits};
 ghost use Rattle.redir_wire.specs.Written.{CanWrite, packet_bytes};
 
 use crate::field::Wire;
@@ -51,7 +52,7 @@ pub fn push_header(wide: bool, header: &Header, out: &mut Bytes) -> Result<(), M
 
 fn push_id(wide: bool, id: u64, out: &mut Bytes) -> Result<(), Memory>
     requires { IdFits wide id }
-    ensures ok { OnOk result (out.new ≡ out.old ++ id_bytes wide id) }
+    ensures ok { OnOk result (out.new ≡ out.old ++ le (id_width wide) id) }
     ensures err { OnErr result (out.new ≡ out.old) }
 {
     if wide {

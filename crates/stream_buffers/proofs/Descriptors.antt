@@ -6,7 +6,8 @@ use Rattle.usb_base.specs.declared.transfer.StreamPacket.{StreamPacket}
 use Rattle.usbip_urb.specs.declared.packet.IsoDesc.{IsoDesc}
 use Rattle.std.proofs.lemmas.List.Elements.{filter-append}
 use Rattle.std.proofs.lemmas.Grind.{flat_map-append}
-use Rattle.usbip_urb.specs.Spelling.{desc_bytes, descs_bytes}
+use Rattle.usbip_urb.specs.Spelling.{descs_bytes}
+use Rattle.usbip_urb.specs.Sound.Descriptors.{desc_bytes}
 use Rattle.stream_buffers.specs.Interrupt.{packet_at}
 use Rattle.stream_buffers.specs.Fillings.{is_failed, errors_of}
 use Rattle.stream_buffers.proofs.Fillings.{there}

@@ -1,8 +1,13 @@
 -- The least number that passes a test, as it is looked for.
-use Rattle.std.proofs.Common.{◌≡◌, ℕ, zero, suc, ◌+◌, ◌<◌, inl, inr, Bool, true, false, Option, Some, None, refl, ap, ◌∙◌, arith}
+use Rattle.std.proofs.Common.{◌≡◌, ℕ, zero, suc, ◌+◌, ◌<◌, inl, inr, Bool, true, false, cond, Option, Some, None, refl, ap, ◌∙◌, arith}
 use Rattle.std.proofs.Math.Numerals.{add-one}
 use Rattle.std.proofs.lemmas.Bool.{cases_lt}
-use Rattle.stream_buffers.specs.Least.{or_this, least_below, IsLeastBelow}
+use Rattle.std.specs.Option.{option_or}
+use Rattle.stream_buffers.specs.Least.{least_below, IsLeastBelow}
+
+-- what was found below n, or else n, where it passes
+abbrev or_this : ℕ → Bool → Option ℕ → Option ℕ
+or_this n passes found = option_or found (cond passes (Some n) None)
 
 neither : (n : ℕ) (b : Bool) (o : Option ℕ) → o ≡ None → b ≡ false → or_this n b o ≡ None
 neither n b o none fails = ap (or_this n b) none ∙ ap (λ x. or_this n x None) fails

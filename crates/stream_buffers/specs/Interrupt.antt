@@ -43,17 +43,14 @@ abbrev pub fitting_status : (wanted came : ℕ) → UsbStatus → UsbStatus
 fitting_status wanted came Success = if nat_lt wanted came then Babble else Success
 fitting_status wanted came status = status
 
--- what fits of these bytes, of which the last packet had this status
-abbrev pub fitted : ℕ → List ℕ → UsbStatus → Outcome
-fitted wanted bytes status = record {
-  status = fitting_status wanted (length bytes) status;
-  done = length (take wanted bytes);
-  body = take wanted bytes;
-}
-
+-- what fits of the packets up to packet k
 abbrev pub interrupt_cut_at : ℕ → List StreamPacket → ℕ → Cut Outcome
 interrupt_cut_at wanted packets k = record {
-  gives = fitted wanted (bodies_to k packets) (packet_at packets k).status;
+  gives = record {
+    status = fitting_status wanted (length (bodies_to k packets)) (packet_at packets k).status;
+    done = length (take wanted (bodies_to k packets));
+    body = take wanted (bodies_to k packets);
+  };
   leaves = drop (k + 1) packets;
 }
 

@@ -1,5 +1,6 @@
 -- Isochronous requests over the packets that are held: one packet for each descriptor.
-use Rattle.std.specs.Prelude.{ℕ, nat_lt, if◌then◌else◌, List, [], ◌∷◌, ◌++◌, length, take, drop, Option, Some, None}
+use Rattle.std.specs.Prelude.{ℕ, nat_lt, if◌then◌else◌, List, length, map, take, drop, Option, Some, None}
+use Rattle.std.specs.List.{flat_map, zip}
 use Rattle.usb_base.specs.Status.{errno_of}
 use Rattle.usb_base.specs.declared.status.UsbStatus.{UsbStatus}
 use Rattle.usb_base.specs.declared.status.UsbStatus.TheVariants.{Babble}
@@ -23,12 +24,10 @@ filled d p = record d { actual = length (piece d p); status = errno_of (piece_st
 
 -- joined without gaps, whatever the offsets
 abbrev pub pieces : List IsoDesc → List StreamPacket → List ℕ
-pieces (d ∷ ds) (p ∷ ps) = piece d p ++ pieces ds ps
-pieces _ _ = []
+pieces descs packets = flat_map (λ x. piece x.0 x.1) (zip descs packets)
 
 abbrev pub all_filled : List IsoDesc → List StreamPacket → List IsoDesc
-all_filled (d ∷ ds) (p ∷ ps) = filled d p ∷ all_filled ds ps
-all_filled _ _ = []
+all_filled descs packets = map (λ x. filled x.0 x.1) (zip descs packets)
 
 abbrev pub iso_outcome : List IsoDesc → List StreamPacket → IsoOutcome
 iso_outcome descs packets = record { body = pieces descs packets; descs = all_filled descs packets }

@@ -1,14 +1,11 @@
 -- The least number that passes a test.
+use Rattle.std.specs.Option.{option_or}
 use Rattle.std.specs.Prelude.{◌≡◌, ℕ, zero, suc, ◌<◌, Bool, true, false, if◌then◌else◌, Option, Some, None}
-
-abbrev pub or_this : ℕ → Bool → Option ℕ → Option ℕ
-or_this n passes (Some k) = Some k
-or_this n passes None = if passes then Some n else None
 
 -- of those below n
 abbrev pub least_below : (ℕ → Bool) → ℕ → Option ℕ
 least_below test zero = None
-least_below test (suc n) = or_this n (test n) (least_below test n)
+least_below test (suc n) = option_or (least_below test n) (if test n then Some n else None)
 
 -- it passes and none below it does, or none at all does
 abbrev pub IsLeastBelow : (ℕ → Bool) → ℕ → Option ℕ → Type 0

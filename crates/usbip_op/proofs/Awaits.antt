@@ -11,7 +11,8 @@ use Rattle.packet_stream.specs.Awaited.{awaited}
 use Rattle.packet_stream.proofs.Awaiting.{IsPatient}
 use Rattle.usbip_op.specs.Rows.{rows_size}
 use Rattle.usbip_op.specs.Devices.{listed_form}
-use Rattle.usbip_op.specs.Requests.{requests, request_size_by}
+use Rattle.usbip_op.specs.Requests.{requests}
+use Rattle.usbip_op.proofs.Requests.{request_size_by}
 use Rattle.usbip_op.specs.Replies.{replies, has_count, reply_size_by, reply_size, count_check}
 use Rattle.usbip_op.proofs.Heads.{heads_steady}
 use Rattle.usbip_op.proofs.Replies.{size_headed, reply_long, count_steady}

@@ -1,6 +1,6 @@
 -- What is read as a request is spelled so, and what is spelled so is read.
 use Rattle.std.proofs.Common.{◌≡◌, ℕ, ◌≤◌, ◌==◌, ◌||◌, ◌⊎◌, inl, inr, Bool, true, false, List, [], ◌∷◌, ◌++◌, length, take, refl, sym, ap, subst, ◌∙◌, append_assoc, arith, None, length-append, cond}
-use Rattle.std.specs.Int.{w16}
+use Rattle.std.specs.Int.{w16, w32}
 use Rattle.std.proofs.lemmas.List.{take_at}
 use Rattle.usb_base.specs.Number.{be_at, part, AreBytes}
 use Rattle.packet_stream.specs.Format.{IsSound, wrong_at}
@@ -10,12 +10,21 @@ use Rattle.usbip_op.specs.declared.packet.OpPacket.{OpPacket}
 use Rattle.usbip_op.specs.declared.packet.OpPacket.TheVariants.{ReqDevlist, ReqImport, RepDevlist, RepImport}
 use Rattle.usbip_op.specs.Spelling.{spelling, head_bytes}
 use Rattle.usbip_op.proofs.Fitting.{IsRequest, request_fits, fits_request}
-use Rattle.usbip_op.specs.Requests.{requests, request_checks, request_by, request_size_by, version_check, code_check}
+use Rattle.usbip_op.specs.Requests.{requests, version_check, code_check}
+use Rattle.usbip_op.specs.declared.code.TheConstants.{OP_REQ_DEVLIST}
 use Rattle.usbip_op.proofs.Heads.{head_spelled, length-head, version_again, code_again, status_again, head_right, head_steady, is_version, is_code}
+
+-- ---- by its code
+
+abbrev pub request_size_by : ℕ → ℕ
+request_size_by code = cond (code == OP_REQ_DEVLIST) 8 40
+
+abbrev pub request_by : ℕ → List ℕ → OpPacket
+request_by code b = cond (code == OP_REQ_DEVLIST) (ReqDevlist (be_at w32 4 b)) (ReqImport (be_at w32 4 b) (part 8 32 b))
 
 -- ---- what is spelled so is read
 
-right : (p : OpPacket) (more : List ℕ) → IsRequest p → wrong_at request_checks (spelling p ++ more) ≡ None
+right : (p : OpPacket) (more : List ℕ) → IsRequest p → wrong_at requests.checks (spelling p ++ more) ≡ None
 right (ReqDevlist status) more fits =
     let code = code_again 0x8005 status more (omega arith) in
     head_right 0x8005 0x8003 [] _ (version_again 0x8005 status more) (ap (λ (n : ℕ). (n == 0x8005) || (n == 0x8003)) code) refl
@@ -62,7 +71,7 @@ some_by : (t : Bool) → 8 ≤ cond t 8 40
 some_by true = omega arith
 some_by false = omega arith
 
-found : (b : List ℕ) → AreBytes b → wrong_at request_checks b ≡ None → request_size_by (be_at w16 2 b) ≤ length b → IsFound b (be_at w16 2 b)
+found : (b : List ℕ) → AreBytes b → wrong_at requests.checks b ≡ None → request_size_by (be_at w16 2 b) ≤ length b → IsFound b (be_at w16 2 b)
 found b are none there =
     let least = some_by (be_at w16 2 b == 0x8005) in
     let version : be_at w16 0 b ≡ 0x0111 = is_version _ (none_first version_check (code_check 0x8005 0x8003 ∷ []) b none (omega arith)) in

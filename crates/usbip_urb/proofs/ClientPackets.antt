@@ -1,11 +1,10 @@
 -- All that a client sends is read as one of two formats says.
-use Rattle.std.proofs.Common.{◌≡◌, ℕ, ◌<◌, inl, inr, Bool, true, false, List, length, None, refl, sym, ap, ◌∙◌, arith, Result, Ok, Err, subst}
+use Rattle.std.proofs.Common.{◌≡◌, ℕ, ◌<◌, Bool, true, false, List, length, None, refl, sym, ap, ◌∙◌, arith, Result, Ok, Err, subst}
 use Rattle.std.specs.Prelude.{nat_lt}
 use Rattle.std.specs.Result.{IsErrAnd}
 use Rattle.std.proofs.lemmas.Bool.{lt-ltb}
 use Rattle.packet_stream.specs.Format.{Format, Found, Whole, Short, Wrong, wrong_at, reading, reading_by}
-use Rattle.packet_stream.specs.Joined.{joined}
-use Rattle.packet_stream.proofs.Joins.{found_as, reading-left, reading-right, reading-renamed}
+use Rattle.packet_stream.proofs.Joins.{found_as, reading-left, reading-right}
 use Rattle.usb_base.specs.declared.reason.Reason.{Reason}
 use Rattle.packet_stream.specs.declared.read.Read.{Read}
 use Rattle.packet_stream.specs.declared.read.ReadError.{ReadError}
@@ -14,28 +13,17 @@ use Rattle.packet_stream.specs.Reads.{Answers, WantsMemory}
 use Rattle.usbip_op.specs.Requests.{requests as op_requests}
 use Rattle.usbip_urb.specs.declared.client.ClientPacket.TheVariants.{Op, Urb}
 use Rattle.usbip_urb.specs.Requests.{requests as urb_requests}
-use Rattle.usbip_urb.specs.ClientPackets.{is_op, of_either, as_either, client_packets}
+use Rattle.usbip_urb.specs.ClientPackets.{is_op, as_either, client_packets}
 use Rattle.usbip_urb.specs.Sound.ClientPackets.{op_waits, urb_waits, op_long}
 use Rattle.usbip_urb.specs.Sound.Requests.{long_enough as urb_long}
 
 -- ---- reading is reading the one or the other
 
-found_twice : {P Q X R : Type 0} (to : P → Q) (then : Q → X) (found : Found P R) → found_as then (found_as to found) ≡ found_as (λ p. then (to p)) found
-found_twice to then (Whole p n) = refl
-found_twice to then Short = refl
-found_twice to then (Wrong place reason) = refl
-
 pub op_reading : (b : List ℕ) → is_op b ≡ true → reading client_packets b ≡ found_as Op (reading op_requests b)
-op_reading b e =
-    reading-renamed of_either as_either (joined is_op op_requests urb_requests) b
-    ∙ ap (found_as of_either) (reading-left is_op op_requests urb_requests b e)
-    ∙ found_twice inl of_either (reading op_requests b)
+op_reading b e = reading-left is_op Op Urb as_either op_requests urb_requests b e
 
 pub urb_reading : (b : List ℕ) → is_op b ≡ false → reading client_packets b ≡ found_as Urb (reading urb_requests b)
-urb_reading b e =
-    reading-renamed of_either as_either (joined is_op op_requests urb_requests) b
-    ∙ ap (found_as of_either) (reading-right is_op op_requests urb_requests b e)
-    ∙ found_twice inr of_either (reading urb_requests b)
+urb_reading b e = reading-right is_op Op Urb as_either op_requests urb_requests b e
 
 short_reading : {P : Type 0} (f : Format P Reason) (b : List ℕ) → wrong_at f.checks b ≡ None → length b < f.size b → reading f b ≡ Short
 short_reading f b none less = let e : nat_lt (length b) (f.size b) ≡ true = lt-ltb (length b) (f.size b) less in ap (reading_by f b) none ∙ rw e refl

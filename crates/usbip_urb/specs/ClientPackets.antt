@@ -5,7 +5,7 @@ use Rattle.std.specs.Int.{w16}
 use Rattle.usb_base.specs.Number.{be_at}
 use Rattle.usb_base.specs.declared.reason.Reason.{Reason}
 use Rattle.packet_stream.specs.Format.{Format}
-use Rattle.packet_stream.specs.Joined.{joined, renamed}
+use Rattle.packet_stream.specs.Joined.{joined}
 use Rattle.usbip_op.specs.declared.code.TheConstants.{USBIP_VERSION}
 use Rattle.usbip_op.specs.declared.packet.OpPacket.{OpPacket}
 use Rattle.usbip_op.specs.Requests.{requests as op_requests}
@@ -20,17 +20,13 @@ use Rattle.usbip_urb.specs.Heap.{takes_memory as urb_takes_memory}
 abbrev pub is_op : List ℕ → Bool
 is_op b = be_at w16 0 b == USBIP_VERSION
 
-abbrev pub of_either : OpPacket ⊎ UrbPacket → ClientPacket
-of_either (inl p) = Op p
-of_either (inr p) = Urb p
-
 abbrev pub as_either : ClientPacket → OpPacket ⊎ UrbPacket
 as_either (Op p) = inl p
 as_either (Urb p) = inr p
 
 -- anything that isn't a list or import request is read as a URB request, which refuses another version
 abbrev pub client_packets : Format ClientPacket Reason
-client_packets = renamed of_either as_either (joined is_op op_requests urb_requests)
+client_packets = joined is_op Op Urb as_either op_requests urb_requests
 
 abbrev pub client_spelling : ClientPacket → List ℕ
 client_spelling p = client_packets.spelling p

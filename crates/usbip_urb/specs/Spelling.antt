@@ -2,6 +2,7 @@
 use Rattle.std.specs.Prelude.{ℕ, List, [], ◌∷◌, ◌++◌, flat_map}
 use Rattle.std.specs.Int.{w32, cast_unsigned}
 use Rattle.usb_base.specs.Number.{be}
+use Rattle.usbip_urb.specs.declared.packet.Head.{Head}
 use Rattle.usbip_urb.specs.declared.packet.IsoDesc.{IsoDesc}
 use Rattle.usbip_urb.specs.declared.packet.Submit.{Submit}
 use Rattle.usbip_urb.specs.declared.packet.RetSubmit.{RetSubmit}
@@ -13,21 +14,20 @@ use Rattle.usbip_urb.specs.declared.code.TheConstants.{USBIP_CMD_SUBMIT, USBIP_C
 
 -- ---- the numbers that a packet begins with; a status stands in two's complement
 
+abbrev pub head_words : ℕ → Head → List ℕ
+head_words command h = command ∷ h.seqnum ∷ h.devid ∷ h.direction ∷ h.ep ∷ []
+
 abbrev pub submit_words : Submit → List ℕ
-submit_words s =
-    USBIP_CMD_SUBMIT ∷ s.head.seqnum ∷ s.head.devid ∷ s.head.direction ∷ s.head.ep
-    ∷ s.flags ∷ s.length ∷ s.start_frame ∷ s.packets ∷ s.interval ∷ []
+submit_words s = head_words USBIP_CMD_SUBMIT s.head ++ s.flags ∷ s.length ∷ s.start_frame ∷ s.packets ∷ s.interval ∷ []
 
 abbrev pub ret_submit_words : RetSubmit → List ℕ
-ret_submit_words r =
-    USBIP_RET_SUBMIT ∷ r.head.seqnum ∷ r.head.devid ∷ r.head.direction ∷ r.head.ep
-    ∷ cast_unsigned w32 r.status ∷ r.actual ∷ r.start_frame ∷ r.packets ∷ r.errors ∷ []
+ret_submit_words r = head_words USBIP_RET_SUBMIT r.head ++ cast_unsigned w32 r.status ∷ r.actual ∷ r.start_frame ∷ r.packets ∷ r.errors ∷ []
 
 abbrev pub unlink_words : Unlink → List ℕ
-unlink_words u = USBIP_CMD_UNLINK ∷ u.head.seqnum ∷ u.head.devid ∷ u.head.direction ∷ u.head.ep ∷ u.target ∷ []
+unlink_words u = head_words USBIP_CMD_UNLINK u.head ++ u.target ∷ []
 
 abbrev pub ret_unlink_words : RetUnlink → List ℕ
-ret_unlink_words r = USBIP_RET_UNLINK ∷ r.head.seqnum ∷ r.head.devid ∷ r.head.direction ∷ r.head.ep ∷ cast_unsigned w32 r.status ∷ []
+ret_unlink_words r = head_words USBIP_RET_UNLINK r.head ++ cast_unsigned w32 r.status ∷ []
 
 abbrev pub desc_words : IsoDesc → List ℕ
 desc_words d = d.offset ∷ d.length ∷ d.actual ∷ cast_unsigned w32 d.status ∷ []
@@ -38,11 +38,8 @@ desc_words d = d.offset ∷ d.length ∷ d.actual ∷ cast_unsigned w32 d.status
 abbrev pub words : List ℕ → List ℕ
 words ns = flat_map (be w32) ns
 
-abbrev pub desc_bytes : IsoDesc → List ℕ
-desc_bytes d = words (desc_words d)
-
 abbrev pub descs_bytes : List IsoDesc → List ℕ
-descs_bytes ds = flat_map desc_bytes ds
+descs_bytes ds = flat_map (λ d. words (desc_words d)) ds
 
 abbrev pub spelling : UrbPacket → List ℕ
 spelling (urb.Submit s) = words (submit_words s) ++ s.setup ++ s.body ++ descs_bytes s.descs

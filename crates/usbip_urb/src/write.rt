@@ -3,7 +3,7 @@
 ghost use Rattle.std.specs.Prelude.{◌≡◌, ◌+◌, ◌*◌, ◌++◌, ◌∷◌, length};
 ghost use Rattle.packet_stream.specs.Writes.{Appends, AppendsSome};
 ghost use Rattle.usbip_urb.specs.declared.packet.UrbPacket.TheVariants.{Submit as SubmitPacket, RetSubmit as RetSubmitPacket, Unlink as UnlinkPacket, RetUnlink as RetUnlinkPacket};
-ghost use Rattle.usbip_urb.specs.Spelling.{spelling, words, ret_submit_words, desc_bytes, descs_bytes};
+ghost use Rattle.usbip_urb.specs.Spelling.{spelling, words, ret_submit_words, desc_words, descs_bytes};
 ghost use Rattle.usbip_urb.specs.Ranges.{IsWritable};
 ghost use Rattle.usbip_urb.specs.declared.code.TheConstants.{HEAD_SIZE};
 
@@ -167,7 +167,7 @@ fn push_descs(descs: &[IsoDesc], out: &mut Bytes) -> Result<(), Memory>
 /// Appends a descriptor, 16 bytes. For want of memory some of them may be there, which the caller cuts off.
 #[tactic(auto, unfolding(usb_base::specs::Number::be))]
 pub fn push_desc(desc: &IsoDesc, out: &mut Bytes) -> Result<(), Memory>
-    ensures { AppendsSome result out.old out.new (desc_bytes desc.now) }
+    ensures { AppendsSome result out.old out.new (words (desc_words desc.now)) }
 {
     let mut bytes = [0; DESC_SIZE];
     let numbers = [

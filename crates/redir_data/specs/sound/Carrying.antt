@@ -17,10 +17,11 @@ use Rattle.redir_wire.specs.Header.{IsHeader}
 use Rattle.redir_wire.specs.Bodies.{with_header}
 use Rattle.redir_wire.specs.Plain.{is_plain}
 use Rattle.redir_wire.proofs.Numbers.{data_number, data_again}
+use Rattle.redir_wire.proofs.Says.{header_says}
 use Rattle.redir_wire.proofs.Packets.{IsFound, AreBodies, AreSteadyBehind, packets_sound}
 use Rattle.redir_data.specs.declared.packet.RedirData.{RedirData}
 use Rattle.redir_data.specs.declared.packet.RedirData.TheVariants as moving
-use Rattle.redir_data.specs.Spelling.{kind_of, number_of, data_count, fields}
+use Rattle.redir_data.specs.Spelling.{form_of, number_of, data_count, fields}
 use Rattle.redir_data.specs.Ranges.{IsData}
 use Rattle.redir_data.specs.Places.{fixed, bulk_length, told_length, fields_at, data_at}
 use Rattle.redir_data.specs.Carrying.{data_check, transfers, carrying}
@@ -89,9 +90,9 @@ found_as caps way h b k are e agrees there =
 
 found_with : (first : Bool) (caps : Caps) (way : Way) (h : Header) (b : List ℕ) → AreBytes b → IsHeader first caps way h → is_plain h.kind ≡ false → wrong_at (with_header h (transfers caps way).checks) b ≡ None → h.length ≤ length b →
     (o : Option DataKind) → data_numbered h.kind ≡ o → IsFound (transfers caps way) h b
-found_with first caps way h b are header above none there None e = absurd (is_numbered caps h above header.its_length e)
+found_with first caps way h b are header above none there None e = absurd (is_numbered caps h above (header_says header).its_length e)
 found_with first caps way h b are header above none there (Some k) e =
-    let least = least_length caps h k e header.its_length in
+    let least = least_length caps h k e (header_says header).its_length in
     found_as caps way h b k are e (agrees_by caps way h k b (data_number h.kind k e) none (omega arith)) there
 
 -- ---- what is spelled
@@ -100,20 +101,20 @@ pub data_owned : (d : RedirData) → not (is_plain (number_of d)) ≡ true
 data_owned (moving.Control endpoint request kind status value index told body) = refl
 data_owned d = refl
 
-agrees : (caps : Caps) (way : Way) (h : Header) (d : RedirData) (more : List ℕ) → h.length ≡ length (fields caps d) → IsData caps way d → h.length ≡ announced caps way (kind_of d) (fields caps d ++ more)
+agrees : (caps : Caps) (way : Way) (h : Header) (d : RedirData) (more : List ℕ) → h.length ≡ length (fields caps d) → IsData caps way d → h.length ≡ announced caps way (form_of d).kind (fields caps d ++ more)
 agrees caps way h d more is fits =
     let endpoint = endpoint_again caps d more in
     let told = told_again caps d more fits.ranges fits.length_fits in
-    is ∙ length_fields caps d ∙ ap (λ (n : ℕ). fixed caps (kind_of d) + n) (fits.data_there ∙ sym (λ i. data_count way (endpoint i) (told i)))
+    is ∙ length_fields caps d ∙ ap (λ (n : ℕ). fixed caps (form_of d).kind + n) (fits.data_there ∙ sym (λ i. data_count way (endpoint i) (told i)))
 
-fields_there : (caps : Caps) (h : Header) (d : RedirData) (more : List ℕ) → h.kind ≡ number_of d → fields_at caps h.length (kind_of d) (fields caps d ++ more) ≡ d → data_at caps h (fields caps d ++ more) ≡ d
-fields_there caps h d more kind again = data_by caps h (fields caps d ++ more) (kind_of d) (ap data_numbered kind ∙ data_again (kind_of d)) ∙ again
+fields_there : (caps : Caps) (h : Header) (d : RedirData) (more : List ℕ) → h.kind ≡ number_of d → fields_at caps h.length (form_of d).kind (fields caps d ++ more) ≡ d → data_at caps h (fields caps d ++ more) ≡ d
+fields_there caps h d more kind again = data_by caps h (fields caps d ++ more) (form_of d).kind (ap data_numbered kind ∙ data_again (form_of d).kind) ∙ again
 
 pub data_bodies : (first : Bool) (caps : Caps) (way : Way) → AreBodies (transfers caps way) first caps way
 data_bodies first caps way = record {
   steady = steady caps way;
   found = λ h b are header owns none there. found_with first caps way h b are header (not-true (is_plain h.kind) owns) none there (data_numbered h.kind) refl;
-  right = λ p more is. none_of caps way p.0 (kind_of p.1) (fields caps p.1 ++ more) is.kind (λ _. agrees caps way p.0 p.1 more is.length_is is.fits);
+  right = λ p more is. none_of caps way p.0 (form_of p.1).kind (fields caps p.1 ++ more) is.kind (λ _. agrees caps way p.0 p.1 more is.length_is is.fits);
   fields = λ p more is. fields_there caps p.0 p.1 more is.kind (fields_again caps p.0.length p.1 more is.fits.ranges is.fits.length_fits is.length_is);
   owned = data_owned;
 }

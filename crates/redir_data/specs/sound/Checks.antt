@@ -6,7 +6,7 @@ use Rattle.std.proofs.lemmas.Grind.{common_steps}
 use Rattle.usb_base.specs.Number.{byte_at}
 use Rattle.usb_base.specs.declared.reason.Reason.{Reason}
 use Rattle.usb_base.specs.declared.reason.Reason.TheVariants.{DataLength}
-use Rattle.packet_stream.specs.Format.{Check, wrong_at, reading, reading_by, Whole, Short, Wrong}
+use Rattle.packet_stream.specs.Format.{Check, check, wrong_at, reading, reading_by, Whole, Short, Wrong}
 use Rattle.packet_stream.proofs.Formats.{none_first}
 use Rattle.redir_wire.specs.declared.packet.Caps.{Caps}
 use Rattle.redir_wire.specs.declared.packet.Way.{Way}
@@ -17,7 +17,7 @@ use Rattle.redir_wire.specs.declared.kind.DataKind.{DataKind}
 use Rattle.redir_wire.specs.declared.kind.DataKind.TheVariants.{Control, Bulk, Iso, Interrupt}
 use Rattle.redir_wire.specs.declared.kind.Kind.TheVariants.{Carrying}
 use Rattle.redir_wire.specs.Table.{plain_row, data_row, plain_numbered, data_numbered, has_length}
-use Rattle.redir_wire.specs.Header.{check, is_its_length}
+use Rattle.redir_wire.specs.Header.{is_its_length}
 use Rattle.redir_wire.specs.Bodies.{with_header, behind}
 use Rattle.redir_wire.specs.Plain.{is_plain}
 use Rattle.redir_wire.proofs.Checks.{skip}

@@ -13,7 +13,7 @@ use Rattle.redir_wire.specs.Field.{wire_bytes}
 use Rattle.redir_wire.proofs.Controls.{bytes_there}
 use Rattle.redir_data.specs.declared.packet.RedirData.{RedirData}
 use Rattle.redir_data.specs.declared.packet.RedirData.TheVariants as moving
-use Rattle.redir_data.specs.Spelling.{kind_of, endpoint_of, length_of, body_of, bulk, periodic, fixed_fields, fields, size_of}
+use Rattle.redir_data.specs.Spelling.{form_of, bulk, periodic, fixed_fields, fields, size_of}
 use Rattle.redir_data.specs.Ranges.{Ranges, BulkLengthFits, LengthFits}
 use Rattle.redir_data.specs.Places.{fixed, bulk_length, told_length, fields_with, fields_at}
 
@@ -73,10 +73,10 @@ length_there caps kinds.Interrupt b body are = tt
 
 -- what the fields with this length and these data are
 pub record AreFields (k : DataKind) (b : List ℕ) (told : ℕ) (body : List ℕ) : Type 0 where
-  pub kind : kind_of (fields_with k b told body) ≡ k
-  pub endpoint : endpoint_of (fields_with k b told body) ≡ byte_at 0 b
-  pub length_is : length_of (fields_with k b told body) ≡ told
-  pub body_is : body_of (fields_with k b told body) ≡ body
+  pub kind : (form_of (fields_with k b told body)).kind ≡ k
+  pub endpoint : (form_of (fields_with k b told body)).endpoint ≡ byte_at 0 b
+  pub length_is : (form_of (fields_with k b told body)).told ≡ told
+  pub body_is : (form_of (fields_with k b told body)).body ≡ body
 
 pub are_fields : (k : DataKind) (b : List ℕ) (told : ℕ) (body : List ℕ) → AreFields k b told body
 are_fields kinds.Control b told body = record { kind = refl; endpoint = refl; length_is = refl; body_is = refl }
@@ -89,7 +89,7 @@ unfolding le
 length_bulk true endpoint status told stream = refl
 length_bulk false endpoint status told stream = refl
 
-pub length_fixed : (caps : Caps) (d : RedirData) → length (fixed_fields caps d) ≡ fixed caps (kind_of d)
+pub length_fixed : (caps : Caps) (d : RedirData) → length (fixed_fields caps d) ≡ fixed caps (form_of d).kind
 unfolding le
 length_fixed caps (moving.Control endpoint request kind status value index told body) = refl
 length_fixed caps (moving.Bulk endpoint status told stream body) = length_bulk (has caps 6) endpoint status told stream
@@ -97,9 +97,9 @@ length_fixed caps (moving.Iso endpoint status told body) = refl
 length_fixed caps (moving.Interrupt endpoint status told body) = refl
 
 pub length_fields : (caps : Caps) (d : RedirData) → length (fields caps d) ≡ size_of caps d
-length_fields caps d = omega (arith, length-append (fixed_fields caps d) (body_of d), length_fixed caps d)
+length_fields caps d = omega (arith, length-append (fixed_fields caps d) (form_of d).body, length_fixed caps d)
 
-pub endpoint_again : (caps : Caps) (d : RedirData) (more : List ℕ) → byte_at 0 (fields caps d ++ more) ≡ endpoint_of d
+pub endpoint_again : (caps : Caps) (d : RedirData) (more : List ℕ) → byte_at 0 (fields caps d ++ more) ≡ (form_of d).endpoint
 endpoint_again caps (moving.Control endpoint request kind status value index told body) more = refl
 endpoint_again caps d more = refl
 
@@ -116,7 +116,7 @@ unfolding le le_at
 stream_again true endpoint status told stream body more fits = from_le_bytes-to_le_bytes_4 stream fits
 stream_again false endpoint status told stream body more fits = from_le_bytes-to_le_bytes_4 stream fits
 
-pub told_again : (caps : Caps) (d : RedirData) (more : List ℕ) → Ranges d → LengthFits caps d → told_length caps (kind_of d) (fields caps d ++ more) ≡ length_of d
+pub told_again : (caps : Caps) (d : RedirData) (more : List ℕ) → Ranges d → LengthFits caps d → told_length caps (form_of d).kind (fields caps d ++ more) ≡ (form_of d).told
 unfolding le le_at
 told_again caps (moving.Control endpoint request kind status value index told body) more r l = from_le_bytes-to_le_bytes_2 told r.length_fits
 told_again caps (moving.Bulk endpoint status told stream body) more r l = bulk_again (has caps 6) endpoint status told stream body more r.length_fits l
@@ -126,7 +126,7 @@ told_again caps (moving.Interrupt endpoint status told body) more r l = from_le_
 second_again : (wide : Bool) (endpoint status told stream : ℕ) (body more : List ℕ) → byte_at 1 ((wire_bytes (bulk wide endpoint status told stream) ++ body) ++ more) ≡ status
 second_again wide endpoint status told stream body more = refl
 
-with_again : (caps : Caps) (d : RedirData) (more : List ℕ) → Ranges d → fields_with (kind_of d) (fields caps d ++ more) (length_of d) (body_of d) ≡ d
+with_again : (caps : Caps) (d : RedirData) (more : List ℕ) → Ranges d → fields_with (form_of d).kind (fields caps d ++ more) (form_of d).told (form_of d).body ≡ d
 unfolding le le_at
 with_again caps (moving.Control endpoint request kind status value index told body) more r =
     let first = from_le_bytes-to_le_bytes_2 value r.value_fits in
@@ -136,10 +136,10 @@ with_again caps (moving.Bulk endpoint status told stream body) more r = ap (λ (
 with_again caps (moving.Iso endpoint status told body) more r = refl
 with_again caps (moving.Interrupt endpoint status told body) more r = refl
 
-pub fields_again : (caps : Caps) (n : ℕ) (d : RedirData) (more : List ℕ) → Ranges d → LengthFits caps d → n ≡ length (fields caps d) → fields_at caps n (kind_of d) (fields caps d ++ more) ≡ d
+pub fields_again : (caps : Caps) (n : ℕ) (d : RedirData) (more : List ℕ) → Ranges d → LengthFits caps d → n ≡ length (fields caps d) → fields_at caps n (form_of d).kind (fields caps d ++ more) ≡ d
 fields_again caps n d more r l e =
-    let f = fixed caps (kind_of d) in
+    let f = fixed caps (form_of d).kind in
     let told = told_again caps d more r l in
-    let count : n - f ≡ length (body_of d) = omega (arith, e, length_fields caps d) in
-    let body = ap (λ (m : ℕ). part f m (fields caps d ++ more)) count ∙ part_found f (length (body_of d)) (fixed_fields caps d) (body_of d) more (length_fixed caps d) refl in
-    (λ i. fields_with (kind_of d) (fields caps d ++ more) (told i) (body i)) ∙ with_again caps d more r
+    let count : n - f ≡ length (form_of d).body = omega (arith, e, length_fields caps d) in
+    let body = ap (λ (m : ℕ). part f m (fields caps d ++ more)) count ∙ part_found f (length (form_of d).body) (fixed_fields caps d) (form_of d).body more (length_fixed caps d) refl in
+    (λ i. fields_with (form_of d).kind (fields caps d ++ more) (told i) (body i)) ∙ with_again caps d more r

@@ -3,9 +3,8 @@ use Rattle.std.proofs.Common.{◌≡◌, Bool, ◌⊎◌, inl, inr, refl, ap, �
 use Rattle.std.proofs.lemmas.Bool.{not-true}
 use Rattle.usb_base.proofs.Numbers.{le_at-append_32}
 use Rattle.packet_stream.specs.Format.{IsSound}
-use Rattle.packet_stream.specs.Joined.{joined}
 use Rattle.packet_stream.proofs.Formats.{none_before}
-use Rattle.packet_stream.proofs.Joins.{IsJoin, joined_sound, renamed_sound}
+use Rattle.packet_stream.proofs.Joins.{named, IsJoin, AreNames, joined_sound}
 use Rattle.redir_wire.specs.declared.packet.Caps.{Caps}
 use Rattle.redir_wire.specs.declared.packet.Way.{Way}
 use Rattle.redir_wire.specs.declared.packet.Header.{Header}
@@ -19,7 +18,7 @@ use Rattle.redir_data.specs.declared.packet.RedirPacket.TheVariants.{Plain, Carr
 use Rattle.redir_data.specs.declared.state.RedirState.{RedirState}
 use Rattle.redir_data.specs.Spelling.{number_of}
 use Rattle.redir_data.specs.Carrying.{transfers, carrying}
-use Rattle.redir_data.specs.Packets.{begins_plain, to_packet, from_packet, redir_packets}
+use Rattle.redir_data.specs.Packets.{begins_plain, from_packet, redir_packets}
 use Rattle.redir_data.specs.Streams.{stream_format}
 use Rattle.redir_data.specs.sound.Carrying.{data_owned, data_bodies, carrying_sound}
 
@@ -32,18 +31,26 @@ joins first caps way = record {
   right = λ p more is. ap is_plain (number_there (transfers caps way) first caps way p more is) ∙ not-true (is_plain (number_of p.1)) (data_owned p.1);
 }
 
-back : (p : (Header × RedirControl) ⊎ (Header × RedirData)) → from_packet (to_packet p) ≡ p
-back (inl p) = refl
-back (inr p) = refl
+abbrev pub as_plain : Header × RedirControl → Header × RedirPacket
+as_plain p = (p.0, Plain p.1)
 
-forth : (p : Header × RedirPacket) → to_packet (from_packet p) ≡ p
-forth (h, Plain p) = refl
-forth (h, Carrying p) = refl
+abbrev pub as_carrying : Header × RedirData → Header × RedirPacket
+as_carrying p = (p.0, Carrying p.1)
+
+names : AreNames as_plain as_carrying from_packet
+names = record { back = back; forth = forth }
+  where
+    back : (p : (Header × RedirControl) ⊎ (Header × RedirData)) → from_packet (named as_plain as_carrying p) ≡ p
+    back (inl p) = refl
+    back (inr p) = refl
+
+    forth : (p : Header × RedirPacket) → named as_plain as_carrying (from_packet p) ≡ p
+    forth (h, Plain p) = refl
+    forth (h, Carrying p) = refl
 
 pub redir_sound : (first : Bool) (caps : Caps) (way : Way) → IsSound (redir_packets first caps way)
 redir_sound first caps way =
-    renamed_sound to_packet from_packet (joined begins_plain (plain first caps way) (carrying first caps way)) back forth
-    (joined_sound 4 begins_plain (plain first caps way) (carrying first caps way) (plain_sound first caps way) (carrying_sound first caps way) (joins first caps way))
+    joined_sound 4 begins_plain as_plain as_carrying from_packet (plain first caps way) (carrying first caps way) names (plain_sound first caps way) (carrying_sound first caps way) (joins first caps way)
 
 pub stream_sound : (way : Way) (s : RedirState) → IsSound (stream_format way s)
 stream_sound way s = redir_sound s.first s.caps way

@@ -6,16 +6,15 @@ use Rattle.std.proofs.lemmas.List.{length-append}
 use Rattle.usb_base.specs.Number.{be_at}
 use Rattle.usb_base.proofs.Numbers.{be_at-append_16}
 use Rattle.packet_stream.specs.Format.{Check, IsSound}
-use Rattle.packet_stream.specs.Joined.{joined}
 use Rattle.packet_stream.proofs.Formats.{none_first, none_from, none_before}
-use Rattle.packet_stream.proofs.Joins.{Waits, IsJoin, joined_sound, renamed_sound}
+use Rattle.packet_stream.proofs.Joins.{named, Waits, IsJoin, AreNames, joined_sound}
 use Rattle.usb_base.specs.declared.reason.Reason.{Reason}
 use Rattle.usbip_op.specs.declared.code.TheConstants.{OP_REQ_DEVLIST, OP_REQ_IMPORT, USBIP_VERSION}
 use Rattle.usbip_op.specs.declared.packet.OpPacket.{OpPacket}
 use Rattle.usbip_op.specs.declared.packet.OpWay.TheVariants.{Request}
 use Rattle.usbip_op.specs.Ranges.{IsPacket}
 use Rattle.usbip_op.specs.Spelling.{spelling as op_spelling}
-use Rattle.usbip_op.specs.Requests.{requests as op_requests, request_checks as op_checks, version_check as op_version, code_check}
+use Rattle.usbip_op.specs.Requests.{requests as op_requests, version_check as op_version, code_check}
 use Rattle.usbip_op.proofs.Requests.{requests_sound as op_sound}
 use Rattle.usbip_urb.specs.declared.packet.UrbPacket.{UrbPacket}
 use Rattle.usbip_urb.specs.declared.client.ClientPacket.{ClientPacket}
@@ -24,7 +23,7 @@ use Rattle.usbip_urb.specs.Ranges.{IsRequest}
 use Rattle.usbip_urb.specs.Spelling.{spelling as urb_spelling}
 use Rattle.usbip_urb.specs.Checks.{version_check as urb_version, request_checks as urb_checks}
 use Rattle.usbip_urb.specs.Requests.{requests as urb_requests}
-use Rattle.usbip_urb.specs.ClientPackets.{is_op, of_either, as_either, client_packets}
+use Rattle.usbip_urb.specs.ClientPackets.{is_op, as_either, client_packets}
 use Rattle.usbip_urb.specs.Sound.Requests.{requests_sound as urb_sound, requests_steady as urb_steady, device_on, any_command, long_enough as urb_long}
 
 -- ---- both formats begin with the check of the version
@@ -32,7 +31,7 @@ use Rattle.usbip_urb.specs.Sound.Requests.{requests_sound as urb_sound, requests
 abbrev op_code : Check Reason
 op_code = code_check OP_REQ_DEVLIST OP_REQ_IMPORT
 
-pub op_waits : Waits 2 op_checks
+pub op_waits : Waits 2 op_requests.checks
 op_waits b less = none_from op_version (op_code ∷ []) b (λ there. absurd (omega arith)) (none_from op_code [] b (λ there. absurd (omega arith)) refl)
 
 pub urb_waits : Waits 2 urb_checks
@@ -71,13 +70,16 @@ join = record {
   right = urb_begins;
 }
 
-back : (p : OpPacket ⊎ UrbPacket) → as_either (of_either p) ≡ p
-back (inl p) = refl
-back (inr p) = refl
+names : AreNames {P = OpPacket} {Q = UrbPacket} {X = ClientPacket} Op Urb as_either
+names = record { back = back; forth = forth }
+  where
+    back : (p : OpPacket ⊎ UrbPacket) → as_either (named Op Urb p) ≡ p
+    back (inl p) = refl
+    back (inr p) = refl
 
-forth : (p : ClientPacket) → of_either (as_either p) ≡ p
-forth (Op p) = refl
-forth (Urb p) = refl
+    forth : (p : ClientPacket) → named Op Urb (as_either p) ≡ p
+    forth (Op p) = refl
+    forth (Urb p) = refl
 
 pub client_packets_sound : IsSound client_packets
-client_packets_sound = renamed_sound of_either as_either (joined is_op op_requests urb_requests) back forth (joined_sound 2 is_op op_requests urb_requests op_sound urb_sound join)
+client_packets_sound = joined_sound 2 is_op Op Urb as_either op_requests urb_requests names op_sound urb_sound join

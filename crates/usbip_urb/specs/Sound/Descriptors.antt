@@ -9,7 +9,7 @@ use Rattle.std.proofs.lemmas.List.Elements.{All-nil, All-cons, All-same, All-hea
 use Rattle.usb_base.specs.Number.{be_at, AreBytes}
 use Rattle.usb_base.proofs.Numbers.{AreBytes-drop, be_at-append_32, be_at-below_32}
 use Rattle.usbip_urb.specs.declared.packet.IsoDesc.{IsoDesc}
-use Rattle.usbip_urb.specs.Spelling.{words, desc_words, desc_bytes, descs_bytes}
+use Rattle.usbip_urb.specs.Spelling.{words, desc_words, descs_bytes}
 use Rattle.usbip_urb.specs.Fields.{desc_at, descs_at}
 use Rattle.usbip_urb.specs.Ranges.{IsWord, DescFits}
 use Rattle.usbip_urb.specs.Sound.Words.{words_at, words_spelled, words_below, length-words, word_in}
@@ -49,6 +49,9 @@ signed_fits n less = let fits : Fits w32 n = search rules in sfits_to_z fits
 
 desc_words_found : (b : List ℕ) → AreBytes b → desc_words (desc_at b) ≡ words_at 4 0 b
 desc_words_found b are = ap (λ (n : ℕ). be_at w32 0 b ∷ be_at w32 4 b ∷ be_at w32 8 b ∷ n ∷ []) (signed_again (be_at w32 12 b) (be_at-below_32 12 b are))
+
+abbrev pub desc_bytes : IsoDesc → List ℕ
+desc_bytes d = words (desc_words d)
 
 desc_found : (b : List ℕ) → AreBytes b → 16 ≤ length b → (desc_bytes (desc_at b) ≡ take 16 b) × DescFits (desc_at b)
 desc_found b are there = (

@@ -6,16 +6,24 @@ use Rattle.std.proofs.lemmas.Bool.{leb-true, le-leb, eqb-true, eq-eqb, or_cases}
 use Rattle.std.proofs.Math.Bool.{or-true}
 use Rattle.usb_base.specs.Number.{be_at}
 use Rattle.usb_base.proofs.Numbers.{be_at-append_32}
-use Rattle.packet_stream.specs.Format.{wrong_at}
+use Rattle.usb_base.specs.declared.reason.Reason.{Reason}
+use Rattle.usb_base.specs.declared.reason.Reason.TheVariants.{TooLong, Packets}
+use Rattle.packet_stream.specs.Format.{Check, wrong_at}
 use Rattle.packet_stream.specs.Joined.{guarded}
 use Rattle.packet_stream.proofs.Formats.{AreSteady, none_first, none_later, none_from}
 use Rattle.usbip_urb.specs.declared.code.TheConstants.{MAX_LENGTH}
 use Rattle.usbip_urb.specs.Ranges.{is_packet_count}
-use Rattle.usbip_urb.specs.Checks.{has_command, length_check, packets_check, size_checks}
+use Rattle.usbip_urb.specs.Checks.{number_check, has_command, size_checks}
 
 pub record IsWithinLimits (b : List ℕ) : Type 0 where
   pub few_bytes : be_at w32 24 b ≤ MAX_LENGTH
   pub few_packets : IsTrue (is_packet_count (be_at w32 32 b))
+
+abbrev length_check : Check Reason
+length_check = number_check 24 TooLong (λ length. nat_le length MAX_LENGTH)
+
+abbrev packets_check : Check Reason
+packets_check = number_check 32 Packets is_packet_count
 
 guard_passes : (t p : Bool) → (t ≡ true → p ≡ true) → (not t || p) ≡ true
 guard_passes true p h = h refl

@@ -8,6 +8,7 @@ use Rattle.std.proofs.lemmas.List.Elements.{All-same}
 use Rattle.usb_base.specs.Number.{be, be_at, part, AreBytes}
 use Rattle.usb_base.proofs.Numbers.{then, length-part, be_at-append_16, be_at-append_32, part_found}
 use Rattle.usb_base.specs.declared.reason.Reason.{Reason}
+use Rattle.usb_base.specs.declared.reason.Reason.TheVariants.{Device, Direction, Endpoint}
 use Rattle.packet_stream.specs.Format.{Check, IsSound, wrong_at}
 use Rattle.packet_stream.specs.Joined.{guarded}
 use Rattle.packet_stream.proofs.Formats.{AreSteady, stays_wrong, none_first, none_later, none_from}
@@ -15,18 +16,35 @@ use Rattle.usbip_urb.specs.declared.packet.Submit.{Submit}
 use Rattle.usbip_urb.specs.declared.packet.Unlink.{Unlink}
 use Rattle.usbip_urb.specs.declared.packet.UrbPacket.{UrbPacket}
 use Rattle.usbip_urb.specs.declared.packet.UrbPacket.TheVariants as urb
-use Rattle.usbip_urb.specs.declared.code.TheConstants.{EXPORTED_DEVID, MAX_ENDPOINT, USBIP_CMD_SUBMIT, USBIP_CMD_UNLINK}
+use Rattle.usbip_urb.specs.declared.code.TheConstants.{EXPORTED_DEVID, HEAD_SIZE, MAX_ENDPOINT, USBIP_CMD_SUBMIT, USBIP_CMD_UNLINK, USBIP_DIR_IN}
 use Rattle.usbip_urb.specs.Spelling.{words, submit_words, unlink_words, descs_bytes, spelling}
-use Rattle.usbip_urb.specs.Sizes.{is_out, body_size, count_of}
+use Rattle.usbip_urb.specs.Sizes.{is_out, body_size, count_of, whole_size}
 use Rattle.usbip_urb.specs.Fields.{submit_at, unlink_at}
 use Rattle.usbip_urb.specs.Ranges.{IsWord, IsRequest}
-use Rattle.usbip_urb.specs.Checks.{version_check, command_check, device_check, direction_check, endpoint_check, size_checks, has_command, request_checks}
-use Rattle.usbip_urb.specs.Requests.{request_size_by, request_by, requests}
+use Rattle.usbip_urb.specs.Checks.{number_check, version_check, command_check, size_checks, has_command, request_checks}
+use Rattle.usbip_urb.specs.Requests.{requests}
 use Rattle.usbip_urb.specs.Sound.Words.{words_at, words_spelled, words_below, length-words, word_in, head_in, fields_in}
 use Rattle.usbip_urb.specs.Sound.Payloads.{payload_found, payload_again}
 use Rattle.usbip_urb.specs.Sound.Limits.{IsWithinLimits, limits_right, limits_found, limits_steady, is_one_of, one_of}
 
+-- ---- by its command
+
+abbrev pub request_size_by : ℕ → List ℕ → ℕ
+request_size_by command b = cond (command == USBIP_CMD_SUBMIT) (whole_size (is_out (be_at w32 12 b)) b) HEAD_SIZE
+
+abbrev pub request_by : ℕ → List ℕ → UrbPacket
+request_by command b = cond (command == USBIP_CMD_SUBMIT) (urb.Submit (submit_at b)) (urb.Unlink (unlink_at b))
+
 -- ---- the checks, as what they say of the fields
+
+abbrev device_check : Check Reason
+device_check = number_check 8 Device (λ devid. devid == EXPORTED_DEVID)
+
+abbrev direction_check : Check Reason
+direction_check = number_check 12 Direction (λ direction. nat_le direction USBIP_DIR_IN)
+
+abbrev endpoint_check : Check Reason
+endpoint_check = number_check 16 Endpoint (λ endpoint. nat_le endpoint MAX_ENDPOINT)
 
 record IsRight (b : List ℕ) : Type 0 where
   version : be_at w16 0 b ≡ 0
@@ -61,20 +79,25 @@ none_wrong b h =
     (none_from endpoint_check limits_on b (λ _. le-leb (be_at w32 16 b) MAX_ENDPOINT h.endpoint)
     (limits_right USBIP_CMD_SUBMIT b h.limits)))))
 
+-- the limits are the last of them
+pub limits_there : (b : List ℕ) → wrong_at request_checks b ≡ None → wrong_at limits_on b ≡ None
+limits_there b none =
+    none_later endpoint_check limits_on b
+    (none_later direction_check endpoint_on b (none_later device_check direction_on b (none_later any_command device_on b (none_later version_check (any_command ∷ device_on) b none))))
+
 is_right : (b : List ℕ) → wrong_at request_checks b ≡ None → 48 ≤ length b → IsRight b
 is_right b none there =
     let command = none_later version_check (any_command ∷ device_on) b none in
     let device = none_later any_command device_on b command in
     let direction = none_later device_check direction_on b device in
     let endpoint = none_later direction_check endpoint_on b direction in
-    let limits = none_later endpoint_check limits_on b endpoint in
     record {
       version = eqb-true (be_at w16 0 b) 0 (none_first version_check (any_command ∷ device_on) b none (omega arith));
       command = one_of USBIP_CMD_SUBMIT USBIP_CMD_UNLINK (be_at w32 0 b) (none_first any_command device_on b command (omega arith));
       device = eqb-true (be_at w32 8 b) EXPORTED_DEVID (none_first device_check direction_on b device (omega arith));
       direction = leb-true (be_at w32 12 b) 1 (none_first direction_check endpoint_on b direction (omega arith));
       endpoint = leb-true (be_at w32 16 b) MAX_ENDPOINT (none_first endpoint_check limits_on b endpoint (omega arith));
-      limits = λ e. limits_found USBIP_CMD_SUBMIT b limits (omega arith) e;
+      limits = λ e. limits_found USBIP_CMD_SUBMIT b (limits_there b none) (omega arith) e;
     }
 
 -- each sees only the bytes that it needs

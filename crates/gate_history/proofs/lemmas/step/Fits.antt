@@ -5,7 +5,8 @@ use Rattle.redir_wire.specs.declared.packet.Header.{Header}
 use Rattle.redir_wire.specs.declared.packet.RedirControl.{RedirControl}
 use Rattle.redir_wire.specs.declared.packet.RedirControl.TheVariants as plain
 use Rattle.redir_wire.specs.Capability.{no_caps}
-use Rattle.redir_wire.specs.Header.{IdFits, is_wide, is_in_turn}
+use Rattle.redir_wire.specs.Header.{IdFits, is_wide}
+use Rattle.redir_wire.proofs.Says.{is_in_turn, header_says}
 use Rattle.redir_wire.specs.Spelling.{number_of}
 use Rattle.redir_data.specs.declared.packet.RedirData.{RedirData}
 use Rattle.redir_data.specs.declared.packet.RedirData.TheVariants as moving
@@ -61,7 +62,7 @@ pub told_fits : (s : RedirState) (caps : Caps) (h : Header) (p : RedirPacket) â†
 told_fits s caps h (Plain q) step fits = record {
   id_fits = id_fits_by s.first s.caps caps h.id step.caps_are step.none_yet fits.header.id_fits;
   response = plain_response h.kind q fits.kind;
-  hello = plain_hello s.first h.kind caps q fits.header.in_turn fits.kind step.none_yet;
+  hello = plain_hello s.first h.kind caps q (header_says fits.header).in_turn fits.kind step.none_yet;
 }
 told_fits s caps h (Carrying d) step fits = record {
   id_fits = id_fits_by s.first s.caps caps h.id step.caps_are step.none_yet fits.header.id_fits;

@@ -1,23 +1,23 @@
 -- What is kept of a side's stream is shorter than its longest packet.
-use Rattle.std.proofs.Common.{◌≡◌, ◌==◌, ◌||◌, ℕ, ◌+◌, ◌<◌, ◌≤◌, Bool, true, false, cond, List, ◌∷◌, length, IsTrue, Option, Some, None, refl, sym, ap, subst, ◌∙◌, inl, inr, arith}
+use Rattle.std.proofs.Common.{◌≡◌, ◌==◌, ◌||◌, ℕ, ◌+◌, ◌<◌, ◌≤◌, Bool, true, false, cond, List, length, IsTrue, Option, Some, None, refl, sym, ap, subst, ◌∙◌, inl, inr, arith}
 use Rattle.std.specs.Prelude.{nat_lt, nat_le}
 use Rattle.std.specs.Int.{w16, w32}
 use Rattle.std.proofs.lemmas.Bool.{cases_Bool, ltb-true, ltb-false, leb-true, eqb-true, false≢true}
 use Rattle.usb_base.specs.Number.{AreBytes, be_at, le_at}
-use Rattle.usb_base.specs.declared.reason.Reason.TheVariants.{TooLong26, BadLength, WrongWay, NotAgreed, UnknownType, HelloFirst}
 use Rattle.packet_stream.specs.Format.{Format, IsSound, IsShort, Found, Whole, Short, Wrong, wrong_at, reading_by}
 use Rattle.packet_stream.specs.Split.{Position, Ends, reads, split}
-use Rattle.packet_stream.proofs.Formats.{none_first, none_later, short_reading}
+use Rattle.packet_stream.proofs.Formats.{short_reading}
 use Rattle.packet_stream.proofs.Following.{rest_bytes}
 use Rattle.packet_stream.proofs.Laws.{reads_steady}
 use Rattle.packet_stream.proofs.Splits.{is_splitting}
-use Rattle.packet_stream.specs.Joined.{guarded}
 use Rattle.packet_stream.proofs.Joins.{joined-left, joined-right}
 use Rattle.usbip_op.specs.declared.code.TheConstants.{OP_REQ_DEVLIST}
-use Rattle.usbip_op.specs.Requests.{requests as op_requests, request_size_by as op_size}
-use Rattle.usbip_urb.specs.declared.code.TheConstants.{MAX_PACKETS, NO_PACKETS, USBIP_CMD_SUBMIT, USBIP_CMD_UNLINK}
-use Rattle.usbip_urb.specs.Checks.{version_check, command_check, device_check, direction_check, endpoint_check, has_command, size_checks, request_checks as urb_checks}
-use Rattle.usbip_urb.specs.Requests.{requests as urb_requests, request_size_by as urb_size}
+use Rattle.usbip_op.specs.Requests.{requests as op_requests}
+use Rattle.usbip_op.proofs.Requests.{request_size_by as op_size}
+use Rattle.usbip_urb.specs.declared.code.TheConstants.{MAX_PACKETS, NO_PACKETS, USBIP_CMD_SUBMIT}
+use Rattle.usbip_urb.specs.Checks.{request_checks as urb_checks}
+use Rattle.usbip_urb.specs.Requests.{requests as urb_requests}
+use Rattle.usbip_urb.specs.Sound.Requests.{request_size_by as urb_size, limits_there}
 use Rattle.usbip_urb.specs.ClientPackets.{is_op, client_packets}
 use Rattle.usbip_urb.specs.Ranges.{is_packet_count}
 use Rattle.usbip_urb.specs.Sizes.{is_out, body_size, count_of, whole_size}
@@ -25,8 +25,10 @@ use Rattle.usbip_urb.specs.Sound.ClientPackets.{client_packets_sound}
 use Rattle.usbip_urb.specs.Sound.Limits.{limits_found}
 use Rattle.redir_wire.specs.declared.packet.Way.TheVariants.{ToGuest}
 use Rattle.redir_wire.specs.declared.packet.Caps.{Caps}
-use Rattle.redir_wire.specs.Header.{is_wide, head_size, is_in_turn, is_known, is_agreed, is_on_its_way, is_in_limit, is_its_length, check}
-use Rattle.redir_wire.specs.Bodies.{Bodies, own_check, behind_head, packets, size}
+use Rattle.redir_wire.specs.Header.{is_wide, head_size}
+use Rattle.redir_wire.specs.Bodies.{Bodies, packets}
+use Rattle.redir_wire.proofs.Headers.{size}
+use Rattle.redir_wire.proofs.Packets.{limit_there}
 use Rattle.redir_wire.specs.Plain.{controls, plain}
 use Rattle.redir_data.specs.Carrying.{transfers, carrying}
 use Rattle.redir_data.specs.Packets.{begins_plain}
@@ -96,19 +98,9 @@ op-most code = go (code == OP_REQ_DEVLIST)
 urb-most : (b : List ℕ) → wrong_at urb_checks b ≡ None → 48 ≤ length b → urb_size (be_at w32 0 b) b ≤ 16793648
 urb-most b right there = go (be_at w32 0 b == USBIP_CMD_SUBMIT) refl
   where
-    limits : wrong_at (guarded (has_command USBIP_CMD_SUBMIT) size_checks) b ≡ None
-    limits =
-        let last = guarded (has_command USBIP_CMD_SUBMIT) size_checks in
-        let command = command_check USBIP_CMD_SUBMIT USBIP_CMD_UNLINK in
-        none_later endpoint_check last b
-        (none_later direction_check (endpoint_check ∷ last) b
-        (none_later device_check (direction_check ∷ endpoint_check ∷ last) b
-        (none_later command (device_check ∷ direction_check ∷ endpoint_check ∷ last) b
-        (none_later version_check (command ∷ device_check ∷ direction_check ∷ endpoint_check ∷ last) b right))))
-
     go : (t : Bool) → (be_at w32 0 b == USBIP_CMD_SUBMIT) ≡ t → cond t (whole_size (is_out (be_at w32 12 b)) b) 48 ≤ 16793648
     go true e =
-        let l = limits_found USBIP_CMD_SUBMIT b limits (omega arith) (eqb-true (be_at w32 0 b) USBIP_CMD_SUBMIT e) in
+        let l = limits_found USBIP_CMD_SUBMIT b (limits_there b right) (omega arith) (eqb-true (be_at w32 0 b) USBIP_CMD_SUBMIT e) in
         let body = body-most (is_out (be_at w32 12 b)) (be_at w32 24 b) in
         let descs = counted (be_at w32 32 b) l.few_packets in
         omega (arith, l.few_bytes, body, descs)
@@ -138,25 +130,9 @@ head-most false = omega arith
 bodies-short : {P : Type 0} (f : Bodies P) (first : Bool) (caps : Caps) (b : List ℕ) → wrong_at (packets f first caps ToGuest).checks b ≡ None → length b < size (is_wide first caps) b → length b ≤ 16777295
 bodies-short f first caps b right short = go (nat_lt (length b) 8) refl short
   where
-    few : 8 ≤ length b → is_in_limit (le_at w32 4 b) ≡ true
-    few there =
-        let behind = behind_head (is_wide first caps) f.checks in
-        let last = check 4 8 BadLength (λ b. is_its_length caps (le_at w32 0 b) (le_at w32 4 b)) ∷ behind in
-        let limit = check 4 8 TooLong26 (λ b. is_in_limit (le_at w32 4 b)) in
-        let ways = check 0 4 WrongWay (λ b. is_on_its_way ToGuest (le_at w32 0 b)) in
-        let agreed = check 0 4 NotAgreed (λ b. is_agreed caps (le_at w32 0 b)) in
-        let known = check 0 4 UnknownType (λ b. is_known (le_at w32 0 b)) in
-        let turn = check 0 4 HelloFirst (λ b. is_in_turn first (le_at w32 0 b)) in
-        none_first limit last b
-        (none_later ways (limit ∷ last) b
-        (none_later agreed (ways ∷ limit ∷ last) b
-        (none_later known (agreed ∷ ways ∷ limit ∷ last) b
-        (none_later turn (known ∷ agreed ∷ ways ∷ limit ∷ last) b
-        (none_later (own_check f) (turn ∷ known ∷ agreed ∷ ways ∷ limit ∷ last) b right))))) there
-
     go : (t : Bool) → nat_lt (length b) 8 ≡ t → length b < cond t (head_size (is_wide first caps)) (head_size (is_wide first caps) + le_at w32 4 b) → length b ≤ 16777295
     go true e h = omega (arith, head-most (is_wide first caps))
-    go false e h = let limit = leb-true (le_at w32 4 b) 16777280 (few (ltb-false (length b) 8 e)) in omega (arith, limit, head-most (is_wide first caps))
+    go false e h = let limit = leb-true (le_at w32 4 b) 16777280 (limit_there f first caps ToGuest b right (ltb-false (length b) 8 e)) in omega (arith, limit, head-most (is_wide first caps))
 
 host-short : (s : RedirState) (b : List ℕ) → wrong_at (host_format s).checks b ≡ None → length b < (host_format s).size b → length b ≤ 16777295
 host-short s b right short =

@@ -8,6 +8,7 @@ use Rattle.redir_wire.specs.declared.packet.RedirControl.{RedirControl}
 use Rattle.redir_wire.specs.declared.packet.RedirControl.TheVariants as plain
 use Rattle.redir_wire.specs.Capability.{agreed, announced, caps_of}
 use Rattle.redir_wire.specs.Spelling.{number_of}
+use Rattle.redir_wire.proofs.Says.{header_says}
 use Rattle.redir_data.specs.declared.packet.RedirData.{RedirData}
 use Rattle.redir_data.specs.declared.packet.RedirData.TheVariants as moving
 use Rattle.redir_data.specs.declared.packet.RedirPacket.{RedirPacket}
@@ -63,8 +64,8 @@ in-turn false true e = absurd (true≢false (sym e))
 in-turn false false e = refl
 
 greets-first : (s : RedirState) (h : Header) (p : RedirPacket) → (host_format s).Fits (h, p) → s.first ≡ is_greeting p
-greets-first s h (Plain q) fits = in-turn s.first (h.kind == 0) fits.header.in_turn ∙ ap (λ (n : ℕ). n == 0) fits.kind ∙ plain-number q
-greets-first s h (Carrying d) fits = in-turn s.first (h.kind == 0) fits.header.in_turn ∙ ap (λ (n : ℕ). n == 0) fits.kind ∙ data-number d
+greets-first s h (Plain q) fits = in-turn s.first (h.kind == 0) (header_says fits.header).in_turn ∙ ap (λ (n : ℕ). n == 0) fits.kind ∙ plain-number q
+greets-first s h (Carrying d) fits = in-turn s.first (h.kind == 0) (header_says fits.header).in_turn ∙ ap (λ (n : ℕ). n == 0) fits.kind ∙ data-number d
 
 advanced-first : (s : RedirState) (p : RedirPacket) → (advanced s p).first ≡ true → s.first ≡ true
 advanced-first s (Plain (plain.Hello x)) e = absurd (true≢false (sym e))

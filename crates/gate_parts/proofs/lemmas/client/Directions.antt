@@ -3,6 +3,7 @@ use Rattle.std.proofs.Common.{rules, w32, ◌≡◌, ◌⊎◌, ◌&&◌, ◌==�
 use Rattle.std.specs.Prelude.{nat_lt, nat_le, FitsSigned}
 use Rattle.unlink_race.specs.Searches.{is_stream}
 use Rattle.std.specs.List.{find}
+use Rattle.std.specs.Option.{option_map_or}
 use Rattle.std.proofs.lemmas.Bool.{false≢true, true≢false, eqb-true, leb-false}
 use Rattle.std.proofs.lemmas.Bool.Decides.{eqb_tells}
 use Rattle.usb_base.specs.declared.setup.Setup.{Setup}
@@ -15,7 +16,7 @@ use Rattle.usbip_urb.specs.Buffers.{laid}
 use Rattle.usbip_urb.specs.declared.code.TheConstants.{MAX_LIVE}
 use Rattle.control_route.specs.declared.route.Route.{Route}
 use Rattle.control_route.specs.declared.route.Route.TheVariants as route
-use Rattle.control_route.specs.Routes.{RouteRow, has_no_data, is_byte, by_row, is_for, rows, route_of}
+use Rattle.control_route.specs.Routes.{RouteRow, has_no_data, is_byte, is_for, rows, route_of}
 use Rattle.gate_history.specs.write.Errno.{enoent, ebusy, einval, emsgsize, eshutdown}
 use Rattle.gate_history.specs.client.Requests.{Request, address, is_in_setup}
 use Rattle.gate_history.specs.client.Verdict.{InterruptOut, Verdict, Now, Wire, Routed, IsoOut, Stream, max_narrow, none_of, bool_eq, is_invalid, is_control, is_iso, is_narrow, by_route, by_setup, by_kind, by_endpoint, by_transfer, verdict, goes_by_id}
@@ -38,6 +39,9 @@ unless is_in false ep wanted status v h k = h refl k
 both-left : (a b : Bool) → (a && b) ≡ true → a ≡ true
 both-left true b e = refl
 both-left false b e = e
+
+abbrev by_row : Setup → Option RouteRow → Route
+by_row s row = option_map_or (λ (r : RouteRow). cond (r.good s) (r.route s) route.Bad) row route.Plain
 
 -- the row that it has says so
 reads-among : (s : Setup) (rs : List RouteRow) → Each (λ row. is_for s row ≡ true → route_gets (by_row s (Some row)) ≡ true → is_in_setup s ≡ true) rs →

@@ -1,6 +1,7 @@
 use Rattle.std.proofs.Common.{ℕ, List, Err, drop, ap, ◌∙◌, sym, subst}
 use Rattle.packet_stream.specs.Format.{reading}
 use Rattle.packet_stream.specs.Reads.{Answers}
+use Rattle.redir_wire.proofs.Says.{header_says}
 use Rattle.redir_data.specs.Packets.{redir_packets, takes_memory}
 use Rattle.redir_data.specs.inner.Past.{past_found}
 use Rattle.redir_data.proofs.Front.{short, error_same, past}
@@ -28,3 +29,8 @@ returns-in-Ok-Whole-clause-exact g c =
     subst (Answers takes_memory c.take_behind.result)
     (ap (λ (x : List ℕ). past_found a.caps a.way w.size w.head (drop w.size x)) (sym same) ∙ sym p ∙ ap (reading (redir_packets a.first a.caps a.way)) same)
     c.take_behind.ensures.exact
+
+pub take_behind-requires-clause-its_length : goal.take_behind-requires-clause-its_length
+take_behind-requires-clause-its_length g c =
+    let w = c.in-Ok-Whole in
+    (header_says (rw w.field-0-is at w.ensures.stands).fits).its_length

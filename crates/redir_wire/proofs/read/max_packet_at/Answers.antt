@@ -1,11 +1,12 @@
 use Rattle.std.proofs.Common.{drop, refl, sym, ap, ◌∙◌, arith}
 use Rattle.std.proofs.lemmas.List.{length-set, take_all}
-use Rattle.redir_wire.specs.Words.{halves_of}
+use Rattle.std.specs.Int.{w16}
+use Rattle.redir_wire.specs.Words.{numbers_of}
 use Rattle.redir_wire.proofs.Words.{next_half}
 use Rattle.redir_wire.proofs.read.max_packet_at.Goals as goal
 
 pub loop-i-init : goal.loop-i-init
-unfolding halves_of
+unfolding numbers_of
 loop-i-init c = record { sizes_length = refl; told = refl }
 
 pub loop-i-preserved : goal.loop-i-preserved
@@ -20,4 +21,4 @@ pub returns : goal.returns
 returns c =
     let at = c.loop-i in
     sym (take_all at.i at.sizes (omega (arith, at.invariant.sizes_length, c.loop-i-test.false))) ∙ at.invariant.told
-    ∙ ap (λ n. halves_of n (drop 96 c.args.bytes.now)) (omega (arith, c.loop-i-test.false, at.auto.i-end))
+    ∙ ap (λ n. numbers_of w16 n (drop 96 c.args.bytes.now)) (omega (arith, c.loop-i-test.false, at.auto.i-end))

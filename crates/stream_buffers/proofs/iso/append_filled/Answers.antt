@@ -1,6 +1,7 @@
 use Rattle.std.proofs.Common.{ℕ, List, ◌++◌, sym, ap, ◌∙◌, take, drop, append_assoc}
 use Rattle.usbip_urb.specs.declared.packet.IsoDesc.{IsoDesc}
-use Rattle.usbip_urb.specs.Spelling.{desc_bytes, descs_bytes}
+use Rattle.usbip_urb.specs.Spelling.{descs_bytes}
+use Rattle.usbip_urb.specs.Sound.Descriptors.{desc_bytes}
 use Rattle.stream_buffers.specs.Iso.{all_filled}
 use Rattle.stream_buffers.proofs.Descriptors.{pair, filled_more, bytes_more}
 use Rattle.stream_buffers.proofs.iso.append_filled.Goals as goal

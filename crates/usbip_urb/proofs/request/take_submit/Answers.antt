@@ -6,7 +6,8 @@ use Rattle.packet_stream.specs.Format.{reading_by}
 use Rattle.packet_stream.specs.Reads.{Answers}
 use Rattle.usbip_urb.specs.Heap.{takes_memory}
 use Rattle.usbip_urb.specs.Sizes.{is_out, whole_size, descs_place, descs_size}
-use Rattle.usbip_urb.specs.Requests.{request_by, request_size_by, requests}
+use Rattle.usbip_urb.specs.Requests.{requests}
+use Rattle.usbip_urb.specs.Sound.Requests.{request_by, request_size_by}
 use Rattle.usbip_urb.proofs.Wanting.{wanting, body_wanting, descs_wanting}
 use Rattle.usbip_urb.proofs.request.take_submit.Goals as goal
 
