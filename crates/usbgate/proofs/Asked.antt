@@ -1,28 +1,45 @@
--- What serving and lending leave is of what the words ask for.
-use Rattle.std.proofs.Common.{◌≡◌, ℕ, List, Option, subst}
+-- What a run leaves is of what the words ask for.
+use Rattle.std.proofs.Common.{◌≡◌, ℕ, List, Option, Some, Result, sym, ap, subst, ◌∙◌}
+use Rattle.std.proofs.lemmas.Option.{same_Some}
 use Rattle.usb_base.specs.declared.side.Side.{Side}
+use Rattle.gate_outside.specs.declared.fault.Failed.{Failed}
 use Rattle.gate_outside.specs.Calls.{Call}
 use Rattle.gate_outside.specs.Link.{Link, Door}
-use Rattle.bridge_run.specs.Outside.{Faults, Written, outside}
+use Rattle.bridge_run.specs.Outside.{Faults, Written}
 use Rattle.usbgate_tapes.specs.declared.status.Status.{Status}
+use Rattle.usbgate_tapes.specs.Prescribed.{Prescribed}
+use Rattle.usbgate_tapes.specs.Logs.{RunLeaves, RunWrites}
+use Rattle.usbgate_tapes.proofs.lemmas.Unread.{leaves-unread}
+use Rattle.usbgate_commands.specs.declared.words.Command.{Command}
 use Rattle.usbgate_commands.specs.declared.words.Command.TheVariants.{Serve, Host}
 use Rattle.usbgate_commands.specs.Lending.{AskedLent}
-use Rattle.usbgate_commands.specs.Logs.{ServesByLog, LendsByLog, RunServes, RunLends}
-use Rattle.usbgate_commands.specs.Serves.{Serves, Lends}
+use Rattle.usbgate_commands.specs.Logs.{RunServes, RunLends}
 use Rattle.usbgate_commands.specs.Serving.{ServeSettings}
+use Rattle.usbgate.specs.Prescribed.{prescribed}
+
+pub leaves-asked : {S K : Type 0} {read_gives : S → List ℕ → Result ℕ Failed → S → Type 0} {write_gives : K → List ℕ → Result ℕ Failed → K → Type 0} {remaining : S → Option (List ℕ)} {contents : K → Option (List ℕ)} {status : Status} {tape tape' : S} {out out' : K} (x y : Command) (p q : Prescribed) → x ≡ y → prescribed x ≡ Some p → prescribed y ≡ Some q
+    → RunLeaves read_gives write_gives remaining contents status p tape tape' out out' → RunLeaves read_gives write_gives remaining contents status q tape tape' out out'
+leaves-asked {read_gives = read_gives} {write_gives = write_gives} {remaining = remaining} {contents = contents} {status = status} {tape = tape} {tape' = tape'} {out = out} {out' = out'} x y p q same of is leaves =
+    subst (λ (r : Prescribed). RunLeaves read_gives write_gives remaining contents status r tape tape' out out') (same_Some p q (sym of ∙ ap prescribed same ∙ is)) leaves
+
+-- of a run that reads no tape
+pub writes-asked : {S K : Type 0} {read_gives : S → List ℕ → Result ℕ Failed → S → Type 0} {write_gives : K → List ℕ → Result ℕ Failed → K → Type 0} {remaining : S → Option (List ℕ)} {contents : K → Option (List ℕ)} {status : Status} {tape : S} {out out' : K} (x y : Command) (p q : Prescribed) → x ≡ y → prescribed x ≡ Some p → prescribed y ≡ Some q
+    → RunWrites write_gives contents status p out out' → RunLeaves read_gives write_gives remaining contents status q tape tape out out'
+writes-asked {read_gives = read_gives} {write_gives = write_gives} {remaining = remaining} {contents = contents} {status = status} {tape = tape} {out = out} {out' = out'} x y p q same of is writes =
+    leaves-asked x y p q same of is (leaves-unread read_gives write_gives remaining contents status p tape out out' writes)
 
 same-served : (x y : ServeSettings) → Serve x ≡ Serve y → x ≡ y
 same-served x y same = cc
 
 pub serves-asked : {D : Type 0} {gives : D → Call → D → Type 0} {link : D → Side → Link} {door : D → Door} {tells : List ℕ → Type 0} {status : Status} {old new : D} {f f' : Faults} {w w' : Written} (x y : ServeSettings) → Serve x ≡ Serve y
-    → ServesByLog gives tells status x old new → Serves status x (outside (link old) (door old)) (outside (link new) (door new)) f f' w w' → RunServes gives link door tells status y old new f f' w w'
-serves-asked {gives = gives} {link = link} {door = door} {tells = tells} {status = status} {old = old} {new = new} {f = f} {f' = f'} {w = w} {w' = w'} x y same log serves =
-    subst (λ (asked : ServeSettings). RunServes gives link door tells status asked old new f f' w w') (same-served x y same) (record { by_log = log; where_told = serves })
+    → RunServes gives link door tells status x old new f f' w w' → RunServes gives link door tells status y old new f f' w w'
+serves-asked {gives = gives} {link = link} {door = door} {tells = tells} {status = status} {old = old} {new = new} {f = f} {f' = f'} {w = w} {w' = w'} x y same serves =
+    subst (λ (asked : ServeSettings). RunServes gives link door tells status asked old new f f' w w') (same-served x y same) serves
 
 same-lent : (x y : AskedLent) → Host x ≡ Host y → x ≡ y
 same-lent x y same = cc
 
 pub lends-asked : {D : Type 0} {gives : D → Call → D → Type 0} {link : D → Side → Link} {door : D → Door} {tells : List ℕ → Type 0} {status : Status} {old new : D} {n n' : ℕ} {held held' : Option (List ℕ)} (x y : AskedLent) → Host x ≡ Host y
-    → LendsByLog gives tells status x old new → Lends status x (outside (link old) (door old)) (outside (link new) (door new)) n n' held held' → RunLends gives link door tells status y old new n n' held held'
-lends-asked {gives = gives} {link = link} {door = door} {tells = tells} {status = status} {old = old} {new = new} {n = n} {n' = n'} {held = held} {held' = held'} x y same log lends =
-    subst (λ (asked : AskedLent). RunLends gives link door tells status asked old new n n' held held') (same-lent x y same) (record { by_log = log; where_told = lends })
+    → RunLends gives link door tells status x old new n n' held held' → RunLends gives link door tells status y old new n n' held held'
+lends-asked {gives = gives} {link = link} {door = door} {tells = tells} {status = status} {old = old} {new = new} {n = n} {n' = n'} {held = held} {held' = held'} x y same lends =
+    subst (λ (asked : AskedLent). RunLends gives link door tells status asked old new n n' held held') (same-lent x y same) lends

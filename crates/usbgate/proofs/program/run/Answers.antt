@@ -1,19 +1,16 @@
-use Rattle.std.proofs.Common.{inr, sym, ap, subst, ◌∙◌}
-use Rattle.std.proofs.lemmas.Option.{same_Some}
-use Rattle.bridge_run.specs.Outside.{outside, written, faults}
+use Rattle.std.proofs.Common.{inr, refl, sym, ap, ◌∙◌}
+use Rattle.bridge_run.specs.Outside.{written, faults}
 use Rattle.usbgate_tapes.specs.tape.EventCommand.{over_events}
 use Rattle.usbgate_tapes.specs.Replay.{replay}
 use Rattle.usbgate_tapes.specs.model.Model.{model_of}
 use Rattle.usbgate_tapes.specs.Show.{show}
 use Rattle.usbgate_tapes.specs.model.Made.{made, loaded}
-use Rattle.usbgate_tapes.specs.Prescribed.{Prescribed, over_tape, printed, usage}
-use Rattle.usbgate.specs.Prescribed.{prescribed}
+use Rattle.usbgate_tapes.specs.Prescribed.{over_tape, printed, usage}
 use Rattle.usbgate_commands.specs.Recording.{records}
-use Rattle.usbgate_tapes.specs.Logs.{RunLeaves}
 use Rattle.usbgate_commands.proofs.Served.{links-stand, link-fault-of, link-stands}
 use Rattle.usbgate_tapes.proofs.lemmas.model.Simulated.{unsimulated}
-use Rattle.usbgate_tapes.proofs.lemmas.Unread.{leaves-none, leaves-unread}
-use Rattle.usbgate.proofs.Asked.{serves-asked, lends-asked}
+use Rattle.usbgate_tapes.proofs.lemmas.Unread.{leaves-none}
+use Rattle.usbgate.proofs.Asked.{leaves-asked, writes-asked, serves-asked, lends-asked}
 use Rattle.usbgate.proofs.Simulated.{simulates-device, simulates-count}
 use Rattle.usbgate_commands.proofs.Logs.{run-unserved, run-unlent}
 use Rattle.usbgate.proofs.program.run.Goals as goal
@@ -34,44 +31,32 @@ pub returns-in_default-clause-simulates : goal.returns-in_default-clause-simulat
 returns-in_default-clause-simulates g c = λ device is. unsimulated g.S.Source.read_gives g.S.Source.remaining device c.args.tape.now c.args.tape.now
 
 pub returns-in-Replay-clause-leaves : goal.returns-in-Replay-clause-leaves
-returns-in-Replay-clause-leaves g c = λ p is.
-    subst (λ (q : Prescribed). RunLeaves g.S.Source.read_gives g.K.Sink.write_gives g.S.Source.remaining g.K.Sink.contents c.replay.result q c.args.tape.now c.replay.new.tape c.args.out.now c.replay.new.out)
-    (same_Some (over_tape (over_events (replay c.in-Replay.first_id))) p (ap prescribed (sym c.in-Replay.is ∙ c.in-Ok.ensures.value) ∙ is)) c.replay.ensures.leaves
+returns-in-Replay-clause-leaves g c = λ p is. leaves-asked _ _ (over_tape (over_events (replay c.in-Replay.first_id))) p (sym c.in-Replay.is ∙ c.in-Ok.ensures.value) refl is c.replay.ensures.leaves
 
 pub returns-in-Model-clause-leaves : goal.returns-in-Model-clause-leaves
-returns-in-Model-clause-leaves g c = λ p is.
-    subst (λ (q : Prescribed). RunLeaves g.S.Source.read_gives g.K.Sink.write_gives g.S.Source.remaining g.K.Sink.contents c.model.result q c.args.tape.now c.model.new.tape c.args.out.now c.model.new.out)
-    (same_Some (over_tape (model_of c.in-Model.device)) p (ap prescribed (sym c.in-Model.is ∙ c.in-Ok.ensures.value) ∙ is)) c.model.ensures.leaves
+returns-in-Model-clause-leaves g c = λ p is. leaves-asked _ _ (over_tape (model_of c.in-Model.device)) p (sym c.in-Model.is ∙ c.in-Ok.ensures.value) refl is c.model.ensures.leaves
 
 pub returns-in-Show-clause-leaves : goal.returns-in-Show-clause-leaves
-returns-in-Show-clause-leaves g c = λ p is.
-    subst (λ (q : Prescribed). RunLeaves g.S.Source.read_gives g.K.Sink.write_gives g.S.Source.remaining g.K.Sink.contents c.show.result q c.args.tape.now c.show.new.tape c.args.out.now c.show.new.out)
-    (same_Some (over_tape (over_events (show c.in-Show.side))) p (ap prescribed (sym c.in-Show.is ∙ c.in-Ok.ensures.value) ∙ is)) c.show.ensures.leaves
+returns-in-Show-clause-leaves g c = λ p is. leaves-asked _ _ (over_tape (over_events (show c.in-Show.side))) p (sym c.in-Show.is ∙ c.in-Ok.ensures.value) refl is c.show.ensures.leaves
 
 pub returns-in-Make-clause-leaves : goal.returns-in-Make-clause-leaves
-returns-in-Make-clause-leaves g c = λ p is.
-    subst (λ (q : Prescribed). RunLeaves g.S.Source.read_gives g.K.Sink.write_gives g.S.Source.remaining g.K.Sink.contents c.make.result q c.args.tape.now c.args.tape.now c.args.out.now c.make.new.out)
-    (same_Some (printed (made c.in-Make.count)) p (ap prescribed (sym c.in-Make.is ∙ c.in-Ok.ensures.value) ∙ is)) (leaves-unread g.S.Source.read_gives g.K.Sink.write_gives g.S.Source.remaining g.K.Sink.contents c.make.result (printed (made c.in-Make.count)) c.args.tape.now c.args.out.now c.make.new.out c.make.ensures.leaves)
+returns-in-Make-clause-leaves g c = λ p is. writes-asked _ _ (printed (made c.in-Make.count)) p (sym c.in-Make.is ∙ c.in-Ok.ensures.value) refl is c.make.ensures.leaves
 
 pub returns-in-Load-clause-leaves : goal.returns-in-Load-clause-leaves
-returns-in-Load-clause-leaves g c = λ p is.
-    subst (λ (q : Prescribed). RunLeaves g.S.Source.read_gives g.K.Sink.write_gives g.S.Source.remaining g.K.Sink.contents c.load.result q c.args.tape.now c.args.tape.now c.args.out.now c.load.new.out)
-    (same_Some (printed (loaded c.in-Load.count)) p (ap prescribed (sym c.in-Load.is ∙ c.in-Ok.ensures.value) ∙ is)) (leaves-unread g.S.Source.read_gives g.K.Sink.write_gives g.S.Source.remaining g.K.Sink.contents c.load.result (printed (loaded c.in-Load.count)) c.args.tape.now c.args.out.now c.load.new.out c.load.ensures.leaves)
+returns-in-Load-clause-leaves g c = λ p is. writes-asked _ _ (printed (loaded c.in-Load.count)) p (sym c.in-Load.is ∙ c.in-Ok.ensures.value) refl is c.load.ensures.leaves
 
 pub returns-in-Unknown-clause-leaves : goal.returns-in-Unknown-clause-leaves
-returns-in-Unknown-clause-leaves g c = λ p is.
-    subst (λ (q : Prescribed). RunLeaves g.S.Source.read_gives g.K.Sink.write_gives g.S.Source.remaining g.K.Sink.contents c.print_usage.result q c.args.tape.now c.args.tape.now c.args.out.now c.print_usage.new.out)
-    (same_Some (usage) p (ap prescribed (sym c.in-Unknown.is ∙ c.in-Ok.ensures.value) ∙ is)) (leaves-unread g.S.Source.read_gives g.K.Sink.write_gives g.S.Source.remaining g.K.Sink.contents c.print_usage.result (usage) c.args.tape.now c.args.out.now c.print_usage.new.out c.print_usage.ensures.leaves)
+returns-in-Unknown-clause-leaves g c = λ p is. writes-asked _ _ usage p (sym c.in-Unknown.is ∙ c.in-Ok.ensures.value) refl is c.print_usage.ensures.leaves
 
 pub returns-in-Model-clause-simulates : goal.returns-in-Model-clause-simulates
 returns-in-Model-clause-simulates g c = λ device is.
     simulates-device g.S.Source.read_gives g.S.Source.remaining c.in-Model.device device c.model.result c.args.tape.now c.model.new.tape (sym c.in-Model.is ∙ c.in-Ok.ensures.value ∙ is) c.model.ensures.simulates
 
 pub returns-in-Serve-clause-serves : goal.returns-in-Serve-clause-serves
-returns-in-Serve-clause-serves g c = λ asked is. serves-asked c.in-Serve.serving asked (sym c.in-Serve.is ∙ c.in-Ok.ensures.value ∙ is) c.serve.ensures.log c.serve.ensures.serves
+returns-in-Serve-clause-serves g c = λ asked is. serves-asked c.in-Serve.serving asked (sym c.in-Serve.is ∙ c.in-Ok.ensures.value ∙ is) c.serve.ensures.serves
 
 pub returns-in-Host-clause-lends : goal.returns-in-Host-clause-lends
-returns-in-Host-clause-lends g c = λ asked is. lends-asked c.in-Host.lending asked (sym c.in-Host.is ∙ c.in-Ok.ensures.value ∙ is) c.host.ensures.log c.host.ensures.lends
+returns-in-Host-clause-lends g c = λ asked is. lends-asked c.in-Host.lending asked (sym c.in-Host.is ∙ c.in-Ok.ensures.value ∙ is) c.host.ensures.lends
 
 pub returns-in-Serve-clause-usage : goal.returns-in-Serve-clause-usage
 returns-in-Serve-clause-usage g c = λ is. inr (ap records (sym c.in-Ok.ensures.value ∙ c.in-Serve.is) ∙ c.serve.ensures.asked is, (c.serve.ensures.causes.usage is).1)
@@ -90,7 +75,7 @@ returns-in-Serve-clause-links_stand g c = λ side other. link-stands c.serve.res
 
 pub returns-in-Host-clause-links_stand : goal.returns-in-Host-clause-links_stand
 returns-in-Host-clause-links_stand g c = λ side other.
-    let lent = c.host.ensures.lends in
+    let lent = c.host.ensures.lends.where_told in
     links-stand lent.end (g.D.Doors.link c.args.doors.now) (g.D.Doors.link c.host.new.doors) (g.D.Doors.door c.args.doors.now) (g.D.Doors.door c.host.new.doors) (g.K.Sink.faults c.args.out.now) (g.K.Sink.faults c.host.new.out) side lent.cause (λ e. other (lent.status-is ∙ e))
 
 pub returns-in-Unknown-clause-writes_stand : goal.returns-in-Unknown-clause-writes_stand
